@@ -8,7 +8,7 @@ use Rattle.std.proofs.lemmas.Bool.{cases_lt}
 use Rattle.std.proofs.lemmas.List.{get_or_append_left, get_or_push, length_push, map-append}
 use Rattle.std.proofs.lemmas.List.Elements.{All-push}
 use Rattle.vcd_read.specs.CodeNumbers.{code_number}
-use Rattle.vcd_places.specs.Codes.{IsUnused, number_of}
+use Rattle.vcd_places.specs.Codes.{IsUnused, vec_code_number}
 
 increasing_push : (xs : List ℕ) (y : ℕ) → IsStrictlyIncreasing xs → All (λ (n : ℕ). n < y) xs
     → IsStrictlyIncreasing (xs ++ y ∷ [])
@@ -34,8 +34,8 @@ weaker xs n below k d lt = omega (arith, below k d lt)
 -- codes that `text` doesn't use, in the order of their numbers, all below `number`
 pub record AreFound (text : List ℕ) (found : List (Vec ℕ)) (number : ℕ) : Type 0 where
   pub each : All (λ (code : Vec ℕ). IsUnused text (code_number code.items) code.items) found
-  pub ascend : IsStrictlyIncreasing (map number_of found)
-  pub below : All (λ (n : ℕ). n < number) (map number_of found)
+  pub ascend : IsStrictlyIncreasing (map vec_code_number found)
+  pub below : All (λ (n : ℕ). n < number) (map vec_code_number found)
 
 -- the code of `number` isn't added
 pub found_none : (text : List ℕ) (found : List (Vec ℕ)) (number : ℕ) → AreFound text found number
@@ -43,22 +43,22 @@ pub found_none : (text : List ℕ) (found : List (Vec ℕ)) (number : ℕ) → A
 found_none text found number are = record {
   each = are.each;
   ascend = are.ascend;
-  below = weaker (map number_of found) number are.below;
+  below = weaker (map vec_code_number found) number are.below;
 }
 
 -- the code of `number`, which `text` doesn't use, is added
 pub found_more : (text : List ℕ) (found : List (Vec ℕ)) (number : ℕ) (code : Vec ℕ) → AreFound text found number
     → IsUnused text number code.items → AreFound text (found ++ code ∷ []) (number + 1)
 found_more text found number code are one =
-    let numbers = map-append number_of found (code ∷ []) in
+    let numbers = map-append vec_code_number found (code ∷ []) in
     let last : code_number code.items ≡ number = one.number_is in
     record {
       each = All-push (λ (v : Vec ℕ). IsUnused text (code_number v.items) v.items) found code are.each
           (subst (λ (n : ℕ). IsUnused text n code.items) (sym last) one);
       ascend = subst (λ (ns : List ℕ). IsStrictlyIncreasing ns) (sym numbers)
-          (increasing_push (map number_of found) (number_of code) are.ascend
-          (subst (λ (n : ℕ). All (λ (k : ℕ). k < n) (map number_of found)) (sym last) are.below));
+          (increasing_push (map vec_code_number found) (vec_code_number code) are.ascend
+          (subst (λ (n : ℕ). All (λ (k : ℕ). k < n) (map vec_code_number found)) (sym last) are.below));
       below = subst (λ (ns : List ℕ). All (λ (n : ℕ). n < number + 1) ns) (sym numbers)
-          (All-push (λ (n : ℕ). n < number + 1) (map number_of found) (number_of code)
-          (weaker (map number_of found) number are.below) (omega (arith, last)));
+          (All-push (λ (n : ℕ). n < number + 1) (map vec_code_number found) (vec_code_number code)
+          (weaker (map vec_code_number found) number are.below) (omega (arith, last)));
     }

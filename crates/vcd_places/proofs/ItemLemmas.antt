@@ -7,7 +7,7 @@ use Rattle.std.specs.Prelude.{IfNone, not, nat_lt, ◌&&◌, ◌||◌, unwrap_or
 use Rattle.std.specs.List.{cons_option, list_any}
 use Rattle.vcd_read.specs.declared.fault.FaultKind.TheVariants.{BadToken, NumberTooLarge}
 use Rattle.vcd_read.specs.Tokens.{Token, tokens}
-use Rattle.vcd_read.specs.Reading.{left_from}
+use Rattle.vcd_read.specs.Reading.{tokens_after}
 use Rattle.vcd_read.specs.Numbers.{is_number, number, time_of}
 use Rattle.vcd_read.specs.Header.{Header, between, header_from, is_end}
 use Rattle.vcd_read.specs.Body.{BodyItem, Shape, body_from, dump_section_end, dump_section_open, change}
@@ -16,13 +16,13 @@ use Rattle.vcd_read.specs.Body.{scalar}
 use Rattle.vcd_read.specs.Body.{shape_of, skipped, time_item, time_shape, vector, wrong}
 use Rattle.vcd_read.specs.Meaning.{last_time}
 use Rattle.vcd_read.proofs.BodyLemmas.{shape_read}
-use Rattle.vcd_places.specs.Items.{BegunKind, kind_of, named, remark, single, tells}
-use Rattle.vcd_places.specs.Places.{AreWholeItems, IsAtTime, begins_apart, body_in}
-use Rattle.vcd_places.specs.Places.{if_time, time_told}
-use Rattle.vcd_places.specs.Places.{times_told}
+use Rattle.vcd_places.specs.Items.{BegunKind, code_kind, comment_kind, kind_of, single_kind, time_kind}
+use Rattle.vcd_places.specs.Places.{AreWholeItems, IsAtTime, body_in, starts_at_boundary}
+use Rattle.vcd_places.specs.Places.{if_time, item_time}
+use Rattle.vcd_places.specs.Places.{item_times}
 use Rattle.vcd_places.specs.NextTokens.{IsNextToken, IsTakenToEnd, ends_section}
 use Rattle.vcd_places.specs.Times.{IsBetweenItems, times_left}
-use Rattle.vcd_places.proofs.PutInLemmas.{header_ended}
+use Rattle.vcd_places.proofs.InsertionLemmas.{body_extended}
 
 both_true : (a b : Bool) → (a && b) ≡ true → (a ≡ true) × (b ≡ true)
 both_true true b e = (refl, e)
@@ -34,13 +34,13 @@ negated false e = refl
 
 -- ---- the times of some items
 
-pub times_both : (xs ys : List BodyItem) → times_told (xs ++ ys) ≡ times_told xs ++ times_told ys
-unfolding times_told
-times_both [] ys = refl
-times_both (x ∷ xs) ys = ap (cons_option (time_told x)) (times_both xs ys) ∙ go (time_told x)
+pub item_times-append : (xs ys : List BodyItem) → item_times (xs ++ ys) ≡ item_times xs ++ item_times ys
+unfolding item_times
+item_times-append [] ys = refl
+item_times-append (x ∷ xs) ys = ap (cons_option (item_time x)) (item_times-append xs ys) ∙ go (item_time x)
   where
-    go : (o : Option ℕ) → cons_option o (times_told xs ++ times_told ys) ≡ cons_option o (times_told xs)
-        ++ times_told ys
+    go : (o : Option ℕ) → cons_option o (item_times xs ++ item_times ys) ≡ cons_option o (item_times xs)
+        ++ item_times ys
     go None = refl
     go (Some t) = refl
 
@@ -55,23 +55,23 @@ last_behind (dump_section_open l ∷ items) now line digits = last_behind items 
 last_behind (dump_section_end l ∷ items) now line digits = last_behind items now line digits
 last_behind (wrong l kind ∷ items) now line digits = last_behind items now line digits
 
-pub times_none : times_told [] ≡ []
-unfolding times_told
-times_none = refl
+pub item_times-empty : item_times [] ≡ []
+unfolding item_times
+item_times-empty = refl
 
 -- ---- whole items
 
 -- the tokens `ts` are whole items, and `times` are their times below 2^64
 pub record IsItem (ts : List Token) (times : List ℕ) : Type 0 where
   pub whole : AreWholeItems ts
-  pub told : times_told (body_from ready ts) ≡ times
+  pub times_are : item_times (body_from ready ts) ≡ times
 
-time_shaped : (shape : Shape) (digits : List ℕ) → kind_of shape ≡ tells digits → shape ≡ time_shape digits
+time_shaped : (shape : Shape) (digits : List ℕ) → kind_of shape ≡ time_kind digits → shape ≡ time_shape digits
 time_shaped (time_shape ds) digits e = ap (λ (kind : BegunKind). elim kind as (λ _. Shape) [
-  | tells found ↦ time_shape found
-  | named ↦ none
-  | remark ↦ none
-  | single ↦ none
+  | time_kind found ↦ time_shape found
+  | code_kind ↦ none
+  | comment_kind ↦ none
+  | single_kind ↦ none
 ]) e
 time_shaped (scalar ds code) digits e = absurd cc
 time_shaped (vector ds) digits e = absurd cc
@@ -81,7 +81,7 @@ time_shaped open_shape digits e = absurd cc
 time_shaped end_shape digits e = absurd cc
 time_shaped none digits e = absurd cc
 
-comment_shaped : (shape : Shape) → kind_of shape ≡ remark → shape ≡ comment
+comment_shaped : (shape : Shape) → kind_of shape ≡ comment_kind → shape ≡ comment
 comment_shaped (time_shape ds) e = absurd cc
 comment_shaped (scalar ds code) e = absurd cc
 comment_shaped (vector ds) e = absurd cc
@@ -93,96 +93,97 @@ comment_shaped none e = absurd cc
 
 module _ (t : Token) where
   -- a token that is a time is read as a time item
-  time_read : (digits : List ℕ) → kind_of (shape_of t.bytes) ≡ tells digits → (ts : List Token)
+  time_read : (digits : List ℕ) → kind_of (shape_of t.bytes) ≡ time_kind digits → (ts : List Token)
       → body_from ready (t ∷ ts) ≡ time_item t.line digits ∷ body_from ready ts
   time_read digits is ts = shape_read t ts (time_shape digits) (sym (time_shaped (shape_of t.bytes) digits is))
 
-  pub time_is_item : (digits : List ℕ) → kind_of (shape_of t.bytes) ≡ tells digits
+  pub time_is_item : (digits : List ℕ) → kind_of (shape_of t.bytes) ≡ time_kind digits
       → IsItem (t ∷ []) (cons_option (if_time (time_of digits)) [])
-  unfolding body_from times_told
+  unfolding body_from item_times
   time_is_item digits is = record {
     whole = λ more. time_read digits is more
         ∙ sym (ap (λ (items : List BodyItem). items ++ body_from ready more) (time_read digits is []));
-    told = ap times_told (time_read digits is []);
+    times_are = ap item_times (time_read digits is []);
   }
 
   -- the token `t` alone is `item`, which isn't a time
   record IsSingle (item : BodyItem) : Type 0 where
-    told : time_told item ≡ None
+    no_time : item_time item ≡ None
     read : (ts : List Token) → body_from ready (t ∷ ts) ≡ item ∷ body_from ready ts
 
-  single_read : (shape : Shape) → shape ≡ shape_of t.bytes → kind_of shape ≡ single → (item : BodyItem) × IsSingle item
+  single_read : (shape : Shape) → shape ≡ shape_of t.bytes → kind_of shape ≡ single_kind
+      → (item : BodyItem) × IsSingle item
   single_read (time_shape ds) e is = absurd cc
   single_read (scalar ds code) e is = (
     change t.line ds code,
-    record { told = refl; read = λ ts. shape_read t ts (scalar ds code) e },
+    record { no_time = refl; read = λ ts. shape_read t ts (scalar ds code) e },
   )
   single_read (vector ds) e is = absurd cc
   single_read foreign e is = absurd cc
   single_read comment e is = absurd cc
   single_read open_shape e is = (
     dump_section_open t.line,
-    record { told = refl; read = λ ts. shape_read t ts open_shape e },
+    record { no_time = refl; read = λ ts. shape_read t ts open_shape e },
   )
   single_read end_shape e is = (
     dump_section_end t.line,
-    record { told = refl; read = λ ts. shape_read t ts end_shape e },
+    record { no_time = refl; read = λ ts. shape_read t ts end_shape e },
   )
-  single_read none e is = (wrong t.line _, record { told = refl; read = λ ts. shape_read t ts none e })
+  single_read none e is = (wrong t.line _, record { no_time = refl; read = λ ts. shape_read t ts none e })
 
-  pub single_is_item : kind_of (shape_of t.bytes) ≡ single → IsItem (t ∷ []) []
-  unfolding body_from times_told
+  pub single_is_item : kind_of (shape_of t.bytes) ≡ single_kind → IsItem (t ∷ []) []
+  unfolding body_from item_times
   single_is_item is =
       let one = single_read (shape_of t.bytes) refl is in
       record {
         whole = λ more. one.1.read more
             ∙ sym (ap (λ (items : List BodyItem). items ++ body_from ready more) (one.1.read []));
-        told = ap times_told (one.1.read []) ∙ ap (λ (o : Option ℕ). cons_option o []) one.1.told;
+        times_are = ap item_times (one.1.read []) ∙ ap (λ (o : Option ℕ). cons_option o []) one.1.no_time;
       }
 
   -- the token `t` and the next one, its code, are an item without a time; `t` alone gives no time either (`alone`)
-  record IsNamed : Type 0 where
+  record HasCode : Type 0 where
     item : List ℕ → BodyItem
-    told : (code : List ℕ) → time_told (item code) ≡ None
+    no_time : (code : List ℕ) → item_time (item code) ≡ None
     read : (u : Token) (ts : List Token) → body_from ready (t ∷ u ∷ ts) ≡ item u.bytes ∷ body_from ready ts
-    alone : times_told (body_from ready (t ∷ [])) ≡ []
+    alone : item_times (body_from ready (t ∷ [])) ≡ []
 
-  named_read : (shape : Shape) → shape ≡ shape_of t.bytes → kind_of shape ≡ named → IsNamed
-  unfolding body_from times_told
-  named_read (time_shape ds) e is = absurd cc
-  named_read (scalar ds code) e is = absurd cc
-  named_read (vector ds) e is = record {
+  code_read : (shape : Shape) → shape ≡ shape_of t.bytes → kind_of shape ≡ code_kind → HasCode
+  unfolding body_from item_times
+  code_read (time_shape ds) e is = absurd cc
+  code_read (scalar ds code) e is = absurd cc
+  code_read (vector ds) e is = record {
     item = λ code. change t.line ds code;
-    told = λ code. refl;
+    no_time = λ code. refl;
     read = λ u ts. shape_read t (u ∷ ts) (vector ds) e;
-    alone = ap times_told (shape_read t [] (vector ds) e);
+    alone = ap item_times (shape_read t [] (vector ds) e);
   }
-  named_read foreign e is = record {
+  code_read foreign e is = record {
     item = λ code. skipped t.line code;
-    told = λ code. refl;
+    no_time = λ code. refl;
     read = λ u ts. shape_read t (u ∷ ts) foreign e;
-    alone = ap times_told (shape_read t [] foreign e);
+    alone = ap item_times (shape_read t [] foreign e);
   }
-  named_read comment e is = absurd cc
-  named_read open_shape e is = absurd cc
-  named_read end_shape e is = absurd cc
-  named_read none e is = absurd cc
+  code_read comment e is = absurd cc
+  code_read open_shape e is = absurd cc
+  code_read end_shape e is = absurd cc
+  code_read none e is = absurd cc
 
-  pub named_is_item : (u : Token) → kind_of (shape_of t.bytes) ≡ named → IsItem (t ∷ u ∷ []) []
-  unfolding body_from times_told
-  named_is_item u is =
-      let one = named_read (shape_of t.bytes) refl is in
+  pub code_is_item : (u : Token) → kind_of (shape_of t.bytes) ≡ code_kind → IsItem (t ∷ u ∷ []) []
+  unfolding body_from item_times
+  code_is_item u is =
+      let one = code_read (shape_of t.bytes) refl is in
       record {
         whole = λ more. one.read u more
             ∙ sym (ap (λ (items : List BodyItem). items ++ body_from ready more) (one.read u []));
-        told = ap times_told (one.read u []) ∙ ap (λ (o : Option ℕ). cons_option o []) (one.told u.bytes);
+        times_are = ap item_times (one.read u []) ∙ ap (λ (o : Option ℕ). cons_option o []) (one.no_time u.bytes);
       }
 
-  pub named_alone : kind_of (shape_of t.bytes) ≡ named → times_told (body_from ready (t ∷ [])) ≡ []
-  named_alone is = (named_read (shape_of t.bytes) refl is).alone
+  pub code_alone : kind_of (shape_of t.bytes) ≡ code_kind → item_times (body_from ready (t ∷ [])) ≡ []
+  code_alone is = (code_read (shape_of t.bytes) refl is).alone
 
   -- after `$comment`, the tokens `ts` are read as those of a comment
-  comment_read : kind_of (shape_of t.bytes) ≡ remark → (ts : List Token)
+  comment_read : kind_of (shape_of t.bytes) ≡ comment_kind → (ts : List Token)
       → body_from ready (t ∷ ts) ≡ body_from (in_comment t.line) ts
   comment_read is ts = shape_read t ts comment (sym (comment_shaped (shape_of t.bytes) is))
 
@@ -208,36 +209,36 @@ past_words line (w ∷ words) last more none_ends ends =
 
 -- a comment without `$end` gives no times
 endless : (line : ℕ) (words : List Token) → list_any ends_section words ≡ false
-    → times_told (body_from (in_comment line) words) ≡ []
-unfolding body_from times_told
+    → item_times (body_from (in_comment line) words) ≡ []
+unfolding body_from item_times
 endless line [] none_ends = refl
 endless line (w ∷ words) none_ends =
     let parts = not_either (is_end w.bytes) (list_any ends_section words) none_ends in
-    ap (λ (test : Bool). times_told (commented line words test)) parts.0 ∙ endless line words parts.1
+    ap (λ (test : Bool). item_times (commented line words test)) parts.0 ∙ endless line words parts.1
 
-pub comment_is_item : (t : Token) (words : List Token) (last : Token) → kind_of (shape_of t.bytes) ≡ remark
+pub comment_is_item : (t : Token) (words : List Token) (last : Token) → kind_of (shape_of t.bytes) ≡ comment_kind
     → list_any ends_section words ≡ false → is_end last.bytes ≡ true → IsItem (t ∷ (words ++ last ∷ [])) []
-unfolding body_from times_told
+unfolding body_from item_times
 comment_is_item t words last is none_ends ends =
     let alone = comment_read t is (words ++ last ∷ []) ∙ past_words t.line words last [] none_ends ends in
     record {
       whole = λ more. ap (λ (ts : List Token). body_from ready (t ∷ ts)) (append_assoc words (last ∷ []) more)
           ∙ comment_read t is (words ++ last ∷ more) ∙ past_words t.line words last more none_ends ends
           ∙ sym (ap (λ (items : List BodyItem). items ++ body_from ready more) alone);
-      told = ap times_told alone;
+      times_are = ap item_times alone;
     }
 
-pub comment_alone : (t : Token) (words : List Token) → kind_of (shape_of t.bytes) ≡ remark
-    → list_any ends_section words ≡ false → times_told (body_from ready (t ∷ words)) ≡ []
-comment_alone t words is none_ends = ap times_told (comment_read t is words) ∙ endless t.line words none_ends
+pub comment_alone : (t : Token) (words : List Token) → kind_of (shape_of t.bytes) ≡ comment_kind
+    → list_any ends_section words ≡ false → item_times (body_from ready (t ∷ words)) ≡ []
+comment_alone t words is none_ends = ap item_times (comment_read t is words) ∙ endless t.line words none_ends
 
 -- ---- an item is taken
 
 -- the tokens of `text` from `at` up to `next` are `ts`
 pub record AreTaken (text : List ℕ) (at next : ℕ) (ts : List Token) : Type 0 where
   pub within : next ≤ length text
-  pub detached : begins_apart (drop next text) ≡ true
-  pub left : left_from 1 text at ≡ ts ++ left_from 1 text next
+  pub detached : starts_at_boundary (drop next text) ≡ true
+  pub left : tokens_after 1 text at ≡ ts ++ tokens_after 1 text next
   pub taken : tokens (take next text) ≡ tokens (take at text) ++ ts
 
 module _ (text : List ℕ) (at next : ℕ) (ts : List Token) (times : List ℕ) (b : IsBetweenItems text at)
@@ -245,7 +246,7 @@ module _ (text : List ℕ) (at next : ℕ) (ts : List Token) (times : List ℕ) 
   ended : body_in (take next text) ≡ Some (b.body ++ ts)
   ended =
       ap (λ (all : List Token). (header_from between all).body) taken.taken
-      ∙ ap (λ (h : Header). h.body) (header_ended ts (tokens (take at text)) between b.body b.ended)
+      ∙ ap (λ (h : Header). h.body) (body_extended ts (tokens (take at text)) between b.body b.ended)
 
   whole_both : AreWholeItems (b.body ++ ts)
   whole_both = λ more.
@@ -267,10 +268,10 @@ module _ (text : List ℕ) (at next : ℕ) (ts : List Token) (times : List ℕ) 
   pub times_next : times_left (record { text = text; at = at })
       ≡ times ++ times_left (record { text = text; at = next })
   times_next =
-      ap (λ (all : List Token). times_told (body_from ready all)) taken.left
-      ∙ ap times_told (item.whole (left_from 1 text next))
-      ∙ times_both (body_from ready ts) (body_from ready (left_from 1 text next))
-      ∙ ap (λ (told : List ℕ). told ++ times_left (record { text = text; at = next })) item.told
+      ap (λ (all : List Token). item_times (body_from ready all)) taken.left
+      ∙ ap item_times (item.whole (tokens_after 1 text next))
+      ∙ item_times-append (body_from ready ts) (body_from ready (tokens_after 1 text next))
+      ∙ ap (λ (first : List ℕ). first ++ times_left (record { text = text; at = next })) item.times_are
 
 -- ---- one token, and more, are taken
 
@@ -297,7 +298,7 @@ module _ (text : List ℕ) (at next : ℕ) (bytes : List ℕ) (one : IsNextToken
     within = e.within;
     detached = e.detached;
     left = one.left ∙ ap (λ (ts : List Token). token ∷ ts) (e.left
-        ∙ sym (append_assoc e.words (e.last ∷ []) (left_from 1 text end)));
+        ∙ sym (append_assoc e.words (e.last ∷ []) (tokens_after 1 text end)));
     taken = e.taken ∙ ap (λ (ts : List Token). ts ++ (e.words ++ e.last ∷ [])) one.taken
         ∙ append_assoc (tokens (take at text)) (token ∷ []) (e.words ++ e.last ∷ []);
   }
@@ -314,7 +315,7 @@ pub time_number : (digits : List ℕ) (time : ℕ) → if_time (time_of digits) 
 time_number digits time e = number_by (is_number digits) (nat_lt (number digits) (2 ^ 64)) (number digits) time e
 
 pub at_time : (text : List ℕ) (at next : ℕ) (bytes digits : List ℕ) (time : ℕ) (b : IsBetweenItems text at)
-    (one : IsNextToken text at next bytes) → kind_of (shape_of bytes) ≡ tells digits
+    (one : IsNextToken text at next bytes) → kind_of (shape_of bytes) ≡ time_kind digits
     → if_time (time_of digits) ≡ Some time → IsAtTime text time next
 unfolding body_from
 at_time text at next bytes digits time b one is e =
@@ -336,12 +337,12 @@ at_time text at next bytes digits time b one is e =
     }
 
 -- a time token below 2^64 is an item with this time
-pub timed : (t : Token) (digits : List ℕ) (time : ℕ) → kind_of (shape_of t.bytes) ≡ tells digits
+pub timed : (t : Token) (digits : List ℕ) (time : ℕ) → kind_of (shape_of t.bytes) ≡ time_kind digits
     → if_time (time_of digits) ≡ Some time → IsItem (t ∷ []) (time ∷ [])
 timed t digits time is e = subst (λ (o : Option ℕ). IsItem (t ∷ []) (cons_option o [])) e (time_is_item t digits is)
 
 -- a time token whose digits aren't a number below 2^64 is an item without a time
-pub untimed : (t : Token) (digits : List ℕ) → kind_of (shape_of t.bytes) ≡ tells digits
+pub untimed : (t : Token) (digits : List ℕ) → kind_of (shape_of t.bytes) ≡ time_kind digits
     → if_time (time_of digits) ≡ None → IsItem (t ∷ []) []
 untimed t digits is e = subst (λ (o : Option ℕ). IsItem (t ∷ []) (cons_option o [])) e (time_is_item t digits is)
 
@@ -359,22 +360,22 @@ pub if_none : {A : Type 0} (o : Option A) (P : Type 0) → P → IfNone o P
 if_none None P p = p
 if_none (Some a) P p = tt
 
-pub nothing_told : (text : List ℕ) (at : ℕ) → left_from 1 text at ≡ []
+pub no_times_left : (text : List ℕ) (at : ℕ) → tokens_after 1 text at ≡ []
     → times_left (record { text = text; at = at }) ≡ []
-unfolding body_from times_told
-nothing_told text at empty = ap (λ (ts : List Token). times_told (body_from ready ts)) empty
+unfolding body_from item_times
+no_times_left text at empty = ap (λ (ts : List Token). item_times (body_from ready ts)) empty
 
-pub named_last : (text : List ℕ) (at next : ℕ) (bytes : List ℕ) (one : IsNextToken text at next bytes)
-    → kind_of (shape_of bytes) ≡ named → left_from 1 text next ≡ []
+pub code_last : (text : List ℕ) (at next : ℕ) (bytes : List ℕ) (one : IsNextToken text at next bytes)
+    → kind_of (shape_of bytes) ≡ code_kind → tokens_after 1 text next ≡ []
     → times_left (record { text = text; at = at }) ≡ []
-named_last text at next bytes one is empty =
+code_last text at next bytes one is empty =
     let t : Token = token text at next bytes one in
-    ap (λ (ts : List Token). times_told (body_from ready ts)) (one.left ∙ ap (λ (ts : List Token). t ∷ ts) empty)
-    ∙ named_alone t is
+    ap (λ (ts : List Token). item_times (body_from ready ts)) (one.left ∙ ap (λ (ts : List Token). t ∷ ts) empty)
+    ∙ code_alone t is
 
 pub comment_last : (text : List ℕ) (at next : ℕ) (bytes : List ℕ) (one : IsNextToken text at next bytes)
-    → kind_of (shape_of bytes) ≡ remark → list_any ends_section (left_from 1 text next) ≡ false
+    → kind_of (shape_of bytes) ≡ comment_kind → list_any ends_section (tokens_after 1 text next) ≡ false
     → times_left (record { text = text; at = at }) ≡ []
 comment_last text at next bytes one is none_ends =
-    ap (λ (ts : List Token). times_told (body_from ready ts)) one.left
-    ∙ comment_alone (token text at next bytes one) (left_from 1 text next) is none_ends
+    ap (λ (ts : List Token). item_times (body_from ready ts)) one.left
+    ∙ comment_alone (token text at next bytes one) (tokens_after 1 text next) is none_ends

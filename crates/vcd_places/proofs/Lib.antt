@@ -1,6 +1,6 @@
-pub mod PutInLemmas
+pub mod InsertionLemmas
 pub mod SkippedLemmas
-pub mod MoreNetsLemmas
+pub mod AddedNetLemmas
 pub mod StringStepLemmas
 pub mod NextTokenLemmas
 pub mod ItemLemmas

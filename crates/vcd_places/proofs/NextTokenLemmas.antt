@@ -10,12 +10,12 @@ use Rattle.std.proofs.lemmas.Bool.{cases_lt, eqb-true, le-leb}
 use Rattle.std.proofs.lemmas.List.{append-nil, length-drop, length-take, take-append-drop, take_more}
 use Rattle.std.proofs.lemmas.List.Folds.{list_any-append}
 use Rattle.vcd_read.specs.Tokens.{Token, cut_from, is_space, tokens, tokens_from}
-use Rattle.vcd_read.specs.Reading.{left_from}
+use Rattle.vcd_read.specs.Reading.{tokens_after}
 use Rattle.vcd_read.specs.Header.{is_end}
 use Rattle.vcd_read.proofs.TokenLemmas.{between, left_end, left_step, line_in, token_in, token_step}
-use Rattle.vcd_places.specs.Places.{begins_apart, ends_apart}
-use Rattle.vcd_places.specs.NextTokens.{IsNextToken, IsTakenToEnd, StandsAt, ends_section, is_seam}
-use Rattle.vcd_places.proofs.PutInLemmas.{tokens_apart, tokens_spaced}
+use Rattle.vcd_places.specs.Places.{ends_at_boundary, starts_at_boundary}
+use Rattle.vcd_places.specs.NextTokens.{IsNextToken, IsTakenToEnd, IsTokenAt, ends_section, is_token_boundary}
+use Rattle.vcd_places.proofs.InsertionLemmas.{tokens_append_detached, tokens_spaced}
 
 -- ---- token boundaries
 
@@ -27,35 +27,36 @@ either_true : (a b : Bool) → (a || b) ≡ true → (a ≡ true) ⊎ (b ≡ tru
 either_true true b e = inl refl
 either_true false b e = inr e
 
-pub seam_at_start : (text : List ℕ) → is_seam text 0 ≡ true
-seam_at_start text = rw (le-leb 0 (length text) (omega arith)) refl
+pub boundary_at_start : (text : List ℕ) → is_token_boundary text 0 ≡ true
+boundary_at_start text = rw (le-leb 0 (length text) (omega arith)) refl
 
 second_true : (a : Bool) → (a || true) ≡ true
 second_true true = refl
 second_true false = refl
 
-pub seam_from : (text : List ℕ) (at : ℕ) → at ≤ length text → begins_apart (drop at text) ≡ true
-    → is_seam text at ≡ true
-seam_from text at within detached =
-    ap (λ (test : Bool). test && (eqb at 0 || begins_apart (drop at text))) (le-leb at (length text) within)
+pub boundary_from : (text : List ℕ) (at : ℕ) → at ≤ length text → starts_at_boundary (drop at text) ≡ true
+    → is_token_boundary text at ≡ true
+boundary_from text at within detached =
+    ap (λ (test : Bool). test && (eqb at 0 || starts_at_boundary (drop at text))) (le-leb at (length text) within)
     ∙ ap (λ (test : Bool). eqb at 0 || test) detached ∙ second_true (eqb at 0)
 
 -- if white space or the end follows `at`, the tokens are those before `at`, and then those from `at` on
-pub tokens_detached : (text : List ℕ) (at : ℕ) → begins_apart (drop at text) ≡ true
-    → tokens text ≡ tokens (take at text) ++ left_from 1 text at
+pub tokens_detached : (text : List ℕ) (at : ℕ) → starts_at_boundary (drop at text) ≡ true
+    → tokens text ≡ tokens (take at text) ++ tokens_after 1 text at
 tokens_detached text at detached =
-    ap (tokens_from 1) (sym (take-append-drop at text)) ∙ tokens_apart (take at text) (drop at text) 1 detached
+    ap (tokens_from 1) (sym (take-append-drop at text))
+    ∙ tokens_append_detached (take at text) (drop at text) 1 detached
 
-tokens_at_start : (text : List ℕ) → tokens text ≡ tokens (take 0 text) ++ left_from 1 text 0
+tokens_at_start : (text : List ℕ) → tokens text ≡ tokens (take 0 text) ++ tokens_after 1 text 0
 unfolding cut_from
 tokens_at_start text = refl
 
-pub tokens_at_seam : (text : List ℕ) (at : ℕ) → is_seam text at ≡ true
-    → tokens text ≡ tokens (take at text) ++ left_from 1 text at
-tokens_at_seam text at seam =
-    elim (either_true (eqb at 0) (begins_apart (drop at text)) (both_true (nat_le at (length text))
-    (eqb at 0 || begins_apart (drop at text)) seam).1) [
-      | inl is ↦ subst (λ (k : ℕ). tokens text ≡ tokens (take k text) ++ left_from 1 text k)
+pub tokens_at_boundary : (text : List ℕ) (at : ℕ) → is_token_boundary text at ≡ true
+    → tokens text ≡ tokens (take at text) ++ tokens_after 1 text at
+tokens_at_boundary text at boundary =
+    elim (either_true (eqb at 0) (starts_at_boundary (drop at text)) (both_true (nat_le at (length text))
+    (eqb at 0 || starts_at_boundary (drop at text)) boundary).1) [
+      | inl is ↦ subst (λ (k : ℕ). tokens text ≡ tokens (take k text) ++ tokens_after 1 text k)
           (sym (eqb-true at 0 is)) (tokens_at_start text)
       | inr detached ↦ tokens_detached text at detached
     ]
@@ -73,27 +74,27 @@ cancel_right {A = A} xs ys zs e =
 
 skip_spaces : (text : List ℕ) (n at : ℕ) → at + n ≤ length text
     → ((k : ℕ) → at ≤ k → k < at + n → is_space (get_or text k 0) ≡ true)
-    → left_from 1 text (at + n) ≡ left_from 1 text at
-skip_spaces text zero at within spaces = ap (left_from 1 text) (omega arith)
+    → tokens_after 1 text (at + n) ≡ tokens_after 1 text at
+skip_spaces text zero at within spaces = ap (tokens_after 1 text) (omega arith)
 skip_spaces text (suc n) at within spaces =
-    ap (left_from 1 text) (omega arith)
+    ap (tokens_after 1 text) (omega arith)
     ∙ left_step 1 text (at + n) (omega (arith, within)) (spaces (at + n) (omega arith) (omega arith))
     ∙ skip_spaces text n at (omega (arith, within)) (λ k low high. spaces k low (omega (arith, high)))
 
 pub spaces_skipped : (text : List ℕ) (at start : ℕ) → at ≤ start → start ≤ length text
     → ((k : ℕ) → at ≤ k → k < start → is_space (get_or text k 0) ≡ true)
-    → left_from 1 text start ≡ left_from 1 text at
+    → tokens_after 1 text start ≡ tokens_after 1 text at
 spaces_skipped text at start le within spaces =
-    ap (left_from 1 text) (omega (arith, le))
+    ap (tokens_after 1 text) (omega (arith, le))
     ∙ skip_spaces text (start - at) at (omega (arith, le, within))
     (λ k low high. spaces k low (omega (arith, high, le)))
 
-begins_at : (text : List ℕ) (end : ℕ) → (end < length text → is_space (get_or text end 0) ≡ true)
-    → begins_apart (drop end text) ≡ true
-begins_at [] zero space = refl
-begins_at [] (suc end) space = refl
-begins_at (b ∷ text) zero space = space (omega arith)
-begins_at (b ∷ text) (suc end) space = begins_at text end (λ lt. space (omega (arith, lt)))
+starts_at_boundary-at : (text : List ℕ) (end : ℕ) → (end < length text → is_space (get_or text end 0) ≡ true)
+    → starts_at_boundary (drop end text) ≡ true
+starts_at_boundary-at [] zero space = refl
+starts_at_boundary-at [] (suc end) space = refl
+starts_at_boundary-at (b ∷ text) zero space = space (omega arith)
+starts_at_boundary-at (b ∷ text) (suc end) space = starts_at_boundary-at text end (λ lt. space (omega (arith, lt)))
 
 abbrev empty : List ℕ
 empty = []
@@ -109,8 +110,9 @@ drop_both (x ∷ xs) m (suc n) =
     let e : suc (n + m) ≡ suc n + m = omega arith in
     drop_both xs m n ∙ ap (λ (k : ℕ). drop k (x ∷ xs)) e
 
-module _ (text : List ℕ) (at start end : ℕ) (seam : is_seam text at ≡ true) (low : at ≤ start) (some : start < end)
-    (high : end ≤ length text) (spaces : (k : ℕ) → at ≤ k → k < start → is_space (get_or text k 0) ≡ true)
+module _ (text : List ℕ) (at start end : ℕ) (boundary : is_token_boundary text at ≡ true) (low : at ≤ start)
+    (some : start < end) (high : end ≤ length text)
+    (spaces : (k : ℕ) → at ≤ k → k < start → is_space (get_or text k 0) ≡ true)
     (word : (k : ℕ) → start ≤ k → k < end → is_space (get_or text k 0) ≡ false)
     (space : end < length text → is_space (get_or text end 0) ≡ true) where
   abbrev bytes : List ℕ
@@ -119,13 +121,13 @@ module _ (text : List ℕ) (at start end : ℕ) (seam : is_seam text at ≡ true
   abbrev token : Token
   token = token_in 1 text start bytes
 
-  pub detached : begins_apart (drop end text) ≡ true
-  detached = begins_at text end space
+  pub detached : starts_at_boundary (drop end text) ≡ true
+  detached = starts_at_boundary-at text end space
 
-  same_left : left_from 1 text start ≡ left_from 1 text at
+  same_left : tokens_after 1 text start ≡ tokens_after 1 text at
   same_left = spaces_skipped text at start low (omega (arith, some, high)) spaces
 
-  token_left : left_from 1 text at ≡ token ∷ left_from 1 text end
+  token_left : tokens_after 1 text at ≡ token ∷ tokens_after 1 text end
   token_left = sym same_left ∙ token_step 1 text start end some high word space
 
   pub is_taken : IsNextToken text at end bytes
@@ -135,10 +137,10 @@ module _ (text : List ℕ) (at start end : ℕ) (seam : is_seam text at ≡ true
     within = high;
     detached = detached;
     left = token_left;
-    taken = cancel_right (tokens (take end text)) (tokens (take at text) ++ token ∷ []) (left_from 1 text end)
-        (sym (tokens_detached text end detached) ∙ tokens_at_seam text at seam
+    taken = cancel_right (tokens (take end text)) (tokens (take at text) ++ token ∷ []) (tokens_after 1 text end)
+        (sym (tokens_detached text end detached) ∙ tokens_at_boundary text at boundary
         ∙ ap (λ (ts : List Token). tokens (take at text) ++ ts) token_left
-        ∙ sym (append_assoc (tokens (take at text)) (token ∷ []) (left_from 1 text end)));
+        ∙ sym (append_assoc (tokens (take at text)) (token ∷ []) (tokens_after 1 text end)));
   }
 
   -- ---- where the token is
@@ -150,53 +152,55 @@ module _ (text : List ℕ) (at start end : ℕ) (seam : is_seam text at ≡ true
   last_is o [] x = refl
   last_is o (y ∷ xs) x = last_is (Some y) xs x
 
-  ends_behind : (k : ℕ) → k < length text → is_space (get_or text k 0) ≡ true → ends_apart (take (k + 1) text) ≡ true
-  ends_behind k lt is =
-      ap ends_apart (take_more text k 0 lt)
+  ends_after_space : (k : ℕ) → k < length text → is_space (get_or text k 0) ≡ true
+      → ends_at_boundary (take (k + 1) text) ≡ true
+  ends_after_space k lt is =
+      ap ends_at_boundary (take_more text k 0 lt)
       ∙ ap (λ (o : Option ℕ). option_map_or is_space o true) (last_is None (take k text) (get_or text k 0))
       ∙ is
 
-  spaced : ends_apart (take start text) ≡ true
-  spaced =
+  start_detached : ends_at_boundary (take start text) ≡ true
+  start_detached =
       elim (cases_lt at start) [
-        | inl lt ↦ ap (λ (n : ℕ). ends_apart (take n text)) (omega (arith, lt))
-            ∙ ends_behind (start - 1) (omega (arith, lt, some, high))
+        | inl lt ↦ ap (λ (n : ℕ). ends_at_boundary (take n text)) (omega (arith, lt))
+            ∙ ends_after_space (start - 1) (omega (arith, lt, some, high))
             (spaces (start - 1) (omega (arith, lt)) (omega (arith, lt)))
-        | inr past ↦ at_seam (omega (arith, low, past))
+        | inr past ↦ at_boundary (omega (arith, low, past))
       ]
     where
-      first_is : begins_apart (drop start text) ≡ true → is_space (get_or text start 0) ≡ true
+      first_is : starts_at_boundary (drop start text) ≡ true → is_space (get_or text start 0) ≡ true
       first_is begins =
           let front : drop start text ≡ get_or text start 0 ∷ drop (start + 1) text =
           rw add-one (drop-cons text start 0 (omega (arith, some, high))) in
-          sym (ap begins_apart front) ∙ begins
+          sym (ap starts_at_boundary front) ∙ begins
 
-      at_seam : start ≡ at → ends_apart (take start text) ≡ true
-      at_seam e =
-          elim (either_true (eqb at 0) (begins_apart (drop at text)) (both_true (nat_le at (length text))
-          (eqb at 0 || begins_apart (drop at text)) seam).1) [
-            | inl is ↦ ap (λ (n : ℕ). ends_apart (take n text)) (e ∙ eqb-true at 0 is)
-            | inr begins ↦ absurd (true≢false (sym (first_is (ap (λ (n : ℕ). begins_apart (drop n text)) e ∙ begins))
+      at_boundary : start ≡ at → ends_at_boundary (take start text) ≡ true
+      at_boundary e =
+          elim (either_true (eqb at 0) (starts_at_boundary (drop at text)) (both_true (nat_le at (length text))
+          (eqb at 0 || starts_at_boundary (drop at text)) boundary).1) [
+            | inl is ↦ ap (λ (n : ℕ). ends_at_boundary (take n text)) (e ∙ eqb-true at 0 is)
+            | inr begins ↦
+                absurd (true≢false (sym (first_is (ap (λ (n : ℕ). starts_at_boundary (drop n text)) e ∙ begins))
                 ∙ word start (omega arith) some))
           ]
 
-  pub stands_at : StandsAt text at end start bytes
-  stands_at = record {
+  pub is_token_at : IsTokenAt text at end start bytes
+  is_token_at = record {
     bytes_are = ap (λ (n : ℕ). take n (drop start text)) (sym count);
-    behind = ap begins_apart (drop_both text (length bytes) start
+    end_detached = ap starts_at_boundary (drop_both text (length bytes) start
         ∙ ap (λ (n : ℕ). drop n text) (omega (arith, count, some))) ∙ detached;
-    spaced = spaced;
-    same = cancel_right (tokens (take start text)) (tokens (take at text)) (left_from 1 text start)
-        (sym (tokens_spaced (take start text) (drop start text) 1 spaced)
-        ∙ ap (tokens_from 1) (take-append-drop start text) ∙ tokens_at_seam text at seam
+    start_detached = start_detached;
+    same_tokens = cancel_right (tokens (take start text)) (tokens (take at text)) (tokens_after 1 text start)
+        (sym (tokens_spaced (take start text) (drop start text) 1 start_detached)
+        ∙ ap (tokens_from 1) (take-append-drop start text) ∙ tokens_at_boundary text at boundary
         ∙ ap (λ (ts : List Token). tokens (take at text) ++ ts) (sym same_left));
     ends = omega (arith, count, some);
-    some = omega (arith, count, some);
+    nonempty = omega (arith, count, some);
   }
 
 -- if only white space follows `at`, no token is left
 pub nothing_left : (text : List ℕ) (at start : ℕ) → at ≤ start → start ≡ length text
-    → ((k : ℕ) → at ≤ k → k < start → is_space (get_or text k 0) ≡ true) → left_from 1 text at ≡ []
+    → ((k : ℕ) → at ≤ k → k < start → is_space (get_or text k 0) ≡ true) → tokens_after 1 text at ≡ []
 nothing_left text at start le is spaces =
     sym (spaces_skipped text at start le (omega (arith, is)) spaces) ∙ left_end 1 text start (omega (arith, is))
 
@@ -219,7 +223,7 @@ pub record IsTakenSoFar (text : List ℕ) (at next : ℕ) : Type 0 where
   pub words : List Token
   pub none : list_any ends_section words ≡ false
   pub moves : at ≤ next
-  pub left : left_from 1 text at ≡ words ++ left_from 1 text next
+  pub left : tokens_after 1 text at ≡ words ++ tokens_after 1 text next
   pub taken : tokens (take next text) ≡ tokens (take at text) ++ words
 
 pub so_far_none : (text : List ℕ) (at : ℕ) → IsTakenSoFar text at at
@@ -247,7 +251,7 @@ so_far_more text at mid next bytes so one no_end =
           (neither (is_end bytes) false no_end refl);
       moves = omega (arith, so.moves, one.moves);
       left = so.left ∙ ap (λ (ts : List Token). so.words ++ ts) one.left
-          ∙ sym (append_assoc so.words (token ∷ []) (left_from 1 text next));
+          ∙ sym (append_assoc so.words (token ∷ []) (tokens_after 1 text next));
       taken = one.taken ∙ ap (λ (ts : List Token). ts ++ token ∷ []) so.taken
           ∙ append_assoc (tokens (take at text)) so.words (token ∷ []);
     }
@@ -270,8 +274,8 @@ to_end text at mid next bytes so one is =
           ∙ append_assoc (tokens (take at text)) so.words (token ∷ []);
     }
 
-pub no_end_left : (text : List ℕ) (at mid : ℕ) → IsTakenSoFar text at mid → left_from 1 text mid ≡ []
-    → list_any ends_section (left_from 1 text at) ≡ false
+pub no_end_left : (text : List ℕ) (at mid : ℕ) → IsTakenSoFar text at mid → tokens_after 1 text mid ≡ []
+    → list_any ends_section (tokens_after 1 text at) ≡ false
 no_end_left text at mid so none =
     ap (list_any ends_section) (so.left ∙ ap (λ (ts : List Token). so.words ++ ts) none ∙ append-nil so.words) ∙ so.none
 
@@ -282,10 +286,10 @@ unfolding cut_from
 none_at_start p text = refl
 
 -- if `p` holds of no token before `at`, and no token is left, `p` holds of no token of the text
-pub none_of_all : (p : Token → Bool) (text : List ℕ) (at : ℕ) → is_seam text at ≡ true
-    → list_any p (tokens (take at text)) ≡ false → left_from 1 text at ≡ [] → list_any p (tokens text) ≡ false
-none_of_all p text at seam none left =
-    ap (list_any p) (tokens_at_seam text at seam ∙ ap (λ (ts : List Token). tokens (take at text) ++ ts) left
+pub none_of_all : (p : Token → Bool) (text : List ℕ) (at : ℕ) → is_token_boundary text at ≡ true
+    → list_any p (tokens (take at text)) ≡ false → tokens_after 1 text at ≡ [] → list_any p (tokens text) ≡ false
+none_of_all p text at boundary none left =
+    ap (list_any p) (tokens_at_boundary text at boundary ∙ ap (λ (ts : List Token). tokens (take at text) ++ ts) left
     ∙ append-nil (tokens (take at text))) ∙ none
 
 -- if `p` holds neither of a token before `at` nor of the next one, it holds of no token before `next`

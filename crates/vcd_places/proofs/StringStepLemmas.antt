@@ -8,8 +8,9 @@ use Rattle.vcd_read.specs.Tokens.{Token, tokens, tokens_from}
 use Rattle.vcd_read.specs.Reading.{line_behind}
 use Rattle.vcd_read.specs.Header.{Header, HeaderItem, Net, between, header_from, net_of}
 use Rattle.vcd_read.specs.Body.{BodyItem, body_from, ready, skipped}
-use Rattle.vcd_places.specs.Places.{AreWholeItems, begins_apart, body_in}
-use Rattle.vcd_places.proofs.PutInLemmas.{IsWord, header_ended, string_cut, string_read, string_text, tokens_apart}
+use Rattle.vcd_places.specs.Places.{AreWholeItems, body_in, starts_at_boundary}
+use Rattle.vcd_places.proofs.InsertionLemmas.{IsWord, body_extended, string_cut, string_read, string_text}
+use Rattle.vcd_places.proofs.InsertionLemmas.{tokens_append_detached}
 use Rattle.vcd_places.proofs.SkippedLemmas.{instants_in, skipped_in}
 
 -- ---- the definitions of a text, and its instants by given nets
@@ -47,23 +48,24 @@ module _ (front : List ℕ) (behind : EndsBehindItem front) where
   abbrev body_with : List ℕ → List Token
   body_with rest = behind.body ++ tokens_from line rest
 
-  header_behind : (rest : List ℕ) → begins_apart rest ≡ true → header_from between (tokens (front ++ rest))
+  header_behind : (rest : List ℕ) → starts_at_boundary rest ≡ true → header_from between (tokens (front ++ rest))
       ≡ record { items = items_of_text front; body = Some (body_with rest) }
   header_behind rest detached =
-      ap (header_from between) (tokens_apart front rest 1 detached)
-      ∙ header_ended (tokens_from line rest) (tokens front) between behind.body behind.ended
+      ap (header_from between) (tokens_append_detached front rest 1 detached)
+      ∙ body_extended (tokens_from line rest) (tokens front) between behind.body behind.ended
 
   -- the definitions of `front ++ rest` are those of `front`
-  pub items_behind : (rest : List ℕ) → begins_apart rest ≡ true → items_of_text (front ++ rest) ≡ items_of_text front
+  pub items_behind : (rest : List ℕ) → starts_at_boundary rest ≡ true
+      → items_of_text (front ++ rest) ≡ items_of_text front
   items_behind rest detached = ap (λ (h : Header). h.items) (header_behind rest detached)
 
-  instants_behind : (nets : List Net) (rest : List ℕ) → begins_apart rest ≡ true
+  instants_behind : (nets : List Net) (rest : List ℕ) → starts_at_boundary rest ≡ true
       → instants_of_text nets (front ++ rest) ≡ Some (instants_in nets (body_from ready (body_with rest)))
   instants_behind nets rest detached =
       ap (λ (h : Header). option_map (λ (body : List Token). instants_in nets (body_from ready body)) h.body)
       (header_behind rest detached)
 
-  string_step : (nets : List Net) (text code rest : List ℕ) → IsShown nets text code → begins_apart rest ≡ true
+  string_step : (nets : List Net) (text code rest : List ℕ) → IsShown nets text code → starts_at_boundary rest ≡ true
       → instants_in nets (body_from ready (body_with (string_text text code ++ rest)))
       ≡ instants_in nets (body_from ready (body_with rest))
   string_step nets text code rest is detached =
@@ -86,14 +88,15 @@ module _ (front : List ℕ) (behind : EndsBehindItem front) where
       ∙ sym (ap (instants_in nets) (behind.whole left))
 
   -- a string that is inserted after `front` leaves the instants, or the fault, as they are
-  pub instants_with : (nets : List Net) (text code rest : List ℕ) → IsShown nets text code → begins_apart rest ≡ true
+  pub instants_with : (nets : List Net) (text code rest : List ℕ) → IsShown nets text code
+      → starts_at_boundary rest ≡ true
       → instants_of_text nets (front ++ (string_text text code ++ rest)) ≡ instants_of_text nets (front ++ rest)
   instants_with nets text code rest is detached =
       instants_behind nets (string_text text code ++ rest) refl
       ∙ ap (λ (r : Result (List Instant) VcdFault). Some r) (string_step nets text code rest is detached)
       ∙ sym (instants_behind nets rest detached)
 
-  pub items_with : (text code rest : List ℕ) → begins_apart rest ≡ true
+  pub items_with : (text code rest : List ℕ) → starts_at_boundary rest ≡ true
       → items_of_text (front ++ (string_text text code ++ rest)) ≡ items_of_text (front ++ rest)
   items_with text code rest detached =
       items_behind (string_text text code ++ rest) refl ∙ sym (items_behind rest detached)

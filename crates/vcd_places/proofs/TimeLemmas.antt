@@ -15,8 +15,8 @@ use Rattle.vcd_read.specs.Body.{context_after}
 use Rattle.vcd_read.specs.Body.{context_after_all, fitting, opened_at, skipped, time_after, time_item}
 use Rattle.vcd_read.specs.Body.{wrong}
 use Rattle.vcd_read.specs.Meaning.{times_from}
-use Rattle.vcd_places.specs.Places.{if_time, times_told}
-use Rattle.vcd_places.specs.Times.{IsFromOn, is_among}
+use Rattle.vcd_places.specs.Places.{if_time, item_times}
+use Rattle.vcd_places.specs.Times.{IsAscendingFrom, is_among}
 use Rattle.vcd_places.proofs.ItemLemmas.{time_number}
 
 read_both : {A B E : Type 0} (r : Result A E) (f : A → Result B E) (b : B) → (r >>= f) ≡ Ok b
@@ -89,39 +89,41 @@ module _ (nets : List Net) where
   first_read item items s end e =
       read_both (context_after nets s item) (λ next. context_after_all nets next items) end e
 
-  at_now : (s next : BodyContext) (times : List ℕ) → s.now ≡ next.now → IsFromOn next.now times → IsFromOn s.now times
-  at_now s next times e from = subst (λ (n : ℕ). IsFromOn n times) (sym e) from
+  at_now : (s next : BodyContext) (times : List ℕ) → s.now ≡ next.now → IsAscendingFrom next.now times
+      → IsAscendingFrom s.now times
+  at_now s next times e from = subst (λ (n : ℕ). IsAscendingFrom n times) (sym e) from
 
   -- the times of a body don't go back
   pub times_rise : (items : List BodyItem) (s end : BodyContext) → context_after_all nets s items ≡ Ok end
-      → IsFromOn s.now (times_told items)
-  unfolding context_after_all times_told
+      → IsAscendingFrom s.now (item_times items)
+  unfolding context_after_all item_times
   times_rise [] s end e = tt
   times_rise (time_item line digits ∷ items) s end e =
       let read = first_read (time_item line digits) items s end e in
       let time = timed_context s read.0 line digits nets read.1 in
       let rest = times_rise items read.0 end read.2 in
-      subst (λ (r : Result ℕ FaultKind). IsFromOn s.now (cons_option (if_time r) (times_told items))) (sym time.1)
-      (time.2, subst (λ (n : ℕ). IsFromOn n (times_told items)) (sym time.3) rest)
+      subst (λ (r : Result ℕ FaultKind). IsAscendingFrom s.now (cons_option (if_time r) (item_times items)))
+      (sym time.1)
+      (time.2, subst (λ (n : ℕ). IsAscendingFrom n (item_times items)) (sym time.3) rest)
   times_rise (change line digits code ∷ items) s end e =
       let read = first_read (change line digits code) items s end e in
-      at_now s read.0 (times_told items) (fitting_context nets s read.0 line (length digits) (net_of nets code) read.1)
+      at_now s read.0 (item_times items) (fitting_context nets s read.0 line (length digits) (net_of nets code) read.1)
       (times_rise items read.0 end read.2)
   times_rise (skipped line code ∷ items) s end e =
       let read = first_read (skipped line code) items s end e in
-      at_now s read.0 (times_told items) (fitting_context nets s read.0 line 0 (net_of nets code) read.1)
+      at_now s read.0 (item_times items) (fitting_context nets s read.0 line 0 (net_of nets code) read.1)
       (times_rise items read.0 end read.2)
   times_rise (dump_section_open line ∷ items) s end e =
       let read = first_read (dump_section_open line) items s end e in
-      at_now s read.0 (times_told items) (opened_context s read.0 line read.1) (times_rise items read.0 end read.2)
+      at_now s read.0 (item_times items) (opened_context s read.0 line read.1) (times_rise items read.0 end read.2)
   times_rise (dump_section_end line ∷ items) s end e =
       let read = first_read (dump_section_end line) items s end e in
-      at_now s read.0 (times_told items) (closed_context s read.0 line read.1) (times_rise items read.0 end read.2)
+      at_now s read.0 (item_times items) (closed_context s read.0 line read.1) (times_rise items read.0 end read.2)
   times_rise (wrong line kind ∷ items) s end e = absurd cc
 
   -- `time` is `now`, or the time of a time item
   abbrev IsKnown : ℕ → ℕ → List BodyItem → Type 0
-  IsKnown now time items = (time ≡ now) ⊎ (is_among time (times_told items) ≡ true)
+  IsKnown now time items = (time ≡ now) ⊎ (is_among time (item_times items) ≡ true)
 
   either_true : (a b : Bool) → (a || b) ≡ true → (a ≡ true) ⊎ (b ≡ true)
   either_true true b e = inl refl
@@ -138,20 +140,20 @@ module _ (nets : List Net) where
   pub times_known : (items : List BodyItem) (s end : BodyContext) (now time : ℕ) → context_after_all nets s items
       ≡ Ok end
       → is_among time (times_from now items) ≡ true → IsKnown now time items
-  unfolding context_after_all times_told times_from
+  unfolding context_after_all item_times times_from
   times_known [] s end now time e among = absurd (true≢false (sym among))
   times_known (time_item line digits ∷ items) s end now time e among =
       let read = first_read (time_item line digits) items s end e in
       let told = timed_context s read.0 line digits nets read.1 in
       let n : number digits ≡ told.0 = time_number digits told.0 (ap if_time told.1) in
-      inr (subst (λ (r : Result ℕ FaultKind). is_among time (cons_option (if_time r) (times_told items)) ≡ true)
+      inr (subst (λ (r : Result ℕ FaultKind). is_among time (cons_option (if_time r) (item_times items)) ≡ true)
       (sym told.1) (elim (either_true (eqb (number digits) time) (is_among time (times_from (number digits) items))
       among) [
-        | inl is ↦ first_true told.0 time (is_among time (times_told items)) (sym (eqb-true (number digits) time is)
+        | inl is ↦ first_true told.0 time (is_among time (item_times items)) (sym (eqb-true (number digits) time is)
             ∙ n)
         | inr later ↦ elim (times_known items read.0 end (number digits) time read.2 later) [
-          | inl is ↦ first_true told.0 time (is_among time (times_told items)) (is ∙ n)
-          | inr rest ↦ second_true (eqb told.0 time) (is_among time (times_told items)) rest
+          | inl is ↦ first_true told.0 time (is_among time (item_times items)) (is ∙ n)
+          | inr rest ↦ second_true (eqb told.0 time) (is_among time (item_times items)) rest
         ]
       ]))
   times_known (change line digits code ∷ items) s end now time e among =

@@ -9,8 +9,8 @@ use Rattle.vcd_read.specs.Tokens.{Token, tokens}
 abbrev pub is_token : List ℕ → Token → Bool
 is_token word t = bytes_eq t.bytes word
 
-abbrev pub number_of : Vec ℕ → ℕ
-number_of code = code_number code.items
+abbrev pub vec_code_number : Vec ℕ → ℕ
+vec_code_number code = code_number code.items
 
 -- `code` has this number, is one that a variable may have, and is neither `$end` nor a token of `text`
 pub record IsUnused (text : List ℕ) (number : ℕ) (code : List ℕ) : Type 0 where

@@ -6,26 +6,26 @@ use Rattle.vcd_places.specs.declared.times.BegunItem.TheVariants.{Time, Code, Co
 
 pub data BegunKind : Type 0 where
   -- a time stamp, by the digits after its #
-  tells : List ℕ → BegunKind
+  time_kind : List ℕ → BegunKind
   -- an item whose code is the next token
-  named : BegunKind
+  code_kind : BegunKind
   -- a comment, up to the next `$end`
-  remark : BegunKind
+  comment_kind : BegunKind
   -- an item of one token
-  single : BegunKind
+  single_kind : BegunKind
 
 abbrev pub kind_of : Shape → BegunKind
-kind_of (time_shape digits) = tells digits
-kind_of (scalar digits code) = single
-kind_of (vector digits) = named
-kind_of foreign = named
-kind_of comment = remark
-kind_of open_shape = single
-kind_of end_shape = single
-kind_of none = single
+kind_of (time_shape digits) = time_kind digits
+kind_of (scalar digits code) = single_kind
+kind_of (vector digits) = code_kind
+kind_of foreign = code_kind
+kind_of comment = comment_kind
+kind_of open_shape = single_kind
+kind_of end_shape = single_kind
+kind_of none = single_kind
 
 abbrev pub begun_kind : BegunItem → BegunKind
-begun_kind (Time digits) = tells digits.now
-begun_kind Code = named
-begun_kind Comment = remark
-begun_kind Whole = single
+begun_kind (Time digits) = time_kind digits.now
+begun_kind Code = code_kind
+begun_kind Comment = comment_kind
+begun_kind Whole = single_kind

@@ -3,31 +3,31 @@ use Rattle.std.specs.Prelude.{◌≡◌, ℕ, ◌+◌, ◌<◌, ◌≤◌, ◌==
 use Rattle.std.specs.Prelude.{take, drop, nat_le}
 use Rattle.std.specs.List.{list_any}
 use Rattle.vcd_read.specs.Tokens.{Token, tokens}
-use Rattle.vcd_read.specs.Reading.{left_from}
+use Rattle.vcd_read.specs.Reading.{tokens_after}
 use Rattle.vcd_read.specs.Header.{is_end}
-use Rattle.vcd_places.specs.Places.{begins_apart, ends_apart}
+use Rattle.vcd_places.specs.Places.{ends_at_boundary, starts_at_boundary}
 
 -- position `at` is a token boundary: the start of `text`, or followed by white space or the end
-abbrev pub is_seam : List ℕ → ℕ → Bool
-is_seam text at = nat_le at (length text) && (at == 0 || begins_apart (drop at text))
+abbrev pub is_token_boundary : List ℕ → ℕ → Bool
+is_token_boundary text at = nat_le at (length text) && (at == 0 || starts_at_boundary (drop at text))
 
 -- the first token after `at` is `bytes`, and it ends at `next`
 pub record IsNextToken (text : List ℕ) (at next : ℕ) (bytes : List ℕ) : Type 0 where
   pub line : ℕ
   pub moves : at < next
   pub within : next ≤ length text
-  pub detached : begins_apart (drop next text) ≡ true
-  pub left : left_from 1 text at ≡ record { line = line; bytes = bytes } ∷ left_from 1 text next
+  pub detached : starts_at_boundary (drop next text) ≡ true
+  pub left : tokens_after 1 text at ≡ record { line = line; bytes = bytes } ∷ tokens_after 1 text next
   pub taken : tokens (take next text) ≡ tokens (take at text) ++ record { line = line; bytes = bytes } ∷ []
 
 -- the token `bytes` begins at `start` and ends at `next`, and no token lies between `at` and `start`
-pub record StandsAt (text : List ℕ) (at next start : ℕ) (bytes : List ℕ) : Type 0 where
+pub record IsTokenAt (text : List ℕ) (at next start : ℕ) (bytes : List ℕ) : Type 0 where
   pub ends : start + length bytes ≡ next
   pub bytes_are : bytes ≡ take (length bytes) (drop start text)
-  pub behind : begins_apart (drop (length bytes) (drop start text)) ≡ true
-  pub spaced : ends_apart (take start text) ≡ true
-  pub same : tokens (take start text) ≡ tokens (take at text)
-  pub some : 0 < length bytes
+  pub end_detached : starts_at_boundary (drop (length bytes) (drop start text)) ≡ true
+  pub start_detached : ends_at_boundary (take start text) ≡ true
+  pub same_tokens : tokens (take start text) ≡ tokens (take at text)
+  pub nonempty : 0 < length bytes
 
 abbrev pub ends_section : Token → Bool
 ends_section token = is_end token.bytes
@@ -40,6 +40,6 @@ pub record IsTakenToEnd (text : List ℕ) (at next : ℕ) : Type 0 where
   pub ends : is_end last.bytes ≡ true
   pub moves : at < next
   pub within : next ≤ length text
-  pub detached : begins_apart (drop next text) ≡ true
-  pub left : left_from 1 text at ≡ words ++ last ∷ left_from 1 text next
+  pub detached : starts_at_boundary (drop next text) ≡ true
+  pub left : tokens_after 1 text at ≡ words ++ last ∷ tokens_after 1 text next
   pub taken : tokens (take next text) ≡ tokens (take at text) ++ (words ++ last ∷ [])

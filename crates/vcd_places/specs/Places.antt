@@ -13,13 +13,13 @@ use Rattle.vcd_read.specs.Body.{body_from}
 use Rattle.vcd_read.specs.Meaning.{last_time}
 
 -- the text is empty or begins with white space: no token before it continues into it
-abbrev pub begins_apart : List ℕ → Bool
-begins_apart [] = true
-begins_apart (b ∷ rest) = is_space b
+abbrev pub starts_at_boundary : List ℕ → Bool
+starts_at_boundary [] = true
+starts_at_boundary (b ∷ rest) = is_space b
 
 -- the text is empty or ends with white space: none of its tokens continues after it
-abbrev pub ends_apart : List ℕ → Bool
-ends_apart text = option_map_or is_space (last_or None text) true
+abbrev pub ends_at_boundary : List ℕ → Bool
+ends_at_boundary text = option_map_or is_space (last_or None text) true
 
 -- ---- the definitions
 
@@ -40,12 +40,12 @@ is_between_sections text =
 
 -- a text begins with this token
 abbrev pub begins_with_token : List ℕ → List ℕ → Bool
-begins_with_token word text = bytes_eq (take (length word) text) word && begins_apart (drop (length word) text)
+begins_with_token word text = bytes_eq (take (length word) text) word && starts_at_boundary (drop (length word) text)
 
 -- the section that ends the definitions of `text` begins at `place`
 abbrev pub ends_definitions_at : List ℕ → ℕ → Bool
 ends_definitions_at text place =
-    ends_apart (take place text) && is_between_sections (take place text)
+    ends_at_boundary (take place text) && is_between_sections (take place text)
     && begins_with_token (codes "$enddefinitions") (drop place text)
 
 -- ---- the body
@@ -55,22 +55,22 @@ if_time (Ok time) = Some time
 if_time (Err kind) = None
 
 -- the time of a time item, if it is below 2^64
-abbrev pub time_told : BodyItem → Option ℕ
-time_told (time_item line digits) = if_time (time_of digits)
-time_told (change line digits code) = None
-time_told (skipped line code) = None
-time_told (dump_section_open line) = None
-time_told (dump_section_end line) = None
-time_told (wrong line kind) = None
+abbrev pub item_time : BodyItem → Option ℕ
+item_time (time_item line digits) = if_time (time_of digits)
+item_time (change line digits code) = None
+item_time (skipped line code) = None
+item_time (dump_section_open line) = None
+item_time (dump_section_end line) = None
+item_time (wrong line kind) = None
 
 -- the times below 2^64 of the time items, in their order
-unfoldable pub times_told : List BodyItem → List ℕ
-times_told [] = []
-times_told (item ∷ items) = cons_option (time_told item) (times_told items)
+unfoldable pub item_times : List BodyItem → List ℕ
+item_times [] = []
+item_times (item ∷ items) = cons_option (item_time item) (item_times items)
 
 -- the times below 2^64 of the body of `text`, in their order
 abbrev pub times_of_body : List ℕ → List ℕ
-times_of_body text = times_told (body_from ready (unwrap_or (body_in text) []))
+times_of_body text = item_times (body_from ready (unwrap_or (body_in text) []))
 
 -- the tokens `body` end with an item, or there are none: what follows is read as if it were alone
 abbrev pub AreWholeItems : List Token → Type 0
@@ -79,7 +79,7 @@ AreWholeItems body = (more : List Token) → body_from ready (body ++ more) ≡ 
 -- `place` is between two items of the body of `text`, and `time` is the current time there
 pub record IsAtTime (text : List ℕ) (time place : ℕ) : Type 0 where
   pub within : place ≤ length text
-  pub detached : begins_apart (drop place text) ≡ true
+  pub detached : starts_at_boundary (drop place text) ≡ true
   pub body : List Token
   pub ended : body_in (take place text) ≡ Some body
   pub whole : AreWholeItems body

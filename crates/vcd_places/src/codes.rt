@@ -6,7 +6,7 @@ ghost use Rattle.std.specs.List.Sorted.{IsStrictlyIncreasing};
 ghost use Rattle.vcd_read.specs.CodeNumbers.{code_number};
 ghost use Rattle.vcd_read.specs.Header.{is_code};
 ghost use Rattle.vcd_read.specs.Tokens.{tokens};
-ghost use Rattle.vcd_places.specs.Codes.{IsUnused, is_token, number_of};
+ghost use Rattle.vcd_places.specs.Codes.{IsUnused, is_token, vec_code_number};
 
 use crate::section::is_end;
 use crate::token_reader::TokenReader;
@@ -110,7 +110,7 @@ fn unused_code(
 pub fn unused_codes(alloc: Global, text: &[u8], count: usize) -> Result<Vec<Vec<u8>>, AllocError>
     ensures each { IfOk result
         (λ found. All (λ code. IsUnused text.now (code_number code.items) code.items) found.items) }
-    ensures ascend { IfOk result (λ found. IsStrictlyIncreasing (map number_of found.items)) }
+    ensures ascend { IfOk result (λ found. IsStrictlyIncreasing (map vec_code_number found.items)) }
     ensures count { IfOk result (λ found. length found.items ≡ count) }
 {
     let limit = (text.len() / 2).checked_add(count).ok_or(AllocError)?;

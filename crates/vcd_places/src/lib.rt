@@ -15,10 +15,10 @@
 //! - [`TimePlaces`] gives all time stamps of a body below 2^64, in their order, each with a place
 //!   between two items at which it is the current time (`IsAtTime`).
 //! - [`unused_codes`] gives codes that are no tokens of a text, in the order of their numbers.
-//! - Text that is inserted at such places is read as if it were alone (`proofs/PutInLemmas`). A
+//! - Text that is inserted at such places is read as if it were alone (`proofs/InsertionLemmas`). A
 //!   string whose code is declared changes nothing of what a dump says (`proofs/StringStepLemmas`).
 //!   Neither does one more net, a code with its size, if no variable has the code and the body has
-//!   no fault (`proofs/MoreNetsLemmas`).
+//!   no fault (`proofs/AddedNetLemmas`).
 //!
 //! # What isn't proved
 //!

@@ -4,7 +4,7 @@ ghost use Rattle.std.specs.Prelude.{◌≡◌, ◌<◌, ◌≤◌, false, true, 
 ghost use Rattle.std.specs.List.{list_any};
 ghost use Rattle.vcd_read.specs.Body.{body_from, ready};
 ghost use Rattle.vcd_read.specs.Header.{is_end, opens_section};
-ghost use Rattle.vcd_read.specs.Reading.{left_from};
+ghost use Rattle.vcd_read.specs.Reading.{tokens_after};
 ghost use Rattle.vcd_places.specs.Places.{ends_definitions_at, IsAtTime, times_of_body, body_in};
 ghost use Rattle.vcd_places.specs.NextTokens.{IsTakenToEnd, ends_section};
 ghost use Rattle.vcd_places.specs.Times.{times_left};
@@ -35,10 +35,10 @@ fn opens_section(word: &[u8]) -> bool
 }
 
 /// Takes the tokens up to and including the next `$end`, or all that are left. Answers whether there is an `$end`.
-pub(crate) fn behind_end(reader: &mut TokenReader<'_>) -> bool
+pub(crate) fn skip_past_end(reader: &mut TokenReader<'_>) -> bool
     ensures text { reader.new.text.now ≡ reader.old.text.now }
     ensures end { result ≡ true → IsTakenToEnd reader.old.text.now reader.old.at reader.new.at }
-    ensures none { result ≡ false → list_any ends_section (left_from 1 reader.old.text.now reader.old.at) ≡ false }
+    ensures none { result ≡ false → list_any ends_section (tokens_after 1 reader.old.text.now reader.old.at) ≡ false }
 {
     while let Some(token) = reader.next() {
         if is_end(token.bytes) {
@@ -63,7 +63,7 @@ pub fn definitions_end(text: &[u8]) -> Option<(EndSection, TimePlaces<'_>)>
         if !opens_section(first.bytes) {
             continue;
         }
-        if !behind_end(&mut reader) {
+        if !skip_past_end(&mut reader) {
             return None;
         }
         if first.bytes == b"$enddefinitions".as_slice() {

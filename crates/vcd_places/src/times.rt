@@ -9,7 +9,7 @@ ghost use Rattle.vcd_places.specs.Places.{IsAtTime};
 ghost use Rattle.vcd_places.specs.Times.{IsBetweenItems, times_left};
 
 use crate::number::time_of;
-use crate::section::behind_end;
+use crate::section::skip_past_end;
 use crate::token_reader::TokenReader;
 use std::marker::Model;
 
@@ -133,7 +133,7 @@ impl<'a> TimePlaces<'a> {
                     reader.next()?;
                 }
                 BegunItem::Comment => {
-                    if !behind_end(&mut reader) {
+                    if !skip_past_end(&mut reader) {
                         return None;
                     }
                 }

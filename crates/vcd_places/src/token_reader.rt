@@ -2,8 +2,8 @@
 
 ghost use Rattle.std.specs.Prelude.{◌≡◌, ℕ, [], ◌<◌, ◌≤◌, true, false, IfNone, IfSome, length, slice_index};
 ghost use Rattle.vcd_read.specs.Tokens.{is_space};
-ghost use Rattle.vcd_read.specs.Reading.{left_from};
-ghost use Rattle.vcd_places.specs.NextTokens.{IsNextToken, StandsAt, is_seam};
+ghost use Rattle.vcd_read.specs.Reading.{tokens_after};
+ghost use Rattle.vcd_places.specs.NextTokens.{IsNextToken, IsTokenAt, is_token_boundary};
 
 /// A token, and the place of its first byte.
 #[derive(Clone, Copy)]
@@ -17,7 +17,7 @@ pub(crate) struct PlacedToken<'a> {
 pub(crate) struct TokenReader<'a> {
     pub text: &'a [u8],
     pub at: usize,
-    ghost seam: { is_seam text.now at ≡ true },
+    ghost boundary: { is_token_boundary text.now at ≡ true },
 }
 
 fn is_space(b: u8) -> bool
@@ -59,7 +59,7 @@ fn word_end(text: &[u8], at: usize) -> usize
 impl<'a> TokenReader<'a> {
     /// A reader of the tokens of `text` from `at` on, a token boundary.
     pub fn new(text: &'a [u8], at: usize) -> TokenReader<'a>
-        requires { is_seam text.now at ≡ true }
+        requires { is_token_boundary text.now at ≡ true }
         ensures text { result.text.now ≡ text.now }
         ensures at { result.at ≡ at }
     {
@@ -69,9 +69,9 @@ impl<'a> TokenReader<'a> {
     /// Takes the next token, if there is one.
     pub fn next(&mut self) -> Option<PlacedToken<'a>>
         ensures text { self.new.text.now ≡ self.old.text.now }
-        ensures none { IfNone result (left_from 1 self.old.text.now self.old.at ≡ []) }
+        ensures none { IfNone result (tokens_after 1 self.old.text.now self.old.at ≡ []) }
         ensures token { IfSome result (λ t. IsNextToken self.old.text.now self.old.at self.new.at t.bytes.now) }
-        ensures place { IfSome result (λ t. StandsAt self.old.text.now self.old.at self.new.at t.start t.bytes.now) }
+        ensures place { IfSome result (λ t. IsTokenAt self.old.text.now self.old.at self.new.at t.start t.bytes.now) }
     {
         let start = word_start(self.text, self.at);
         if start == self.text.len() {

@@ -32,7 +32,7 @@ no_changed_nets n = record {
 }
 
 -- the list has the net at an index from `place` on
-pub record StandsFrom (changed_nets : List ℕ) (place net : ℕ) : Type 0 where
+pub record IsListedFrom (changed_nets : List ℕ) (place net : ℕ) : Type 0 where
   pub at : ℕ
   pub low : place ≤ at
   pub high : at < length changed_nets
@@ -43,10 +43,10 @@ pub record IsMoved (changed_nets : List ℕ) (place : ℕ) (start current : Curr
   where
     pub values : moved ++ values_from 0 current ≡ values_from 0 start
     pub room : length current ≡ length start
-    pub listed : (net : ℕ) → IsSome (get_or current net None) → StandsFrom changed_nets place net
+    pub listed : (net : ℕ) → IsSome (get_or current net None) → IsListedFrom changed_nets place net
 
-stands_from : (changed_nets : List ℕ) (net : ℕ) → Contains changed_nets net → StandsFrom changed_nets 0 net
-stands_from changed_nets net h = record {
+is_listed_from : (changed_nets : List ℕ) (net : ℕ) → Contains changed_nets net → IsListedFrom changed_nets 0 net
+is_listed_from changed_nets net h = record {
   at = h.0;
   low = omega arith;
   high = h.1;
@@ -60,7 +60,7 @@ pub moved_first : (changed_nets : List ℕ) (start : CurrentValues) → ListsCha
 moved_first changed_nets start h = record {
   values = refl;
   room = refl;
-  listed = λ net some. stands_from changed_nets net (h.listed net some);
+  listed = λ net some. is_listed_from changed_nets net (h.listed net some);
 }
 
 -- with no value below a net, its value is the first
@@ -116,7 +116,7 @@ below_next changed_nets place start current moved up h k lt =
 listed_next : (changed_nets : List ℕ) (place : ℕ) (start current : CurrentValues) (moved : List Value)
     → IsMoved changed_nets place start current moved
     → (net : ℕ) → IsSome (get_or (slice_set current (get_or changed_nets place 0) None) net None)
-    → StandsFrom changed_nets (place + 1) net
+    → IsListedFrom changed_nets (place + 1) net
 listed_next changed_nets place start current moved h net some =
     elim (cases_eq net (get_or changed_nets place 0)) [
       | inl e ↦ absurd (some_is_none (get_or (slice_set current (get_or changed_nets place 0) None) net None)

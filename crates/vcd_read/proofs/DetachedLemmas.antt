@@ -10,7 +10,7 @@ use Rattle.vcd_read.specs.declared.fault.FaultKind.TheVariants.{BadToken, TimeBa
 use Rattle.vcd_read.specs.declared.fault.VcdFault.{VcdFault}
 use Rattle.vcd_read.specs.Tokens.{Token, tokens_from}
 use Rattle.vcd_read.specs.Numbers.{number, time_of, extended}
-use Rattle.vcd_read.specs.Reading.{left_from}
+use Rattle.vcd_read.specs.Reading.{tokens_after}
 use Rattle.vcd_read.specs.declared.open_item.OpenItem.{OpenItem}
 use Rattle.vcd_read.specs.declared.open_item.OpenItem.TheVariants.{Ready}
 use Rattle.vcd_read.specs.Bodies.{place_of}
@@ -46,7 +46,7 @@ first-read ts others t digits time cut shape is =
     shape) ∙ ap Some (time_number digits time is)
 
 -- from place 0 on, all of a piece is left
-pub left-whole : (line : ℕ) (bytes : List ℕ) → left_from line bytes 0 ≡ tokens_from line bytes
+pub left-whole : (line : ℕ) (bytes : List ℕ) → tokens_after line bytes 0 ≡ tokens_from line bytes
 left-whole line bytes = ap (λ (l : ℕ). tokens_from l bytes) (zero-add line)
 
 -- ---- items

@@ -24,14 +24,14 @@ IsPrefixOf more (Ok d) longer = longer ≡ Ok (defined (going_on d.head more) d.
 IsPrefixOf more (Err fault) longer = StaysAs fault.line fault.kind longer
 
 module _ {V : Type 0} (with_variable : V → Variable → V) (text longer : List ℕ) (more : List Token) where
-  abbrev short : Declared V → Header → Result (Defined V) VcdFault
-  short d h = rest_of_header with_variable text d h
+  abbrev read_short : Declared V → Header → Result (Defined V) VcdFault
+  read_short d h = rest_of_header with_variable text d h
 
-  abbrev long : Declared V → Header → Result (Defined V) VcdFault
-  long d h = rest_of_header with_variable longer d h
+  abbrev read_longer : Declared V → Header → Result (Defined V) VcdFault
+  read_longer d h = rest_of_header with_variable longer d h
 
-  abbrev Both : Declared V → Header → Header → Type 0
-  Both d h h2 = IsPrefixOf more (short d h) (long d h2)
+  abbrev IsHeaderPrefix : Declared V → Header → Header → Type 0
+  IsHeaderPrefix d h h2 = IsPrefixOf more (read_short d h) (read_longer d h2)
 
   stays : (line : ℕ) (kind : FaultKind) → StaysAs {V = V} line kind (Err (record { line = line; kind = kind }))
   unfolding StaysAs
@@ -39,7 +39,7 @@ module _ {V : Type 0} (with_variable : V → Variable → V) (text longer : List
   stays line UnfinishedSection = tt
   stays line kind = refl
 
-  section_step : (h h2 : Header) (r : Result (Declared V) VcdFault) → ((next : Declared V) → Both next h h2)
+  section_step : (h h2 : Header) (r : Result (Declared V) VcdFault) → ((next : Declared V) → IsHeaderPrefix next h h2)
       → IsPrefixOf more ((r >>= λ next. declare_all with_variable next h.items) >>= λ declared. body_of text h.body >>=
       λ body. Ok (headed declared body))
       ((r >>= λ next. declare_all with_variable next h2.items) >>= λ declared. body_of longer h2.body >>= λ body. Ok
@@ -49,8 +49,8 @@ module _ {V : Type 0} (with_variable : V → Variable → V) (text longer : List
   section_step h h2 (Err fault) both = stays fault.line fault.kind
 
   ending : (section : Section) (ts : List Token) (d : Declared V) (test : Bool)
-      → ((next : Declared V) → Both next (header_from between ts) (header_from between (ts ++ more)))
-      → Both d (elim test as (λ _. Header) [
+      → ((next : Declared V) → IsHeaderPrefix next (header_from between ts) (header_from between (ts ++ more)))
+      → IsHeaderPrefix d (elim test as (λ _. Header) [
         | true ↦ record { items = []; body = Some ts }
         | false ↦ with_item
             (whole section) (header_from between ts)
@@ -66,10 +66,10 @@ module _ {V : Type 0} (with_variable : V → Variable → V) (text longer : List
       (at_line section.line (declare_section with_variable d section)) both
 
   inside_step : (section : Section) (t : Token) (ts : List Token) (d : Declared V) (end : Bool)
-      → ((next : Declared V) → Both next (header_from between ts) (header_from between (ts ++ more)))
-      → Both d (header_from (inside (with_word section t.bytes)) ts) (header_from (inside (with_word section t.bytes))
-      (ts ++ more))
-      → Both d (elim end as (λ _. Header) [
+      → ((next : Declared V) → IsHeaderPrefix next (header_from between ts) (header_from between (ts ++ more)))
+      → IsHeaderPrefix d (header_from (inside (with_word section t.bytes)) ts)
+      (header_from (inside (with_word section t.bytes)) (ts ++ more))
+      → IsHeaderPrefix d (elim end as (λ _. Header) [
         | true ↦ elim (ends_definitions section) as (λ _. Header) [
           | true ↦ record { items = []; body = Some ts }
           | false ↦ with_item (whole section) (header_from between ts)
@@ -87,8 +87,8 @@ module _ {V : Type 0} (with_variable : V → Variable → V) (text longer : List
   inside_step section t ts d false both goes_on = goes_on
 
   between_step : (t : Token) (ts : List Token) (d : Declared V) (opens : Bool)
-      → Both d (header_from (inside (opened t)) ts) (header_from (inside (opened t)) (ts ++ more))
-      → Both d (elim opens as (λ _. Header) [
+      → IsHeaderPrefix d (header_from (inside (opened t)) ts) (header_from (inside (opened t)) (ts ++ more))
+      → IsHeaderPrefix d (elim opens as (λ _. Header) [
         | true ↦ header_from (inside (opened t)) ts
         | false ↦ with_item
             (stray t.line) (header_from between ts)
@@ -102,7 +102,7 @@ module _ {V : Type 0} (with_variable : V → Variable → V) (text longer : List
   between_step t ts d true goes_on = goes_on
   between_step t ts d false goes_on = refl
 
-  front : (ts : List Token) (place : HeaderPlace) (d : Declared V) → Both d (header_from place ts)
+  front : (ts : List Token) (place : HeaderPlace) (d : Declared V) → IsHeaderPrefix d (header_from place ts)
       (header_from place (ts ++ more))
   unfolding IsPrefixOf StaysAs header_from declare_all
   front [] between d = tt

@@ -17,7 +17,7 @@ use Rattle.vcd_read.specs.Reading.{line_behind}
 use Rattle.vcd_read.specs.Header.{◌>>=◌, at_line, is_end, opens_section, ends_definitions, Section, whole, unfinished}
 use Rattle.vcd_read.specs.Header.{stray, with_word, Header, with_item, between, inside, opened, header_from, Declared}
 use Rattle.vcd_read.specs.Header.{declare_all, declare_section, declare_var, open_scope, close_scope}
-use Rattle.vcd_read.specs.Sections.{Ended, after_word, ended_in, section_from, behind_section, opening_of, Defined}
+use Rattle.vcd_read.specs.Sections.{Ended, after_word, ended_in, section_from, after_section, opening_of, Defined}
 use Rattle.vcd_read.specs.Sections.{headed, header_of, rest_of_header}
 use Rattle.vcd_read.specs.Meaning.{ReadFails, ReadFailsAs, body_of}
 
@@ -212,7 +212,7 @@ module _ {V : Type 0} (with_variable : V → Variable → V) where
       (λ ended. ap (next_at text d t.line ended) (same_bytes t.bytes (codes "$scope") is.1))
 
   read_upscope : (text : List ℕ) (d : Declared V) (t : Token) (ts : List Token) → Upscope ≡ opening_of t.bytes
-      → header_of with_variable text d (t ∷ ts) ≡ (behind_section t.line ts >>= λ rest. at_line t.line
+      → header_of with_variable text d (t ∷ ts) ≡ (after_section t.line ts >>= λ rest. at_line t.line
       (close_scope d d.scopes) >>= λ next. header_of with_variable text next rest)
   unfolding Opens
   read_upscope text d t ts e =
@@ -224,7 +224,7 @@ module _ {V : Type 0} (with_variable : V → Variable → V) where
       with_variable text next rest)
 
   read_end : (text : List ℕ) (d : Declared V) (t : Token) (ts : List Token) → EndDefinitions ≡ opening_of t.bytes
-      → header_of with_variable text d (t ∷ ts) ≡ (behind_section t.line ts >>= λ rest. Ok (headed d rest))
+      → header_of with_variable text d (t ∷ ts) ≡ (after_section t.line ts >>= λ rest. Ok (headed d rest))
   unfolding Opens
   read_end text d t ts e =
       let is = opens_as t.bytes EndDefinitions e in
@@ -244,7 +244,7 @@ module _ {V : Type 0} (with_variable : V → Variable → V) where
   skipped_as text d line rest section var scope upscope end e v s u = rw (e, v, s, u) refl
 
   read_skipped : (text : List ℕ) (d : Declared V) (t : Token) (ts : List Token) → Skipped ≡ opening_of t.bytes
-      → header_of with_variable text d (t ∷ ts) ≡ (behind_section t.line ts >>= λ rest. header_of with_variable text d
+      → header_of with_variable text d (t ∷ ts) ≡ (after_section t.line ts >>= λ rest. header_of with_variable text d
       rest)
   unfolding Opens
   read_skipped text d t ts e =
@@ -280,27 +280,28 @@ module _ {V : Type 0} (with_variable : V → Variable → V) where
   stops fault all read g e h = fails_as fault.line fault.kind all read g e h
 
   -- a section of each kind, opened by `t`: if reading or declaring it fails (`_stops`, `_refused`), the header has that
-  -- fault; otherwise (`_goes`) the header is what the tokens after the section give, or they are its body (`end_goes`)
+  -- fault; otherwise (`_continues`) the header is what the tokens after the section give, or they are its body
+  -- (`end_continues`)
   module _ (text : List ℕ) (d : Declared V) (t : Token) (ts : List Token) where
-    abbrev behind_var : Ended → Reading
-    behind_var ended = at_line t.line (declare_var with_variable d ended.words) >>= λ next. header_of with_variable text
+    abbrev after_var : Ended → Reading
+    after_var ended = at_line t.line (declare_var with_variable d ended.words) >>= λ next. header_of with_variable text
         next ended.rest
 
-    abbrev behind_scope : Ended → Reading
-    behind_scope ended = header_of with_variable text (open_scope d ended.words) ended.rest
+    abbrev after_scope : Ended → Reading
+    after_scope ended = header_of with_variable text (open_scope d ended.words) ended.rest
 
-    abbrev behind_upscope : List Token → Reading
-    behind_upscope rest = at_line t.line (close_scope d d.scopes) >>= λ next. header_of with_variable text next rest
+    abbrev after_upscope : List Token → Reading
+    after_upscope rest = at_line t.line (close_scope d d.scopes) >>= λ next. header_of with_variable text next rest
 
-    abbrev behind_end : List Token → Reading
-    behind_end rest = Ok (headed d rest)
+    abbrev after_end : List Token → Reading
+    after_end rest = Ok (headed d rest)
 
-    abbrev behind_skipped : List Token → Reading
-    behind_skipped rest = header_of with_variable text d rest
+    abbrev after_skipped : List Token → Reading
+    after_skipped rest = header_of with_variable text d rest
 
     pub var_stops : (fault : VcdFault) → Var ≡ opening_of t.bytes → ReadFails fault (section_from t.line ts)
         → ReadFails fault (header_of with_variable text d (t ∷ ts))
-    var_stops fault e h = stops fault (header_of with_variable text d (t ∷ ts)) (section_from t.line ts) behind_var
+    var_stops fault e h = stops fault (header_of with_variable text d (t ∷ ts)) (section_from t.line ts) after_var
         (read_var text d t ts e) h
 
     pub var_refused : (fault : VcdFault) (words : List (List ℕ)) (rest : List Token) → Var ≡ opening_of t.bytes
@@ -309,71 +310,73 @@ module _ {V : Type 0} (with_variable : V → Variable → V) where
     var_refused fault words rest e is h =
         stops fault (header_of with_variable text d (t ∷ ts)) (at_line t.line (declare_var with_variable d words))
         (λ next. header_of with_variable text next rest)
-        (goes (header_of with_variable text d (t ∷ ts)) (section_from t.line ts) behind_var
+        (goes (header_of with_variable text d (t ∷ ts)) (section_from t.line ts) after_var
         (record { words = words; rest = rest }) (read_var text d t ts e) is) h
 
-    pub var_goes : (words : List (List ℕ)) (rest : List Token) (next : Declared V) → Var ≡ opening_of t.bytes
+    pub var_continues : (words : List (List ℕ)) (rest : List Token) (next : Declared V) → Var ≡ opening_of t.bytes
         → section_from t.line ts ≡ Ok (record { words = words; rest = rest })
         → at_line t.line (declare_var with_variable d words) ≡ Ok next → header_of with_variable text d (t ∷ ts)
         ≡ header_of with_variable text next rest
-    var_goes words rest next e is h =
+    var_continues words rest next e is h =
         goes (header_of with_variable text d (t ∷ ts)) (at_line t.line (declare_var with_variable d words))
         (λ next. header_of with_variable text next rest) next
-        (goes (header_of with_variable text d (t ∷ ts)) (section_from t.line ts) behind_var
+        (goes (header_of with_variable text d (t ∷ ts)) (section_from t.line ts) after_var
         (record { words = words; rest = rest }) (read_var text d t ts e) is) h
 
     pub scope_stops : (fault : VcdFault) → Scope ≡ opening_of t.bytes → ReadFails fault (section_from t.line ts)
         → ReadFails fault (header_of with_variable text d (t ∷ ts))
-    scope_stops fault e h = stops fault (header_of with_variable text d (t ∷ ts)) (section_from t.line ts) behind_scope
+    scope_stops fault e h = stops fault (header_of with_variable text d (t ∷ ts)) (section_from t.line ts) after_scope
         (read_scope text d t ts e) h
 
-    pub scope_goes : (words : List (List ℕ)) (rest : List Token) → Scope ≡ opening_of t.bytes → section_from t.line ts
-        ≡ Ok (record { words = words; rest = rest }) → header_of with_variable text d (t ∷ ts) ≡ header_of with_variable
-        text (open_scope d words) rest
-    scope_goes words rest e is = goes (header_of with_variable text d (t ∷ ts)) (section_from t.line ts) behind_scope
+    pub scope_continues : (words : List (List ℕ)) (rest : List Token) → Scope ≡ opening_of t.bytes
+        → section_from t.line ts ≡ Ok (record { words = words; rest = rest })
+        → header_of with_variable text d (t ∷ ts) ≡ header_of with_variable text (open_scope d words) rest
+    scope_continues words rest e is =
+        goes (header_of with_variable text d (t ∷ ts)) (section_from t.line ts) after_scope
         (record { words = words; rest = rest }) (read_scope text d t ts e) is
 
-    pub upscope_stops : (fault : VcdFault) → Upscope ≡ opening_of t.bytes → ReadFails fault (behind_section t.line ts)
+    pub upscope_stops : (fault : VcdFault) → Upscope ≡ opening_of t.bytes → ReadFails fault (after_section t.line ts)
         → ReadFails fault (header_of with_variable text d (t ∷ ts))
-    upscope_stops fault e h = stops fault (header_of with_variable text d (t ∷ ts)) (behind_section t.line ts)
-        behind_upscope (read_upscope text d t ts e) h
+    upscope_stops fault e h = stops fault (header_of with_variable text d (t ∷ ts)) (after_section t.line ts)
+        after_upscope (read_upscope text d t ts e) h
 
-    pub upscope_refused : (rest : List Token) → Upscope ≡ opening_of t.bytes → behind_section t.line ts ≡ Ok rest
+    pub upscope_refused : (rest : List Token) → Upscope ≡ opening_of t.bytes → after_section t.line ts ≡ Ok rest
         → d.scopes ≡ [] → header_of with_variable text d (t ∷ ts)
         ≡ Err (record { line = t.line; kind = ScopeUnderflow })
     upscope_refused rest e is none =
-        goes (header_of with_variable text d (t ∷ ts)) (behind_section t.line ts) behind_upscope rest
+        goes (header_of with_variable text d (t ∷ ts)) (after_section t.line ts) after_upscope rest
         (read_upscope text d t ts e) is
         ∙ ap (λ (scopes : List (List ℕ)). at_line t.line (close_scope d scopes) >>= λ next. header_of with_variable text
         next rest) none
 
-    pub upscope_goes : (rest : List Token) (name : List ℕ) (scopes : List (List ℕ)) → Upscope ≡ opening_of t.bytes
-        → behind_section t.line ts ≡ Ok rest → d.scopes ≡ name ∷ scopes → header_of with_variable text d (t ∷ ts)
+    pub upscope_continues : (rest : List Token) (name : List ℕ) (scopes : List (List ℕ)) → Upscope ≡ opening_of t.bytes
+        → after_section t.line ts ≡ Ok rest → d.scopes ≡ name ∷ scopes → header_of with_variable text d (t ∷ ts)
         ≡ header_of with_variable text (record d { scopes = scopes }) rest
-    upscope_goes rest name scopes e is some =
-        goes (header_of with_variable text d (t ∷ ts)) (behind_section t.line ts) behind_upscope rest
+    upscope_continues rest name scopes e is some =
+        goes (header_of with_variable text d (t ∷ ts)) (after_section t.line ts) after_upscope rest
         (read_upscope text d t ts e) is
         ∙ ap (λ (scopes : List (List ℕ)). at_line t.line (close_scope d scopes) >>= λ next. header_of with_variable text
         next rest) some
 
     pub end_stops : (fault : VcdFault) → EndDefinitions ≡ opening_of t.bytes → ReadFails fault
-        (behind_section t.line ts) → ReadFails fault (header_of with_variable text d (t ∷ ts))
-    end_stops fault e h = stops fault (header_of with_variable text d (t ∷ ts)) (behind_section t.line ts) behind_end
+        (after_section t.line ts) → ReadFails fault (header_of with_variable text d (t ∷ ts))
+    end_stops fault e h = stops fault (header_of with_variable text d (t ∷ ts)) (after_section t.line ts) after_end
         (read_end text d t ts e) h
 
-    pub end_goes : (rest : List Token) → EndDefinitions ≡ opening_of t.bytes → behind_section t.line ts ≡ Ok rest
+    pub end_continues : (rest : List Token) → EndDefinitions ≡ opening_of t.bytes → after_section t.line ts ≡ Ok rest
         → header_of with_variable text d (t ∷ ts) ≡ Ok (headed d rest)
-    end_goes rest e is = goes (header_of with_variable text d (t ∷ ts)) (behind_section t.line ts) behind_end rest
+    end_continues rest e is = goes (header_of with_variable text d (t ∷ ts)) (after_section t.line ts) after_end rest
         (read_end text d t ts e) is
 
-    pub skipped_stops : (fault : VcdFault) → Skipped ≡ opening_of t.bytes → ReadFails fault (behind_section t.line ts)
+    pub skipped_stops : (fault : VcdFault) → Skipped ≡ opening_of t.bytes → ReadFails fault (after_section t.line ts)
         → ReadFails fault (header_of with_variable text d (t ∷ ts))
-    skipped_stops fault e h = stops fault (header_of with_variable text d (t ∷ ts)) (behind_section t.line ts)
-        behind_skipped (read_skipped text d t ts e) h
+    skipped_stops fault e h = stops fault (header_of with_variable text d (t ∷ ts)) (after_section t.line ts)
+        after_skipped (read_skipped text d t ts e) h
 
-    pub skipped_goes : (rest : List Token) → Skipped ≡ opening_of t.bytes → behind_section t.line ts ≡ Ok rest
+    pub skipped_continues : (rest : List Token) → Skipped ≡ opening_of t.bytes → after_section t.line ts ≡ Ok rest
         → header_of with_variable text d (t ∷ ts) ≡ header_of with_variable text d rest
-    skipped_goes rest e is = goes (header_of with_variable text d (t ∷ ts)) (behind_section t.line ts) behind_skipped
+    skipped_continues rest e is =
+        goes (header_of with_variable text d (t ∷ ts)) (after_section t.line ts) after_skipped
         rest (read_skipped text d t ts e) is
 
   -- the text ends before its definitions do

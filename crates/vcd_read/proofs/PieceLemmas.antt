@@ -66,29 +66,29 @@ cut_behind (b ∷ front) s rest line e =
     (sym (line_behind-cons line b (front ++ s ∷ [])))
 
 -- the tokens of a text are those up to a space, and those after it
-pub tokens_behind : (front : List ℕ) (s : ℕ) (rest : List ℕ) (line : ℕ) → is_space s ≡ true
+pub tokens_split : (front : List ℕ) (s : ℕ) (rest : List ℕ) (line : ℕ) → is_space s ≡ true
     → tokens_from line (front ++ s ∷ rest) ≡ tokens_from line (front ++ s ∷ [])
     ++ tokens_from (line_behind line (front ++ s ∷ [])) rest
-tokens_behind front s rest line e =
+tokens_split front s rest line e =
     let cut = cut_from line (front ++ s ∷ []) in
     ap (all_of line) (cut_behind front s rest line e) ∙ token_of-behind line cut.run cut.others
     (tokens_from (line_behind line (front ++ s ∷ [])) rest)
 
 -- the tokens of an empty prefix, and those of what follows
-pub none_behind : (text rest : List ℕ) (line : ℕ) → tokens_from line (take 0 text ++ rest) ≡ tokens_from line
+pub tokens_split-empty : (text rest : List ℕ) (line : ℕ) → tokens_from line (take 0 text ++ rest) ≡ tokens_from line
     (take 0 text) ++ tokens_from (line_behind line (take 0 text)) rest
 unfolding cut_from
-none_behind text rest line = ap (λ (l : ℕ). tokens_from l rest) (sym (zero-add line))
+tokens_split-empty text rest line = ap (λ (l : ℕ). tokens_from l rest) (sym (zero-add line))
 
 -- the tokens of a prefix that ends after a space, and those of what follows
-pub space_behind : (text rest : List ℕ) (end line : ℕ) → end < length text → is_space (get_or text end 0) ≡ true
+pub tokens_split-space : (text rest : List ℕ) (end line : ℕ) → end < length text → is_space (get_or text end 0) ≡ true
     → tokens_from line (take (end + 1) text ++ rest) ≡ tokens_from line (take (end + 1) text)
     ++ tokens_from (line_behind line (take (end + 1) text)) rest
-space_behind text rest end line lt space =
+tokens_split-space text rest end line lt space =
     let front : take (end + 1) text ≡ take end text ++ get_or text end 0 ∷ [] = take_more text end 0 lt in
     let joined : (take end text ++ get_or text end 0 ∷ []) ++ rest ≡ take end text ++ get_or text end 0
     ∷ rest = append_assoc (take end text) (get_or text end 0 ∷ []) rest in
-    rw (front, joined) (tokens_behind (take end text) (get_or text end 0) rest line space)
+    rw (front, joined) (tokens_split (take end text) (get_or text end 0) rest line space)
 
 -- what is left of a text from a place on, by its length
 pub left_is : (text : List ℕ) (at : ℕ) → at ≤ length text → drop at text
@@ -111,9 +111,9 @@ left_behind text rest at line space = by_length (length text - at) (sym (length-
 
     by_length : (n : ℕ) → n ≡ length part → SplitsTokens part
     by_length zero e = subst SplitsTokens (sym (drop_all at text (omega (arith, e, length-drop at text))))
-        (none_behind [] rest line)
+        (tokens_split-empty [] rest line)
     by_length (suc n) e =
         subst SplitsTokens (take_all (n + 1) part (omega (arith, e)))
-        (space_behind part rest n line (omega (arith, e))
+        (tokens_split-space part rest n line (omega (arith, e))
         (ap is_space (get_or-drop at text n 0 ∙ ap (λ (i : ℕ). get_or text i 0) (omega (arith, e, length-drop at text)))
         ∙ space (omega (arith, e, length-drop at text))))

@@ -13,7 +13,7 @@ use Rattle.vcd_read.specs.declared.fault.VcdFault.{VcdFault}
 use Rattle.vcd_read.specs.Tokens.{Token}
 use Rattle.vcd_read.specs.Header.{◌>>=◌, is_end, is_code, VarWords, var_words}
 use Rattle.vcd_read.specs.Numbers.{number_below}
-use Rattle.vcd_read.specs.Sections.{Ended, after_word, ended_in, section_from, behind_section}
+use Rattle.vcd_read.specs.Sections.{Ended, after_word, ended_in, section_from, after_section}
 
 -- `ended` with `words` before its own
 abbrev pub after_words : List (List ℕ) → Ended → Ended
@@ -91,18 +91,18 @@ same_rest : (words : List (List ℕ)) (read : Result Ended VcdFault)
 same_rest words (Err fault) = refl
 same_rest words (Ok ended) = refl
 
-pub behind_end : (line : ℕ) (t : Token) (before ts : List Token) → before ≡ t ∷ ts → is_end t.bytes ≡ true
-    → behind_section line before ≡ Ok ts
-behind_end line t before ts cut end = ap (λ (read : Result Ended VcdFault). read >>= λ ended. Ok ended.rest)
+pub skip_end : (line : ℕ) (t : Token) (before ts : List Token) → before ≡ t ∷ ts → is_end t.bytes ≡ true
+    → after_section line before ≡ Ok ts
+skip_end line t before ts cut end = ap (λ (read : Result Ended VcdFault). read >>= λ ended. Ok ended.rest)
     (section_end line t before ts cut end)
 
-pub behind_word : (line : ℕ) (t : Token) (before ts : List Token) → before ≡ t ∷ ts → is_end t.bytes ≡ false
-    → behind_section line before ≡ behind_section line ts
-behind_word line t before ts cut word = ap (λ (read : Result Ended VcdFault). read >>= λ ended. Ok ended.rest)
+pub skip_word : (line : ℕ) (t : Token) (before ts : List Token) → before ≡ t ∷ ts → is_end t.bytes ≡ false
+    → after_section line before ≡ after_section line ts
+skip_word line t before ts cut word = ap (λ (read : Result Ended VcdFault). read >>= λ ended. Ok ended.rest)
     (section_word line t before ts cut word) ∙ same_rest (t.bytes ∷ []) (section_from line ts)
 
-pub behind_unfinished : (line : ℕ) (before : List Token) → before ≡ [] → behind_section line before ≡ unfinished_at line
-behind_unfinished line before cut = ap (λ (read : Result Ended VcdFault). read >>= λ ended. Ok ended.rest)
+pub skip_unfinished : (line : ℕ) (before : List Token) → before ≡ [] → after_section line before ≡ unfinished_at line
+skip_unfinished line before cut = ap (λ (read : Result Ended VcdFault). read >>= λ ended. Ok ended.rest)
     (section_unfinished line before cut)
 
 -- ---- words

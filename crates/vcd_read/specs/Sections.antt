@@ -41,8 +41,8 @@ section_from line ts = elim (ended_in ts) [
 ]
 
 -- the tokens after a section
-abbrev pub behind_section : ℕ → List Token → Result (List Token) VcdFault
-behind_section line ts = section_from line ts >>= λ ended. Ok ended.rest
+abbrev pub after_section : ℕ → List Token → Result (List Token) VcdFault
+after_section line ts = section_from line ts >>= λ ended. Ok ended.rest
 
 -- what a token opens
 abbrev pub opening_of : List ℕ → Opening

@@ -9,7 +9,7 @@ ghost use Rattle.vcd_read.specs.Header.{variable_in, at_line, declare_var, nothi
 ghost use Rattle.vcd_read.specs.Scopes.{texts};
 ghost use Rattle.vcd_read.specs.Meaning.{ReadGives};
 ghost use Rattle.vcd_read.specs.declared.fault.FaultKind.TheVariants.{SizeConflict};
-ghost use Rattle.vcd_read.specs.Sections.{opening_of, var_of, ReturnsAs, section_from, behind_section, declared_in};
+ghost use Rattle.vcd_read.specs.Sections.{opening_of, var_of, ReturnsAs, section_from, after_section, declared_in};
 ghost use Rattle.vcd_read.specs.Sections.{SectionContinuesAs, headed, header_of};
 
 use crate::body_piece::Start;
@@ -136,7 +136,7 @@ fn skip_section(reader: &mut Reader<'_>, first: usize) -> Result<(), VcdFault>
     ensures text { reader.new.text ≡ reader.old.text }
     ensures moves { OnOk result (reader.old.at ≤ reader.new.at) }
     ensures rest { ReadGives (λ _. left_at reader.old.text reader.new.at) result
-        (behind_section (line_at reader.old.text first) (left_at reader.old.text reader.old.at)) }
+        (after_section (line_at reader.old.text first) (left_at reader.old.text reader.old.at)) }
 {
     while let Some(token) = reader.next() {
         if is_end(token.bytes) {

@@ -35,12 +35,12 @@ pub struct Front<'a> {
 impl<'a> Model for Front<'a> {
     ghost use Rattle.std.specs.Prelude.{◌≤◌, drop, length};
     ghost use Rattle.vcd_read.specs.Fronts.{ReadFront};
-    ghost use Rattle.vcd_read.specs.Reading.{left_from, line_behind};
+    ghost use Rattle.vcd_read.specs.Reading.{line_behind, tokens_after};
 
     ghost Value = { ReadFront };
 
     ghost view = { λ f. record {
-      head = record { nets = f.codes; body = left_from 1 f.text.now f.at };
+      head = record { nets = f.codes; body = tokens_after 1 f.text.now f.at };
       left = drop f.at f.text.now;
       line = line_behind 1 f.text.now;
     } };

@@ -4,7 +4,7 @@ ghost use Rattle.std.specs.Prelude.{◌≡◌, ℕ, true, false, ◌+◌, ◌∷
 ghost use Rattle.std.specs.Prelude.{◌==◌, ◌||◌, ◌-◌, IfSome, IfNone, MatchOption, get_or};
 ghost use Rattle.vcd_read.specs.Tokens.{is_space, tokens_from};
 ghost use Rattle.vcd_read.specs.Body.{scalar, vector};
-ghost use Rattle.vcd_read.specs.Reading.{IsShapeAt, IsStart, IsTimeAt, left_at, left_from, line_behind, line_of};
+ghost use Rattle.vcd_read.specs.Reading.{IsShapeAt, IsStart, IsTimeAt, left_at, line_behind, line_of, tokens_after};
 ghost use Rattle.vcd_read.specs.Reading.{token_at};
 
 use crate::body_piece::{BodyPiece, Start};
@@ -120,7 +120,7 @@ fn behind_word(text: &[u8], end: usize) -> usize
     requires space { end < length text.now → is_space (slice_index text.now end) ≡ true }
     ensures low { end ≤ result }
     ensures high { result ≤ length text.now }
-    ensures left { (line : ℕ) → left_from line text.now result ≡ left_from line text.now end }
+    ensures left { (line : ℕ) → tokens_after line text.now result ≡ tokens_after line text.now end }
 {
     if end < text.len() { end + 1 } else { end }
 }

@@ -112,7 +112,7 @@ impl ChangeVisitor for Visits {
 }
 
 /// A visitor that has been given nothing yet.
-fn none_told(alloc: Global) -> Visits {
+fn no_visits(alloc: Global) -> Visits {
     Visits {
         visits: Vec::new(alloc),
     }
@@ -196,7 +196,7 @@ fn body_begun(
     front: Front<'_>,
     variables: Variables,
 ) -> Result<(Pieces<Visits>, Variables), VcdFault> {
-    let (pieces, rest) = front.before_body(none_told(alloc));
+    let (pieces, rest) = front.before_body(no_visits(alloc));
     Ok((pieces.read(alloc, rest)?, variables))
 }
 
@@ -322,7 +322,7 @@ fn with_earlier(
     earlier: Visits,
     ended: Option<u64>,
 ) -> Result<Pieces<Visits>, AllocError> {
-    let (pieces, later) = pieces.with_visitor(none_told(alloc));
+    let (pieces, later) = pieces.with_visitor(no_visits(alloc));
     let (pieces, _) = pieces.with_visitor(visits_together(earlier, ended, later)?);
     Ok(pieces)
 }
@@ -374,7 +374,7 @@ fn read_joining(
     for end in ends {
         let piece = body.get(from..*end).unwrap_or(&[]);
         let count = so_far.count;
-        so_far = match origin.detached(alloc, piece, line, none_told(alloc)) {
+        so_far = match origin.detached(alloc, piece, line, no_visits(alloc)) {
             Some(apart) => join_piece(alloc, so_far.pieces, piece, apart)?,
             None => read_in_order(alloc, so_far.pieces, piece)?,
         };
@@ -435,7 +435,7 @@ $var wire 65536 !!!! e $end $var wire 1 clock f $end $var wire 8 \" g $end $endd
 ";
 
 /// The first part and the rest of texts, and what they say.
-static TOLD: [(&str, &str, &str); 7] = [
+static DUMPS: [(&str, &str, &str); 7] = [
     (BUS, BUS_BODY, BUS_SHOWN),
     (
         "",
@@ -519,7 +519,7 @@ fn says_always(alloc: Global, text: &[u8], wanted: &str) -> bool {
 }
 
 /// Whether `front` and `rest` together are a dump that says `wanted`, also in pieces of each size that is tried.
-fn are_told(alloc: Global, front: &str, rest: &str, wanted: &str) -> bool {
+fn are_read(alloc: Global, front: &str, rest: &str, wanted: &str) -> bool {
     match together(alloc, front.as_bytes(), rest.as_bytes(), b"") {
         Ok(text) => says_always(alloc, &text, wanted),
         Err(_) => false,
@@ -528,8 +528,8 @@ fn are_told(alloc: Global, front: &str, rest: &str, wanted: &str) -> bool {
 
 #[test]
 fn dumps(rt: HostRuntime) {
-    for (front, rest, wanted) in TOLD.iter() {
-        assert!(rt; are_told(rt.alloc(), front, rest, wanted), "not {wanted}");
+    for (front, rest, wanted) in DUMPS.iter() {
+        assert!(rt; are_read(rt.alloc(), front, rest, wanted), "not {wanted}");
     }
 }
 
@@ -651,7 +651,7 @@ fn fails_behind(alloc: Global, front: &str, faulty: &Faulty, sizes: &[usize]) ->
 }
 
 /// The first text that doesn't have its fault after `front`.
-fn first_right(
+fn first_wrong(
     alloc: Global,
     front: &str,
     faults: &[Faulty],
@@ -667,8 +667,8 @@ fn first_right(
 
 #[test]
 fn faults_of_bodies(rt: HostRuntime) {
-    let right = first_right(rt.alloc(), ONE_BIT, &OF_BODIES, &SIZES);
-    assert!(rt; right.is_none(), "{}", right.unwrap_or(""));
+    let wrong = first_wrong(rt.alloc(), ONE_BIT, &OF_BODIES, &SIZES);
+    assert!(rt; wrong.is_none(), "{}", wrong.unwrap_or(""));
 }
 
 /// Where reading a body in pieces with the ends `ends` stops, if it does.
@@ -693,7 +693,7 @@ fn stopped_in_body(
 
 /// Where reading a text after its definitions stops, if it does, in pieces of at least `size` bytes.
 fn stopped_behind(alloc: Global, front: Front<'_>, size: usize) -> Option<Stopped<Visits>> {
-    let (pieces, body) = front.before_body(none_told(alloc));
+    let (pieces, body) = front.before_body(no_visits(alloc));
     match ends_of(alloc, body, size) {
         Ok(ends) => stopped_in_body(alloc, pieces, body, &ends),
         Err(_) => None,
@@ -869,20 +869,20 @@ fn the_last_time_is_known_between_pieces(rt: HostRuntime) {
 
 #[test]
 fn faults_of_headers(rt: HostRuntime) {
-    let right = first_right(rt.alloc(), "", &OF_HEADERS, &SIZES);
-    assert!(rt; right.is_none(), "{}", right.unwrap_or(""));
+    let wrong = first_wrong(rt.alloc(), "", &OF_HEADERS, &SIZES);
+    assert!(rt; wrong.is_none(), "{}", wrong.unwrap_or(""));
 }
 
 #[test]
 fn faults_of_fronts(rt: HostRuntime) {
-    let right = first_right(rt.alloc(), BUS, &OF_FRONTS, &SIZES);
-    assert!(rt; right.is_none(), "{}", right.unwrap_or(""));
+    let wrong = first_wrong(rt.alloc(), BUS, &OF_FRONTS, &SIZES);
+    assert!(rt; wrong.is_none(), "{}", wrong.unwrap_or(""));
 }
 
 #[test]
 fn faults_of_codes(rt: HostRuntime) {
-    let right = first_right(rt.alloc(), CODES, &OF_CODES, &THIRTEEN);
-    assert!(rt; right.is_none(), "{}", right.unwrap_or(""));
+    let wrong = first_wrong(rt.alloc(), CODES, &OF_CODES, &THIRTEEN);
+    assert!(rt; wrong.is_none(), "{}", wrong.unwrap_or(""));
 }
 
 /// One size of pieces.

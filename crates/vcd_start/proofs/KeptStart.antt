@@ -13,23 +13,23 @@ use Rattle.vcd_read.specs.Reached.{Reached}
 use Rattle.vcd_read.specs.BodyFold.{State, BodyFold, advanced, at_end, ended, progress_after, state_at, steps}
 use Rattle.vcd_read.specs.Tokens.{Token}
 use Rattle.vcd_start.specs.Starts.{start_of}
-use Rattle.vcd_start.specs.StartReading.{StartComesTo, or_time, unchanged}
+use Rattle.vcd_start.specs.StartReading.{LeadsToFirstTime, first_time_kept, first_time_or}
 
 module _ (nets : List Net) (time : ℕ) where
   abbrev HasTime : BodyFold (Option ℕ) → Type 0
   HasTime p = p.accumulator ≡ Some time
 
-  advanced_has : (p : BodyFold (Option ℕ)) (t : ℕ) → HasTime p → HasTime (advanced or_time p t)
+  advanced_has : (p : BodyFold (Option ℕ)) (t : ℕ) → HasTime p → HasTime (advanced first_time_or p t)
   advanced_has p t h = by_case (p.has_instant && not (t == p.time))
     where
       by_case : (b : Bool)
-          → HasTime (if b then record { accumulator = or_time p.accumulator p.time; time = t; has_instant = true }
+          → HasTime (if b then record { accumulator = first_time_or p.accumulator p.time; time = t; has_instant = true }
           else record p { time = t; has_instant = true })
-      by_case true = ap (λ (s : Option ℕ). or_time s p.time) h
+      by_case true = ap (λ (s : Option ℕ). first_time_or s p.time) h
       by_case false = h
 
   item_has : (p : BodyFold (Option ℕ)) (item : BodyItem) → HasTime p
-      → HasTime (progress_after unchanged or_time nets p item)
+      → HasTime (progress_after first_time_kept first_time_or nets p item)
   item_has p (time_item line digits) h = advanced_has p (number digits) h
   item_has p (change line digits code) h = h
   item_has p (skipped line code) h = h
@@ -42,17 +42,18 @@ module _ (nets : List Net) (time : ℕ) where
 
   step_has : (items : List BodyItem) (item : BodyItem) (s : State (Option ℕ)) (end : State (Option ℕ))
       → HasTime s.progress → (c : Result BodyContext VcdFault)
-      → ((next : State (Option ℕ)) → HasTime next.progress → steps unchanged or_time nets next items ≡ Ok end
+      → ((next : State (Option ℕ)) → HasTime next.progress
+      → steps first_time_kept first_time_or nets next items ≡ Ok end
       → HasTime end.progress)
-      → (stepped (progress_after unchanged or_time nets s.progress item) c
-      >>= λ next. steps unchanged or_time nets next items) ≡ Ok end → HasTime end.progress
+      → (stepped (progress_after first_time_kept first_time_or nets s.progress item) c
+      >>= λ next. steps first_time_kept first_time_or nets next items) ≡ Ok end → HasTime end.progress
   step_has items item s end h (Ok next) rest is =
-      rest (record { context = next; progress = progress_after unchanged or_time nets s.progress item })
+      rest (record { context = next; progress = progress_after first_time_kept first_time_or nets s.progress item })
       (item_has s.progress item h) is
   step_has items item s end h (Err fault) rest is = absurd (cc)
 
   steps_have : (items : List BodyItem) (s end : State (Option ℕ)) → HasTime s.progress
-      → steps unchanged or_time nets s items ≡ Ok end → HasTime end.progress
+      → steps first_time_kept first_time_or nets s items ≡ Ok end → HasTime end.progress
   unfolding steps
   steps_have [] s end h is =
       let same : s ≡ end = cc in subst (λ (e : State (Option ℕ)). HasTime e.progress) same h
@@ -60,28 +61,29 @@ module _ (nets : List Net) (time : ℕ) where
       step_has items item s end h (context_after nets s.context item)
       (λ next has e. steps_have items next end has e) is
 
-  ended_is : (p : BodyFold (Option ℕ)) → HasTime p → ended or_time p ≡ Some time
+  ended_is : (p : BodyFold (Option ℕ)) → HasTime p → ended first_time_or p ≡ Some time
   ended_is p h = by_case p.has_instant
     where
-      by_case : (b : Bool) → (if b then or_time p.accumulator p.time else p.accumulator) ≡ Some time
-      by_case true = ap (λ (s : Option ℕ). or_time s p.time) h
+      by_case : (b : Bool) → (if b then first_time_or p.accumulator p.time else p.accumulator) ≡ Some time
+      by_case true = ap (λ (s : Option ℕ). first_time_or s p.time) h
       by_case false = h
 
   end_is : (s : State (Option ℕ)) (start : Option ℕ) (c : Result BodyContext VcdFault) → HasTime s.progress
-      → (c >>= λ stood. Ok (ended or_time s.progress)) ≡ Ok start → start ≡ Some time
+      → (c >>= λ stood. Ok (ended first_time_or s.progress)) ≡ Ok start → start ≡ Some time
   end_is s start (Ok stood) h is =
-      let same : ended or_time s.progress ≡ start = cc in sym same ∙ ended_is s.progress h
+      let same : ended first_time_or s.progress ≡ start = cc in sym same ∙ ended_is s.progress h
   end_is s start (Err fault) h is = absurd (cc)
 
 -- if a first time is known where reading has come to `r`, it is that of the dump
 pub kept-start : (r : Reached (Option ℕ)) (time : ℕ) → r.progress.accumulator ≡ Some time → (more : List Token)
-    (dump : Contents) → StartComesTo r more dump → start_of dump ≡ Some time
+    (dump : Contents) → LeadsToFirstTime r more dump → start_of dump ≡ Some time
 kept-start r time has more dump comes =
-    by_steps (steps unchanged or_time r.nets (state_at r.progress r.dump_section) (body_from r.place more)) refl comes
+    by_steps (steps first_time_kept first_time_or r.nets (state_at r.progress r.dump_section) (body_from r.place more))
+    refl comes
   where
     by_steps : (w : Result (State (Option ℕ)) VcdFault)
-        → steps unchanged or_time r.nets (state_at r.progress r.dump_section) (body_from r.place more) ≡ w
-        → (w >>= at_end or_time) ≡ Ok (start_of dump) → start_of dump ≡ Some time
+        → steps first_time_kept first_time_or r.nets (state_at r.progress r.dump_section) (body_from r.place more) ≡ w
+        → (w >>= at_end first_time_or) ≡ Ok (start_of dump) → start_of dump ≡ Some time
     by_steps (Ok end) is ends =
         end_is r.nets time end (start_of dump) (at_the_end end.context)
         (steps_have r.nets time (body_from r.place more) (state_at r.progress r.dump_section) end has is) ends

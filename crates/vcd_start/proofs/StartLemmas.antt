@@ -23,12 +23,12 @@ use Rattle.vcd_read.proofs.DumpLemmas.{contents_behind, dump_behind, dump_of-hea
 use Rattle.vcd_read.proofs.CurrentValues.{CurrentValues}
 use Rattle.vcd_read.proofs.BodyFoldLemmas.{Ends, Follows, fails-followed, taken-follows}
 use Rattle.vcd_start.specs.Starts.{first_time_of, start_of}
-use Rattle.vcd_start.specs.StartReading.{StartComesTo, or_time, unchanged}
+use Rattle.vcd_start.specs.StartReading.{LeadsToFirstTime, first_time_kept, first_time_or}
 
 -- ---- the first time of instants
 
 first_more : (done : List Instant) (i : Instant)
-    → first_time_of (done ++ i ∷ []) ≡ or_time (first_time_of done) i.time
+    → first_time_of (done ++ i ∷ []) ≡ first_time_or (first_time_of done) i.time
 first_more [] i = refl
 first_more (x ∷ xs) i = refl
 
@@ -36,10 +36,10 @@ abbrev HasFirst : List Instant → CurrentValues → Option ℕ → Type 0
 HasFirst done current start = start ≡ first_time_of done
 
 body_follows : (nets : List Net) (body : List Token)
-    → Follows (Ends HasFirst) (instants_from nets body) (fold_body unchanged or_time nets None body)
+    → Follows (Ends HasFirst) (instants_from nets body) (fold_body first_time_kept first_time_or nets None body)
 body_follows nets body =
-    taken-follows unchanged or_time nets HasFirst (λ done current a net bits within h. h)
-    (λ done current a time h. ap (λ (s : Option ℕ). or_time s time) h
+    taken-follows first_time_kept first_time_or nets HasFirst (λ done current a net bits within h. h)
+    (λ done current a time h. ap (λ (s : Option ℕ). first_time_or s time) h
     ∙ sym (first_more done (record { time = time; values = values_from 0 current })))
     body None refl
 
@@ -79,11 +79,12 @@ module _ (text : List ℕ) (ts : List Token) (same : tokens text ≡ ts) where
 
     -- the fold over the body gives the first time of the dump
     pub taken-start : header_of passed text (nothing_declared tt) ts ≡ Ok (defined h tt) → (dump : Contents)
-        → dump_of text ≡ Ok dump → fold_body unchanged or_time h.nets None h.body ≡ Ok (start_of dump)
+        → dump_of text ≡ Ok dump → fold_body first_time_kept first_time_or h.nets None h.body ≡ Ok (start_of dump)
     taken-start is dump whole =
         let (variables, found) = by_whole (whole_header text) (sym header_is ∙ is) in
         let behind = dump_behind text (defined h variables) found in
-        first_of (instants_from h.nets h.body) (fold_body unchanged or_time h.nets None h.body) dump.instants
+        first_of (instants_from h.nets h.body) (fold_body first_time_kept first_time_or h.nets None h.body)
+        dump.instants
         (by_instants variables dump (instants_from h.nets h.body) (sym behind ∙ whole)) (body_follows h.nets h.body)
 
     fails_on : {X Y : Type 0} (line : ℕ) (kind : FaultKind) (r : Result X VcdFault) (f : X → Result Y VcdFault)
@@ -93,13 +94,13 @@ module _ (text : List ℕ) (ts : List Token) (same : tokens text ≡ ts) where
 
     -- a fault of the fold over the body is a fault of the dump
     pub body-fails : header_of passed text (nothing_declared tt) ts ≡ Ok (defined h tt) → (fault : VcdFault)
-        → ReadFails fault (fold_body unchanged or_time h.nets None h.body) → ReadFails fault (dump_of text)
+        → ReadFails fault (fold_body first_time_kept first_time_or h.nets None h.body) → ReadFails fault (dump_of text)
     body-fails is fault fails =
         let (variables, found) = by_whole (whole_header text) (sym header_is ∙ is) in
         subst (ReadFailsAs fault.line fault.kind) (sym (dump_behind text (defined h variables) found))
         (fails_on fault.line fault.kind (instants_from h.nets h.body) (with_variables variables)
         (fails-followed (Ends HasFirst) (instants_from h.nets h.body)
-        (fold_body unchanged or_time h.nets None h.body) fault (body_follows h.nets h.body) fails))
+        (fold_body first_time_kept first_time_or h.nets None h.body) fault (body_follows h.nets h.body) fails))
 
   fails_back : (line : ℕ) (kind : FaultKind) (w : Result (Defined (List Variable)) VcdFault)
       → ReadFailsAs line kind (w >>= λ (d : Defined (List Variable)). Ok (taken_head passed tt d))
@@ -141,10 +142,10 @@ module _ (r : Reached (Option ℕ)) (head : Headed) (nets : r.nets ≡ head.nets
   none_read = record { accumulator = None; time = 0; has_instant = false }
 
   abbrev come_from : List Token → List Net → BodyFold (Option ℕ) → Option ℕ → BodyPlace → Result (Option ℕ) VcdFault
-  come_from more n p b l = ahead unchanged or_time n p b l head.body more >>= at_end or_time
+  come_from more n p b l = ahead first_time_kept first_time_or n p b l head.body more >>= at_end first_time_or
 
-  unread_rest : (more : List Token) → (rest_of unchanged or_time r head.body more >>= at_end or_time)
-      ≡ fold_body unchanged or_time head.nets None (head.body ++ more)
+  unread_rest : (more : List Token) → (rest_of first_time_kept first_time_or r head.body more >>= at_end first_time_or)
+      ≡ fold_body first_time_kept first_time_or head.nets None (head.body ++ more)
   unread_rest more =
       ap (λ (n : List Net). come_from more n r.progress r.dump_section r.place) nets
       ∙ ap (λ (p : BodyFold (Option ℕ)). come_from more head.nets p r.dump_section r.place) progress
@@ -154,25 +155,25 @@ module _ (r : Reached (Option ℕ)) (head : Headed) (nets : r.nets ≡ head.nets
   module _ (text : List ℕ) (ts more : List Token) (same : tokens text ≡ ts ++ more)
       (is : header_of passed text (nothing_declared tt) (ts ++ more) ≡ Ok (defined (going_on head more) tt)) where
     -- if reading `head.body` leads from `r` to `next`, reading on from `next` gives the first time of the dump
-    pub reads-start : (next : Reached (Option ℕ)) → rest_of unchanged or_time r head.body more
-        ≡ rest_of unchanged or_time next [] more
-        → (dump : Contents) → dump_of text ≡ Ok dump → StartComesTo next more dump
+    pub reads-start : (next : Reached (Option ℕ)) → rest_of first_time_kept first_time_or r head.body more
+        ≡ rest_of first_time_kept first_time_or next [] more
+        → (dump : Contents) → dump_of text ≡ Ok dump → LeadsToFirstTime next more dump
     reads-start next goes dump whole =
-        ap (λ (w : Result (State (Option ℕ)) VcdFault). w >>= at_end or_time) (sym goes) ∙ unread_rest more
+        ap (λ (w : Result (State (Option ℕ)) VcdFault). w >>= at_end first_time_or) (sym goes) ∙ unread_rest more
         ∙ taken-start text (ts ++ more) same (going_on head more) is dump whole
 
     ends_on : (line : ℕ) (kind : FaultKind) (w : Result (State (Option ℕ)) VcdFault) → ReadFailsAs line kind w
-        → ReadFailsAs line kind (w >>= at_end or_time)
+        → ReadFailsAs line kind (w >>= at_end first_time_or)
     ends_on line Memory w fails = fails
-    ends_on line kind w fails = ap (λ (x : Result (State (Option ℕ)) VcdFault). x >>= at_end or_time) fails
+    ends_on line kind w fails = ap (λ (x : Result (State (Option ℕ)) VcdFault). x >>= at_end first_time_or) fails
 
     -- a fault in reading `head.body` and `more` from `r` on is a fault of the dump
-    pub fails-start : (fault : VcdFault) → ReadFails fault (rest_of unchanged or_time r head.body more)
+    pub fails-start : (fault : VcdFault) → ReadFails fault (rest_of first_time_kept first_time_or r head.body more)
         → ReadFails fault (dump_of text)
     fails-start fault fails =
         body-fails text (ts ++ more) same (going_on head more) is fault
         (subst (ReadFailsAs fault.line fault.kind) (unread_rest more)
-        (ends_on fault.line fault.kind (rest_of unchanged or_time r head.body more) fails))
+        (ends_on fault.line fault.kind (rest_of first_time_kept first_time_or r head.body more) fails))
 
 -- ---- a fault
 
@@ -185,8 +186,9 @@ never-gives read line kind other fails y is = absurd (cc)
 -- ---- the end
 
 -- at the end of the body, the outcome is the first time of the dump
-pub same-start : (r : Reached (Option ℕ)) (time : Option ℕ) (dump : Contents) → outcome_of unchanged or_time r ≡ Ok time
-    → StartComesTo r [] dump → start_of dump ≡ time
+pub same-start : (r : Reached (Option ℕ)) (time : Option ℕ) (dump : Contents)
+    → outcome_of first_time_kept first_time_or r ≡ Ok time
+    → LeadsToFirstTime r [] dump → start_of dump ≡ time
 same-start r time dump gives comes =
     let same : ◌≡◌ {A = Result (Option ℕ) VcdFault} (Ok (start_of dump)) (Ok time) = sym comes ∙ gives in cc
 

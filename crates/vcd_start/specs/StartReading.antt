@@ -11,18 +11,19 @@ use Rattle.vcd_read.specs.Tokens.{Token, tokens}
 use Rattle.vcd_start.specs.Starts.{start_of}
 
 -- a change doesn't alter the first time
-abbrev pub unchanged : Option ℕ → ℕ → List Bit → Option ℕ
-unchanged start net bits = start
+abbrev pub first_time_kept : Option ℕ → ℕ → List Bit → Option ℕ
+first_time_kept start net bits = start
 
 -- the end of an instant at `time` gives the first time, unless there is one already
-abbrev pub or_time : Option ℕ → ℕ → Option ℕ
-or_time start time = option_or start (Some time)
+abbrev pub first_time_or : Option ℕ → ℕ → Option ℕ
+first_time_or start time = option_or start (Some time)
 
 -- to read on from `reached` with the tokens `more`, up to the end, gives the first time of `dump`
-abbrev pub StartComesTo : Reached (Option ℕ) → List Token → Contents → Type 0
-StartComesTo reached more dump = (rest_of unchanged or_time reached [] more >>= at_end or_time) ≡ Ok (start_of dump)
+abbrev pub LeadsToFirstTime : Reached (Option ℕ) → List Token → Contents → Type 0
+LeadsToFirstTime reached more dump =
+    (rest_of first_time_kept first_time_or reached [] more >>= at_end first_time_or) ≡ Ok (start_of dump)
 
 -- in each dump whose tokens begin with those of `front`, reading has come to `reached` after them
 abbrev pub IsStartRead : List ℕ → Reached (Option ℕ) → Type 0
 IsStartRead front reached = (text : List ℕ) (more : List Token) (dump : Contents) → tokens text ≡ tokens front ++ more
-    → dump_of text ≡ Ok dump → StartComesTo reached more dump
+    → dump_of text ≡ Ok dump → LeadsToFirstTime reached more dump

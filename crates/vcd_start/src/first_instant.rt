@@ -22,15 +22,15 @@ impl FirstInstant {
 
 impl ChangeVisitor for FirstInstant {
     ghost use Rattle.std.specs.Prelude.{ℕ, Option};
-    ghost use Rattle.vcd_start.specs.StartReading.{or_time, unchanged};
+    ghost use Rattle.vcd_start.specs.StartReading.{first_time_kept, first_time_or};
 
     ghost Taken = { Option ℕ };
 
     ghost taken = { λ v. v.time };
 
-    ghost with_change = { unchanged };
+    ghost with_change = { first_time_kept };
 
-    ghost with_instant = { or_time };
+    ghost with_instant = { first_time_or };
 
     fn change(
         &mut self,

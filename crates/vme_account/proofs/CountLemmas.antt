@@ -11,7 +11,7 @@ use Rattle.vme_listing.specs.declared.row.Row.{Row}
 use Rattle.vme_listing.specs.declared.row.Row.TheVariants as row
 use Rattle.vme_monitor.specs.declared.mark.Mark.{Mark}
 use Rattle.vme_summary.specs.MarkedRows.{rows_of}
-use Rattle.vme_account.proofs.KindLemmas.{kind-says-no-end, weight}
+use Rattle.vme_account.proofs.KindLemmas.{kind-ignores-end, weight}
 use Rattle.vme_account.proofs.KnownLemmas.{all-knowns}
 use Rattle.vme_account.specs.RowCounts.{count_in, is_counted, is_place, no_rows, one_if, place_of, tenures_of}
 use Rattle.vme_account.specs.RowCounts.{with_one, with_row, with_tenure}
@@ -27,9 +27,9 @@ no_more n = omega arith
 
 -- ---- the places of tenures
 
-both : (a b : Bool) → (a && b) ≡ true → (a ≡ true) × (b ≡ true)
-both true b h = (refl, h)
-both false b h = absurd (cc h)
+both_are_true : (a b : Bool) → (a && b) ≡ true → (a ≡ true) × (b ≡ true)
+both_are_true true b h = (refl, h)
+both_are_true false b h = absurd (cc h)
 
 is_less : (a b : ℕ) → nat_lt a b ≡ true → a < b
 is_less a b h = grind (arith, nat_tests)
@@ -42,7 +42,7 @@ equals a b h = grind (arith, nat_tests)
 
 within : (level slot : ℕ) → is_place level slot ≡ true → place_of level slot < 88
 within level slot is =
-    let tests = both (nat_lt level 4) (nat_lt slot 22) is in
+    let tests = both_are_true (nat_lt level 4) (nat_lt slot 22) is in
     bound level slot (is_less level 4 tests.0) (is_less slot 22 tests.1)
   where
     bound : (level slot : ℕ) → level < 4 → slot < 22 → level * 22 + slot < 88
@@ -52,8 +52,8 @@ within level slot is =
 one_place : (level slot granted taken : ℕ) → is_place level slot ≡ true → is_place granted taken ≡ true
     → (granted == level && taken == slot) ≡ false → place_of level slot ≢ place_of granted taken
 one_place level slot granted taken is other differs same =
-    let these = both (nat_lt level 4) (nat_lt slot 22) is in
-    let those = both (nat_lt granted 4) (nat_lt taken 22) other in
+    let these = both_are_true (nat_lt level 4) (nat_lt slot 22) is in
+    let those = both_are_true (nat_lt granted 4) (nat_lt taken 22) other in
     let levels : granted ≡ level = one_level level slot granted taken
     (is_less slot 22 these.1) (is_less taken 22 those.1)
     same in
@@ -73,7 +73,7 @@ one_place level slot granted taken is other differs same =
 same_place : (level slot granted taken : ℕ) → (granted == level && taken == slot) ≡ true
     → (granted ≡ level) × (taken ≡ slot)
 same_place level slot granted taken same =
-    let tests = both (granted == level) (taken == slot) same in
+    let tests = both_are_true (granted == level) (taken == slot) same in
     (is_equal granted level tests.0, is_equal taken slot tests.1)
 
 module _ (tenures : List ℕ) (long : length tenures ≡ 88) (level slot : ℕ) (is : is_place level slot ≡ true) where
@@ -218,7 +218,7 @@ all-counted k ms is =
     ≡ count_in (fold with_row no_rows knowns) k + count_by (is_of k) last =
     some-more last (fold with_row no_rows knowns) k is (long_fold knowns no_rows none) in
     let all : count_by (is_of k) (rows_of None ms) ≡ count_by (is_of k) knowns + count_by (is_of k) last =
-    all-knowns (weight k) (kind-says-no-end k) ms in
+    all-knowns (weight k) (kind-ignores-end k) ms in
     let e : count_in (counts_of ms) k ≡ count_by (is_of k) (rows_of None ms) =
     omega (arith, before, behind, none_yet k is, all) in
     e

@@ -32,7 +32,7 @@ use Rattle.vme_account.specs.StepsReached.{StepsReached, judged, marks_in, passe
 use Rattle.vme_account.specs.StretchEvents.{AreEvents}
 use Rattle.vme_account.specs.declared.followed_steps.FollowedSteps.{FollowedSteps}
 use Rattle.vme_account.specs.declared.marked.Marked.{Marked}
-use Rattle.vme_account.specs.declared.marked_lines.LineNotes.{LineNotes}
+use Rattle.vme_account.specs.declared.line_notes.LineNotes.{LineNotes}
 use Rattle.vme_account.specs.declared.step_notes.StepNotes.{StepNotes}
 
 -- ---- the levels and the instant that are reached

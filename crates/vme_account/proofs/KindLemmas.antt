@@ -7,7 +7,7 @@ use Rattle.vme_trace.specs.declared.class.Class.{Class}
 use Rattle.vme_trace.specs.declared.class.Class.TheVariants as class
 use Rattle.vme_monitor.specs.declared.mark.TransferAnswer.{TransferAnswer}
 use Rattle.vme_summary.specs.MarkedRows.{marked_answer, marked_cycle, marked_line}
-use Rattle.vme_account.proofs.KnownLemmas.{SaysNoEnd}
+use Rattle.vme_account.proofs.KnownLemmas.{IgnoresEnd}
 use Rattle.vme_account.specs.RowCounts.{one_if}
 use Rattle.vme_account.specs.RowKinds.{is_of}
 use Rattle.vme_account.specs.declared.row_kind.RowKind.{RowKind}
@@ -107,8 +107,8 @@ transfer kind.Errors i d e r cycle a = refl
 transfer kind.Pending i d e r cycle a = refl
 transfer kind.Resets i d e r cycle a = refl
 
-pub kind-says-no-end : (k : RowKind) → SaysNoEnd (weight k)
-kind-says-no-end k = record {
+pub kind-ignores-end : (k : RowKind) → IgnoresEnd (weight k)
+kind-ignores-end k = record {
   open_tenure = open_tenure k;
   tenure = tenure k;
   cycle = by_class;

@@ -25,7 +25,7 @@ abbrev mark : ℕ → MarkKind → Mark
 mark i k = record { instant = i; kind = k }
 
 -- `f` gives a number for each row that doesn't depend on where the row ends
-pub record SaysNoEnd (f : Row → ℕ) : Type 0 where
+pub record IgnoresEnd (f : Row → ℕ) : Type 0 where
   pub open_tenure : (i : ℕ) (e : Option ℕ) → f (row.OpenTenure i e) ≡ f (row.OpenTenure i None)
   pub tenure : (i level slot : ℕ) (e : Option ℕ) → f (row.Tenure i level slot e) ≡ f (row.Tenure i level slot None)
   pub cycle : (i modifier address : ℕ) (e : Option ℕ) (c : Class)
@@ -33,7 +33,7 @@ pub record SaysNoEnd (f : Row → ℕ) : Type 0 where
   pub answer : (i : ℕ) (d : Direction) (e : Option ℕ) (r : ℕ) (latest : Option ℕ) (a : TransferAnswer)
       → f (marked_answer i d e r latest a) ≡ f (marked_answer i d None r latest a)
 
-module _ (f : Row → ℕ) (no_end : SaysNoEnd f) where
+module _ (f : Row → ℕ) (no_end : IgnoresEnd f) where
   abbrev pub total : List Row → ℕ
   total rows = sum_by f rows
 

@@ -52,18 +52,18 @@ twice_moved n (Some b) = ap
     joined i n = omega arith
 
 -- a break is after the opening
-abbrev Behind : Option Break → Type 0
-Behind b = IfSome b (λ b. 1 ≤ b.instant)
+abbrev IsAfterOpening : Option Break → Type 0
+IsAfterOpening b = IfSome b (λ b. 1 ≤ b.instant)
 
-first_behind : (x : List Step) (m : Memories) (o : Levels) → Behind (first_break_from m o x)
+first_is_after_opening : (x : List Step) (m : Memories) (o : Levels) → IsAfterOpening (first_break_from m o x)
 unfolding first_break_from
-first_behind [] m o = tt
-first_behind (s ∷ x) m o =
+first_is_after_opening [] m o = tt
+first_is_after_opening (s ∷ x) m o =
     by_fault (first_fault_of m o (changed o s.changes) s.changes)
     (first_break_from (memories_next m o (changed o s.changes) s.changes) (changed o s.changes) x)
   where
     by_fault : (f : Option Fault) (rest : Option Break)
-        → Behind (earlier (option_map (break_of_fault 1 s.time) f) (option_map (shifted_break 1) rest))
+        → IsAfterOpening (earlier (option_map (break_of_fault 1 s.time) f) (option_map (shifted_break 1) rest))
     by_fault (Some f) rest = omega arith
     by_fault None None = tt
     by_fault None (Some b) = omega arith
@@ -129,11 +129,11 @@ kinds_before n (k ∷ ks) ms le =
     is_before n le = grind (arith, nat_tests, le)
 
 -- the marks that are listed, after a step without a break
-listed_behind : (ks : List MarkKind) (b : Option Break) (ms : List Mark) → Behind b
+listed_after_step : (ks : List MarkKind) (b : Option Break) (ms : List Mark) → IsAfterOpening b
     → marks_listed (option_map (shifted_break 1) b) (map (mark_at 1) ks ++ map (shifted_mark 1) ms)
     ≡ map (mark_at 1) ks ++ map (shifted_mark 1) (marks_listed b ms)
-listed_behind ks None ms behind = refl
-listed_behind ks (Some b) ms behind =
+listed_after_step ks None ms behind = refl
+listed_after_step ks (Some b) ms behind =
     kinds_before b.instant ks (map (shifted_mark 1) ms) behind
     ∙ ap (λ (ms : List Mark). map (mark_at 1) ks ++ ms) (before_shifted b.instant ms)
 
@@ -217,8 +217,8 @@ module _ (s : Step) (o : Levels) (m : Memories) where
       ∙ (ap (λ (l : List Mark). ms ++ l)
       (sym (map-append (shifted_mark n) (map (mark_at 1) kinds) (map (shifted_mark 1) more)))
       ∙ ap (λ (l : List Mark). ms ++ map (shifted_mark n) l)
-      (sym (listed_behind kinds (first_break_from later next x) (joined_marks later next x)
-      (first_behind x later next)))))))
+      (sym (listed_after_step kinds (first_break_from later next x) (joined_marks later next x)
+      (first_is_after_opening x later next)))))))
 
 pub first-found : (x : List Step) (o : Levels) (n : ℕ) (m : Memories) (ms : List Mark)
     → (fold with_step (at o n m ms) x).found ≡ option_map (shifted_break n) (first_break_from m o x)

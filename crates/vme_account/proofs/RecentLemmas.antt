@@ -59,12 +59,12 @@ drop_more (x ∷ xs) (suc n) m =
     ap (λ (k : ℕ). drop k (x ∷ xs)) e ∙ drop_more xs n m
 
 module _ (t : Trace) (first : ℕ) (older newer : List Step) (kept : older ++ newer ≡ drop first t.steps) where
-  pub newer-behind : newer ≡ drop (first + length older) t.steps
-  newer-behind = sym (drop_more t.steps first (length older) ∙ ap (drop (length older)) (sym kept)
+  pub newer-is-drop : newer ≡ drop (first + length older) t.steps
+  newer-is-drop = sym (drop_more t.steps first (length older) ∙ ap (drop (length older)) (sym kept)
       ∙ drop_at older newer (length older) refl)
 
-  pub within-behind : first ≤ length t.steps → first + length older ≤ length t.steps
-  within-behind le =
+  pub newer-begins-within : first ≤ length t.steps → first + length older ≤ length t.steps
+  newer-begins-within le =
       let long : length (older ++ newer) ≡ length t.steps - first = ap length kept ∙ length-drop first t.steps in
       omega (arith, long, length-append older newer, le)
 

@@ -16,7 +16,7 @@ ghost use Rattle.vme_account.specs.RowKinds.{is_of};
 ghost use Rattle.vme_account.specs.StretchEvents.{is_kept};
 
 use crate::last_events::Moment;
-use crate::marked_lines::is_fit;
+use crate::line_notes::is_idle_level;
 use crate::open_rows::UnendedRows;
 use crate::related_event::RelatedEvent;
 use crate::row_counts::RowCounts;
@@ -152,14 +152,14 @@ impl Account {
     }
 
     /// Whether a line was as an idle bus has it at some instant, before judging started.
-    pub fn was_fit(&self, line: Line) -> bool {
-        self.running.judged.lines.fit.has(line)
+    pub fn was_idle_level(&self, line: Line) -> bool {
+        self.running.judged.lines.idle_levels.has(line)
     }
 
     /// Whether the line is as an idle bus has it at the end of a recording without a break.
-    pub fn is_fit(&self, line: Line) -> bool {
+    pub fn is_idle_level(&self, line: Line) -> bool {
         let levels = self.running.judged.levels();
-        levels.has(line) && is_fit(line, levels.level(line))
+        levels.has(line) && is_idle_level(line, levels.level(line))
     }
 }
 

@@ -6,7 +6,7 @@ ghost use Rattle.vme_trace.specs.Levels.{Levels};
 ghost use Rattle.vme_trace.specs.declared.step.Step.{Step as StepOf};
 ghost use Rattle.vme_account.specs.FollowedSteps.{FollowsSteps};
 
-use crate::marked_lines::LineNotes;
+use crate::line_notes::LineNotes;
 use crate::step_notes::StepNotes;
 use std::alloc::AllocError;
 use vme_auditor::Memories;

@@ -16,7 +16,7 @@
 //!   when they last happened.
 //! - `stored_steps`, `recent_steps`, `known_times`: the levels of the last instants, and the times
 //!   of the instants that an explanation reports.
-//! - `stretches`, `marked_lines`: where judging starts and ends, and which lines move.
+//! - `stretches`, `line_notes`: where judging starts and ends, and which lines move.
 //!
 //! # What is proved
 //!
@@ -47,8 +47,8 @@ mod account_visitor;
 mod followed_steps;
 mod known_times;
 mod last_events;
+mod line_notes;
 mod marked;
-mod marked_lines;
 mod open_rows;
 mod recent_steps;
 mod related_event;
@@ -63,7 +63,7 @@ mod stretches;
 pub use account::Account;
 pub use account_visitor::{AccountVisitor, NoAccount};
 pub use last_events::Moment;
-pub use marked_lines::rests_high;
+pub use line_notes::rests_high;
 pub use related_event::{
     Occurrence, RelatedEvent, StepEvent, first_related_event, second_related_event,
 };

@@ -16,7 +16,7 @@ use vme_monitor::known::known_over_recordings;
 use vme_trace::{Lines, Step};
 
 /// The number of steps after a break that are kept.
-const BEHIND: u32 = 3;
+const KEPT_AFTER_BREAK: u32 = 3;
 
 /// What is known of the steps so far.
 #[derive(Drop)]
@@ -62,7 +62,7 @@ impl RunningAccount {
     /// Whether the next step is kept: at most three steps after the break are.
     fn wants_more(&self) -> bool {
         match self.judged.notes.found {
-            Some(found) => self.kept.steps() < found.instant.saturating_add(BEHIND),
+            Some(found) => self.kept.steps() < found.instant.saturating_add(KEPT_AFTER_BREAK),
             None => true,
         }
     }

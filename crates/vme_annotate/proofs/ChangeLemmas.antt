@@ -15,10 +15,10 @@ row_is rows place row variant at is =
     ∙ ap (changes_with (shown_text row)) (sym is)
 
 -- if the changes of `variant` with the kept text were appended, those of `row` were
-pub pushed : {A E : Type 0} (rows : List Row) (place : ℕ) (row variant : Row) (before after : List ShownChange)
-    (r : Result A E) → slice_get rows place ≡ Some row → row ≡ variant
+pub appended_row_changes : {A E : Type 0} (rows : List Row) (place : ℕ) (row variant : Row)
+    (before after : List ShownChange) (r : Result A E) → slice_get rows place ≡ Some row → row ≡ variant
     → OnOk r (after ≡ before ++ changes_with (text_in rows (Some place)) variant)
     → OnOk r (after ≡ before ++ row_changes row)
-pushed rows place row variant before after (Ok a) at is made =
+appended_row_changes rows place row variant before after (Ok a) at is made =
     made ∙ ap (λ (changes : List ShownChange). before ++ changes) (row_is rows place row variant at is)
-pushed rows place row variant before after (Err e) at is made = tt
+appended_row_changes rows place row variant before after (Err e) at is made = tt

@@ -23,13 +23,14 @@ use Rattle.vme_commands.specs.declared.built_in.TheConstants.{BLOCK}
 use Rattle.vme_annotate.specs.Answers.{timed_answer_by, timed_answer_of}
 use Rattle.vme_annotate.specs.Planned.{ArePlanned, planned}
 use Rattle.vme_annotate.specs.Prepared.{GivesPrepared, IsPrepared}
-use Rattle.vme_annotate.specs.TimedListings.{GivesTimed, IsTimed, Timed, timed_rows_text, timed_text, times_of}
+use Rattle.vme_annotate.specs.TimedListings.{GivesTimedListing, IsTimedListingOf, TimedListingValue, timed_rows_text}
+use Rattle.vme_annotate.specs.TimedListings.{timed_text, times_of}
 use Rattle.vme_annotate.specs.declared.annotating.AnnotatedDump.{AnnotatedDump}
 use Rattle.vme_annotate.specs.declared.changes.PlannedChange.{PlannedChange}
 
 -- ---- what was refused
 
-pub timed_refusal : (r : Refusal) (read : Result Trace Refusal) → GivesTimed (Err r) read
+pub timed_refusal : (r : Refusal) (read : Result Trace Refusal) → GivesTimedListing (Err r) read
     → AnswerGives (λ (t : Trace). t) (Err r) read
 timed_refusal Memory read is = tt
 timed_refusal r read is = is
@@ -46,7 +47,7 @@ refused_prepared bytes r read is = is
 
 -- ---- listings with times
 
-pub timed_text_is : (t : Trace) (found : Timed) → IsTimed t found
+pub timed_text_is : (t : Trace) (found : TimedListingValue) → IsTimedListingOf t found
     → timed_rows_text found.times found.listing.rows ≡ timed_text t
 timed_text_is t found is =
     ap (λ (times : List ℕ). timed_rows_text times found.listing.rows) is.times_are
@@ -149,7 +150,7 @@ annotated_so t d is start put starts placed are =
     }
 
 -- changes of the rows of `found`, the listing of `t`, are changes of the rows of `t`
-pub planned_of : (t : Trace) (found : Timed) → IsTimed t found → (changes : List PlannedChange)
+pub planned_of : (t : Trace) (found : TimedListingValue) → IsTimedListingOf t found → (changes : List PlannedChange)
     → ArePlanned found.listing.rows changes → ArePlanned (recorded_rows t) changes
 planned_of t found is changes are = subst (λ (listing : Listed). ArePlanned listing.rows changes) is.listing_is are
 

@@ -13,13 +13,13 @@ use Rattle.vcd_read.specs.declared.fault.VcdFault.{VcdFault}
 use Rattle.vcd_read.specs.Tokens.{Token}
 use Rattle.vcd_read.specs.Body.{at_the_end, body_from, context_after_all, first_context, ready}
 use Rattle.vcd_read.specs.Meaning.{dump_of, instants_of, times_from}
-use Rattle.vcd_places.specs.Places.{times_of_body, times_told}
-use Rattle.vcd_places.specs.Times.{IsFromOn, IsReached, is_among}
+use Rattle.vcd_places.specs.Places.{item_times, times_of_body}
+use Rattle.vcd_places.specs.Times.{IsAscendingFrom, IsReached, is_among}
 use Rattle.vcd_places.proofs.TimeLemmas.{times_known, times_rise}
 use Rattle.vme_bind.specs.Binding.{BoundLines}
 use Rattle.vme_bind.specs.BoundGroups.{bound_groups_in}
 use Rattle.vme_bind.specs.Capture.{recording, recording_of, step_at, time_of as instant_time}
-use Rattle.vme_skew.specs.Settled.{begins_behind, group_start, settled, step_to, steps_before}
+use Rattle.vme_skew.specs.Settled.{begins_after, group_start, settled, step_to, steps_before}
 use Rattle.vme_skew.proofs.Laws.{begins_is, step-stands}
 use Rattle.vme_trace.specs.Trace.{Trace, last_instant, time_at, time_of}
 use Rattle.vme_trace.specs.WellFormed.{malformed_step}
@@ -68,7 +68,7 @@ module _ (dump : List ℕ) where
   before_reached skew t zero each = tt
   before_reached skew t (suc i) each =
       let rest = before_reached skew t i each in
-      either_reached (begins_behind skew t (group_start skew t i) i) (steps_before skew t i ++ step_to skew t i)
+      either_reached (begins_after skew t (group_start skew t i) i) (steps_before skew t i ++ step_to skew t i)
       (steps_before skew t i)
       (both_reached (steps_before skew t i) (step_to skew t i) rest (step_reached skew t i each)) rest
 
@@ -151,8 +151,8 @@ module _ (dump : List ℕ) where
       let read = both_read (context_after_all is.declared.nets first_context items) _ contents.instants is.comes in
       let ended = both_read (at_the_end read.0) _ contents.instants read.2 in
       let made : instants_of is.declared.nets items ≡ contents.instants = ap (instants_read []) ended.2 in
-      let told : times_of_body dump ≡ times_told items =
-      ap (λ (o : Option (List Token)). times_told (body_from ready (unwrap_or o []))) is.ends in
+      let told : times_of_body dump ≡ item_times items =
+      ap (λ (o : Option (List Token)). item_times (body_from ready (unwrap_or o []))) is.ends in
       subst (λ (instants : List Instant). IsReached dump (instant_time (slice_get instants i))) made
       (get_of_map _ (dedup nat_eq (times_from 0 items)) (λ t there.
       let among = Contains-from_dedup nat_eq (times_from 0 items) t there in
@@ -161,12 +161,12 @@ module _ (dump : List ℕ) where
       (among_from (times_from 0 items) t among.0 among.1 among.2))) i)
 
   -- the time stamps of the body don't go back
-  pub body_rises : (contents : Contents) → dump_of dump ≡ Ok contents → IsFromOn 0 (times_of_body dump)
+  pub body_rises : (contents : Contents) → dump_of dump ≡ Ok contents → IsAscendingFrom 0 (times_of_body dump)
   body_rises contents e =
       let is : IsDump dump contents = dump_is dump contents e in
       let items = body_from ready is.body in
       let read = both_read (context_after_all is.declared.nets first_context items) _ contents.instants is.comes in
-      let told : times_of_body dump ≡ times_told items =
-      ap (λ (o : Option (List Token)). times_told (body_from ready (unwrap_or o []))) is.ends in
-      subst (λ (times : List ℕ). IsFromOn 0 times) (sym told)
+      let told : times_of_body dump ≡ item_times items =
+      ap (λ (o : Option (List Token)). item_times (body_from ready (unwrap_or o []))) is.ends in
+      subst (λ (times : List ℕ). IsAscendingFrom 0 times) (sym told)
       (times_rise is.declared.nets items first_context read.0 read.1)

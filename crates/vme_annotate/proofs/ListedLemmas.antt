@@ -26,7 +26,8 @@ use Rattle.vme_commands.specs.Settled.{settled_read, settled_recording}
 use Rattle.vme_commands.proofs.JudgedLemmas.{limited-short}
 use Rattle.vme_commands.proofs.SettledLemmas.{read-refused, recording-refused, settled-fits, settled-refused}
 use Rattle.vme_commands.proofs.SettledLemmas.{settled-short}
-use Rattle.vme_annotate.specs.TimedListings.{GivesTimed, Timed, listed_in, settled_in_blocks, times_of}
+use Rattle.vme_annotate.specs.TimedListings.{GivesTimedListing, TimedListingValue, recording_to_list, settled_in_blocks}
+use Rattle.vme_annotate.specs.TimedListings.{times_of}
 
 abbrev GivesTrace : Result Trace Refusal → Result Trace Refusal → Type 0
 GivesTrace found read = AnswerGives (λ (t : Trace). t) found read
@@ -60,19 +61,20 @@ text_captured bound bytes t is =
 
 -- ---- refusals
 
-pub gives_refusal : (r : Refusal) (read : Result Trace Refusal) → GivesTrace (Err r) read → GivesTimed (Err r) read
+pub gives_refusal : (r : Refusal) (read : Result Trace Refusal) → GivesTrace (Err r) read
+    → GivesTimedListing (Err r) read
 gives_refusal Memory read is = tt
 gives_refusal r read is = is
 
 pub refused_in_blocks : (skew block : ℕ) (r : Refusal) (read : Result Trace Refusal) → GivesTrace (Err r) read
-    → GivesTimed (Err r) (settled_in_blocks skew block read)
+    → GivesTimedListing (Err r) (settled_in_blocks skew block read)
 refused_in_blocks skew block r read is =
     gives_refusal r (settled_in_blocks skew block read)
     (passes_through r (settled_or skew read) (in_blocks block) (settled-refused skew read r is))
 
 pub text_refused : (skew block : ℕ) (bound : BoundLines) (bytes : List ℕ) (fault : CaptureFault)
     → CaptureFailsBy fault (recording_of_text bound bytes)
-    → GivesTimed (Err (capture_refusal fault)) (listed_in skew bound (or_bad_dump (dump_of bytes)) block)
+    → GivesTimedListing (Err (capture_refusal fault)) (recording_to_list skew bound (or_bad_dump (dump_of bytes)) block)
 text_refused skew block bound bytes fault is =
     refused_in_blocks skew block (capture_refusal fault) (capture_by bound (or_bad_dump (dump_of bytes)))
     (subst (GivesTrace (Err (capture_refusal fault))) (sym (capture_by-short bound (or_bad_dump (dump_of bytes))))
@@ -89,14 +91,14 @@ module _ (skew block : ℕ) (t made : Trace) (within : nat_lt capture_limit (len
       ∙ sym (limited-short made block (settled-short skew t made within is))
 
   pub settled_refused : (r : Refusal) → GivesTrace (Err r) (limited_in_blocks block made)
-      → GivesTimed (Err r) (settled_in_blocks skew block (or_bad_binding (limited t)))
+      → GivesTimedListing (Err r) (settled_in_blocks skew block (or_bad_binding (limited t)))
   settled_refused r given =
       gives_refusal r (settled_in_blocks skew block (or_bad_binding (limited t)))
       (subst (GivesTrace (Err r)) (sym in_blocks_is) given)
 
-  pub settled_listed : (found : Timed) → limited_in_blocks block made ≡ Ok made → found.listing ≡ listing_of made
-      → found.times ≡ times_of made.steps
-      → GivesTimed (Ok found) (settled_in_blocks skew block (or_bad_binding (limited t)))
+  pub settled_listed : (found : TimedListingValue) → limited_in_blocks block made ≡ Ok made
+      → found.listing ≡ listing_of made → found.times ≡ times_of made.steps
+      → GivesTimedListing (Ok found) (settled_in_blocks skew block (or_bad_binding (limited t)))
   settled_listed found fits listing times =
       (made, in_blocks_is ∙ fits, record { listing_is = listing; times_are = times })
 
@@ -106,7 +108,7 @@ abbrev settled_blocks : ℕ → ℕ → Result Trace Refusal → Result Trace Re
 settled_blocks skew block read = settled_or skew read >>= in_blocks block
 
 pub recording_is : (skew block : ℕ) (binding dump : Option (List ℕ)) (bound : BoundLines) → binding_read binding
-    ≡ Ok bound → settled_recording skew binding dump block ≡ listed_in skew bound (dump_read dump) block
+    ≡ Ok bound → settled_recording skew binding dump block ≡ recording_to_list skew bound (dump_read dump) block
 unfolding settled_recording settled_read
 recording_is skew block binding dump bound is =
     ap (settled_blocks skew block) (capture_read-bound binding dump bound is)
@@ -114,7 +116,7 @@ recording_is skew block binding dump bound is =
 -- a refusal of the binding is the refusal of the listing
 pub unbound : (skew block : ℕ) (binding dump : Option (List ℕ)) (r : Refusal)
     → AnswerGives (λ (bound : BoundLines). bound) (Err r) (binding_read binding)
-    → GivesTimed (Err r) (settled_recording skew binding dump block)
+    → GivesTimedListing (Err r) (settled_recording skew binding dump block)
 unbound skew block binding dump r is =
     gives_refusal r (settled_recording skew binding dump block)
     (recording-refused skew binding dump block r
@@ -123,14 +125,14 @@ unbound skew block binding dump r is =
 -- a refusal of the dump is the refusal of the listing
 pub unread_by : (skew block : ℕ) (dump : Option (List ℕ)) (bound : BoundLines) (r : Refusal)
     → AnswerGives (λ (contents : Contents). contents) (Err r) (dump_read dump)
-    → GivesTimed (Err r) (listed_in skew bound (dump_read dump) block)
+    → GivesTimedListing (Err r) (recording_to_list skew bound (dump_read dump) block)
 unread_by skew block dump bound r refused =
     refused_in_blocks skew block r (capture_by bound (dump_read dump))
     (passes_through r (dump_read dump) (λ (contents : Contents). or_bad_binding (capture_of bound contents)) refused)
 
 pub unread_dump : (skew block : ℕ) (binding dump : Option (List ℕ)) (bound : BoundLines) (r : Refusal)
     → binding_read binding ≡ Ok bound → AnswerGives (λ (contents : Contents). contents) (Err r) (dump_read dump)
-    → GivesTimed (Err r) (settled_recording skew binding dump block)
+    → GivesTimedListing (Err r) (settled_recording skew binding dump block)
 unread_dump skew block binding dump bound r is refused =
-    subst (GivesTimed (Err r)) (sym (recording_is skew block binding dump bound is))
+    subst (GivesTimedListing (Err r)) (sym (recording_is skew block binding dump bound is))
     (unread_by skew block dump bound r refused)

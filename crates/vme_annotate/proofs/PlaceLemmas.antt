@@ -6,7 +6,7 @@ use Rattle.std.specs.Prelude.{max, slice_get}
 use Rattle.std.proofs.lemmas.List.{get_or-map, get_or_default, length-map, map-append, take_more}
 use Rattle.std.proofs.lemmas.List.Sorted.{All-permutation}
 use Rattle.vcd_places.specs.Places.{IsAtTime, times_of_body}
-use Rattle.vcd_places.specs.Times.{IsFromOn, IsReached}
+use Rattle.vcd_places.specs.Times.{IsAscendingFrom, IsReached}
 use Rattle.vme_trace.specs.Streams.{Writing}
 use Rattle.vme_trace.specs.Trace.{Trace, last_instant, time_at, time_of}
 use Rattle.vme_trace.specs.declared.step.Step.{Step}
@@ -17,7 +17,7 @@ use Rattle.vme_annotation.specs.Shown.{ShownChange, all_changes}
 use Rattle.vme_annotate.specs.HasTimes.{HasTimes}
 use Rattle.vme_annotate.specs.Outputs.{HasPut, Held}
 use Rattle.vme_annotate.specs.Planned.{ArePlanned, planned}
-use Rattle.vme_annotate.specs.TimedListings.{IsTimed, Timed, times_of}
+use Rattle.vme_annotate.specs.TimedListings.{IsTimedListingOf, TimedListingValue, times_of}
 use Rattle.vme_annotate.specs.Writing.{IsWrittenTo}
 use Rattle.vme_annotate.specs.declared.changes.PlannedChange.{PlannedChange}
 use Rattle.vme_annotate.specs.declared.inserting.WritingPlace.{WritingPlace}
@@ -83,19 +83,19 @@ pub record ArePutSoFar (dump : List ℕ) (t : Trace) (changes : List PlannedChan
 
 -- the first `done` changes are put; if they are those of a recording whose times the dump has, they are put at the
 -- times of their instants
-pub record IsPutSoFar (dump : List ℕ) (found : Timed) (changes : List PlannedChange) (start done : ℕ)
+pub record IsPutSoFar (dump : List ℕ) (found : TimedListingValue) (changes : List PlannedChange) (start done : ℕ)
     (put : List PutChange) (w : WritingPlace) : Type 0 where
   pub are : map change_of put ≡ map (planned found.listing.rows) (take done changes)
   pub to : ArePlacedTo start put w.count
-  pub right : (t : Trace) → IsTimed t found → HasTimes dump t → ArePlanned (recorded_rows t) changes
+  pub at_times : (t : Trace) → IsTimedListingOf t found → HasTimes dump t → ArePlanned (recorded_rows t) changes
       → ArePutSoFar dump t changes start done put w
 
-pub none_put : (dump : List ℕ) (found : Timed) (changes : List PlannedChange) (start : ℕ) (w : WritingPlace)
+pub none_put : (dump : List ℕ) (found : TimedListingValue) (changes : List PlannedChange) (start : ℕ) (w : WritingPlace)
     → start ≤ w.count → IsWrittenTo dump 0 0 w → IsPutSoFar dump found changes start 0 [] w
 none_put dump found changes start w le written = record {
   are = refl;
   to = le;
-  right = λ t timed has planned. record {
+  at_times = λ t timed has planned. record {
     placed = tt;
     asked = 0;
     written = written;
@@ -104,41 +104,41 @@ none_put dump found changes start w le written = record {
 }
 
 -- the change `c`, which has the index `done`, is put at `new.count`
-module _ (dump : List ℕ) (found : Timed) (changes : List PlannedChange) (start done : ℕ) (put : List PutChange)
-    (old new : WritingPlace) (so_far : IsPutSoFar dump found changes start done put old) (c : PlannedChange)
-    (some : done < length changes) (is : (d : PlannedChange) → get_or changes done d ≡ c) (time : ℕ)
+module _ (dump : List ℕ) (found : TimedListingValue) (changes : List PlannedChange) (start done : ℕ)
+    (put : List PutChange) (old new : WritingPlace) (so_far : IsPutSoFar dump found changes start done put old)
+    (c : PlannedChange) (some : done < length changes) (is : (d : PlannedChange) → get_or changes done d ≡ c) (time : ℕ)
     (time_is : time ≡ get_or found.times (max c.instant 1 - 1) 0) (forward : old.count ≤ new.count)
     (goes : (asked : ℕ) → IsWrittenTo dump asked asked old → asked ≤ time → IsReached dump time
-    → IsFromOn 0 (times_of_body dump) → IsWrittenTo dump time time new) where
+    → IsAscendingFrom 0 (times_of_body dump) → IsWrittenTo dump time time new) where
   abbrev pub one_more : PutChange
   one_more = record { place = new.count; change = planned found.listing.rows c }
 
-  module _ (t : Trace) (timed : IsTimed t found) (has : HasTimes dump t) (all : ArePlanned (recorded_rows t) changes)
-    where
-      shown_is : time ≡ shown_time t c.instant
-      shown_is =
-          time_is ∙ ap (λ (times : List ℕ). get_or times (max c.instant 1 - 1) 0) timed.times_are
-          ∙ time_shown t c.instant
+  module _ (t : Trace) (timed : IsTimedListingOf t found) (has : HasTimes dump t)
+      (all : ArePlanned (recorded_rows t) changes) where
+    shown_is : time ≡ shown_time t c.instant
+    shown_is =
+        time_is ∙ ap (λ (times : List ℕ). get_or times (max c.instant 1 - 1) 0) timed.times_are
+        ∙ time_shown t c.instant
 
-      more_right : ArePutSoFar dump t changes start (done + 1) (put ++ one_more ∷ []) new
-      more_right =
-          let before = so_far.right t timed has all in
-          let here : (get_or changes done c).instant ≡ c.instant = ap (λ (d : PlannedChange). d.instant) (is c) in
-          let le : before.asked ≤ time =
-          omega (arith, before.ahead done c (omega arith) some, ap (shown_time t) here, shown_is) in
-          let reached : IsReached dump time = subst (IsReached dump) (sym shown_is) (has.told (max c.instant 1)) in
-          let written = goes before.asked before.written le reached has.sorted in
-          record {
-            placed = put_at_more dump t start put one_more before.placed
-                (placed_on start put old.count new.count so_far.to forward)
-                (subst (λ (at : ℕ). IsAtTime dump at new.count) shown_is written.at);
-            asked = time;
-            written = written;
-            ahead = λ i d later lt.
-                let next = still_ahead dump t changes has all done i d (omega (arith, later)) lt in
-                let same : (get_or changes done d).instant ≡ c.instant = ap (λ (e : PlannedChange). e.instant) (is d) in
-                omega (arith, next, ap (shown_time t) same, shown_is);
-          }
+    more_at_times : ArePutSoFar dump t changes start (done + 1) (put ++ one_more ∷ []) new
+    more_at_times =
+        let before = so_far.at_times t timed has all in
+        let here : (get_or changes done c).instant ≡ c.instant = ap (λ (d : PlannedChange). d.instant) (is c) in
+        let le : before.asked ≤ time =
+        omega (arith, before.ahead done c (omega arith) some, ap (shown_time t) here, shown_is) in
+        let reached : IsReached dump time = subst (IsReached dump) (sym shown_is) (has.reached (max c.instant 1)) in
+        let written = goes before.asked before.written le reached has.sorted in
+        record {
+          placed = put_at_more dump t start put one_more before.placed
+              (placed_on start put old.count new.count so_far.to forward)
+              (subst (λ (at : ℕ). IsAtTime dump at new.count) shown_is written.at);
+          asked = time;
+          written = written;
+          ahead = λ i d later lt.
+              let next = still_ahead dump t changes has all done i d (omega (arith, later)) lt in
+              let same : (get_or changes done d).instant ≡ c.instant = ap (λ (e : PlannedChange). e.instant) (is d) in
+              omega (arith, next, ap (shown_time t) same, shown_is);
+        }
 
   pub more_put : IsPutSoFar dump found changes start (done + 1) (put ++ one_more ∷ []) new
   more_put = record {
@@ -148,16 +148,16 @@ module _ (dump : List ℕ) (found : Timed) (changes : List PlannedChange) (start
         ∙ ap (λ (d : PlannedChange). take done changes ++ d ∷ []) (is c))
         ∙ map-append (planned found.listing.rows) (take done changes) (c ∷ []));
     to = placed_more start put one_more (placed_on start put old.count new.count so_far.to forward);
-    right = more_right;
+    at_times = more_at_times;
   }
 
 -- the change with the index `done` is put at `new.count`
-pub next_put : (dump : List ℕ) (found : Timed) (changes : List PlannedChange) (start done : ℕ) (put : List PutChange)
-    (old new : WritingPlace) → IsPutSoFar dump found changes start done put old → (d : PlannedChange)
-    → done < length changes → (time : ℕ) → time ≡ get_or found.times (max (get_or changes done d).instant 1 - 1) 0
-    → old.count ≤ new.count
+pub next_put : (dump : List ℕ) (found : TimedListingValue) (changes : List PlannedChange) (start done : ℕ)
+    (put : List PutChange) (old new : WritingPlace) → IsPutSoFar dump found changes start done put old
+    → (d : PlannedChange) → done < length changes → (time : ℕ)
+    → time ≡ get_or found.times (max (get_or changes done d).instant 1 - 1) 0 → old.count ≤ new.count
     → ((asked : ℕ) → IsWrittenTo dump asked asked old → asked ≤ time → IsReached dump time
-    → IsFromOn 0 (times_of_body dump) → IsWrittenTo dump time time new)
+    → IsAscendingFrom 0 (times_of_body dump) → IsWrittenTo dump time time new)
     → IsPutSoFar dump found changes start (done + 1)
     (put ++ record { place = new.count; change = planned found.listing.rows (get_or changes done d) } ∷ []) new
 next_put dump found changes start done put old new so_far d some time time_is forward goes =
@@ -165,12 +165,12 @@ next_put dump found changes start done put old new so_far d some time time_is fo
     (λ (e : PlannedChange). get_or_default changes done e d some) time time_is forward goes
 
 -- the bytes up to the change with the index `done`, and that change, are written
-pub next_written : (dump scope : List ℕ) (own : List (List ℕ)) (found : Timed) (changes : List PlannedChange)
-    (start done : ℕ) (put : List PutChange) (old new : WritingPlace)
+pub next_written : (dump scope : List ℕ) (own : List (List ℕ)) (found : TimedListingValue)
+    (changes : List PlannedChange) (start done : ℕ) (put : List PutChange) (old new : WritingPlace)
     → IsPutSoFar dump found changes start done put old → (d : PlannedChange) → done < length changes → (time : ℕ)
     → time ≡ get_or found.times (max (get_or changes done d).instant 1 - 1) 0 → old.count ≤ new.count
     → ((asked : ℕ) → IsWrittenTo dump asked asked old → asked ≤ time → IsReached dump time
-    → IsFromOn 0 (times_of_body dump) → IsWrittenTo dump time time new)
+    → IsAscendingFrom 0 (times_of_body dump) → IsWrittenTo dump time time new)
     → (sink now : Writing) (b : Held)
     → HasPut sink now b (written_front dump scope own start put old.count
     ++ take (new.count - old.count) (drop old.count dump)

@@ -11,7 +11,7 @@ use Rattle.std.proofs.lemmas.List.Concat.{flat_map-append}
 use Rattle.std.proofs.lemmas.List.Elements.{filter_agree}
 use Rattle.std.proofs.lemmas.List.Sorted.{IsPermutation-map}
 use Rattle.vme_listing.specs.declared.row.Row.{Row}
-use Rattle.vme_annotation.specs.Shown.{ShownChange, all_changes, all_end, change_to, nothing, opening_changes}
+use Rattle.vme_annotation.specs.Shown.{ShownChange, all_changes, all_idle, change_to, idle_text, opening_changes}
 use Rattle.vme_annotation.specs.Shown.{row_changes}
 use Rattle.vme_annotation.specs.declared.shown_variable.ShownVariable.TheVariants as shown
 use Rattle.vme_annotate.specs.Planned.{ArePlanned, planned}
@@ -19,14 +19,14 @@ use Rattle.vme_annotate.specs.declared.changes.PlannedChange.{PlannedChange}
 
 -- ---- the rows, one by one
 
-pub opened : (rows : List Row) (ends all : List PlannedChange) (verdict : PlannedChange)
-    → map (planned rows) ends ≡ all_end 0 → planned rows verdict ≡ change_to 0 nothing shown.Verdict
+pub opening_planned : (rows : List Row) (ends all : List PlannedChange) (verdict : PlannedChange)
+    → map (planned rows) ends ≡ all_idle 0 → planned rows verdict ≡ change_to 0 idle_text shown.Verdict
     → all ≡ ends ++ verdict ∷ []
     → map (planned rows) all ≡ opening_changes
-opened rows ends all verdict first last is =
+opening_planned rows ends all verdict first last is =
     ap (map (planned rows)) is ∙ map-append (planned rows) ends (verdict ∷ [])
     ∙ ap (λ (changes : List ShownChange). changes ++ planned rows verdict ∷ []) first
-    ∙ ap (λ (change : ShownChange). all_end 0 ++ change ∷ []) last
+    ∙ ap (λ (change : ShownChange). all_idle 0 ++ change ∷ []) last
 
 some_is : {X : Type 0} (d x y : X) → Some x ≡ Some y → x ≡ y
 some_is {X} d x y e = ap (λ (o : Option X). unwrap_or o d) e

@@ -27,7 +27,7 @@ use Rattle.vme_stream.specs.declared.refusal.Refusal.{Refusal}
 use Rattle.vme_commands.specs.Judged.{in_blocks}
 use Rattle.vme_annotation.proofs.SameDumpLemmas.{IsDump, both_read, dump_is}
 use Rattle.vme_annotate.specs.HasTimes.{HasTimes}
-use Rattle.vme_annotate.specs.TimedListings.{listed_in}
+use Rattle.vme_annotate.specs.TimedListings.{recording_to_list}
 use Rattle.vme_annotate.proofs.HasTimesLemmas.{EachReached, at_reached, body_rises, each_instant, recorded_reached}
 use Rattle.vme_annotate.proofs.HasTimesLemmas.{settled_reached, times_order}
 use Rattle.vme_annotate.proofs.ListedInstants.{changes_within}
@@ -70,7 +70,7 @@ pub record IsRecorded (skew : ℕ) (bound : BoundLines) (dump : List ℕ) (t : T
   pub settles : settled skew raw ≡ t
 
 pub recorded : (skew : ℕ) (bound : BoundLines) (dump : List ℕ) (block : ℕ) (t : Trace)
-    → listed_in skew bound (or_bad_dump (dump_of dump)) block ≡ Ok t → IsRecorded skew bound dump t
+    → recording_to_list skew bound (or_bad_dump (dump_of dump)) block ≡ Ok t → IsRecorded skew bound dump t
 recorded skew bound dump block t e =
     let read : Result Contents Refusal = or_bad_dump (dump_of dump) in
     let (u, settled_as, cut) = both_read (settled_or skew (capture_by bound read)) (in_blocks block) t e in
@@ -121,7 +121,7 @@ module _ (skew : ℕ) (bound : BoundLines) (dump : List ℕ) (t : Trace) (is : I
         defined = subst (λ (o : Option (List Token)). IsSome o) (sym read.ends) refl;
         sorted = body_rises dump is.contents is.read_is;
         ordered = ordered;
-        told = λ i. at_reached dump t i (subst (λ (u : Trace). EachReached dump u.steps) is.settles
+        reached = λ i. at_reached dump t i (subst (λ (u : Trace). EachReached dump u.steps) is.settles
             (settled_reached dump skew is.raw each));
         within = changes_within t;
       }

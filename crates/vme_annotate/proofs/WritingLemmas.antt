@@ -10,7 +10,7 @@ use Rattle.std.proofs.lemmas.List.Folds.{list_all-append, list_any-append}
 use Rattle.vcd_places.specs.Places.{IsAtTime, times_of_body}
 use Rattle.vcd_places.specs.Times.{TimesLeft, times_left}
 use Rattle.vcd_places.specs.declared.times.TimePlace.{TimePlace}
-use Rattle.vcd_places.specs.Times.{IsFromOn, IsReached, is_among}
+use Rattle.vcd_places.specs.Times.{IsAscendingFrom, IsReached, is_among}
 use Rattle.vme_annotate.specs.declared.inserting.WritingPlace.{WritingPlace}
 use Rattle.vme_annotate.specs.Writing.{IsNextTime, IsWrittenTo, StaysWithin, times_ahead}
 
@@ -52,7 +52,7 @@ either_true true b e = inl refl
 either_true false b e = inr e
 
 -- numbers from `least` on that don't go back have none below `least`
-least_of : (least n : ℕ) (xs : List ℕ) → IsFromOn least xs → is_among n xs ≡ true → least ≤ n
+least_of : (least n : ℕ) (xs : List ℕ) → IsAscendingFrom least xs → is_among n xs ≡ true → least ≤ n
 least_of least n [] from among = absurd (true≢false (sym among))
 least_of least n (x ∷ xs) from among =
     elim (either_true (eqb x n) (is_among n xs) among) [
@@ -60,7 +60,7 @@ least_of least n (x ∷ xs) from among =
       | inr later ↦ omega (arith, from.0, least_of x n xs from.1 later)
     ]
 
-from_part : (least : ℕ) (xs ys : List ℕ) → IsFromOn least (xs ++ ys) → (lower : ℕ) × IsFromOn lower ys
+from_part : (least : ℕ) (xs ys : List ℕ) → IsAscendingFrom least (xs ++ ys) → (lower : ℕ) × IsAscendingFrom lower ys
 from_part least [] ys from = (least, from)
 from_part least (x ∷ xs) ys from = from_part x xs ys from.1
 
@@ -73,12 +73,12 @@ among_rest n xs ys among none =
     ]
 
 -- if `time` is in the list, and each passed time is below it, then the next time is at most `time`
-pub next_reached : (time next : ℕ) (passed rest all : List ℕ) → all ≡ passed ++ next ∷ rest → IsFromOn 0 all
+pub next_reached : (time next : ℕ) (passed rest all : List ℕ) → all ≡ passed ++ next ∷ rest → IsAscendingFrom 0 all
     → list_all (λ (t : ℕ). nat_lt t time) passed ≡ true → is_among time all ≡ true → next ≤ time
-next_reached time next passed rest all split from fewer among =
-    let part = from_part 0 passed (next ∷ rest) (subst (λ (ts : List ℕ). IsFromOn 0 ts) split from) in
+next_reached time next passed rest all split from passed_below among =
+    let part = from_part 0 passed (next ∷ rest) (subst (λ (ts : List ℕ). IsAscendingFrom 0 ts) split from) in
     let here = among_rest time passed (next ∷ rest) (sym (ap (is_among time) split) ∙ among)
-    (not_among passed time fewer) in
+    (not_among passed time passed_below) in
     elim (either_true (eqb next time) (is_among time rest) here) [
       | inl is ↦ omega (arith, eqb-true next time is)
       | inr later ↦ least_of next time rest part.1.1 later
@@ -87,17 +87,18 @@ next_reached time next passed rest all split from fewer among =
 -- if `time` is in the list, and each passed time is below it, then a next time is left
 pub none_ahead : (time : ℕ) (passed all : List ℕ) → all ≡ passed ++ []
     → list_all (λ (t : ℕ). nat_lt t time) passed ≡ true → is_among time all ≡ true → ⊥
-none_ahead time passed all split fewer among =
-    true≢false (sym (among_rest time passed [] (sym (ap (is_among time) split) ∙ among) (not_among passed time fewer)))
+none_ahead time passed all split passed_below among =
+    true≢false (sym (among_rest time passed [] (sym (ap (is_among time) split) ∙ among)
+    (not_among passed time passed_below)))
 
 -- a next time below `time` joins the times that are passed
 pub passed_more : (time next : ℕ) (passed rest all : List ℕ) → all ≡ passed ++ next ∷ rest → next < time
     → list_all (λ (t : ℕ). nat_lt t time) passed ≡ true
     → (all ≡ (passed ++ next ∷ []) ++ rest) × (list_all (λ (t : ℕ). nat_lt t time) (passed ++ next ∷ []) ≡ true)
-passed_more time next passed rest all split lt fewer = (
+passed_more time next passed rest all split lt passed_below = (
   split ∙ sym (append_assoc passed (next ∷ []) rest),
   list_all-append (λ (t : ℕ). nat_lt t time) passed (next ∷ [])
-      ∙ and_true (list_all (λ (t : ℕ). nat_lt t time) passed) (nat_lt next time && true) fewer
+      ∙ and_true (list_all (λ (t : ℕ). nat_lt t time) passed) (nat_lt next time && true) passed_below
       (and_true (nat_lt next time) true (below_test next time lt) refl),
 )
 
@@ -118,10 +119,10 @@ module _ (dump : List ℕ) (asked time : ℕ) (w : WritingPlace) (is : IsWritten
   written_none le reached none = record {
     same = is.same;
     at = stands_there le reached (λ among. none_ahead time is.passed (times_of_body dump)
-        (is.all ∙ ap (λ (o : Option TimePlace). is.passed ++ times_ahead o w.places) none) is.fewer among);
+        (is.all ∙ ap (λ (o : Option TimePlace). is.passed ++ times_ahead o w.places) none) is.passed_below among);
     passed = is.passed;
     all = is.all;
-    fewer = is.fewer;
+    passed_below = is.passed_below;
     next = is.next;
   }
 
@@ -133,7 +134,7 @@ module _ (dump : List ℕ) (asked time : ℕ) (w : WritingPlace) (is : IsWritten
     behind = subst (λ (o : Option TimePlace). IfSome o (IsNextTime dump w.count w.places)) next is.next
 
     -- the next time stamp is after `time`: `w` stays as it is
-    pub written_before : asked ≤ time → IsReached dump time → IsFromOn 0 (times_of_body dump) → time < found.time
+    pub written_before : asked ≤ time → IsReached dump time → IsAscendingFrom 0 (times_of_body dump) → time < found.time
         → IsWrittenTo dump time time w
     written_before le reached sorted lt = record {
       same = is.same;
@@ -141,11 +142,11 @@ module _ (dump : List ℕ) (asked time : ℕ) (w : WritingPlace) (is : IsWritten
         arith,
         lt,
         next_reached time found.time is.passed
-            (times_left w.places) (times_of_body dump) split sorted is.fewer among,
+            (times_left w.places) (times_of_body dump) split sorted is.passed_below among,
       )));
       passed = is.passed;
       all = is.all;
-      fewer = is.fewer;
+      passed_below = is.passed_below;
       next = is.next;
     }
 
@@ -160,7 +161,7 @@ module _ (dump : List ℕ) (asked time : ℕ) (w : WritingPlace) (is : IsWritten
               (subst (λ (t : ℕ). IsAtTime dump t found.end) e behind.at);
           passed = is.passed;
           all = is.all;
-          fewer = is.fewer;
+          passed_below = is.passed_below;
           next = subst (λ (o : Option TimePlace). IfSome o (IsNextTime dump count w.places)) (sym next) (record {
             at = behind.at;
             behind = omega (arith, end);
@@ -188,13 +189,13 @@ module _ (dump : List ℕ) (asked time : ℕ) (w : WritingPlace) (is : IsWritten
       pub written_on : found.time < time → IsWrittenTo dump asked time (record w { places = places; next = later })
       written_on lt =
           let more = passed_more time found.time is.passed (times_left w.places)
-          (times_of_body dump) split lt is.fewer in
+          (times_of_body dump) split lt is.passed_below in
           record {
             same = text ∙ is.same;
             at = is.at;
             passed = is.passed ++ found.time ∷ [];
             all = more.0 ∙ ap (λ (ts : List ℕ). (is.passed ++ found.time ∷ []) ++ ts) left;
-            fewer = more.1;
+            passed_below = more.1;
             next = later_behind later refl;
           }
 
@@ -205,7 +206,7 @@ written_for dump asked time w is le = record {
   at = is.at;
   passed = is.passed;
   all = is.all;
-  fewer = still_below is.passed asked time le is.fewer;
+  passed_below = still_below is.passed asked time le is.passed_below;
   next = is.next;
 }
 

@@ -41,8 +41,8 @@ pub record IsBeside (dump : List ℕ) (variables : List Variable) (added : Added
   pub ascend : IsStrictlyIncreasing (map code_number added.own)
 
 -- the scope and the codes are free beside the variables and nets of the dump; the only refusal is `Memory`
-abbrev pub IsFor : List ℕ → Result Added Refusal → Type 0
-IsFor dump (Ok added) = (d : Defined (List Variable))
+abbrev pub IsFreeIn : List ℕ → Result Added Refusal → Type 0
+IsFreeIn dump (Ok added) = (d : Defined (List Variable))
     × (header_of appended dump (nothing_declared []) (tokens dump) ≡ Ok d)
     × AreBeside d.variables d.head.nets added
-IsFor dump (Err refusal) = refusal ≡ Memory
+IsFreeIn dump (Err refusal) = refusal ≡ Memory

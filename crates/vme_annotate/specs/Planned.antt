@@ -3,12 +3,12 @@ use Rattle.std.specs.Prelude.{◌≡◌, ℕ, ◌==◌, List, [], map, filter, s
 use Rattle.std.specs.List.Sorted.{IsNonDecreasingBy, IsPermutation}
 use Rattle.std.specs.Option.{option_map_or}
 use Rattle.vme_listing.specs.declared.row.Row.{Row}
-use Rattle.vme_annotation.specs.Shown.{ShownChange, all_changes, change_to, changes_at, nothing, shown_text}
+use Rattle.vme_annotation.specs.Shown.{ShownChange, all_changes, change_to, changes_at, idle_text, shown_text}
 use Rattle.vme_annotate.specs.declared.changes.PlannedChange.{PlannedChange}
 
--- the text of the row at an index, or `nothing` without an index
+-- the text of the row at an index, or `idle_text` without an index
 abbrev pub text_in : List Row → Option ℕ → List ℕ
-text_in rows None = nothing
+text_in rows None = idle_text
 text_in rows (Some place) = option_map_or shown_text (slice_get rows place) []
 
 -- the change that `c` stands for

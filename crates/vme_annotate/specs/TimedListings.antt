@@ -21,20 +21,20 @@ abbrev pub times_of : List Step → List ℕ
 times_of steps = map (λ (step : Step). step.time) steps
 
 -- a listing with the times of the recording's steps
-pub record Timed : Type 0 where
+pub record TimedListingValue : Type 0 where
   pub listing : Listed
   pub times : List ℕ
 
 -- `found` is the listing of the recording `t`, with the times of its steps
-pub record IsTimed (t : Trace) (found : Timed) : Type 0 where
+pub record IsTimedListingOf (t : Trace) (found : TimedListingValue) : Type 0 where
   pub listing_is : found.listing ≡ listing_of t
   pub times_are : found.times ≡ times_of t.steps
 
 -- the result is the listing and times of the given recording, or the same refusal as it, or `Memory`
-abbrev pub GivesTimed : Result Timed Refusal → Result Trace Refusal → Type 0
-GivesTimed (Ok found) recording = (t : Trace) × (recording ≡ Ok t) × IsTimed t found
-GivesTimed (Err Memory) recording = Unit {0}
-GivesTimed (Err refusal) recording = recording ≡ Err refusal
+abbrev pub GivesTimedListing : Result TimedListingValue Refusal → Result Trace Refusal → Type 0
+GivesTimedListing (Ok found) recording = (t : Trace) × (recording ≡ Ok t) × IsTimedListingOf t found
+GivesTimedListing (Err Memory) recording = Unit {0}
+GivesTimedListing (Err refusal) recording = recording ≡ Err refusal
 
 -- ---- the text
 
@@ -58,5 +58,5 @@ settled_in_blocks skew block recording = settled_or skew recording >>= in_blocks
 
 -- the recording that the binding `bound` makes of what reading the dump gave, deskewed by `skew`, if it needs at most
 -- 4,096 blocks of `block` steps
-abbrev pub listed_in : ℕ → BoundLines → Result Contents Refusal → ℕ → Result Trace Refusal
-listed_in skew bound dump block = settled_in_blocks skew block (capture_by bound dump)
+abbrev pub recording_to_list : ℕ → BoundLines → Result Contents Refusal → ℕ → Result Trace Refusal
+recording_to_list skew bound dump block = settled_in_blocks skew block (capture_by bound dump)

@@ -24,7 +24,7 @@ pub record IsWrittenTo (dump : List ℕ) (time below : ℕ) (w : WritingPlace) :
   pub at : IsAtTime dump time w.count
   pub passed : List ℕ
   pub all : times_of_body dump ≡ passed ++ times_ahead w.next w.places
-  pub fewer : list_all (λ (t : ℕ). nat_lt t below) passed ≡ true
+  pub passed_below : list_all (λ (t : ℕ). nat_lt t below) passed ≡ true
   pub next : IfSome w.next (IsNextTime dump w.count w.places)
 
 -- `w.count` and the end of the next time stamp are within the text

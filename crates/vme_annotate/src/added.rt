@@ -8,7 +8,7 @@ ghost use Rattle.vcd_read.specs.Sections.{Defined, header_of};
 ghost use Rattle.vcd_read.specs.Tokens.{tokens};
 ghost use Rattle.vcd_read.specs.declared.dump.Variable.{Variable};
 ghost use Rattle.vme_annotation.specs.Fresh.{IsFreeScope, has_part, scope_name};
-ghost use Rattle.vme_annotate.specs.Added.{IsBeside, IsFor};
+ghost use Rattle.vme_annotate.specs.Added.{IsBeside, IsFreeIn};
 
 use std::alloc::{AllocError, Global};
 use std::marker::Model;
@@ -69,7 +69,7 @@ fn underscores_of(name: &[u8]) -> Option<usize> {
 
 /// The greater of `least` and one more than the most underscores in a name in `path` that is `vmecheck` and underscores
 /// alone.
-fn free_behind(least: usize, path: &[u8]) -> usize {
+fn underscores_above(least: usize, path: &[u8]) -> usize {
     let mut free = least;
     for name in path.split(|byte| *byte == b'.') {
         if let Some(count) = underscores_of(name) {
@@ -81,10 +81,10 @@ fn free_behind(least: usize, path: &[u8]) -> usize {
 
 /// One more than the most underscores in a name in a variable's path that is `vmecheck` and underscores alone, or 0 if
 /// there is no such name.
-fn highest_free(variables: &[Variable]) -> usize {
+fn free_underscores(variables: &[Variable]) -> usize {
     let mut free = 0;
     for variable in variables {
-        free = free_behind(free, variable.path.as_bytes());
+        free = underscores_above(free, variable.path.as_bytes());
     }
     free
 }
@@ -122,7 +122,7 @@ fn scope_of(alloc: Global, underscores: usize) -> Result<Vec<u8>, AllocError>
 pub(crate) fn added_to(alloc: Global, dump: &[u8]) -> Result<AddedVariables, Refusal>
     requires { (d : Defined (List Variable))
         × (header_of appended dump.now (nothing_declared []) (tokens dump.now) ≡ Ok d) }
-    ensures { IsFor dump.now result }
+    ensures { IsFreeIn dump.now result }
 {
     let Ok((_, variables)) = read_definitions(alloc, dump, Variables::new(alloc)) else {
         return Err(Refusal::Memory);
@@ -155,7 +155,7 @@ fn free_scope(alloc: Global, variables: &[Variable]) -> Result<Vec<u8>, AllocErr
     ensures { IfOk result (λ scope. (underscores : ℕ) × IsFreeScope variables.now underscores
         × (scope.items ≡ scope_name underscores)) }
 {
-    let scope = scope_of(alloc, highest_free(variables))?;
+    let scope = scope_of(alloc, free_underscores(variables))?;
     if lack_part(variables, &scope) {
         Ok(scope)
     } else {

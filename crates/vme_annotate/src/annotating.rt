@@ -58,11 +58,11 @@ pub fn annotate<B: Source, D: Source, O: Sink, E: Sink>(
         (B.reading binding.old, B.reading binding.new) (D.reading dump.old, D.reading dump.new)
         (O.writing out.old, O.writing out.new) (E.writing err.old, E.writing err.new) result }
 {
-    read_and_tell(alloc, binding, dump, skew, out, err)
+    read_and_write(alloc, binding, dump, skew, out, err)
 }
 
 /// `annotate`, with the contract `answer` alone.
-fn read_and_tell<B: Source, D: Source, O: Sink, E: Sink>(
+fn read_and_write<B: Source, D: Source, O: Sink, E: Sink>(
     alloc: Global,
     binding: &mut B,
     dump: &mut D,
@@ -75,7 +75,7 @@ fn read_and_tell<B: Source, D: Source, O: Sink, E: Sink>(
         (O.writing out.old, O.writing out.new) (E.writing err.old, E.writing err.new) result }
 {
     match annotated_from(alloc, binding, dump, skew) {
-        Ok(annotated) => tell(&annotated, out, err),
+        Ok(annotated) => write_or_complain(&annotated, out, err),
         Err(refusal) => {
             complain(err, refusal_line(&refusal));
             refusal.status()
@@ -84,7 +84,7 @@ fn read_and_tell<B: Source, D: Source, O: Sink, E: Sink>(
 }
 
 /// Writes an annotated dump, or to `err` that it can't be written. Returns the exit status.
-fn tell<O: Sink, E: Sink>(annotated: &AnnotatedDump, out: &mut O, err: &mut E) -> u8
+fn write_or_complain<O: Sink, E: Sink>(annotated: &AnnotatedDump, out: &mut O, err: &mut E) -> u8
     ensures { (t : Trace) → IsPrepared t annotated.now → (text : List ℕ)
         × IsAnnotated annotated.now.text.items t text
         × Ends (annotation_answer_by text (Ok t))

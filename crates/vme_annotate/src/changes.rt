@@ -2,7 +2,7 @@
 
 ghost use Rattle.std.specs.Prelude.{◌≡◌, ◌∷◌, ◌++◌, List, [], Some, IfOk, OnOk, map, slice_get};
 ghost use Rattle.vme_annotate.specs.Planned.{ArePlanned, planned, text_in};
-ghost use Rattle.vme_annotation.specs.Shown.{all_changes, all_end, break_changes, goes_on, row_changes};
+ghost use Rattle.vme_annotation.specs.Shown.{all_changes, all_idle, break_changes, row_changes, shows_until};
 ghost use Rattle.vme_annotation.specs.Shown.{verdict_changes};
 ghost use Rattle.vme_listing.specs.declared.row.Row.{Row};
 
@@ -66,7 +66,7 @@ impl RowChanges {
         end: Option<u32>,
     ) -> Result<(), AllocError>
         ensures { (rows : List Row) → OnOk result (map (planned rows) self.new
-            ≡ map (planned rows) self.old ++ goes_on variable start (text_in rows (Some row)) end) }
+            ≡ map (planned rows) self.old ++ shows_until variable start (text_in rows (Some row)) end) }
     {
         self.push(start, variable, Some(row))?;
         match end {
@@ -79,7 +79,7 @@ impl RowChanges {
     /// and a break.
     fn push_ends(&mut self, instant: u32) -> Result<(), AllocError>
         ensures { (rows : List Row) → OnOk result (map (planned rows) self.new
-            ≡ map (planned rows) self.old ++ all_end instant) }
+            ≡ map (planned rows) self.old ++ all_idle instant) }
     {
         self.push(instant, ShownVariable::Tenure, None)?;
         self.push(instant, ShownVariable::Cycle, None)?;

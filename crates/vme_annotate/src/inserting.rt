@@ -5,7 +5,7 @@ ghost use Rattle.std.specs.Prelude.{map};
 ghost use Rattle.vme_stream.specs.Outputs.{FailsToWrite, Writes};
 ghost use Rattle.vme_trace.specs.Trace.{Trace};
 ghost use Rattle.vcd_places.specs.Places.{IsAtTime, ends_definitions_at, times_of_body};
-ghost use Rattle.vcd_places.specs.Times.{IsFromOn, IsReached, times_left};
+ghost use Rattle.vcd_places.specs.Times.{IsAscendingFrom, IsReached, times_left};
 ghost use Rattle.vme_annotate.specs.Writing.{IsWrittenTo, StaysWithin};
 ghost use Rattle.vme_annotation.specs.Annotated.{ArePutAt, annotated, change_text, declaration, declarations};
 ghost use Rattle.vme_annotation.specs.Annotated.{with_space};
@@ -14,7 +14,7 @@ ghost use Rattle.vme_annotate.specs.HasTimes.{HasTimes};
 ghost use Rattle.vme_trace.specs.Streams.{Writing};
 ghost use Rattle.vme_annotate.specs.Outputs.{HasPut};
 ghost use Rattle.vme_annotate.specs.Planned.{ArePlanned, planned, text_in};
-ghost use Rattle.vme_annotate.specs.TimedListings.{IsTimed};
+ghost use Rattle.vme_annotate.specs.TimedListings.{IsTimedListingOf};
 
 use crate::added::AddedVariables;
 use crate::changes::PlannedChange;
@@ -132,7 +132,7 @@ struct WritingPlace<'a> {
 
 impl<'a> WritingPlace<'a> {
     /// The dump is written up to `end`, the end of its definitions.
-    fn behind_definitions(end: usize, places: TimePlaces<'a>) -> WritingPlace<'a>
+    fn after_definitions(end: usize, places: TimePlaces<'a>) -> WritingPlace<'a>
         requires at { IsAtTime places.text 0 end }
         requires order { end ≡ places.at }
         requires all { times_left places ≡ times_of_body places.text }
@@ -158,7 +158,7 @@ impl<'a> WritingPlace<'a> {
         ensures text { self.new.places.text ≡ self.old.places.text }
         ensures within { StaysWithin self.old → StaysWithin self.new }
         ensures written { (dump : List ℕ) (asked : ℕ) → IsWrittenTo dump asked asked self.old → asked ≤ time
-            → IsReached dump time → IsFromOn 0 (times_of_body dump) → IsWrittenTo dump time time self.new }
+            → IsReached dump time → IsAscendingFrom 0 (times_of_body dump) → IsWrittenTo dump time time self.new }
     {
         while let Some(found) = self.next {
             if found.time == time {
@@ -180,7 +180,7 @@ pub(crate) fn write_annotated<W: Sink>(
     sink: &mut W,
     annotation: &Annotation<'_>,
 ) -> Result<(), Failed>
-    ensures { (t : Trace) → IsTimed t annotation.now.listing.now → HasTimes annotation.now.dump.now t
+    ensures { (t : Trace) → IsTimedListingOf t annotation.now.listing.now → HasTimes annotation.now.dump.now t
         → ArePlanned annotation.now.listing.now.listing.rows annotation.now.changes.now
         → (start : ℕ) × (put : List PutChange)
         × (ends_definitions_at annotation.now.dump.now start ≡ true)
@@ -200,7 +200,7 @@ pub(crate) fn write_annotated<W: Sink>(
     buffer.put(sink, &dump[..section.start]);
     put_declarations(&mut buffer, sink, annotation.added);
     buffer.put(sink, &dump[section.start..section.end]);
-    let mut written = WritingPlace::behind_definitions(section.end, places);
+    let mut written = WritingPlace::after_definitions(section.end, places);
     for change in annotation.changes {
         let from = written.count;
         let place = written.go_to(annotation.listing.shown_time(change.instant));

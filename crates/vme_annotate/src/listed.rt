@@ -6,7 +6,7 @@ ghost use Rattle.vme_bind.specs.Capture.{limited};
 ghost use Rattle.vme_trace.specs.WellFormed.{malformed_step};
 ghost use Rattle.vme_stream.specs.Answers.{or_bad_binding, or_bad_dump};
 ghost use Rattle.vme_commands.specs.Listings.{listing_status, row_status, verdict_row_status};
-ghost use Rattle.vme_annotate.specs.TimedListings.{GivesTimed, listed_in, settled_in_blocks};
+ghost use Rattle.vme_annotate.specs.TimedListings.{GivesTimedListing, recording_to_list, settled_in_blocks};
 
 use crate::step_times::StepTimes;
 use std::alloc::Global;
@@ -25,9 +25,9 @@ pub(crate) struct TimedListing {
 }
 
 impl Model for TimedListing {
-    ghost use Rattle.vme_annotate.specs.TimedListings.{Timed};
+    ghost use Rattle.vme_annotate.specs.TimedListings.{TimedListingValue};
 
-    ghost Value = { Timed };
+    ghost Value = { TimedListingValue };
 
     ghost view = { λ l. record { listing = l.listing; times = l.times.items } };
 }
@@ -102,7 +102,7 @@ pub(crate) fn listed_in(
     block: u32,
 ) -> Result<TimedListing, Refusal>
     requires { (1 ≤ block) × (block ≤ 65536) }
-    ensures { GivesTimed result (listed_in skew bound.now (or_bad_dump (dump_of text.now)) block) }
+    ensures { GivesTimedListing result (recording_to_list skew bound.now (or_bad_dump (dump_of text.now)) block) }
 {
     listed_by_skew::<Brand>(alloc, bound, text, skew, block)
 }
@@ -117,7 +117,7 @@ fn listed_by_skew<K: GhostSkew>(
 ) -> Result<TimedListing, Refusal>
     requires block { (1 ≤ block) × (block ≤ 65536) }
     requires skew { skew ≡ K.skew }
-    ensures { GivesTimed result (listed_in K.skew bound.now (or_bad_dump (dump_of text.now)) block) }
+    ensures { GivesTimedListing result (recording_to_list K.skew bound.now (or_bad_dump (dump_of text.now)) block) }
 {
     let lines = bound.lines();
     let timed = StepTimes::new(alloc, lines, Lister::new(alloc, lines));
@@ -138,7 +138,7 @@ fn settled_listing<K: GhostSkew>(
     block: u32,
 ) -> Result<TimedListing, Refusal>
     requires { (1 ≤ block) × (block ≤ 65536) }
-    ensures { malformed_step settling ≡ None → GivesTimed result
+    ensures { malformed_step settling ≡ None → GivesTimedListing result
         (settled_in_blocks K.skew block (or_bad_binding (limited settling))) }
 {
     if settling.is_too_long() {

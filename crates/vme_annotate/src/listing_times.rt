@@ -7,7 +7,7 @@ ghost use Rattle.vme_stream.specs.Outputs.{FailsToWrite, Writes};
 ghost use Rattle.vme_commands.specs.Settled.{settled_recording};
 ghost use Rattle.vme_trace.specs.Trace.{Trace};
 ghost use Rattle.vme_annotate.specs.Answers.{WritesTimes, timed_answer_by, timed_answer_of};
-ghost use Rattle.vme_annotate.specs.TimedListings.{GivesTimed, IsTimed, timed_rows_text};
+ghost use Rattle.vme_annotate.specs.TimedListings.{GivesTimedListing, IsTimedListingOf, timed_rows_text};
 
 use crate::listed::{TimedListing, listed_in};
 use crate::output_buffer::OutputBuffer;
@@ -43,11 +43,11 @@ pub fn list_times<B: Source, D: Source, O: Sink, E: Sink>(
         (B.reading binding.old, B.reading binding.new) (D.reading dump.old, D.reading dump.new)
         (O.writing out.old, O.writing out.new) (E.writing err.old, E.writing err.new) result }
 {
-    read_and_tell(alloc, binding, dump, block, skew, out, err)
+    read_and_write(alloc, binding, dump, block, skew, out, err)
 }
 
 /// `list_times`, with the contract `answer` alone.
-fn read_and_tell<B: Source, D: Source, O: Sink, E: Sink>(
+fn read_and_write<B: Source, D: Source, O: Sink, E: Sink>(
     alloc: Global,
     binding: &mut B,
     dump: &mut D,
@@ -62,7 +62,7 @@ fn read_and_tell<B: Source, D: Source, O: Sink, E: Sink>(
         (O.writing out.old, O.writing out.new) (E.writing err.old, E.writing err.new) result }
 {
     match listing_from(alloc, binding, dump, block, skew) {
-        Ok(listing) => tell(&listing, out, err),
+        Ok(listing) => write_or_complain(&listing, out, err),
         Err(refusal) => {
             complain(err, refusal_line(&refusal));
             refusal.status()
@@ -88,8 +88,8 @@ fn write_times<W: Sink>(listing: &TimedListing, sink: &mut W) -> Result<(), Fail
 }
 
 /// Writes a listing, or to `err` that it can't be written. Returns the exit status.
-fn tell<O: Sink, E: Sink>(listing: &TimedListing, out: &mut O, err: &mut E) -> u8
-    ensures { (t : Trace) → IsTimed t listing.now → Ends (timed_answer_by (Ok t))
+fn write_or_complain<O: Sink, E: Sink>(listing: &TimedListing, out: &mut O, err: &mut E) -> u8
+    ensures { (t : Trace) → IsTimedListingOf t listing.now → Ends (timed_answer_by (Ok t))
         (O.writing out.old, O.writing out.new) (E.writing err.old, E.writing err.new) result }
 {
     match write_times(listing, out) {
@@ -114,7 +114,7 @@ fn listing_from<B: Source, D: Source>(
     ensures { (binding_bytes dump_bytes : Option (List ℕ))
         × IsReading (B.reading binding.old) (B.reading binding.new) binding_bytes
         × IsReading (D.reading dump.old) (D.reading dump.new) dump_bytes
-        × GivesTimed result (settled_recording skew binding_bytes dump_bytes block) }
+        × GivesTimedListing result (settled_recording skew binding_bytes dump_bytes block) }
 {
     let bound = binding_from(alloc, binding)?;
     match read_all(alloc, dump) {

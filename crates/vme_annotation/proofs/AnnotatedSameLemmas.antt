@@ -16,10 +16,11 @@ use Rattle.vcd_read.specs.Header.{net_of, nothing_declared}
 use Rattle.vcd_read.specs.Sections.{Defined, headed, header_of}
 use Rattle.vcd_read.specs.Body.{BodyItem, body_from, ready}
 use Rattle.vcd_read.specs.Meaning.{body_of, dump_of}
-use Rattle.vcd_places.specs.Places.{begins_with_token, body_in, ends_apart, ends_definitions_at, is_between_sections}
-use Rattle.vcd_places.proofs.PutInLemmas.{IsWord, behind_items, words_read}
+use Rattle.vcd_places.specs.Places.{begins_with_token, body_in, ends_at_boundary, ends_definitions_at}
+use Rattle.vcd_places.specs.Places.{is_between_sections}
+use Rattle.vcd_places.proofs.InsertionLemmas.{IsWord, after_items, words_read}
 use Rattle.vcd_places.proofs.SkippedLemmas.{instants_in}
-use Rattle.vcd_places.proofs.MoreNetsLemmas.{instants_stay, net_of_added, net_stays, still_free}
+use Rattle.vcd_places.proofs.AddedNetLemmas.{instants_stay, net_of_added, net_stays, still_free}
 use Rattle.vcd_places.proofs.StringStepLemmas.{IsShown, instants_of_text, items_of_text}
 use Rattle.vme_bind.specs.Binding.{BoundLines}
 use Rattle.vme_bind.specs.BoundGroups.{bound_groups_in}
@@ -38,13 +39,12 @@ use Rattle.vme_annotation.specs.declared.shown_variable.ShownVariable.{ShownVari
 use Rattle.vme_annotation.specs.declared.shown_variable.ShownVariable.TheVariants as shown
 use Rattle.vme_annotation.proofs.BoundLemmas.{fine_first, groups_stay, is_fine}
 use Rattle.vme_annotation.proofs.ChangesInLemmas.{ArePutIn, instants_same}
-use Rattle.vme_annotation.proofs.DeclaredLemmas.{behind_six, declares_six, four_in, header_declared, nets_1, nets_2}
-use Rattle.vme_annotation.proofs.DeclaredLemmas.{nets_3}
-use Rattle.vme_annotation.proofs.DeclaredLemmas.{nets_4, six}
+use Rattle.vme_annotation.proofs.DeclaredLemmas.{declares_inserted, header_declared, inserted_sections}
+use Rattle.vme_annotation.proofs.DeclaredLemmas.{inserted_variables, nets_1, nets_2, nets_3, nets_4, with_inserted}
 use Rattle.vme_annotation.proofs.SameDumpLemmas.{IsDump, dump_is, same_dump}
 use Rattle.vme_annotation.proofs.ShownWordLemmas.{shown_words, shows_word}
-use Rattle.vme_annotation.proofs.WholeLemmas.{both_true, cancel, code_word, differ, end_items, four_apart, header_with}
-use Rattle.vme_annotation.proofs.WholeLemmas.{some_of, words_at}
+use Rattle.vme_annotation.proofs.WholeLemmas.{appended_nothing, both_true, code_word, different_codes, end_items}
+use Rattle.vme_annotation.proofs.WholeLemmas.{four_apart, header_with, some_of, words_at}
 
 -- ---- the codes
 
@@ -74,23 +74,25 @@ module _ (nets : List Net) (c0 c1 c2 c3 : List ℕ) (are : AreFree nets (c0 ∷ 
   below_23 = are.ascend 2 (omega arith)
 
   new_1 : net_of (nets_1 c0 nets) c1 ≡ None
-  new_1 = still_free nets c0 1 c1 free_0.free (differ c0 c1 below_01) free_1.free
+  new_1 = still_free nets c0 1 c1 free_0.free (different_codes c0 c1 below_01) free_1.free
 
   after_0-2 : net_of (nets_1 c0 nets) c2 ≡ None
-  after_0-2 = still_free nets c0 1 c2 free_0.free (differ c0 c2 (omega (arith, below_01, below_12))) free_2.free
+  after_0-2 = still_free nets c0 1 c2 free_0.free (different_codes c0 c2 (omega (arith, below_01, below_12)))
+      free_2.free
 
   after_0-3 : net_of (nets_1 c0 nets) c3 ≡ None
-  after_0-3 = still_free nets c0 1 c3 free_0.free (differ c0 c3 (omega (arith, below_01, below_12, below_23)))
+  after_0-3 = still_free nets c0 1 c3 free_0.free (different_codes c0 c3 (omega (arith, below_01, below_12, below_23)))
       free_3.free
 
   new_2 : net_of (nets_2 c0 c1 nets) c2 ≡ None
-  new_2 = still_free (nets_1 c0 nets) c1 1 c2 new_1 (differ c1 c2 below_12) after_0-2
+  new_2 = still_free (nets_1 c0 nets) c1 1 c2 new_1 (different_codes c1 c2 below_12) after_0-2
 
   after_1-3 : net_of (nets_2 c0 c1 nets) c3 ≡ None
-  after_1-3 = still_free (nets_1 c0 nets) c1 1 c3 new_1 (differ c1 c3 (omega (arith, below_12, below_23))) after_0-3
+  after_1-3 = still_free (nets_1 c0 nets) c1 1 c3 new_1 (different_codes c1 c3 (omega (arith, below_12, below_23)))
+      after_0-3
 
   new_3 : net_of (nets_3 c0 c1 c2 nets) c3 ≡ None
-  new_3 = still_free (nets_2 c0 c1 nets) c2 1 c3 new_2 (differ c2 c3 below_23) after_1-3
+  new_3 = still_free (nets_2 c0 c1 nets) c2 1 c3 new_2 (different_codes c2 c3 below_23) after_1-3
 
   abbrev all : List Net
   all = nets_4 c0 c1 c2 c3 nets
@@ -194,16 +196,16 @@ module _ (dump : List ℕ) (contents : Contents) (is : IsDump dump contents) (t 
   abbrev after : List ℕ → Header
   after text = header_from between (tokens_from line text)
 
-  parts : (ends_apart front ≡ true) × (is_between_sections front ≡ true)
+  parts : (ends_at_boundary front ≡ true) × (is_between_sections front ≡ true)
       × (begins_with_token (codes "$enddefinitions") (drop start dump) ≡ true)
   parts =
-      let outer = both_true (ends_apart front && is_between_sections front)
+      let outer = both_true (ends_at_boundary front && is_between_sections front)
       (begins_with_token (codes "$enddefinitions") (drop start dump)) starts in
-      let inner = both_true (ends_apart front) (is_between_sections front) outer.0 in
+      let inner = both_true (ends_at_boundary front) (is_between_sections front) outer.0 in
       (inner.0, inner.1, outer.1)
 
   header_behind : (text : List ℕ) → header_from between (tokens (front ++ text))
-      ≡ behind_items (items_of_text front) (after text)
+      ≡ after_items (items_of_text front) (after text)
   header_behind text = header_with front parts.0 parts.1 text
 
   same : (instants_of_text now (front ++ rest) ≡ instants_of_text now dump)
@@ -222,7 +224,7 @@ module _ (dump : List ℕ) (contents : Contents) (is : IsDump dump contents) (t 
 
   items_rest : (after rest).items ≡ []
   items_rest =
-      cancel (items_of_text front) (after rest).items
+      appended_nothing (items_of_text front) (after rest).items
       (sym (ap (λ (h : Header). h.items) (header_behind rest)) ∙ same.1 ∙ items_dump)
 
   abbrev read : List Token → Result (List Instant) VcdFault
@@ -240,29 +242,29 @@ module _ (dump : List ℕ) (contents : Contents) (is : IsDump dump contents) (t 
   whole = front ++ (declarations scope four ++ rest)
 
   header_whole : header_from between (tokens whole)
-      ≡ behind_items (items_of_text front) (behind_items (six scope c0 c1 c2 c3 line) (after rest))
+      ≡ after_items (items_of_text front) (after_items (inserted_sections scope c0 c1 c2 c3 line) (after rest))
   header_whole =
       let f0 = free_0 nets c0 c1 c2 c3 are in
       let f1 = free_1 nets c0 c1 c2 c3 are in
       let f2 = free_2 nets c0 c1 c2 c3 are in
       let f3 = free_3 nets c0 c1 c2 c3 are in
       header_behind (declarations scope four ++ rest)
-      ∙ ap (behind_items (items_of_text front))
+      ∙ ap (after_items (items_of_text front))
       (ap (header_from between) (words_read line (declared_words scope four) rest
       (words_at underscores c0 c1 c2 c3 f0.some f1.some f2.some f3.some (code_word c0 f0.is_one)
       (code_word c1 f1.is_one) (code_word c2 f2.is_one) (code_word c3 f3.is_one)))
       ∙ header_declared scope c0 c1 c2 c3 line (tokens_from line rest) refl f0.no_end f1.no_end f2.no_end f3.no_end)
 
-  items_whole : items_of_text whole ≡ items_of_text dump ++ six scope c0 c1 c2 c3 line
+  items_whole : items_of_text whole ≡ items_of_text dump ++ inserted_sections scope c0 c1 c2 c3 line
   items_whole =
-      let sections : List HeaderItem = six scope c0 c1 c2 c3 line in
+      let sections : List HeaderItem = inserted_sections scope c0 c1 c2 c3 line in
       ap (λ (h : Header). h.items) header_whole
       ∙ ap (λ (items : List HeaderItem). items_of_text front ++ (sections ++ items)) items_rest
       ∙ ap (λ (items : List HeaderItem). items_of_text front ++ items) (append-nil sections)
       ∙ sym (ap (λ (items : List HeaderItem). items ++ sections) (items_dump ∙ append-nil (items_of_text front)))
 
   pub dump_whole : dump_of whole ≡ Ok (record {
-    variables = is.declared.variables ++ four_in scope c0 c1 c2 c3 is.declared;
+    variables = is.declared.variables ++ inserted_variables scope c0 c1 c2 c3 is.declared;
     instants = contents.instants;
   })
   dump_whole =
@@ -270,9 +272,10 @@ module _ (dump : List ℕ) (contents : Contents) (is : IsDump dump contents) (t 
       let f1 = free_1 nets c0 c1 c2 c3 are in
       let f2 = free_2 nets c0 c1 c2 c3 are in
       let f3 = free_3 nets c0 c1 c2 c3 are in
-      same_dump dump whole contents is (six scope c0 c1 c2 c3 line) (behind_six scope c0 c1 c2 c3 is.declared)
+      same_dump dump whole contents is (inserted_sections scope c0 c1 c2 c3 line)
+      (with_inserted scope c0 c1 c2 c3 is.declared)
       body_rest.0 items_whole (ap (λ (h : Header). h.body) header_whole ∙ body_rest.1)
-      (declares_six scope c0 c1 c2 c3 line is.declared f0.is_one f1.is_one f2.is_one f3.is_one f0.free
+      (declares_inserted scope c0 c1 c2 c3 line is.declared f0.is_one f1.is_one f2.is_one f3.is_one f0.free
       (new_1 nets c0 c1 c2 c3 are) (new_2 nets c0 c1 c2 c3 are) (new_3 nets c0 c1 c2 c3 are))
       body_rest.2
 
@@ -351,7 +354,7 @@ says_the_same bound dump text shown t a e =
     a.text_is ∙ ap (λ (codes : List (List ℕ)). annotated dump a.start (scope_name a.underscores) codes a.put) four.4 in
     let dumped = dump_whole dump contents is shown a.underscores a.start a.put four.0 four.1 four.2 four.3 a.starts
     a.placed words are in
-    let more : List Variable = four_in (scope_name a.underscores) four.0 four.1 four.2 four.3 is.declared in
+    let more : List Variable = inserted_variables (scope_name a.underscores) four.0 four.1 four.2 four.3 is.declared in
     let variables : contents.variables ≡ is.declared.variables = is.variables in
     ap (λ (bytes : List ℕ). recording_read bound (dump_of bytes)) text_is
     ∙ ap (recording_read bound) dumped

@@ -4,10 +4,10 @@ use Rattle.std.proofs.Common.{sym}
 use Rattle.std.proofs.Common.{ap, ◌∙◌, arith, append_assoc}
 use Rattle.std.proofs.lemmas.List.{take-append-drop}
 use Rattle.vcd_read.specs.Header.{Net}
-use Rattle.vcd_places.specs.Places.{begins_apart}
+use Rattle.vcd_places.specs.Places.{starts_at_boundary}
 use Rattle.vcd_places.proofs.StringStepLemmas.{EndsBehindItem, IsShown, instants_of_text, instants_with, items_of_text}
 use Rattle.vcd_places.proofs.StringStepLemmas.{items_with}
-use Rattle.vcd_places.proofs.PutInLemmas.{string_text}
+use Rattle.vcd_places.proofs.InsertionLemmas.{string_text}
 use Rattle.vme_annotation.specs.Inserted.{PutChange, with_changes}
 use Rattle.vme_annotation.specs.Shown.{ShownChange}
 
@@ -16,24 +16,24 @@ use Rattle.vme_annotation.specs.Shown.{ShownChange}
 abbrev empty : List ℕ
 empty = []
 
-nothing : (n : ℕ) → empty ≡ take n empty
-nothing zero = refl
-nothing (suc n) = refl
+take_empty : (n : ℕ) → empty ≡ take n empty
+take_empty zero = refl
+take_empty (suc n) = refl
 
 -- the text up to `to` is the text up to `from`, and then that from `from` to `to`
 take_both : (text : List ℕ) (from to : ℕ) → from ≤ to → take to text ≡ take from text
     ++ take (to - from) (drop from text)
 take_both text zero to le = ap (λ (n : ℕ). take n text) (omega arith)
-take_both [] (suc from) zero le = nothing (zero - suc from)
-take_both [] (suc from) (suc to) le = nothing (suc to - suc from)
+take_both [] (suc from) zero le = take_empty (zero - suc from)
+take_both [] (suc from) (suc to) le = take_empty (suc to - suc from)
 take_both (b ∷ text) (suc from) zero le = absurd (omega (arith, le))
 take_both (b ∷ text) (suc from) (suc to) le =
     ap (λ (rest : List ℕ). b ∷ rest) (take_both text from to (omega (arith, le))
     ∙ ap (λ (n : ℕ). take from text ++ take n (drop from text)) (omega arith))
 
 -- if `bytes` and `rest` each begin with a space or are empty, so is a prefix of `bytes` followed by `rest`
-part_apart : (count : ℕ) (bytes rest : List ℕ) → begins_apart bytes ≡ true → begins_apart rest ≡ true
-    → begins_apart (take count bytes ++ rest) ≡ true
+part_apart : (count : ℕ) (bytes rest : List ℕ) → starts_at_boundary bytes ≡ true → starts_at_boundary rest ≡ true
+    → starts_at_boundary (take count bytes ++ rest) ≡ true
 part_apart zero [] rest first second = second
 part_apart (suc count) [] rest first second = second
 part_apart zero (b ∷ bytes) rest first second = second
@@ -45,7 +45,7 @@ part_apart (suc count) (b ∷ bytes) rest first second = first
 pub record IsPutIn (nets : List Net) (code_of : ShownChange → List ℕ) (dump : List ℕ) (p : PutChange) : Type 0 where
   pub shown : IsShown nets p.change.text (code_of p.change)
   pub behind : EndsBehindItem (take p.place dump)
-  pub detached : begins_apart (drop p.place dump) ≡ true
+  pub detached : starts_at_boundary (drop p.place dump) ≡ true
 
 -- each change is inserted so, at places from `from` on that don't go back
 abbrev pub ArePutIn : List Net → (ShownChange → List ℕ) → List ℕ → ℕ → List PutChange → Type 0
@@ -62,7 +62,7 @@ module _ (nets : List Net) (code_of : ShownChange → List ℕ) (dump : List ℕ
 
   -- if the dump from `from` on begins with a space or is empty, so is it with the changes inserted
   with_apart : (put : List PutChange) (from : ℕ) → ArePutIn nets code_of dump from put
-      → begins_apart (drop from dump) ≡ true → begins_apart (with from put) ≡ true
+      → starts_at_boundary (drop from dump) ≡ true → starts_at_boundary (with from put) ≡ true
   unfolding with_changes
   with_apart [] from are detached = detached
   with_apart (p ∷ put) from are detached =

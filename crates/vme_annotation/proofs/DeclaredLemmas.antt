@@ -7,7 +7,7 @@ use Rattle.vcd_read.specs.Tokens.{Token}
 use Rattle.vcd_read.specs.Header.{Declared, HeaderItem, Net, appended, between, declare_all}
 use Rattle.vcd_read.specs.Header.{header_from}
 use Rattle.vcd_read.specs.Header.{is_code, is_end, net_of, variable_in, whole}
-use Rattle.vcd_places.proofs.PutInLemmas.{behind_items, on_line}
+use Rattle.vcd_places.proofs.InsertionLemmas.{after_items, on_line}
 use Rattle.vme_annotation.specs.Annotated.{declared_words}
 
 -- ---- the nets with the declared ones added
@@ -42,8 +42,8 @@ module _ (scope c0 c1 c2 c3 : List ℕ) where
   four = c0 ∷ c1 ∷ c2 ∷ c3 ∷ []
 
   -- the six sections that are inserted
-  abbrev pub six : ℕ → List HeaderItem
-  six line =
+  abbrev pub inserted_sections : ℕ → List HeaderItem
+  inserted_sections line =
       whole (record { line = line; keyword = codes "$scope"; words = codes "module" ∷ scope ∷ [] })
       ∷ var_section line c0 (codes "tenure") ∷ var_section line c1 (codes "cycle")
       ∷ var_section line c2 (codes "transfer") ∷ var_section line c3 (codes "verdict")
@@ -53,7 +53,7 @@ module _ (scope c0 c1 c2 c3 : List ℕ) where
   pub header_declared : (line : ℕ) (more : List Token) → is_end scope ≡ false → is_end c0 ≡ false → is_end c1 ≡ false
       → is_end c2 ≡ false → is_end c3 ≡ false
       → header_from between (map (on_line line) (declared_words scope four) ++ more)
-      ≡ behind_items (six line) (header_from between more)
+      ≡ after_items (inserted_sections line) (header_from between more)
   unfolding header_from
   header_declared line more s n0 n1 n2 n3 = rw (s, n0, n1, n2, n3) refl
 
@@ -62,16 +62,20 @@ module _ (scope c0 c1 c2 c3 : List ℕ) where
   shown_in d net name = variable_in ((scope ++ []) ∷ d.scopes) net 1 (record { name = name; index = None })
 
   -- the four variables that the sections declare
-  abbrev pub four_in : Declared (List Variable) → List Variable
-  four_in d =
+  abbrev pub inserted_variables : Declared (List Variable) → List Variable
+  inserted_variables d =
       shown_in d (length d.nets) (codes "tenure") ∷ shown_in d (length (nets_1 c0 d.nets)) (codes "cycle")
       ∷ shown_in d (length (nets_2 c0 c1 d.nets)) (codes "transfer")
       ∷ shown_in d (length (nets_3 c0 c1 c2 d.nets)) (codes "verdict")
       ∷ []
 
   -- what is declared after the six sections
-  abbrev pub behind_six : Declared (List Variable) → Declared (List Variable)
-  behind_six d = record { scopes = d.scopes; nets = nets_4 c0 c1 c2 c3 d.nets; variables = d.variables ++ four_in d }
+  abbrev pub with_inserted : Declared (List Variable) → Declared (List Variable)
+  with_inserted d = record {
+    scopes = d.scopes;
+    nets = nets_4 c0 c1 c2 c3 d.nets;
+    variables = d.variables ++ inserted_variables d;
+  }
 
   one_more : {A : Type 0} (xs : List A) (a b c d : A)
       → xs ++ a ∷ [] ++ b ∷ [] ++ c ∷ [] ++ d ∷ [] ≡ xs ++ a ∷ b ∷ c ∷ d ∷ []
@@ -80,13 +84,13 @@ module _ (scope c0 c1 c2 c3 : List ℕ) where
       ∙ ap (λ (ys : List A). ys ++ d ∷ []) (append_assoc xs (a ∷ b ∷ []) (c ∷ []))
       ∙ append_assoc xs (a ∷ b ∷ c ∷ []) (d ∷ [])
 
-  pub declares_six : (line : ℕ) (d : Declared (List Variable)) → is_code c0 ≡ true → is_code c1 ≡ true
+  pub declares_inserted : (line : ℕ) (d : Declared (List Variable)) → is_code c0 ≡ true → is_code c1 ≡ true
       → is_code c2 ≡ true → is_code c3 ≡ true
       → net_of d.nets c0 ≡ None → net_of (nets_1 c0 d.nets) c1 ≡ None → net_of (nets_2 c0 c1 d.nets) c2 ≡ None
       → net_of (nets_3 c0 c1 c2 d.nets) c3 ≡ None
-      → declare_all appended d (six line) ≡ Ok (behind_six d)
+      → declare_all appended d (inserted_sections line) ≡ Ok (with_inserted d)
   unfolding declare_all
-  declares_six line d k0 k1 k2 k3 f0 f1 f2 f3 =
+  declares_inserted line d k0 k1 k2 k3 f0 f1 f2 f3 =
       rw (k0, k1, k2, k3, f0, f1, f2, f3) (ap (λ (variables : List Variable). Ok (record {
         scopes = d.scopes;
         nets = nets_4 c0 c1 c2 c3 d.nets;

@@ -13,7 +13,7 @@ use Rattle.vcd_read.specs.Header.{declare_all, ends_definitions, header_from, in
 use Rattle.vcd_read.specs.Header.{whole, with_item, with_word}
 use Rattle.vcd_read.specs.Body.{body_from, ready}
 use Rattle.vcd_read.specs.Meaning.{body_of, dump_of, instants_from}
-use Rattle.vcd_places.proofs.PutInLemmas.{declare_both}
+use Rattle.vcd_places.proofs.InsertionLemmas.{declare_both}
 use Rattle.vcd_places.proofs.SkippedLemmas.{instants_in}
 
 by_end : (section : Section) (t : Token) (ts : List Token) → ends_definitions section ≡ true → (body : List Token)

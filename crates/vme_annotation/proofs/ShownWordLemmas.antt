@@ -32,9 +32,8 @@ use Rattle.vme_listing.specs.declared.row.Row.TheVariants.{Start, Reset, OpenTen
 use Rattle.vme_listing.specs.declared.row.Row.TheVariants.{FreeCycle, InterruptCycle, Transfer, PendingTransfer}
 use Rattle.vme_listing.specs.declared.row.Row.TheVariants.{Verdict}
 use Rattle.vme_annotation.specs.Shown.{ShownChange, address_text, all_changes, answer_text, block_text, break_text}
-use Rattle.vme_annotation.specs.Shown.{changes_at, changes_with, data_text, direction_text, goes_on}
-use Rattle.vme_annotation.specs.Shown.{opening_changes, row_changes, shown_text, space_text, tenure_text}
-use Rattle.vme_annotation.specs.Shown.{verdict_text}
+use Rattle.vme_annotation.specs.Shown.{changes_at, changes_with, data_text, direction_text, opening_changes}
+use Rattle.vme_annotation.specs.Shown.{row_changes, shown_text, shows_until, space_text, tenure_text, verdict_text}
 use Rattle.vme_annotation.specs.declared.shown_variable.ShownVariable.{ShownVariable}
 use Rattle.vme_annotation.specs.declared.shown_variable.ShownVariable.TheVariants as shown
 
@@ -45,8 +44,8 @@ pub and_true : (a b : Bool) → a ≡ true → b ≡ true → (a && b) ≡ true
 and_true true b first second = second
 and_true false b first second = absurd (true≢false (sym first))
 
-pub both : (a b : List ℕ) → is_word a ≡ true → is_word b ≡ true → is_word (a ++ b) ≡ true
-both a b first second =
+pub appended_word : (a b : List ℕ) → is_word a ≡ true → is_word b ≡ true → is_word (a ++ b) ≡ true
+appended_word a b first second =
     list_all-append (λ b. not (is_space b)) a b ∙ and_true (is_word a) (is_word b) first second
 
 -- ---- digits
@@ -86,7 +85,7 @@ hexadecimal_word : (count n : ℕ) → is_word (hexadecimal count n) ≡ true
 unfolding hexadecimal
 hexadecimal_word zero n = refl
 hexadecimal_word (suc count) n =
-    both (hexadecimal count (n / 16)) (digit_glyph true (n % 16) ∷ []) (hexadecimal_word count (n / 16))
+    appended_word (hexadecimal count (n / 16)) (digit_glyph true (n % 16) ∷ []) (hexadecimal_word count (n / 16))
     (before (digit_glyph true (n % 16)) [] (glyph_high true (n % 16)) refl)
 
 digit_word : (moved : Bool) (digit flag : ℕ) → not (is_space (digit_text moved digit flag)) ≡ true
@@ -126,17 +125,17 @@ line_word : (l : ℕ) → is_word (line_name l) ≡ true
 line_word l =
     if_word (eqb l AS) _ _ refl (if_word (eqb l DS0) _ _ refl (if_word (eqb l DS1) _ _ refl
     (if_word (eqb l DTACK) _ _ refl (if_word (eqb l BERR) _ _ refl (if_word (eqb l IACK) _ _ refl
-    (if_word (nat_lt l LWORD) _ _ (both (codes "AM") (decimal (l - AM 0)) refl (decimal_word (l - AM 0)))
+    (if_word (nat_lt l LWORD) _ _ (appended_word (codes "AM") (decimal (l - AM 0)) refl (decimal_word (l - AM 0)))
     (if_word (eqb l LWORD) _ _ refl (if_word (eqb l WRITE) _ _ refl
-    (if_word (nat_lt l BBSY) _ _ (both (codes "A") (two_digits (l - A 0)) refl (two_word (l - A 0)))
+    (if_word (nat_lt l BBSY) _ _ (appended_word (codes "A") (two_digits (l - A 0)) refl (two_word (l - A 0)))
     (if_word (eqb l BBSY) _ _ refl
-    (if_word (nat_lt l (grant 0 0)) _ _ (both (codes "BR") (decimal (l - BR 0)) refl (decimal_word (l - BR 0)))
-    (if_word (nat_lt l (iack 1)) _ _ (both (codes "BG" ++ decimal (grant_level l) ++ codes ".")
-    (decimal (grant_place l)) (both (codes "BG" ++ decimal (grant_level l)) (codes ".")
-    (both (codes "BG") (decimal (grant_level l)) refl (decimal_word (grant_level l))) refl)
+    (if_word (nat_lt l (grant 0 0)) _ _ (appended_word (codes "BR") (decimal (l - BR 0)) refl (decimal_word (l - BR 0)))
+    (if_word (nat_lt l (iack 1)) _ _ (appended_word (codes "BG" ++ decimal (grant_level l) ++ codes ".")
+    (decimal (grant_place l)) (appended_word (codes "BG" ++ decimal (grant_level l)) (codes ".")
+    (appended_word (codes "BG") (decimal (grant_level l)) refl (decimal_word (grant_level l))) refl)
     (decimal_word (grant_place l)))
-    (if_word (nat_lt l (D 0)) _ _ (both (codes "IA.") (decimal (l - iack 0)) refl (decimal_word (l - iack 0)))
-    (if_word (nat_lt l SYSRESET) _ _ (both (codes "D") (two_digits (l - D 0)) refl (two_word (l - D 0)))
+    (if_word (nat_lt l (D 0)) _ _ (appended_word (codes "IA.") (decimal (l - iack 0)) refl (decimal_word (l - iack 0)))
+    (if_word (nat_lt l SYSRESET) _ _ (appended_word (codes "D") (two_digits (l - D 0)) refl (two_word (l - D 0)))
     refl))))))))))))))
 
 rule_word : (r : Rule) → is_word (rule_name r) ≡ true
@@ -146,8 +145,9 @@ rule_word r = every-rule (λ r. is_word (rule_name r)) refl r
 
 tenure_word : (level slot : ℕ) → is_word (tenure_text level slot) ≡ true
 tenure_word level slot =
-    both (codes "slot" ++ decimal slot ++ codes "_BR") (decimal level)
-    (both (codes "slot" ++ decimal slot) (codes "_BR") (both (codes "slot") (decimal slot) refl (decimal_word slot))
+    appended_word (codes "slot" ++ decimal slot ++ codes "_BR") (decimal level)
+    (appended_word (codes "slot" ++ decimal slot) (codes "_BR")
+    (appended_word (codes "slot") (decimal slot) refl (decimal_word slot))
     refl) (decimal_word level)
 
 space_word : (modifier : ℕ) → is_word (space_text modifier) ≡ true
@@ -162,9 +162,9 @@ block_word class.F = refl
 
 address_word : (c : Class) (modifier address : ℕ) → is_word (address_text c modifier address) ≡ true
 address_word c modifier address =
-    both (space_text modifier ++ block_text c ++ codes "_") (hexadecimal (address_digits modifier) address)
-    (both (space_text modifier ++ block_text c) (codes "_")
-    (both (space_text modifier) (block_text c) (space_word modifier) (block_word c)) refl)
+    appended_word (space_text modifier ++ block_text c ++ codes "_") (hexadecimal (address_digits modifier) address)
+    (appended_word (space_text modifier ++ block_text c) (codes "_")
+    (appended_word (space_text modifier) (block_text c) (space_word modifier) (block_word c)) refl)
     (hexadecimal_word (address_digits modifier) address)
 
 direction_word : (d : Direction) → is_word (direction_text d) ≡ true
@@ -177,11 +177,12 @@ answer_word Berr = refl
 
 data_word : (lanes : Option Lanes) → is_word (data_text lanes) ≡ true
 data_word None = refl
-data_word (Some lanes) = both (codes "_") (lanes_text lanes) refl (lanes_word lanes)
+data_word (Some lanes) = appended_word (codes "_") (lanes_text lanes) refl (lanes_word lanes)
 
 break_word : (r : Rule) (line : ℕ) → is_word (break_text r line) ≡ true
 break_word r line =
-    both (rule_name r ++ codes "_") (line_name line) (both (rule_name r) (codes "_") (rule_word r) refl)
+    appended_word (rule_name r ++ codes "_") (line_name line)
+    (appended_word (rule_name r) (codes "_") (rule_word r) refl)
     (line_word line)
 
 verdict_word : (v : ListedVerdict) → is_word (verdict_text v) ≡ true
@@ -197,13 +198,15 @@ text_word (Reset instant) = refl
 text_word (OpenTenure start end) = refl
 text_word (Tenure start level slot end) = tenure_word level slot
 text_word (AddressedCycle start class modifier address end) = address_word class modifier address
-text_word (FreeCycle start modifier end) = both (codes "AM") (hexadecimal 2 modifier) refl (hexadecimal_word 2 modifier)
-text_word (InterruptCycle start level end) = both (codes "IACK") (decimal level) refl (decimal_word level)
+text_word (FreeCycle start modifier end) =
+    appended_word (codes "AM") (hexadecimal 2 modifier) refl (hexadecimal_word 2 modifier)
+text_word (InterruptCycle start level end) = appended_word (codes "IACK") (decimal level) refl (decimal_word level)
 text_word (Transfer direction line start cycle answer close lanes) =
-    both (direction_text direction ++ data_text lanes) (answer_text line)
-    (both (direction_text direction) (data_text lanes) (direction_word direction) (data_word lanes)) (answer_word line)
+    appended_word (direction_text direction ++ data_text lanes) (answer_text line)
+    (appended_word (direction_text direction) (data_text lanes) (direction_word direction) (data_word lanes))
+    (answer_word line)
 text_word (PendingTransfer start direction) =
-    both (direction_text direction) (codes "_pending") (direction_word direction) refl
+    appended_word (direction_text direction) (codes "_pending") (direction_word direction) refl
 text_word (Verdict outcome) = verdict_word outcome
 
 -- ---- the changes
@@ -215,7 +218,7 @@ abbrev are_words : List ShownChange → Bool
 are_words changes = list_all shows_word changes
 
 goes_words : (v : ShownVariable) (start : ℕ) (text : List ℕ) (end : Option ℕ) → is_word text ≡ true
-    → are_words (goes_on v start text end) ≡ true
+    → are_words (shows_until v start text end) ≡ true
 goes_words v start text None word = and_true (is_word text) true word refl
 goes_words v start text (Some end) word = and_true (is_word text) true word refl
 

@@ -19,7 +19,7 @@ use Rattle.vcd_read.specs.Header.{header_from, inside, is_code, is_end, net_for,
 use Rattle.vcd_read.specs.Header.{opened, opens_section, size_of, stray, unfinished, var_words, whole, with_item}
 use Rattle.vcd_read.specs.Header.{with_word}
 use Rattle.vcd_read.specs.Header.{HeaderPlace}
-use Rattle.vcd_places.proofs.MoreNetsLemmas.{still_free}
+use Rattle.vcd_places.proofs.AddedNetLemmas.{still_free}
 use Rattle.vcd_read.specs.CodeNumbers.{code_number}
 use Rattle.vcd_read.specs.Meaning.{body_of}
 use Rattle.vcd_read.specs.Sections.{Defined, header_of}

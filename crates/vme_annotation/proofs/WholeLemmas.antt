@@ -18,20 +18,18 @@ use Rattle.vcd_read.specs.Reading.{line_behind}
 use Rattle.vcd_read.specs.CodeNumbers.{code_number}
 use Rattle.vcd_read.specs.Header.{Declared, Header, HeaderItem, between, header_from}
 use Rattle.vcd_read.specs.Header.{is_code, is_code_byte, joined_by_dots, opened, path_of}
-use Rattle.vcd_places.specs.Places.{begins_apart, begins_with_token, body_in, ends_apart, ends_definitions_at}
-use Rattle.vcd_places.specs.Places.{is_between_sections, is_unfinished}
-use Rattle.vcd_places.proofs.PutInLemmas.{AreWords, GoOn, IsWord, behind_items, header_split}
-use Rattle.vcd_places.proofs.PutInLemmas.{tokens_spaced, word_read}
+use Rattle.vcd_places.specs.Places.{begins_with_token, body_in, ends_at_boundary, ends_definitions_at}
+use Rattle.vcd_places.specs.Places.{is_between_sections, is_unfinished, starts_at_boundary}
+use Rattle.vcd_places.proofs.InsertionLemmas.{AreWords, IsBetweenSections, IsWord, after_items, header_split}
+use Rattle.vcd_places.proofs.InsertionLemmas.{tokens_spaced, word_read}
 use Rattle.vcd_places.proofs.StringStepLemmas.{items_of_text}
 use Rattle.vme_annotation.specs.Annotated.{declared_words}
 use Rattle.vme_annotation.specs.Fresh.{has_name, has_part, scope_name}
 use Rattle.vme_annotation.proofs.BoundLemmas.{AreApart, has_path}
-use Rattle.vme_annotation.proofs.DeclaredLemmas.{four_in, nets_1}
-use Rattle.vme_annotation.proofs.DeclaredLemmas.{nets_2}
-use Rattle.vme_annotation.proofs.DeclaredLemmas.{nets_3, shown_in}
+use Rattle.vme_annotation.proofs.DeclaredLemmas.{inserted_variables, nets_1, nets_2, nets_3, shown_in}
 use Rattle.vme_annotation.proofs.FreshPathLemmas.{lacks_path, scope_in_path}
 use Rattle.vme_annotation.proofs.SameDumpLemmas.{end_declares}
-use Rattle.vme_annotation.proofs.ShownWordLemmas.{and_true, both, is_word}
+use Rattle.vme_annotation.proofs.ShownWordLemmas.{and_true, appended_word, is_word}
 
 pub both_true : (a b : Bool) → (a && b) ≡ true → (a ≡ true) × (b ≡ true)
 both_true true b e = (refl, e)
@@ -50,7 +48,8 @@ pub end_items : (line : ℕ) (rest : List ℕ) → begins_with_token (codes "$en
     → (header_from between (tokens_from line rest)).items ≡ []
 unfolding header_from
 end_items line rest begins body ends =
-    let parts = both_true (bytes_eq (take 15 rest) (codes "$enddefinitions")) (begins_apart (drop 15 rest)) begins in
+    let parts = both_true (bytes_eq (take 15 rest) (codes "$enddefinitions")) (starts_at_boundary (drop 15 rest))
+    begins in
     let word : take 15 rest ≡ codes "$enddefinitions" =
     (bytes_eq-Decides (take 15 rest) (codes "$enddefinitions")).0 parts.0 in
     let whole : rest ≡ codes "$enddefinitions" ++ drop 15 rest =
@@ -64,9 +63,9 @@ end_items line rest begins body ends =
     ∙ end_declares (tokens_from line (drop 15 rest)) (opened first) refl body
     (sym (ap (λ (ts : List Token). (header_from between ts).body) read) ∙ ends)
 
-pub cancel : {A : Type 0} (xs ys : List A) → xs ++ ys ≡ xs ++ [] → ys ≡ []
-cancel [] ys e = e
-cancel {A = A} (x ∷ xs) ys e = cancel xs ys (ap rest e)
+pub appended_nothing : {A : Type 0} (xs ys : List A) → xs ++ ys ≡ xs ++ [] → ys ≡ []
+appended_nothing [] ys e = e
+appended_nothing {A = A} (x ∷ xs) ys e = appended_nothing xs ys (ap rest e)
   where
     rest : List A → List A
     rest [] = []
@@ -74,14 +73,14 @@ cancel {A = A} (x ∷ xs) ys e = cancel xs ys (ap rest e)
 
 -- ---- a text after `front`, which ends between two sections of the definitions
 
-module _ (front : List ℕ) (ends : ends_apart front ≡ true) (goes : is_between_sections front ≡ true) where
+module _ (front : List ℕ) (ends : ends_at_boundary front ≡ true) (goes : is_between_sections front ≡ true) where
   abbrev line : ℕ
   line = line_behind 1 front
 
   abbrev behind : List ℕ → Header
   behind rest = header_from between (tokens_from line rest)
 
-  go_on : GoOn (header_from between (tokens front))
+  go_on : IsBetweenSections (header_from between (tokens front))
   go_on =
       let header : Header = header_from between (tokens front) in
       let parts = both_true (not (is_some header.body)) (not (list_any is_unfinished header.items)) goes in
@@ -89,7 +88,7 @@ module _ (front : List ℕ) (ends : ends_apart front ≡ true) (goes : is_betwee
 
   -- the items of `front` followed by `rest` are those of `front` and then those of `rest`
   pub header_with : (rest : List ℕ) → header_from between (tokens (front ++ rest))
-      ≡ behind_items (items_of_text front) (behind rest)
+      ≡ after_items (items_of_text front) (behind rest)
   header_with rest =
       ap (header_from between) (tokens_spaced front rest 1 ends)
       ∙ header_split (tokens_from line rest) (tokens front) between go_on
@@ -99,9 +98,9 @@ pub items_before : (dump : List ℕ) (start : ℕ) → ends_definitions_at dump 
     → body_in dump ≡ Some body → items_of_text dump ≡ items_of_text (take start dump)
 items_before dump start starts body ends =
     let front : List ℕ = take start dump in
-    let outer = both_true (ends_apart front && is_between_sections front)
+    let outer = both_true (ends_at_boundary front && is_between_sections front)
     (begins_with_token (codes "$enddefinitions") (drop start dump)) starts in
-    let inner = both_true (ends_apart front) (is_between_sections front) outer.0 in
+    let inner = both_true (ends_at_boundary front) (is_between_sections front) outer.0 in
     let read = header_with front inner.0 inner.1 (drop start dump) in
     ap items_of_text (sym (take-append-drop start dump))
     ∙ ap (λ (h : Header). h.items) read
@@ -121,7 +120,7 @@ module _ (underscores : ℕ) where
       (All-replicate (λ (b : ℕ). p b ≡ true) underscores 95 is)
 
   pub scope_word : IsWord scope
-  scope_word = both (codes "vmecheck") (replicate underscores 95) refl (filled (λ b. not (is_space b)) refl)
+  scope_word = appended_word (codes "vmecheck") (replicate underscores 95) refl (filled (λ b. not (is_space b)) refl)
 
   abbrev undotted : ℕ → Bool
   undotted b = not (eqb b 46)
@@ -154,7 +153,7 @@ module _ (underscores : ℕ) where
 
   -- no variable of the dump has the path of one of the four variables
   pub four_apart : (c0 c1 c2 c3 : List ℕ) (d : Declared (List Variable)) → has_name d.variables underscores ≡ false
-      → AreApart d.variables (four_in scope c0 c1 c2 c3 d)
+      → AreApart d.variables (inserted_variables scope c0 c1 c2 c3 d)
   four_apart c0 c1 c2 c3 d lacks = (
     apart_from 116 (codes "enure") d.scopes (shown_in scope c0 c1 c2 c3 d (length d.nets) (codes "tenure")) d.variables
         refl lacks,
@@ -193,8 +192,8 @@ some_of [] some = absurd (omega (arith, some))
 some_of (b ∷ k) some = (b, k, refl)
 
 -- codes with different numbers differ
-pub differ : (a b : List ℕ) → code_number a < code_number b → bytes_eq a b ≡ false
-differ a b below = go (bytes_eq a b) refl
+pub different_codes : (a b : List ℕ) → code_number a < code_number b → bytes_eq a b ≡ false
+different_codes a b below = go (bytes_eq a b) refl
   where
     go : (test : Bool) → bytes_eq a b ≡ test → test ≡ false
     go false is = refl

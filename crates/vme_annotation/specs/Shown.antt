@@ -34,8 +34,8 @@ abbrev pub all_shown : List ShownVariable
 all_shown = shown.Tenure ∷ shown.Cycle ∷ shown.Transfer ∷ shown.Verdict ∷ []
 
 -- the text of a variable when nothing is in progress
-abbrev pub nothing : List ℕ
-nothing = codes "-"
+abbrev pub idle_text : List ℕ
+idle_text = codes "-"
 
 abbrev pub change_to : ℕ → List ℕ → ShownVariable → ShownChange
 change_to instant text variable = record { instant = instant; variable = variable; text = text }
@@ -43,15 +43,15 @@ change_to instant text variable = record { instant = instant; variable = variabl
 -- from `end` on, if there is an end, the variable shows nothing
 abbrev pub ends : ShownVariable → Option ℕ → List ShownChange
 ends variable None = []
-ends variable (Some end) = change_to end nothing variable ∷ []
+ends variable (Some end) = change_to end idle_text variable ∷ []
 
 -- the variable shows `text` from `start` on, and nothing from `end` on, if there is an end
-abbrev pub goes_on : ShownVariable → ℕ → List ℕ → Option ℕ → List ShownChange
-goes_on variable start text end = change_to start text variable ∷ ends variable end
+abbrev pub shows_until : ShownVariable → ℕ → List ℕ → Option ℕ → List ShownChange
+shows_until variable start text end = change_to start text variable ∷ ends variable end
 
 -- from `instant` on tenure, cycle and transfer show nothing
-abbrev pub all_end : ℕ → List ShownChange
-all_end instant = map (change_to instant nothing) (shown.Tenure ∷ shown.Cycle ∷ shown.Transfer ∷ [])
+abbrev pub all_idle : ℕ → List ShownChange
+all_idle instant = map (change_to instant idle_text) (shown.Tenure ∷ shown.Cycle ∷ shown.Transfer ∷ [])
 
 -- ---- the texts
 
@@ -116,7 +116,7 @@ shown_text (Verdict outcome) = verdict_text outcome
 
 -- at a break tenure, cycle and transfer end, and the verdict shows `text`
 abbrev pub break_changes : List ℕ → ℕ → List ShownChange
-break_changes text instant = all_end instant ++ change_to instant text shown.Verdict ∷ []
+break_changes text instant = all_idle instant ++ change_to instant text shown.Verdict ∷ []
 
 abbrev pub verdict_changes : List ℕ → ListedVerdict → List ShownChange
 verdict_changes text Conforming = []
@@ -127,14 +127,14 @@ verdict_changes text (Unreadable rule instant line) = break_changes text instant
 -- the changes that a row makes, whose text is `text`
 abbrev pub changes_with : List ℕ → Row → List ShownChange
 changes_with text (Start instant) = []
-changes_with text (Reset instant) = all_end instant
-changes_with text (OpenTenure start end) = goes_on shown.Tenure start text end
-changes_with text (Tenure start level slot end) = goes_on shown.Tenure start text end
-changes_with text (AddressedCycle start class modifier address end) = goes_on shown.Cycle start text end
-changes_with text (FreeCycle start modifier end) = goes_on shown.Cycle start text end
-changes_with text (InterruptCycle start level end) = goes_on shown.Cycle start text end
-changes_with text (Transfer direction line start cycle answer close lanes) = goes_on shown.Transfer start text close
-changes_with text (PendingTransfer start direction) = goes_on shown.Transfer start text None
+changes_with text (Reset instant) = all_idle instant
+changes_with text (OpenTenure start end) = shows_until shown.Tenure start text end
+changes_with text (Tenure start level slot end) = shows_until shown.Tenure start text end
+changes_with text (AddressedCycle start class modifier address end) = shows_until shown.Cycle start text end
+changes_with text (FreeCycle start modifier end) = shows_until shown.Cycle start text end
+changes_with text (InterruptCycle start level end) = shows_until shown.Cycle start text end
+changes_with text (Transfer direction line start cycle answer close lanes) = shows_until shown.Transfer start text close
+changes_with text (PendingTransfer start direction) = shows_until shown.Transfer start text None
 changes_with text (Verdict outcome) = verdict_changes text outcome
 
 unfoldable pub row_changes : Row → List ShownChange
@@ -142,7 +142,7 @@ row_changes row = changes_with (shown_text row) row
 
 -- at the opening each variable shows nothing
 abbrev pub opening_changes : List ShownChange
-opening_changes = map (change_to 0 nothing) all_shown
+opening_changes = map (change_to 0 idle_text) all_shown
 
 -- all changes: those of the opening, then those of each row, in the order of the rows
 abbrev pub all_changes : List Row → List ShownChange

@@ -7,7 +7,7 @@ use Rattle.vme_trace.specs.Names.{rule_number}
 use Rattle.vme_trace.specs.Rules.{is_unreadable}
 use Rattle.vme_trace.specs.Trace.{Trace}
 use Rattle.vme_trace.specs.declared.verdict.Break.{Break}
-use Rattle.vme_audit.specs.Parts.{breaks, cut_behind}
+use Rattle.vme_audit.specs.Parts.{breaks, cut_after}
 use Rattle.vme_audit.specs.declared.allowance.Allowance.{Allowance}
 
 -- the allowance is of the rule of the break, and of its line or of every line
@@ -35,7 +35,7 @@ module _ (allowances : List Allowance) where
 
   abbrev pub cut_at : Trace → Option Break → Trace
   cut_at t None = t
-  cut_at t (Some b) = cut_behind t b.instant
+  cut_at t (Some b) = cut_after t b.instant
 
   -- the recording as far as it is read where reading stops at the n-th break that is not allowed, counted from 1: it is
   -- cut off after the instant of that break, if there is one

@@ -10,12 +10,12 @@ use Rattle.vme_trace.specs.declared.verdict.Verdict.TheVariants.{Conforming, Bro
 
 -- the rest of a recording after instant j: it opens with the levels of that instant, and has the steps after it, so
 -- that its instant i is instant j + i of the recording
-abbrev pub rest_behind : Trace → ℕ → Trace
-rest_behind t j = record { opening = levels_at t j; steps = drop j t.steps }
+abbrev pub rest_after : Trace → ℕ → Trace
+rest_after t j = record { opening = levels_at t j; steps = drop j t.steps }
 
 -- the recording up to instant j, included
-abbrev pub cut_behind : Trace → ℕ → Trace
-cut_behind t j = record { opening = t.opening; steps = take j t.steps }
+abbrev pub cut_after : Trace → ℕ → Trace
+cut_after t j = record { opening = t.opening; steps = take j t.steps }
 
 -- the break of a verdict, if it has one
 abbrev pub named_break : Verdict → Option Break
@@ -42,13 +42,13 @@ abbrev pub break_of : Part → Option Break
 break_of p = option_map (moved_by p.start) (own_break p)
 
 -- what is left of a part after its break b: it opens with the levels at the break, and has fewer steps
-abbrev pub part_behind : Part → Break → Part
-part_behind p b = record { start = p.start + b.instant; trace = rest_behind p.trace b.instant }
+abbrev pub part_after : Part → Break → Part
+part_after p b = record { start = p.start + b.instant; trace = rest_after p.trace b.instant }
 
 -- a part, and the parts after its break, at most as many as the first argument says
 unfoldable pub parts_from : ℕ → Part → List Part
 parts_from zero p = p ∷ []
-parts_from (suc n) p = p ∷ option_map_or (λ b. parts_from n (part_behind p b)) (own_break p) []
+parts_from (suc n) p = p ∷ option_map_or (λ b. parts_from n (part_after p b)) (own_break p) []
 
 abbrev pub whole : Trace → Part
 whole t = record { start = 0; trace = t }

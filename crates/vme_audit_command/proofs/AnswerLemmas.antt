@@ -17,18 +17,18 @@ use Rattle.vme_audit.specs.declared.allowance.Allowance.{Allowance}
 use Rattle.vme_stream.specs.Outputs.{FailsToWrite, Writes}
 use Rattle.vme_step_auditor.specs.ReadBy.{GivenSteps, read_by, read_of}
 use Rattle.vme_step_reader.specs.StepReading.{StepReading, whole_reading}
-use Rattle.vme_audit_command.specs.Bodies.{AuditsRest, EndsBehind, HasGiven, IsLater, ended_at}
+use Rattle.vme_audit_command.specs.Bodies.{AuditsRest, HasGiven, IsLater, WritesRest, ended_at}
 use Rattle.vme_dump_input.specs.SettledReadings.{settled_by, skew_of}
 use Rattle.vme_dump_input.specs.SettledSteps.{ComesOut}
 use Rattle.vme_audit_command.specs.Definitions.{IsBodyBegun, ReadsDefinitions}
-use Rattle.vme_audit_command.specs.DumpAnswers.{AuditOptions, AuditsBehind, AuditsDump, DumpAnswer, EndsAs, answer_by}
+use Rattle.vme_audit_command.specs.DumpAnswers.{AuditOptions, AnswersBody, AuditsDump, DumpAnswer, EndsAs, answer_by}
 use Rattle.vme_audit_command.specs.DumpAnswers.{reading_answer, dump_answer, last_lines}
 use Rattle.vme_audit_command.specs.DumpAudits.{WritesPrefix, break_lines, line_of_break, lines_of}
-use Rattle.vme_audit_command.specs.LastLines.{TellsOutcome, counts_unless, outcome_line_of}
-use Rattle.vme_audit_command.specs.declared.told.NoOutcome.{NoOutcome}
-use Rattle.vme_audit_command.specs.declared.told.NoOutcome.TheVariants.{CannotRead, NotWritten, Refused}
-use Rattle.vme_audit_command.specs.declared.told.TellFault.{TellFault}
-use Rattle.vme_audit_command.specs.declared.told.TellFault.TheVariants.{Memory, CannotWrite}
+use Rattle.vme_audit_command.specs.LastLines.{WritesOutcome, counts_unless, outcome_line_of}
+use Rattle.vme_audit_command.specs.declared.written_lines.NoOutcome.{NoOutcome}
+use Rattle.vme_audit_command.specs.declared.written_lines.NoOutcome.TheVariants.{CannotRead, NotWritten, Refused}
+use Rattle.vme_audit_command.specs.declared.written_lines.WriteFault.{WriteFault}
+use Rattle.vme_audit_command.specs.declared.written_lines.WriteFault.TheVariants.{Memory, CannotWrite}
 use Rattle.vme_audit_command.proofs.LastLemmas.{prefix-of}
 use Rattle.vme_audit_command.proofs.BodyPieces.{all-left, left_of}
 use Rattle.vme_audit_command.proofs.WriteLemmas.{fails-after, fails-longer, prefix-after, prefix-longer, writes-both}
@@ -51,22 +51,22 @@ lines-first options head lines (Ok a) = (last_lines options head a, refl)
 lines-first options head lines (Err refusal) = ([], sym (append-nil lines))
 
 -- if no lines were written before, the text is all lines
-all-told : (all before text : List ℕ) → before ≡ [] → all ≡ before ++ text → all ≡ text
-all-told all before text none is = is ∙ ap (λ (l : List ℕ). l ++ text) none
+all-is-text : (all before text : List ℕ) → before ≡ [] → all ≡ before ++ text → all ≡ text
+all-is-text all before text none is = is ∙ ap (λ (l : List ℕ). l ++ text) none
 
 module _ (skew transfers : ℕ) (is_quiet : Bool) (head : List ℕ) (first later : GivenSteps)
     (none : lines_of head first ≡ [])
     (reading : TextReading) (u v : Writing) where
   -- a body ends without an outcome
   pub ends-without : (why : NoOutcome)
-      → EndsBehind {A = Unit {0}} head first (lines_of head first) reading later.recording u v (Err why)
+      → WritesRest {A = Unit {0}} head first (lines_of head first) reading later.recording u v (Err why)
       → EndsAs (reading_answer (options_by first.allowances first.stop skew transfers is_quiet) head reading) u v
       (Err why)
   ends-without (Refused refusal) ends =
       let options = options_by first.allowances first.stop skew transfers is_quiet in
       let (text, same, (writes, ended)) = ends in
       let lines = break_lines first.allowances first.stop head reading.recorded in
-      let is = all-told lines (lines_of head first) text none same in
+      let is = all-is-text lines (lines_of head first) text none same in
       let answer : reading_answer options head reading ≡ record { out = text; ended = Err refusal } =
       ap (λ (l : List ℕ). answer_by options head l (ended_at first.allowances first.stop reading.recorded
       reading.fault)) is
@@ -79,7 +79,7 @@ module _ (skew transfers : ℕ) (is_quiet : Bool) (head : List ℕ) (first later
       let (more, is) = lines-first options head lines (ended_at first.allowances first.stop reading.recorded
       reading.fault)
       in
-      let all = is ∙ ap (λ (l : List ℕ). l ++ more) (all-told lines (lines_of head first) text none same) in
+      let all = is ∙ ap (λ (l : List ℕ). l ++ more) (all-is-text lines (lines_of head first) text none same) in
       subst (λ (l : List ℕ). WritesPrefix u v l) (sym all) (prefix-longer u v text more some)
   ends-without (NotWritten CannotWrite) ends =
       let options = options_by first.allowances first.stop skew transfers is_quiet in
@@ -88,7 +88,7 @@ module _ (skew transfers : ℕ) (is_quiet : Bool) (head : List ℕ) (first later
       let (more, is) = lines-first options head lines (ended_at first.allowances first.stop reading.recorded
       reading.fault)
       in
-      let all = is ∙ ap (λ (l : List ℕ). l ++ more) (all-told lines (lines_of head first) text none same) in
+      let all = is ∙ ap (λ (l : List ℕ). l ++ more) (all-is-text lines (lines_of head first) text none same) in
       subst (λ (l : List ℕ). FailsToWrite u v l) (sym all) (fails-longer u v text more fails)
   ends-without (NotWritten Memory) ends =
       let options = options_by first.allowances first.stop skew transfers is_quiet in
@@ -97,21 +97,21 @@ module _ (skew transfers : ℕ) (is_quiet : Bool) (head : List ℕ) (first later
       let (more, is) = lines-first options head lines (ended_at first.allowances first.stop reading.recorded
       reading.fault)
       in
-      let all = is ∙ ap (λ (l : List ℕ). l ++ more) (all-told lines (lines_of head first) text none same) in
+      let all = is ∙ ap (λ (l : List ℕ). l ++ more) (all-is-text lines (lines_of head first) text none same) in
       subst (λ (l : List ℕ). WritesPrefix u v l) (sym all) (prefix-longer u v text more some)
 
   -- after the lines of the breaks the last lines are written
   module _ (w : Writing) (kept : IsLater first later)
-      (ends : EndsBehind {A = Unit {0}} head first (lines_of head first) reading later.recording u v (Ok tt)) where
+      (ends : WritesRest {A = Unit {0}} head first (lines_of head first) reading later.recording u v (Ok tt)) where
     -- the last lines of audit `a` are written
-    abbrev TellsLast : GivenSteps → Result ℕ TellFault → Type 0
-    TellsLast a result = TellsOutcome (counts_unless is_quiet a.allowances head (read_of a)
+    abbrev WritesLast : GivenSteps → Result ℕ WriteFault → Type 0
+    WritesLast a result = WritesOutcome (counts_unless is_quiet a.allowances head (read_of a)
         ++ outcome_line_of head (outcome_of a.allowances transfers (read_of a)))
         (outcome_of a.allowances transfers (read_of a)) v w result
 
-    tells-ours : (result : Result ℕ TellFault) → TellsLast later result
-        → TellsLast (record first { recording = later.recording }) result
-    tells-ours result tells = subst (λ (a : GivenSteps). TellsLast a result) kept.same tells
+    writes-by-first : (result : Result ℕ WriteFault) → WritesLast later result
+        → WritesLast (record first { recording = later.recording }) result
+    writes-by-first result tells = subst (λ (a : GivenSteps). WritesLast a result) kept.same tells
 
     answer-is : (text : List ℕ)
         × (reading_answer (options_by first.allowances first.stop skew transfers is_quiet) head reading
@@ -122,33 +122,33 @@ module _ (skew transfers : ℕ) (is_quiet : Bool) (head : List ℕ) (first later
         let options = options_by first.allowances first.stop skew transfers is_quiet in
         let (text, same, (writes, ended)) = ends in
         let lines = break_lines first.allowances first.stop head reading.recorded in
-        let is = all-told lines (lines_of head first) text none same in (
+        let is = all-is-text lines (lines_of head first) text none same in (
           text,
           ap (λ (l : List ℕ). answer_by options head l (ended_at first.allowances first.stop reading.recorded
               reading.fault)) is ∙ ap (answer_by options head text) ended,
           writes,
         )
 
-    pub ends-with : (status : ℕ) → TellsLast later (Ok status)
+    pub ends-with : (status : ℕ) → WritesLast later (Ok status)
         → EndsAs (reading_answer (options_by first.allowances first.stop skew transfers is_quiet) head reading) u w
         (Ok status)
     ends-with status tells =
         let (text, answer, writes) = answer-is in
-        let (last, is) = tells-ours (Ok status) tells in
+        let (last, is) = writes-by-first (Ok status) tells in
         subst (λ (a : DumpAnswer). EndsAs a u w (Ok status)) (sym answer)
         (writes-both u v w text _ writes last, ap Ok (sym is))
 
-    pub ends-unwritten : (fault : TellFault) → TellsLast later (Err fault)
+    pub ends-unwritten : (fault : WriteFault) → WritesLast later (Err fault)
         → EndsAs (reading_answer (options_by first.allowances first.stop skew transfers is_quiet) head reading) u w
         (Err (NotWritten fault))
     ends-unwritten CannotWrite tells =
         let (text, answer, writes) = answer-is in
         subst (λ (a : DumpAnswer). EndsAs a u w (Err (NotWritten CannotWrite))) (sym answer)
-        (fails-after u v w text _ writes (tells-ours (Err CannotWrite) tells))
+        (fails-after u v w text _ writes (writes-by-first (Err CannotWrite) tells))
     ends-unwritten Memory tells =
         let (text, answer, writes) = answer-is in
         subst (λ (a : DumpAnswer). EndsAs a u w (Err (NotWritten Memory))) (sym answer)
-        (prefix-after u v w text _ writes (tells-ours (Err Memory) tells))
+        (prefix-after u v w text _ writes (writes-by-first (Err Memory) tells))
 
 -- ---- after the definitions
 
@@ -157,54 +157,54 @@ module _ (allowances : List Allowance) (stop : Option ℕ) (skew transfers : ℕ
     (none : lines_of head first ≡ []) (r : StepReading) (held : List ℕ) (is_more : Bool) (source : Reading)
     (u : Writing) where
   -- the rules in the options can be replaced by the equal rules of the audit
-  behind-by : (w : Writing) (result : Result ℕ NoOutcome)
-      → AuditsBehind (options_by first.allowances first.stop skew transfers is_quiet) head r held is_more source u w
+  body-by-rules : (w : Writing) (result : Result ℕ NoOutcome)
+      → AnswersBody (options_by first.allowances first.stop skew transfers is_quiet) head r held is_more source u w
       result
-      → AuditsBehind (options_by allowances stop skew transfers is_quiet) head r held is_more source u w result
-  behind-by w result behind =
-      subst (λ (s : Option ℕ). AuditsBehind (options_by allowances s skew transfers is_quiet) head r held is_more source
+      → AnswersBody (options_by allowances stop skew transfers is_quiet) head r held is_more source u w result
+  body-by-rules w result behind =
+      subst (λ (s : Option ℕ). AnswersBody (options_by allowances s skew transfers is_quiet) head r held is_more source
       u w result) stops
-      (subst (λ (a : List Allowance). AuditsBehind (options_by a first.stop skew transfers is_quiet) head r held is_more
+      (subst (λ (a : List Allowance). AnswersBody (options_by a first.stop skew transfers is_quiet) head r held is_more
       source
       u w result) fits behind)
 
-  pub behind-without : (v : Writing) (why : NoOutcome)
+  pub body-without-outcome : (v : Writing) (why : NoOutcome)
       → AuditsRest {A = Unit {0}} (skew_of skew) head first later r held is_more source u v (Err why)
-      → AuditsBehind (options_by allowances stop skew transfers is_quiet) head r held is_more source u v (Err why)
-  behind-without v why rest =
+      → AnswersBody (options_by allowances stop skew transfers is_quiet) head r held is_more source u v (Err why)
+  body-without-outcome v why rest =
       let (whole, body, ends) = rest in
-      behind-by v (Err why) (
+      body-by-rules v (Err why) (
         whole,
         body,
         ends-without skew transfers is_quiet head first later none (settled_by (skew_of skew) (whole_reading r whole)) u
             v why ends,
       )
 
-  pub behind-with : (v w : Writing) (status : ℕ) → IsLater first later
+  pub body-with-outcome : (v w : Writing) (status : ℕ) → IsLater first later
       → AuditsRest {A = Unit {0}} (skew_of skew) head first later r held is_more source u v (Ok tt)
-      → TellsOutcome (counts_unless is_quiet later.allowances head (read_of later)
+      → WritesOutcome (counts_unless is_quiet later.allowances head (read_of later)
       ++ outcome_line_of head (outcome_of later.allowances transfers (read_of later)))
       (outcome_of later.allowances transfers (read_of later)) v w (Ok status)
-      → AuditsBehind (options_by allowances stop skew transfers is_quiet) head r held is_more source u w (Ok status)
-  behind-with v w status kept rest tells =
+      → AnswersBody (options_by allowances stop skew transfers is_quiet) head r held is_more source u w (Ok status)
+  body-with-outcome v w status kept rest tells =
       let (whole, body, ends) = rest in
-      behind-by w (Ok status) (
+      body-by-rules w (Ok status) (
         whole,
         body,
         ends-with skew transfers is_quiet head first later none (settled_by (skew_of skew) (whole_reading r whole)) u v
             w kept ends status tells,
       )
 
-  pub behind-unwritten : (v w : Writing) (fault : TellFault) → IsLater first later
+  pub body-unwritten : (v w : Writing) (fault : WriteFault) → IsLater first later
       → AuditsRest {A = Unit {0}} (skew_of skew) head first later r held is_more source u v (Ok tt)
-      → TellsOutcome (counts_unless is_quiet later.allowances head (read_of later)
+      → WritesOutcome (counts_unless is_quiet later.allowances head (read_of later)
       ++ outcome_line_of head (outcome_of later.allowances transfers (read_of later)))
       (outcome_of later.allowances transfers (read_of later)) v w (Err fault)
-      → AuditsBehind (options_by allowances stop skew transfers is_quiet) head r held is_more source u w
+      → AnswersBody (options_by allowances stop skew transfers is_quiet) head r held is_more source u w
       (Err (NotWritten fault))
-  behind-unwritten v w fault kept rest tells =
+  body-unwritten v w fault kept rest tells =
       let (whole, body, ends) = rest in
-      behind-by w (Err (NotWritten fault)) (
+      body-by-rules w (Err (NotWritten fault)) (
         whole,
         body,
         ends-unwritten skew transfers is_quiet head first later none (settled_by (skew_of skew) (whole_reading r whole))
@@ -225,11 +225,11 @@ given-first skew settler first r comes given few whole begun = record {
   formed = begun.formed;
 }
 
-all-behind : (a b : Option (List ℕ)) (done more : List ℕ) → Consumes a b done → IfSome b (λ told. more ≡ told)
+all-from-rest : (a b : Option (List ℕ)) (done more : List ℕ) → Consumes a b done → IfSome b (λ told. more ≡ told)
     → IfSome a (λ told. done ++ more ≡ told)
-all-behind None b done more read all = tt
-all-behind (Some x) None done more read all = absurd read
-all-behind (Some x) (Some y) done more read all = ap (λ (l : List ℕ). done ++ l) all ∙ sym read
+all-from-rest None b done more read all = tt
+all-from-rest (Some x) None done more read all = absurd read
+all-from-rest (Some x) (Some y) done more read all = ap (λ (l : List ℕ). done ++ l) all ∙ sym read
 
 module _ (options : AuditOptions) (head : List ℕ) (bound : BoundLines) (source : Reading) (u : Writing) where
   -- without memory nothing is written of a dump
@@ -252,13 +252,13 @@ module _ (options : AuditOptions) (head : List ℕ) (bound : BoundLines) (source
   -- a dump with its definitions and its body was audited
   pub dump-answers : (new : Reading) (left : List ℕ) (r : StepReading) (is_more : Bool) (w : Writing)
       (result : Result ℕ NoOutcome) → ReadsDefinitions bound source new left (Ok (r, is_more))
-      → (IsBodyBegun r → AuditsBehind options head r left is_more new u w result)
+      → (IsBodyBegun r → AnswersBody options head r left is_more new u w result)
       → AuditsDump options head bound source u w result
   dump-answers new left r true w result reads behind =
       let (begun, (done, read, whole)) = reads in
       let (all, (more, are, is), ends) = behind begun in (
         done ++ more,
-        all-behind source.left new.left done more read are,
+        all-from-rest source.left new.left done more read are,
         subst (λ (x : Result TextReading CaptureFault). EndsAs (dump_answer options head x) u w result)
             (ap (λ (l : List ℕ). Ok (whole_reading r l)) is ∙ sym (whole more)) ends,
       )

@@ -14,11 +14,11 @@ use Rattle.vme_trace.specs.declared.verdict.Break.{Break}
 use Rattle.vme_stream.specs.Outputs.{Writes}
 use Rattle.vme_audit.specs.Parts.{breaks}
 use Rattle.vme_audit.specs.declared.allowance.Allowance.{Allowance}
-use Rattle.vme_audit_command.specs.DumpAudits.{AuditGoesOn, GoesOn, TellsText, break_lines, given_too}
-use Rattle.vme_audit_command.specs.DumpAudits.{line_of_break, lines_of}
+use Rattle.vme_audit_command.specs.DumpAudits.{AuditGoesOn, GoesOn, WritesText, break_lines, given_more, line_of_break}
+use Rattle.vme_audit_command.specs.DumpAudits.{lines_of}
 use Rattle.vme_step_auditor.specs.ReadBy.{BreaksGoOn, GivenSteps, read_by, read_of}
-use Rattle.vme_audit_command.specs.declared.told.TellFault.{TellFault}
-use Rattle.vme_audit_command.specs.declared.told.TellFault.TheVariants.{Memory, CannotWrite}
+use Rattle.vme_audit_command.specs.declared.written_lines.WriteFault.{WriteFault}
+use Rattle.vme_audit_command.specs.declared.written_lines.WriteFault.TheVariants.{Memory, CannotWrite}
 use Rattle.vme_audit_command.proofs.WriteLemmas.{fails-after, fails-longer, prefix-after, prefix-longer}
 use Rattle.vme_audit_command.proofs.WriteLemmas.{writes-as-prefix, writes-both, writes-nothing}
 
@@ -55,39 +55,39 @@ no-memory A law head audit steps w formed few =
 -- ---- a step
 
 -- the added text was written, or in part if there is an error
-pub tells-on : {A : Type 0} (before after text : List ℕ) (u v : Writing) (result : Result A TellFault)
-    → after ≡ before ++ text → TellsText u v result text → GoesOn before after u v result
-tells-on before after text u v (Ok x) same tells = (text, same, tells)
-tells-on before after text u v (Err CannotWrite) same tells = (text, same, tells)
-tells-on before after text u v (Err Memory) same tells = (text, same, tells)
+pub writes-further-text : {A : Type 0} (before after text : List ℕ) (u v : Writing) (result : Result A WriteFault)
+    → after ≡ before ++ text → WritesText u v result text → GoesOn before after u v result
+writes-further-text before after text u v (Ok x) same tells = (text, same, tells)
+writes-further-text before after text u v (Err CannotWrite) same tells = (text, same, tells)
+writes-further-text before after text u v (Err Memory) same tells = (text, same, tells)
 
 -- the line of a break is the text that its step adds
-pub break-told : (head : List ℕ) (audit later : GivenSteps) (steps : List Step) (b : Break) (line : List ℕ)
-    → later ≡ given_too audit steps → breaks (read_of later) ≡ breaks (read_of audit) ++ b ∷ []
+pub break-written : (head : List ℕ) (audit later : GivenSteps) (steps : List Step) (b : Break) (line : List ℕ)
+    → later ≡ given_more audit steps → breaks (read_of later) ≡ breaks (read_of audit) ++ b ∷ []
     → line ≡ line_of_break audit.allowances audit.stop head b
-    → lines_of head (given_too audit steps) ≡ lines_of head audit ++ line
+    → lines_of head (given_more audit steps) ≡ lines_of head audit ++ line
 unfolding break_lines
-break-told head audit later steps b line is more told =
+break-written head audit later steps b line is more told =
     let f = line_of_break audit.allowances audit.stop head in
-    let grown : breaks (read_of (given_too audit steps)) ≡ breaks (read_of audit) ++ b ∷ [] =
+    let grown : breaks (read_of (given_more audit steps)) ≡ breaks (read_of audit) ++ b ∷ [] =
     subst (λ (l : GivenSteps). breaks (read_of l) ≡ breaks (read_of audit) ++ b ∷ []) is more in
     ap (flat_map f) grown ∙ flat_map-append f (breaks (read_of audit)) (b ∷ [])
     ∙ ap (λ (l : List ℕ). flat_map f (breaks (read_of audit)) ++ l) (append-nil (f b) ∙ sym told)
 
 -- a step without a break adds no text
-pub nothing-told : (head : List ℕ) (audit later : GivenSteps) (steps : List Step) → later ≡ given_too audit steps
+pub nothing-written : (head : List ℕ) (audit later : GivenSteps) (steps : List Step) → later ≡ given_more audit steps
     → breaks (read_of later) ≡ breaks (read_of audit) ++ []
-    → lines_of head (given_too audit steps) ≡ lines_of head audit ++ []
+    → lines_of head (given_more audit steps) ≡ lines_of head audit ++ []
 unfolding break_lines
-nothing-told head audit later steps is more =
+nothing-written head audit later steps is more =
     let f = line_of_break audit.allowances audit.stop head in
-    let grown : breaks (read_of (given_too audit steps)) ≡ breaks (read_of audit) ++ [] =
+    let grown : breaks (read_of (given_more audit steps)) ≡ breaks (read_of audit) ++ [] =
     subst (λ (l : GivenSteps). breaks (read_of l) ≡ breaks (read_of audit) ++ []) is more in
     ap (flat_map f) grown ∙ flat_map-append f (breaks (read_of audit)) []
 
 -- ---- steps one after the other
 
-pub goes-after : {A : Type 0} (before middle after : List ℕ) (u v w : Writing) (result : Result A TellFault)
+pub goes-after : {A : Type 0} (before middle after : List ℕ) (u v w : Writing) (result : Result A WriteFault)
     → (text : List ℕ) × (middle ≡ before ++ text) × Writes u v text → GoesOn middle after v w result
     → GoesOn before after u w result
 goes-after before middle after u v w (Ok x) one two =
@@ -113,7 +113,7 @@ goes-after before middle after u v w (Err Memory) one two =
     )
 
 -- after an error a prefix of any longer text was written
-pub goes-further : (A B : Type 0) (before after all : List ℕ) (u v : Writing) (fault : TellFault)
+pub goes-further : (A B : Type 0) (before after all : List ℕ) (u v : Writing) (fault : WriteFault)
     → GoesOn {A = A} before after u v (Err fault) → (later : List ℕ) × (all ≡ after ++ later)
     → GoesOn {A = B} before all u v (Err fault)
 goes-further A B before after all u v CannotWrite goes more =
@@ -145,11 +145,11 @@ front-formed t steps n formed =
 
 -- one more step was given
 pub one-more : (first audit later : GivenSteps) (steps : List Step) (i : ℕ) (step : Step)
-    → audit ≡ given_too first (take i steps) → later ≡ given_too audit (step ∷ []) → i < length steps
-    → step ≡ get_or steps i step → later ≡ given_too first (take (i + 1) steps)
+    → audit ≡ given_more first (take i steps) → later ≡ given_more audit (step ∷ []) → i < length steps
+    → step ≡ get_or steps i step → later ≡ given_more first (take (i + 1) steps)
 one-more first audit later steps i step so_far next lt is =
     let all : List Step = first.recording.steps in
-    next ∙ ap (λ (a : GivenSteps). given_too a (step ∷ [])) so_far
+    next ∙ ap (λ (a : GivenSteps). given_more a (step ∷ [])) so_far
     ∙ ap (λ (x : List Step). record first { recording = record first.recording { steps = x } })
     (append_assoc all (take i steps) (step ∷ [])
     ∙ ap (λ (x : List Step). all ++ x)
@@ -157,18 +157,18 @@ one-more first audit later steps i step so_far next lt is =
 
 -- the next step is well formed if all steps are
 pub next-formed : (first audit later : GivenSteps) (steps : List Step) (i : ℕ) (step : Step)
-    → audit ≡ given_too first (take i steps) → i < length steps → step ≡ get_or steps i step
+    → audit ≡ given_more first (take i steps) → i < length steps → step ≡ get_or steps i step
     → malformed_step (with_steps first.recording steps) ≡ None
     → malformed_step (with_steps audit.recording (step ∷ [])) ≡ None
 next-formed first audit later steps i step so_far lt is formed =
-    let one = one-more first audit (given_too audit (step ∷ [])) steps i step so_far refl lt is in
+    let one = one-more first audit (given_more audit (step ∷ [])) steps i step so_far refl lt is in
     ap (λ (a : GivenSteps). malformed_step a.recording) one ∙ front-formed first.recording steps (i + 1) formed
 
 -- the lines of one more step are written after those so far
 pub lines-next : (head : List ℕ) (first audit later : GivenSteps) (step : Step) (u v w : Writing)
-    → later ≡ given_too audit (step ∷ [])
+    → later ≡ given_more audit (step ∷ [])
     → (text : List ℕ) × (lines_of head audit ≡ lines_of head first ++ text) × Writes u v text
-    → (text : List ℕ) × (lines_of head (given_too audit (step ∷ [])) ≡ lines_of head audit ++ text)
+    → (text : List ℕ) × (lines_of head (given_more audit (step ∷ [])) ≡ lines_of head audit ++ text)
     × Writes v w text
     → (text : List ℕ) × (lines_of head later ≡ lines_of head first ++ text) × Writes u w text
 lines-next head first audit later step u v w is one two =
@@ -182,7 +182,7 @@ lines-next head first audit later step u v w is one two =
 
 -- if the audit of a step ends with an error, so does that of all steps
 pub rest-unwritten : (A B : Type 0) → ReadGoesOn → (head : List ℕ) (first audit : GivenSteps) (steps : List Step)
-    (i : ℕ) (step : Step) (u v w : Writing) (fault : TellFault) → audit ≡ given_too first (take i steps)
+    (i : ℕ) (step : Step) (u v w : Writing) (fault : WriteFault) → audit ≡ given_more first (take i steps)
     → i < length steps → step ≡ get_or steps i step → malformed_step (with_steps first.recording steps) ≡ None
     → first.recording.opening.slots ≤ 21
     → (text : List ℕ) × (lines_of head audit ≡ lines_of head first ++ text) × Writes u v text
@@ -196,13 +196,13 @@ rest-unwritten A B law head first audit steps i step u v w fault so_far lt is fo
     ∙ ap (with_steps t) (take-append-drop (i + 1) steps)) ∙ formed in
     let (later, grown) = lines-go-on law head first.allowances first.stop (with_steps t front) (drop (i + 1) steps)
     here few in
-    let reached = one-more first audit (given_too audit (step ∷ [])) steps i step so_far refl lt is in
-    let all : lines_of head (given_too first steps) ≡ lines_of head (given_too audit (step ∷ [])) ++ later =
+    let reached = one-more first audit (given_more audit (step ∷ [])) steps i step so_far refl lt is in
+    let all : lines_of head (given_more first steps) ≡ lines_of head (given_more audit (step ∷ [])) ++ later =
     ap (break_lines first.allowances first.stop head) (sym (ap (with_steps t) (take-append-drop (i + 1) steps))
     ∙ sym (steps-both t front (drop (i + 1) steps)))
     ∙ grown ∙ ap (λ (l : List ℕ). l ++ later) (sym (ap (lines_of head) reached)) in
-    goes-further A B (lines_of head first) (lines_of head (given_too audit (step ∷ [])))
-    (lines_of head (given_too first steps)) u w fault
-    (goes-after {A = A} (lines_of head first) (lines_of head audit) (lines_of head (given_too audit (step ∷ []))) u v w
+    goes-further A B (lines_of head first) (lines_of head (given_more audit (step ∷ [])))
+    (lines_of head (given_more first steps)) u w fault
+    (goes-after {A = A} (lines_of head first) (lines_of head audit) (lines_of head (given_more audit (step ∷ []))) u v w
     (Err fault) one two)
     (later, all)

@@ -7,18 +7,18 @@ use Rattle.vme_trace.specs.Streams.{Reading, Writing}
 use Rattle.vme_trace.specs.Trace.{Trace}
 use Rattle.vme_bind.specs.TextReading.{TextReading}
 use Rattle.vme_stream.specs.Outputs.{Writes}
-use Rattle.vme_audit_command.specs.Bodies.{AuditsBody, EndsBehind, HasGiven, TakesPiece}
+use Rattle.vme_audit_command.specs.Bodies.{AuditsBody, HasGiven, TakesPiece, WritesRest}
 use Rattle.vme_audit_command.specs.Definitions.{GivenIsPrefix, unread}
 use Rattle.vme_audit_command.specs.declared.dump_input.ReadFault.{ReadFault}
 use Rattle.vme_audit_command.specs.declared.dump_input.ReadFault.TheVariants as read
-use Rattle.vme_audit_command.specs.DumpAudits.{given_all, lines_of}
+use Rattle.vme_audit_command.specs.DumpAudits.{given_recording, lines_of}
 use Rattle.vme_dump_input.specs.SettledReadings.{settled_by}
 use Rattle.vme_skew.specs.Settling.{Settling}
 use Rattle.vme_step_auditor.specs.ReadBy.{GivenSteps}
 use Rattle.vme_step_reader.specs.StepReading.{StepReading, whole_reading}
-use Rattle.vme_audit_command.specs.declared.told.NoOutcome.{NoOutcome}
-use Rattle.vme_audit_command.specs.declared.told.NoOutcome.TheVariants.{CannotRead, NotWritten}
-use Rattle.vme_audit_command.specs.declared.told.TellFault.TheVariants.{Memory}
+use Rattle.vme_audit_command.specs.declared.written_lines.NoOutcome.{NoOutcome}
+use Rattle.vme_audit_command.specs.declared.written_lines.NoOutcome.TheVariants.{CannotRead, NotWritten}
+use Rattle.vme_audit_command.specs.declared.written_lines.WriteFault.TheVariants.{Memory}
 use Rattle.vme_audit_command.proofs.BodyLemmas.{ReadGoesOn}
 use Rattle.vme_dump_input.proofs.ReadSteps.{StepsFollow, TimeGoesOn}
 use Rattle.vme_audit_command.proofs.Onward.{given-on}
@@ -57,7 +57,7 @@ pub record IsUnderway (head : List ℕ) (source now : Reading) (old new : Writin
   pub read : Consumes source.left now.left more
   pub split : held ++ more ≡ done ++ left
   pub passes : (rest : List ℕ) → whole_reading begun (done ++ rest) ≡ whole_reading r rest
-  pub same : audit ≡ given_all first audit.recording
+  pub same : audit ≡ given_recording first audit.recording
   pub lines : lines_of head audit ≡ lines_of head first ++ text
   pub writes : Writes old new text
 
@@ -81,7 +81,7 @@ module _ (skew : Option ℕ) (head : List ℕ) (source now : Reading) (old new :
   -- a piece is taken
   pub underway-taken : (later : GivenSteps) (next : StepReading) (n : ℕ) (after : Writing)
       → ((rest : List ℕ) → whole_reading r (take n left ++ rest) ≡ whole_reading next rest)
-      → later ≡ given_all audit later.recording
+      → later ≡ given_recording audit later.recording
       → (text : List ℕ) × (lines_of head later ≡ lines_of head audit ++ text) × Writes new after text
       → IsUnderway head source now old after first later begun next held (drop n left)
   underway-taken later next n after passes same told =
@@ -96,7 +96,7 @@ module _ (skew : Option ℕ) (head : List ℕ) (source now : Reading) (old new :
         passes = λ rest. ap (whole_reading begun) (append_assoc u.done (take n left) rest) ∙ u.passes
             (take n left ++ rest)
             ∙ passes rest;
-        same = same ∙ ap (λ (a : GivenSteps). given_all a later.recording) u.same;
+        same = same ∙ ap (λ (a : GivenSteps). given_recording a later.recording) u.same;
         lines = lines ∙ ap (λ (l : List ℕ). l ++ text) u.lines ∙ append_assoc (lines_of head first) u.text text;
         writes = writes-both old new after u.text text u.writes writes;
       }
@@ -125,27 +125,27 @@ module _ (skew : Option ℕ) (head : List ℕ) (source now : Reading) (old new :
       ∙ u.passes (left ++ rest)
 
   end-behind : {A : Type 0} (later : GivenSteps) (after : Writing) (result : Result A NoOutcome) (rest : List ℕ)
-      → EndsBehind head audit (lines_of head audit) (settled_by skew (whole_reading r (left ++ rest))) later.recording
+      → WritesRest head audit (lines_of head audit) (settled_by skew (whole_reading r (left ++ rest))) later.recording
       new after result
-      → EndsBehind head first (lines_of head first) (settled_by skew (whole_reading begun (held ++ (u.more ++ rest))))
+      → WritesRest head first (lines_of head first) (settled_by skew (whole_reading begun (held ++ (u.more ++ rest))))
       later.recording old after result
   end-behind {A} later after result rest ends =
       let reading = settled_by skew (whole_reading r (left ++ rest)) in
-      let there : EndsBehind head audit (lines_of head first ++ u.text) reading later.recording new after result =
-      subst (λ (l : List ℕ). EndsBehind head audit l reading later.recording new after result) u.lines ends in
-      let ours : EndsBehind head first (lines_of head first ++ u.text) reading later.recording new after result =
-      subst (λ (a : GivenSteps). EndsBehind head a (lines_of head first ++ u.text) reading later.recording new after
+      let there : WritesRest head audit (lines_of head first ++ u.text) reading later.recording new after result =
+      subst (λ (l : List ℕ). WritesRest head audit l reading later.recording new after result) u.lines ends in
+      let ours : WritesRest head first (lines_of head first ++ u.text) reading later.recording new after result =
+      subst (λ (a : GivenSteps). WritesRest head a (lines_of head first ++ u.text) reading later.recording new after
       result) u.same there in
       let whole = ends-after head first (lines_of head first) u.text reading later.recording old new after result
       u.writes ours in
-      subst (λ (x : TextReading). EndsBehind head first (lines_of head first) (settled_by skew x) later.recording old
+      subst (λ (x : TextReading). WritesRest head first (lines_of head first) (settled_by skew x) later.recording old
       after result)
       (sym (same_reading rest)) whole
 
   -- the audit ends here, whatever follows
   pub underway-ends : {A : Type 0} (later : GivenSteps) (after : Writing) (result : Result A NoOutcome)
       → ((rest : List ℕ)
-      → EndsBehind head audit (lines_of head audit) (settled_by skew (whole_reading r (left ++ rest))) later.recording
+      → WritesRest head audit (lines_of head audit) (settled_by skew (whole_reading r (left ++ rest))) later.recording
       new after result)
       → AuditsBody skew head first later begun held source old after result
   underway-ends later after result ends = (
@@ -157,16 +157,16 @@ module _ (skew : Option ℕ) (head : List ℕ) (source now : Reading) (old new :
   -- the source is at its end
   pub underway-last : {A : Type 0} (later : GivenSteps) (after : Writing) (result : Result A NoOutcome)
       → IsAtEnd now.left
-      → EndsBehind head audit (lines_of head audit) (settled_by skew (whole_reading r left)) later.recording new after
+      → WritesRest head audit (lines_of head audit) (settled_by skew (whole_reading r left)) later.recording new after
       result
       → AuditsBody skew head first later begun held source old after result
   underway-last later after result end ends = (
     u.more,
     all-at-end source.left now.left u.more u.read end,
-    subst (λ (l : List ℕ). EndsBehind head first (lines_of head first)
+    subst (λ (l : List ℕ). WritesRest head first (lines_of head first)
         (settled_by skew (whole_reading begun (held ++ l))) later.recording old after result) (append-nil u.more)
         (end-behind later after result []
-        (subst (λ (l : List ℕ). EndsBehind head audit (lines_of head audit) (settled_by skew (whole_reading r l))
+        (subst (λ (l : List ℕ). WritesRest head audit (lines_of head audit) (settled_by skew (whole_reading r l))
         later.recording new after result)
         (sym (append-nil left)) ends)),
   )
@@ -176,26 +176,26 @@ module _ (law : ReadGoesOn) (front : GivenIsPrefix) (follows : StepsFollow) (on 
     (skew : Option ℕ) (settler : Option Settling) (audit : GivenSteps) (r : StepReading)
     (h : HasGiven skew settler audit r) (w : Writing) where
   pub unheld-ends : (A : Type 0) (t : Trace) (rest : List ℕ)
-      → EndsBehind {A = A} head audit (lines_of head audit) (settled_by skew (whole_reading r rest)) t w w
+      → WritesRest {A = A} head audit (lines_of head audit) (settled_by skew (whole_reading r rest)) t w w
       (Err (NotWritten Memory))
   unheld-ends A t rest =
       memory-ends A law head audit (settled_by skew (whole_reading r rest)) t w
       (given-on front follows on skew r rest settler audit h)
 
   pub unread-ends : (A : Type 0) (t : Trace) (rest : List ℕ)
-      → EndsBehind {A = A} head audit (lines_of head audit) (settled_by skew (whole_reading r rest)) t w w
+      → WritesRest {A = A} head audit (lines_of head audit) (settled_by skew (whole_reading r rest)) t w w
       (Err CannotRead)
   unread-ends A t rest = unheld-ends A t rest
 
   -- the reason why no more was read
   pub no-more-ends : (fault : ReadFault) (why : NoOutcome) (t : Trace) → why ≡ unread fault → (rest : List ℕ)
-      → EndsBehind {A = Unit {0}} head audit (lines_of head audit) (settled_by skew (whole_reading r rest)) t w w
+      → WritesRest {A = Unit {0}} head audit (lines_of head audit) (settled_by skew (whole_reading r rest)) t w w
       (Err why)
   no-more-ends read.Failed why t is rest =
-      subst (λ (e : NoOutcome). EndsBehind {A = Unit {0}} head audit (lines_of head audit)
+      subst (λ (e : NoOutcome). WritesRest {A = Unit {0}} head audit (lines_of head audit)
       (settled_by skew (whole_reading r rest)) t w w (Err e)) (sym is) (unread-ends (Unit {0}) t rest)
   no-more-ends read.Memory why t is rest =
-      subst (λ (e : NoOutcome). EndsBehind {A = Unit {0}} head audit (lines_of head audit)
+      subst (λ (e : NoOutcome). WritesRest {A = Unit {0}} head audit (lines_of head audit)
       (settled_by skew (whole_reading r rest)) t w w (Err e)) (sym is) (unheld-ends (Unit {0}) t rest)
 
 -- ---- a piece of a body that is underway
@@ -215,7 +215,7 @@ module _ (skew : Option ℕ) (head : List ℕ) (source now : Reading) (old new :
       → AuditsBody {A = Unit {0}} skew head first later begun held source old after (Err why)
   underway-fails why takes =
       underway-ends skew head source now old new first audit begun r held left u {A = Unit {0}} later after (Err why)
-      (subst (λ (l : List ℕ). (rest : List ℕ) → EndsBehind {A = Unit {0}} head audit (lines_of head audit)
+      (subst (λ (l : List ℕ). (rest : List ℕ) → WritesRest {A = Unit {0}} head audit (lines_of head audit)
       (settled_by skew (whole_reading r (l ++ rest))) later.recording new after (Err why)) is takes)
 
   pub underway-stops : (going : Option (StepReading × ℕ)) → going ≡ None
@@ -227,7 +227,7 @@ module _ (skew : Option ℕ) (head : List ℕ) (source now : Reading) (old new :
       takes
       in
       underway-ends skew head source now old new first audit begun r held left u {A = Unit {0}} later after (Ok tt)
-      (subst (λ (l : List ℕ). (rest : List ℕ) → EndsBehind {A = Unit {0}} head audit (lines_of head audit)
+      (subst (λ (l : List ℕ). (rest : List ℕ) → WritesRest {A = Unit {0}} head audit (lines_of head audit)
       (settled_by skew (whole_reading r (l ++ rest))) later.recording new after (Ok tt)) is ends)
 
   -- the audit continues after this piece

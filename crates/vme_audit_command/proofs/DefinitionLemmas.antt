@@ -9,8 +9,8 @@ use Rattle.vme_step_reader.specs.StepReading.{StepReading}
 use Rattle.vme_audit_command.specs.Definitions.{AreAllBytesOf, BeginsBody, NotBegun, ReadsDefinitions, unread}
 use Rattle.vme_audit_command.specs.declared.dump_input.ReadFault.{ReadFault}
 use Rattle.vme_audit_command.specs.declared.dump_input.ReadFault.TheVariants as read
-use Rattle.vme_audit_command.specs.declared.told.NoOutcome.{NoOutcome}
-use Rattle.vme_audit_command.specs.declared.told.NoOutcome.TheVariants.{CannotRead, NotWritten, Refused}
+use Rattle.vme_audit_command.specs.declared.written_lines.NoOutcome.{NoOutcome}
+use Rattle.vme_audit_command.specs.declared.written_lines.NoOutcome.TheVariants.{CannotRead, NotWritten, Refused}
 use Rattle.vme_audit_command.proofs.BodyPieces.{all-at-end, all-left, all-of, left_of}
 
 -- all bytes that were read are held

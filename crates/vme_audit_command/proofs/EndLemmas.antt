@@ -22,12 +22,12 @@ use Rattle.vme_audit_command.specs.DumpAudits.{break_lines}
 use Rattle.vme_dump_input.specs.SettledReadings.{settled_by, skew_of}
 use Rattle.vme_audit_command.specs.DumpAnswers.{AuditOptions, AuditsDump, DumpAnswer, answer_by, dump_answer}
 use Rattle.vme_audit_command.specs.DumpAnswers.{dump_outcome}
-use Rattle.vme_audit_command.specs.DumpEnds.{AuditsNamed, EndsWith, RefusesAs, TellsEnd}
+use Rattle.vme_audit_command.specs.DumpEnds.{AuditsNamed, EndsWithReason, EndsWithStatus, WritesEnd}
 use Rattle.vme_audit_command.specs.SeveralDumps.{IsEndOf, IsErrorLine, IsTextPrefix, NamedReading}
 use Rattle.vme_audit_command.specs.SeveralDumps.{TriesEach, answer_to, end_by, memory_line, refusal_line_of}
-use Rattle.vme_audit_command.specs.declared.told.NoOutcome.{NoOutcome}
-use Rattle.vme_audit_command.specs.declared.told.NoOutcome.TheVariants.{CannotRead, NotWritten, Refused}
-use Rattle.vme_audit_command.specs.declared.told.TellFault.TheVariants.{Memory, CannotWrite}
+use Rattle.vme_audit_command.specs.declared.written_lines.NoOutcome.{NoOutcome}
+use Rattle.vme_audit_command.specs.declared.written_lines.NoOutcome.TheVariants.{CannotRead, NotWritten, Refused}
+use Rattle.vme_audit_command.specs.declared.written_lines.WriteFault.TheVariants.{Memory, CannotWrite}
 use Rattle.vme_audit_command.proofs.SeveralLemmas.{not-five}
 
 -- ---- only the status of a failed write is 5
@@ -67,11 +67,11 @@ whole-is-front text = (length text, sym (take-length text))
 
 module _ (name : List ℕ) (answer : DumpAnswer) (out : List ℕ) (is_front : IsTextPrefix out answer.out) where
   -- memory runs out
-  lacks : (before : List (List ℕ)) (last : List ℕ) (status : ℕ) → All (IsErrorLine name) before
+  ends-without-memory : (before : List (List ℕ)) (last : List ℕ) (status : ℕ) → All (IsErrorLine name) before
       → (last ≡ memory_line) ⊎ (last ≡ refusal_line_of name refusal.Memory) → status ≡ 4
       → (errors : List (List ℕ)) → errors ≡ before ++ last ∷ []
       → IsEndOf name answer (record { out = out; errors = errors; status = status })
-  lacks before last status others tells four errors is = inr (inr (record {
+  ends-without-memory before last status others tells four errors is = inr (inr (record {
     out = is_front;
     before = before;
     last = last;
@@ -85,55 +85,56 @@ module _ (name : List ℕ) (answer : DumpAnswer) (out : List ℕ) (is_front : Is
   one-line line is = All-cons (IsErrorLine name) line [] is (All-nil (IsErrorLine name))
 
   -- the dump may end with these error lines and this status, which isn't 5
-  abbrev EndsSo : Writing → Writing → ℕ → Type 0
-  EndsSo e p status =
+  abbrev MayEndWith : Writing → Writing → ℕ → Type 0
+  MayEndWith e p status =
       (errors : List (List ℕ)) × IsEndOf name answer (record { out = out; errors = errors; status = status })
       × TriesEach e p errors × (status ≡ 5 → ⊥)
 
   -- the dump has an outcome
-  kept-so : (e p : Writing) (ended status : ℕ)
+  may-end-with-status : (e p : Writing) (ended status : ℕ)
       → IsEndOf name answer (record { out = out; errors = []; status = ended }) → (ended ≡ 5 → ⊥)
-      → EndsWith ended e p status → EndsSo e p status
-  kept-so e p ended status told other (inl (nothing, is)) = (
+      → EndsWithStatus ended e p status → MayEndWith e p status
+  may-end-with-status e p ended status told other (inl (nothing, is)) = (
     [],
     subst (λ (n : ℕ). IsEndOf name answer (record { out = out; errors = []; status = n })) (sym is) told,
     nothing,
     λ five. other (sym is ∙ five),
   )
-  kept-so e p ended status told other (inr (tries, four)) = (
+  may-end-with-status e p ended status told other (inr (tries, four)) = (
     memory_line ∷ [],
-    lacks [] memory_line status (All-nil (IsErrorLine name)) (inl refl) four (memory_line ∷ []) refl,
+    ends-without-memory [] memory_line status (All-nil (IsErrorLine name)) (inl refl) four (memory_line ∷ []) refl,
     (p, tries, refl),
     λ five. not-five 4 refl (sym four ∙ five),
   )
 
   -- the dump has no outcome
-  refused-so : (why : Refusal) (e p : Writing) (status : ℕ) → IsEndOf name answer (end_by name out (Err why))
-      → RefusesAs name why e p status → EndsSo e p status
-  refused-so why e p status told (w, ended, inl (tries, from), inl (nothing, is)) = (
+  may-end-with-reason : (why : Refusal) (e p : Writing) (status : ℕ) → IsEndOf name answer (end_by name out (Err why))
+      → EndsWithReason name why e p status → MayEndWith e p status
+  may-end-with-reason why e p status told (w, ended, inl (tries, from), inl (nothing, is)) = (
     refusal_line_of name why ∷ [],
     subst (λ (n : ℕ). IsEndOf name answer
         (record { out = out; errors = refusal_line_of name why ∷ []; status = n })) (sym (is ∙ from)) told,
     (w, tries, nothing),
     λ five. refusal-other why (sym (is ∙ from) ∙ five),
   )
-  refused-so why e p status told (w, ended, inl (tries, from), inr (others, four)) = (
+  may-end-with-reason why e p status told (w, ended, inl (tries, from), inr (others, four)) = (
     refusal_line_of name why ∷ memory_line ∷ [],
-    lacks (refusal_line_of name why ∷ []) memory_line status
+    ends-without-memory (refusal_line_of name why ∷ []) memory_line status
         (one-line (refusal_line_of name why) (inr (why, refl))) (inl refl) four
         (refusal_line_of name why ∷ memory_line ∷ []) refl,
     (w, tries, (p, others, refl)),
     λ five. not-five 4 refl (sym four ∙ five),
   )
-  refused-so why e p status told (w, ended, inr (tries, from), inl (nothing, is)) = (
+  may-end-with-reason why e p status told (w, ended, inr (tries, from), inl (nothing, is)) = (
     memory_line ∷ [],
-    lacks [] memory_line status (All-nil (IsErrorLine name)) (inl refl) (is ∙ from) (memory_line ∷ []) refl,
+    ends-without-memory [] memory_line status (All-nil (IsErrorLine name)) (inl refl) (is ∙ from)
+        (memory_line ∷ []) refl,
     (w, tries, nothing),
     λ five. not-five 4 refl (sym (is ∙ from) ∙ five),
   )
-  refused-so why e p status told (w, ended, inr (tries, from), inr (others, four)) = (
+  may-end-with-reason why e p status told (w, ended, inr (tries, from), inr (others, four)) = (
     memory_line ∷ memory_line ∷ [],
-    lacks (memory_line ∷ []) memory_line status (one-line memory_line (inl refl)) (inl refl) four
+    ends-without-memory (memory_line ∷ []) memory_line status (one-line memory_line (inl refl)) (inl refl) four
         (memory_line ∷ memory_line ∷ []) refl,
     (w, tries, (p, others, refl)),
     λ five. not-five 4 refl (sym four ∙ five),
@@ -142,11 +143,11 @@ module _ (name : List ℕ) (answer : DumpAnswer) (out : List ℕ) (is_front : Is
 -- ---- a dump
 
 module _ (options : AuditOptions) (bound : BoundLines) (named : NamedReading) (u v e p : Writing) (status : ℕ) where
-  ends-so : (bytes : List ℕ) → AreAllBytesOf named.dump bytes → (out : List ℕ) → Writes u v out
+  audits-named-by : (bytes : List ℕ) → AreAllBytesOf named.dump bytes → (out : List ℕ) → Writes u v out
       → (is_front : IsTextPrefix out (answer_to options bound named.name bytes).out)
-      → EndsSo named.name (answer_to options bound named.name bytes) out is_front e p status
+      → MayEndWith named.name (answer_to options bound named.name bytes) out is_front e p status
       → AuditsNamed options bound named (u, v) (e, p) status
-  ends-so bytes all out writes is_front (errors, is, tries, other) = inl (record {
+  audits-named-by bytes all out writes is_front (errors, is, tries, other) = inl (record {
     end = record { out = out; errors = errors; status = status };
     may = (bytes, all, is);
     out_is = writes;
@@ -156,31 +157,31 @@ module _ (options : AuditOptions) (bound : BoundLines) (named : NamedReading) (u
   })
 
   pub audits-named : (ended : Result ℕ NoOutcome)
-      → AuditsDump options (head_of named.name) bound named.dump u v ended → TellsEnd named.name ended e p status
+      → AuditsDump options (head_of named.name) bound named.dump u v ended → WritesEnd named.name ended e p status
       → AuditsNamed options bound named (u, v) (e, p) status
   audits-named (Ok n) (bytes, all, (writes, is)) tells =
       let answer = answer_to options bound named.name bytes in
-      ends-so bytes all answer.out writes (whole-is-front answer.out)
-      (kept-so named.name answer answer.out (whole-is-front answer.out) e p n status
+      audits-named-by bytes all answer.out writes (whole-is-front answer.out)
+      (may-end-with-status named.name answer answer.out (whole-is-front answer.out) e p n status
       (inl (ap (end_by named.name answer.out) (sym is)))
       (ended-other options (head_of named.name) (reading_of_text bound bytes) n is) tells)
   audits-named (Err (Refused why)) (bytes, all, (writes, is)) tells =
       let answer = answer_to options bound named.name bytes in
-      ends-so bytes all answer.out writes (whole-is-front answer.out)
-      (refused-so named.name answer answer.out (whole-is-front answer.out) why e p status
+      audits-named-by bytes all answer.out writes (whole-is-front answer.out)
+      (may-end-with-reason named.name answer answer.out (whole-is-front answer.out) why e p status
       (inl (ap (end_by named.name answer.out) (sym is))) tells)
   audits-named (Err CannotRead) (bytes, all, ((n, appends), same)) tells =
       let answer = answer_to options bound named.name bytes in
       let front = take n answer.out in
-      ends-so bytes all front (appends, same) (n, refl)
-      (refused-so named.name answer front (n, refl) (refusal.CannotRead Dump) e p status
+      audits-named-by bytes all front (appends, same) (n, refl)
+      (may-end-with-reason named.name answer front (n, refl) (refusal.CannotRead Dump) e p status
       (inr (inl (front, (n, refl), refl))) tells)
   audits-named (Err (NotWritten Memory)) (bytes, all, ((n, appends), same)) tells =
       let answer = answer_to options bound named.name bytes in
       let front = take n answer.out in
-      ends-so bytes all front (appends, same) (n, refl)
-      (refused-so named.name answer front (n, refl) refusal.Memory e p status
-      (lacks named.name answer front (n, refl) [] (refusal_line_of named.name refusal.Memory) 4
+      audits-named-by bytes all front (appends, same) (n, refl)
+      (may-end-with-reason named.name answer front (n, refl) refusal.Memory e p status
+      (ends-without-memory named.name answer front (n, refl) [] (refusal_line_of named.name refusal.Memory) 4
       (All-nil (IsErrorLine named.name)) (inr refl) refl (refusal_line_of named.name refusal.Memory ∷ []) refl) tells)
   audits-named (Err (NotWritten CannotWrite)) (bytes, all, fails) (tries, is) =
       inr (record { bytes = bytes; all = all; out_is = fails; err_is = tries; status_is = is })

@@ -9,18 +9,18 @@ use Rattle.vme_trace.specs.WellFormed.{malformed_step}
 use Rattle.vme_trace.specs.declared.step.Step.{Step}
 use Rattle.vme_bind.specs.TextReading.{TextReading}
 use Rattle.vme_skew.specs.Settling.{Settling}
-use Rattle.vme_audit_command.specs.Bodies.{EndsBehind, HasGiven, TakesPiece}
+use Rattle.vme_audit_command.specs.Bodies.{HasGiven, TakesPiece, WritesRest}
 use Rattle.vme_audit_command.specs.Definitions.{GivenIsPrefix}
-use Rattle.vme_audit_command.specs.DumpAudits.{AuditGoesTo, given_all, lines_of}
+use Rattle.vme_audit_command.specs.DumpAudits.{AuditGoesTo, given_recording, lines_of}
 use Rattle.vme_dump_input.specs.SettledReadings.{settled_by, settled_so_far}
 use Rattle.vme_dump_input.specs.SettledSteps.{ComesOut, GoOnTo}
 use Rattle.vme_step_auditor.specs.ReadBy.{GivenSteps, has_stopped}
 use Rattle.vme_step_reader.specs.StepReading.{StepReading, whole_reading}
-use Rattle.vme_audit_command.specs.declared.told.NoOutcome.TheVariants.{NotWritten}
-use Rattle.vme_audit_command.specs.declared.told.TellFault.{TellFault}
+use Rattle.vme_audit_command.specs.declared.written_lines.NoOutcome.TheVariants.{NotWritten}
+use Rattle.vme_audit_command.specs.declared.written_lines.WriteFault.{WriteFault}
 use Rattle.vme_audit_command.proofs.BodyLemmas.{ReadGoesOn}
 use Rattle.vme_dump_input.proofs.ReadSteps.{StepsFollow, StepsWithin, TimeGoesOn, so-far-formed}
-use Rattle.vme_audit_command.proofs.Onward.{GoesOnWith, piece-to, reading-on}
+use Rattle.vme_audit_command.proofs.Onward.{ExtendsTo, piece-to, reading-on}
 use Rattle.vme_audit_command.proofs.PieceLemmas.{StopIsRead, StopStays, cut-ends, final-ends}
 
 -- a piece is taken, and its steps are given
@@ -53,25 +53,25 @@ module _ (front : GivenIsPrefix) (follows : StepsFollow) (within : StepsWithin) 
   next-few = subst (λ (t : Trace). t.opening.slots ≤ 21) (sym given) h.few
 
   -- what the whole text settles to continues what is settled after the piece
-  piece-onward : (rest : List ℕ) → GoesOnWith so_far (settled_by skew (whole_reading r (bytes ++ rest))).recorded
+  piece-onward : (rest : List ℕ) → ExtendsTo so_far (settled_by skew (whole_reading r (bytes ++ rest))).recorded
   piece-onward rest =
-      subst (λ (x : TextReading). GoesOnWith so_far (settled_by skew x).recorded) (sym (piece-whole rest))
-      (subst (λ (t : Trace). GoesOnWith (settled_so_far skew time t)
+      subst (λ (x : TextReading). ExtendsTo so_far (settled_by skew x).recorded) (sym (piece-whole rest))
+      (subst (λ (t : Trace). ExtendsTo (settled_so_far skew time t)
       (settled_by skew (whole_reading next (drop n bytes ++ rest))).recorded) given
       (reading-on front follows on skew next (drop n bytes ++ rest) time (omega (arith, now)) next-few
       (ap (λ (t : Trace). length t.opening.levels) given ∙ h.whole) next-formed))
 
   -- not all lines of the piece were written
-  pub piece-cut : ReadGoesOn → (head : List ℕ) (u v : Writing) (fault : TellFault) (t : Trace) (rest : List ℕ)
+  pub piece-cut : ReadGoesOn → (head : List ℕ) (u v : Writing) (fault : WriteFault) (t : Trace) (rest : List ℕ)
       → AuditGoesTo {A = Unit {0}} head audit so_far u v (Err fault)
-      → EndsBehind {A = Unit {0}} head audit (lines_of head audit) (settled_by skew (whole_reading r (bytes ++ rest)))
+      → WritesRest {A = Unit {0}} head audit (lines_of head audit) (settled_by skew (whole_reading r (bytes ++ rest)))
       t u v (Err (NotWritten fault))
   piece-cut law head u v fault t rest goes =
       cut-ends (Unit {0}) (Unit {0}) law head audit (settled_by skew (whole_reading r (bytes ++ rest))) so_far u v fault
       t (piece-onward rest) goes
 
   module _ (formed : malformed_step next.given ≡ None) (head : List ℕ) (later : GivenSteps)
-      (settled : Option Settling) (u v : Writing) (same : later ≡ given_all audit so_far)
+      (settled : Option Settling) (u v : Writing) (same : later ≡ given_recording audit so_far)
       (goes : AuditGoesTo {A = Unit {0}} head audit so_far u v (Ok tt)) where
     later-is : later.recording ≡ so_far
     later-is = ap (λ (a : GivenSteps). a.recording) same
@@ -95,16 +95,16 @@ module _ (front : GivenIsPrefix) (follows : StepsFollow) (within : StepsWithin) 
             whole = ap (λ (t : Trace). length t.opening.levels) given ∙ h.whole;
             formed = next-formed;
           },
-          same ∙ ap (given_all audit) (sym later-is),
+          same ∙ ap (given_recording audit) (sym later-is),
           (text, ap (lines_of head) same ∙ grown, writes),
         )
 
     -- the audit stops
     piece-final : StopStays → StopIsRead → has_stopped later ≡ true → (rest : List ℕ)
-        → EndsBehind {A = Unit {0}} head audit (lines_of head audit)
+        → WritesRest {A = Unit {0}} head audit (lines_of head audit)
         (settled_by skew (whole_reading r (bytes ++ rest))) later.recording u v (Ok tt)
     piece-final stays read stopped rest =
-        subst (λ (t : Trace). EndsBehind {A = Unit {0}} head audit (lines_of head audit)
+        subst (λ (t : Trace). WritesRest {A = Unit {0}} head audit (lines_of head audit)
         (settled_by skew (whole_reading r (bytes ++ rest))) t u v (Ok tt)) (sym later-is)
         (final-ends stays read head audit (settled_by skew (whole_reading r (bytes ++ rest))) so_far u v
         (piece-onward rest) (ap has_stopped (sym same) ∙ stopped) goes)

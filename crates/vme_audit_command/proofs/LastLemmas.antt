@@ -10,10 +10,10 @@ use Rattle.vme_auditor.specs.declared.findings.AuditFindings.{AuditFindings}
 use Rattle.vme_auditor.specs.declared.findings.BreakCounts.{BreakCounts}
 use Rattle.vme_audit_lines.specs.AuditLines.{count_lines, outcome_status, unasked}
 use Rattle.vme_stream.specs.Outputs.{Writes}
-use Rattle.vme_audit_command.specs.DumpAudits.{TellsText, WritesPrefix}
-use Rattle.vme_audit_command.specs.LastLines.{TellsOutcome, count_lines_of}
-use Rattle.vme_audit_command.specs.declared.told.TellFault.{TellFault}
-use Rattle.vme_audit_command.specs.declared.told.TellFault.TheVariants.{Memory, CannotWrite}
+use Rattle.vme_audit_command.specs.DumpAudits.{WritesPrefix, WritesText}
+use Rattle.vme_audit_command.specs.LastLines.{WritesOutcome, count_lines_of}
+use Rattle.vme_audit_command.specs.declared.written_lines.WriteFault.{WriteFault}
+use Rattle.vme_audit_command.specs.declared.written_lines.WriteFault.TheVariants.{Memory, CannotWrite}
 use Rattle.vme_audit_command.proofs.WriteLemmas.{fails-after, fails-longer, prefix-after, prefix-longer}
 use Rattle.vme_audit_command.proofs.WriteLemmas.{writes-as-prefix, writes-both, writes-nothing}
 
@@ -29,31 +29,31 @@ pub prefix-of : (w : Writing) (text : List ℕ) → WritesPrefix w w text
 prefix-of w text = prefix-longer w w [] text (writes-as-prefix w w [] (writes-nothing w))
 
 -- the outcome was written; after that the only error is want of memory
-pub outcome-told : (o : Outcome) (u v : Writing) (text : List ℕ) (result : Result ℕ TellFault)
+pub outcome-written : (o : Outcome) (u v : Writing) (text : List ℕ) (result : Result ℕ WriteFault)
     → Writes u v text → IfOk result (λ status. status ≡ outcome_status o) → IfErr result (λ fault. fault ≡ Memory)
-    → TellsOutcome text o u v result
-outcome-told o u v text (Ok status) writes ok err = (writes, ok)
-outcome-told o u v text (Err CannotWrite) writes ok err = absurd (differ err)
+    → WritesOutcome text o u v result
+outcome-written o u v text (Ok status) writes ok err = (writes, ok)
+outcome-written o u v text (Err CannotWrite) writes ok err = absurd (differ err)
   where
     differ : CannotWrite ≡ Memory → ⊥
     differ same = cc
-outcome-told o u v text (Err Memory) writes ok err = writes-as-prefix u v text writes
+outcome-written o u v text (Err Memory) writes ok err = writes-as-prefix u v text writes
 
 -- the outcome wasn't written
-pub outcome-unwritten : (A : Type 0) (o : Outcome) (u v : Writing) (text : List ℕ) (fault : TellFault)
-    → TellsText {A = A} u v (Err fault) text → TellsOutcome text o u v (Err fault)
+pub outcome-unwritten : (A : Type 0) (o : Outcome) (u v : Writing) (text : List ℕ) (fault : WriteFault)
+    → WritesText {A = A} u v (Err fault) text → WritesOutcome text o u v (Err fault)
 outcome-unwritten A o u v text CannotWrite tells = tells
 outcome-unwritten A o u v text Memory tells = tells
 
 -- an outcome after another text
-pub outcome-after : (o : Outcome) (u v w : Writing) (text more : List ℕ) (result : Result ℕ TellFault)
-    → Writes u v text → TellsOutcome more o v w result → TellsOutcome (text ++ more) o u w result
+pub outcome-after : (o : Outcome) (u v w : Writing) (text more : List ℕ) (result : Result ℕ WriteFault)
+    → Writes u v text → WritesOutcome more o v w result → WritesOutcome (text ++ more) o u w result
 outcome-after o u v w text more (Ok status) one two = (writes-both u v w text more one two.0, two.1)
 outcome-after o u v w text more (Err CannotWrite) one two = fails-after u v w text more one two
 outcome-after o u v w text more (Err Memory) one two = prefix-after u v w text more one two
 
 -- an outcome after another text that wasn't written
-pub outcome-unreached : (A : Type 0) (o : Outcome) (u v : Writing) (text more : List ℕ) (fault : TellFault)
-    → TellsText {A = A} u v (Err fault) text → TellsOutcome (text ++ more) o u v (Err fault)
+pub outcome-unreached : (A : Type 0) (o : Outcome) (u v : Writing) (text more : List ℕ) (fault : WriteFault)
+    → WritesText {A = A} u v (Err fault) text → WritesOutcome (text ++ more) o u v (Err fault)
 outcome-unreached A o u v text more CannotWrite tells = fails-longer u v text more tells
 outcome-unreached A o u v text more Memory tells = prefix-longer u v text more tells

@@ -26,15 +26,15 @@ use Rattle.vme_dump_input.specs.SettledSteps.{ComesOut, GoOnFrom, GoOnTo}
 use Rattle.vme_step_auditor.specs.ReadBy.{GivenSteps}
 
 -- `u` is `t` with further steps
-pub record GoesOnWith (t u : Trace) : Type 0 where
+pub record ExtendsTo (t u : Trace) : Type 0 where
   pub more : List Step
   pub is : u ≡ with_steps t more
   pub formed : malformed_step u ≡ None
   pub few : t.opening.slots ≤ 21
 
 -- a recording is itself with no further steps
-pub goes-nowhere : (t : Trace) → malformed_step t ≡ None → t.opening.slots ≤ 21 → GoesOnWith t t
-goes-nowhere t formed few = record {
+pub extends-to-itself : (t : Trace) → malformed_step t ≡ None → t.opening.slots ≤ 21 → ExtendsTo t t
+extends-to-itself t formed few = record {
   more = [];
   is = ap (λ (l : List Step). record t { steps = l }) (sym (append-nil t.steps));
   formed = formed;
@@ -64,7 +64,7 @@ module _ (skew : Option ℕ) (known : ℕ) (given : Trace) (steps : List Step)
   few-so-far = subst (λ (v : Levels). v.slots ≤ 21) (sym (so-far-opens skew known given)) few
 
   pub so-far-on : (time : ℕ) → known ≤ time
-      → GoesOnWith (settled_so_far skew known given) (settled_so_far skew time (with_steps given steps))
+      → ExtendsTo (settled_so_far skew known given) (settled_so_far skew time (with_steps given steps))
   so-far-on time on =
       let (more, is) = so-far-grows skew known time given steps late on in
       record {
@@ -74,7 +74,7 @@ module _ (skew : Option ℕ) (known : ℕ) (given : Trace) (steps : List Step)
         few = few-so-far;
       }
 
-  pub whole-on : GoesOnWith (settled_so_far skew known given) (settled_whole skew (with_steps given steps))
+  pub whole-on : ExtendsTo (settled_so_far skew known given) (settled_whole skew (with_steps given steps))
   whole-on =
       let (more, is) = whole-grows skew known given steps late in
       record {
@@ -85,7 +85,7 @@ module _ (skew : Option ℕ) (known : ℕ) (given : Trace) (steps : List Step)
       }
 
   before-on : (fault : Option VcdFault) (time : ℕ) → known ≤ time
-      → GoesOnWith (settled_so_far skew known given) (settled_before skew fault time (with_steps given steps))
+      → ExtendsTo (settled_so_far skew known given) (settled_before skew fault time (with_steps given steps))
   before-on None time on = whole-on
   before-on (Some fault) time on = so-far-on time on
 
@@ -112,18 +112,18 @@ module _ (skew : Option ℕ) (settler : Option Settling) (given : Trace) (from :
     (comes : ComesOut skew settler given from t) (steps : List Step) where
   -- what is settled when `time` is reached continues what came out before
   pub to-next : (time : ℕ) → GoOnTo given from steps time
-      → GoesOnWith t (settled_so_far skew time (with_steps given steps))
+      → ExtendsTo t (settled_so_far skew time (with_steps given steps))
   to-next time to =
       let k = comes-known skew settler given from t comes in
-      subst (λ (x : Trace). GoesOnWith x (settled_so_far skew time (with_steps given steps))) (sym k.is)
+      subst (λ (x : Trace). ExtendsTo x (settled_so_far skew time (with_steps given steps))) (sym k.is)
       (so-far-on skew k.at given steps (later-than k.at from steps k.known to.go.follows) to.go.formed to.go.whole
       to.go.few time (omega (arith, k.known, to.on)))
 
   -- what is settled at the end of the recording continues what came out before
-  pub to-end : GoOnFrom given from steps → GoesOnWith t (settled_whole skew (with_steps given steps))
+  pub to-end : GoOnFrom given from steps → ExtendsTo t (settled_whole skew (with_steps given steps))
   to-end go =
       let k = comes-known skew settler given from t comes in
-      subst (λ (x : Trace). GoesOnWith x (settled_whole skew (with_steps given steps))) (sym k.is)
+      subst (λ (x : Trace). ExtendsTo x (settled_whole skew (with_steps given steps))) (sym k.is)
       (whole-on skew k.at given steps (later-than k.at from steps k.known go.follows) go.formed go.whole go.few)
 
 -- ---- the result of reading
@@ -133,21 +133,21 @@ module _ (front : GivenIsPrefix) (follows : StepsFollow) (on : TimeGoesOn) (skew
   -- what the whole text settles to continues what is settled at time `known`
   pub reading-on : (known : ℕ) → known ≤ (whole_reading r []).time → r.given.opening.slots ≤ 21
       → length r.given.opening.levels ≡ line_count → IsFormed r
-      → GoesOnWith (settled_so_far skew known r.given) (settled_by skew (whole_reading r rest)).recorded
+      → ExtendsTo (settled_so_far skew known r.given) (settled_by skew (whole_reading r rest)).recorded
   reading-on known le few whole formed =
       let reading = whole_reading r rest in
       let (steps, is) = front r rest in
-      subst (λ (x : Trace). GoesOnWith (settled_so_far skew known r.given)
+      subst (λ (x : Trace). ExtendsTo (settled_so_far skew known r.given)
       (settled_before skew reading.fault reading.time x)) (sym is)
       (before-on skew known r.given steps
       (later-than known (whole_reading r []).time steps le (follows r rest steps is))
       (sym (ap malformed_step is) ∙ formed rest) whole few reading.fault reading.time (omega (arith, le, on r rest)))
 
   pub given-on : (settler : Option Settling) (audit : GivenSteps) → HasGiven skew settler audit r
-      → GoesOnWith audit.recording (settled_by skew (whole_reading r rest)).recorded
+      → ExtendsTo audit.recording (settled_by skew (whole_reading r rest)).recorded
   given-on settler audit h =
       let k = comes-known skew settler r.given (whole_reading r []).time audit.recording h.comes in
-      subst (λ (x : Trace). GoesOnWith x (settled_by skew (whole_reading r rest)).recorded) (sym k.is)
+      subst (λ (x : Trace). ExtendsTo x (settled_by skew (whole_reading r rest)).recorded) (sym k.is)
       (reading-on k.at k.known h.few h.whole h.formed)
 
 -- ---- steps that are read
@@ -185,12 +185,12 @@ module _ (follows : StepsFollow) (within : StepsWithin) (on : TimeGoesOn) (skew 
         ∙ ap (λ (n : ℕ). settled_so_far skew n reading.recorded) time
         ∙ ap (settled_so_far skew stopped.time) is
 
-    pub stopped-on : GoesOnWith (settled_so_far skew stopped.time (with_steps r.given stopped.steps.items))
+    pub stopped-on : ExtendsTo (settled_so_far skew stopped.time (with_steps r.given stopped.steps.items))
         (settled_by skew (whole_reading r rest)).recorded
     stopped-on =
         let t = settled_so_far skew stopped.time (with_steps r.given stopped.steps.items) in
-        subst (λ (x : Trace). GoesOnWith t x) (sym stopped-is)
-        (goes-nowhere t (so-far-formed skew stopped.time (with_steps r.given stopped.steps.items) h.whole
+        subst (λ (x : Trace). ExtendsTo t x) (sym stopped-is)
+        (extends-to-itself t (so-far-formed skew stopped.time (with_steps r.given stopped.steps.items) h.whole
         stopped-to.go.formed)
         (subst (λ (v : Levels). v.slots ≤ 21) (sym (so-far-opens skew stopped.time
         (with_steps r.given stopped.steps.items)))
@@ -216,11 +216,11 @@ module _ (follows : StepsFollow) (within : StepsWithin) (on : TimeGoesOn) (skew 
         ∙ ap (settled_whole skew) is
 
     pub last-on : (whole_reading r bytes).fault ≡ None
-        → GoesOnWith (settled_whole skew (with_steps r.given steps)) (settled_by skew (whole_reading r bytes)).recorded
+        → ExtendsTo (settled_whole skew (with_steps r.given steps)) (settled_by skew (whole_reading r bytes)).recorded
     last-on whole =
         let t = settled_whole skew (with_steps r.given steps) in
-        subst (λ (x : Trace). GoesOnWith t x) (sym (last-is whole))
-        (goes-nowhere t (whole-formed skew (with_steps r.given steps) h.whole last-from.formed)
+        subst (λ (x : Trace). ExtendsTo t x) (sym (last-is whole))
+        (extends-to-itself t (whole-formed skew (with_steps r.given steps) h.whole last-from.formed)
         (subst (λ (v : Levels). v.slots ≤ 21) (sym (whole-opens skew (with_steps r.given steps))) h.few))
 
   -- after one more piece

@@ -18,16 +18,16 @@ use Rattle.vme_stream.specs.declared.refusal.Refusal.{Refusal}
 use Rattle.vme_stream.specs.declared.refusal.Refusal.TheVariants.{BadDump}
 use Rattle.vme_audit.specs.Parts.{breaks}
 use Rattle.vme_audit.specs.declared.allowance.Allowance.{Allowance}
-use Rattle.vme_audit_command.specs.Bodies.{EndsBehind, WritesUntil, ended_at}
-use Rattle.vme_audit_command.specs.DumpAudits.{AuditGoesOn, AuditGoesTo, GoesOn, break_lines, given_all}
+use Rattle.vme_audit_command.specs.Bodies.{WritesRest, WritesUntil, ended_at}
+use Rattle.vme_audit_command.specs.DumpAudits.{AuditGoesOn, AuditGoesTo, GoesOn, break_lines, given_recording}
 use Rattle.vme_audit_command.specs.DumpAudits.{line_of_break, lines_of}
 use Rattle.vme_step_auditor.specs.ReadBy.{GivenSteps, is_stopped, read_by}
-use Rattle.vme_audit_command.specs.declared.told.NoOutcome.{NoOutcome}
-use Rattle.vme_audit_command.specs.declared.told.NoOutcome.TheVariants.{CannotRead, NotWritten, Refused}
-use Rattle.vme_audit_command.specs.declared.told.TellFault.{TellFault}
-use Rattle.vme_audit_command.specs.declared.told.TellFault.TheVariants.{CannotWrite, Memory}
+use Rattle.vme_audit_command.specs.declared.written_lines.NoOutcome.{NoOutcome}
+use Rattle.vme_audit_command.specs.declared.written_lines.NoOutcome.TheVariants.{CannotRead, NotWritten, Refused}
+use Rattle.vme_audit_command.specs.declared.written_lines.WriteFault.{WriteFault}
+use Rattle.vme_audit_command.specs.declared.written_lines.WriteFault.TheVariants.{CannotWrite, Memory}
 use Rattle.vme_audit_command.proofs.BodyLemmas.{ReadGoesOn, lines-go-on, no-memory}
-use Rattle.vme_audit_command.proofs.Onward.{GoesOnWith}
+use Rattle.vme_audit_command.proofs.Onward.{ExtendsTo}
 use Rattle.vme_audit_command.proofs.WriteLemmas.{fails-after, fails-longer, prefix-after, prefix-longer}
 use Rattle.vme_audit_command.proofs.WriteLemmas.{writes-as-prefix, writes-both, writes-nothing}
 
@@ -45,7 +45,7 @@ until-after ended a u v w x y (Err (NotWritten Memory)) one two = prefix-after u
 
 pub ends-after : {A : Type 0} (head : List ℕ) (audit : GivenSteps) (told more : List ℕ) (reading : TextReading)
     (t : Trace) (u v w : Writing) (result : Result A NoOutcome) → Writes u v more
-    → EndsBehind head audit (told ++ more) reading t v w result → EndsBehind head audit told reading t u w result
+    → WritesRest head audit (told ++ more) reading t v w result → WritesRest head audit told reading t u w result
 ends-after head audit told more reading t u v w result one two =
     let (text, same, until) = two in
     (more ++ text, same ∙ append_assoc told more text, until-after _ _ u v w more text result one until)
@@ -54,7 +54,7 @@ ends-after head audit told more reading t u v w result one two =
 
 -- not all lines of the steps were written: a prefix of all lines is
 pub unwritten-ends : (A B : Type 0) (ended : Result Trace Refusal) (a : Trace) (before after all later : List ℕ)
-    (u v : Writing) (fault : TellFault) → GoesOn {A = A} before after u v (Err fault) → all ≡ after ++ later
+    (u v : Writing) (fault : WriteFault) → GoesOn {A = A} before after u v (Err fault) → all ≡ after ++ later
     → (text : List ℕ) × (all ≡ before ++ text) × WritesUntil {A = B} ended a u v text (Err (NotWritten fault))
 unwritten-ends A B ended a before after all later u v CannotWrite goes more =
     let (text, same, fails) = goes in (
@@ -71,8 +71,8 @@ unwritten-ends A B ended a before after all later u v Memory goes more =
 
 -- memory runs out before the end of a body
 pub memory-ends : (A : Type 0) → ReadGoesOn → (head : List ℕ) (audit : GivenSteps) (reading : TextReading) (t : Trace)
-    (w : Writing) → GoesOnWith audit.recording reading.recorded
-    → EndsBehind {A = A} head audit (lines_of head audit) reading t w w (Err (NotWritten Memory))
+    (w : Writing) → ExtendsTo audit.recording reading.recorded
+    → WritesRest {A = A} head audit (lines_of head audit) reading t w w (Err (NotWritten Memory))
 memory-ends A law head audit reading t w on =
     let here : malformed_step (with_steps audit.recording on.more) ≡ None = sym (ap malformed_step on.is) ∙ on.formed in
     let (text, same) = lines-go-on law head audit.allowances audit.stop audit.recording on.more here on.few in (
@@ -85,34 +85,34 @@ memory-ends A law head audit reading t w on =
 
 -- the lines of the steps were written
 pub goes-to : {A : Type 0} (head : List ℕ) (audit : GivenSteps) (t : Trace) (steps : List Step) (u v : Writing)
-    (result : Result A TellFault) → with_steps audit.recording steps ≡ t
+    (result : Result A WriteFault) → with_steps audit.recording steps ≡ t
     → AuditGoesOn head audit steps u v result → AuditGoesTo head audit t u v result
 goes-to head audit t steps u v result is goes = subst (λ (x : Trace). AuditGoesTo head audit x u v result) is goes
 
 -- memory runs out before the steps
 pub memory-goes : (A : Type 0) → ReadGoesOn → (head : List ℕ) (audit : GivenSteps) (t : Trace) (w : Writing)
-    → GoesOnWith audit.recording t → AuditGoesTo {A = A} head audit t w w (Err Memory)
+    → ExtendsTo audit.recording t → AuditGoesTo {A = A} head audit t w w (Err Memory)
 memory-goes A law head audit t w on =
     goes-to {A = A} head audit t on.more w w (Err Memory) (sym on.is)
     (no-memory A law head audit on.more w (sym (ap malformed_step on.is) ∙ on.formed) on.few)
 
 -- not all lines of the steps were written
 pub cut-ends : (A B : Type 0) → ReadGoesOn → (head : List ℕ) (audit : GivenSteps) (reading : TextReading) (t : Trace)
-    (u v : Writing) (fault : TellFault) (x : Trace) → GoesOnWith t reading.recorded
+    (u v : Writing) (fault : WriteFault) (x : Trace) → ExtendsTo t reading.recorded
     → AuditGoesTo {A = A} head audit t u v (Err fault)
-    → EndsBehind {A = B} head audit (lines_of head audit) reading x u v (Err (NotWritten fault))
+    → WritesRest {A = B} head audit (lines_of head audit) reading x u v (Err (NotWritten fault))
 cut-ends A B law head audit reading t u v fault x on goes =
     let here : malformed_step (with_steps t on.more) ≡ None = sym (ap malformed_step on.is) ∙ on.formed in
     let (later, grown) = lines-go-on law head audit.allowances audit.stop t on.more here on.few in
     let all = ap (break_lines audit.allowances audit.stop head) on.is ∙ grown in
     unwritten-ends A B (ended_at audit.allowances audit.stop reading.recorded reading.fault)
-    (read_by audit.allowances audit.stop x) (lines_of head audit) (lines_of head (given_all audit t))
+    (read_by audit.allowances audit.stop x) (lines_of head audit) (lines_of head (given_recording audit t))
     (break_lines audit.allowances audit.stop head reading.recorded) later u v fault goes all
 
 -- all lines of a dump were written
 pub whole-ends : (head : List ℕ) (audit : GivenSteps) (reading : TextReading) (t : Trace) (u v : Writing)
     → reading.recorded ≡ t → reading.fault ≡ None → AuditGoesTo {A = Unit {0}} head audit t u v (Ok tt)
-    → EndsBehind {A = Unit {0}} head audit (lines_of head audit) reading t u v (Ok tt)
+    → WritesRest {A = Unit {0}} head audit (lines_of head audit) reading t u v (Ok tt)
 whole-ends head audit reading t u v is whole goes =
     let (text, grown, writes) = goes in (
       text,
@@ -158,7 +158,7 @@ pub fault-ends : (head : List ℕ) (audit : GivenSteps) (reading : TextReading) 
     → OnOk result (is_stopped audit.allowances audit.stop t ≡ true)
     → IfErr result (λ why. (why ≡ Refused (BadDump fault)) × (is_stopped audit.allowances audit.stop t ≡ false))
     → AuditGoesTo {A = Unit {0}} head audit t u v (Ok tt)
-    → EndsBehind {A = Unit {0}} head audit (lines_of head audit) reading t u v result
+    → WritesRest {A = Unit {0}} head audit (lines_of head audit) reading t u v result
 fault-ends head audit reading u v fault t (Ok x) is faulty other stopped refused goes =
     let (text, grown, writes) = goes in (
       text,
@@ -172,7 +172,7 @@ fault-ends head audit reading u v fault t (Err why) is faulty other stopped refu
     let (text, grown, writes) = goes in
     let ended = ended-there audit reading t fault is faulty
     ∙ ended-refused audit.allowances audit.stop t fault refused.1 other in
-    subst (λ (e : NoOutcome). EndsBehind {A = Unit {0}} head audit (lines_of head audit) reading t u v (Err e))
+    subst (λ (e : NoOutcome). WritesRest {A = Unit {0}} head audit (lines_of head audit) reading t u v (Err e))
     (sym refused.0)
     (text, ap (break_lines audit.allowances audit.stop head) is ∙ grown, (writes, ended))
 
@@ -197,9 +197,9 @@ ended-at allowances stop t (Some fault) stopped = ended-stopped allowances stop 
 
 -- the audit stops before the end of a body
 pub final-ends : StopStays → StopIsRead → (head : List ℕ) (audit : GivenSteps) (reading : TextReading) (t : Trace)
-    (u v : Writing) → GoesOnWith t reading.recorded → is_stopped audit.allowances audit.stop t ≡ true
+    (u v : Writing) → ExtendsTo t reading.recorded → is_stopped audit.allowances audit.stop t ≡ true
     → AuditGoesTo {A = Unit {0}} head audit t u v (Ok tt)
-    → EndsBehind {A = Unit {0}} head audit (lines_of head audit) reading t u v (Ok tt)
+    → WritesRest {A = Unit {0}} head audit (lines_of head audit) reading t u v (Ok tt)
 unfolding break_lines
 final-ends stays read head audit reading t u v on stopped goes =
     let (text, same, writes) = goes in

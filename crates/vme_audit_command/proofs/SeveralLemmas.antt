@@ -11,9 +11,10 @@ use Rattle.vme_trace.specs.Streams.{Writing}
 use Rattle.vme_bind.specs.Binding.{BoundLines}
 use Rattle.vme_stream.specs.Outputs.{TriesToWrite, Writes}
 use Rattle.vme_audit_command.specs.DumpAnswers.{AuditOptions}
-use Rattle.vme_audit_command.specs.DumpEnds.{CannotTellDump, TellsDump}
-use Rattle.vme_audit_command.specs.SeveralDumps.{AuditsDumps, CannotTell, DumpEnd, MayEnd, NamedReading, TellsDumps}
-use Rattle.vme_audit_command.specs.SeveralDumps.{TriesEach, audit_status, cannot_write_line, first_occurred}
+use Rattle.vme_audit_command.specs.DumpEnds.{CannotWriteDump, WritesDump}
+use Rattle.vme_audit_command.specs.SeveralDumps.{AuditsDumps, CannotWriteDumps, DumpEnd, MayEnd, NamedReading}
+use Rattle.vme_audit_command.specs.SeveralDumps.{TriesEach, WritesDumps, audit_status, cannot_write_line}
+use Rattle.vme_audit_command.specs.SeveralDumps.{first_occurred}
 use Rattle.vme_audit_command.proofs.WriteLemmas.{fails-after, writes-both, writes-nothing}
 
 -- ---- the status
@@ -110,8 +111,8 @@ not-five n other is = differ (sym (eq-eqb n 5 is) ∙ other)
     differ same = cc
 
 module _ (options : AuditOptions) (bound : BoundLines) where
-  pub tells-none : (out err : Writing) → TellsDumps options bound [] (out, out) (err, err) 0
-  tells-none out err = record {
+  pub writes-no-dumps : (out err : Writing) → WritesDumps options bound [] (out, out) (err, err) 0
+  writes-no-dumps out err = record {
     ends = [];
     each = tt;
     out_is = writes-nothing out;
@@ -120,11 +121,11 @@ module _ (options : AuditOptions) (bound : BoundLines) where
   }
 
   module _ (dumps : List NamedReading) (named : NamedReading) (a b c e p h : Writing) (so_far ended : ℕ)
-      (before : TellsDumps options bound dumps (a, b) (e, p) so_far) where
+      (before : WritesDumps options bound dumps (a, b) (e, p) so_far) where
     -- one more dump
-    tells-then : TellsDump options bound named (b, c) (p, h) ended
-        → TellsDumps options bound (dumps ++ named ∷ []) (a, c) (e, h) (audit_status (so_far ∷ ended ∷ []))
-    tells-then one = record {
+    writes-dump-after : WritesDump options bound named (b, c) (p, h) ended
+        → WritesDumps options bound (dumps ++ named ∷ []) (a, c) (e, h) (audit_status (so_far ∷ ended ∷ []))
+    writes-dump-after one = record {
       ends = before.ends ++ one.end ∷ [];
       each = zip-then (MayEnd options bound) dumps before.ends named one.end before.each one.may;
       out_is = subst (Writes a c) (flat-then (λ (x : DumpEnd). x.out) before.ends one.end)
@@ -139,9 +140,9 @@ module _ (options : AuditOptions) (bound : BoundLines) where
     }
 
     -- a dump whose text can't be written
-    cannot-then : (others : List NamedReading) → CannotTellDump options bound named (b, c) (p, h) ended
-        → CannotTell options bound (dumps ++ named ∷ others) (a, c) (e, h) 5
-    cannot-then others one = record {
+    cannot-write-after : (others : List NamedReading) → CannotWriteDump options bound named (b, c) (p, h) ended
+        → CannotWriteDumps options bound (dumps ++ named ∷ others) (a, c) (e, h) 5
+    cannot-write-after others one = record {
       before = dumps;
       named = named;
       others = others;
@@ -170,42 +171,43 @@ module _ (options : AuditOptions) (bound : BoundLines) where
         ∙ sym (take_more dumps i x (subst (λ (n : ℕ). i < n) same within)))
 
     module _ (a b c e p h : Writing) (so_far ended : ℕ)
-        (before : TellsDumps options bound (map f (take i dumps)) (a, b) (e, p) so_far) where
+        (before : WritesDumps options bound (map f (take i dumps)) (a, b) (e, p) so_far) where
       -- the audit of the dump at index `i`
       abbrev Audits : A → Type 0
-      Audits d = TellsDump options bound (f d) (b, c) (p, h) ended
-          ⊎ CannotTellDump options bound (f d) (b, c) (p, h) ended
+      Audits d = WritesDump options bound (f d) (b, c) (p, h) ended
+          ⊎ CannotWriteDump options bound (f d) (b, c) (p, h) ended
 
-      tells-this : (ended ≡ 5 → ⊥) → Audits x
-          → TellsDumps options bound (map f (take (i + 1) dumps)) (a, c) (e, h) (audit_status (so_far ∷ ended ∷ []))
-      tells-this other (inl one) =
-          subst (λ (l : List NamedReading). TellsDumps options bound l (a, c) (e, h)
+      writes-this-dump : (ended ≡ 5 → ⊥) → Audits x
+          → WritesDumps options bound (map f (take (i + 1) dumps)) (a, c) (e, h) (audit_status (so_far ∷ ended ∷ []))
+      writes-this-dump other (inl one) =
+          subst (λ (l : List NamedReading). WritesDumps options bound l (a, c) (e, h)
           (audit_status (so_far ∷ ended ∷ []))) one-more
-          (tells-then (map f (take i dumps)) (f x) a b c e p h so_far ended before one)
-      tells-this other (inr one) = absurd (other one.status_is)
+          (writes-dump-after (map f (take i dumps)) (f x) a b c e p h so_far ended before one)
+      writes-this-dump other (inr one) = absurd (other one.status_is)
 
-      cannot-this : ended ≡ 5 → Audits x → AuditsDumps options bound (map f dumps) (a, c) (e, h) 5
-      cannot-this five (inl one) = absurd (one.other five)
-      cannot-this five (inr one) =
+      cannot-write-this : ended ≡ 5 → Audits x → AuditsDumps options bound (map f dumps) (a, c) (e, h) 5
+      cannot-write-this five (inl one) = absurd (one.other five)
+      cannot-write-this five (inr one) =
           let later = drop (i + 1) dumps in
           let split : map f dumps ≡ map f (take i dumps) ++ f x ∷ map f later =
           ap (map f) (sym (take-append-drop (i + 1) dumps)) ∙ map-append f (take (i + 1) dumps) later
           ∙ ap (λ (l : List NamedReading). l ++ map f later) (sym one-more)
           ∙ append_assoc (map f (take i dumps)) (f x ∷ []) (map f later) in
-          inr (subst (λ (l : List NamedReading). CannotTell options bound l (a, c) (e, h) 5) (sym split)
-          (cannot-then (map f (take i dumps)) (f x) a b c e p h so_far ended before (map f later) one))
+          inr (subst (λ (l : List NamedReading). CannotWriteDumps options bound l (a, c) (e, h) 5) (sym split)
+          (cannot-write-after (map f (take i dumps)) (f x) a b c e p h so_far ended before (map f later) one))
 
-      pub tells-on : (ended ≡ 5 → ⊥) → Audits (get_or now i x)
-          → TellsDumps options bound (map f (take (i + 1) dumps)) (a, c) (e, h) (audit_status (so_far ∷ ended ∷ []))
-      tells-on other audits = tells-this other (subst Audits (sym is) audits)
+      pub writes-next-dump : (ended ≡ 5 → ⊥) → Audits (get_or now i x)
+          → WritesDumps options bound (map f (take (i + 1) dumps)) (a, c) (e, h) (audit_status (so_far ∷ ended ∷ []))
+      writes-next-dump other audits = writes-this-dump other (subst Audits (sym is) audits)
 
-      pub cannot-on : ended ≡ 5 → Audits (get_or now i x) → AuditsDumps options bound (map f dumps) (a, c) (e, h) 5
-      cannot-on five audits = cannot-this five (subst Audits (sym is) audits)
+      pub cannot-write-next : ended ≡ 5 → Audits (get_or now i x)
+          → AuditsDumps options bound (map f dumps) (a, c) (e, h) 5
+      cannot-write-next five audits = cannot-write-this five (subst Audits (sym is) audits)
 
   -- all dumps were audited
-  pub tells-all : {A : Type 0} (f : A → NamedReading) (dumps : List A) (i : ℕ) → length dumps ≤ i
-      → (status : ℕ) (a b e p : Writing) → TellsDumps options bound (map f (take i dumps)) (a, b) (e, p) status
+  pub writes-all-dumps : {A : Type 0} (f : A → NamedReading) (dumps : List A) (i : ℕ) → length dumps ≤ i
+      → (status : ℕ) (a b e p : Writing) → WritesDumps options bound (map f (take i dumps)) (a, b) (e, p) status
       → AuditsDumps options bound (map f dumps) (a, b) (e, p) status
-  tells-all {A} f dumps i within status a b e p each =
-      inl (subst (λ (l : List A). TellsDumps options bound (map f l) (a, b) (e, p) status) (take_all i dumps within)
+  writes-all-dumps {A} f dumps i within status a b e p each =
+      inl (subst (λ (l : List A). WritesDumps options bound (map f l) (a, b) (e, p) status) (take_all i dumps within)
       each)

@@ -11,16 +11,16 @@ use Rattle.vme_bind.specs.TextReading.{TextReading}
 use Rattle.vme_stream.specs.Outputs.{Writes, FailsToWrite}
 use Rattle.vme_stream.specs.declared.refusal.Refusal.{Refusal}
 use Rattle.vme_audit_command.specs.Definitions.{AreAllBytesOf, IsFormed}
-use Rattle.vme_audit_command.specs.DumpAudits.{WritesPrefix, break_lines, given_all, lines_of}
+use Rattle.vme_audit_command.specs.DumpAudits.{WritesPrefix, break_lines, given_recording, lines_of}
 use Rattle.vme_dump_input.specs.SettledReadings.{settled_by}
 use Rattle.vme_dump_input.specs.SettledSteps.{ComesOut}
 use Rattle.vme_skew.specs.Settling.{Settling}
 use Rattle.vme_trace.specs.LineNumbers.{line_count}
 use Rattle.vme_step_auditor.specs.ReadBy.{GivenSteps, is_stopped, read_by}
 use Rattle.vme_step_reader.specs.StepReading.{StepReading, whole_reading}
-use Rattle.vme_audit_command.specs.declared.told.NoOutcome.{NoOutcome}
-use Rattle.vme_audit_command.specs.declared.told.NoOutcome.TheVariants.{CannotRead, NotWritten, Refused}
-use Rattle.vme_audit_command.specs.declared.told.TellFault.TheVariants.{Memory, CannotWrite}
+use Rattle.vme_audit_command.specs.declared.written_lines.NoOutcome.{NoOutcome}
+use Rattle.vme_audit_command.specs.declared.written_lines.NoOutcome.TheVariants.{CannotRead, NotWritten, Refused}
+use Rattle.vme_audit_command.specs.declared.written_lines.WriteFault.TheVariants.{Memory, CannotWrite}
 
 module _ (allowances : List Allowance) (stop : Option ℕ) where
   -- `t` is recorded before the end of a dump, or before its fault: the recording as far as it is audited, or a refusal
@@ -48,9 +48,9 @@ WritesUntil ended a old new text (Err (NotWritten CannotWrite)) = FailsToWrite o
 WritesUntil ended a old new text (Err (NotWritten Memory)) = WritesPrefix old new text
 
 -- The lines `told` were written before. The other lines of what is recorded are written until the body ends.
-abbrev pub EndsBehind : {A : Type 0} → List ℕ → GivenSteps → List ℕ → TextReading → Trace → Writing → Writing
+abbrev pub WritesRest : {A : Type 0} → List ℕ → GivenSteps → List ℕ → TextReading → Trace → Writing → Writing
     → Result A NoOutcome → Type 0
-EndsBehind head audit told reading t old new result =
+WritesRest head audit told reading t old new result =
     (text : List ℕ)
     × (break_lines audit.allowances audit.stop head reading.recorded ≡ told ++ text)
     × WritesUntil (ended_at audit.allowances audit.stop reading.recorded reading.fault)
@@ -62,15 +62,15 @@ abbrev pub TakesPiece : Option ℕ → List ℕ → GivenSteps → GivenSteps �
     → Writing → Result (Option (StepReading × ℕ)) NoOutcome → Type 0
 TakesPiece skew head audit later settler r bytes old new (Ok (Some (next, n))) =
     (n ≤ length bytes) × ((rest : List ℕ) → whole_reading r (take n bytes ++ rest) ≡ whole_reading next rest)
-    × HasGiven skew settler later next × (later ≡ given_all audit later.recording)
+    × HasGiven skew settler later next × (later ≡ given_recording audit later.recording)
     × ((text : List ℕ) × (lines_of head later ≡ lines_of head audit ++ text) × Writes old new text)
 TakesPiece skew head audit later settler r bytes old new (Ok None) =
     (rest : List ℕ)
-    → EndsBehind {A = Unit {0}} head audit (lines_of head audit) (settled_by skew (whole_reading r (bytes ++ rest)))
+    → WritesRest {A = Unit {0}} head audit (lines_of head audit) (settled_by skew (whole_reading r (bytes ++ rest)))
     later.recording old new (Ok tt)
 TakesPiece skew head audit later settler r bytes old new (Err why) =
     (rest : List ℕ)
-    → EndsBehind {A = Unit {0}} head audit (lines_of head audit) (settled_by skew (whole_reading r (bytes ++ rest)))
+    → WritesRest {A = Unit {0}} head audit (lines_of head audit) (settled_by skew (whole_reading r (bytes ++ rest)))
     later.recording old new (Err why)
 
 -- the body that begins with `held` and continues with the bytes of `source` was audited until it ends
@@ -78,7 +78,7 @@ abbrev pub AuditsBody : {A : Type 0} → Option ℕ → List ℕ → GivenSteps 
     → Writing → Writing → Result A NoOutcome → Type 0
 AuditsBody skew head audit later r held source old new result =
     (more : List ℕ) × AreAllBytesOf source more
-    × EndsBehind head audit (lines_of head audit) (settled_by skew (whole_reading r (held ++ more))) later.recording old
+    × WritesRest head audit (lines_of head audit) (settled_by skew (whole_reading r (held ++ more))) later.recording old
     new result
 
 -- `whole` are all bytes of a body that begins with `held`; if the flag is true, the bytes of `source` follow
@@ -91,10 +91,10 @@ abbrev pub AuditsRest : {A : Type 0} → Option ℕ → List ℕ → GivenSteps 
     → Reading → Writing → Writing → Result A NoOutcome → Type 0
 AuditsRest skew head audit later r held is_more source old new result =
     (whole : List ℕ) × IsWholeBody is_more source held whole
-    × EndsBehind head audit (lines_of head audit) (settled_by skew (whole_reading r whole)) later.recording old new
+    × WritesRest head audit (lines_of head audit) (settled_by skew (whole_reading r whole)) later.recording old new
     result
 
 -- `later` is an audit by the rules of `first`, of a well-formed recording
 pub record IsLater (first later : GivenSteps) : Type 0 where
-  pub same : later ≡ given_all first later.recording
+  pub same : later ≡ given_recording first later.recording
   pub formed : malformed_step later.recording ≡ None

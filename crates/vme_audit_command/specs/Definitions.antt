@@ -13,9 +13,9 @@ use Rattle.vme_stream.specs.declared.refusal.Refusal.{Refusal}
 use Rattle.vme_step_reader.specs.StepReading.{StepReading, whole_reading}
 use Rattle.vme_audit_command.specs.declared.dump_input.ReadFault.{ReadFault}
 use Rattle.vme_audit_command.specs.declared.dump_input.ReadFault.TheVariants as read
-use Rattle.vme_audit_command.specs.declared.told.NoOutcome.{NoOutcome}
-use Rattle.vme_audit_command.specs.declared.told.NoOutcome.TheVariants.{CannotRead, NotWritten, Refused}
-use Rattle.vme_audit_command.specs.declared.told.TellFault.TheVariants.{Memory, CannotWrite}
+use Rattle.vme_audit_command.specs.declared.written_lines.NoOutcome.{NoOutcome}
+use Rattle.vme_audit_command.specs.declared.written_lines.NoOutcome.TheVariants.{CannotRead, NotWritten, Refused}
+use Rattle.vme_audit_command.specs.declared.written_lines.WriteFault.TheVariants.{Memory, CannotWrite}
 
 -- the given steps are a prefix of the recorded ones, whatever follows
 abbrev pub GivenIsPrefix : Type 0

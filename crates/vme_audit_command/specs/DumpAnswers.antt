@@ -19,9 +19,9 @@ use Rattle.vme_audit_command.specs.DumpAudits.{WritesPrefix, break_lines}
 use Rattle.vme_audit_command.specs.LastLines.{counts_unless, outcome_line_of}
 use Rattle.vme_dump_input.specs.SettledReadings.{settled_by, skew_of}
 use Rattle.vme_audit_command.specs.declared.command.AuditOptions.{AuditOptions as GivenOptions}
-use Rattle.vme_audit_command.specs.declared.told.NoOutcome.{NoOutcome}
-use Rattle.vme_audit_command.specs.declared.told.NoOutcome.TheVariants.{CannotRead, NotWritten, Refused}
-use Rattle.vme_audit_command.specs.declared.told.TellFault.TheVariants.{Memory, CannotWrite}
+use Rattle.vme_audit_command.specs.declared.written_lines.NoOutcome.{NoOutcome}
+use Rattle.vme_audit_command.specs.declared.written_lines.NoOutcome.TheVariants.{CannotRead, NotWritten, Refused}
+use Rattle.vme_audit_command.specs.declared.written_lines.WriteFault.TheVariants.{Memory, CannotWrite}
 
 -- How a dump is audited: the allowed breaks, the number of transfers that must be answered, the number of breaks that
 -- aren't allowed at which the audit stops, the time within which edges are one moment, and whether counts are left out.
@@ -81,9 +81,9 @@ EndsAs answer old new (Err (NotWritten CannotWrite)) = FailsToWrite old new answ
 EndsAs answer old new (Err (NotWritten Memory)) = WritesPrefix old new answer.out
 
 -- the body of a dump was audited, which begins with `held`, and of which more may have come from `source`
-abbrev pub AuditsBehind : AuditOptions → List ℕ → StepReading → List ℕ → Bool → Reading → Writing → Writing
+abbrev pub AnswersBody : AuditOptions → List ℕ → StepReading → List ℕ → Bool → Reading → Writing → Writing
     → Result ℕ NoOutcome → Type 0
-AuditsBehind options head r held is_more source old new result =
+AnswersBody options head r held is_more source old new result =
     (whole : List ℕ) × IsWholeBody is_more source held whole
     × EndsAs (dump_answer options head (Ok (whole_reading r whole))) old new result
 

@@ -11,42 +11,42 @@ use Rattle.vme_audit_command.specs.Definitions.{AreAllBytesOf}
 use Rattle.vme_audit_command.specs.DumpAnswers.{AuditOptions}
 use Rattle.vme_audit_command.specs.SeveralDumps.{DumpEnd, MayEnd, NamedReading, TriesEach, answer_to, cannot_write_line}
 use Rattle.vme_audit_command.specs.SeveralDumps.{memory_line, refusal_line_of}
-use Rattle.vme_audit_command.specs.declared.told.NoOutcome.{NoOutcome}
-use Rattle.vme_audit_command.specs.declared.told.NoOutcome.TheVariants.{CannotRead, NotWritten, Refused}
-use Rattle.vme_audit_command.specs.declared.told.TellFault.TheVariants.{Memory, CannotWrite}
+use Rattle.vme_audit_command.specs.declared.written_lines.NoOutcome.{NoOutcome}
+use Rattle.vme_audit_command.specs.declared.written_lines.NoOutcome.TheVariants.{CannotRead, NotWritten, Refused}
+use Rattle.vme_audit_command.specs.declared.written_lines.WriteFault.TheVariants.{Memory, CannotWrite}
 
 -- a line reports want of memory, and the status is 4
-abbrev pub TellsMemory : Writing → Writing → ℕ → Type 0
-TellsMemory old new status = TriesToWrite old new memory_line × (status ≡ 4)
+abbrev pub ReportsMemory : Writing → Writing → ℕ → Type 0
+ReportsMemory old new status = TriesToWrite old new memory_line × (status ≡ 4)
 
 -- a line gives the reason why there is no outcome, and the status is that of the reason; or memory runs out for the
 -- line
-abbrev pub TellsWhy : List ℕ → Refusal → Writing → Writing → ℕ → Type 0
-TellsWhy name why old new status =
-    (TriesToWrite old new (refusal_line_of name why) × (status ≡ refusal_status why)) ⊎ TellsMemory old new status
+abbrev pub WritesReason : List ℕ → Refusal → Writing → Writing → ℕ → Type 0
+WritesReason name why old new status =
+    (TriesToWrite old new (refusal_line_of name why) × (status ≡ refusal_status why)) ⊎ ReportsMemory old new status
 
 -- the status is `ended`; or memory runs out for what is kept of the dump
-abbrev pub EndsWith : ℕ → Writing → Writing → ℕ → Type 0
-EndsWith ended old new status = ((new ≡ old) × (status ≡ ended)) ⊎ TellsMemory old new status
+abbrev pub EndsWithStatus : ℕ → Writing → Writing → ℕ → Type 0
+EndsWithStatus ended old new status = ((new ≡ old) × (status ≡ ended)) ⊎ ReportsMemory old new status
 
 -- a line gives the reason why there is no outcome, and the dump's results are kept
-abbrev pub RefusesAs : List ℕ → Refusal → Writing → Writing → ℕ → Type 0
-RefusesAs name why old new status =
-    (told : Writing) × (ended : ℕ) × TellsWhy name why old told ended × EndsWith ended told new status
+abbrev pub EndsWithReason : List ℕ → Refusal → Writing → Writing → ℕ → Type 0
+EndsWithReason name why old new status =
+    (told : Writing) × (ended : ℕ) × WritesReason name why old told ended × EndsWithStatus ended told new status
 
 -- what is written of a dump whose audit ended so, besides its lines, and its status
-abbrev pub TellsEnd : List ℕ → Result ℕ NoOutcome → Writing → Writing → ℕ → Type 0
-TellsEnd name (Ok ended) old new status = EndsWith ended old new status
-TellsEnd name (Err (Refused why)) old new status = RefusesAs name why old new status
-TellsEnd name (Err CannotRead) old new status = RefusesAs name (refusal.CannotRead Dump) old new status
-TellsEnd name (Err (NotWritten Memory)) old new status = RefusesAs name refusal.Memory old new status
-TellsEnd name (Err (NotWritten CannotWrite)) old new status =
+abbrev pub WritesEnd : List ℕ → Result ℕ NoOutcome → Writing → Writing → ℕ → Type 0
+WritesEnd name (Ok ended) old new status = EndsWithStatus ended old new status
+WritesEnd name (Err (Refused why)) old new status = EndsWithReason name why old new status
+WritesEnd name (Err CannotRead) old new status = EndsWithReason name (refusal.CannotRead Dump) old new status
+WritesEnd name (Err (NotWritten Memory)) old new status = EndsWithReason name refusal.Memory old new status
+WritesEnd name (Err (NotWritten CannotWrite)) old new status =
     TriesToWrite old new cannot_write_line × (status ≡ 5)
 
 module _ (options : AuditOptions) (bound : BoundLines) (named : NamedReading) (out err : Writing × Writing)
     (status : ℕ) where
   -- the output, the error lines and the status are those of a possible end of the dump
-  pub record TellsDump : Type 0 where
+  pub record WritesDump : Type 0 where
     pub end : DumpEnd
     pub may : MayEnd options bound named end
     pub out_is : Writes out.0 out.1 end.out
@@ -55,7 +55,7 @@ module _ (options : AuditOptions) (bound : BoundLines) (named : NamedReading) (o
     pub other : status ≢ 5
 
   -- a write of its text fails
-  pub record CannotTellDump : Type 0 where
+  pub record CannotWriteDump : Type 0 where
     pub bytes : List ℕ
     pub all : AreAllBytesOf named.dump bytes
     pub out_is : FailsToWrite out.0 out.1 (answer_to options bound named.name bytes).out
@@ -63,4 +63,4 @@ module _ (options : AuditOptions) (bound : BoundLines) (named : NamedReading) (o
     pub status_is : status ≡ 5
 
   abbrev pub AuditsNamed : Type 0
-  AuditsNamed = TellsDump ⊎ CannotTellDump
+  AuditsNamed = WritesDump ⊎ CannotWriteDump

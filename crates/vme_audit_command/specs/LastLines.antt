@@ -15,8 +15,8 @@ use Rattle.vme_auditor.specs.declared.findings.BreakCounts.{BreakCounts}
 use Rattle.vme_audit_lines.specs.AuditLines.{break_counts_text, cycle_counts_text, outcome_status, outcome_text}
 use Rattle.vme_audit_lines.specs.AuditLines.{transfer_counts_text, unasked_line}
 use Rattle.vme_audit_command.specs.DumpAudits.{WritesPrefix}
-use Rattle.vme_audit_command.specs.declared.told.TellFault.{TellFault}
-use Rattle.vme_audit_command.specs.declared.told.TellFault.TheVariants.{Memory, CannotWrite}
+use Rattle.vme_audit_command.specs.declared.written_lines.WriteFault.{WriteFault}
+use Rattle.vme_audit_command.specs.declared.written_lines.WriteFault.TheVariants.{Memory, CannotWrite}
 
 module _ (allowances : List Allowance) (head : List ℕ) where
   -- the numbers of a recording's breaks, by how they count
@@ -42,7 +42,7 @@ abbrev pub outcome_line_of : List ℕ → Outcome → List ℕ
 outcome_line_of head o = head ++ line_of (outcome_text o)
 
 -- a text that ends with an outcome is written, and the result is the status of the outcome
-abbrev pub TellsOutcome : List ℕ → Outcome → Writing → Writing → Result ℕ TellFault → Type 0
-TellsOutcome text o old new (Ok status) = Writes old new text × (status ≡ outcome_status o)
-TellsOutcome text o old new (Err CannotWrite) = FailsToWrite old new text
-TellsOutcome text o old new (Err Memory) = WritesPrefix old new text
+abbrev pub WritesOutcome : List ℕ → Outcome → Writing → Writing → Result ℕ WriteFault → Type 0
+WritesOutcome text o old new (Ok status) = Writes old new text × (status ≡ outcome_status o)
+WritesOutcome text o old new (Err CannotWrite) = FailsToWrite old new text
+WritesOutcome text o old new (Err Memory) = WritesPrefix old new text

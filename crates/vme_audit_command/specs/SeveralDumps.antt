@@ -12,7 +12,7 @@ use Rattle.vme_stream.specs.Texts.{cannot_write_text, line_of, refusal_status, r
 use Rattle.vme_stream.specs.declared.refusal.Input.TheVariants.{Dump}
 use Rattle.vme_stream.specs.declared.refusal.Refusal.{Refusal}
 use Rattle.vme_stream.specs.declared.refusal.Refusal.TheVariants.{CannotRead, Memory}
-use Rattle.vme_audit_lines.specs.AuditLines.{head_of, refusal_behind}
+use Rattle.vme_audit_lines.specs.AuditLines.{head_of, refusal_after_name}
 use Rattle.vme_audit_command.specs.Definitions.{AreAllBytesOf}
 use Rattle.vme_audit_command.specs.DumpAnswers.{AuditOptions, DumpAnswer, dump_answer}
 
@@ -32,7 +32,7 @@ audit_status occurred = first_occurred (5 ∷ 4 ∷ 3 ∷ 1 ∷ 2 ∷ 6 ∷ []) 
 
 -- the line with the reason why there is no outcome of the dump of this name
 abbrev pub refusal_line_of : List ℕ → Refusal → List ℕ
-refusal_line_of name why = codes "vmecheck: " ++ head_of name ++ line_of (refusal_behind why)
+refusal_line_of name why = codes "vmecheck: " ++ head_of name ++ line_of (refusal_after_name why)
 
 -- the line that reports that memory runs out
 abbrev pub memory_line : List ℕ
@@ -71,8 +71,8 @@ abbrev pub IsTextPrefix : List ℕ → List ℕ → Type 0
 IsTextPrefix front text = (n : ℕ) × (front ≡ take n text)
 
 -- all of an answer is written
-abbrev pub IsTold : List ℕ → DumpAnswer → DumpEnd → Type 0
-IsTold name answer end = end ≡ end_by name answer.out answer.ended
+abbrev pub IsWholeAnswer : List ℕ → DumpAnswer → DumpEnd → Type 0
+IsWholeAnswer name answer end = end ≡ end_by name answer.out answer.ended
 
 -- the dump can't be read to its end: a prefix of its text is written, and why there is no outcome
 abbrev pub IsUnread : List ℕ → DumpAnswer → DumpEnd → Type 0
@@ -95,7 +95,7 @@ pub record EndsWithoutMemory (name : List ℕ) (answer : DumpAnswer) (end : Dump
 
 -- how a dump with this answer may end
 abbrev pub IsEndOf : List ℕ → DumpAnswer → DumpEnd → Type 0
-IsEndOf name answer end = IsTold name answer end ⊎ (IsUnread name answer end ⊎ EndsWithoutMemory name answer end)
+IsEndOf name answer end = IsWholeAnswer name answer end ⊎ (IsUnread name answer end ⊎ EndsWithoutMemory name answer end)
 
 module _ (options : AuditOptions) (bound : BoundLines) where
   -- the answer for a dump with these bytes
@@ -110,7 +110,7 @@ module _ (options : AuditOptions) (bound : BoundLines) where
   -- ---- all of them
 
   -- the output, the error lines and the status are those of possible ends of the dumps, one after the other
-  pub record TellsDumps (dumps : List NamedReading) (out err : Writing × Writing) (status : ℕ) : Type 0 where
+  pub record WritesDumps (dumps : List NamedReading) (out err : Writing × Writing) (status : ℕ) : Type 0 where
     pub ends : List DumpEnd
     pub each : AllZip MayEnd dumps ends
     pub out_is : Writes out.0 out.1 (flat_map (λ (e : DumpEnd). e.out) ends)
@@ -119,7 +119,7 @@ module _ (options : AuditOptions) (bound : BoundLines) where
 
   -- a write to standard output fails in the text of a dump: a line reports it, a prefix of all texts is written, and
   -- the other dumps aren't audited
-  pub record CannotTell (dumps : List NamedReading) (out err : Writing × Writing) (status : ℕ) : Type 0 where
+  pub record CannotWriteDumps (dumps : List NamedReading) (out err : Writing × Writing) (status : ℕ) : Type 0 where
     pub before : List NamedReading
     pub named : NamedReading
     pub others : List NamedReading
@@ -133,7 +133,7 @@ module _ (options : AuditOptions) (bound : BoundLines) where
     pub status_is : status ≡ 5
 
   abbrev pub AuditsDumps : List NamedReading → Writing × Writing → Writing × Writing → ℕ → Type 0
-  AuditsDumps dumps out err status = TellsDumps dumps out err status ⊎ CannotTell dumps out err status
+  AuditsDumps dumps out err status = WritesDumps dumps out err status ⊎ CannotWriteDumps dumps out err status
 
 -- the bytes of the binding were read, and are a binding, and the dumps were audited by it
 pub record AuditsByBinding (options : AuditOptions) (binding : Reading × Reading) (dumps : List NamedReading)

@@ -5,12 +5,12 @@ ghost use Rattle.std.specs.Prelude.{OnOk, length};
 ghost use Rattle.vcd_read.specs.declared.fault.FaultKind.TheVariants as vcd;
 ghost use Rattle.vme_stream.specs.declared.refusal.Refusal.TheVariants.{BadDump};
 ghost use Rattle.vme_step_auditor.specs.ReadBy.{has_stopped};
-ghost use Rattle.vme_audit_command.specs.declared.told.NoOutcome.TheVariants.{Refused};
+ghost use Rattle.vme_audit_command.specs.declared.written_lines.NoOutcome.TheVariants.{Refused};
 ghost use Rattle.vme_trace.specs.Followed.{with_steps};
 ghost use Rattle.vme_trace.specs.Trace.{Trace};
 ghost use Rattle.vme_trace.specs.WellFormed.{malformed_step};
-ghost use Rattle.vme_audit_command.specs.Bodies.{AuditsBody, EndsBehind, HasGiven, IsLater, TakesPiece};
-ghost use Rattle.vme_audit_command.specs.DumpAudits.{AuditGoesTo, given_all, lines_of};
+ghost use Rattle.vme_audit_command.specs.Bodies.{AuditsBody, HasGiven, IsLater, TakesPiece, WritesRest};
+ghost use Rattle.vme_audit_command.specs.DumpAudits.{AuditGoesTo, given_recording, lines_of};
 ghost use Rattle.vme_dump_input.specs.SettledReadings.{settled_by, settled_so_far, settled_whole};
 ghost use Rattle.vme_dump_input.specs.SettledSteps.{ComesOut, GoOnFrom, GoOnTo};
 ghost use Rattle.vme_step_reader.specs.StepReading.{StepReading, whole_reading};
@@ -19,7 +19,7 @@ ghost use Rattle.vme_step_reader.specs.Stops.{StopsBehind};
 use crate::definitions::not_read;
 use crate::dump_input::DumpInput;
 use crate::junit::TestCase;
-use crate::told::{NoOutcome, TellFault, audit_steps};
+use crate::written_lines::{NoOutcome, WriteFault, audit_steps};
 use std::alloc::Global;
 use vcd_read::{FaultKind, VcdFault};
 use vme_dump_input::{last_steps, settled_steps};
@@ -39,15 +39,15 @@ fn audit_settled<O: Sink>(
     head: &[u8],
     case: &mut TestCase,
     out: &mut O,
-) -> Result<(), TellFault>
+) -> Result<(), WriteFault>
     ensures comes { (skew : Option ℕ) (given : Trace) (from : ℕ)
         → ComesOut skew settler.old given from auditor.old.recording → GoOnTo given from steps.items time
         → OnOk result (ComesOut skew settler.new (with_steps given steps.items) time auditor.new.recording) }
     ensures given { (skew : Option ℕ) (given : Trace) (from : ℕ)
         → ComesOut skew settler.old given from auditor.old.recording → GoOnTo given from steps.items time
         → OnOk result (auditor.new
-        ≡ given_all auditor.old (settled_so_far skew time (with_steps given steps.items))) }
-    ensures told { (skew : Option ℕ) (given : Trace) (from : ℕ)
+        ≡ given_recording auditor.old (settled_so_far skew time (with_steps given steps.items))) }
+    ensures writes { (skew : Option ℕ) (given : Trace) (from : ℕ)
         → ComesOut skew settler.old given from auditor.old.recording → GoOnTo given from steps.items time
         → AuditGoesTo head.now auditor.old (settled_so_far skew time (with_steps given steps.items))
         (O.writing out.old) (O.writing out.new) result }
@@ -55,7 +55,7 @@ fn audit_settled<O: Sink>(
     reading_goes_on();
     match settled_steps(alloc, settler, steps, time) {
         Ok(steps) => audit_steps(alloc, auditor, steps.as_slice(), head, case, out),
-        Err(_) => Err(TellFault::Memory),
+        Err(_) => Err(WriteFault::Memory),
     }
 }
 
@@ -88,7 +88,7 @@ fn audit_faulty<O: Sink>(
         → StopsBehind r.given stopped (whole_reading r rest) → OnOk result (IsLater auditor.old auditor.new) }
     ensures ends { (skew : Option ℕ) (r : StepReading) (rest : List ℕ) → HasGiven skew settler.old auditor.old r
         → StopsBehind r.given stopped (whole_reading r rest)
-        → EndsBehind head.now auditor.old (lines_of head.now auditor.old) (settled_by skew (whole_reading r rest))
+        → WritesRest head.now auditor.old (lines_of head.now auditor.old) (settled_by skew (whole_reading r rest))
         auditor.new.recording (O.writing out.old) (O.writing out.new) result }
 {
     reading_goes_on();
@@ -114,14 +114,14 @@ fn audit_stopped<O: Sink>(
         → StopsBehind r.given stopped (whole_reading r rest) → OnOk result (IsLater auditor.old auditor.new) }
     ensures ends { (skew : Option ℕ) (r : StepReading) (rest : List ℕ) → HasGiven skew settler.old auditor.old r
         → StopsBehind r.given stopped (whole_reading r rest)
-        → EndsBehind head.now auditor.old (lines_of head.now auditor.old) (settled_by skew (whole_reading r rest))
+        → WritesRest head.now auditor.old (lines_of head.now auditor.old) (settled_by skew (whole_reading r rest))
         auditor.new.recording (O.writing out.old) (O.writing out.new) result }
 {
     reading_goes_on();
     given_is_a_prefix();
     times_go_on();
     match stopped.fault.kind {
-        FaultKind::Memory => Err(NoOutcome::NotWritten(TellFault::Memory)),
+        FaultKind::Memory => Err(NoOutcome::NotWritten(WriteFault::Memory)),
         _ => audit_faulty(alloc, auditor, settler, stopped, head, case, out),
     }
 }
@@ -197,7 +197,7 @@ pub(crate) fn audit_last<O: Sink>(
     ensures kept { (skew : Option ℕ) → HasGiven skew settler.old auditor.old reader
         → OnOk result (IsLater auditor.old auditor.new) }
     ensures ends { (skew : Option ℕ) → HasGiven skew settler.old auditor.old reader
-        → EndsBehind head.now auditor.old (lines_of head.now auditor.old)
+        → WritesRest head.now auditor.old (lines_of head.now auditor.old)
         (settled_by skew (whole_reading reader bytes.now)) auditor.new.recording (O.writing out.old)
         (O.writing out.new) result }
 {
@@ -222,11 +222,11 @@ fn audit_ended<O: Sink>(
     head: &[u8],
     case: &mut TestCase,
     out: &mut O,
-) -> Result<(), TellFault>
+) -> Result<(), WriteFault>
     ensures given { (skew : Option ℕ) (given : Trace) (from : ℕ)
         → ComesOut skew settler.old given from auditor.old.recording → GoOnFrom given from steps.items
-        → OnOk result (auditor.new ≡ given_all auditor.old (settled_whole skew (with_steps given steps.items))) }
-    ensures told { (skew : Option ℕ) (given : Trace) (from : ℕ)
+        → OnOk result (auditor.new ≡ given_recording auditor.old (settled_whole skew (with_steps given steps.items))) }
+    ensures writes { (skew : Option ℕ) (given : Trace) (from : ℕ)
         → ComesOut skew settler.old given from auditor.old.recording → GoOnFrom given from steps.items
         → AuditGoesTo head.now auditor.old (settled_whole skew (with_steps given steps.items)) (O.writing out.old)
         (O.writing out.new) result }
@@ -234,7 +234,7 @@ fn audit_ended<O: Sink>(
     reading_goes_on();
     match last_steps(alloc, settler, steps) {
         Ok(steps) => audit_steps(alloc, auditor, steps.as_slice(), head, case, out),
-        Err(_) => Err(TellFault::Memory),
+        Err(_) => Err(WriteFault::Memory),
     }
 }
 

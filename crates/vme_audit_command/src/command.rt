@@ -4,12 +4,13 @@ ghost use Rattle.std.specs.Prelude.{◌≡◌, false, true, [], ◌∷◌, map, 
 ghost use Rattle.vme_stream.specs.Outputs.{TriesToWrite};
 ghost use Rattle.vme_audit_command.specs.Audits.{RefusesBinding};
 ghost use Rattle.vme_audit_command.specs.DumpAnswers.{given_options};
-ghost use Rattle.vme_audit_command.specs.DumpEnds.{AuditsNamed, EndsWith, RefusesAs, TellsEnd, TellsWhy};
+ghost use Rattle.vme_audit_command.specs.DumpEnds.{AuditsNamed, EndsWithReason, EndsWithStatus, WritesEnd};
+ghost use Rattle.vme_audit_command.specs.DumpEnds.{WritesReason};
 ghost use Rattle.vme_audit_command.specs.SeveralDumps.{AuditsByBinding, AuditsDumps, audit_status, refusal_line_of};
 
 use crate::dump_audit::audit_dump;
 use crate::junit::{TestCase, TestSuite};
-use crate::told::{NoOutcome, TellFault};
+use crate::written_lines::{NoOutcome, WriteFault};
 use std::alloc::{AllocError, Global};
 use vme_audit::Allowance;
 use vme_audit_lines::{dump_head, refusal_text};
@@ -138,11 +139,11 @@ fn audit_named<D: Source, O: Sink, E: Sink>(
     let mut case = suite.case(alloc);
     let name = named.name;
     let ended = audit_dump(alloc, bound, &mut named.dump, name, options, &mut case, out);
-    tell_end(alloc, name, &case, ended, suite, err)
+    write_end(alloc, name, &case, ended, suite, err)
 }
 
 /// Writes why a dump has no outcome, if it has none, and keeps its test case. Returns its exit status.
-fn tell_end<E: Sink>(
+fn write_end<E: Sink>(
     alloc: Global,
     name: &[u8],
     case: &TestCase,
@@ -150,7 +151,7 @@ fn tell_end<E: Sink>(
     suite: &mut TestSuite,
     err: &mut E,
 ) -> u8
-    ensures { TellsEnd name.now ended (E.writing err.old) (E.writing err.new) result }
+    ensures { WritesEnd name.now ended (E.writing err.old) (E.writing err.new) result }
 {
     match ended {
         Ok(status) => keep(alloc, name, case, None, status, suite, err),
@@ -159,10 +160,10 @@ fn tell_end<E: Sink>(
             let refusal = Refusal::CannotRead(Input::Dump);
             refuse(alloc, name, case, refusal, suite, err)
         }
-        Err(NoOutcome::NotWritten(TellFault::Memory)) => {
+        Err(NoOutcome::NotWritten(WriteFault::Memory)) => {
             refuse(alloc, name, case, Refusal::Memory, suite, err)
         }
-        Err(NoOutcome::NotWritten(TellFault::CannotWrite)) => {
+        Err(NoOutcome::NotWritten(WriteFault::CannotWrite)) => {
             complain(err, cannot_write_line());
             5
         }
@@ -178,9 +179,9 @@ fn refuse<E: Sink>(
     suite: &mut TestSuite,
     err: &mut E,
 ) -> u8
-    ensures { RefusesAs name.now refusal (E.writing err.old) (E.writing err.new) result }
+    ensures { EndsWithReason name.now refusal (E.writing err.old) (E.writing err.new) result }
 {
-    let status = tell_refusal(alloc, name, &refusal, err);
+    let status = write_refusal(alloc, name, &refusal, err);
     keep(alloc, name, case, Some(&refusal), status, suite, err)
 }
 
@@ -195,7 +196,7 @@ fn keep<E: Sink>(
     suite: &mut TestSuite,
     err: &mut E,
 ) -> u8
-    ensures { EndsWith status (E.writing err.old) (E.writing err.new) result }
+    ensures { EndsWithStatus status (E.writing err.old) (E.writing err.new) result }
 {
     match suite.take(alloc, name, case, refusal) {
         Ok(()) => status,
@@ -207,12 +208,12 @@ fn keep<E: Sink>(
 }
 
 /// Writes why a dump has no outcome. Returns the exit status.
-fn tell_refusal<E: Sink>(alloc: Global, name: &[u8], refusal: &Refusal, err: &mut E) -> u8
-    ensures { TellsWhy name.now refusal.now (E.writing err.old) (E.writing err.new) result }
+fn write_refusal<E: Sink>(alloc: Global, name: &[u8], refusal: &Refusal, err: &mut E) -> u8
+    ensures { WritesReason name.now refusal.now (E.writing err.old) (E.writing err.new) result }
 {
     match refusal_of(alloc, name, refusal) {
         Ok(text) => {
-            try_to_tell(text.as_bytes(), err);
+            try_to_write(text.as_bytes(), err);
             refusal.status()
         }
         Err(_) => {
@@ -223,7 +224,7 @@ fn tell_refusal<E: Sink>(alloc: Global, name: &[u8], refusal: &Refusal, err: &mu
 }
 
 /// Writes a line. If that fails, a prefix of it is written.
-fn try_to_tell<E: Sink>(line: &[u8], err: &mut E)
+fn try_to_write<E: Sink>(line: &[u8], err: &mut E)
     ensures { TriesToWrite (E.writing err.old) (E.writing err.new) line.now }
 {
     let _ = write_all(err, line);

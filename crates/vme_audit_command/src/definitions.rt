@@ -7,7 +7,7 @@ ghost use Rattle.vme_bind.specs.declared.fault.CaptureFault.{CaptureFault};
 ghost use Rattle.vme_audit_command.specs.Definitions.{BeginsBody, BeginsLast, NotBegun, ReadsDefinitions, unread};
 
 use crate::dump_input::{DumpInput, ReadFault};
-use crate::told::{NoOutcome, TellFault};
+use crate::written_lines::{NoOutcome, WriteFault};
 use std::alloc::Global;
 use vcd_read::whole_tokens;
 use vme_bind::{Binding, CaptureFault};
@@ -21,7 +21,7 @@ fn no_outcome(fault: CaptureFault) -> NoOutcome
     ensures { (reading : Result TextReading CaptureFault) → CaptureFailsBy fault reading → NotBegun reading result }
 {
     match Refusal::of_capture(fault) {
-        Refusal::Memory => NoOutcome::NotWritten(TellFault::Memory),
+        Refusal::Memory => NoOutcome::NotWritten(WriteFault::Memory),
         refusal => NoOutcome::Refused(refusal),
     }
 }
@@ -32,7 +32,7 @@ pub(crate) fn not_read(fault: ReadFault) -> NoOutcome
 {
     match fault {
         ReadFault::Failed => NoOutcome::CannotRead,
-        ReadFault::Memory => NoOutcome::NotWritten(TellFault::Memory),
+        ReadFault::Memory => NoOutcome::NotWritten(WriteFault::Memory),
     }
 }
 

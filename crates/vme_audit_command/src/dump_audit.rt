@@ -9,17 +9,17 @@ ghost use Rattle.vme_audit_lines.specs.AuditLines.{head_of, outcome_status};
 ghost use Rattle.vme_step_auditor.specs.ReadBy.{read_of};
 ghost use Rattle.vme_audit_command.specs.Bodies.{AuditsRest, HasGiven, IsLater};
 ghost use Rattle.vme_audit_command.specs.Definitions.{IsBodyBegun};
-ghost use Rattle.vme_audit_command.specs.DumpAnswers.{AuditsBehind, AuditsDump, given_options};
-ghost use Rattle.vme_audit_command.specs.DumpAudits.{TellsText};
-ghost use Rattle.vme_audit_command.specs.LastLines.{TellsOutcome, counts_unless, outcome_line_of};
-ghost use Rattle.vme_audit_command.specs.declared.told.TellFault.TheVariants.{Memory as NoMemory};
+ghost use Rattle.vme_audit_command.specs.DumpAnswers.{AnswersBody, AuditsDump, given_options};
+ghost use Rattle.vme_audit_command.specs.DumpAudits.{WritesText};
+ghost use Rattle.vme_audit_command.specs.LastLines.{WritesOutcome, counts_unless, outcome_line_of};
+ghost use Rattle.vme_audit_command.specs.declared.written_lines.WriteFault.TheVariants.{Memory as NoMemory};
 
 use crate::body::{audit_body, audit_last};
 use crate::command::AuditOptions;
 use crate::definitions::read_definitions;
 use crate::dump_input::DumpInput;
 use crate::junit::TestCase;
-use crate::told::{NoOutcome, TellFault, tell};
+use crate::written_lines::{NoOutcome, WriteFault, write_text};
 use std::alloc::Global;
 use vme_audit::Outcome;
 use vme_audit_lines::{
@@ -33,15 +33,15 @@ use vme_step_reader::StepReader;
 use vme_trace::{Sink, Source};
 
 /// Writes the counts of a recording, unless `is_quiet`.
-fn tell_counts<O: Sink>(
+fn write_counts<O: Sink>(
     alloc: Global,
     auditor: &StepAuditor<'_>,
     is_quiet: bool,
     head: &[u8],
     out: &mut O,
-) -> Result<(), TellFault>
+) -> Result<(), WriteFault>
     ensures { malformed_step auditor.now.recording ≡ None
-        → TellsText (O.writing out.old) (O.writing out.new) result
+        → WritesText (O.writing out.old) (O.writing out.new) result
         (counts_unless is_quiet auditor.now.allowances head.now (read_of auditor.now)) }
 {
     unasked_is_never_asked();
@@ -49,23 +49,23 @@ fn tell_counts<O: Sink>(
         return Ok(());
     }
     match count_lines(alloc, head, auditor.break_counts(), &auditor.audited()) {
-        Ok(lines) => tell(out, lines.as_bytes()),
-        Err(_) => Err(TellFault::Memory),
+        Ok(lines) => write_text(out, lines.as_bytes()),
+        Err(_) => Err(WriteFault::Memory),
     }
 }
 
 /// Writes the line of the outcome.
-fn tell_line<O: Sink>(
+fn write_outcome_line<O: Sink>(
     alloc: Global,
     outcome: &Outcome,
     head: &[u8],
     out: &mut O,
-) -> Result<(), TellFault>
-    ensures { TellsText (O.writing out.old) (O.writing out.new) result (outcome_line_of head.now outcome.now) }
+) -> Result<(), WriteFault>
+    ensures { WritesText (O.writing out.old) (O.writing out.new) result (outcome_line_of head.now outcome.now) }
 {
     match outcome_line(alloc, head, outcome) {
-        Ok(line) => tell(out, line.as_bytes()),
-        Err(_) => Err(TellFault::Memory),
+        Ok(line) => write_text(out, line.as_bytes()),
+        Err(_) => Err(WriteFault::Memory),
     }
 }
 
@@ -75,53 +75,53 @@ fn end_case(
     auditor: &StepAuditor<'_>,
     outcome: &Outcome,
     case: &mut TestCase,
-) -> Result<u8, TellFault>
+) -> Result<u8, WriteFault>
     ensures ok { IfOk result (λ status. status ≡ outcome_status outcome.now) }
     ensures err { IfErr result (λ fault. fault ≡ NoMemory) }
 {
     match case.end(alloc, auditor.break_counts(), &auditor.audited(), outcome) {
         Ok(()) => Ok(outcome_status(outcome)),
-        Err(_) => Err(TellFault::Memory),
+        Err(_) => Err(WriteFault::Memory),
     }
 }
 
 /// Writes the outcome of the audit, and returns its exit status.
-fn tell_end<O: Sink>(
+fn write_outcome<O: Sink>(
     alloc: Global,
     auditor: &StepAuditor<'_>,
     transfers: u64,
     head: &[u8],
     case: &mut TestCase,
     out: &mut O,
-) -> Result<u8, TellFault>
+) -> Result<u8, WriteFault>
     ensures { malformed_step auditor.now.recording ≡ None
-        → TellsOutcome (outcome_line_of head.now (outcome_of auditor.now.allowances transfers (read_of auditor.now)))
+        → WritesOutcome (outcome_line_of head.now (outcome_of auditor.now.allowances transfers (read_of auditor.now)))
         (outcome_of auditor.now.allowances transfers (read_of auditor.now))
         (O.writing out.old) (O.writing out.new) result }
 {
     let outcome = auditor.outcome(transfers);
-    tell_line(alloc, &outcome, head, out)?;
+    write_outcome_line(alloc, &outcome, head, out)?;
     end_case(alloc, auditor, &outcome, case)
 }
 
 /// Writes the counts of a recording and the outcome of its audit, and returns the exit status.
-fn tell_outcome<O: Sink>(
+fn write_counts_and_outcome<O: Sink>(
     alloc: Global,
     auditor: &StepAuditor<'_>,
     options: AuditOptions<'_>,
     head: &[u8],
     case: &mut TestCase,
     out: &mut O,
-) -> Result<u8, TellFault>
+) -> Result<u8, WriteFault>
     ensures { malformed_step auditor.now.recording ≡ None
-        → TellsOutcome (counts_unless options.entry.is_quiet auditor.now.allowances head.now (read_of auditor.now)
+        → WritesOutcome (counts_unless options.entry.is_quiet auditor.now.allowances head.now (read_of auditor.now)
         ++ outcome_line_of head.now
         (outcome_of auditor.now.allowances options.entry.transfers (read_of auditor.now)))
         (outcome_of auditor.now.allowances options.entry.transfers (read_of auditor.now))
         (O.writing out.old) (O.writing out.new) result }
 {
-    tell_counts(alloc, auditor, options.is_quiet, head, out)?;
-    tell_end(alloc, auditor, options.transfers, head, case, out)
+    write_counts(alloc, auditor, options.is_quiet, head, out)?;
+    write_outcome(alloc, auditor, options.transfers, head, case, out)
 }
 
 /// The audit of a body before its first step.
@@ -175,7 +175,7 @@ fn audit_rest<D: Source, O: Sink>(
 }
 
 /// Audits the body of a dump, after its definitions, and writes all its lines.
-fn audit_behind<D: Source, O: Sink>(
+fn audit_after_definitions<D: Source, O: Sink>(
     alloc: Global,
     dump: &mut D,
     input: &mut DumpInput,
@@ -186,7 +186,7 @@ fn audit_behind<D: Source, O: Sink>(
     case: &mut TestCase,
     out: &mut O,
 ) -> Result<u8, NoOutcome>
-    ensures { IsBodyBegun reader → AuditsBehind (given_options options.entry)
+    ensures { IsBodyBegun reader → AnswersBody (given_options options.entry)
         head.now reader input.old is_more (D.reading dump.old) (O.writing out.old) (O.writing out.new) result }
 {
     let rules = AuditRules {
@@ -207,7 +207,7 @@ fn audit_behind<D: Source, O: Sink>(
         case,
         out,
     ) {
-        Ok(()) => match tell_outcome(alloc, &auditor, options, head, case, out) {
+        Ok(()) => match write_counts_and_outcome(alloc, &auditor, options, head, case, out) {
             Ok(status) => Ok(status),
             Err(fault) => Err(NoOutcome::NotWritten(fault)),
         },
@@ -229,10 +229,10 @@ pub(crate) fn audit_dump<D: Source, O: Sink>(
         (head_of name.now) bound.now (D.reading dump.old) (O.writing out.old) (O.writing out.new) result }
 {
     let (Ok(head), Ok(mut input)) = (dump_head(alloc, name), DumpInput::new(alloc)) else {
-        return Err(NoOutcome::NotWritten(TellFault::Memory));
+        return Err(NoOutcome::NotWritten(WriteFault::Memory));
     };
     match read_definitions(alloc, bound, dump, &mut input) {
-        Ok((reader, is_more)) => audit_behind(
+        Ok((reader, is_more)) => audit_after_definitions(
             alloc,
             dump,
             &mut input,

@@ -63,7 +63,7 @@ pub(crate) struct TestCase {
     failures: Text,
     failed: u32,
     /// The allowed breaks, and the counts, in lines.
-    told: Text,
+    lines: Text,
     allowed: u32,
 }
 
@@ -74,7 +74,7 @@ impl TestCase {
             is_wanted,
             failures: Text::new(alloc),
             failed: 0,
-            told: Text::new(alloc),
+            lines: Text::new(alloc),
             allowed: 0,
         }
     }
@@ -94,7 +94,7 @@ impl TestCase {
                 if self.allowed < MOST_NAMED {
                     self.allowed += 1;
                     let line = break_line(alloc, b"", category, found)?;
-                    self.told.push(line.as_bytes())?;
+                    self.lines.push(line.as_bytes())?;
                 }
             }
             BreakCategory::Broken | BreakCategory::Unreadable => {
@@ -120,7 +120,7 @@ impl TestCase {
             return Ok(());
         }
         let lines = count_lines(alloc, b"", counts, findings)?;
-        self.told.push(lines.as_bytes())?;
+        self.lines.push(lines.as_bytes())?;
         if let Outcome::NotCovered { .. } = outcome {
             let line = outcome_line(alloc, b"", outcome)?;
             push_message(&mut self.failures, b"failure", line.as_bytes())?;
@@ -170,9 +170,9 @@ impl TestSuite {
             let line = refusal_text(alloc, refusal)?;
             push_message(text, b"error", line.as_bytes())?;
         }
-        if !case.told.as_bytes().is_empty() {
+        if !case.lines.as_bytes().is_empty() {
             text.push(b"<system-out>")?;
-            text.push(case.told.as_bytes())?;
+            text.push(case.lines.as_bytes())?;
             text.push(b"</system-out>")?;
         }
         text.push(b"</testcase>\n")

@@ -8,7 +8,7 @@
 //! - `definitions`: reads up to the end of the definitions. It looks for the end only where they may
 //!   have ended, so the time is proportional to the number of bytes.
 //! - `body`: takes the steps that each piece completes, settles them if there is a skew (by
-//!   vme_dump_input), audits them and reports their breaks (`told`), before the next read.
+//!   vme_dump_input), audits them and reports their breaks (`written_lines`), before the next read.
 //! - `dump_input`: the bytes that were read and not yet taken.
 //! - `junit`: the same results as a JUnit file ([`TestSuite`], [`junit_file`]).
 //!
@@ -47,7 +47,7 @@ mod definitions;
 mod dump_audit;
 mod dump_input;
 mod junit;
-mod told;
+mod written_lines;
 
 pub use command::{AuditOptions, NamedDump, audit};
 pub use junit::{TestSuite, junit_file};

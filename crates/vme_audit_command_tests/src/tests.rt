@@ -127,12 +127,12 @@ impl Sink for Page {
     }
 }
 
-/// A reader of `left`, and of `behind` after it. A read gives at most `portion` bytes. If `is_torn`, reading fails
+/// A reader of `left`, and of `rest` after it. A read gives at most `portion` bytes. If `is_torn`, reading fails
 /// after the last byte.
 #[derive(Drop)]
 struct PortionReader<'a> {
     left: &'a [u8],
-    behind: &'a [u8],
+    rest: &'a [u8],
     portion: usize,
     is_torn: bool,
 }
@@ -140,8 +140,8 @@ struct PortionReader<'a> {
 impl Read for PortionReader<'_> {
     fn read(&mut self, buffer: &mut [u8]) -> io::Result<usize> {
         if self.left.is_empty() {
-            self.left = self.behind;
-            self.behind = &[];
+            self.left = self.rest;
+            self.rest = &[];
         }
         if self.is_torn && self.left.is_empty() {
             return Err(Error::from(ErrorKind::Other));
@@ -174,7 +174,7 @@ fn dump_of<'a>(name: &'a [u8], body: &'a str, feed: DumpFeed) -> ReadDump<'a> {
         name,
         dump: Io::new(PortionReader {
             left: HEAD.as_bytes(),
-            behind: body.as_bytes(),
+            rest: body.as_bytes(),
             portion: feed.portion,
             is_torn: feed.is_torn,
         }),
@@ -239,7 +239,7 @@ fn audits(
 }
 
 /// Whether the audit of a dump with this body gives this result.
-fn comes_to(
+fn has_result(
     alloc: Global,
     body: &str,
     feed: DumpFeed,
@@ -260,7 +260,7 @@ fn comes_to(
 }
 
 /// Whether the audit gives this result for each of these sizes of portions.
-fn always_comes_to(
+fn always_has_result(
     alloc: Global,
     body: &str,
     portions: &[usize],
@@ -274,7 +274,7 @@ fn always_comes_to(
             portion: *portion,
             is_torn,
         };
-        same &= comes_to(alloc, body, feed, options, wanted);
+        same &= has_result(alloc, body, feed, options, wanted);
     }
     same
 }
@@ -305,9 +305,9 @@ fn outcomes_are_told(rt: HostRuntime) {
         transfers: 2,
         ..quietly(&[])
     };
-    assert!(rt; comes_to(rt.alloc(), READ, WHOLE, quietly(&[]), conforming));
-    assert!(rt; comes_to(rt.alloc(), READ, WHOLE, two, few));
-    assert!(rt; comes_to(rt.alloc(), "", WHOLE, quietly(&[]), never_idle));
+    assert!(rt; has_result(rt.alloc(), READ, WHOLE, quietly(&[]), conforming));
+    assert!(rt; has_result(rt.alloc(), READ, WHOLE, two, few));
+    assert!(rt; has_result(rt.alloc(), "", WHOLE, quietly(&[]), never_idle));
 }
 
 #[test]
@@ -326,7 +326,7 @@ d: conforming
         is_quiet: false,
         ..quietly(&[])
     };
-    assert!(rt; comes_to(rt.alloc(), READ, WHOLE, options, told));
+    assert!(rt; has_result(rt.alloc(), READ, WHOLE, options, told));
 }
 
 /// The result with both answers as breaks.
@@ -340,7 +340,7 @@ const BROKEN: WantedAudit<'static> = WantedAudit {
 #[test]
 fn breaks_are_told(rt: HostRuntime) {
     assert!(rt;
-        always_comes_to(
+        always_has_result(
             rt.alloc(),
             ANSWERS,
             EIGHT.as_slice(),
@@ -369,7 +369,7 @@ d: conforming with 2 allowed
         transfers: 0,
         ..quietly(&allowances)
     };
-    assert!(rt; comes_to(rt.alloc(), ANSWERS, WHOLE, options, told));
+    assert!(rt; has_result(rt.alloc(), ANSWERS, WHOLE, options, told));
 }
 
 /// A dump is read only up to the break that ends its audit. A later fault isn't reported.
@@ -384,9 +384,9 @@ fn an_audit_is_stopped(rt: HostRuntime) {
         stop: Some(1),
         ..quietly(&[])
     };
-    assert!(rt; always_comes_to(rt.alloc(), ANSWERS, THREE.as_slice(), false, options, told));
+    assert!(rt; always_has_result(rt.alloc(), ANSWERS, THREE.as_slice(), false, options, told));
     assert!(rt;
-        always_comes_to(
+        always_has_result(
             rt.alloc(),
             FAULTY_ANSWERS,
             THREE.as_slice(),
@@ -406,7 +406,7 @@ fn a_fault_is_told(rt: HostRuntime) {
         status: 3,
     };
     assert!(rt;
-        always_comes_to(
+        always_has_result(
             rt.alloc(),
             FAULTY_ANSWERS,
             THREE.as_slice(),
@@ -421,7 +421,7 @@ fn a_fault_is_told(rt: HostRuntime) {
         status: 3,
     };
     let body = "#0 1a 1p 1q 1d 1e 1i 1w 1r\n#10 0d\n#20 1d\n#30 0e\nnonsense\n";
-    assert!(rt; comes_to(rt.alloc(), body, WHOLE, quietly(&[]), early));
+    assert!(rt; has_result(rt.alloc(), body, WHOLE, quietly(&[]), early));
 }
 
 /// Steps within the skew are merged, also before a fault.
@@ -440,8 +440,8 @@ fn a_dump_is_settled(rt: HostRuntime) {
         skew: 9,
         ..quietly(&[])
     };
-    assert!(rt; always_comes_to(rt.alloc(), ANSWERS, THREE.as_slice(), false, options, told));
-    assert!(rt; always_comes_to(rt.alloc(), ANSWERS, THREE.as_slice(), false, apart, BROKEN));
+    assert!(rt; always_has_result(rt.alloc(), ANSWERS, THREE.as_slice(), false, options, told));
+    assert!(rt; always_has_result(rt.alloc(), ANSWERS, THREE.as_slice(), false, apart, BROKEN));
 }
 
 /// If a read fails, what is complete in the bytes read is reported.
@@ -453,7 +453,7 @@ fn a_dump_that_cannot_be_read_is_told(rt: HostRuntime) {
         status: 3,
     };
     assert!(rt;
-        always_comes_to(
+        always_has_result(
             rt.alloc(),
             ANSWERS,
             THREE.as_slice(),
@@ -467,7 +467,7 @@ fn a_dump_that_cannot_be_read_is_told(rt: HostRuntime) {
         is_torn: true,
         ..WHOLE
     };
-    assert!(rt; comes_to(rt.alloc(), "", torn, quietly(&[]), nothing));
+    assert!(rt; has_result(rt.alloc(), "", torn, quietly(&[]), nothing));
 }
 
 /// Whether a prefix of the output is written, where only `room` bytes can be.
@@ -606,7 +606,7 @@ fn is_outcome_or_short(out: &[u8], err: &[u8], status: u8, wanted: WantedAudit<'
 
 /// Whether the audit of a dump with this body gives the expected result, or a prefix of the expected output and want of
 /// memory. `out` and `err` are its sinks.
-fn is_told_or_short_in(
+fn is_full_or_short_in(
     alloc: Global,
     body: &str,
     out: &mut Page,
@@ -629,18 +629,18 @@ fn is_told_or_short_in(
 
 /// Whether the audit of a dump with this body gives the expected result, or is short for want of memory, with `out` as
 /// a sink, or there is no memory for the other sink.
-fn is_told_or_short_by(alloc: Global, body: &str, out: &mut Page, wanted: WantedAudit<'_>) -> bool {
+fn is_full_or_short_by(alloc: Global, body: &str, out: &mut Page, wanted: WantedAudit<'_>) -> bool {
     match Page::with_room(alloc, 1_000) {
-        Ok(mut err) => is_told_or_short_in(alloc, body, out, &mut err, wanted),
+        Ok(mut err) => is_full_or_short_in(alloc, body, out, &mut err, wanted),
         Err(_) => true,
     }
 }
 
 /// Whether the audit of a dump with this body gives the expected result, or is short for want of memory, or there is no
 /// memory for the sinks.
-fn is_told_or_short(alloc: Global, body: &str, wanted: WantedAudit<'_>) -> bool {
+fn is_full_or_short(alloc: Global, body: &str, wanted: WantedAudit<'_>) -> bool {
     match Page::with_room(alloc, 1_000) {
-        Ok(mut out) => is_told_or_short_by(alloc, body, &mut out, wanted),
+        Ok(mut out) => is_full_or_short_by(alloc, body, &mut out, wanted),
         Err(_) => true,
     }
 }
@@ -653,6 +653,6 @@ fn want_of_memory_is_told(rt: HostRuntime) {
         err: b"vmecheck: d: dump line 12: BadToken\n",
         status: 3,
     };
-    assert!(rt; is_told_or_short(rt.alloc(), ANSWERS, BROKEN));
-    assert!(rt; is_told_or_short(rt.alloc(), "nonsense\n", refused));
+    assert!(rt; is_full_or_short(rt.alloc(), ANSWERS, BROKEN));
+    assert!(rt; is_full_or_short(rt.alloc(), "nonsense\n", refused));
 }

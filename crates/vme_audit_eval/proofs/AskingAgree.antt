@@ -4,11 +4,11 @@ use Rattle.vme_eval.proofs.Everything.{everything}
 use Rattle.vme_audit_eval.proofs.Computing.{asked}
 use Rattle.vme_audit_eval.specs.Audited.{AskingAgrees, AllAsk}
 use Rattle.vme_audit_eval.specs.Asking.{never_idle, idle, strobe_rises_at_the_start, cycle_starts, cycle_ends}
-use Rattle.vme_audit_eval.specs.Asking.{cycle_starts_with_a_reset, cycle_starts_behind_a_reset, transfer_starts}
+use Rattle.vme_audit_eval.specs.Asking.{cycle_starts_with_a_reset, cycle_starts_after_a_reset, transfer_starts}
 use Rattle.vme_audit_eval.specs.Asking.{transfer_starts_by_both, write_starts, write_after_a_read_starts, strobe_rises}
 use Rattle.vme_audit_eval.specs.Asking.{second_strobe_rises, second_strobe_falls, answer_falls, bus_error_falls}
 use Rattle.vme_audit_eval.specs.Asking.{answer_falls_with_a_reset, answer_rises_at_the_start}
-use Rattle.vme_audit_eval.specs.Asking.{cycle_starts_behind_a_break, cycle_starts_in_the_next_part}
+use Rattle.vme_audit_eval.specs.Asking.{cycle_starts_after_a_break, cycle_starts_in_the_next_part}
 use Rattle.vme_audit_eval.specs.Asking.{transfer_is_answered, answer_rises, bus_error_rises, two_of_a_single_cycle}
 use Rattle.vme_audit_eval.specs.Asking.{two_of_a_block_cycle, two_of_a_free_cycle, two_of_an_acknowledge_cycle}
 use Rattle.vme_audit_eval.specs.Asking.{one_of_a_block_cycle, one_of_an_acknowledge_cycle, unanswered_acknowledge}
@@ -41,9 +41,9 @@ pub cycle_starts_with_a_reset_agrees : AskingAgrees cycle_starts_with_a_reset
 unfolding everything asked cycle_starts_with_a_reset
 cycle_starts_with_a_reset_agrees = record { well_formed = refl; asked = refl }
 
-pub cycle_starts_behind_a_reset_agrees : AskingAgrees cycle_starts_behind_a_reset
-unfolding everything asked cycle_starts_behind_a_reset
-cycle_starts_behind_a_reset_agrees = record { well_formed = refl; asked = refl }
+pub cycle_starts_after_a_reset_agrees : AskingAgrees cycle_starts_after_a_reset
+unfolding everything asked cycle_starts_after_a_reset
+cycle_starts_after_a_reset_agrees = record { well_formed = refl; asked = refl }
 
 pub transfer_starts_agrees : AskingAgrees transfer_starts
 unfolding everything asked transfer_starts
@@ -89,9 +89,9 @@ pub answer_rises_at_the_start_agrees : AskingAgrees answer_rises_at_the_start
 unfolding everything asked answer_rises_at_the_start
 answer_rises_at_the_start_agrees = record { well_formed = refl; asked = refl }
 
-pub cycle_starts_behind_a_break_agrees : AskingAgrees cycle_starts_behind_a_break
-unfolding everything asked cycle_starts_behind_a_break
-cycle_starts_behind_a_break_agrees = record { well_formed = refl; asked = refl }
+pub cycle_starts_after_a_break_agrees : AskingAgrees cycle_starts_after_a_break
+unfolding everything asked cycle_starts_after_a_break
+cycle_starts_after_a_break_agrees = record { well_formed = refl; asked = refl }
 
 pub cycle_starts_in_the_next_part_agrees : AskingAgrees cycle_starts_in_the_next_part
 unfolding everything asked cycle_starts_in_the_next_part
@@ -199,7 +199,7 @@ asking_agrees = (
           (
             cycle_starts_with_a_reset_agrees,
             (
-              cycle_starts_behind_a_reset_agrees,
+              cycle_starts_after_a_reset_agrees,
               (
                 transfer_starts_agrees,
                 (
@@ -223,7 +223,7 @@ asking_agrees = (
                                   (
                                     answer_rises_at_the_start_agrees,
                                     (
-                                      cycle_starts_behind_a_break_agrees,
+                                      cycle_starts_after_a_break_agrees,
                                       (
                                         cycle_starts_in_the_next_part_agrees,
                                         (

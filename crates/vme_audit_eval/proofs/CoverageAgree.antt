@@ -6,7 +6,7 @@ use Rattle.vme_audit_eval.specs.Audited.{AuditAgrees, AllAudits}
 use Rattle.vme_audit_eval.specs.Coverage.{nothing_known, idle_and_nothing_wanted, idle_and_one_wanted, read_in_a_tenure}
 use Rattle.vme_audit_eval.specs.Coverage.{one_answer_of_two, tenure_cut_off, bus_error_to_a_write, free_cycles}
 use Rattle.vme_audit_eval.specs.Coverage.{acknowledged, bus_hangs, bus_hangs_and_one_wanted, hang_that_is_reset}
-use Rattle.vme_audit_eval.specs.Coverage.{hang_behind_a_reset, hang_behind_a_break, transfer_cut_off}
+use Rattle.vme_audit_eval.specs.Coverage.{hang_after_a_reset, hang_after_a_break, transfer_cut_off}
 use Rattle.vme_audit_eval.specs.Coverage.{broken_and_not_covered, unreadable_and_not_covered, never_idle_and_one_wanted}
 use Rattle.vme_audit_eval.specs.Coverage.{stopped_at_the_first, stopped_at_the_second, stopped_nowhere, coverage}
 use Rattle.vme_audit_eval.specs.Breaks.{two_stray_answers, break_in_the_last_step, nothing_judged_while_lost}
@@ -73,13 +73,13 @@ pub hang_that_is_reset_agrees : AuditAgrees hang_that_is_reset
 unfolding everything rows audits hang_that_is_reset bus_hangs
 hang_that_is_reset_agrees = record { well_formed = refl; starts = refl; breaks = refl; counts = refl; outcome = refl }
 
-pub hang_behind_a_reset_agrees : AuditAgrees hang_behind_a_reset
-unfolding everything rows audits hang_behind_a_reset
-hang_behind_a_reset_agrees = record { well_formed = refl; starts = refl; breaks = refl; counts = refl; outcome = refl }
+pub hang_after_a_reset_agrees : AuditAgrees hang_after_a_reset
+unfolding everything rows audits hang_after_a_reset
+hang_after_a_reset_agrees = record { well_formed = refl; starts = refl; breaks = refl; counts = refl; outcome = refl }
 
-pub hang_behind_a_break_agrees : AuditAgrees hang_behind_a_break
-unfolding everything rows audits hang_behind_a_break
-hang_behind_a_break_agrees = record { well_formed = refl; starts = refl; breaks = refl; counts = refl; outcome = refl }
+pub hang_after_a_break_agrees : AuditAgrees hang_after_a_break
+unfolding everything rows audits hang_after_a_break
+hang_after_a_break_agrees = record { well_formed = refl; starts = refl; breaks = refl; counts = refl; outcome = refl }
 
 pub transfer_cut_off_agrees : AuditAgrees transfer_cut_off
 unfolding everything rows audits transfer_cut_off
@@ -161,9 +161,9 @@ coverage_agrees = (
                       (
                         hang_that_is_reset_agrees,
                         (
-                          hang_behind_a_reset_agrees,
+                          hang_after_a_reset_agrees,
                           (
-                            hang_behind_a_break_agrees,
+                            hang_after_a_break_agrees,
                             (
                               transfer_cut_off_agrees,
                               (

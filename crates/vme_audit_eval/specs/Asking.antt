@@ -39,8 +39,8 @@ cycle_ends = asks (on_busy_bus ((low AS ∷ []) ∷ (high AS ∷ []) ∷ [])) (U
 unfoldable pub cycle_starts_with_a_reset : Asking
 cycle_starts_with_a_reset = asks (on_busy_bus ((low AS ∷ low SYSRESET ∷ []) ∷ [])) (U1 ∷ [])
 
-unfoldable pub cycle_starts_behind_a_reset : Asking
-cycle_starts_behind_a_reset =
+unfoldable pub cycle_starts_after_a_reset : Asking
+cycle_starts_after_a_reset =
     asks (on_busy_bus ((low SYSRESET ∷ []) ∷ (high SYSRESET ∷ []) ∷ (low AS ∷ []) ∷ [])) (U1 ∷ U2 ∷ S1 ∷ B3 ∷ [])
 
 -- a strobe falls, or both do
@@ -84,8 +84,8 @@ unfoldable pub answer_rises_at_the_start : Asking
 answer_rises_at_the_start = asks (from_idle ((low DTACK ∷ []) ∷ (high DTACK ∷ []) ∷ [])) (U1 ∷ H4 ∷ H5 ∷ [])
 
 -- a cycle starts after a break, before the bus is idle again, or after it was
-unfoldable pub cycle_starts_behind_a_break : Asking
-cycle_starts_behind_a_break = asks (on_busy_bus ((low DTACK ∷ []) ∷ (low AS ∷ []) ∷ [])) (U1 ∷ H4 ∷ H5 ∷ [])
+unfoldable pub cycle_starts_after_a_break : Asking
+cycle_starts_after_a_break = asks (on_busy_bus ((low DTACK ∷ []) ∷ (low AS ∷ []) ∷ [])) (U1 ∷ H4 ∷ H5 ∷ [])
 
 unfoldable pub cycle_starts_in_the_next_part : Asking
 cycle_starts_in_the_next_part =
@@ -212,9 +212,9 @@ acknowledge_is_asked_for = asks (from_idle ((low IACK ∷ []) ∷ [])) (U1 ∷ [
 
 abbrev pub asking : List Asking
 asking = never_idle ∷ idle ∷ strobe_rises_at_the_start ∷ cycle_starts ∷ cycle_ends ∷ cycle_starts_with_a_reset
-    ∷ cycle_starts_behind_a_reset ∷ transfer_starts ∷ transfer_starts_by_both ∷ write_starts
+    ∷ cycle_starts_after_a_reset ∷ transfer_starts ∷ transfer_starts_by_both ∷ write_starts
     ∷ write_after_a_read_starts ∷ strobe_rises ∷ second_strobe_rises ∷ second_strobe_falls ∷ answer_falls
-    ∷ bus_error_falls ∷ answer_falls_with_a_reset ∷ answer_rises_at_the_start ∷ cycle_starts_behind_a_break
+    ∷ bus_error_falls ∷ answer_falls_with_a_reset ∷ answer_rises_at_the_start ∷ cycle_starts_after_a_break
     ∷ cycle_starts_in_the_next_part
     ∷ transfer_is_answered ∷ answer_rises ∷ bus_error_rises ∷ two_of_a_single_cycle ∷ two_of_a_block_cycle
     ∷ two_of_a_free_cycle ∷ two_of_an_acknowledge_cycle ∷ one_of_a_block_cycle ∷ one_of_an_acknowledge_cycle

@@ -137,8 +137,8 @@ hang_that_is_reset = record bus_hangs {
 }
 
 -- after a reset another transfer stays without an answer: it hangs
-unfoldable pub hang_behind_a_reset : Audited
-hang_behind_a_reset = record {
+unfoldable pub hang_after_a_reset : Audited
+hang_after_a_reset = record {
   trace =
       from_idle ((low DS0 ∷ []) ∷ (low SYSRESET ∷ []) ∷ (high DS0 ∷ high SYSRESET ∷ []) ∷ (low DS0 ∷ []) ∷ []);
   allowances = [];
@@ -150,8 +150,8 @@ hang_behind_a_reset = record {
 }
 
 -- a transfer after a break hangs
-unfoldable pub hang_behind_a_break : Audited
-hang_behind_a_break = record {
+unfoldable pub hang_after_a_break : Audited
+hang_after_a_break = record {
   trace = from_idle ((low DTACK ∷ []) ∷ (high DTACK ∷ []) ∷ (low DS0 ∷ []) ∷ []);
   allowances = allow H4 ∷ [];
   wanted = 0;
@@ -211,6 +211,6 @@ stopped_nowhere = record two_stray_answers {
 abbrev pub coverage : List Audited
 coverage = nothing_known ∷ idle_and_nothing_wanted ∷ idle_and_one_wanted ∷ read_in_a_tenure ∷ one_answer_of_two
     ∷ tenure_cut_off ∷ bus_error_to_a_write ∷ free_cycles ∷ acknowledged ∷ bus_hangs ∷ bus_hangs_and_one_wanted
-    ∷ hang_that_is_reset ∷ hang_behind_a_reset ∷ hang_behind_a_break ∷ transfer_cut_off ∷ broken_and_not_covered
+    ∷ hang_that_is_reset ∷ hang_after_a_reset ∷ hang_after_a_break ∷ transfer_cut_off ∷ broken_and_not_covered
     ∷ unreadable_and_not_covered ∷ never_idle_and_one_wanted ∷ stopped_at_the_first ∷ stopped_at_the_second
     ∷ stopped_nowhere ∷ []

@@ -20,7 +20,7 @@ use Rattle.vme_stream.specs.declared.refusal.Refusal.TheVariants.{CannotOpen, Ca
 use Rattle.vme_stream.specs.declared.refusal.Refusal.TheVariants.{BadListing, TooManyBlocks, Memory}
 use Rattle.vme_auditor.specs.Events.{asks_by}
 use Rattle.vme_auditor.specs.declared.asked.AskedEvents.{AskedEvents}
-use Rattle.vme_audit_lines.specs.AuditLines.{name_unless_asked, named_behind, names_text, refusal_behind}
+use Rattle.vme_audit_lines.specs.AuditLines.{name_unless_asked, names_text, refusal_after_name, spaced_name}
 use Rattle.vme_audit_lines.specs.AuditLines.{unasked_among, unasked_line}
 
 -- if the success of a call gives `P`, and `P` gives `Q`, the success gives `Q`
@@ -35,9 +35,9 @@ names-more : (e : AskedEvents) (rules : List Rule) (i : ℕ) (d : Rule) → i < 
     ≡ names_text (unasked_among e (take i rules)) ++ name_unless_asked e (get_or rules i d)
 unfolding names_text unasked_among
 names-more e rules i d lt =
-    ap (flat_map named_behind) (filter_more (λ (q : Rule). not (asks_by e q)) rules i d lt)
-    ∙ flat_map-append named_behind so_far (cond (not (asks_by e rule)) (rule ∷ []) [])
-    ∙ ap (λ (text : List ℕ). flat_map named_behind so_far ++ text) (by_test (asks_by e rule))
+    ap (flat_map spaced_name) (filter_more (λ (q : Rule). not (asks_by e q)) rules i d lt)
+    ∙ flat_map-append spaced_name so_far (cond (not (asks_by e rule)) (rule ∷ []) [])
+    ∙ ap (λ (text : List ℕ). flat_map spaced_name so_far ++ text) (by_test (asks_by e rule))
   where
     so_far : List Rule
     so_far = filter (λ (q : Rule). not (asks_by e q)) (take i rules)
@@ -45,9 +45,9 @@ names-more e rules i d lt =
     rule : Rule
     rule = get_or rules i d
 
-    by_test : (b : Bool) → flat_map named_behind (cond (not b) (rule ∷ []) []) ≡ cond b [] (named_behind rule)
+    by_test : (b : Bool) → flat_map spaced_name (cond (not b) (rule ∷ []) []) ≡ cond b [] (spaced_name rule)
     by_test true = refl
-    by_test false = append-nil (named_behind rule)
+    by_test false = append-nil (spaced_name rule)
 
 -- the text after one more rule
 pub names-step : (e : AskedEvents) (rules : List Rule) (i : ℕ) (d : Rule) (old so_far new : List ℕ)
@@ -86,56 +86,56 @@ some-line head (r ∷ rs) some = refl
 abbrev program : List ℕ
 program = codes "vmecheck: "
 
-abbrev behind_program : List ℕ → List ℕ
-behind_program text = drop (length program) text
+abbrev after_program : List ℕ → List ℕ
+after_program text = drop (length program) text
 
-binding-behind : (line : ℕ) (kind : BindFaultKind) → binding_fault_text line kind
-    ≡ program ++ behind_program (binding_fault_text line kind)
-binding-behind line bind.BadLine = refl
-binding-behind line bind.SlotsFirst = refl
-binding-behind line bind.UnknownName = refl
-binding-behind line bind.NamedTwice = refl
-binding-behind line (bind.Unbound l) = refl
-binding-behind line bind.Memory = refl
-binding-behind line bind.NoSuchPath = refl
-binding-behind line bind.AmbiguousPath = refl
-binding-behind line bind.WrongWidth = refl
-binding-behind line bind.TooManySteps = refl
+binding-after-program : (line : ℕ) (kind : BindFaultKind) → binding_fault_text line kind
+    ≡ program ++ after_program (binding_fault_text line kind)
+binding-after-program line bind.BadLine = refl
+binding-after-program line bind.SlotsFirst = refl
+binding-after-program line bind.UnknownName = refl
+binding-after-program line bind.NamedTwice = refl
+binding-after-program line (bind.Unbound l) = refl
+binding-after-program line bind.Memory = refl
+binding-after-program line bind.NoSuchPath = refl
+binding-after-program line bind.AmbiguousPath = refl
+binding-after-program line bind.WrongWidth = refl
+binding-after-program line bind.TooManySteps = refl
 
-listing-behind : (fault : ListFault) → listing_fault_text fault
-    ≡ program ++ behind_program (listing_fault_text fault)
-listing-behind list.BadHeader = refl
-listing-behind (list.BadRow row) = refl
-listing-behind (list.Unsorted row) = refl
-listing-behind list.Memory = refl
+listing-after-program : (fault : ListFault) → listing_fault_text fault
+    ≡ program ++ after_program (listing_fault_text fault)
+listing-after-program list.BadHeader = refl
+listing-after-program (list.BadRow row) = refl
+listing-after-program (list.Unsorted row) = refl
+listing-after-program list.Memory = refl
 
 -- the line of a refusal begins with the name of the program
-pub refusal-behind : (r : Refusal) → refusal_text r ≡ program ++ behind_program (refusal_text r)
-refusal-behind (CannotOpen input) = refl
-refusal-behind (CannotRead input) = refl
-refusal-behind (TooLong input) = refl
-refusal-behind (BadBinding fault) = binding-behind fault.line fault.kind
-refusal-behind (BadDump fault) = refl
-refusal-behind (BadListing fault) = listing-behind fault
-refusal-behind TooManyBlocks = refl
-refusal-behind Memory = refl
+pub refusal-after-program : (r : Refusal) → refusal_text r ≡ program ++ after_program (refusal_text r)
+refusal-after-program (CannotOpen input) = refl
+refusal-after-program (CannotRead input) = refl
+refusal-after-program (TooLong input) = refl
+refusal-after-program (BadBinding fault) = binding-after-program fault.line fault.kind
+refusal-after-program (BadDump fault) = refl
+refusal-after-program (BadListing fault) = listing-after-program fault
+refusal-after-program TooManyBlocks = refl
+refusal-after-program Memory = refl
 
-pub line-behind : (r : Refusal) (text : List ℕ) → text ≡ line_of (refusal_text r)
-    → take (length text - length program) (drop (length program) text) ≡ line_of (behind_program (refusal_text r))
-line-behind r text is =
+pub line-after-program : (r : Refusal) (text : List ℕ) → text ≡ line_of (refusal_text r)
+    → take (length text - length program) (drop (length program) text) ≡ line_of (after_program (refusal_text r))
+line-after-program r text is =
     take_all (length text - length program) (drop (length program) text)
     (omega (arith, length-drop (length program) text))
-    ∙ ap (drop (length program)) (is ∙ ap line_of (refusal-behind r))
+    ∙ ap (drop (length program)) (is ∙ ap line_of (refusal-after-program r))
 
 -- a refusal other than that an input can't be opened or read
-pub behind-other : (r : Refusal) → ((input : Input) → r ≡ CannotOpen input → ⊥)
+pub other-after-program : (r : Refusal) → ((input : Input) → r ≡ CannotOpen input → ⊥)
     → ((input : Input) → r ≡ CannotRead input → ⊥)
-    → refusal_behind r ≡ behind_program (refusal_text r)
-behind-other (CannotOpen input) opened read = absurd (opened input refl)
-behind-other (CannotRead input) opened read = absurd (read input refl)
-behind-other (TooLong input) opened read = refl
-behind-other (BadBinding fault) opened read = refl
-behind-other (BadDump fault) opened read = refl
-behind-other (BadListing fault) opened read = refl
-behind-other TooManyBlocks opened read = refl
-behind-other Memory opened read = refl
+    → refusal_after_name r ≡ after_program (refusal_text r)
+other-after-program (CannotOpen input) opened read = absurd (opened input refl)
+other-after-program (CannotRead input) opened read = absurd (read input refl)
+other-after-program (TooLong input) opened read = refl
+other-after-program (BadBinding fault) opened read = refl
+other-after-program (BadDump fault) opened read = refl
+other-after-program (BadListing fault) opened read = refl
+other-after-program TooManyBlocks opened read = refl
+other-after-program Memory opened read = refl

@@ -79,15 +79,15 @@ unasked_among e rules = filter (λ r. not (asks_by e r)) rules
 abbrev pub unasked : AskedEvents → List Rule
 unasked e = unasked_among e all_rules
 
-abbrev pub named_behind : Rule → List ℕ
-named_behind r = 32 ∷ rule_name r
+abbrev pub spaced_name : Rule → List ℕ
+spaced_name r = 32 ∷ rule_name r
 
 abbrev pub name_unless_asked : AskedEvents → Rule → List ℕ
-name_unless_asked e r = if asks_by e r then [] else named_behind r
+name_unless_asked e r = if asks_by e r then [] else spaced_name r
 
 -- the names of some rules, each after a space
 unfoldable pub names_text : List Rule → List ℕ
-names_text rules = flat_map named_behind rules
+names_text rules = flat_map spaced_name rules
 
 -- the line that names the rules that are never asked, if there are any
 abbrev pub unasked_line : List ℕ → List Rule → List ℕ
@@ -136,7 +136,7 @@ cannot_text reason Listing = reason ++ codes " listing"
 
 -- why there is no outcome of a dump, after its name: what can't be done with an input, or else the text that a refusal
 -- has after the name of the program
-abbrev pub refusal_behind : Refusal → List ℕ
-refusal_behind (CannotOpen input) = cannot_text (codes "cannot open") input
-refusal_behind (CannotRead input) = cannot_text (codes "cannot read") input
-refusal_behind refusal = drop (length (codes "vmecheck: ")) (refusal_text refusal)
+abbrev pub refusal_after_name : Refusal → List ℕ
+refusal_after_name (CannotOpen input) = cannot_text (codes "cannot open") input
+refusal_after_name (CannotRead input) = cannot_text (codes "cannot read") input
+refusal_after_name refusal = drop (length (codes "vmecheck: ")) (refusal_text refusal)

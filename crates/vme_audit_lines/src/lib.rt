@@ -4,7 +4,7 @@
 //!
 //! - `category`: [`BreakCategory`] is how a break counts, [`BreakCategory::of`] determines it by the
 //!   allowed deviations, and [`is_allowed`] is whether one of them allows the break.
-//! - `telling`: [`dump_head`] is the beginning of each line about a dump, its name; [`break_line`]
+//! - `dump_lines`: [`dump_head`] is the beginning of each line about a dump, its name; [`break_line`]
 //!   is the line of a break, and [`refusal_text`] is why there is no outcome.
 //! - `counts`: [`count_lines`] are the counts of the recording, and the rules that it never asks.
 //! - `outcome`: [`outcome_line`] is the line of the audit's outcome, and [`outcome_status`] is the
@@ -36,13 +36,13 @@ ghost use Rattle.vme_audit_lines.specs.AuditLines.{unasked};
 
 mod category;
 mod counts;
+mod dump_lines;
 mod outcome;
-mod telling;
 
 pub use category::{BreakCategory, is_allowed};
 pub use counts::count_lines;
+pub use dump_lines::{break_line, dump_head, refusal_text};
 pub use outcome::{outcome_line, outcome_status};
-pub use telling::{break_line, dump_head, refusal_text};
 
 /// If the events are those of the definitions, so are the rules that are named as never asked.
 pub fn unasked_is_never_asked()

@@ -73,19 +73,19 @@ fn names_are_shown(rt: HostRuntime) {
 }
 
 /// Whether the line of a break is this one.
-fn is_told(alloc: Global, category: BreakCategory, found: &AuditBreak, line: &str) -> bool {
+fn is_line(alloc: Global, category: BreakCategory, found: &AuditBreak, line: &str) -> bool {
     is_text(break_line(alloc, b"-: ", category, found), line.as_bytes())
 }
 
 #[test]
 fn breaks_are_told(rt: HostRuntime) {
     let broken = "-: broken H4 at instant 14 time 79 line BERR\n";
-    assert!(rt; is_told(rt.alloc(), BreakCategory::Broken, &STRAY, broken));
+    assert!(rt; is_line(rt.alloc(), BreakCategory::Broken, &STRAY, broken));
     let allowed = "-: allowed H4 at instant 14 time 79 line BERR\n";
-    assert!(rt; is_told(rt.alloc(), BreakCategory::Allowed, &STRAY, allowed));
+    assert!(rt; is_line(rt.alloc(), BreakCategory::Allowed, &STRAY, allowed));
     let late =
         "-: unreadable U1 at instant 18446744073709551615 time 18446744073709551615 line DTACK\n";
-    assert!(rt; is_told(rt.alloc(), BreakCategory::Unreadable, &LATE, late));
+    assert!(rt; is_line(rt.alloc(), BreakCategory::Unreadable, &LATE, late));
 }
 
 /// An allowance of a rule on every line.
@@ -216,14 +216,14 @@ never asked: C1 I5\n";
 }
 
 /// Whether the line of an outcome is this one, and its exit status this one.
-fn is_outcome_told(alloc: Global, outcome: &Outcome, line: &str, status: u8) -> bool {
+fn is_outcome_line(alloc: Global, outcome: &Outcome, line: &str, status: u8) -> bool {
     is_text(outcome_line(alloc, b"-: ", outcome), line.as_bytes())
         && outcome_status(outcome) == status
 }
 
 /// Whether the line of a gap is this one.
-fn is_gap_told(alloc: Global, gap: CoverageGap, line: &str) -> bool {
-    is_outcome_told(alloc, &Outcome::NotCovered { gap }, line, 6)
+fn is_gap_line(alloc: Global, gap: CoverageGap, line: &str) -> bool {
+    is_outcome_line(alloc, &Outcome::NotCovered { gap }, line, 6)
 }
 
 #[test]
@@ -233,10 +233,10 @@ fn outcomes_are_told(rt: HostRuntime) {
         Outcome::Conforming { allowed: 0 },
         Outcome::Conforming { allowed: 1 },
     );
-    assert!(rt; is_outcome_told(alloc, &none, "-: conforming\n", 0));
-    assert!(rt; is_outcome_told(alloc, &one, "-: conforming with 1 allowed\n", 0));
-    assert!(rt; is_outcome_told(alloc, &Outcome::Broken, "-: broken\n", 1));
-    assert!(rt; is_outcome_told(alloc, &Outcome::Unreadable, "-: unreadable\n", 2));
+    assert!(rt; is_outcome_line(alloc, &none, "-: conforming\n", 0));
+    assert!(rt; is_outcome_line(alloc, &one, "-: conforming with 1 allowed\n", 0));
+    assert!(rt; is_outcome_line(alloc, &Outcome::Broken, "-: broken\n", 1));
+    assert!(rt; is_outcome_line(alloc, &Outcome::Unreadable, "-: unreadable\n", 2));
 }
 
 #[test]
@@ -252,29 +252,29 @@ fn gaps_are_told(rt: HostRuntime) {
         time: 110,
     };
     assert!(rt;
-        is_gap_told(
+        is_gap_line(
             alloc,
             CoverageGap::NeverIdle,
             "-: not covered: never idle\n"
         )
     );
     let line = "-: not covered: never idle behind instant 12\n";
-    assert!(rt; is_gap_told(alloc, behind, line));
-    assert!(rt; is_gap_told(alloc, few, "-: not covered: 0 of 1 transfers answered\n"));
+    assert!(rt; is_gap_line(alloc, behind, line));
+    assert!(rt; is_gap_line(alloc, few, "-: not covered: 0 of 1 transfers answered\n"));
     let line = "-: not covered: transfer at instant 9 time 110 without an answer\n";
-    assert!(rt; is_gap_told(alloc, hang, line));
+    assert!(rt; is_gap_line(alloc, hang, line));
 }
 
 /// Whether the text of a refusal is this one.
-fn is_refusal_told(alloc: Global, refusal: Refusal, text: &str) -> bool {
+fn is_refusal_line(alloc: Global, refusal: Refusal, text: &str) -> bool {
     is_text(refusal_text(alloc, &refusal), text.as_bytes())
 }
 
 /// Whether the texts for inputs that can't be read are right.
 fn are_inputs_told(alloc: Global) -> bool {
-    is_refusal_told(alloc, Refusal::CannotOpen(Input::Dump), "cannot open\n")
-        && is_refusal_told(alloc, Refusal::CannotRead(Input::Dump), "cannot read\n")
-        && is_refusal_told(
+    is_refusal_line(alloc, Refusal::CannotOpen(Input::Dump), "cannot open\n")
+        && is_refusal_line(alloc, Refusal::CannotRead(Input::Dump), "cannot read\n")
+        && is_refusal_line(
             alloc,
             Refusal::CannotOpen(Input::Binding),
             "cannot open binding\n",
@@ -291,15 +291,15 @@ fn are_faults_told(alloc: Global) -> bool {
         line: 5,
         kind: BindFaultKind::NoSuchPath,
     };
-    is_refusal_told(
+    is_refusal_line(
         alloc,
         Refusal::BadDump(bad_dump),
         "dump line 119: ScopeUnderflow\n",
-    ) && is_refusal_told(
+    ) && is_refusal_line(
         alloc,
         Refusal::BadBinding(no_path),
         "binding line 5: NoSuchPath\n",
-    ) && is_refusal_told(alloc, Refusal::Memory, "out of memory\n")
+    ) && is_refusal_line(alloc, Refusal::Memory, "out of memory\n")
 }
 
 #[test]

@@ -36,7 +36,7 @@ use Rattle.vme_dtb.specs.declared.memory.HandshakeMemory.{HandshakeMemory}
 use Rattle.vme_summary.specs.Runs.{handshake_run, known_run}
 use Rattle.vme_summary.proofs.Sound.{sound_apart}
 use Rattle.vme_audit.specs.AskedRules.{asking_end, asks, asks_in, happens}
-use Rattle.vme_audit.specs.Parts.{Part, named_break, own_break, part_behind, parts_from}
+use Rattle.vme_audit.specs.Parts.{Part, named_break, own_break, part_after, parts_from}
 use Rattle.vme_auditor.specs.Audited.{AuditReached, events_by, with_step, with_stretch}
 use Rattle.vme_auditor.specs.Events.{asks_by}
 use Rattle.vme_auditor.specs.FirstBreak.{first_break_from}
@@ -46,9 +46,8 @@ use Rattle.vme_auditor.specs.declared.memories.Memories.{Memories}
 use Rattle.vme_auditor.proofs.AskedSteps.{asked_to, happened_by, happened_last, happened_to, known_phase, phase_at}
 use Rattle.vme_auditor.proofs.AskedSteps.{stretch_alone, stretch_to}
 use Rattle.vme_auditor.proofs.FirstBreaks.{first_within}
-use Rattle.vme_auditor.proofs.ToldBreaks.{FindsFirst, levels_next, memories_behind, memories_stepped, recorded}
-use Rattle.vme_auditor.proofs.ToldBreaks.{rest_slots}
-use Rattle.vme_auditor.proofs.ToldBreaks.{rest_sound}
+use Rattle.vme_auditor.proofs.ReturnedBreaks.{FindsFirst, levels_next, memories_after, memories_stepped, recorded}
+use Rattle.vme_auditor.proofs.ReturnedBreaks.{rest_slots, rest_sound}
 use Rattle.vme_auditor.proofs.Truth.{or_fails}
 
 -- the events after one more step
@@ -59,9 +58,9 @@ then_step m o e s =
     (known_at m.known o after s.changes).shown (handshake_at m.handshake o after s.changes).shown
 
 -- the events after a step: at a break judging starts anew
-abbrev events_behind : Option Fault → Levels → AskedEvents → AskedEvents
-events_behind None after e = e
-events_behind (Some f) after e = with_stretch e (has_started (memories_at after).known)
+abbrev events_after : Option Fault → Levels → AskedEvents → AskedEvents
+events_after None after e = e
+events_after (Some f) after e = with_stretch e (has_started (memories_at after).known)
 
 -- the events after steps `x`, by monitors that start from memories `m`
 unfoldable pub events_from : Memories → Levels → AskedEvents → List Step → AskedEvents
@@ -69,17 +68,17 @@ events_from m o e [] = e
 events_from m o e (s ∷ x) =
     let after = changed o s.changes in
     let fault = first_fault_of m o after s.changes in
-    events_from (memories_behind fault after (memories_next m o after s.changes)) after
-    (events_behind fault after (then_step m o e s)) x
+    events_from (memories_after fault after (memories_next m o after s.changes)) after
+    (events_after fault after (then_step m o e s)) x
 
 events_stepped : (r : AuditReached) (s : Step) → (with_step r s).audit.events
-    ≡ events_behind (first_fault_of r.audit.memories r.levels (changed r.levels s.changes) s.changes)
+    ≡ events_after (first_fault_of r.audit.memories r.levels (changed r.levels s.changes) s.changes)
     (changed r.levels s.changes) (then_step r.audit.memories r.levels r.audit.events s)
 events_stepped r s = by_fault (first_fault_of r.audit.memories r.levels (changed r.levels s.changes) s.changes) refl
   where
     by_fault : (f : Option Fault) → first_fault_of r.audit.memories r.levels (changed r.levels s.changes) s.changes ≡ f
         → (with_step r s).audit.events
-        ≡ events_behind f (changed r.levels s.changes) (then_step r.audit.memories r.levels r.audit.events s)
+        ≡ events_after f (changed r.levels s.changes) (then_step r.audit.memories r.levels r.audit.events s)
     by_fault None e = rw e refl
     by_fault (Some f) e = rw e refl
 
@@ -92,7 +91,7 @@ events_along (s ∷ x) r =
     let q = with_step r s in
     events_along x q
     ∙ ap (λ (m : Memories). events_from m after q.audit.events x) (memories_stepped r s)
-    ∙ ap (λ (e : AskedEvents). events_from (memories_behind (first_fault_of r.audit.memories r.levels after s.changes)
+    ∙ ap (λ (e : AskedEvents). events_from (memories_after (first_fault_of r.audit.memories r.levels after s.changes)
     after (memories_next r.audit.memories r.levels after s.changes)) after e x) (events_stepped r s)
 
 -- the events after steps `x`, where breaks are ignored
@@ -134,7 +133,7 @@ module _ (m : Memories) (o : Levels) (s : Step) (x : List Step) (e : AskedEvents
 
   to_stepped : (f : Option Fault) (time : ℕ) → events_from next after more x
       ≡ events_to next after more x (first_break_from next after x)
-      → events_from (memories_behind f after next) after (events_behind f after more) x
+      → events_from (memories_after f after next) after (events_after f after more) x
       ≡ events_to m o e (s ∷ x)
       (earlier (option_map (break_of_fault 1 time) f) (option_map (shifted_break 1) (first_break_from next after x)))
   unfolding levels_at quiet_events
@@ -392,21 +391,21 @@ module _ (finds : FindsFirst) (starts : KnowsStart) where
         broken_happened : HaveHappened n → first_break_from (memories_at o) o x ≡ Some b
             → asks_by (events_to (memories_at o) o fresh x (Some b)) r
             ≡ (asks_by e r || (list_any (asks_in (recorded o x) (Some b) r) (judged_spans (recorded o x))
-            || list_any (asks r) (parts_from n (part_behind here b))))
+            || list_any (asks r) (parts_from n (part_after here b))))
         broken_happened happened_by found =
             happened_by (start + b.instant) left (drop b.instant x)
             (quiet_events (memories_at o) o fresh (take b.instant x)) fewer (rest_sound (recorded o x) b.instant ok)
             (subst (λ k. k ≤ 21) (sym (rest_slots (recorded o x) b.instant)) few)
-            ∙ ap (λ c. c || list_any (asks r) (parts_from n (part_behind here b)))
+            ∙ ap (λ c. c || list_any (asks r) (parts_from n (part_after here b)))
             (part_asked o x ok few (Some b) b.instant w.1 (add-one b.instant) e (begun_break o x ok few b found w.1) r)
             ∙ or_assoc (asks_by e r) (list_any (asks_in (recorded o x) (Some b) r) (judged_spans (recorded o x)))
-            (list_any (asks r) (parts_from n (part_behind here b)))
+            (list_any (asks r) (parts_from n (part_after here b)))
 
       happened_for : (n : ℕ) → length x ≤ suc n → HaveHappened n → (found : Option Break) → BreakWithin (length x) found
           → first_break_from (memories_at o) o x ≡ found
           → asks_by (events_to (memories_at o) o fresh x found) r
           ≡ (asks_by e r || (list_any (asks_in (recorded o x) found r) (judged_spans (recorded o x))
-          || list_any (asks r) (option_map_or (λ b. parts_from n (part_behind here b)) found [])))
+          || list_any (asks r) (option_map_or (λ b. parts_from n (part_after here b)) found [])))
       happened_for n short happened_by None w found = last_happened found
       happened_for n short happened_by (Some b) w found = broken_happened n short b w happened_by found
 

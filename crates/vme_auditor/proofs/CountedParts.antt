@@ -21,7 +21,7 @@ use Rattle.vme_summary.specs.MarkedRows.{marks_before, marks_listed}
 use Rattle.vme_summary.specs.MarkedRows.{rows_of as marked_rows}
 use Rattle.vme_audit.specs.Counted.{count_of, counts_of_rows, rows_of}
 use Rattle.vme_audit.specs.Covered.{hanging}
-use Rattle.vme_audit.specs.Parts.{Part, last_from, own_break, part_behind, parts_from}
+use Rattle.vme_audit.specs.Parts.{Part, last_from, own_break, part_after, parts_from}
 use Rattle.vme_audit.specs.declared.counts.Counts.{Counts}
 use Rattle.vme_auditor.specs.FirstBreak.{first_break_from}
 use Rattle.vme_auditor.specs.JoinedMarks.{joined_marks}
@@ -36,7 +36,7 @@ use Rattle.vme_auditor.proofs.MarkCounts.{sum_of, tally}
 use Rattle.vme_auditor.proofs.MarkHangs.{has_reset, marks_hang}
 use Rattle.vme_auditor.proofs.PartRows.{CountAlike, ShowsMarks, marks_cut, part_rows}
 use Rattle.vme_auditor.proofs.TalliedSteps.{quiet_marks, quiet_tally, tally_by, tally_first, tally_from}
-use Rattle.vme_auditor.proofs.ToldBreaks.{FindsFirst, recorded, rest_slots, rest_sound}
+use Rattle.vme_auditor.proofs.ReturnedBreaks.{FindsFirst, recorded, rest_slots, rest_sound}
 
 -- the number of rows of `xs ++ ys` that `is` holds of is the sum of those of `xs` and of `ys`
 count_append : (is : Row → Bool) (xs ys : List Row) → count_of is (xs ++ ys) ≡ count_of is xs + count_of is ys
@@ -108,10 +108,10 @@ cut_counts start o x c i h =
     ∙ ap (λ k. marks_before k (joined_marks (memories_at o) o x)) one_more)
 
 -- the last part of `q` and the parts after it doesn't depend on the part before
-pub last_behind : (n : ℕ) (p q : Part) → last_from p (parts_from n q) ≡ last_from q (parts_from n q)
+pub last_from_any : (n : ℕ) (p q : Part) → last_from p (parts_from n q) ≡ last_from q (parts_from n q)
 unfolding parts_from
-last_behind zero p q = refl
-last_behind (suc n) p q = refl
+last_from_any zero p q = refl
+last_from_any (suc n) p q = refl
 
 module _ (finds : FindsFirst) (shows : ShowsMarks) where
   rows_are : (start : ℕ) (o : Levels) (x : List Step) → malformed_step (recorded o x) ≡ None → o.slots ≤ 21
@@ -181,7 +181,7 @@ module _ (finds : FindsFirst) (shows : ShowsMarks) where
             (break_is_fresh so_far)
 
         abbrev others : List Row
-        others = flat_map rows_of (parts_from n (part_behind here b))
+        others = flat_map rows_of (parts_from n (part_after here b))
 
         counts_broken : AreCounted n → first_break_from (memories_at o) o x ≡ Some b
             → counts_so_far suc (tally_from (memories_at o) o start (fresh c) x (Some b))
@@ -197,24 +197,24 @@ module _ (finds : FindsFirst) (shows : ShowsMarks) where
 
         hang_broken : AreHung n
             → hang_so_far (tally_from (memories_at o) o start (fresh c) x (Some b))
-            ≡ option_map (started_of (last_from here (parts_from n (part_behind here b))))
-            (hanging (rows_of (last_from here (parts_from n (part_behind here b)))))
+            ≡ option_map (started_of (last_from here (parts_from n (part_after here b))))
+            (hanging (rows_of (last_from here (parts_from n (part_after here b)))))
         hang_broken hung =
             ap hang_so_far again
             ∙ hung (start + b.instant) left (drop b.instant x) (counts_so_far suc so_far) fewer sound narrow
             ∙ ap (λ (last : Part). option_map (started_of last) (hanging (rows_of last)))
-            (sym (last_behind n here (part_behind here b)))
+            (sym (last_from_any n here (part_after here b)))
 
       counts_by : AreCounted n → (e : Option Break) → BreakWithin (length x) e → first_break_from (memories_at o) o x
           ≡ e
           → counts_so_far suc (tally_from (memories_at o) o start (fresh c) x e)
           ≡ sum_of c (counts_of_rows (rows_of here
-          ++ flat_map rows_of (option_map_or (λ b. parts_from n (part_behind here b)) e [])))
+          ++ flat_map rows_of (option_map_or (λ b. parts_from n (part_after here b)) e [])))
       counts_by counted None w e = counts_last e
       counts_by counted (Some b) w e = counts_broken b w counted e
 
       hang_by : AreHung n → (e : Option Break) → BreakWithin (length x) e → first_break_from (memories_at o) o x ≡ e
-          → let last = last_from here (option_map_or (λ b. parts_from n (part_behind here b)) e []) in
+          → let last = last_from here (option_map_or (λ b. parts_from n (part_after here b)) e []) in
           hang_so_far (tally_from (memories_at o) o start (fresh c) x e)
           ≡ option_map (started_of last) (hanging (rows_of last))
       hang_by hung None w e = hang_last e

@@ -15,7 +15,7 @@ use Rattle.vme_summary.proofs.Sound.{sound_apart}
 use Rattle.vme_auditor.specs.Audited.{AuditReached, HasAudited, begun_at, reached_after, reached_at, stepped, with_step}
 use Rattle.vme_auditor.specs.Memories.{fault_at}
 use Rattle.vme_auditor.specs.declared.audit.Audit.{Audit}
-use Rattle.vme_auditor.proofs.ToldBreaks.{FindsFirst, told_are_breaks}
+use Rattle.vme_auditor.proofs.ReturnedBreaks.{FindsFirst, returned_are_breaks}
 
 fold_more : (x : List Step) (r : AuditReached) (s : Step) → fold with_step r (x ++ s ∷ [])
     ≡ with_step (fold with_step r x) s
@@ -58,17 +58,17 @@ module _ (o : Levels) (x : List Step) (s : Step) (n : ℕ) (v : StepView) (a : A
   reached : reached_after o (x ++ s ∷ []) ≡ with_step r s
   reached = reached_more o x s
 
-  alike : (a b : Audit) (v w : Levels) (v' w' : Levels) (cs cs' : List Change) (i j : ℕ) → a ≡ b → v ≡ w → v' ≡ w'
-      → cs ≡ cs' → i ≡ j → stepped a v v' cs i s.time ≡ stepped b w w' cs' j s.time
-  alike a b v w v' w' cs cs' i j p q p' q' z =
+  stepped_alike : (a b : Audit) (v w : Levels) (v' w' : Levels) (cs cs' : List Change) (i j : ℕ) → a ≡ b → v ≡ w
+      → v' ≡ w' → cs ≡ cs' → i ≡ j → stepped a v v' cs i s.time ≡ stepped b w w' cs' j s.time
+  stepped_alike a b v w v' w' cs cs' i j p q p' q' z =
       ap (λ (a : Audit). stepped a v v' cs i s.time) p ∙ ap (λ (v : Levels). stepped b v v' cs i s.time) q
       ∙ ap (λ (v' : Levels). stepped b w v' cs i s.time) p' ∙ ap (λ (cs : List Change). stepped b w w' cs i s.time) q'
       ∙ ap (λ i. stepped b w w' cs' i s.time) z
 
-  found_alike : (a b : Audit) (v w : Levels) (v' w' : Levels) (cs cs' : List Change) (i j : ℕ) → a ≡ b → v ≡ w
+  fault_alike : (a b : Audit) (v w : Levels) (v' w' : Levels) (cs cs' : List Change) (i j : ℕ) → a ≡ b → v ≡ w
       → v' ≡ w' → cs ≡ cs' → i ≡ j
       → fault_at a.memories v v' cs i s.time ≡ fault_at b.memories w w' cs' j s.time
-  found_alike a b v w v' w' cs cs' i j p q p' q' z =
+  fault_alike a b v w v' w' cs cs' i j p q p' q' z =
       ap (λ (a : Audit). fault_at a.memories v v' cs i s.time) p
       ∙ ap (λ (v : Levels). fault_at b.memories v v' cs i s.time) q
       ∙ ap (λ (v' : Levels). fault_at b.memories w v' cs i s.time) p'
@@ -86,21 +86,21 @@ module _ (o : Levels) (x : List Step) (s : Step) (n : ℕ) (v : StepView) (a : A
         after = after ∙ to ∙ sym (ap (λ (r : AuditReached). r.levels) reached);
         audit_is =
             stepping
-            ∙ alike a r.audit u.before r.levels u.after (changed r.levels s.changes) cs s.changes later (r.instant + 1)
-            k.audit_is from to own at
+            ∙ stepped_alike a r.audit u.before r.levels u.after (changed r.levels s.changes) cs s.changes later
+            (r.instant + 1) k.audit_is from to own at
             ∙ sym (ap (λ (r : AuditReached). r.audit) reached);
       }
 
   -- the break of `s`, if there is one, is what `s` adds to the recording's breaks
-  pub told_next : FindsFirst → malformed_step (recorded o (x ++ s ∷ [])) ≡ None → o.slots ≤ 21
+  pub returned_next : FindsFirst → malformed_step (recorded o (x ++ s ∷ [])) ≡ None → o.slots ≤ 21
       → (found : Option Break) → found ≡ fault_at a.memories u.before u.after cs later s.time
       → breaks (recorded o (x ++ s ∷ [])) ≡ breaks (recorded o x) ++ option_to_list found
-  told_next finds ok few found e =
-      told_are_breaks finds (recorded o (x ++ s ∷ [])) ok few
-      ∙ ap (λ (r : AuditReached). r.told) reached
+  returned_next finds ok few found e =
+      returned_are_breaks finds (recorded o (x ++ s ∷ [])) ok few
+      ∙ ap (λ (r : AuditReached). r.returned) reached
       ∙ ap (λ (bs : List Break). bs ++ option_to_list (fault_at r.audit.memories r.levels (changed r.levels s.changes)
       s.changes (r.instant + 1) s.time))
-      (sym (told_are_breaks finds (recorded o x) (sound_apart o x (s ∷ []) ok).first few))
+      (sym (returned_are_breaks finds (recorded o x) (sound_apart o x (s ∷ []) ok).first few))
       ∙ ap (λ (e : Option Break). breaks (recorded o x) ++ option_to_list e)
-      (sym (e ∙ found_alike a r.audit u.before r.levels u.after (changed r.levels s.changes) cs s.changes later
+      (sym (e ∙ fault_alike a r.audit u.before r.levels u.after (changed r.levels s.changes) cs s.changes later
       (r.instant + 1) k.audit_is from to own at))

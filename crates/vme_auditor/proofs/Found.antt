@@ -31,7 +31,7 @@ use Rattle.vme_auditor.proofs.MarkCounts.{nothing_counted, sum_nothing}
 use Rattle.vme_auditor.proofs.PartRows.{ShowsMarks}
 use Rattle.vme_auditor.proofs.TalliedSteps.{tally_along, tally_by}
 use Rattle.vme_auditor.proofs.TallyBounds.{Fits, IsExact, pending_exact, tally_exact}
-use Rattle.vme_auditor.proofs.ToldBreaks.{FindsFirst, recorded, told_are_breaks}
+use Rattle.vme_auditor.proofs.ReturnedBreaks.{FindsFirst, recorded, returned_are_breaks}
 
 -- no rule is asked before a recording
 nothing_asked : (r : Rule) → asks_by nothing_happened r ≡ false
@@ -63,11 +63,11 @@ module _ (finds : FindsFirst) (o : Levels) (x : List Step) (n : ℕ) (view : Ste
   abbrev reached : AuditReached
   reached = reached_after o x
 
-  pub finds_behind : a.last_break ≡ last_instant_of (breaks (recorded o x))
+  pub finds_last_break : a.last_break ≡ last_instant_of (breaks (recorded o x))
   unfolding reached_after
-  finds_behind =
+  finds_last_break =
       ap (λ (a : Audit). a.last_break) keeps.audit_is ∙ last_along x (reached_at o) refl
-      ∙ ap last_instant_of (sym (told_are_breaks finds (recorded o x) ok few))
+      ∙ ap last_instant_of (sym (returned_are_breaks finds (recorded o x) ok few))
 
   pub finds_judged : KnowsStart → has_started a.memories.known ≡ is_judged_part (last_part (recorded o x))
   unfolding reached_after parts

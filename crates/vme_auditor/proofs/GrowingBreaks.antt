@@ -19,7 +19,7 @@ use Rattle.vme_summary.proofs.Sound.{sound_apart}
 use Rattle.vme_auditor.specs.Audited.{AuditReached, reached_after, reached_at, with_step}
 use Rattle.vme_auditor.specs.Growth.{StepBreaks}
 use Rattle.vme_auditor.specs.Memories.{first_fault_of}
-use Rattle.vme_auditor.proofs.ToldBreaks.{FindsFirst, told_are_breaks}
+use Rattle.vme_auditor.proofs.ReturnedBreaks.{FindsFirst, returned_are_breaks}
 
 own_instant : (n time : ℕ) (f : Option Fault) → IfSome (option_map (break_of_fault n time) f) (λ b. b.instant ≡ n)
 own_instant n time None = tt
@@ -32,21 +32,21 @@ own_within n m time le (Some f) =
     All-cons (λ (b : Break). b.instant ≤ m) (break_of_fault n time f) [] le (All-nil (λ (b : Break). b.instant ≤ m))
 
 -- no returned break is after the last step
-told_within : (x : List Step) (r : AuditReached) → All (λ (b : Break). b.instant ≤ r.instant) r.told
-    → All (λ (b : Break). b.instant ≤ r.instant + length x) (fold with_step r x).told
-told_within [] r so_far =
+returned_within : (x : List Step) (r : AuditReached) → All (λ (b : Break). b.instant ≤ r.instant) r.returned
+    → All (λ (b : Break). b.instant ≤ r.instant + length x) (fold with_step r x).returned
+returned_within [] r so_far =
     All-weaker (λ (b : Break). b.instant ≤ r.instant) (λ (b : Break). b.instant ≤ r.instant + 0) (λ b le. omega arith)
-    r.told so_far
-told_within (s ∷ x) r so_far =
+    r.returned so_far
+returned_within (s ∷ x) r so_far =
     let n = r.instant + 1 in
     let found = first_fault_of r.audit.memories r.levels (changed r.levels s.changes) s.changes in
     let before = All-weaker (λ (b : Break). b.instant ≤ r.instant) (λ (b : Break). b.instant ≤ n) (λ b le. omega arith)
-    r.told so_far in
-    let next = All-append (λ (b : Break). b.instant ≤ n) r.told
+    r.returned so_far in
+    let next = All-append (λ (b : Break). b.instant ≤ n) r.returned
     (option_to_list (option_map (break_of_fault n s.time) found))
     before (own_within n n s.time (omega arith) found) in
     All-weaker (λ (b : Break). b.instant ≤ n + length x) (λ (b : Break). b.instant ≤ r.instant + length (s ∷ x))
-    (λ b le. omega arith) (fold with_step (with_step r s) x).told (told_within x (with_step r s) next)
+    (λ b le. omega arith) (fold with_step (with_step r s) x).returned (returned_within x (with_step r s) next)
 
 instant_after : (x : List Step) (r : AuditReached) → (fold with_step r x).instant ≡ r.instant + length x
 instant_after [] r = omega arith
@@ -55,17 +55,17 @@ instant_after (s ∷ x) r = instant_after x (with_step r s) ∙ omega arith
 module _ (finds : FindsFirst) where
   pub none_before : (o : Levels) → o.slots ≤ 21 → breaks (record { opening = o; steps = [] }) ≡ []
   unfolding reached_after malformed_step least
-  none_before o few = told_are_breaks finds (record { opening = o; steps = [] }) refl few
+  none_before o few = returned_are_breaks finds (record { opening = o; steps = [] }) refl few
 
   pub breaks_within : (t : Trace) → malformed_step t ≡ None → t.opening.slots ≤ 21
       → All (λ (b : Break). b.instant ≤ length t.steps) (breaks t)
   unfolding reached_after
   breaks_within t ok few =
       subst (λ (bs : List Break). All (λ (b : Break). b.instant ≤ length t.steps) bs)
-      (sym (told_are_breaks finds t ok few))
+      (sym (returned_are_breaks finds t ok few))
       (All-weaker (λ (b : Break). b.instant ≤ 0 + length t.steps) (λ (b : Break). b.instant ≤ length t.steps)
-      (λ b le. omega arith) (reached_after t.opening t.steps).told
-      (told_within t.steps (reached_at t.opening) (All-nil (λ (b : Break). b.instant ≤ 0))))
+      (λ b le. omega arith) (reached_after t.opening t.steps).returned
+      (returned_within t.steps (reached_at t.opening) (All-nil (λ (b : Break). b.instant ≤ 0))))
 
   pub step_breaks : (t : Trace) (s : Step) → malformed_step (with_steps t (s ∷ [])) ≡ None → t.opening.slots ≤ 21
       → StepBreaks t s
@@ -82,8 +82,8 @@ module _ (finds : FindsFirst) where
             subst (λ k. IfSome (option_map (break_of_fault (r.instant + 1) s.time) fault) (λ b. b.instant ≡ k + 1)) n
             (own_instant (r.instant + 1) s.time fault);
         grown =
-            told_are_breaks finds (with_steps t (s ∷ [])) ok few
-            ∙ ap (λ (r : AuditReached). r.told) more
+            returned_are_breaks finds (with_steps t (s ∷ [])) ok few
+            ∙ ap (λ (r : AuditReached). r.returned) more
             ∙ ap (λ (bs : List Break). bs ++ option_to_list (option_map (break_of_fault (r.instant + 1) s.time) fault))
-            (sym (told_are_breaks finds t (sound_apart t.opening t.steps (s ∷ []) ok).first few));
+            (sym (returned_are_breaks finds t (sound_apart t.opening t.steps (s ∷ []) ok).first few));
       }

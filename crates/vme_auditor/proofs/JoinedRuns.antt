@@ -53,10 +53,10 @@ module _ (n : ℕ) where
   rest_all k [] h b = refl
   rest_all k (l ∷ ls) h b = rw (lt_fails (kind_number l) (kind_number k) (omega (arith, b.0))) refl
 
-  merged_behind : (ks ls : List MarkKind) → AllFrom n ks → AllBelow n ls → merged (marked ks) (marked ls)
+  merged_in_order : (ks ls : List MarkKind) → AllFrom n ks → AllBelow n ls → merged (marked ks) (marked ls)
       ≡ marked (ls ++ ks)
-  merged_behind [] ls f b = ap marked (sym (append-nil ls))
-  merged_behind (k ∷ ks) ls f b =
+  merged_in_order [] ls f b = ap marked (sym (append-nil ls))
+  merged_in_order (k ∷ ks) ls f b =
       rw (front_all k ls f.0 b, rest_none k ls f.0 b, merged-nothing (marked ks))
       (sym (map-append (mark_at 1) ls (k ∷ ks)))
 
@@ -67,21 +67,21 @@ module _ (n : ℕ) where
       rw (front_none k ls b.0 f, rest_all k ls b.0 f) (ap (λ x. mark_at 1 k ∷ x) (merged_before ks ls b.1 f))
 
 -- the monitors of held lines and of acknowledges show no marks
-stability_silent : (x : List Step) (m : Memories) (o : Levels) → (stability_run m.stability o x).marks ≡ []
+stability_has_no_marks : (x : List Step) (m : Memories) (o : Levels) → (stability_run m.stability o x).marks ≡ []
 unfolding stability_run
-stability_silent [] m o = refl
-stability_silent (s ∷ x) m o =
+stability_has_no_marks [] m o = refl
+stability_has_no_marks (s ∷ x) m o =
     let after = changed o s.changes in
     let next = memories_next m o after s.changes in
-    rw (stability_own m o after s.changes) (ap (map (shifted_mark 1)) (stability_silent x next after))
+    rw (stability_own m o after s.changes) (ap (map (shifted_mark 1)) (stability_has_no_marks x next after))
 
-acknowledge_silent : (x : List Step) (m : Memories) (o : Levels) → (acknowledge_run m.acknowledge o x).marks ≡ []
+acknowledge_has_no_marks : (x : List Step) (m : Memories) (o : Levels) → (acknowledge_run m.acknowledge o x).marks ≡ []
 unfolding acknowledge_run
-acknowledge_silent [] m o = refl
-acknowledge_silent (s ∷ x) m o =
+acknowledge_has_no_marks [] m o = refl
+acknowledge_has_no_marks (s ∷ x) m o =
     let after = changed o s.changes in
     let next = memories_next m o after s.changes in
-    rw (acknowledge_own m o after s.changes) (ap (map (shifted_mark 1)) (acknowledge_silent x next after))
+    rw (acknowledge_own m o after s.changes) (ap (map (shifted_mark 1)) (acknowledge_has_no_marks x next after))
 
 -- the marks of the stretch, of the tenure, and of the cycle and the transfer
 three_joined : (x : List Step) (m : Memories) (o : Levels)
@@ -112,7 +112,7 @@ three_joined (s ∷ x) m o =
     (merged_joined 1 (length x) (marked (kinds_of d)) (marked (kinds_of g)) handshake.marks grant.marks
     (marked_within (kinds_of d)) (marked_within (kinds_of g)) handshake_within.1 grant_within.1
     ∙ ap (λ (y : List Mark). y ++ map (shifted_mark 1) (merged handshake.marks grant.marks))
-    (merged_behind 5 (kinds_of d) (kinds_of g) d_from g_below))
+    (merged_in_order 5 (kinds_of d) (kinds_of g) d_from g_below))
     ∙ merged_joined 1 (length x) (marked (kinds_of k)) (marked (kinds_of g ++ kinds_of d)) known.marks
     (merged handshake.marks grant.marks) (marked_within (kinds_of k)) (marked_within (kinds_of g ++ kinds_of d))
     known_within.1 two_within
@@ -130,7 +130,7 @@ pub runs_joined : (x : List Step) (m : Memories) (o : Levels)
     ≡ joined_marks m o x
 runs_joined x m o =
     rw (
-      stability_silent x m o,
-      acknowledge_silent x m o,
+      stability_has_no_marks x m o,
+      acknowledge_has_no_marks x m o,
       merged-nothing (grant_run m.grant o x).marks,
     ) (three_joined x m o)

@@ -17,25 +17,24 @@ use Rattle.vme_monitor.specs.Run.{break_of_fault}
 use Rattle.vme_monitor.specs.Whole.{has_span}
 use Rattle.vme_monitor.specs.declared.mark.Fault.{Fault}
 use Rattle.vme_audit.specs.Covered.{has_stretch, is_judged_part}
-use Rattle.vme_audit.specs.Parts.{Part, last_from, own_break, part_behind, parts_from}
+use Rattle.vme_audit.specs.Parts.{Part, last_from, own_break, part_after, parts_from}
 use Rattle.vme_auditor.specs.Audited.{AuditReached, with_step}
 use Rattle.vme_auditor.specs.Breaks.{last_instant_of}
 use Rattle.vme_auditor.specs.FirstBreak.{first_break_from}
 use Rattle.vme_auditor.specs.Memories.{first_fault_of, memories_at, memories_next}
 use Rattle.vme_auditor.specs.declared.memories.Memories.{Memories}
 use Rattle.vme_auditor.proofs.AskedParts.{KnowsStart, known_left, quiet_memories}
-use Rattle.vme_auditor.proofs.CountedParts.{last_behind}
+use Rattle.vme_auditor.proofs.CountedParts.{last_from_any}
 use Rattle.vme_auditor.proofs.FirstBreaks.{first_within}
-use Rattle.vme_auditor.proofs.ToldBreaks.{FindsFirst, levels_next, memories_behind, memories_stepped, recorded}
-use Rattle.vme_auditor.proofs.ToldBreaks.{rest_slots}
-use Rattle.vme_auditor.proofs.ToldBreaks.{rest_sound}
+use Rattle.vme_auditor.proofs.ReturnedBreaks.{FindsFirst, levels_next, memories_after, memories_stepped, recorded}
+use Rattle.vme_auditor.proofs.ReturnedBreaks.{rest_slots, rest_sound}
 
 -- the memories of the monitors after steps `x`
 unfoldable pub memories_from : Memories → Levels → List Step → Memories
 memories_from m o [] = m
 memories_from m o (s ∷ x) =
     let after = changed o s.changes in
-    memories_from (memories_behind (first_fault_of m o after s.changes) after
+    memories_from (memories_after (first_fault_of m o after s.changes) after
     (memories_next m o after s.changes)) after x
 
 pub memories_along : (x : List Step) (r : AuditReached) → (fold with_step r x).audit.memories
@@ -68,7 +67,7 @@ module _ (m : Memories) (o : Levels) (s : Step) (x : List Step) where
 
   to_stepped : (f : Option Fault) (time : ℕ) → memories_from next after x
       ≡ memories_to next after x (first_break_from next after x)
-      → memories_from (memories_behind f after next) after x
+      → memories_from (memories_after f after next) after x
       ≡ memories_to m o (s ∷ x)
       (earlier (option_map (break_of_fault 1 time) f) (option_map (shifted_break 1) (first_break_from next after x)))
   unfolding levels_at quiet_memories
@@ -108,14 +107,14 @@ module _ (finds : FindsFirst) (starts : KnowsStart) where
 
     judged_by : (n : ℕ) → length x ≤ suc n → AreJudged n → (found : Option Break) → BreakWithin (length x) found
         → has_started (memories_to (memories_at o) o x found).known
-        ≡ is_judged_part (last_from here (option_map_or (λ b. parts_from n (part_behind here b)) found []))
+        ≡ is_judged_part (last_from here (option_map_or (λ b. parts_from n (part_after here b)) found []))
     judged_by n short judged None w = judged_last
     judged_by n short judged (Some b) w =
         let fewer : length (drop b.instant x) ≤ n = simp length-drop (omega arith) in
         judged (start + b.instant) (levels_at (recorded o x) b.instant) (drop b.instant x) fewer
         (rest_sound (recorded o x) b.instant ok)
         (subst (λ k. k ≤ 21) (sym (rest_slots (recorded o x) b.instant)) few)
-        ∙ ap is_judged_part (sym (last_behind n here (part_behind here b)))
+        ∙ ap is_judged_part (sym (last_from_any n here (part_after here b)))
 
   pub parts_judged : (n : ℕ) → AreJudged n
   unfolding parts_from own_break first_break_from memories_from quiet_memories
@@ -127,13 +126,13 @@ module _ (finds : FindsFirst) (starts : KnowsStart) where
       (first_within x (memories_at o) o))
 
 -- the instant of the last break is that of the last one returned
-last_told : (bs : List Break) (b : Break) → last_instant_of (bs ++ b ∷ []) ≡ Some b.instant
-last_told [] b = refl
-last_told (c ∷ []) b = refl
-last_told (c ∷ d ∷ bs) b = last_told (d ∷ bs) b
+last_returned : (bs : List Break) (b : Break) → last_instant_of (bs ++ b ∷ []) ≡ Some b.instant
+last_returned [] b = refl
+last_returned (c ∷ []) b = refl
+last_returned (c ∷ d ∷ bs) b = last_returned (d ∷ bs) b
 
 abbrev KeepsLast : AuditReached → Type 0
-KeepsLast r = r.audit.last_break ≡ last_instant_of r.told
+KeepsLast r = r.audit.last_break ≡ last_instant_of r.returned
 
 last_stepped : (r : AuditReached) (s : Step) → KeepsLast r → KeepsLast (with_step r s)
 last_stepped r s so_far =
@@ -141,8 +140,8 @@ last_stepped r s so_far =
   where
     by_fault : (f : Option Fault) → first_fault_of r.audit.memories r.levels (changed r.levels s.changes) s.changes ≡ f
         → KeepsLast (with_step r s)
-    by_fault None e = rw e (so_far ∙ ap last_instant_of (sym (append-nil r.told)))
-    by_fault (Some f) e = rw e (sym (last_told r.told (break_of_fault (r.instant + 1) s.time f)))
+    by_fault None e = rw e (so_far ∙ ap last_instant_of (sym (append-nil r.returned)))
+    by_fault (Some f) e = rw e (sym (last_returned r.returned (break_of_fault (r.instant + 1) s.time f)))
 
 pub last_along : (x : List Step) (r : AuditReached) → KeepsLast r → KeepsLast (fold with_step r x)
 last_along [] r so_far = so_far

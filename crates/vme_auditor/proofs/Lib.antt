@@ -1,6 +1,6 @@
 pub mod Truth
 pub mod FirstBreaks
-pub mod ToldBreaks
+pub mod ReturnedBreaks
 pub mod Folds
 pub mod MarkCounts
 pub mod MarkHangs
@@ -19,5 +19,5 @@ pub mod JudgedParts
 pub mod Found
 pub mod Outcomes
 pub mod WholeRecordings
-pub mod SaidVerdicts
+pub mod OutcomeVerdicts
 pub mod GrowingBreaks

@@ -40,10 +40,10 @@ some_breaks : (bs : List Break) → nat_lt 0 (length bs) ≡ any_of bs
 some_breaks [] = refl
 some_breaks (b ∷ bs) = lt_holds 0 (suc (length bs)) (omega arith)
 
-idle_behind : (bs : List Break) → never_idle_by (last_instant_of bs) ≡ never_idle bs
-idle_behind [] = refl
-idle_behind (b ∷ []) = refl
-idle_behind (b ∷ c ∷ bs) = idle_behind (c ∷ bs)
+never_idle_by_last : (bs : List Break) → never_idle_by (last_instant_of bs) ≡ never_idle bs
+never_idle_by_last [] = refl
+never_idle_by_last (b ∷ []) = refl
+never_idle_by_last (b ∷ c ∷ bs) = never_idle_by_last (c ∷ bs)
 
 -- comparing a saturated sum with a number of 64 bits has the same result as comparing the exact sum
 few_answers : (answers wanted : ℕ) (other : Option CoverageGap) → wanted ≤ 2 ^ 64 - 1
@@ -79,7 +79,14 @@ module _ (f : AuditFindings) (t : Trace) (found : AreFindingsOf f t) (wanted : �
   unfolding gap
   gap_is =
       few_or (not f.is_judged) (answered f.counts) (Some (never_idle_by f.last_break)) (option_map hang_by f.hang)
-      ∙ rw (found.judged, found.behind, found.counts, found.hang, idle_behind (breaks t), same_hang t (hang t)) refl
+      ∙ rw (
+        found.judged,
+        found.last_break,
+        found.counts,
+        found.hang,
+        never_idle_by_last (breaks t),
+        same_hang t (hang t),
+      ) refl
     where
       few_or : (b : Bool) (answers : ℕ) (first other : Option CoverageGap)
           → cond b first (cond (nat_lt (min answers (2 ^ 64 - 1)) wanted)

@@ -41,11 +41,11 @@ use Rattle.vme_auditor.proofs.FirstBreaks.{named_is_least}
 use Rattle.vme_auditor.proofs.MarkHangs.{never_hangs, never_is}
 use Rattle.vme_auditor.proofs.Truth.{lt_fails, lt_holds}
 
-abbrev is_told : Row → Bool
-is_told row = not (is_verdict row)
+abbrev is_no_verdict : Row → Bool
+is_no_verdict row = not (is_verdict row)
 
-kept : (r : Row) (rows : List Row) → is_verdict r ≡ false → filter is_told rows ≡ rows → filter is_told (r ∷ rows)
-    ≡ r ∷ rows
+kept : (r : Row) (rows : List Row) → is_verdict r ≡ false → filter is_no_verdict rows ≡ rows
+    → filter is_no_verdict (r ∷ rows) ≡ r ∷ rows
 kept r rows e so_far = rw e (ap (λ rs. r ∷ rs) so_far)
 
 cycle_never : (i modifier address : ℕ) (end : Option ℕ) (c : Class) → is_verdict (marked_cycle i modifier address end c)
@@ -56,12 +56,12 @@ cycle_never i modifier address end class.F = refl
 cycle_never i modifier address end class.I = refl
 
 -- marks make no verdict
-no_verdict : (ms : List Mark) (latest : Option ℕ) → filter is_told (marked_rows latest ms) ≡ marked_rows latest ms
+no_verdict : (ms : List Mark) (latest : Option ℕ) → filter is_no_verdict (marked_rows latest ms) ≡ marked_rows latest ms
 no_verdict [] latest = refl
 no_verdict (m ∷ ms) latest = by_kind (no_verdict ms) m.instant m.kind
   where
-    by_kind : ((latest : Option ℕ) → filter is_told (marked_rows latest ms) ≡ marked_rows latest ms) → (i : ℕ)
-        (k : MarkKind) → filter is_told (marked_rows latest (record { instant = i; kind = k } ∷ ms))
+    by_kind : ((latest : Option ℕ) → filter is_no_verdict (marked_rows latest ms) ≡ marked_rows latest ms) → (i : ℕ)
+        (k : MarkKind) → filter is_no_verdict (marked_rows latest (record { instant = i; kind = k } ∷ ms))
         ≡ marked_rows latest (record { instant = i; kind = k } ∷ ms)
     by_kind so_far i kind.Reset = kept (row.Reset i) (marked_rows None ms) refl (so_far None)
     by_kind so_far i kind.Start = kept (row.Start i) (marked_rows latest ms) refl (so_far latest)
@@ -113,13 +113,14 @@ alike xs ys zs e a = record { counted = ap counts_of_rows e ∙ a.counted; hangs
 -- the rows of a part, by whether judging has started, its first break and its marks
 rows_alike : (v : Levels) (started : Bool) (first_break : Option Break) (ms : List Mark)
     → (started ≡ false → ms ≡ [])
-    → CountAlike (filter is_told (listed v started first_break ms)) (marked_rows None (marks_listed first_break ms))
+    → CountAlike (filter is_no_verdict (listed v started first_break ms))
+    (marked_rows None (marks_listed first_break ms))
 rows_alike v true first_break ms silent =
     let rows = marked_rows None (opening_marks v ++ marks_listed first_break ms) in
-    alike (filter is_told (rows ++ row.Verdict (outcome_of first_break) ∷ [])) rows
+    alike (filter is_no_verdict (rows ++ row.Verdict (outcome_of first_break) ∷ [])) rows
     (marked_rows None (marks_listed first_break ms))
-    (filter-append is_told rows (row.Verdict (outcome_of first_break) ∷ [])
-    ∙ append-nil (filter is_told rows) ∙ no_verdict (opening_marks v ++ marks_listed first_break ms) None)
+    (filter-append is_no_verdict rows (row.Verdict (outcome_of first_break) ∷ [])
+    ∙ append-nil (filter is_no_verdict rows) ∙ no_verdict (opening_marks v ++ marks_listed first_break ms) None)
     (opening_uncounted v (marks_listed first_break ms))
 rows_alike v false first_break ms silent =
     let none = silent refl in
@@ -130,9 +131,9 @@ rows_alike v false first_break ms silent =
     no_rows None = record { counted = refl; hangs = refl }
     no_rows (Some b) = record { counted = refl; hangs = refl }
 
-silent_unstarted : (t : Trace) (spans : List Stretch) → has_span spans ≡ false → marks_over (all_over t) t spans ≡ []
-silent_unstarted t [] e = refl
-silent_unstarted t (span ∷ spans) e = absurd (cc)
+no_marks_unstarted : (t : Trace) (spans : List Stretch) → has_span spans ≡ false → marks_over (all_over t) t spans ≡ []
+no_marks_unstarted t [] e = refl
+no_marks_unstarted t (span ∷ spans) e = absurd (cc)
 
 -- the joined marks of the monitors are the marks of the recording
 abbrev pub ShowsMarks : Type 0
@@ -146,14 +147,14 @@ pub part_rows : ShowsMarks → (start : ℕ) (t : Trace) → malformed_step t �
 part_rows shows start t ok few first_break e =
     let least : least_of rules_in_force t (judged_spans t) ≡ first_break = sym (named_is_least t) ∙ e in
     let rows = rows_alike t.opening (has_span (judged_spans t)) first_break (all_marks t)
-    (silent_unstarted t (judged_spans t)) in
+    (no_marks_unstarted t (judged_spans t)) in
     alike (rows_of (record { start = start; trace = t }))
-    (filter is_told (listed t.opening (has_span (judged_spans t)) first_break (all_marks t)))
+    (filter is_no_verdict (listed t.opening (has_span (judged_spans t)) first_break (all_marks t)))
     (marked_rows None (marks_listed first_break (joined_marks (memories_at t.opening) t.opening t.steps)))
-    (ap (filter is_told) (sym (marked_is_listed t)
+    (ap (filter is_no_verdict) (sym (marked_is_listed t)
     ∙ ap (λ (first_break : Option Break). listed t.opening (has_span (judged_spans t)) first_break (all_marks t))
     least)) (subst (λ (ms : List Mark). CountAlike
-    (filter is_told (listed t.opening (has_span (judged_spans t)) first_break (all_marks t)))
+    (filter is_no_verdict (listed t.opening (has_span (judged_spans t)) first_break (all_marks t)))
     (marked_rows None (marks_listed first_break ms))) (sym (shows t ok few)) rows)
 
 -- ---- the marks before a break

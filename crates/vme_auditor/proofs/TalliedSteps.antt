@@ -34,7 +34,7 @@ use Rattle.vme_auditor.specs.declared.tally.Tally.{Tally}
 use Rattle.vme_auditor.proofs.FirstBreaks.{first_within}
 use Rattle.vme_auditor.proofs.MarkCounts.{kind_tallied, mark_tallied}
 use Rattle.vme_auditor.proofs.ShownKinds.{grant_own, handshake_own, known_own}
-use Rattle.vme_auditor.proofs.ToldBreaks.{levels_next, memories_behind, memories_stepped, recorded}
+use Rattle.vme_auditor.proofs.ReturnedBreaks.{levels_next, memories_after, memories_stepped, recorded}
 
 -- what the kinds of one instant add, one by one
 module _ (at : ℕ → StartedTransfer) (i : ℕ) where
@@ -171,9 +171,9 @@ step_tallied at m o after s a =
     ∙ ap (kinds_tallied at 1 c) (handshake_own m o after s.changes)
 
 -- the tally after a step: at a break the part ends
-abbrev pub tally_behind : (ℕ → ℕ) → Option Fault → Tally → ℕ → ℕ → StepMarks → StepMarks → StepMarks → Tally
-tally_behind more None a n time k g d = tallied more a n time k g d
-tally_behind more (Some f) a n time k g d = at_break more a
+abbrev pub tally_after : (ℕ → ℕ) → Option Fault → Tally → ℕ → ℕ → StepMarks → StepMarks → StepMarks → Tally
+tally_after more None a n time k g d = tallied more a n time k g d
+tally_after more (Some f) a n time k g d = at_break more a
 
 -- the tally after steps `x`, by monitors that start from memories `m`
 unfoldable pub tally_by : (ℕ → ℕ) → Memories → Levels → ℕ → Tally → List Step → Tally
@@ -181,12 +181,12 @@ tally_by more m o n a [] = a
 tally_by more m o n a (s ∷ x) =
     let after = changed o s.changes in
     let fault = first_fault_of m o after s.changes in
-    tally_by more (memories_behind fault after (memories_next m o after s.changes)) after (n + 1)
-    (tally_behind more fault a (n + 1) s.time (known_at m.known o after s.changes).shown
+    tally_by more (memories_after fault after (memories_next m o after s.changes)) after (n + 1)
+    (tally_after more fault a (n + 1) s.time (known_at m.known o after s.changes).shown
     (grant_at m.grant o after s.changes).shown (handshake_at m.handshake o after s.changes).shown) x
 
 tally_stepped : (r : AuditReached) (s : Step) → (with_step r s).audit.tally
-    ≡ tally_behind counted (first_fault_of r.audit.memories r.levels (changed r.levels s.changes) s.changes)
+    ≡ tally_after counted (first_fault_of r.audit.memories r.levels (changed r.levels s.changes) s.changes)
     r.audit.tally (r.instant + 1) s.time (known_at r.audit.memories.known r.levels (changed r.levels s.changes)
     s.changes).shown (grant_at r.audit.memories.grant r.levels (changed r.levels s.changes) s.changes).shown
     (handshake_at r.audit.memories.handshake r.levels (changed r.levels s.changes) s.changes).shown
@@ -194,7 +194,7 @@ tally_stepped r s = by_fault (first_fault_of r.audit.memories r.levels (changed 
   where
     by_fault : (f : Option Fault) → first_fault_of r.audit.memories r.levels (changed r.levels s.changes) s.changes ≡ f
         → (with_step r s).audit.tally
-        ≡ tally_behind counted f r.audit.tally (r.instant + 1) s.time
+        ≡ tally_after counted f r.audit.tally (r.instant + 1) s.time
         (known_at r.audit.memories.known r.levels (changed r.levels s.changes) s.changes).shown
         (grant_at r.audit.memories.grant r.levels (changed r.levels s.changes) s.changes).shown
         (handshake_at r.audit.memories.handshake r.levels (changed r.levels s.changes) s.changes).shown
@@ -210,7 +210,7 @@ tally_along (s ∷ x) r =
     let q = with_step r s in
     tally_along x q
     ∙ ap (λ (m : Memories). tally_by counted m after (r.instant + 1) q.audit.tally x) (memories_stepped r s)
-    ∙ ap (λ (a : Tally). tally_by counted (memories_behind (first_fault_of r.audit.memories r.levels after s.changes)
+    ∙ ap (λ (a : Tally). tally_by counted (memories_after (first_fault_of r.audit.memories r.levels after s.changes)
     after (memories_next r.audit.memories r.levels after s.changes)) after (r.instant + 1) a x) (tally_stepped r s)
 
 -- the tally after steps `x`, where breaks are ignored
@@ -252,8 +252,8 @@ module _ (m : Memories) (o : Levels) (s : Step) (x : List Step) (n : ℕ) (a : T
 
   from_stepped : (f : Option Fault) → tally_by suc next after (n + 1) more x
       ≡ tally_from next after (n + 1) more x (first_break_from next after x)
-      → tally_by suc (memories_behind f after next) after (n + 1)
-      (tally_behind suc f a (n + 1) s.time (known_at m.known o after s.changes).shown
+      → tally_by suc (memories_after f after next) after (n + 1)
+      (tally_after suc f a (n + 1) s.time (known_at m.known o after s.changes).shown
       (grant_at m.grant o after s.changes).shown (handshake_at m.handshake o after s.changes).shown) x
       ≡ tally_from m o n a (s ∷ x)
       (earlier (option_map (break_of_fault 1 s.time) f) (option_map (shifted_break 1) (first_break_from next after x)))

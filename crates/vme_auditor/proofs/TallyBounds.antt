@@ -22,8 +22,8 @@ use Rattle.vme_auditor.specs.Tallied.{counted, left_pending, of_class, of_direct
 use Rattle.vme_auditor.specs.declared.memories.Memories.{Memories}
 use Rattle.vme_auditor.specs.declared.tally.StartedTransfer.{StartedTransfer}
 use Rattle.vme_auditor.specs.declared.tally.Tally.{Tally}
-use Rattle.vme_auditor.proofs.TalliedSteps.{tally_behind, tally_by}
-use Rattle.vme_auditor.proofs.ToldBreaks.{memories_behind}
+use Rattle.vme_auditor.proofs.TalliedSteps.{tally_after, tally_by}
+use Rattle.vme_auditor.proofs.ReturnedBreaks.{memories_after}
 
 counted_is : (k : ℕ) → k < 2 ^ 64 - 1 → counted k ≡ suc k
 counted_is k h = omega arith
@@ -365,12 +365,12 @@ tallied_exact k a instant time p q u f below =
     below in
     answer_exact (suc k) (suc k) (suc k) (suc k) u.answer _ _ fourth (omega arith)
 
-behind_exact : (k : ℕ) (fault : Option Fault) (a : Tally) (instant time : ℕ) (p q u : StepMarks)
+tally_after_exact : (k : ℕ) (fault : Option Fault) (a : Tally) (instant time : ℕ) (p q u : StepMarks)
     → Fits k k k k a.counts a.waiting → k < 2 ^ 64 - 1
-    → IsExact (suc k) (suc k) (suc k) (suc k) (tally_behind counted fault a instant time p q u)
-    (tally_behind suc fault a instant time p q u)
-behind_exact k None a instant time p q u f below = tallied_exact k a instant time p q u f below
-behind_exact k (Some fault) a instant time p q u f below =
+    → IsExact (suc k) (suc k) (suc k) (suc k) (tally_after counted fault a instant time p q u)
+    (tally_after suc fault a instant time p q u)
+tally_after_exact k None a instant time p q u f below = tallied_exact k a instant time p q u f below
+tally_after_exact k (Some fault) a instant time p q u f below =
     let e = break_exact k k k k a f (omega arith) in
     record {
       same = e.same;
@@ -394,12 +394,12 @@ tally_exact [] m o n a k f few =
 tally_exact (s ∷ x) m o n a k f few =
     let after = changed o s.changes in
     let fault = first_fault_of m o after s.changes in
-    let next = memories_behind fault after (memories_next m o after s.changes) in
+    let next = memories_after fault after (memories_next m o after s.changes) in
     let p = (known_at m.known o after s.changes).shown in
     let q = (grant_at m.grant o after s.changes).shown in
     let u = (handshake_at m.handshake o after s.changes).shown in
-    let e = behind_exact k fault a (n + 1) s.time p q u f (omega arith) in
-    let b = tally_behind suc fault a (n + 1) s.time p q u in
+    let e = tally_after_exact k fault a (n + 1) s.time p q u f (omega arith) in
+    let b = tally_after suc fault a (n + 1) s.time p q u in
     let rest = tally_exact x next after (n + 1) b (suc k) e.fits (omega arith) in
     let long : suc k + length x ≤ k + suc (length x) = omega arith in
     record {

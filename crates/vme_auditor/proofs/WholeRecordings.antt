@@ -17,7 +17,7 @@ use Rattle.vme_listing.specs.declared.row.Row.TheVariants as row
 use Rattle.vme_audit.specs.Counted.{count_of, counts, counts_of_rows, rows_of}
 use Rattle.vme_audit.specs.Covered.{has_stretch, is_judged_part}
 use Rattle.vme_audit.specs.Parts.{Part, breaks, breaks_of, last_from, last_part, moved_by, named_break, own_break}
-use Rattle.vme_audit.specs.Parts.{part_behind, parts, parts_from, whole}
+use Rattle.vme_audit.specs.Parts.{part_after, parts, parts_from, whole}
 use Rattle.vme_auditor.proofs.FirstBreaks.{named_on}
 use Rattle.vme_auditor.proofs.MarkCounts.{same_counts}
 
@@ -37,11 +37,11 @@ module _ (t : Trace) where
   own_first None behind = refl
   own_first (Some b) behind = ap Some (moved_none b)
 
-  breaks_behind : (n : ℕ) (e : Option Break)
-      → breaks_of (option_map_or (λ b. parts_from n (part_behind here b)) e [])
-      ≡ option_map_or (λ b. breaks_of (parts_from n (part_behind here b))) e []
-  breaks_behind n None = refl
-  breaks_behind n (Some b) = refl
+  breaks_after_first : (n : ℕ) (e : Option Break)
+      → breaks_of (option_map_or (λ b. parts_from n (part_after here b)) e [])
+      ≡ option_map_or (λ b. breaks_of (parts_from n (part_after here b))) e []
+  breaks_after_first n None = refl
+  breaks_after_first n (Some b) = refl
 
   first_from : (n : ℕ) → slice_get (breaks_of (parts_from n here)) 0 ≡ named_break (verdict t)
   unfolding parts_from own_break
@@ -54,23 +54,23 @@ module _ (t : Trace) where
       alone (Some b) = ap Some (moved_none b)
   first_from (suc n) =
       ap (λ (bs : List Break). slice_get (option_to_list (option_map (moved_by 0) (own_break here)) ++ bs) 0)
-      (breaks_behind n (own_break here))
-      ∙ own_first (own_break here) (λ b. breaks_of (parts_from n (part_behind here b)))
+      (breaks_after_first n (own_break here))
+      ∙ own_first (own_break here) (λ b. breaks_of (parts_from n (part_after here b)))
 
   pub first_is : slice_get (breaks t) 0 ≡ named_break (verdict t)
   unfolding parts
   first_is = first_from (length t.steps)
 
   -- the rule of the first break determines the verdict
-  pub first_told : (b : Break) → slice_get (breaks t) 0 ≡ Some b
+  pub first_determines_verdict : (b : Break) → slice_get (breaks t) 0 ≡ Some b
       → verdict t ≡ cond (is_unreadable b.rule) (Unreadable b) (Broken b)
   unfolding verdict_by
-  first_told b e = told_of (judged_spans t) (sym first_is ∙ e)
+  first_determines_verdict b e = determined_by (judged_spans t) (sym first_is ∙ e)
     where
-      told_of : (spans : List Stretch) → named_break (judge all_rules t spans) ≡ Some b
+      determined_by : (spans : List Stretch) → named_break (judge all_rules t spans) ≡ Some b
           → judge all_rules t spans ≡ cond (is_unreadable b.rule) (Unreadable b) (Broken b)
-      told_of [] e = absurd (cc)
-      told_of (span ∷ spans) e =
+      determined_by [] e = absurd (cc)
+      determined_by (span ∷ spans) e =
           ap verdict_on (sym (named_on (least_of all_rules t (span ∷ spans))) ∙ e)
 
   -- a recording without a break is its only part

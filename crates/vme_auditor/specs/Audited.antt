@@ -49,8 +49,8 @@ begun_at o =
     }
 
 -- judging starts anew at the break at instant `n`
-abbrev pub begun_anew : Audit → Levels → ℕ → Audit
-begun_anew a after n =
+abbrev pub restarted : Audit → Levels → ℕ → Audit
+restarted a after n =
     record {
       memories = memories_at after;
       tally = at_break counted a.tally;
@@ -62,7 +62,7 @@ begun_anew a after n =
 abbrev pub ended_with : Audit → Levels → ℕ → ℕ → StepMarks → StepMarks → StepMarks → Option Fault → Audit
 ended_with a after n time stretch tenure transfer None =
     record a { tally = tallied counted a.tally n time stretch tenure transfer }
-ended_with a after n time stretch tenure transfer (Some fault) = begun_anew a after n
+ended_with a after n time stretch tenure transfer (Some fault) = restarted a after n
 
 -- an audit after one more step, at its instant `n` and time `time`
 abbrev pub stepped : Audit → Levels → Levels → List Change → ℕ → ℕ → Audit
@@ -82,10 +82,10 @@ pub record AuditReached : Type 0 where
   pub levels : Levels
   pub instant : ℕ
   pub audit : Audit
-  pub told : List Break
+  pub returned : List Break
 
 abbrev pub reached_at : Levels → AuditReached
-reached_at o = record { levels = o; instant = 0; audit = begun_at o; told = [] }
+reached_at o = record { levels = o; instant = 0; audit = begun_at o; returned = [] }
 
 abbrev pub with_step : AuditReached → Step → AuditReached
 with_step r step =
@@ -95,7 +95,7 @@ with_step r step =
       levels = after;
       instant = n;
       audit = stepped r.audit r.levels after step.changes n step.time;
-      told = r.told ++ option_to_list (fault_at r.audit.memories r.levels after step.changes n step.time);
+      returned = r.returned ++ option_to_list (fault_at r.audit.memories r.levels after step.changes n step.time);
     }
 
 unfoldable pub reached_after : Levels → List Step → AuditReached

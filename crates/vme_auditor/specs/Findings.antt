@@ -52,7 +52,7 @@ pub record AreFindingsOf (f : AuditFindings) (t : Trace) : Type 0 where
   pub counts : f.counts ≡ counts_of t
   pub asked : (r : Rule) → asks_by f.events r ≡ is_asked t r
   pub judged : f.is_judged ≡ is_judged_part (last_part t)
-  pub behind : f.last_break ≡ last_instant_of (breaks t)
+  pub last_break : f.last_break ≡ last_instant_of (breaks t)
   pub hang : f.hang ≡ option_map (started_at t) (hang_of t)
 
 -- `c` are the numbers of the breaks of `t`: of those that aren't allowed, by whether they mean that it is wrong or that

@@ -3,7 +3,7 @@
 ghost use Rattle.std.specs.Prelude.{◌≡◌, option_map};
 ghost use Rattle.vme_monitor.specs.Run.{break_of_fault};
 ghost use Rattle.vme_monitor.specs.StepRuns.{seen_in};
-ghost use Rattle.vme_auditor.specs.Audited.{begun_anew, begun_at, ended_with, events_by, stepped};
+ghost use Rattle.vme_auditor.specs.Audited.{begun_at, ended_with, events_by, restarted, stepped};
 ghost use Rattle.vme_auditor.specs.Breaks.{as_break};
 ghost use Rattle.vme_auditor.specs.Memories.{fault_at};
 
@@ -97,7 +97,7 @@ impl Audit {
     {
         match shown.fault {
             Some(Fault { rule, line }) => {
-                self.begin_anew(after, instant);
+                self.restart(after, instant);
                 Some(AuditBreak {
                     instant,
                     time,
@@ -119,8 +119,8 @@ impl Audit {
     }
 
     /// Judging starts anew at the break at `instant`: what the bus did before is forgotten.
-    fn begin_anew(&mut self, after: &Lines, instant: u64)
-        ensures { self.new ≡ begun_anew self.old after.now instant }
+    fn restart(&mut self, after: &Lines, instant: u64)
+        ensures { self.new ≡ restarted self.old after.now instant }
     {
         self.memories = Memories::at(after);
         self.events.stretch = self.events.stretch || self.memories.have_started();

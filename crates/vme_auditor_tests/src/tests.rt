@@ -83,8 +83,8 @@ fn steps_of(alloc: Global, lines: &Lines, text: &str) -> Option<Vec<Step>> {
 }
 
 /// A break of the second judge.
-fn break_of(told: &(u64, u64, Rule, &'static str)) -> Option<AuditBreak> {
-    let (instant, time, rule, line) = *told;
+fn break_of(worked: &(u64, u64, Rule, &'static str)) -> Option<AuditBreak> {
+    let (instant, time, rule, line) = *worked;
     Some(AuditBreak {
         instant,
         time,
@@ -150,18 +150,18 @@ fn audited(alloc: Global, worked: &WorkedRecording) -> Option<(Vec<AuditBreak>, 
     Some((breaks, auditor.audited()))
 }
 
-/// Whether `breaks` are the breaks `told` by the second judge.
-fn are_breaks(breaks: &[AuditBreak], told: &[(u64, u64, Rule, &'static str)]) -> bool {
-    for (found, told) in breaks.iter().zip(told) {
-        let is_so = match break_of(told) {
-            Some(told) => *found == told,
+/// Whether `breaks` are the breaks `worked` of the second judge.
+fn are_breaks(breaks: &[AuditBreak], worked: &[(u64, u64, Rule, &'static str)]) -> bool {
+    for (found, worked) in breaks.iter().zip(worked) {
+        let is_so = match break_of(worked) {
+            Some(worked) => *found == worked,
             None => false,
         };
         if !is_so {
             return false;
         }
     }
-    breaks.len() == told.len()
+    breaks.len() == worked.len()
 }
 
 /// Whether a text has a name among its words.
@@ -206,7 +206,7 @@ fn are_events(events: &AskedEvents, names: &str) -> bool {
 }
 
 /// Whether these are the outcomes with `allowed` allowed breaks, where no answered transfer is required, or one is.
-fn comes_to(findings: &AuditFindings, allowed: u64, outcomes: (Outcome, Outcome)) -> bool {
+fn has_outcomes(findings: &AuditFindings, allowed: u64, outcomes: (Outcome, Outcome)) -> bool {
     let allowed = BreakCounts {
         broken: 0,
         unreadable: 0,
@@ -230,7 +230,7 @@ fn difference(
     if !are_events(&findings.events, worked.events) {
         return "events";
     }
-    if !comes_to(findings, breaks.len() as u64, worked.outcomes) {
+    if !has_outcomes(findings, breaks.len() as u64, worked.outcomes) {
         return "outcome";
     }
     ""

@@ -23,21 +23,21 @@ use Rattle.vme_bind.specs.Capture.{level_in}
 use Rattle.vme_bind.specs.BuilderState.{BuilderState, builder_change, builder_instant}
 use Rattle.vme_bind.specs.Recording.{AreLines, IsLine, RecorderLevels, line_change}
 use Rattle.vme_bind.specs.NetLines.{line_bits_of}
-use Rattle.vme_bind.specs.SpeculativeReading.{AreLevelsBehind, LeadTo, ReadSpeculatively, builder_behind}
+use Rattle.vme_bind.specs.SpeculativeReading.{AreLevelsAfter, LeadTo, ReadSpeculatively, builder_after}
 use Rattle.vme_bind.specs.AssignedLines.{SpeculativeBuilderState, speculative_change, speculative_instant, is_assigned}
 use Rattle.vme_bind.specs.AssignedLines.{none_assigned}
-use Rattle.vme_bind.specs.AssignedLines.{assigned_too}
+use Rattle.vme_bind.specs.AssignedLines.{with_assigned}
 use Rattle.vme_bind.specs.declared.net_lines.LineBit.{LineBit}
 use Rattle.vme_bind.specs.declared.net_lines.NetLines.{NetLines}
 use Rattle.vme_bind.proofs.RecorderLemmas.{same_levels, set_all, set_other, set_same}
 
 -- ---- the lines that are assigned a level
 
-pub assigned_too-more : (line_bits : List LineBit) (assigned : List Bool) (line_bit : LineBit)
-    → assigned_too (line_bits ++ line_bit ∷ []) assigned ≡ slice_set (assigned_too line_bits assigned) line_bit.line
+pub with_assigned-more : (line_bits : List LineBit) (assigned : List Bool) (line_bit : LineBit)
+    → with_assigned (line_bits ++ line_bit ∷ []) assigned ≡ slice_set (with_assigned line_bits assigned) line_bit.line
     true
-assigned_too-more [] assigned line_bit = refl
-assigned_too-more (t ∷ line_bits) assigned line_bit = assigned_too-more line_bits (slice_set assigned t.line true)
+with_assigned-more [] assigned line_bit = refl
+with_assigned-more (t ∷ line_bits) assigned line_bit = with_assigned-more line_bits (slice_set assigned t.line true)
     line_bit
 
 assigned-here : (assigned : List Bool) (n : ℕ) → n < length assigned → is_assigned (slice_set assigned n true) n ≡ true
@@ -62,7 +62,7 @@ assigned-none l = unwrap_or-slice_get none_assigned l false ∙ elim (within l) 
 -- lines that are assigned a level are lines of the backplane, if those of all line bits are
 assigned-on : (slots : ℕ) (line_bits : List LineBit) (assigned : List Bool) → AreLines slots line_bits
     → ((l : ℕ) → is_assigned assigned l ≡ true → IsLine slots l)
-    → (l : ℕ) → is_assigned (assigned_too line_bits assigned) l ≡ true → IsLine slots l
+    → (l : ℕ) → is_assigned (with_assigned line_bits assigned) l ≡ true → IsLine slots l
 assigned-on slots [] assigned lines before l on = before l on
 assigned-on slots (line_bit ∷ line_bits) assigned lines before l on =
     assigned-on slots line_bits (slice_set assigned line_bit.line true)
@@ -123,7 +123,7 @@ mixed-line_bits : (bits : List Bit) (line_bits : List LineBit) (first those thes
     → AreMixed first those these assigned
     → AreMixed first (changed those (map (line_change bits) line_bits))
     (changed these (map (line_change bits) line_bits))
-    (assigned_too line_bits assigned)
+    (with_assigned line_bits assigned)
 unfolding changed
 mixed-line_bits bits [] first those these assigned h = h
 mixed-line_bits bits (line_bit ∷ line_bits) first those these assigned h =
@@ -134,42 +134,42 @@ mixed-line_bits bits (line_bit ∷ line_bits) first those these assigned h =
 -- ---- a piece that is read again, from other levels
 
 -- the state of reading ahead, and other levels with the same changes
-record Both : Type 0 where
+record WithOtherLevels : Type 0 where
   ahead : SpeculativeBuilderState
   levels : Levels
 
-abbrev both_change : Both → ℕ → List Bit → Both
+abbrev both_change : WithOtherLevels → ℕ → List Bit → WithOtherLevels
 both_change b net bits = record {
   ahead = speculative_change b.ahead net bits;
   levels = changed b.levels
       (map (line_change bits) (line_bits_of b.ahead.made.line_bits net));
 }
 
-abbrev both_instant : Both → ℕ → Both
+abbrev both_instant : WithOtherLevels → ℕ → WithOtherLevels
 both_instant b time = record { ahead = speculative_instant b.ahead time; levels = b.levels }
 
 -- the lines of the nets, and the levels
-record Others : Type 0 where
+record OtherLevels : Type 0 where
   line_bits : NetLines
   levels : Levels
 
-abbrev others_change : Others → ℕ → List Bit → Others
+abbrev others_change : OtherLevels → ℕ → List Bit → OtherLevels
 others_change o net bits = record {
   line_bits = o.line_bits;
   levels = changed o.levels
       (map (line_change bits) (line_bits_of o.line_bits net));
 }
 
-abbrev others_instant : Others → ℕ → Others
+abbrev others_instant : OtherLevels → ℕ → OtherLevels
 others_instant o time = o
 
-abbrev ahead_of_both : Both → SpeculativeBuilderState
+abbrev ahead_of_both : WithOtherLevels → SpeculativeBuilderState
 ahead_of_both b = b.ahead
 
-abbrev others_of_both : Both → Others
+abbrev others_of_both : WithOtherLevels → OtherLevels
 others_of_both b = record { line_bits = b.ahead.made.line_bits; levels = b.levels }
 
-abbrev others_of_made : BuilderState → Others
+abbrev others_of_made : BuilderState → OtherLevels
 others_of_made m = record { line_bits = m.line_bits; levels = m.progress.now }
 
 abbrev made_of_ahead : SpeculativeBuilderState → BuilderState
@@ -221,17 +221,17 @@ module _ (nets : List Net) (bytes : List ℕ) (e : SpeculativeBuilderState) (a :
       )).1
 
   module _ (v : Levels) where
-    abbrev start : State Both
+    abbrev start : State WithOtherLevels
     start = before_piece (record { ahead = e; levels = v }) a.time
 
-    abbrev ahead_state : State Both → State SpeculativeBuilderState
+    abbrev ahead_state : State WithOtherLevels → State SpeculativeBuilderState
     ahead_state s = learned_state both_change both_instant speculative_change speculative_instant ahead_of_both
         (λ b net bits. refl)
         (λ b time. refl) s
 
-    ended : (r : Result (State Both) VcdFault) → (r >>= λ end. Ok (ahead_state end))
+    ended : (r : Result (State WithOtherLevels) VcdFault) → (r >>= λ end. Ok (ahead_state end))
         ≡ Ok (state_at a.progress a.dump_section)
-        → (end : State Both) × (r ≡ Ok end) × (ahead_state end ≡ state_at a.progress a.dump_section)
+        → (end : State WithOtherLevels) × (r ≡ Ok end) × (ahead_state end ≡ state_at a.progress a.dump_section)
     ended (Ok end) h = (
       end,
       refl,
@@ -241,7 +241,7 @@ module _ (nets : List Net) (bytes : List ℕ) (e : SpeculativeBuilderState) (a :
     ended (Err fault) h = absurd cc
 
     -- reading the piece with the other levels too reaches the state of the piece that was read ahead
-    both-read : (end : State Both) × (steps both_change both_instant nets start items ≡ Ok end)
+    both-read : (end : State WithOtherLevels) × (steps both_change both_instant nets start items ≡ Ok end)
         × (ahead_state end ≡ state_at a.progress a.dump_section)
     both-read =
         ended (steps both_change both_instant nets start items)
@@ -250,18 +250,18 @@ module _ (nets : List Net) (bytes : List ℕ) (e : SpeculativeBuilderState) (a :
         (λ b time. refl) nets start items) ∙ is.whole)
 
     -- the levels after the piece, from the levels `v`
-    abbrev behind : Levels
-    behind = both-read.0.progress.accumulator.levels
+    abbrev after_piece : Levels
+    after_piece = both-read.0.progress.accumulator.levels
 
-    -- `behind` has the piece's own level on each line that it assigns one to, and that of `v` on each other line
-    mixed-behind : length e.made.progress.now.levels ≡ line_count → length v.levels ≡ line_count → e.assigned
+    -- `after_piece` has the piece's own level on each line that it assigns one to, and that of `v` on each other line
+    mixed-after_piece : length e.made.progress.now.levels ≡ line_count → length v.levels ≡ line_count → e.assigned
         ≡ none_assigned
-        → AreMixed v a.progress.accumulator.made.progress.now behind a.progress.accumulator.assigned
-    mixed-behind those_all all none =
-        subst (λ (m : SpeculativeBuilderState). AreMixed v m.made.progress.now behind m.assigned)
+        → AreMixed v a.progress.accumulator.made.progress.now after_piece a.progress.accumulator.assigned
+    mixed-after_piece those_all all none =
+        subst (λ (m : SpeculativeBuilderState). AreMixed v m.made.progress.now after_piece m.assigned)
         (ap (λ (s : State SpeculativeBuilderState). s.progress.accumulator) both-read.2)
-        (steps-keep both_change both_instant nets (λ (b : Both). AreMixed v b.ahead.made.progress.now b.levels
-        b.ahead.assigned)
+        (steps-keep both_change both_instant nets
+        (λ (b : WithOtherLevels). AreMixed v b.ahead.made.progress.now b.levels b.ahead.assigned)
         (λ b net bits h. mixed-line_bits bits (line_bits_of b.ahead.made.line_bits net) v b.ahead.made.progress.now
         b.levels b.ahead.assigned h) (λ b time h. h) start items both-read.0
         (record {
@@ -274,23 +274,23 @@ module _ (nets : List Net) (bytes : List ℕ) (e : SpeculativeBuilderState) (a :
         })
         both-read.1)
 
-    -- reading the piece from the levels `v` leaves the levels `behind`
-    behind-is : (line_bits : NetLines) (t : Trace) (m : ReadDetached BuilderState) → e.made.line_bits ≡ line_bits
+    -- reading the piece from the levels `v` leaves the levels `after_piece`
+    after_piece-is : (line_bits : NetLines) (t : Trace) (m : ReadDetached BuilderState) → e.made.line_bits ≡ line_bits
         → m.first_line
-        ≡ a.first_line → IsReadDetached builder_change builder_instant nets bytes (builder_behind line_bits v t) m
-        → m.progress.accumulator.progress.now ≡ behind
-    behind-is line_bits t m lines line there =
+        ≡ a.first_line → IsReadDetached builder_change builder_instant nets bytes (builder_after line_bits v t) m
+        → m.progress.accumulator.progress.now ≡ after_piece
+    after_piece-is line_bits t m lines line there =
         let time : m.time ≡ a.time =
         same_time m.time a.time (sym there.begins ∙ ap (λ (n : ℕ). time_first (detached_items n bytes)) line
         ∙ is.begins)
         in
-        let whole : steps builder_change builder_instant nets (before_piece (builder_behind line_bits v t) a.time) items
+        let whole : steps builder_change builder_instant nets (before_piece (builder_after line_bits v t) a.time) items
         ≡ Ok (state_at m.progress m.dump_section) =
-        subst (λ (n : ℕ). steps builder_change builder_instant nets (before_piece (builder_behind line_bits v t) n)
+        subst (λ (n : ℕ). steps builder_change builder_instant nets (before_piece (builder_after line_bits v t) n)
         items
         ≡ Ok (state_at m.progress m.dump_section)) time
         (subst (λ (n : ℕ). steps builder_change builder_instant nets
-        (before_piece (builder_behind line_bits v t) m.time)
+        (before_piece (builder_after line_bits v t) m.time)
         (detached_items n bytes) ≡ Ok (state_at m.progress m.dump_section)) line there.whole) in
         let of_made : steps others_change others_instant nets
         (before_piece (record { line_bits = line_bits; levels = v }) a.time) items
@@ -298,7 +298,7 @@ module _ (nets : List Net) (bytes : List ℕ) (e : SpeculativeBuilderState) (a :
         (λ m net bits. refl)
         (λ m time. refl) (state_at m.progress m.dump_section)) =
         steps-learned builder_change builder_instant others_change others_instant others_of_made (λ m net bits. refl)
-        (λ m time. refl) nets (before_piece (builder_behind line_bits v t) a.time) items
+        (λ m time. refl) nets (before_piece (builder_after line_bits v t) a.time) items
         ∙ ap (λ (r : Result (State BuilderState) VcdFault). r >>= λ end. Ok
         (learned_state builder_change builder_instant
         others_change others_instant others_of_made (λ m net bits. refl) (λ m time. refl) end)) whole in
@@ -308,9 +308,9 @@ module _ (nets : List Net) (bytes : List ℕ) (e : SpeculativeBuilderState) (a :
         (λ b time. refl) both-read.0) =
         steps-learned both_change both_instant others_change others_instant others_of_both (λ b net bits. refl)
         (λ b time. refl) nets start items
-        ∙ ap (λ (r : Result (State Both) VcdFault). r >>= λ end. Ok (learned_state both_change both_instant
+        ∙ ap (λ (r : Result (State WithOtherLevels) VcdFault). r >>= λ end. Ok (learned_state both_change both_instant
         others_change others_instant others_of_both (λ b net bits. refl) (λ b time. refl) end)) both-read.1 in
-        ap (λ (s : State Others). s.progress.accumulator.levels)
+        ap (λ (s : State OtherLevels). s.progress.accumulator.levels)
         (same_ok _ _ (steps others_change others_instant nets
         (before_piece (record { line_bits = line_bits; levels = v }) a.time) items) of_made
         (ap (λ (x : NetLines). steps others_change others_instant nets
@@ -322,13 +322,14 @@ module _ (nets : List Net) (bytes : List ℕ) (e : SpeculativeBuilderState) (a :
       → x.detached.first_line ≡ a.first_line → x.assigned ≡ a.progress.accumulator.assigned
       → x.detached.progress.accumulator
       ≡ a.progress.accumulator.made.progress
-      → (before after : Levels) → length before.levels ≡ line_count → AreLevelsBehind x before after
+      → (before after : Levels) → length before.levels ≡ line_count → AreLevelsAfter x before after
       → LeadTo nets line_bits bytes x.detached.first_line before after
   assigned-leads x line_bits those_all none lines line assigned now before after all left t m at there =
-      let h : AreMixed before a.progress.accumulator.made.progress.now (behind before) a.progress.accumulator.assigned
-      = mixed-behind before those_all all none in
-      let same : behind before ≡ after =
-      same_levels (behind before) after (h.slots ∙ sym left.slots) h.all left.all
+      let h : AreMixed before a.progress.accumulator.made.progress.now (after_piece before)
+      a.progress.accumulator.assigned
+      = mixed-after_piece before those_all all none in
+      let same : after_piece before ≡ after =
+      same_levels (after_piece before) after (h.slots ∙ sym left.slots) h.all left.all
       (λ l lt.
       h.levels l lt
       ∙ ap (λ (p : RecorderLevels). cond (is_assigned a.progress.accumulator.assigned l) (level_at p.now l)
@@ -336,11 +337,11 @@ module _ (nets : List Net) (bytes : List ℕ) (e : SpeculativeBuilderState) (a :
       ∙ ap (λ (b : List Bool). cond (is_assigned b l) (level_at x.detached.progress.accumulator.now l)
       (level_at before l)) (sym assigned)
       ∙ sym (left.levels l lt)) in
-      behind-is before line_bits t m lines (at ∙ line) there ∙ same
+      after_piece-is before line_bits t m lines (at ∙ line) there ∙ same
 
 -- ---- the levels that a piece leaves, on the lines below a number
 
-pub record AreLeftBelow (a : ReadSpeculatively) (before : Levels) (n : ℕ) (after : Levels) : Type 0 where
+pub record AreLevelsAfterBelow (a : ReadSpeculatively) (before : Levels) (n : ℕ) (after : Levels) : Type 0 where
   pub slots : after.slots ≡ before.slots
   pub all : length after.levels ≡ line_count
   pub left : (l : ℕ) → l < n → level_at after l
@@ -348,13 +349,14 @@ pub record AreLeftBelow (a : ReadSpeculatively) (before : Levels) (n : ℕ) (aft
       l) (level_at before l)
   pub rest : (l : ℕ) → n ≤ l → level_at after l ≡ level_at before l
 
-module _ (a : ReadSpeculatively) (before : Levels) (n : ℕ) (after : Levels) (h : AreLeftBelow a before n after) where
+module _ (a : ReadSpeculatively) (before : Levels) (n : ℕ) (after : Levels)
+    (h : AreLevelsAfterBelow a before n after) where
   abbrev own : Levels
   own = a.detached.progress.accumulator.now
 
   -- the line n gets the piece's own level, where the piece assigns one to it
   pub left-assigned : (x : Level) → n < line_count → is_assigned a.assigned n ≡ true → x ≡ level_at own n
-      → AreLeftBelow a before (n + 1) (set_level after n x)
+      → AreLevelsAfterBelow a before (n + 1) (set_level after n x)
   left-assigned x lt assigned is = record {
     slots = h.slots;
     all = set_all after n x h.all;
@@ -371,7 +373,7 @@ module _ (a : ReadSpeculatively) (before : Levels) (n : ℕ) (after : Levels) (h
   }
 
   -- the line n keeps its level, where the piece assigns none to it
-  pub left-same : is_assigned a.assigned n ≡ false → AreLeftBelow a before (n + 1) after
+  pub left-same : is_assigned a.assigned n ≡ false → AreLevelsAfterBelow a before (n + 1) after
   left-same off = record {
     slots = h.slots;
     all = h.all;

@@ -7,7 +7,7 @@ use Rattle.vme_bind.specs.declared.fault.BindFaultKind.{BindFaultKind}
 use Rattle.vme_bind.specs.declared.fault.BindFaultKind.TheVariants.{Memory, SlotsFirst, Unbound}
 use Rattle.vme_bind.specs.Answers.{at_line, BindFailsAs, BindFails, BindGives}
 use Rattle.vme_bind.specs.Text.{StatementText, statements_of, end_line}
-use Rattle.vme_bind.specs.Binding.{BoundLines, slots_behind, bound, bound_all, all_bound, finished, least_unbound}
+use Rattle.vme_bind.specs.Binding.{BoundLines, slots_stated, bound, bound_all, all_bound, finished, least_unbound}
 use Rattle.vme_bind.specs.Binding.{unless_unbound, no_assignments, with_left_out, binding_from, binding_of}
 
 -- a fault of `r` is the fault of `r` and what follows it
@@ -46,35 +46,35 @@ abbrev pub rest_bound : List ℕ → Result BoundLines BindFault → Result Boun
 rest_bound text r = r >>= finished (end_line text)
 
 -- the binding of a text, by its first statement and the others
-says_slots : (text : List ℕ) (s : StatementText) (ss : List StatementText) → statements_of text ≡ s ∷ ss
-    → binding_of text ≡ (at_line s.line (slots_behind s.first s.others) >>= λ slots. bound_all (no_assignments slots) ss
+binding_by_slots : (text : List ℕ) (s : StatementText) (ss : List StatementText) → statements_of text ≡ s ∷ ss
+    → binding_of text ≡ (at_line s.line (slots_stated s.first s.others) >>= λ slots. bound_all (no_assignments slots) ss
     >>= finished (end_line text))
 unfolding binding_of
-says_slots text s ss e = ap (binding_from (end_line text)) e
+binding_by_slots text s ss e = ap (binding_from (end_line text)) e
 
 -- where the first statement isn't `slots N`, the fault is `SlotsFirst` on its line
 pub no_slots : (text : List ℕ) (s : StatementText) (ss : List StatementText) → statements_of text ≡ s ∷ ss
-    → slots_behind s.first s.others
+    → slots_stated s.first s.others
     ≡ Err SlotsFirst → binding_of text ≡ Err (record { line = s.line; kind = SlotsFirst })
-no_slots text s ss e h = says_slots text s ss e ∙ rw h refl
+no_slots text s ss e h = binding_by_slots text s ss e ∙ rw h refl
 
 -- where the first statement is `slots N`, the binding is that of the other statements
 pub some_slots : (text : List ℕ) (s : StatementText) (ss : List StatementText) (slots : ℕ) → statements_of text ≡ s ∷ ss
-    → slots_behind s.first s.others ≡ Ok slots
+    → slots_stated s.first s.others ≡ Ok slots
     → binding_of text ≡ (bound_all (no_assignments slots) ss >>= finished (end_line text))
-some_slots text s ss slots e h = says_slots text s ss e ∙ rw h refl
+some_slots text s ss slots e h = binding_by_slots text s ss e ∙ rw h refl
 
 -- where each line is bound at the end, the result is the binding with what was left out
-pub is_whole : (line : ℕ) (r : Result BoundLines BindFault) (b whole : BoundLines) → r ≡ Ok b → whole
+pub finished-is : (line : ℕ) (r : Result BoundLines BindFault) (b whole : BoundLines) → r ≡ Ok b → whole
     ≡ with_left_out line b → None ≡ least_unbound whole → (r >>= finished line) ≡ Ok whole
-is_whole line r b whole e w h = ap (λ (r : Result BoundLines BindFault). r >>= finished line) e ∙ ap (all_bound line)
+finished-is line r b whole e w h = ap (λ (r : Result BoundLines BindFault). r >>= finished line) e ∙ ap (all_bound line)
     (sym w) ∙ ap (unless_unbound line whole) (sym h)
 
 -- where the line `l` is the least unbound one at the end, the fault is `Unbound l` on the last line
-pub lacks : (line last : ℕ) (r : Result BoundLines BindFault) (b whole : BoundLines) (l : ℕ) → r ≡ Ok b → whole
+pub unbound_fails : (line last : ℕ) (r : Result BoundLines BindFault) (b whole : BoundLines) (l : ℕ) → r ≡ Ok b → whole
     ≡ with_left_out line b → Some l ≡ least_unbound whole → last ≡ line
     → (r >>= finished line) ≡ Err (record { line = last; kind = Unbound l })
-lacks line last r b whole l e w h k =
+unbound_fails line last r b whole l e w h k =
     ap (λ (r : Result BoundLines BindFault). r >>= finished line) e ∙ ap (all_bound line) (sym w)
     ∙ ap (unless_unbound line whole) (sym h)
     ∙ ap (λ (n : ℕ). Err (record { line = n; kind = Unbound l })) (sym k)

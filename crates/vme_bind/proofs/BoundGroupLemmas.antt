@@ -64,12 +64,12 @@ only-end found named vs i e = ap (λ (rest : List Variable). only_from found (fi
     (drop_of_length-le vs (omega (arith, e)))
 
 -- the bound groups so far, followed by those that are still to be found
-abbrev pub behind_bound_groups : List BoundGroup → Result (List BoundGroup) BindFault → Result (List BoundGroup)
+abbrev pub after_bound_groups : List BoundGroup → Result (List BoundGroup) BindFault → Result (List BoundGroup)
     BindFault
-behind_bound_groups bound_groups rest = rest >>= λ others. Ok (bound_groups ++ others)
+after_bound_groups bound_groups rest = rest >>= λ others. Ok (bound_groups ++ others)
 
 one_more : (bound_groups : List BoundGroup) (bound_group : BoundGroup) (rest : Result (List BoundGroup) BindFault)
-    → behind_bound_groups bound_groups (rest >>= λ others. Ok (bound_group ∷ others)) ≡ behind_bound_groups
+    → after_bound_groups bound_groups (rest >>= λ others. Ok (bound_group ∷ others)) ≡ after_bound_groups
     (bound_groups ++ bound_group ∷ []) rest
 one_more bound_groups bound_group (Ok others) = ap Ok (sym (append_assoc bound_groups (bound_group ∷ []) others))
 one_more bound_groups bound_group (Err fault) = refl
@@ -77,20 +77,20 @@ one_more bound_groups bound_group (Err fault) = refl
 -- where the next bound group is `r`, it is added to those so far
 pub push_in : (bound_groups : List BoundGroup) (r : Result BoundGroup BindFault)
     (rest : Result (List BoundGroup) BindFault)
-    → behind_bound_groups bound_groups (r >>= λ bound_group. rest >>= λ others. Ok (bound_group ∷ others))
-    ≡ (r >>= λ bound_group. behind_bound_groups (bound_groups ++ bound_group ∷ []) rest)
+    → after_bound_groups bound_groups (r >>= λ bound_group. rest >>= λ others. Ok (bound_group ∷ others))
+    ≡ (r >>= λ bound_group. after_bound_groups (bound_groups ++ bound_group ∷ []) rest)
 push_in bound_groups (Ok bound_group) rest = one_more bound_groups bound_group rest
 push_in bound_groups (Err fault) rest = refl
 
 -- the bound group of assignment `i` is the next
 pub bound_groups-first : (bound_groups : List BoundGroup) (variables : List Variable) (as' : List Assignment) (i : ℕ)
     (a : Assignment) → i < length as' → a ≡ get_or as' i a
-    → behind_bound_groups bound_groups (bound_groups_in variables (drop i as'))
-    ≡ (bound_group_in variables a >>= λ bound_group. behind_bound_groups (bound_groups ++ bound_group ∷ [])
+    → after_bound_groups bound_groups (bound_groups_in variables (drop i as'))
+    ≡ (bound_group_in variables a >>= λ bound_group. after_bound_groups (bound_groups ++ bound_group ∷ [])
     (bound_groups_in variables (drop (i + 1) as')))
 unfolding bound_groups_in
 bound_groups-first bound_groups variables as' i a lt e =
-    ap (λ (rest : List Assignment). behind_bound_groups bound_groups (bound_groups_in variables rest))
+    ap (λ (rest : List Assignment). after_bound_groups bound_groups (bound_groups_in variables rest))
     (from_place as' i a lt e)
     ∙ push_in bound_groups (bound_group_in variables a) (bound_groups_in variables (drop (i + 1) as'))
 
@@ -98,17 +98,17 @@ bound_groups-first bound_groups variables as' i a lt e =
 pub bound_groups-step : (bound_groups : List BoundGroup) (variables : List Variable) (as' : List Assignment) (i : ℕ)
     (a : Assignment) (bound_group : BoundGroup) → i < length as' → a ≡ get_or as' i a → bound_group_in variables a
     ≡ Ok bound_group
-    → behind_bound_groups bound_groups (bound_groups_in variables (drop i as')) ≡ behind_bound_groups
+    → after_bound_groups bound_groups (bound_groups_in variables (drop i as')) ≡ after_bound_groups
     (bound_groups ++ bound_group ∷ []) (bound_groups_in variables (drop (i + 1) as'))
 bound_groups-step bound_groups variables as' i a bound_group lt e is =
     bound_groups-first bound_groups variables as' i a lt e
-    ∙ ap (λ (r : Result BoundGroup BindFault). r >>= λ bound_group. behind_bound_groups (bound_groups ++ bound_group
+    ∙ ap (λ (r : Result BoundGroup BindFault). r >>= λ bound_group. after_bound_groups (bound_groups ++ bound_group
     ∷ []) (bound_groups_in variables (drop (i + 1) as'))) is
 
 -- after the last assignment, the result is the bound groups so far
 pub bound_groups-end : (bound_groups : List BoundGroup) (variables : List Variable) (as' : List Assignment) (i : ℕ)
-    → length as' ≤ i → behind_bound_groups bound_groups (bound_groups_in variables (drop i as')) ≡ Ok bound_groups
+    → length as' ≤ i → after_bound_groups bound_groups (bound_groups_in variables (drop i as')) ≡ Ok bound_groups
 unfolding bound_groups_in
 bound_groups-end bound_groups variables as' i le =
-    ap (λ (rest : List Assignment). behind_bound_groups bound_groups (bound_groups_in variables rest))
+    ap (λ (rest : List Assignment). after_bound_groups bound_groups (bound_groups_in variables rest))
     (drop_of_length-le as' le) ∙ ap Ok (append-nil bound_groups)

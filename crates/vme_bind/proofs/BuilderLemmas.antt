@@ -28,8 +28,8 @@ use Rattle.vme_bind.specs.Capture.{level_in, last_bits, values_of, time_of, leve
 use Rattle.vme_bind.specs.Recording.{RecorderLevels, line_change, valued, step_between}
 use Rattle.vme_bind.specs.BuilderState.{BuilderState, IsBegun, builder_change, builder_instant}
 use Rattle.vme_bind.proofs.RecorderLemmas.{same_levels}
-use Rattle.vme_bind.proofs.CaptureLemmas.{AreLineBits, by_values, valued-more, line_bit_level, one_valued}
-use Rattle.vme_bind.proofs.CaptureLemmas.{one_valued-at}
+use Rattle.vme_bind.proofs.CaptureLemmas.{AreLineBits, by_values, valued-more, line_bit_level, after_value}
+use Rattle.vme_bind.proofs.CaptureLemmas.{after_value-at}
 use Rattle.vme_bind.proofs.CaptureLemmas.{length-valued, slots-valued, valued-at, levels-all, length-changed}
 use Rattle.vme_bind.proofs.OpeningLemmas.{recording-first, recording-more}
 
@@ -129,14 +129,14 @@ module _ (slots : ℕ) (bound_groups : List BoundGroup) (line_bits : NetLines)
       let before : Levels = valued line_bits (values_from 0 current) v in
       let after : Levels = valued line_bits (values_from 0 (slice_set current net (Some bits))) v in
       let value : Value = record { net = net; bits = bits } in
-      same_levels (one_valued line_bits value before) after
+      same_levels (after_value line_bits value before) after
       (slots-kept before (map (line_change bits) (line_bits_of line_bits net)) ∙ slots-valued line_bits
       (values_from 0 current) v ∙ sym (slots-valued line_bits (values_from 0 (slice_set current net (Some bits))) v))
       (length-changed before (map (line_change bits) (line_bits_of line_bits net)) ∙ length-valued line_bits
       (values_from 0 current) v ∙ len)
       (length-valued line_bits (values_from 0 (slice_set current net (Some bits))) v ∙ len)
       (λ l lt2.
-      one_valued-at slots bound_groups line_bits all value before (length-valued line_bits (values_from 0 current) v
+      after_value-at slots bound_groups line_bits all value before (length-valued line_bits (values_from 0 current) v
       ∙ len) l lt2
       ∙ ap (cond (is_on net (line_source slots bound_groups l)) (line_bit_level l (line_source slots bound_groups l)
       bits)) (valued-at slots bound_groups line_bits all (values_from 0 current) v len l lt2)

@@ -82,10 +82,10 @@ at_more g v l n xs = ap (λ (cs : List Change). level_at (changed v cs) l) (map-
     ∙ ap (λ (w : Levels). level_at w l) (changed-more v (map (to_level g) xs) (to_level g n))
 
 -- one number more for `changed-those`
-one_those : (p : ℕ → Bool) (g : ℕ → Level) (v : Levels) (n l : ℕ) (b : Bool) → p n ≡ b → n < length v.levels
+changed_those-step : (p : ℕ → Bool) (g : ℕ → Level) (v : Levels) (n l : ℕ) (b : Bool) → p n ≡ b → n < length v.levels
     → at_those g v l (those p 0 n) ≡ cond (nat_lt l n && p l) (g l) (level_at v l)
     → at_those g v l (those p 0 (n + 1)) ≡ cond (nat_lt l (n + 1) && p l) (g l) (level_at v l)
-one_those p g v n l true e lt so_far =
+changed_those-step p g v n l true e lt so_far =
     ap (at_those g v l) (those-yes p n e) ∙ at_more g v l n (those p 0 n)
     ∙ elim (cases_eq l n) [
       | inl same ↦
@@ -98,7 +98,7 @@ one_those p g v n l true e lt so_far =
           set_other (changed v (map (to_level g) (those p 0 n))) n l (g n) ne ∙ so_far
           ∙ ap (λ (b : Bool). cond b (g l) (level_at v l)) (tests_alike p l n (inl ne))
     ]
-one_those p g v n l false e lt so_far =
+changed_those-step p g v n l false e lt so_far =
     ap (at_those g v l) (those-no p n e) ∙ so_far
     ∙ ap (λ (b : Bool). cond b (g l) (level_at v l))
     (tests_alike p l n (elim (cases_eq l n) [ inl same ↦ inr (ap p same ∙ e) | inr ne ↦ inl ne ]))
@@ -115,7 +115,7 @@ changed-those p g v zero le l = ap (λ (b : Bool). cond (b && p l) (g l) (level_
 changed-those p g v (suc n) le l =
     let more : n + 1 ≡ suc n = omega arith in
     ap (λ (m : ℕ). at_those g v l (those p 0 m)) (sym more)
-    ∙ one_those p g v n l (p n) refl (omega (arith, le)) (changed-those p g v n (omega (arith, le)) l)
+    ∙ changed_those-step p g v n l (p n) refl (omega (arith, le)) (changed-those p g v n (omega (arith, le)) l)
     ∙ ap (λ (m : ℕ). cond (nat_lt l m && p l) (g l) (level_at v l)) more
 
 -- ---- the values of an instant
@@ -130,12 +130,12 @@ abbrev pub line_bit_level : ℕ → Option LineSource → List Bit → Level
 line_bit_level l source bits = level_in l (place_in source) bits
 
 -- the level of a line after the first value and then the others is that after all
-one_value : (l : ℕ) (source : Option LineSource) (v : Value) (values : List Value) (base : Level)
+value_first : (l : ℕ) (source : Option LineSource) (v : Value) (values : List Value) (base : Level)
     → by_values l source values (cond (is_on v.net source) (line_bit_level l source v.bits) base) ≡ by_values l source
     (v ∷ values) base
-one_value l None v values base = refl
-one_value l (Some (Always level)) v values base = refl
-one_value l (Some (AtBit bit)) v values base = by_last (last_bits bit.net values) (v.net == bit.net)
+value_first l None v values base = refl
+value_first l (Some (Always level)) v values base = refl
+value_first l (Some (AtBit bit)) v values base = by_last (last_bits bit.net values) (v.net == bit.net)
   where
     by_last : (later : Option (List Bit)) (here : Bool)
         → option_map_or (level_in l bit.place) later (cond here (level_in l bit.place v.bits) base)
@@ -164,16 +164,17 @@ line_change_twice slots bound_groups bits (x ∷ xs) = ap
     (λ (cs : List Change). to_level (λ l. line_bit_level l (line_source slots bound_groups l) bits) x ∷ cs)
     (line_change_twice slots bound_groups bits xs)
 
-abbrev pub one_valued : NetLines → Value → Levels → Levels
-one_valued line_bits v now = changed now (map (line_change v.bits) (line_bits_of line_bits v.net))
+abbrev pub after_value : NetLines → Value → Levels → Levels
+after_value line_bits v now = changed now (map (line_change v.bits) (line_bits_of line_bits v.net))
 
 -- the level of a line after one value: that of its bit, where the value is one of its net, or else the one before
-pub one_valued-at : (slots : ℕ) (bound_groups : List BoundGroup) (line_bits : NetLines) → AreLineBits slots bound_groups
-    line_bits → (v : Value) (now : Levels) → length now.levels ≡ line_count → (l : ℕ) → l < line_count
-    → level_at (one_valued line_bits v now) l ≡ cond (is_on v.net (line_source slots bound_groups l))
+pub after_value-at : (slots : ℕ) (bound_groups : List BoundGroup) (line_bits : NetLines)
+    → AreLineBits slots bound_groups line_bits
+    → (v : Value) (now : Levels) → length now.levels ≡ line_count → (l : ℕ) → l < line_count
+    → level_at (after_value line_bits v now) l ≡ cond (is_on v.net (line_source slots bound_groups l))
     (line_bit_level l (line_source slots bound_groups l) v.bits) (level_at now l)
 unfolding is_line_bit
-one_valued-at slots bound_groups line_bits all v now e l lt =
+after_value-at slots bound_groups line_bits all v now e l lt =
     ap (λ (ts : List LineBit). level_at (changed now (map (line_change v.bits) ts)) l) (all v.net)
     ∙ ap (λ (cs : List Change). level_at (changed now cs) l) (line_change_twice slots bound_groups v.bits
     (those (is_line_bit slots bound_groups v.net) 0 line_count))
@@ -185,13 +186,13 @@ one_valued-at slots bound_groups line_bits all v now e l lt =
 pub length-valued : (line_bits : NetLines) (values : List Value) (now : Levels)
     → length (valued line_bits values now).levels ≡ length now.levels
 length-valued line_bits [] now = refl
-length-valued line_bits (v ∷ values) now = length-valued line_bits values (one_valued line_bits v now)
+length-valued line_bits (v ∷ values) now = length-valued line_bits values (after_value line_bits v now)
     ∙ length-changed now (map (line_change v.bits) (line_bits_of line_bits v.net))
 
 pub slots-valued : (line_bits : NetLines) (values : List Value) (now : Levels) → (valued line_bits values now).slots
     ≡ now.slots
 slots-valued line_bits [] now = refl
-slots-valued line_bits (v ∷ values) now = slots-valued line_bits values (one_valued line_bits v now)
+slots-valued line_bits (v ∷ values) now = slots-valued line_bits values (after_value line_bits v now)
     ∙ slots-kept now (map (line_change v.bits) (line_bits_of line_bits v.net))
 
 -- the level of a line after the values of an instant
@@ -201,11 +202,11 @@ pub valued-at : (slots : ℕ) (bound_groups : List BoundGroup) (line_bits : NetL
 valued-at slots bound_groups line_bits all [] now e l lt = sym (nothing_said l (line_source slots bound_groups l)
     (level_at now l))
 valued-at slots bound_groups line_bits all (v ∷ values) now e l lt =
-    valued-at slots bound_groups line_bits all values (one_valued line_bits v now)
+    valued-at slots bound_groups line_bits all values (after_value line_bits v now)
     (length-changed now (map (line_change v.bits) (line_bits_of line_bits v.net)) ∙ e) l lt
-    ∙ ap (by_values l (line_source slots bound_groups l) values) (one_valued-at slots bound_groups line_bits all v now e
-    l lt)
-    ∙ one_value l (line_source slots bound_groups l) v values (level_at now l)
+    ∙ ap (by_values l (line_source slots bound_groups l) values)
+    (after_value-at slots bound_groups line_bits all v now e l lt)
+    ∙ value_first l (line_source slots bound_groups l) v values (level_at now l)
 
 -- ---- one instant more
 

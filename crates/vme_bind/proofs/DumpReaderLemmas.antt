@@ -63,53 +63,53 @@ read-on t t2 piece line line2 is ends leads rest =
     ∙ ahead-from t2 (line_behind line piece) line2 rest is
 
 -- a fault that isn't want of memory is the result
-pub told-is : (fault : CaptureFault) (answer : Result Trace CaptureFault) → is_want fault ≡ false → CaptureFailsBy fault
-    answer → answer ≡ Err fault
-told-is (Dump fault) answer told fails = by_kind fault.line fault.kind told fails
+pub fails_by-is : (fault : CaptureFault) (answer : Result Trace CaptureFault) → is_want fault ≡ false
+    → CaptureFailsBy fault answer → answer ≡ Err fault
+fails_by-is (Dump fault) answer not_want fails = by_kind fault.line fault.kind not_want fails
   where
     by_kind : (line : ℕ) (kind : FaultKind) → is_want (Dump (record { line = line; kind = kind })) ≡ false
         → DumpFails line kind answer → answer ≡ Err (Dump (record { line = line; kind = kind }))
-    by_kind line Memory told fails = absurd (cc told)
-    by_kind line kind told fails = fails
-told-is (Binding fault) answer told fails = by_kind fault.line fault.kind told fails
+    by_kind line Memory not_want fails = absurd (cc not_want)
+    by_kind line kind not_want fails = fails
+fails_by-is (Binding fault) answer not_want fails = by_kind fault.line fault.kind not_want fails
   where
     by_kind : (line : ℕ) (kind : BindFaultKind) → is_want (Binding (record { line = line; kind = kind })) ≡ false
         → BindingFails line kind answer → answer ≡ Err (Binding (record { line = line; kind = kind }))
-    by_kind line NoMemory told fails = absurd (cc told)
-    by_kind line kind told fails = fails
+    by_kind line NoMemory not_want fails = absurd (cc not_want)
+    by_kind line kind not_want fails = fails
 
 -- a fault that isn't want of memory may be returned where it is the result
-pub is-told : (fault : CaptureFault) (answer : Result Trace CaptureFault) → is_want fault ≡ false → answer ≡ Err fault
-    → CaptureFailsBy fault answer
-is-told (Dump fault) answer told is = by_kind fault.line fault.kind told is
+pub is-fails_by : (fault : CaptureFault) (answer : Result Trace CaptureFault) → is_want fault ≡ false
+    → answer ≡ Err fault → CaptureFailsBy fault answer
+is-fails_by (Dump fault) answer not_want is = by_kind fault.line fault.kind not_want is
   where
     by_kind : (line : ℕ) (kind : FaultKind) → is_want (Dump (record { line = line; kind = kind })) ≡ false → answer
         ≡ Err (Dump (record { line = line; kind = kind })) → DumpFails line kind answer
-    by_kind line Memory told is = absurd (cc told)
-    by_kind line kind told is = is
-is-told (Binding fault) answer told is = by_kind fault.line fault.kind told is
+    by_kind line Memory not_want is = absurd (cc not_want)
+    by_kind line kind not_want is = is
+is-fails_by (Binding fault) answer not_want is = by_kind fault.line fault.kind not_want is
   where
     by_kind : (line : ℕ) (kind : BindFaultKind) → is_want (Binding (record { line = line; kind = kind })) ≡ false
         → answer
         ≡ Err (Binding (record { line = line; kind = kind })) → BindingFails line kind answer
-    by_kind line NoMemory told is = absurd (cc told)
-    by_kind line kind told is = is
+    by_kind line NoMemory not_want is = absurd (cc not_want)
+    by_kind line kind not_want is = is
 
 -- a fault of a piece of the body is the result for the text
 pub failed-on : (t : TextReached) (piece : List ℕ) (line : ℕ) (fault : CaptureFault)
     → EndsThere piece → is_want fault ≡ false
     → ((more : List Token) → CaptureFailsBy fault (outcome_ahead t (tokens_from line piece) more))
     → (rest : List ℕ) → outcome_ahead t (tokens_from line (piece ++ rest)) [] ≡ Err fault
-failed-on t piece line fault ends told fails rest =
+failed-on t piece line fault ends not_want fails rest =
     let more = tokens_from (line_behind line piece) rest in
     ahead-parts t (tokens_from line (piece ++ rest)) (tokens_from line piece) more (ends line rest)
-    ∙ told-is fault (outcome_ahead t (tokens_from line piece) more) told (fails more)
+    ∙ fails_by-is fault (outcome_ahead t (tokens_from line piece) more) not_want (fails more)
 
 -- a fault of the prefix `front` is the result for the text
 pub failed-at-front : (b : BoundLines) (front : List ℕ) (fault : CaptureFault) → EndsThere front → is_want fault ≡ false
     → ((whole : List ℕ) (more : List Token) → tokens whole ≡ tokens front ++ more → CaptureFailsBy fault
     (recording_of_text b whole))
     → (rest : List ℕ) → recording_of_text b (front ++ rest) ≡ Err fault
-failed-at-front b front fault ends told fails rest =
-    told-is fault (recording_of_text b (front ++ rest)) told
+failed-at-front b front fault ends not_want fails rest =
+    fails_by-is fault (recording_of_text b (front ++ rest)) not_want
     (fails (front ++ rest) (tokens_from (line_behind 1 front) rest) (ends 1 rest))

@@ -13,8 +13,8 @@ use Rattle.vme_trace.specs.declared.step.Step.{Step}
 use Rattle.vme_trace.proofs.Ranges.{any-fails}
 use Rattle.vme_bind.specs.Recording.{RecorderLevels, IsLine, differs, DifferWithin, change_to, changes_between}
 use Rattle.vme_bind.specs.Recording.{step_between}
-use Rattle.vme_bind.proofs.RecorderLemmas.{those-yes, those-skip, bool_cases, alike, same_levels, set_same, set_other}
-use Rattle.vme_bind.proofs.RecorderLemmas.{set_all}
+use Rattle.vme_bind.proofs.RecorderLemmas.{those-yes, those-skip, bool_cases, same_unless_differs, same_levels}
+use Rattle.vme_bind.proofs.RecorderLemmas.{set_same, set_other, set_all}
 use Rattle.vme_bind.proofs.StepsLemmas.{some_of}
 
 none_those : (p : ℕ → Bool) (n : ℕ) → any p 0 n ≡ false → those p 0 n ≡ []
@@ -62,7 +62,7 @@ step-none time a b cs e h = by_any (any (differs a b) 0 line_count) refl
 pub all-shown : (shown now : Levels) (first last : ℕ) → DifferWithin shown now first last
     → ((l : ℕ) → differs shown now l ≡ false) → shown ≡ now
 all-shown shown now first last h same = same_levels shown now (sym h.slots) h.shown_all h.now_all
-    (λ l lt. alike shown now l (same l))
+    (λ l lt. same_unless_differs shown now l (same l))
 
 -- where no line differs, there is no step
 pub step-same : (time : ℕ) (shown now : Levels) → ((l : ℕ) → differs shown now l ≡ false) → [] ≡ step_between time shown
@@ -135,7 +135,7 @@ module _ (shown now : Levels) (first last line : ℕ) (h : DifferWithin shown no
       (λ l lt. elim (cases_eq l line) [
         | inl e ↦ ap (level_at (set_level shown line (level_at now line))) e ∙ set_same shown line (level_at now line)
             (omega (arith, is.below, h.shown_all)) ∙ ap (level_at now) (sym e)
-        | inr ne ↦ set_other shown line l (level_at now line) ne ∙ alike shown now l (alone l ne)
+        | inr ne ↦ set_other shown line l (level_at now line) ne ∙ same_unless_differs shown now l (alone l ne)
       ])
 
   -- if it differs, the line's change is the only change
@@ -151,8 +151,9 @@ module _ (shown now : Levels) (first last line : ℕ) (h : DifferWithin shown no
       (λ l low lt. let ne : l ≢ line = omega (arith, lt) in alone l ne))))
 
   -- where the line has the level that is shown, no line differs
-  pub lone-same : same_level (level_at shown line) (level_at now line) ≡ true → (l : ℕ) → differs shown now l ≡ false
-  lone-same same l = elim (cases_eq l line) [
+  pub lone-no_difference : same_level (level_at shown line) (level_at now line) ≡ true → (l : ℕ)
+      → differs shown now l ≡ false
+  lone-no_difference same l = elim (cases_eq l line) [
     | inl e ↦ ap (differs shown now) e ∙ ap not same
     | inr ne ↦ alone l ne
   ]
@@ -185,9 +186,9 @@ module _ (p : RecorderLevels) (shown now : Levels) (first last line : ℕ) (view
       ∙ step-at time p shown now view
 
   -- where the line has the level that is shown, there is no step
-  pub line-none : (time : ℕ) → same_level (level_at shown line) (level_at now line) ≡ true → [] ≡ step_between time
+  pub line-no_step : (time : ℕ) → same_level (level_at shown line) (level_at now line) ≡ true → [] ≡ step_between time
       p.shown p.now
-  line-none time same =
-      step-same time shown now (lone-same shown now first last line h line_exists is_alone same)
+  line-no_step time same =
+      step-same time shown now (lone-no_difference shown now first last line h line_exists is_alone same)
       ∙ step-at time p shown now
       view

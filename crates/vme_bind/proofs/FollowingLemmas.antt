@@ -18,13 +18,13 @@ use Rattle.vme_bind.specs.TextReading.{following, reading_ahead, reading_made, r
 use Rattle.vme_bind.proofs.SpeculativeReadingLemmas.{behind, behind-change, behind-instant}
 
 module _ (t : Trace) where
-  abbrev fold_behind : BodyFold BuilderState → BodyFold BuilderState
-  fold_behind p = learned_fold builder_change builder_instant builder_change builder_instant (behind t)
+  abbrev fold_after : BodyFold BuilderState → BodyFold BuilderState
+  fold_after p = learned_fold builder_change builder_instant builder_change builder_instant (behind t)
       (behind-change t)
       (behind-instant t) p
 
-  abbrev state_behind : State BuilderState → State BuilderState
-  state_behind s = learned_state builder_change builder_instant builder_change builder_instant (behind t)
+  abbrev state_after : State BuilderState → State BuilderState
+  state_after s = learned_state builder_change builder_instant builder_change builder_instant (behind t)
       (behind-change t)
       (behind-instant t) s
 
@@ -38,13 +38,13 @@ module _ (t : Trace) where
   ended-behind false m time = refl
 
   stood-behind : (p : BodyFold BuilderState) (stood : Result BodyContext VcdFault)
-      → (stood >>= λ end. Ok (ended builder_instant (fold_behind p)))
+      → (stood >>= λ end. Ok (ended builder_instant (fold_after p)))
       ≡ ((stood >>= λ end. Ok (ended builder_instant p)) >>= λ made. Ok (behind t made))
   stood-behind p (Ok end) = ap Ok (ended-behind p.has_instant p.accumulator p.time)
   stood-behind p (Err fault) = refl
 
   outcome-behind : (read : Result (State BuilderState) VcdFault)
-      → ((read >>= λ end. Ok (state_behind end)) >>= at_end builder_instant)
+      → ((read >>= λ end. Ok (state_after end)) >>= at_end builder_instant)
       ≡ ((read >>= at_end builder_instant) >>= λ made. Ok (behind t made))
   outcome-behind (Ok s) = stood-behind s.progress (at_the_end s.context)
   outcome-behind (Err fault) = refl
@@ -59,13 +59,13 @@ module _ (t : Trace) where
 
   -- reading items after the recording `t` gives their reading with `t` before its steps
   items-behind : (nets : List Net) (s : State BuilderState) (items : List BodyItem)
-      → reading_until_fault (until_fault builder_change builder_instant nets (state_behind s) items)
+      → reading_until_fault (until_fault builder_change builder_instant nets (state_after s) items)
       ≡ following t (reading_until_fault (until_fault builder_change builder_instant nets s items))
   items-behind nets s items =
       let reached : State BuilderState = reached_before builder_change builder_instant nets s items in
       let read : Result (State BuilderState) VcdFault = steps builder_change builder_instant nets s items in
       ap (λ (r : State BuilderState). reading_made r.progress.accumulator.recorded r.progress.time
-      (steps builder_change builder_instant nets (state_behind s) items >>= at_end builder_instant))
+      (steps builder_change builder_instant nets (state_after s) items >>= at_end builder_instant))
       (reached-learned builder_change builder_instant builder_change builder_instant (behind t) (behind-change t)
       (behind-instant t)
       nets s items)

@@ -28,54 +28,55 @@ use Rattle.vme_bind.specs.PathSearch.{bound_groups_of}
 use Rattle.vme_bind.specs.BoundGroups.{bits_meant, candidate, same_bits, only, source_by, source_in, bound_group_by}
 use Rattle.vme_bind.specs.BoundGroups.{bound_group_in, bound_groups_in}
 use Rattle.vme_bind.proofs.PathSearchLemmas.{path_test}
-use Rattle.vme_bind.proofs.BoundGroupLemmas.{behind_bound_groups, push_in, from_place}
+use Rattle.vme_bind.proofs.BoundGroupLemmas.{after_bound_groups, push_in, from_place}
 use Rattle.std.proofs.Math.ListN.{drop_of_length-le}
 use Rattle.std.proofs.lemmas.List.{append-nil}
 
 -- ---- one assignment
 
 -- the result of the candidates `others` after what is found before
-abbrev only_behind : PathMatch → List BitRange → Result BitRange BindFaultKind
-only_behind Nothing others = only others
-only_behind (Only bits) others = cond (list_all (same_bits bits) others) (Ok bits) (Err AmbiguousPath)
-only_behind Several others = Err AmbiguousPath
+abbrev only_after : PathMatch → List BitRange → Result BitRange BindFaultKind
+only_after Nothing others = only others
+only_after (Only bits) others = cond (list_all (same_bits bits) others) (Ok bits) (Err AmbiguousPath)
+only_after Several others = Err AmbiguousPath
 
 abbrev found_all : LevelSource → PathMatch → List Variable → PathMatch
 found_all source found variables = fold (λ (f : PathMatch) (v : Variable). with_bits f (candidate_of source v)) found
     variables
 
-abbrev behind : Option BitRange → List BitRange → List BitRange
-behind None others = others
-behind (Some bits) others = bits ∷ others
+abbrev prepended : Option BitRange → List BitRange → List BitRange
+prepended None others = others
+prepended (Some bits) others = bits ∷ others
 
 -- one candidate more, if there is one, after what is found
-behind_one : (found : PathMatch) (next : Option BitRange) (others : List BitRange) → only_behind (with_bits found next)
-    others ≡ only_behind found (behind next others)
-behind_one found None others = refl
-behind_one Nothing (Some next) others = refl
-behind_one (Only bits) (Some next) others = by_same (same_bits bits next)
+only_after-more : (found : PathMatch) (next : Option BitRange) (others : List BitRange)
+    → only_after (with_bits found next) others ≡ only_after found (prepended next others)
+only_after-more found None others = refl
+only_after-more Nothing (Some next) others = refl
+only_after-more (Only bits) (Some next) others = by_same (same_bits bits next)
   where
-    by_same : (b : Bool) → only_behind (cond b (Only bits) Several) others
+    by_same : (b : Bool) → only_after (cond b (Only bits) Several) others
         ≡ cond (b && list_all (same_bits bits) others) (Ok bits) (Err AmbiguousPath)
     by_same true = refl
     by_same false = refl
-behind_one Several (Some next) others = refl
+only_after-more Several (Some next) others = refl
 
 more_candidates : (named : VariableSelector) (v : Variable) (vs : List Variable) (next : Option BitRange)
-    → candidate named v ≡ next → filter_map (candidate named) (v ∷ vs) ≡ behind next (filter_map (candidate named) vs)
+    → candidate named v ≡ next
+    → filter_map (candidate named) (v ∷ vs) ≡ prepended next (filter_map (candidate named) vs)
 more_candidates named v vs None e = rw e refl
 more_candidates named v vs (Some bits) e = rw e refl
 
 -- what is found after all variables gives the only candidate among them
 found_only : (named : VariableSelector) (vs : List Variable) (found : PathMatch)
-    → only_found (found_all (Named named) found vs) ≡ only_behind found (filter_map (candidate named) vs)
+    → only_found (found_all (Named named) found vs) ≡ only_after found (filter_map (candidate named) vs)
 found_only named [] Nothing = refl
 found_only named [] (Only bits) = refl
 found_only named [] Several = refl
 found_only named (v ∷ vs) found =
     found_only named vs (with_bits found (candidate named v))
-    ∙ behind_one found (candidate named v) (filter_map (candidate named) vs)
-    ∙ ap (only_behind found) (sym (more_candidates named v vs (candidate named v) refl))
+    ∙ only_after-more found (candidate named v) (filter_map (candidate named) vs)
+    ∙ ap (only_after found) (sym (more_candidates named v vs (candidate named v) refl))
 
 found_source : (count : ℕ) (source : LevelSource) (vs : List Variable) → source_of count (found_all source Nothing vs)
     source ≡ source_in vs count source
@@ -167,12 +168,12 @@ found-other (Named named) found scopes net size r matched_scopes some is other =
 -- the bound group of search `i` is the next
 pub bound_groups-first : (bound_groups : List BoundGroup) (searches : List PathSearch) (i : ℕ) (s : PathSearch)
     → i < length searches → s ≡ get_or searches i s
-    → behind_bound_groups bound_groups (bound_groups_of (map seen_in (drop i searches)))
-    ≡ (bound_group_of (seen_in s) >>= λ bound_group. behind_bound_groups (bound_groups ++ bound_group ∷ [])
+    → after_bound_groups bound_groups (bound_groups_of (map seen_in (drop i searches)))
+    ≡ (bound_group_of (seen_in s) >>= λ bound_group. after_bound_groups (bound_groups ++ bound_group ∷ [])
     (bound_groups_of (map seen_in (drop (i + 1) searches))))
 unfolding bound_groups_of
 bound_groups-first bound_groups searches i s lt e =
-    ap (λ (rest : List PathSearch). behind_bound_groups bound_groups (bound_groups_of (map seen_in rest)))
+    ap (λ (rest : List PathSearch). after_bound_groups bound_groups (bound_groups_of (map seen_in rest)))
     (from_place searches i s lt e)
     ∙ push_in bound_groups (bound_group_of (seen_in s)) (bound_groups_of (map seen_in (drop (i + 1) searches)))
 
@@ -180,17 +181,17 @@ bound_groups-first bound_groups searches i s lt e =
 pub bound_groups-step : (bound_groups : List BoundGroup) (searches : List PathSearch) (i : ℕ) (s : PathSearch)
     (bound_group : BoundGroup) → i < length searches → s ≡ get_or searches i s → bound_group_of (seen_in s)
     ≡ Ok bound_group
-    → behind_bound_groups bound_groups (bound_groups_of (map seen_in (drop i searches))) ≡ behind_bound_groups
+    → after_bound_groups bound_groups (bound_groups_of (map seen_in (drop i searches))) ≡ after_bound_groups
     (bound_groups ++ bound_group ∷ []) (bound_groups_of (map seen_in (drop (i + 1) searches)))
 bound_groups-step bound_groups searches i s bound_group lt e is =
     bound_groups-first bound_groups searches i s lt e
-    ∙ ap (λ (r : Result BoundGroup BindFault). r >>= λ bound_group. behind_bound_groups (bound_groups ++ bound_group
+    ∙ ap (λ (r : Result BoundGroup BindFault). r >>= λ bound_group. after_bound_groups (bound_groups ++ bound_group
     ∷ []) (bound_groups_of (map seen_in (drop (i + 1) searches)))) is
 
 -- after the last search, the result is the bound groups so far
 pub bound_groups-end : (bound_groups : List BoundGroup) (searches : List PathSearch) (i : ℕ) → length searches ≤ i
-    → behind_bound_groups bound_groups (bound_groups_of (map seen_in (drop i searches))) ≡ Ok bound_groups
+    → after_bound_groups bound_groups (bound_groups_of (map seen_in (drop i searches))) ≡ Ok bound_groups
 unfolding bound_groups_of
 bound_groups-end bound_groups searches i le =
-    ap (λ (rest : List PathSearch). behind_bound_groups bound_groups (bound_groups_of (map seen_in rest)))
+    ap (λ (rest : List PathSearch). after_bound_groups bound_groups (bound_groups_of (map seen_in rest)))
     (drop_of_length-le searches le) ∙ ap Ok (append-nil bound_groups)

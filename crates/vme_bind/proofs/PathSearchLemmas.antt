@@ -18,7 +18,7 @@ use Rattle.vcd_read.proofs.ScopesLemmas.{path_of-is}
 use denote.Ref.{Bor}
 use Rattle.vme_bind.specs.declared.assignment.Assignment.{Assignment}
 use Rattle.vme_bind.specs.declared.path_search.PathSearch.{PathSearch}
-use Rattle.vme_bind.specs.PathSearch.{begins_with, scopes_matched, matched_behind, path_to_find, HasOpened, opened}
+use Rattle.vme_bind.specs.PathSearch.{begins_with, scopes_matched, matched_after, path_to_find, HasOpened, opened}
 use Rattle.vme_bind.specs.PathSearch.{closed}
 use Rattle.vme_bind.specs.PathSearch.{Searched, seen_in}
 
@@ -119,7 +119,7 @@ matched_scopes-all path (name ∷ scopes) = by_test (begins_with (path_in scopes
     by_test false le = grind (arith, nat_tests)
 
 -- the number of matched scopes after one more is entered
-pub matched_scopes-open : (path name : List ℕ) (scopes : List (List ℕ)) → matched_behind (length scopes)
+pub matched_scopes-open : (path name : List ℕ) (scopes : List (List ℕ)) → matched_after (length scopes)
     (length (path_in scopes)) (with_dot name) path (scopes_matched path scopes) ≡ scopes_matched path (name ∷ scopes)
 unfolding scopes_matched path_in
 matched_scopes-open path name scopes =
@@ -167,7 +167,7 @@ opened-one : (name : List ℕ) (scopes : List (List ℕ)) (s : PathSearch) → H
     (opened (length scopes) (length (path_in scopes)) (with_dot name) s)
 opened-one name scopes s matched_scopes =
     let path : List ℕ = path_to_find s.assignment.now.source in
-    ap (matched_behind (length scopes) (length (path_in scopes)) (with_dot name) path) matched_scopes
+    ap (matched_after (length scopes) (length (path_in scopes)) (with_dot name) path) matched_scopes
     ∙ matched_scopes-open path name scopes
 
 pub same_matched : (scopes : List (List ℕ)) (s s' : PathSearch) → s'.matched_scopes ≡ s.matched_scopes → s'.assignment
@@ -195,10 +195,10 @@ closed-all name scopes searches all =
     (all k s at))
 
 -- the part of the path that a scope adds
-pub part_behind : (name : List ℕ) (scopes : List (List ℕ)) → drop (length (path_in scopes)) (path_in (name ∷ scopes))
+pub part_after : (name : List ℕ) (scopes : List (List ℕ)) → drop (length (path_in scopes)) (path_in (name ∷ scopes))
     ≡ with_dot name
 unfolding path_in
-part_behind name scopes = drop_at (path_in scopes) (with_dot name) (length (path_in scopes)) refl
+part_after name scopes = drop_at (path_in scopes) (with_dot name) (length (path_in scopes)) refl
 
 -- ---- one element after the other
 
@@ -259,7 +259,7 @@ pub opened-back : (name : List ℕ) (scopes now : List (List ℕ)) (searches len
     ≡ drop start (path_in now) → All (HasOpened now) (take len (new ++ drop (length new) searches))
 opened-back name scopes now searches lent new len depth start part all names e same is d s p =
     let own : part ≡ with_dot name = p ∙ ap (λ (n : ℕ). drop n (path_in now)) s
-    ∙ ap (λ (ns : List (List ℕ)). drop (length (path_in scopes)) (path_in ns)) names ∙ part_behind name scopes in
+    ∙ ap (λ (ns : List (List ℕ)). drop (length (path_in scopes)) (path_in ns)) names ∙ part_after name scopes in
     let mapped : new ≡ map (opened (length scopes) (length (path_in scopes)) (with_dot name)) searches =
     is ∙ ap (λ (xs : List PathSearch). map (opened depth start part) xs) same
     ∙ ap (λ (n : ℕ). map (opened n start part) searches) d

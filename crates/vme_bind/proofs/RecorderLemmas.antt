@@ -46,11 +46,12 @@ bool_cases true = inl refl
 bool_cases false = inr refl
 
 -- a line on which `a` and `b` don't differ has one level
-pub alike : (a b : Levels) (l : ℕ) → differs a b l ≡ false → level_at a l ≡ level_at b l
-alike a b l h = same-is (level_at a l) (level_at b l) (not_false (same_level (level_at a l) (level_at b l)) h)
+pub same_unless_differs : (a b : Levels) (l : ℕ) → differs a b l ≡ false → level_at a l ≡ level_at b l
+same_unless_differs a b l h =
+    same-is (level_at a l) (level_at b l) (not_false (same_level (level_at a l) (level_at b l)) h)
 
-pub alike_differs : (a b : Levels) (l : ℕ) → level_at a l ≡ level_at b l → differs a b l ≡ false
-alike_differs a b l e = rw e (ap not (same_self (level_at b l)))
+pub no_difference_at : (a b : Levels) (l : ℕ) → level_at a l ≡ level_at b l → differs a b l ≡ false
+no_difference_at a b l e = rw e (ap not (same_self (level_at b l)))
 
 pub set_same : (v : Levels) (l : ℕ) (x : Level) → l < length v.levels → level_at (set_level v l x) l ≡ x
 set_same v l x lt = unwrap_or-slice_get (slice_set v.levels l x) l Unknown ∙ get_or-set_same v.levels l x Unknown lt
@@ -95,7 +96,7 @@ within-same shown now first last m x h line same =
     let before : (l : ℕ) → differs shown (set_level now m x) l ≡ true → differs shown now l ≡ true =
     λ l d. differs_before shown now (set_level now m x) m l
     (λ e k. false≢true
-    (sym (alike_differs shown (set_level now m x) l (ap (level_at shown) e ∙ same-is (level_at shown m) x same
+    (sym (no_difference_at shown (set_level now m x) l (ap (level_at shown) e ∙ same-is (level_at shown m) x same
     ∙ sym (ap (level_at (set_level now m x)) e ∙ set_same now m x (omega (arith, line.below, h.now_all))))) ∙ k))
     (λ ne. set_other now m l x ne) d in
     record {
@@ -139,7 +140,7 @@ pub within-none : (shown now : Levels) (first last : ℕ) → shown ≡ now → 
     → IsLine shown.slots first → DifferWithin shown now first last
 within-none shown now first last e all begins =
     let none : (l : ℕ) → differs shown now l ≡ true → ⊥ =
-    λ l d. false≢true (sym (alike_differs shown now l (ap (λ (v : Levels). level_at v l) e)) ∙ d) in
+    λ l d. false≢true (sym (no_difference_at shown now l (ap (λ (v : Levels). level_at v l) e)) ∙ d) in
     record {
       slots = ap (λ (v : Levels). v.slots) (sym e);
       shown_all = ap (λ (v : Levels). length v.levels) e ∙ all;
@@ -191,16 +192,16 @@ pub record AreShown (n : ℕ) (before now shown : Levels) (changes : List Change
   pub above : (l : ℕ) → n ≤ l → level_at shown l ≡ level_at before l
 
 -- no line below `first` or above `last` differs
-quiet_before : (before now : Levels) (first last l : ℕ) → DifferWithin before now first last → l < first
+no_difference_below : (before now : Levels) (first last l : ℕ) → DifferWithin before now first last → l < first
     → differs before now l ≡ false
-quiet_before before now first last l h lt = elim (bool_cases (differs before now l)) [
+no_difference_below before now first last l h lt = elim (bool_cases (differs before now l)) [
   | inl d ↦ absurd (omega (arith, h.low l d, lt))
   | inr none ↦ none
 ]
 
-quiet_after : (before now : Levels) (first last l : ℕ) → DifferWithin before now first last → last < l
+no_difference_above : (before now : Levels) (first last l : ℕ) → DifferWithin before now first last → last < l
     → differs before now l ≡ false
-quiet_after before now first last l h lt = elim (bool_cases (differs before now l)) [
+no_difference_above before now first last l h lt = elim (bool_cases (differs before now l)) [
   | inl d ↦ absurd (omega (arith, h.high l d, lt))
   | inr none ↦ none
 ]
@@ -209,14 +210,14 @@ pub shown-first : (before now : Levels) (first last n : ℕ) (changes : List Cha
     → n ≤ first → changes ≡ [] → AreShown n before now before changes
 unfolding those
 shown-first before now first last n changes h is none =
-    let quiet : (l : ℕ) → l < n → differs before now l ≡ false = λ l lt. quiet_before before now first last l h
+    let quiet : (l : ℕ) → l < n → differs before now l ≡ false = λ l lt. no_difference_below before now first last l h
     (omega (arith, is, lt)) in
     record {
       slots = h.slots;
       shown_all = h.shown_all;
       changes_are = none ∙ sym (ap (map (change_to now)) (those-skip (differs before now) 0 n (omega arith)
           (λ l low lt. quiet l lt)));
-      below = λ l lt. alike before now l (quiet l lt);
+      below = λ l lt. same_unless_differs before now l (quiet l lt);
       above = λ l le. refl;
     }
 
@@ -226,7 +227,7 @@ pub shown-same : (n : ℕ) (before now shown : Levels) (changes : List Change)
     → AreShown (n + 1) before now shown changes
 shown-same n before now shown changes same h =
     let is : level_at shown n ≡ level_at now n = sym (same-is _ _ same) in
-    let quiet : differs before now n ≡ false = alike_differs before now n (sym (h.above n (omega arith)) ∙ is) in
+    let quiet : differs before now n ≡ false = no_difference_at before now n (sym (h.above n (omega arith)) ∙ is) in
     record {
       slots = h.slots;
       shown_all = h.shown_all;
@@ -251,7 +252,7 @@ pub differs-here : (n : ℕ) (before now shown : Levels) (changes : List Change)
 differs-here n before now shown changes other h = elim (bool_cases (differs before now n)) [
   | inl d ↦ d
   | inr same ↦
-      let e : level_at shown n ≡ level_at now n = h.above n (omega arith) ∙ alike before now n same in
+      let e : level_at shown n ≡ level_at now n = h.above n (omega arith) ∙ same_unless_differs before now n same in
       absurd (false≢true
       (sym other ∙ ap (same_level (level_at now n)) e ∙ same_self (level_at now n)))
 ]
@@ -294,7 +295,7 @@ shown-within n before now shown first last changes t h =
     let slots : before.slots ≡ shown.slots = sym t.slots ∙ h.slots in
     let old : (l : ℕ) → differs shown now l ≡ true → differs before now l ≡ true =
     λ l d. elim (cases_lt l n) [
-      | inl less ↦ absurd (false≢true (sym (alike_differs shown now l (h.below l less)) ∙ d))
+      | inl less ↦ absurd (false≢true (sym (no_difference_at shown now l (h.below l less)) ∙ d))
       | inr more ↦ ap (λ (y : Level). not (same_level y (level_at now l))) (sym (h.above l more)) ∙ d
     ] in
     record {
@@ -313,7 +314,7 @@ pub shown-changes : (n : ℕ) (before now shown : Levels) (first last : ℕ) (ch
     → changes ≡ changes_between before now
 shown-changes n before now shown first last changes t end most h =
     h.changes_are ∙ ap (map (change_to now)) (sym (those-skip (differs before now) n line_count most
-    (λ l low high. quiet_after before now first last l t (omega (arith, end, low)))))
+    (λ l low high. no_difference_above before now first last l t (omega (arith, end, low)))))
 
 -- once the lines up to `last` are shown, all levels are those in `now`
 pub shown-all : (n : ℕ) (before now shown : Levels) (first last : ℕ) (changes : List Change) → DifferWithin before now
@@ -321,6 +322,6 @@ pub shown-all : (n : ℕ) (before now shown : Levels) (first last : ℕ) (change
 shown-all n before now shown first last changes t end h =
     same_levels shown now (sym h.slots) h.shown_all t.now_all (λ l lt. elim (cases_lt l n) [
       | inl less ↦ h.below l less
-      | inr more ↦ h.above l more ∙ alike before now l
-          (quiet_after before now first last l t (omega (arith, end, more)))
+      | inr more ↦ h.above l more ∙ same_unless_differs before now l
+          (no_difference_above before now first last l t (omega (arith, end, more)))
     ])

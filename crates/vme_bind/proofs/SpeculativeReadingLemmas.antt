@@ -25,12 +25,12 @@ use Rattle.vme_bind.specs.Recording.{DifferWithin, RecorderLevels, all_of, chang
 use Rattle.vme_bind.specs.Recording.{ended_steps, step_between}
 use Rattle.vme_bind.specs.TextPieces.{outcome, outcome_ahead}
 use Rattle.vme_bind.specs.SpeculativeReading.{MayFollowLevels, IsJoined, IsReadSpeculatively, ReadSpeculatively}
-use Rattle.vme_bind.specs.SpeculativeReading.{DeterminesLines, SpeculativeReached, builder_ahead, builder_behind}
+use Rattle.vme_bind.specs.SpeculativeReading.{DeterminesLines, SpeculativeReached, builder_ahead, builder_after}
 use Rattle.vme_bind.specs.SpeculativeReading.{with_recording}
 use Rattle.vme_bind.specs.declared.fault.BindFault.{BindFault}
 use Rattle.vme_bind.specs.declared.net_lines.NetLines.{NetLines}
 use Rattle.vme_bind.proofs.CaptureLemmas.{changed-those, is_below, length-changed}
-use Rattle.vme_bind.proofs.RecorderLemmas.{alike, same_levels}
+use Rattle.vme_bind.proofs.RecorderLemmas.{same_unless_differs, same_levels}
 
 -- ---- the levels after the step that ends an instant
 
@@ -47,7 +47,7 @@ changes-lead shown now first last h =
     by_test : (l : ℕ) (b : Bool) → differs shown now l ≡ b → cond (true && b) (level_at now l) (level_at shown l)
         ≡ level_at now l
     by_test l true e = refl
-    by_test l false e = alike shown now l e
+    by_test l false e = same_unless_differs shown now l e
 
 step-leads : (time : ℕ) (shown now : Levels) (first last : ℕ) → DifferWithin shown now first last
     → levels_after shown (step_between time shown now) ≡ now
@@ -57,7 +57,7 @@ step-leads time shown now first last h = by_any (any (differs shown now) 0 line_
         → levels_after shown (cond b (record { time = time; changes = changes_between shown now } ∷ []) []) ≡ now
     by_any true e = changes-lead shown now first last h
     by_any false e = same_levels shown now (sym h.slots) h.shown_all h.now_all
-        (λ l lt. alike shown now l (any-fails (differs shown now) 0 line_count l e (omega arith) lt))
+        (λ l lt. same_unless_differs shown now l (any-fails (differs shown now) 0 line_count l e (omega arith) lt))
 
 -- the step at the end of the current instant, if that ends, leads to the levels that are then shown
 pub end-leads : (p : RecorderLevels) (shown now : Levels) (first last : ℕ) (e : Option ℕ) → p
@@ -111,7 +111,7 @@ module _ (bytes : List ℕ) (recorded : Trace) (w : SpeculativeReached) (a : Rea
   }
 
   abbrev none_made : BuilderState
-  none_made = builder_behind w.line_bits a.from (record { opening = recorded.opening; steps = [] })
+  none_made = builder_after w.line_bits a.from (record { opening = recorded.opening; steps = [] })
 
   first-made : (t : Trace) → behind (with_steps t ended) none_made
       ≡ entered builder_instant (record {
@@ -210,7 +210,7 @@ module _ (nets : List Net) (bytes : List ℕ) (m : BuilderState) (a : ReadDetach
 pub ahead-read : (nets : List Net) (line_bits : NetLines) (bytes : List ℕ) (from : Levels) (first : Trace)
     (m : BuilderState)
     (a : ReadDetached BuilderState)
-    → m ≡ builder_behind line_bits from first → first.steps ≡ []
+    → m ≡ builder_after line_bits from first → first.steps ≡ []
     → IsReadDetached builder_change builder_instant nets bytes m a
     → (u : ReadDetached (Unit {0})) (q : RecorderLevels) (t : Trace) → u ≡ detached_with (tt {0}) a → q
     ≡ a.progress.accumulator.progress → t ≡ a.progress.accumulator.recorded
@@ -219,9 +219,9 @@ pub ahead-read : (nets : List Net) (line_bits : NetLines) (bytes : List ℕ) (fr
 ahead-read nets line_bits bytes from first m a begun none is u q t ue qe te assigned tells =
     let opening : first.opening ≡ t.opening = ap (λ (n : BuilderState). n.recorded.opening) (sym begun)
     ∙ sym (opening-kept nets bytes m a is) ∙ ap (λ (r : Trace). r.opening) (sym te) in
-    let before : m ≡ builder_behind line_bits from (record { opening = t.opening; steps = [] }) =
-    begun ∙ ap (λ (ss : List Step). builder_behind line_bits from (record { opening = first.opening; steps = ss })) none
-    ∙ ap (λ (v : Levels). builder_behind line_bits from (record { opening = v; steps = [] })) opening in
+    let before : m ≡ builder_after line_bits from (record { opening = t.opening; steps = [] }) =
+    begun ∙ ap (λ (ss : List Step). builder_after line_bits from (record { opening = first.opening; steps = ss })) none
+    ∙ ap (λ (v : Levels). builder_after line_bits from (record { opening = v; steps = [] })) opening in
     let made : record { line_bits = line_bits; progress = q; recorded = t } ≡ a.progress.accumulator =
     ap (λ (s : NetLines). record { line_bits = s; progress = q; recorded = t })
     (ap (λ (n : BuilderState). n.line_bits) (sym begun) ∙ sym (line_bits-kept nets bytes m a is))
@@ -236,7 +236,7 @@ ahead-read nets line_bits bytes from first m a begun none is u q t ue qe te assi
     record {
       read =
           subst (λ (v : ReadDetached (Unit {0})). IsReadDetached builder_change builder_instant nets bytes
-          (builder_behind line_bits from (record { opening = t.opening; steps = [] }))
+          (builder_after line_bits from (record { opening = t.opening; steps = [] }))
           (builder_ahead line_bits t (detached_with q v))) (sym ue)
           (subst (λ (n : BuilderState). IsReadDetached builder_change builder_instant nets bytes n
           (detached_with (record { line_bits = line_bits; progress = q; recorded = t }) a)) before

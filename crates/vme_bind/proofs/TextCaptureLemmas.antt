@@ -36,7 +36,7 @@ use Rattle.vme_bind.specs.BoundGroups.{bound_groups_in}
 use Rattle.vme_bind.specs.Capture.{recording, recording_of, limited}
 use Rattle.vme_bind.specs.BuilderState.{BuilderState, IsBegun, builder_change, builder_instant}
 use Rattle.vme_bind.specs.TextCapture.{or_binding, or_dump, body_recording, capture_of_text, capture_read}
-use Rattle.vme_bind.specs.TextCapture.{recording_read, recording_behind, recording_of_text, DumpFails, BindingFails}
+use Rattle.vme_bind.specs.TextCapture.{recording_read, recording_after, recording_of_text, DumpFails, BindingFails}
 use Rattle.vme_bind.specs.TextCapture.{CaptureFailsBy, GivesBy}
 use Rattle.vme_bind.specs.TextPieces.{body_outcome, outcome}
 use Rattle.vme_bind.proofs.OpeningLemmas.{capture_of-is, recording_of-is, whole-formed}
@@ -196,7 +196,7 @@ pub text-behind : {X : Type 0} (view : X → Trace) (b : BoundLines) (text : Lis
     (first seen : List Searched) (r : Result X CaptureFault) → header_of with_variable text (nothing_declared first)
     (tokens text) ≡ Ok (defined h seen)
     → ((variables : List Variable) → seen ≡ fold with_variable first variables
-    → GivesBy view r (recording_behind b (defined h variables))) → GivesBy view r (recording_of_text b text)
+    → GivesBy view r (recording_after b (defined h variables))) → GivesBy view r (recording_of_text b text)
 unfolding recording_of_text
 text-behind view b text h first seen r head given =
     let whole = whole-of text h first seen head in
@@ -207,7 +207,7 @@ text-behind view b text h first seen r head given =
 pub text-is : (b : BoundLines) (text : List ℕ) (h : Headed) (first seen : List Searched) → header_of with_variable text
     (nothing_declared first) (tokens text) ≡ Ok (defined h seen)
     → (variables : List Variable) × (seen ≡ fold with_variable first variables)
-    × (recording_of_text b text ≡ recording_behind b (defined h variables))
+    × (recording_of_text b text ≡ recording_after b (defined h variables))
 unfolding recording_of_text
 text-is b text h first seen head =
     let whole = whole-of text h first seen head in
@@ -238,7 +238,7 @@ by_refusal b variables own (Err fault) e = refl
 pub behind-body : {X : Type 0} (view : X → Trace) (b : BoundLines) (h : Headed) (variables : List Variable)
     (bound_groups : List BoundGroup) (r : Result X CaptureFault) → bound_groups_in variables b.assignments
     ≡ Ok bound_groups
-    → GivesBy view r (body_recording b.slots bound_groups h) → GivesBy view r (recording_behind b (defined h variables))
+    → GivesBy view r (body_recording b.slots bound_groups h) → GivesBy view r (recording_after b (defined h variables))
 behind-body view b h variables bound_groups r e given = subst (GivesBy view r)
     (sym (by_instants b variables bound_groups (instants_from h.nets h.body) e)) given
 
@@ -261,7 +261,7 @@ passing-follows h u = taken-follows passed_change passed_instant h.nets Passes (
 
 -- a fault of the body is the fault of what is after the definitions
 behind_dump : (b : BoundLines) (h : Headed) (variables : List Variable) (line : ℕ) (kind : FaultKind) → ReadFailsAs line
-    kind (instants_from h.nets h.body) → DumpFails line kind (recording_behind b (defined h variables))
+    kind (instants_from h.nets h.body) → DumpFails line kind (recording_after b (defined h variables))
 behind_dump b h variables line Memory e = e
 behind_dump b h variables line kind e = ap (λ (r : Result (List Instant) VcdFault). recording_read b
     (r >>= with_variables variables)) e
@@ -269,7 +269,7 @@ behind_dump b h variables line kind e = ap (λ (r : Result (List Instant) VcdFau
 -- a fault of the body comes before a fault of the binding
 pub behind-first : (b : BoundLines) (h : Headed) (variables : List Variable) (u : Unit {0}) (fault : VcdFault)
     → ReadFails fault (fold_body passed_change passed_instant h.nets u h.body)
-    → CaptureFailsBy (Dump fault) (recording_behind b (defined h variables))
+    → CaptureFailsBy (Dump fault) (recording_after b (defined h variables))
 behind-first b h variables u fault fails = behind_dump b h variables fault.line fault.kind
     (fails-followed (Ends Passes) (instants_from h.nets h.body) _ fault (passing-follows h u) fails)
 
@@ -285,13 +285,13 @@ by_binding line kind b dump answer is e =
 pub behind-binding : (b : BoundLines) (h : Headed) (variables : List Variable) (u end : Unit {0}) (fault : BindFault)
     → fold_body passed_change passed_instant h.nets u h.body ≡ Ok end
     → BindFails fault (bound_groups_in variables b.assignments) → CaptureFailsBy (Binding fault)
-    (recording_behind b (defined h variables))
+    (recording_after b (defined h variables))
 behind-binding b h variables u end fault ok fails =
     let gives = gives-followed (Ends Passes) (instants_from h.nets h.body) _ end (passing-follows h u) ok in
     let dump : Contents = record { variables = variables; instants = gives.0 } in
     let is : (instants_from h.nets h.body >>= with_variables variables)
     ≡ Ok dump = ap (λ (r : Result (List Instant) VcdFault). r >>= with_variables variables) gives.1 in
-    by_binding fault.line fault.kind b dump (recording_behind b (defined h variables)) (ap (recording_read b) is) fails
+    by_binding fault.line fault.kind b dump (recording_after b (defined h variables)) (ap (recording_read b) is) fails
 
 -- ---- the recording, and whether it is too long
 

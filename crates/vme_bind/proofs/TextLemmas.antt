@@ -16,21 +16,21 @@ not_true true h = absurd (h refl)
 not_true false h = refl
 
 -- the bytes after place i
-abbrev pub behind : List ℕ → ℕ → List ℕ
-behind xs i = take (length xs - (i + 1)) (drop (i + 1) xs)
+abbrev pub bytes_after : List ℕ → ℕ → List ℕ
+bytes_after xs i = take (length xs - (i + 1)) (drop (i + 1) xs)
 
-behind-is : (xs : List ℕ) (i : ℕ) → drop (i + 1) xs ≡ behind xs i
-behind-is xs i = sym (take_rest xs (i + 1))
+bytes_after-is : (xs : List ℕ) (i : ℕ) → drop (i + 1) xs ≡ bytes_after xs i
+bytes_after-is xs i = sym (take_rest xs (i + 1))
 
 -- the parts of `xs`, where the first byte with `p` is at place i
 pub split_at : (p : ℕ → Bool) (xs : List ℕ) (i : ℕ) → NoneBefore (Passes p xs) 0 (length xs) i → Passes p xs i
-    → slice_split p xs ≡ take i xs ∷ slice_split p (behind xs i)
+    → slice_split p xs ≡ take i xs ∷ slice_split p (bytes_after xs i)
 split_at p xs i first here =
     let place : position_or_len p xs ≡ i = position_or_len_is p xs i 0 (omega (arith, first.high))
     (λ k lt. not_true _ (first.before k (omega arith) lt)) (λ _. here) in
     slice_split_first p xs 0 (omega (arith, place, first.high))
     ∙ ap (λ (n : ℕ). take n xs ∷ slice_split p (drop (n + 1) xs)) place
-    ∙ ap (λ (rest : List ℕ). take i xs ∷ slice_split p rest) (behind-is xs i)
+    ∙ ap (λ (rest : List ℕ). take i xs ∷ slice_split p rest) (bytes_after-is xs i)
 
 -- a list in which no byte has p is one part
 pub split_nowhere : (p : ℕ → Bool) (xs : List ℕ) → Nowhere (Passes p xs) 0 (length xs) → slice_split p xs ≡ xs ∷ []
@@ -54,10 +54,10 @@ word_before (b ∷ word) parts = refl
 
 -- the words of a line whose first blank is at place i
 pub words-at : (line : List ℕ) (i : ℕ) → NoneBefore (Passes is_blank line) 0 (length line) i → Passes is_blank line i
-    → words line ≡ with_word (take i line) (words (behind line i))
+    → words line ≡ with_word (take i line) (words (bytes_after line i))
 words-at line i first here =
     ap (λ (parts : List (List ℕ)). filter (λ w. not (is_empty w)) parts) (split_at is_blank line i first here)
-    ∙ word_before (take i line) (slice_split is_blank (behind line i))
+    ∙ word_before (take i line) (slice_split is_blank (bytes_after line i))
 
 -- the words of a line without a blank
 pub words-nowhere : (line : List ℕ) → Nowhere (Passes is_blank line) 0 (length line) → words line
@@ -68,49 +68,51 @@ words-nowhere line none =
 
 -- ---- lines
 
-said_more : (line : ℕ) (part : List ℕ) (parts : List (List ℕ)) → 0 < length parts → statements_from line (part ∷ parts)
+statements-more : (line : ℕ) (part : List ℕ) (parts : List (List ℕ)) → 0 < length parts
+    → statements_from line (part ∷ parts)
     ≡ statement_on line (words (without_return part)) ++ statements_from (line + 1) parts
 unfolding statements_from
-said_more line part [] some = absurd (omega (arith, some))
-said_more line part (next ∷ parts) some = refl
+statements-more line part [] some = absurd (omega (arith, some))
+statements-more line part (next ∷ parts) some = refl
 
 -- the statements of a text whose first line feed is at place i
-pub said_at : (line : ℕ) (rest : List ℕ) (i : ℕ) (part : List ℕ) → part ≡ without_return (take i rest)
+pub statements-at : (line : ℕ) (rest : List ℕ) (i : ℕ) (part : List ℕ) → part ≡ without_return (take i rest)
     → NoneBefore (Passes is_feed rest) 0 (length rest) i → Passes is_feed rest i
     → statements_from line (slice_split is_feed rest) ≡ statement_on line (words part) ++ statements_from (line + 1)
-    (slice_split is_feed (behind rest i))
-said_at line rest i part e first here =
+    (slice_split is_feed (bytes_after rest i))
+statements-at line rest i part e first here =
     ap (statements_from line) (split_at is_feed rest i first here)
-    ∙ said_more line (take i rest) (slice_split is_feed (behind rest i))
-    (omega (arith, length-slice_split is_feed (behind rest i)))
+    ∙ statements-more line (take i rest) (slice_split is_feed (bytes_after rest i))
+    (omega (arith, length-slice_split is_feed (bytes_after rest i)))
     ∙ ap (λ (w : List ℕ). statement_on line (words w)
-    ++ statements_from (line + 1) (slice_split is_feed (behind rest i))) (sym e)
+    ++ statements_from (line + 1) (slice_split is_feed (bytes_after rest i))) (sym e)
 
 -- the statements of a text without a line feed
-pub said_last : (line : ℕ) (rest : List ℕ) → Nowhere (Passes is_feed rest) 0 (length rest)
+pub statements-nowhere : (line : ℕ) (rest : List ℕ) → Nowhere (Passes is_feed rest) 0 (length rest)
     → statements_from line (slice_split is_feed rest) ≡ statement_on line (words rest) ++ statements_from line
     (slice_split is_feed (at_end rest))
 unfolding statements_from
-said_last line rest none =
+statements-nowhere line rest none =
     ap (statements_from line) (split_nowhere is_feed rest none) ∙ sym (append-nil (statement_on line (words rest)))
     ∙ ap (λ (xs : List ℕ). statement_on line (words rest) ++ statements_from line (slice_split is_feed xs))
     (sym (at_end-is rest))
 
-pub said_nothing : (line : ℕ) (rest : List ℕ) → length rest ≡ 0 → statements_from line (slice_split is_feed rest) ≡ []
+pub statements-none : (line : ℕ) (rest : List ℕ) → length rest ≡ 0
+    → statements_from line (slice_split is_feed rest) ≡ []
 unfolding statements_from
-said_nothing line [] e = refl
-said_nothing line (b ∷ rest) e = absurd (omega (arith, e))
+statements-none line [] e = refl
+statements-none line (b ∷ rest) e = absurd (omega (arith, e))
 
 -- the number of line feeds in a text whose first one is at place i
 pub feeds_at : (rest : List ℕ) (i : ℕ) → NoneBefore (Passes is_feed rest) 0 (length rest) i → Passes is_feed rest i
-    → count_by is_feed rest ≡ 1 + count_by is_feed (behind rest i)
+    → count_by is_feed rest ≡ 1 + count_by is_feed (bytes_after rest i)
 feeds_at rest i first here =
     omega (
       arith,
       ap length (split_at is_feed rest i first here),
       length-slice_split is_feed rest,
       length-slice_split
-          is_feed (behind rest i),
+          is_feed (bytes_after rest i),
     )
 
 pub feeds_nowhere : (rest : List ℕ) → Nowhere (Passes is_feed rest) 0 (length rest) → count_by is_feed rest

@@ -24,7 +24,7 @@ use Rattle.vme_bind.specs.Answers.{BindFails as BindFails, BindFailsAs as BindFa
 use Rattle.vme_bind.specs.Binding.{BoundLines}
 use Rattle.vme_bind.specs.PathSearch.{Searched, with_variable}
 use Rattle.vme_bind.specs.BoundGroups.{bound_groups_in}
-use Rattle.vme_bind.specs.TextCapture.{CaptureFailsBy, DumpFails, BindingFails, IsOfBinding, recording_behind}
+use Rattle.vme_bind.specs.TextCapture.{CaptureFailsBy, DumpFails, BindingFails, IsOfBinding, recording_after}
 use Rattle.vme_bind.specs.TextCapture.{recording_of_text}
 use Rattle.vme_bind.specs.TextPieces.{TextContinuesAs, body_outcome, outcome}
 use Rattle.vme_bind.proofs.TextCaptureLemmas.{body-outcome, by_instants, by_refusal, text-head}
@@ -74,15 +74,16 @@ leads-same view (Err fault) before before2 e h = λ more. subst (CaptureFailsBy 
 
 -- ---- a body whose binding fits, and one whose doesn't
 
-pub behind-fitting : (b : BoundLines) (h : Headed) (variables : List Variable) (bound_groups : List BoundGroup)
+pub recording_after-fitting : (b : BoundLines) (h : Headed) (variables : List Variable) (bound_groups : List BoundGroup)
     → bound_groups_in variables b.assignments ≡ Ok bound_groups
-    → recording_behind b (defined h variables) ≡ body_outcome None b.slots bound_groups h
-behind-fitting b h variables bound_groups e = by_instants b variables bound_groups (instants_from h.nets h.body) e
+    → recording_after b (defined h variables) ≡ body_outcome None b.slots bound_groups h
+recording_after-fitting b h variables bound_groups e =
+    by_instants b variables bound_groups (instants_from h.nets h.body) e
 
-pub behind-refused : (b : BoundLines) (h : Headed) (variables : List Variable) (bound_groups : List BoundGroup)
+pub recording_after-refused : (b : BoundLines) (h : Headed) (variables : List Variable) (bound_groups : List BoundGroup)
     (own : BindFault) → bound_groups_in variables b.assignments ≡ Err own
-    → recording_behind b (defined h variables) ≡ body_outcome (Some own) b.slots bound_groups h
-behind-refused b h variables bound_groups own e = by_refusal b variables own (instants_from h.nets h.body) e
+    → recording_after b (defined h variables) ≡ body_outcome (Some own) b.slots bound_groups h
+recording_after-refused b h variables bound_groups own e = by_refusal b variables own (instants_from h.nets h.body) e
 
 -- a fault of the binding that isn't want of memory is the answer
 pub refused-is : {Y : Type 0} (own : BindFault) (answer : Result Y BindFault) → IsOfBinding own → BindFails own answer
@@ -95,9 +96,9 @@ refused-is own answer other fails = by_kind own.line own.kind other fails
     by_kind line kind other fails = fails
 
 -- want of memory may be the answer whatever the result is
-pub wanting : {Y Z : Type 0} (own : BindFault) (answer : Result Y BindFault) (assigned : Result Z CaptureFault)
+pub want-fails_by : {Y Z : Type 0} (own : BindFault) (answer : Result Y BindFault) (assigned : Result Z CaptureFault)
     → own.kind ≡ NoMemory → BindFails own answer → CaptureFailsBy (Binding own) assigned
-wanting own answer assigned is fails = by_kind own.line own.kind is fails
+want-fails_by own answer assigned is fails = by_kind own.line own.kind is fails
   where
     by_kind : (line : ℕ) (kind : BindFaultKind) → kind ≡ NoMemory → BindFailsAs line kind answer
         → BindingFails line kind assigned
@@ -105,10 +106,10 @@ wanting own answer assigned is fails = by_kind own.line own.kind is fails
     by_kind line kind is fails = absurd (cc is)
 
 -- the fault of the binding may be the answer where it is the result
-pub assigned-own : {Y : Type 0} (own : BindFault) (answer : Result Y CaptureFault) → IsOfBinding own → answer
+pub is-fails_by_binding : {Y : Type 0} (own : BindFault) (answer : Result Y CaptureFault) → IsOfBinding own → answer
     ≡ Err (Binding own)
     → CaptureFailsBy (Binding own) answer
-assigned-own own answer other is = by_kind own.line own.kind other is
+is-fails_by_binding own answer other is = by_kind own.line own.kind other is
   where
     by_kind : (line : ℕ) (kind : BindFaultKind) → (kind ≡ NoMemory → ⊥) → answer
         ≡ Err (Binding (record { line = line; kind = kind })) → BindingFails line kind answer

@@ -38,7 +38,7 @@ use Rattle.vme_bind.specs.Capture.{recording}
 use Rattle.vme_bind.specs.BuilderState.{IsBegun, BuilderState, builder_change, builder_instant}
 use Rattle.vme_bind.specs.PathSearch.{Searched, with_variable}
 use Rattle.vme_bind.specs.TextCapture.{CaptureFailsBy, DumpFails, or_binding, or_dump}
-use Rattle.vme_bind.specs.TextReading.{StopsAs, TextReading, body_reading, or_fault, reading_behind, reading_by}
+use Rattle.vme_bind.specs.TextReading.{StopsAs, TextReading, body_reading, or_fault, reading_after, reading_by}
 use Rattle.vme_bind.specs.TextReading.{reading_made, reading_of_text, reading_until_fault}
 use Rattle.vme_bind.proofs.StepsLemmas.{well_formed}
 use Rattle.vme_bind.proofs.BuilderLemmas.{Makes, makes-first, makes-change, makes-instant}
@@ -208,18 +208,18 @@ begun_reading own slots bound_groups head made r first more begun nets progress 
 -- the reading after the definitions where the binding fits, and where it has a fault
 pub reading_fits : (b : BoundLines) (h : Headed) (variables : List Variable) (bound_groups : List BoundGroup)
     → bound_groups_in variables b.assignments ≡ Ok bound_groups
-    → reading_behind b (defined h variables) ≡ or_fault None (body_reading b.slots bound_groups h)
+    → reading_after b (defined h variables) ≡ or_fault None (body_reading b.slots bound_groups h)
 reading_fits b h variables bound_groups e = ap (λ (r : Result (List BoundGroup) BindFault). or_binding r
     >>= λ bound_groups. Ok (body_reading b.slots bound_groups h)) e
 
 pub reading_refused : (b : BoundLines) (h : Headed) (variables : List Variable) (own : BindFault) → bound_groups_in
     variables b.assignments ≡ Err own
-    → reading_behind b (defined h variables) ≡ Err (Binding own)
+    → reading_after b (defined h variables) ≡ Err (Binding own)
 reading_refused b h variables own e = ap (λ (r : Result (List BoundGroup) BindFault). or_binding r
     >>= λ bound_groups. Ok (body_reading b.slots bound_groups h)) e
 
 abbrev read_of : BoundLines → Result (Defined (List Variable)) VcdFault → Result TextReading CaptureFault
-read_of b r = or_dump r >>= reading_behind b
+read_of b r = or_dump r >>= reading_after b
 
 -- a fault of the definitions is the fault of the reading
 pub head_fails : (b : BoundLines) (text : List ℕ) (seen : List Searched) (fault : VcdFault) → ReadFails fault
@@ -254,7 +254,7 @@ unfinished_reading b front seen fault is met = by_kind fault.line fault.kind is 
 pub reading_is : (b : BoundLines) (text : List ℕ) (h : Headed) (first seen : List Searched) → header_of with_variable
     text (nothing_declared first) (tokens text) ≡ Ok (defined h seen)
     → (variables : List Variable) × (seen ≡ fold with_variable first variables)
-    × (reading_of_text b text ≡ reading_behind b (defined h variables))
+    × (reading_of_text b text ≡ reading_after b (defined h variables))
 unfolding reading_of_text
 reading_is b text h first seen head =
     let whole = whole-of text h first seen head in

@@ -20,16 +20,16 @@ abbrev pub is_assigned : List Bool → ℕ → Bool
 is_assigned assigned l = unwrap_or (slice_get assigned l) false
 
 -- `assigned`, with the flags of the lines of these line bits set
-abbrev pub assigned_too : List LineBit → List Bool → List Bool
-assigned_too [] assigned = assigned
-assigned_too (line_bit ∷ line_bits) assigned = assigned_too line_bits (slice_set assigned line_bit.line true)
+abbrev pub with_assigned : List LineBit → List Bool → List Bool
+with_assigned [] assigned = assigned
+with_assigned (line_bit ∷ line_bits) assigned = with_assigned line_bits (slice_set assigned line_bit.line true)
 
 -- `net` gets the value `bits`
 abbrev pub speculative_change : SpeculativeBuilderState → ℕ → List Bit → SpeculativeBuilderState
 speculative_change m net bits =
     record {
       made = builder_change m.made net bits;
-      assigned = assigned_too (line_bits_of m.made.line_bits net) m.assigned;
+      assigned = with_assigned (line_bits_of m.made.line_bits net) m.assigned;
     }
 
 -- an instant ends at `time`

@@ -38,9 +38,9 @@ abbrev pub counted : Option ℕ → Result ℕ BindFaultKind
 counted None = Err SlotsFirst
 counted (Some slots) = Ok slots
 
-abbrev pub slots_behind : List ℕ → List (List ℕ) → Result ℕ BindFaultKind
-slots_behind first (count ∷ []) = if bytes_eq first (codes "slots") then counted (slot_count count) else Err SlotsFirst
-slots_behind first others = Err SlotsFirst
+abbrev pub slots_stated : List ℕ → List (List ℕ) → Result ℕ BindFaultKind
+slots_stated first (count ∷ []) = if bytes_eq first (codes "slots") then counted (slot_count count) else Err SlotsFirst
+slots_stated first others = Err SlotsFirst
 
 -- ---- an assignment
 
@@ -113,7 +113,7 @@ no_assignments slots = record { slots = slots; assignments = [] }
 abbrev pub binding_from : ℕ → List StatementText → Result BoundLines BindFault
 binding_from line [] = Err (record { line = line; kind = SlotsFirst })
 binding_from line (s ∷ ss) = do
-  slots ← at_line s.line (slots_behind s.first s.others)
+  slots ← at_line s.line (slots_stated s.first s.others)
   b ← bound_all (no_assignments slots) ss
   finished line b
 

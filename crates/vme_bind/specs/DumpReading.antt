@@ -13,4 +13,4 @@ use Rattle.vme_bind.specs.declared.dump_reader.DumpReader.TheVariants.{Definitio
 abbrev pub dump_ahead : {F : Type 0} {follows : Ghosts F} → DumpReader F follows → List ℕ → Result Trace CaptureFault
 dump_ahead (Definitions bound visitor) rest = recording_of_text bound.now rest
 dump_ahead (Body text) rest = outcome_ahead (text_reached text) (tokens_from (text_reached text).body.line rest) []
-dump_ahead (Failed told) rest = Err told.fault
+dump_ahead (Failed first) rest = Err first.fault

@@ -96,13 +96,13 @@ HasOpened scopes s = s.matched_scopes ≡ scopes_matched (path_to_find s.assignm
 
 -- How many scopes match after one is entered with `depth` scopes open around it. `part` is what it adds to the path,
 -- from the offset `start` on.
-abbrev pub matched_behind : ℕ → ℕ → List ℕ → List ℕ → ℕ → ℕ
-matched_behind depth start part path matched_scopes = if matched_scopes == depth
+abbrev pub matched_after : ℕ → ℕ → List ℕ → List ℕ → ℕ → ℕ
+matched_after depth start part path matched_scopes = if matched_scopes == depth
     && begins_with part (drop start path) then depth + 1 else matched_scopes
 
 abbrev pub opened : ℕ → ℕ → List ℕ → PathSearch → PathSearch
 opened depth start part s = record s {
-  matched_scopes = matched_behind depth start part
+  matched_scopes = matched_after depth start part
       (path_to_find s.assignment.now.source) s.matched_scopes;
 }
 

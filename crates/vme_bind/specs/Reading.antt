@@ -6,8 +6,8 @@ use Rattle.vme_bind.specs.declared.statements.Statements.{Statements}
 use Rattle.vme_bind.specs.Text.{is_feed, words, StatementText, statements_from}
 
 -- the statements of the rest of a text
-abbrev pub left : Statements → List StatementText
-left s = statements_from s.line (slice_split is_feed s.rest.now)
+abbrev pub rest_statements : Statements → List StatementText
+rest_statements s = statements_from s.line (slice_split is_feed s.rest.now)
 
 -- the number of the last line of the text
 abbrev pub last_line : Statements → ℕ

@@ -40,7 +40,7 @@ pub record ReadSpeculatively : Type 0 where
   pub assigned : List Bool
 
 -- `after` has the piece's own level on each line that the piece assigns one to, and that of `before` on each other line
-pub record AreLevelsBehind (a : ReadSpeculatively) (before after : Levels) : Type 0 where
+pub record AreLevelsAfter (a : ReadSpeculatively) (before after : Levels) : Type 0 where
   pub slots : after.slots ≡ before.slots
   pub all : length after.levels ≡ line_count
   pub levels : (l : ℕ) → l < line_count
@@ -49,8 +49,8 @@ pub record AreLevelsBehind (a : ReadSpeculatively) (before after : Levels) : Typ
       l)
 
 -- the builder at the levels `v`, after the recording `t`
-abbrev pub builder_behind : NetLines → Levels → Trace → BuilderState
-builder_behind line_bits v t = record { line_bits = line_bits; progress = all_of v; recorded = t }
+abbrev pub builder_after : NetLines → Levels → Trace → BuilderState
+builder_after line_bits v t = record { line_bits = line_bits; progress = all_of v; recorded = t }
 
 -- the piece `a` with a builder in place of its levels, whose recording is `t`
 abbrev pub builder_ahead : NetLines → Trace → ReadDetached RecorderLevels → ReadDetached BuilderState
@@ -61,20 +61,20 @@ builder_ahead line_bits t a =
 abbrev pub LeadTo : List Net → NetLines → List ℕ → ℕ → Levels → Levels → Type 0
 LeadTo nets line_bits bytes line before after =
     (t : Trace) (m : ReadDetached BuilderState) → m.first_line ≡ line
-    → IsReadDetached builder_change builder_instant nets bytes (builder_behind line_bits before t) m
+    → IsReadDetached builder_change builder_instant nets bytes (builder_after line_bits before t) m
     → m.progress.accumulator.progress.now ≡ after
 
--- from any levels `before`, reading `bytes` leaves the levels that `AreLevelsBehind` says of the piece `a`
+-- from any levels `before`, reading `bytes` leaves the levels that `AreLevelsAfter` says of the piece `a`
 abbrev pub DeterminesLines : List Net → NetLines → List ℕ → ReadSpeculatively → Type 0
 DeterminesLines nets line_bits bytes a =
-    (before after : Levels) → length before.levels ≡ line_count → AreLevelsBehind a before after
+    (before after : Levels) → length before.levels ≡ line_count → AreLevelsAfter a before after
     → LeadTo nets line_bits bytes a.detached.first_line before after
 
 -- reading `bytes` ahead, for `nets` and their lines, gave the piece `a` and the steps of `recorded`
 pub record IsReadSpeculatively
     (nets : List Net) (line_bits : NetLines) (bytes : List ℕ) (recorded : Trace) (a : ReadSpeculatively) : Type 0 where
   pub read : IsReadDetached builder_change builder_instant nets bytes
-      (builder_behind line_bits a.from (record { opening = recorded.opening; steps = [] }))
+      (builder_after line_bits a.from (record { opening = recorded.opening; steps = [] }))
       (builder_ahead line_bits recorded a.detached)
   pub assigned : DeterminesLines nets line_bits bytes a
 

@@ -42,8 +42,8 @@ recording_read b (Ok dump) = or_binding (recording_of b dump)
 recording_read b (Err fault) = Err (Dump fault)
 
 -- the recording that a binding makes of the body after the definitions `d`, however long it is
-abbrev pub recording_behind : BoundLines → Defined (List Variable) → Result Trace CaptureFault
-recording_behind b d = recording_read b (instants_from d.head.nets d.head.body
+abbrev pub recording_after : BoundLines → Defined (List Variable) → Result Trace CaptureFault
+recording_after b d = recording_read b (instants_from d.head.nets d.head.body
     >>= λ instants. Ok (record { variables = d.variables; instants = instants }))
 
 -- the recording that a binding makes of the dump `text`, however long it is, or else the first fault

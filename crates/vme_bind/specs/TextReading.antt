@@ -57,13 +57,13 @@ abbrev pub body_reading : ℕ → List BoundGroup → Headed → TextReading
 body_reading slots bound_groups h = reading_by slots bound_groups h (instants_from h.nets h.body)
 
 -- the result for the body after the definitions `d`: a fault of the binding comes before the reading
-abbrev pub reading_behind : BoundLines → Defined (List Variable) → Result TextReading CaptureFault
-reading_behind b d = or_binding (bound_groups_in d.variables b.assignments) >>= λ bound_groups. Ok
+abbrev pub reading_after : BoundLines → Defined (List Variable) → Result TextReading CaptureFault
+reading_after b d = or_binding (bound_groups_in d.variables b.assignments) >>= λ bound_groups. Ok
     (body_reading b.slots bound_groups d.head)
 
 -- the result for a whole text: a fault of its definitions comes first
 unfoldable pub reading_of_text : BoundLines → List ℕ → Result TextReading CaptureFault
-reading_of_text b text = or_dump (header_of appended text (nothing_declared []) (tokens text)) >>= reading_behind b
+reading_of_text b text = or_dump (header_of appended text (nothing_declared []) (tokens text)) >>= reading_after b
 
 -- ---- the reading, as it is made
 

@@ -1,7 +1,7 @@
 //! The lines that a piece of a dump assigns a level to.
 
 ghost use Rattle.std.specs.Prelude.{◌≡◌};
-ghost use Rattle.vme_bind.specs.AssignedLines.{is_assigned, none_assigned, assigned_too};
+ghost use Rattle.vme_bind.specs.AssignedLines.{is_assigned, none_assigned, with_assigned};
 
 use crate::net_lines::LineBit;
 use std::marker::Model;
@@ -41,7 +41,7 @@ impl AssignedLines {
     /// Sets the flags of the lines of `line_bits`. Most nets have one line or none.
     #[inline(always)]
     pub fn assign(&mut self, line_bits: &[LineBit])
-        ensures { self.new ≡ assigned_too line_bits.now self.old }
+        ensures { self.new ≡ with_assigned line_bits.now self.old }
     {
         match line_bits {
             [] => {}
@@ -52,7 +52,7 @@ impl AssignedLines {
 
     #[inline(never)]
     fn assign_each(&mut self, line_bits: &[LineBit])
-        ensures { self.new ≡ assigned_too line_bits.now self.old }
+        ensures { self.new ≡ with_assigned line_bits.now self.old }
     {
         for line_bit in line_bits {
             self.lines[line_bit.line.number() as usize] = true;

@@ -40,8 +40,8 @@ impl Model for Binding {
 }
 
 impl Binding {
-    ghost use Rattle.vme_bind.specs.Reading.{as_text, left, last_line};
-    ghost use Rattle.vme_bind.specs.Binding.{slot_count, slots_behind, name_and_source, is_taken, is_bound, bound};
+    ghost use Rattle.vme_bind.specs.Reading.{as_text, rest_statements, last_line};
+    ghost use Rattle.vme_bind.specs.Binding.{slot_count, slots_stated, name_and_source, is_taken, is_bound, bound};
     ghost use Rattle.vme_bind.specs.Binding.{bound_all, least_unbound, no_assignments, with_high, with_left_out};
 
     /// The number of slots that `word` says: 1 to 21, without a leading zero.
@@ -65,8 +65,8 @@ impl Binding {
     /// The backplane of the statement `slots N`, with all lines unknown; `None` for any other statement.
     fn lines_of(statement: Statement<'_>) -> Option<Lines>
         ensures slots { MatchOption result
-            (slots_behind (as_text statement.entry).first (as_text statement.entry).others ≡ Err SlotsFirst)
-            (λ lines. slots_behind (as_text statement.entry).first (as_text statement.entry).others ≡ Ok lines.slots) }
+            (slots_stated (as_text statement.entry).first (as_text statement.entry).others ≡ Err SlotsFirst)
+            (λ lines. slots_stated (as_text statement.entry).first (as_text statement.entry).others ≡ Ok lines.slots) }
         ensures unknown { IfSome result (λ lines. lines.levels ≡ replicate line_count Unknown) }
     {
         let Statement {
@@ -183,7 +183,7 @@ impl Binding {
 
     /// Binds what the rest of a text says.
     fn bind_all(&mut self, alloc: Global, statements: &mut Statements<'_>) -> Result<(), BindFault>
-        ensures bound { BindGives (λ _. self.new) result (bound_all self.old (left statements.old)) }
+        ensures bound { BindGives (λ _. self.new) result (bound_all self.old (rest_statements statements.old)) }
         ensures end { OnOk result (statements.new.line ≡ last_line statements.old) }
     {
         while let Some(statement) = statements.next() {

@@ -53,7 +53,7 @@ impl<'b, F: StepVisitor> DumpReader<'b, F> {
         ensures { IfSome result (λ fault. (rest : List ℕ) → dump_ahead self.now rest ≡ Err (Dump fault)) }
     {
         match self {
-            DumpReader::Failed(told) => match told.fault {
+            DumpReader::Failed(first) => match first.fault {
                 CaptureFault::Dump(fault) => Some(fault),
                 CaptureFault::Binding(_) => None,
             },
@@ -82,7 +82,7 @@ impl<'b, F: StepVisitor> DumpReader<'b, F> {
                 Ok(text) => Ok((DumpReader::Body(text), count)),
                 Err(fault) => Ok((DumpReader::failed(fault)?, count)),
             },
-            DumpReader::Failed(told) => Ok((DumpReader::Failed(told), bytes.len())),
+            DumpReader::Failed(first) => Ok((DumpReader::Failed(first), bytes.len())),
         }
     }
 
@@ -96,7 +96,7 @@ impl<'b, F: StepVisitor> DumpReader<'b, F> {
                 Ok(text) => text.finish(alloc),
                 Err(fault) => Err(fault),
             },
-            DumpReader::Failed(told) => Err(told.fault),
+            DumpReader::Failed(first) => Err(first.fault),
         }
     }
 }

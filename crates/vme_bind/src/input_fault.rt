@@ -11,7 +11,7 @@ use vcd_read::FaultKind;
 pub struct InputFault {
     /// The fault.
     pub fault: CaptureFault,
-    ghost told: { is_want fault ≡ false },
+    ghost not_want: { is_want fault ≡ false },
 }
 
 /// Whether `fault` is want of memory.

@@ -37,7 +37,7 @@
 //!   ([`recorded_before_is_a_prefix`]).
 //! - A piece that [`SpeculativeReader`] reads ahead may be joined exactly where it fits the place
 //!   that is reached, and the levels there are those that it was read from (`MayFollowLevels`). Its
-//!   steps are then those of reading it in its place (`IsJoined`). `levels_behind` gives exactly
+//!   steps are then those of reading it in its place (`IsJoined`). `levels_at_end` gives exactly
 //!   the levels after the piece for any levels before it.
 //!
 //! # What isn't proved

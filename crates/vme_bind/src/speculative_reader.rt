@@ -7,7 +7,7 @@ ghost use Rattle.vme_trace.specs.LineNumbers.{line_count};
 ghost use Rattle.vme_trace.specs.Trace.{Trace};
 ghost use Rattle.vme_bind.specs.Recording.{step_in};
 ghost use Rattle.vme_bind.specs.TextPieces.{text_reached};
-ghost use Rattle.vme_bind.specs.SpeculativeReading.{AreLevelsBehind, MayFollowLevels, IsJoined, IsReadSpeculatively};
+ghost use Rattle.vme_bind.specs.SpeculativeReading.{AreLevelsAfter, MayFollowLevels, IsJoined, IsReadSpeculatively};
 ghost use Rattle.vme_bind.specs.SpeculativeReading.{with_recording};
 
 use crate::assigned_lines::AssignedLines;
@@ -235,10 +235,10 @@ impl SpeculativeChunk {
 
     /// The levels after the piece, where `levels` is before it: the piece's own level on each line that it assigns one
     /// to, and that of `levels` on each other line.
-    pub fn levels_behind(&self, levels: &Lines) -> Lines
+    pub fn levels_at_end(&self, levels: &Lines) -> Lines
         requires slots { levels.now.slots ≡ self.now.from.slots }
         requires all { length levels.now.levels ≡ line_count }
-        ensures { AreLevelsBehind self.now levels.now result }
+        ensures { AreLevelsAfter self.now levels.now result }
     {
         let now = self.recorder.now();
         let mut behind = *levels;

@@ -34,10 +34,10 @@ fn without_return(line: &[u8]) -> &[u8]
 }
 
 impl<'a> Statements<'a> {
-    ghost use Rattle.vme_bind.specs.Reading.{left, last_line, as_text};
+    ghost use Rattle.vme_bind.specs.Reading.{rest_statements, last_line, as_text};
 
     pub fn new(text: &'a [u8]) -> Statements<'a>
-        ensures left { left result ≡ statements_of text.now }
+        ensures left { rest_statements result ≡ statements_of text.now }
         ensures last { last_line result ≡ end_line text.now }
     {
         Statements {
@@ -56,7 +56,8 @@ impl<'a> Statements<'a> {
     /// Takes the next line off the rest of the text.
     fn next_line(&mut self) -> &'a [u8]
         requires { 0 < length self.old.rest.now }
-        ensures left { left self.old ≡ statement_on self.old.line (words result.now) ++ left self.new }
+        ensures left { rest_statements self.old
+            ≡ statement_on self.old.line (words result.now) ++ rest_statements self.new }
         ensures last { last_line self.new ≡ last_line self.old }
         ensures shorter { length self.new.rest.now < length self.old.rest.now }
     {
@@ -76,7 +77,8 @@ impl<'a> Statements<'a> {
 
     /// The next statement, if there is one.
     pub fn next(&mut self) -> Option<Statement<'a>>
-        ensures left { MatchOption result (left self.old ≡ []) (λ s. left self.old ≡ as_text s ∷ left self.new) }
+        ensures left { MatchOption result (rest_statements self.old ≡ [])
+            (λ s. rest_statements self.old ≡ as_text s ∷ rest_statements self.new) }
         ensures last { last_line self.new ≡ last_line self.old }
         ensures end { IfNone result (self.new.line ≡ last_line self.old) }
     {

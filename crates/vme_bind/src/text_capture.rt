@@ -15,7 +15,7 @@ ghost use Rattle.vme_bind.specs.BuilderState.{IsBegun};
 ghost use Rattle.vcd_read.specs.declared.dump.Variable.{Variable};
 ghost use Rattle.vcd_read.specs.Sections.{defined};
 ghost use Rattle.vme_bind.specs.TextCapture.{CaptureFailsBy, GivesBy, body_recording, capture_of_text};
-ghost use Rattle.vme_bind.specs.TextCapture.{recording_behind};
+ghost use Rattle.vme_bind.specs.TextCapture.{recording_after};
 ghost use Rattle.vme_bind.specs.TextCapture.{recording_of_text};
 
 use crate::binding::Binding;
@@ -93,7 +93,7 @@ pub(crate) fn want_of_memory() -> BindFault
 /// The first fault of the body after the definitions `head`, or, where the body has none, `fault`.
 fn first_fault(alloc: Global, head: &Head<'_>, fault: BindFault) -> CaptureFault
     ensures { (b : BoundLines) (variables : List Variable) → BindFails fault (bound_groups_in variables b.assignments)
-        → CaptureFailsBy result (recording_behind b (defined head.now variables)) }
+        → CaptureFailsBy result (recording_after b (defined head.now variables)) }
 {
     match head.read_body(alloc, ChangeDiscarder) {
         Ok(_) => CaptureFault::Binding(fault),
@@ -154,7 +154,7 @@ impl Binding {
     ) -> Result<F, CaptureFault>
         ensures { (variables : List Variable) → map seen_in search.now.searches.items
             ≡ fold with_variable (map unseen self.now.assignments) variables
-            → GivesBy (λ f. F.recorded f) result (recording_behind self.now (defined head.now variables)) }
+            → GivesBy (λ f. F.recorded f) result (recording_after self.now (defined head.now variables)) }
     {
         match search.bound_groups(alloc) {
             Ok(bound_groups) => record_bound_groups(

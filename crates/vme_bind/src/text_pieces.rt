@@ -14,11 +14,11 @@ ghost use Rattle.vcd_read.specs.declared.dump.Variable.{Variable};
 ghost use Rattle.vcd_read.specs.Fronts.{going_on};
 ghost use Rattle.vcd_read.specs.Sections.{defined};
 ghost use Rattle.vme_bind.specs.PathSearch.{seen_in, unseen, with_variable};
-ghost use Rattle.vme_bind.specs.TextCapture.{GivesBy, IsOfBinding, recording_behind};
+ghost use Rattle.vme_bind.specs.TextCapture.{GivesBy, IsOfBinding, recording_after};
 ghost use Rattle.vme_bind.specs.TextPieces.{TextBeginsAs, TextContinuesAs, body_outcome, outcome_ahead, text_reached};
 ghost use Rattle.vme_bind.specs.TextPieces.{BeginsAs, outcome_from};
 ghost use Rattle.vme_bind.specs.TextReading.{ReadingContinuesAs, ReadingEndsAs, body_reading, or_fault, reading_ahead};
-ghost use Rattle.vme_bind.specs.TextReading.{reading_behind, reading_from, reading_of_text};
+ghost use Rattle.vme_bind.specs.TextReading.{reading_after, reading_from, reading_of_text};
 
 use crate::binding::Binding;
 use crate::bound_groups::BoundGroup;
@@ -157,11 +157,11 @@ impl Binding {
         ensures rest { (variables : List Variable)
             → map seen_in search.now.searches.items ≡ fold with_variable (map unseen self.now.assignments) variables
             → TextContinuesAs (λ begun. outcome_from begun.0 begun.1.now) result
-            (λ more. recording_behind self.now (defined (going_on front.entry.head more) variables)) }
+            (λ more. recording_after self.now (defined (going_on front.entry.head more) variables)) }
         ensures reading { (variables : List Variable)
             → map seen_in search.now.searches.items ≡ fold with_variable (map unseen self.now.assignments) variables
             → TextContinuesAs (λ begun. reading_from begun.0 begun.1.now) result
-            (λ more. reading_behind self.now (defined (going_on front.entry.head more) variables)) }
+            (λ more. reading_after self.now (defined (going_on front.entry.head more) variables)) }
     {
         match search.bound_groups(alloc) {
             Ok(bound_groups) => begin_bound_groups(

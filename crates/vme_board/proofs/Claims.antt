@@ -9,7 +9,7 @@ use Rattle.vme_core.specs.Counting.{occurrences, numbers}
 use Rattle.vme_core.specs.Views.{after_claim, after_filing, after_take}
 use Rattle.vme_board.specs.Views.{SameBlocks}
 use Rattle.vme_board.specs.Words.{mask_of}
-use Rattle.vme_board.specs.Tells.{SeatState, IsAtBit, ClaimTells, FileTells}
+use Rattle.vme_board.specs.Postconditions.{SeatState, IsAtBit, ClaimPost, FilePost}
 
 -- the number n was claimed and filed, with the block b, between the seat states `before` and `last`
 pub record IsFiled (slots n : ℕ) (b : Block) (before last : SeatState) : Type 0 where
@@ -36,13 +36,13 @@ at_equal slots k i m n j is same e = record {
 }
 
 module _ (slots n i m i' m' : ℕ) (b : Block) (before won put last : SeatState) (found found' : ℕ)
-    (claim : ClaimTells (step slots i m 0 none) before found won) (at_claim : IsAtBit (step slots i m 0 none) 0 n)
+    (claim : ClaimPost (step slots i m 0 none) before found won) (at_claim : IsAtBit (step slots i m 0 none) 0 n)
     (free : bit_at found (n % 64) ≡ 0)
     (none_out : before.1 ≡ []) (exchange : put ≡ (won.0, (n, Some b) ∷ rest won.1)) where
   pub after_put : put ≡ (after_claim before.0 n, (n, Some b) ∷ [])
   after_put = put_seat before won put n b none_out ((claim n at_claim).0 free).1 exchange
 
-  pub after_file : FileTells (step slots i' m' 0 none) put found' last → IsAtBit (step slots i' m' 0 none) 1 n
+  pub after_file : FilePost (step slots i' m' 0 none) put found' last → IsAtBit (step slots i' m' 0 none) 1 n
       → IsFiled slots n b before last
   after_file file at_file = let told = file n at_file b (ap (λ (x : SeatState). x.1) after_put) in let few = told.2 in
       record {

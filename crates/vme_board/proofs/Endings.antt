@@ -14,14 +14,15 @@ use Rattle.atomic_table.specs.Table.{Final, Seen}
 use Rattle.vme_trace.specs.declared.block.Block.{Block}
 use Rattle.vme_core.specs.declared.view.View.{View}
 use Rattle.vme_core.specs.Counting.{HasPair, occurrences, numbers, sum_below, missing_count}
-use Rattle.vme_core.specs.Rule.{StepRule}
+use Rattle.vme_core.specs.BoardInvariant.{BoardInvariant}
 use Rattle.vme_core.specs.Stages.{rank, seen}
 use Rattle.vme_core.proofs.StageRanks.{seen_free}
 use Rattle.vme_core.specs.Shares.{IsWholeShare}
 use Rattle.vme_core.proofs.Sums.{occurs_of_pair, pair_of_occurs}
 use Rattle.vme_core.proofs.SumsBelow.{sum_below_plus, sum_below_agree, sum_below_limit}
-use Rattle.vme_core.proofs.RuleSteps.{own_draws, own_claims, own_takes, whole_listed, whole_taken, unlisted, is_taken}
-use Rattle.vme_core.proofs.RuleSteps.{few_listed, few_taken, all_listed, all_taken, one_content}
+use Rattle.vme_core.proofs.InvariantSteps.{own_draws, own_claims, own_takes, whole_listed, whole_taken, unlisted}
+use Rattle.vme_core.proofs.InvariantSteps.{is_taken, list_length_bound, takes_length_bound, all_listed, all_taken}
+use Rattle.vme_core.proofs.InvariantSteps.{one_content}
 use Rattle.vme_board.specs.Words.{bit_of, Homes, IsEmpty, IsFilled, Holds, kept}
 use Rattle.vme_board.specs.Contents.{DidAll, HasBlock, filled_bit, filled_at, filled_count}
 use Rattle.vme_board.proofs.Bits.{bit_small}
@@ -95,8 +96,8 @@ module _ (width id : ℕ) (v : View) (ws : List ℕ) (xs items : List (Option Bl
   abbrev T : ℕ → ℕ
   T = bit_of 2 ws
 
-  r : StepRule total (bit_of 3 ws) (bit_of 0 ws) F T K (IsEmpty homes) (IsFilled homes) fin.0.views
-  r = subst (λ (z : ℕ × List ℕ). StepRule z.0 (bit_of 3 z.1) (bit_of 0 z.1) (bit_of 1 z.1) (bit_of 2 z.1) K
+  r : BoardInvariant total (bit_of 3 ws) (bit_of 0 ws) F T K (IsEmpty homes) (IsFilled homes) fin.0.views
+  r = subst (λ (z : ℕ × List ℕ). BoardInvariant z.0 (bit_of 3 z.1) (bit_of 0 z.1) (bit_of 1 z.1) (bit_of 2 z.1) K
       (IsEmpty homes) (IsFilled homes) fin.0.views) (λ i. ((fin.3 ∙ long) i, fin.2 i)) fin.1.0.1.1
 
   at_view : get_elem? fin.0.views id ≡ some v
@@ -105,7 +106,7 @@ module _ (width id : ℕ) (v : View) (ws : List ℕ) (xs items : List (Option Bl
   -- the place of a number that is filed and not taken has its content; any other place has no block (`bare`)
   full : (n : ℕ) (b : Block) → n < total → F n ≡ 1 → T n ≡ 0 → K n ≡ Some b → slice_get items n ≡ Some (Some b)
   full n b low f t k =
-      let w = r.contents.filed_is_home n f t in let same : w.0 ≡ b = one_content (K n) w.0 b w.1 k in
+      let w = r.contents.filed_is_stored n f t in let same : w.0 ≡ b = one_content (K n) w.0 b w.1 k in
       let there : get_elem? xs n ≡ some (Some w.0) = fin.4 n (Some w.0) w.2 in
       each n low ∙ ap (λ (o : Option Block). Some o) (ap (λ (y : ℕ). kept y (T n) xs n) f
       ∙ (ap (λ (y : ℕ). kept 1 y xs n) t ∙ (at_or xs n (Some w.0) None there ∙ ap (λ (y : Block). Some y) same)))
@@ -137,11 +138,13 @@ module _ (width id : ℕ) (v : View) (ws : List ℕ) (xs items : List (Option Bl
       bare n (r.stages.in_range n (omega (arith, t, r.stages.taken_is_filed n, r.stages.pending_once n))) (inr t)
 
   pub listed_sum : missing_count v.filed (numbers v.list) total + length v.list ≤ sum_below F total
-  listed_sum = few_listed total (bit_of 3 ws) (bit_of 0 ws) F T K (IsEmpty homes) (IsFilled homes) fin.0.views r id v
+  listed_sum = list_length_bound total (bit_of 3 ws) (bit_of 0 ws) F T K (IsEmpty homes) (IsFilled homes) fin.0.views r
+      id v
       at_view
 
   pub taken_sum : missing_count v.taken (numbers v.takes) total + length v.takes ≤ sum_below T total
-  taken_sum = few_taken total (bit_of 3 ws) (bit_of 0 ws) F T K (IsEmpty homes) (IsFilled homes) fin.0.views r id v
+  taken_sum = takes_length_bound total (bit_of 3 ws) (bit_of 0 ws) F T K (IsEmpty homes) (IsFilled homes) fin.0.views r
+      id v
       at_view
 
   -- the case that the bench has the whole share: it did all that was done
@@ -197,7 +200,7 @@ module _ (width id : ℕ) (v : View) (ws : List ℕ) (xs items : List (Option Bl
   content_at n b low has = let o = r.stages.taken_is_filed n in let f = bit_small 1 ws n in
       dite (ℕ_discrete (F n) 0) (λ z. absurd (some_none (sym (bare n low (inl z)) ∙ has)))
       (λ ne. dite (ℕ_discrete (T n) 0)
-      (λ z. let w = r.contents.filed_is_home n (omega (arith, ne, f)) z in
+      (λ z. let w = r.contents.filed_is_stored n (omega (arith, ne, f)) z in
       w.1 ∙ ap (λ (y : Block). Some y) (one_at (sym (full n w.0 low (omega (arith, ne, f)) z w.1) ∙ has)))
       (λ nt. absurd (some_none (sym (bare n low (inr (omega (arith, nt, o, f)))) ∙ has))))
 
@@ -220,7 +223,8 @@ module _ (width id : ℕ) (v : View) (ws : List ℕ) (xs items : List (Option Bl
       dite (ℕ_discrete (F n) 0) (λ z. let e : filled_at items n ≡ 0 = ap filled_bit (bare n low (inl z)) in
       omega (arith, e, z, o))
       (λ ne. dite (ℕ_discrete (T n) 0)
-      (λ z. let w = r.contents.filed_is_home n (omega (arith, ne, f)) z in let e : filled_at items n ≡ 1 = ap filled_bit
+      (λ z. let w = r.contents.filed_is_stored n (omega (arith, ne, f)) z in let e : filled_at items n ≡ 1 = ap
+      filled_bit
       (full n w.0 low (omega (arith, ne, f)) z w.1) in omega (arith, e, z, ne, f))
       (λ nt. let e : filled_at items n ≡ 0 = ap filled_bit (bare n low (inr (omega (arith, nt, o, f)))) in
       omega (arith, e, nt, ne, f, o)))

@@ -16,7 +16,7 @@ use Rattle.vme_core.specs.Stages.{SeesMore}
 use Rattle.vme_core.specs.Views.{after_claim, after_filing, after_take, with_claimed, with_filed, with_taken}
 use Rattle.vme_core.proofs.Sums.{occurrences-append}
 use Rattle.vme_core.proofs.SetBits.{set_bits_true, set_bits_all}
-use Rattle.vme_board.specs.Tells.{SeatState, ClaimedLookTells, FiledLookTells, TakenLookTells}
+use Rattle.vme_board.specs.Postconditions.{SeatState, ClaimedLookPost, FiledLookPost, TakenLookPost}
 
 -- if P follows from a ≡ 1, it holds where the test for a ≡ 1 is true; below, the same for a ≢ 1 and false
 pub on_one : (a : ℕ) (P : Type 0) → (a ≡ 1 → P) → OnTrue (nat_eq a 1) P
@@ -59,42 +59,42 @@ module _ (i n k found : ℕ) (is : i ≡ 4 * (n / 64) + k) (small : k < 4) where
 
 module _ (slots i n : ℕ) (before : SeatState) (found : ℕ) (after : SeatState) where
   -- a load of the taken bits
-  module _ (told : TakenLookTells (step slots i 0 0 none) before found after) (is : i ≡ 4 * (n / 64) + 2) where
+  module _ (post : TakenLookPost (step slots i 0 0 none) before found after) (is : i ≡ 4 * (n / 64) + 2) where
     pub taken_shown : bit_at found (n % 64) ≡ 1 → 0 < occurrences n after.0.taken
-    taken_shown one = subst (λ (m : SeatState). 0 < occurrences n m.0.taken) (sym told.0)
+    taken_shown one = subst (λ (m : SeatState). 0 < occurrences n m.0.taken) (sym post.0)
         (is_shown i n 2 found is (omega arith) before.0.taken one)
 
     pub taken_absent : bit_at found (n % 64) ≡ 0 → occurrences n after.0.taken ≡ 0
-    taken_absent none_set = subst (λ (m : SeatState). occurrences n m.0.taken ≡ 0) (sym told.0)
-        (is_absent i n 2 found is (omega arith) before.0.taken (told.1 n is) none_set).1
+    taken_absent none_set = subst (λ (m : SeatState). occurrences n m.0.taken ≡ 0) (sym post.0)
+        (is_absent i n 2 found is (omega arith) before.0.taken (post.1 n is) none_set).1
 
   -- a load of the filed bits
-  module _ (told : FiledLookTells (step slots i 0 0 none) before found after) (is : i ≡ 4 * (n / 64) + 1) where
+  module _ (post : FiledLookPost (step slots i 0 0 none) before found after) (is : i ≡ 4 * (n / 64) + 1) where
     pub filed_shown : bit_at found (n % 64) ≡ 1 → 0 < occurrences n after.0.filed
-    filed_shown one = subst (λ (m : SeatState). 0 < occurrences n m.0.filed) (sym told.0)
+    filed_shown one = subst (λ (m : SeatState). 0 < occurrences n m.0.filed) (sym post.0)
         (is_shown i n 1 found is (omega arith) before.0.filed one)
 
     pub filed_absent : bit_at found (n % 64) ≡ 0 → occurrences n after.0.filed ≡ 0
-    filed_absent none_set = subst (λ (m : SeatState). occurrences n m.0.filed ≡ 0) (sym told.0)
-        (is_absent i n 1 found is (omega arith) before.0.filed (told.1 n is) none_set).1
+    filed_absent none_set = subst (λ (m : SeatState). occurrences n m.0.filed ≡ 0) (sym post.0)
+        (is_absent i n 1 found is (omega arith) before.0.filed (post.1 n is) none_set).1
 
     -- if its bit is 0, the number was seen neither filed nor taken before
     pub filed_never : bit_at found (n % 64) ≡ 0 → (occurrences n before.0.filed ≡ 0)
         × (occurrences n before.0.taken ≡ 0)
     filed_never none_set = (
-      (is_absent i n 1 found is (omega arith) before.0.filed (told.1 n is) none_set).0,
-      (is_absent i n 1 found is (omega arith) before.0.taken (told.2 n is) none_set).0,
+      (is_absent i n 1 found is (omega arith) before.0.filed (post.1 n is) none_set).0,
+      (is_absent i n 1 found is (omega arith) before.0.taken (post.2 n is) none_set).0,
     )
 
   -- a load of the claimed bits
-  module _ (told : ClaimedLookTells (step slots i 0 0 none) before found after) (is : i ≡ 4 * (n / 64) + 0) where
+  module _ (post : ClaimedLookPost (step slots i 0 0 none) before found after) (is : i ≡ 4 * (n / 64) + 0) where
     pub claimed_shown : bit_at found (n % 64) ≡ 1 → 0 < occurrences n after.0.claimed
-    claimed_shown one = subst (λ (m : SeatState). 0 < occurrences n m.0.claimed) (sym told.0)
+    claimed_shown one = subst (λ (m : SeatState). 0 < occurrences n m.0.claimed) (sym post.0)
         (is_shown i n 0 found is (omega arith) before.0.claimed one)
 
     pub claimed_absent : bit_at found (n % 64) ≡ 0 → occurrences n after.0.claimed ≡ 0
-    claimed_absent none_set = subst (λ (m : SeatState). occurrences n m.0.claimed ≡ 0) (sym told.0)
-        (is_absent i n 0 found is (omega arith) before.0.claimed (told.1 n is) none_set).1
+    claimed_absent none_set = subst (λ (m : SeatState). occurrences n m.0.claimed ≡ 0) (sym post.0)
+        (is_absent i n 0 found is (omega arith) before.0.claimed (post.1 n is) none_set).1
 
 -- a load adds to what the bench has seen
 pub grows_claimed : (a b : SeatState) (ns : List ℕ) → b ≡ (with_claimed a.0 ns, a.1) → SeesMore a.0 b.0

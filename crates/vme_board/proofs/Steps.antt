@@ -1,4 +1,4 @@
--- Each step keeps the invariant, and satisfies its postcondition (`specs/Tells`).
+-- Each step keeps the invariant, and satisfies its postcondition (`specs/Postconditions`).
 use Rattle.std.proofs.Common.{◌≡◌, ℕ, zero, suc, ◌+◌, ◌*◌, ◌/◌, ◌%◌, ◌<◌, ◌≢◌, List, [], ◌∷◌, ◌++◌, length, get_or, set}
 use Rattle.std.proofs.Common.{sym, refl, ap, ◌∙◌, subst, arith, bit_or, length-set, Option, Some, None, replicate, map}
 use mathlib.Core.Option as maybe
@@ -15,18 +15,20 @@ use Rattle.vme_core.specs.declared.view.View.{View}
 use Rattle.vme_core.specs.Counting.{occurrences, numbers, HasPair, set_bits, update}
 use Rattle.vme_core.specs.Views.{after_draw, with_found, after_claim, after_filing, after_take, with_claimed}
 use Rattle.vme_core.specs.Views.{with_filed, with_taken, kept_view, split_view, joint_view, empty_view, first_view}
-use Rattle.vme_core.specs.Rule.{StepRule}
-use Rattle.vme_core.proofs.Sums.{update_here, update_else, each}
+use Rattle.vme_core.specs.BoardInvariant.{BoardInvariant}
+use Rattle.vme_core.proofs.Sums.{update_here, update_else, cases_at}
 use Rattle.vme_core.proofs.ViewChanges.{saw_one, saw_both, from_fresh, shares_first}
 use Rattle.vme_core.proofs.SetBits.{set_bits_true}
 use Rattle.vme_core.proofs.SumsBelow.{sum_below_limit}
-use Rattle.vme_core.proofs.RuleSteps.{rule_alike, rule_saw, rule_gets, undrawn, unlisted, untaken, is_taken, rule_wins}
-use Rattle.vme_core.proofs.RuleSteps.{is_pending, rule_files, rule_takes, rule_gives, rule_splits, rule_joins}
-use Rattle.vme_core.proofs.RuleSteps.{rule_once, rule_agrees, few_listed, few_taken, one_content, none_some}
+use Rattle.vme_core.proofs.InvariantSteps.{equal_bits_preserve, seeing_preserves, draw_preserves, undrawn, unlisted}
+use Rattle.vme_core.proofs.InvariantSteps.{untaken, is_taken, claim_preserves, is_pending, file_preserves}
+use Rattle.vme_core.proofs.InvariantSteps.{take_preserves, give_preserves, split_preserves, join_preserves}
+use Rattle.vme_core.proofs.InvariantSteps.{view_has_no_duplicates, filed_and_taken_agree, list_length_bound}
+use Rattle.vme_core.proofs.InvariantSteps.{takes_length_bound, one_content, none_some}
 use Rattle.vme_board.specs.Words.{bit_of, mask_of, Homes, IsEmpty, IsFilled, Reads, IsNumbered, Holds}
 use Rattle.vme_board.specs.Views.{SameBlocks}
-use Rattle.vme_board.specs.Tells.{SeatState, TableStep, IsAtBit, DrawTells, ClaimTells, FileTells, TakeTells, GiveTells}
-use Rattle.vme_board.specs.Tells.{ClaimedLookTells, FiledLookTells, TakenLookTells, CountTells}
+use Rattle.vme_board.specs.Postconditions.{SeatState, TableStep, IsAtBit, DrawPost, ClaimPost, FilePost, TakePost}
+use Rattle.vme_board.specs.Postconditions.{GivePost, ClaimedLookPost, FiledLookPost, TakenLookPost, CountPost}
 use Rattle.vme_board.proofs.Bits.{bit_small, one_number, marked, bit_here, bit_row, bit_else, bit_again, no_bit}
 
 abbrev St : Type 0
@@ -40,8 +42,8 @@ has_any h z = omega (arith, h, ap length z)
 
 -- the invariant with the limit a holds with the limit b if b ≡ a
 resized : (K : Contents_of) (a b : ℕ) (D C F T : ℕ → ℕ) (E : ℕ → Type 0) (H : ℕ → Block → Type 0) (vs : List View) → b
-    ≡ a → StepRule a D C F T K E H vs → StepRule b D C F T K E H vs
-resized K a b D C F T E H vs is r = subst (λ (y : ℕ). StepRule y D C F T K E H vs) (sym is) r
+    ≡ a → BoardInvariant a D C F T K E H vs → BoardInvariant b D C F T K E H vs
+resized K a b D C F T E H vs is r = subst (λ (y : ℕ). BoardInvariant y D C F T K E H vs) (sym is) r
 
 -- setting a bit that is 1 changes no bit of any row
 again : (k : ℕ) (ws : List ℕ) (n : ℕ) → k < 4 → 4 * (n / 64) + k < length ws → bit_of k ws n ≡ 1 → (k' : ℕ) → k' < 4
@@ -111,7 +113,7 @@ module _ (width : ℕ) (s : St) (h : Holds width s) (id : ℕ) (seat : SeatState
       length-set s.words (4 * (n / 64) + k) _ ∙ h.0,
       (
         K,
-        rule_alike (length s.homes) D (bit_of 3 ws') C (bit_of 0 ws') F (bit_of 1 ws') T (bit_of 2 ws') K E H
+        equal_bits_preserve (length s.homes) D (bit_of 3 ws') C (bit_of 0 ws') F (bit_of 1 ws') T (bit_of 2 ws') K E H
             (set s.views id w) (a 3 (omega arith)) (a 0 (omega arith)) (a 1 (omega arith)) (a 2 (omega arith)) q,
         h.1.2,
       ),
@@ -123,7 +125,7 @@ module _ (width : ℕ) (s : St) (h : Holds width s) (id : ℕ) (seat : SeatState
         ≡ 1)
         → ((n : ℕ) → 0 < occurrences n fi → F n ≡ 1) → ((n : ℕ) → 0 < occurrences n ta → T n ≡ 1)
         → Reads K s.words s.homes (set s.views id (record seat.0 { found = fo; claimed = cl; filed = fi; taken = ta }))
-    saw = rule_saw (length s.homes) D C F T K E H s.views r id seat.0 e
+    saw = seeing_preserves (length s.homes) D C F T K E H s.views r id seat.0 e
 
     found : (d : ℕ) → 0 < occurrences d seat.0.found → D d ≡ 1
     found = r.draws.found id seat.0 e
@@ -172,7 +174,7 @@ module _ (width : ℕ) (s : St) (h : Holds width s) (id : ℕ) (seat : SeatState
         (bit_or (get_or s.words (4 * (d / 64) + 3) 0) (mask_of d))
         (λ after. (x ≡ 0 → (occurrences d seat.0.draws ≡ 0) × (occurrences d seat.0.found ≡ 0)
         × (after ≡ (after_draw seat.0 d, seat.1))) × (x ≡ 1 → after ≡ (with_found seat.0 d, seat.1)))
-    draw_by rich d small zero is =
+    draw_by has_share d small zero is =
         let near : 4 * (d / 64) + 3 < length s.words = inside (4 * (d / 64) + 3) small in
         let ws' : List ℕ = marked 3 s.words d in let D' : ℕ → ℕ = bit_of 3 ws' in
         let unfound : occurrences d seat.0.found ≡ 0 = dite (ℕ_discrete (occurrences d seat.0.found) 0) (λ z. z)
@@ -184,12 +186,12 @@ module _ (width : ℕ) (s : St) (h : Holds width s) (id : ℕ) (seat : SeatState
             length-set s.words (4 * (d / 64) + 3) _ ∙ h.0,
             (
               K,
-              rule_alike (length s.homes) D' D' C (bit_of 0 ws') F (bit_of 1 ws') T (bit_of 2 ws') K E H
+              equal_bits_preserve (length s.homes) D' D' C (bit_of 0 ws') F (bit_of 1 ws') T (bit_of 2 ws') K E H
                   (set s.views id (after_draw seat.0 d)) (λ _. refl) (bit_row 3 s.words d near 0 (omega arith)
                   (omega arith)
                   (λ z. omega arith)) (bit_row 3 s.words d near 1 (omega arith) (omega arith) (λ z. omega arith))
                   (bit_row 3 s.words d near 2 (omega arith) (omega arith) (λ z. omega arith))
-                  (rule_gets (length s.homes) D C F T K E H s.views r id seat.0 e (has_any rich) D' d is
+                  (draw_preserves (length s.homes) D C F T K E H s.views r id seat.0 e (has_any has_share) D' d is
                   (bit_here 3 s.words d near) (bit_else 3 s.words d near)),
               h.1.2,
             ),
@@ -199,7 +201,7 @@ module _ (width : ℕ) (s : St) (h : Holds width s) (id : ℕ) (seat : SeatState
             λ z. absurd (omega (arith, z)),
           ),
         )
-    draw_by rich d small (suc zero) is = let near : 4 * (d / 64) + 3 < length s.words = inside (4 * (d / 64) + 3)
+    draw_by has_share d small (suc zero) is = let near : 4 * (d / 64) + 3 < length s.words = inside (4 * (d / 64) + 3)
         small in (
           with_found seat.0 d,
           keeps,
@@ -208,20 +210,21 @@ module _ (width : ℕ) (s : St) (h : Holds width s) (id : ℕ) (seat : SeatState
               seat.0.taken (saw_one D d seat.0.found is found) claims filings takings),
           ((λ z. absurd (omega (arith, z))), λ _. refl),
         )
-    draw_by rich d small (suc (suc k)) is = absurd (omega (arith, is, bit_small 3 s.words d))
+    draw_by has_share d small (suc (suc k)) is = absurd (omega (arith, is, bit_small 3 s.words d))
 
     claim_by : 0 < length seat.0.share → (n : ℕ) → n < length s.homes → 4 * (n / 64) + 0 < width → seat.0.pending ≡ []
         → (x : ℕ) → C n ≡ x → Goes (4 * (n / 64) + 0) (bit_or (get_or s.words (4 * (n / 64) + 0) 0) (mask_of n))
         (λ after. (x ≡ 0 → (occurrences n (numbers seat.0.list) ≡ 0)
         × (after ≡ (after_claim seat.0 n, (n, None) ∷ seat.1)))
         × (x ≡ 1 → after ≡ (with_claimed seat.0 (n ∷ []), seat.1)))
-    claim_by rich n low small free zero is =
+    claim_by has_share n low small free zero is =
         let near : 4 * (n / 64) + 0 < length s.words = inside (4 * (n / 64) + 0) small in
         let ws' : List ℕ = marked 0 s.words n in
         let homes' : Homes = set s.homes n none in let vs' : List View = set s.views id (after_claim seat.0 n) in
         let unfiled : F n ≡ 0 = let p = r.stages.pending_once n in omega (arith, p, is) in
-        let rule : StepRule (length s.homes) D (bit_of 0 ws') F T K (IsEmpty homes') (IsFilled homes') vs' = rule_wins
-        (length s.homes) D C F T K E H s.views r id seat.0 e (has_any rich) (bit_of 0 ws') (IsEmpty homes')
+        let rule : BoardInvariant (length s.homes) D (bit_of 0 ws') F T K (IsEmpty homes') (IsFilled homes') vs' =
+        claim_preserves
+        (length s.homes) D C F T K E H s.views r id seat.0 e (has_any has_share) (bit_of 0 ws') (IsEmpty homes')
         (IsFilled homes') n free low is (bit_here 0 s.words n near) (bit_else 0 s.words n near)
         (λ m ne empty l. set_else s.homes n m none ne ∙ empty (subst (λ (y : ℕ). m < y) (length-set s.homes n none) l))
         (λ m x ne full. set_else s.homes n m none ne ∙ full) (λ m x ne full. sym (set_else s.homes n m none ne) ∙ full)
@@ -235,7 +238,8 @@ module _ (width : ℕ) (s : St) (h : Holds width s) (id : ℕ) (seat : SeatState
               K,
               resized K (length s.homes) (length homes') (bit_of 3 ws') (bit_of 0 ws') (bit_of 1 ws') (bit_of 2 ws')
                   (IsEmpty homes') (IsFilled homes') vs' (length-set s.homes n none)
-                  (rule_alike (length s.homes) D (bit_of 3 ws') (bit_of 0 ws') (bit_of 0 ws') F (bit_of 1 ws') T
+                  (equal_bits_preserve (length s.homes) D (bit_of 3 ws') (bit_of 0 ws') (bit_of 0 ws') F (bit_of 1 ws')
+                  T
                   (bit_of 2 ws') K (IsEmpty homes') (IsFilled homes') vs' (bit_row 0 s.words n near 3 (omega arith)
                   (omega arith) (λ z. omega arith)) (λ _. refl) (bit_row 0 s.words n near 1 (omega arith) (omega arith)
                   (λ z. omega arith)) (bit_row 0 s.words n near 2 (omega arith) (omega arith) (λ z. omega arith)) rule),
@@ -247,7 +251,7 @@ module _ (width : ℕ) (s : St) (h : Holds width s) (id : ℕ) (seat : SeatState
             λ z. absurd (omega (arith, z)),
           ),
         )
-    claim_by rich n low small free (suc zero) is = let near : 4 * (n / 64) + 0 < length s.words = inside
+    claim_by has_share n low small free (suc zero) is = let near : 4 * (n / 64) + 0 < length s.words = inside
         (4 * (n / 64) + 0) small in (
           with_claimed seat.0 (n ∷ []),
           keeps,
@@ -255,7 +259,7 @@ module _ (width : ℕ) (s : St) (h : Holds width s) (id : ℕ) (seat : SeatState
           stands 0 n (omega arith) near is (with_claimed seat.0 (n ∷ [])) (sees_1 (n ∷ []) (λ m. only_here C n m is)),
           ((λ z. absurd (omega (arith, z))), λ _. refl),
         )
-    claim_by rich n low small free (suc (suc k)) is = absurd (omega (arith, is, bit_small 0 s.words n))
+    claim_by has_share n low small free (suc (suc k)) is = absurd (omega (arith, is, bit_small 0 s.words n))
 
     file_by : (n : ℕ) (b : Block) → b.number ≡ n → n < length s.homes → 4 * (n / 64) + 1 < width → seat.0.pending ≡ n
         ∷ []
@@ -268,12 +272,12 @@ module _ (width : ℕ) (s : St) (h : Holds width s) (id : ℕ) (seat : SeatState
         let here : Option Block = Some b in let homes' : Homes = set s.homes n (some here) in
         let w : View = after_filing seat.0 n b in let vs' : List View = set s.views id w in
         let K' : Contents_of = update K n (Some b) in let F' : ℕ → ℕ = bit_of 1 ws' in
-        let numbered : IsNumbered K' = each n (λ m. (x : Block) → update K n (Some b) m ≡ Some x → x.number ≡ m)
+        let numbered : IsNumbered K' = cases_at n (λ m. (x : Block) → update K n (Some b) m ≡ Some x → x.number ≡ m)
         (λ x z. let same : b ≡ x = one_content (update K n (Some b) n) b x (update_here K n (Some b)) z in
         subst (λ (y : Block). y.number ≡ n) same own) (λ m ne x z. h.1.2 m x (sym (update_else K n (Some b) m ne) ∙ z))
         in
         let was = is_pending (length s.homes) D C F T K E H s.views r id seat.0 e n one in
-        let rule : StepRule (length s.homes) D C F' T K' (IsEmpty homes') (IsFilled homes') vs' = rule_files
+        let rule : BoardInvariant (length s.homes) D C F' T K' (IsEmpty homes') (IsFilled homes') vs' = file_preserves
         (length s.homes) D C F T K E H s.views r id seat.0 e F' K' (IsEmpty homes') (IsFilled homes') n b one
         (bit_here 1 s.words n near) (bit_else 1 s.words n near) (update_here K n (Some b)) (update_else K n (Some b))
         (λ m ne empty l. set_else s.homes n m (some here) ne
@@ -287,7 +291,7 @@ module _ (width : ℕ) (s : St) (h : Holds width s) (id : ℕ) (seat : SeatState
             K',
             resized K' (length s.homes) (length homes') (bit_of 3 ws') (bit_of 0 ws') (bit_of 1 ws') (bit_of 2 ws')
                 (IsEmpty homes') (IsFilled homes') vs' (length-set s.homes n (some here))
-                (rule_alike (length s.homes) D (bit_of 3 ws') C (bit_of 0 ws') F' F' T (bit_of 2 ws') K'
+                (equal_bits_preserve (length s.homes) D (bit_of 3 ws') C (bit_of 0 ws') F' F' T (bit_of 2 ws') K'
                 (IsEmpty homes')
                 (IsFilled homes') vs' (bit_row 1 s.words n near 3 (omega arith) (omega arith) (λ z. omega arith))
                 (bit_row 1 s.words n near 0 (omega arith) (omega arith) (λ z. omega arith)) (λ _. refl)
@@ -295,7 +299,8 @@ module _ (width : ℕ) (s : St) (h : Holds width s) (id : ℕ) (seat : SeatState
             numbered,
           ),
         ) in
-        let most = few_listed (length s.homes) D C F' T K' (IsEmpty homes') (IsFilled homes') vs' rule id w (there w) in
+        let most = list_length_bound (length s.homes) D C F' T K' (IsEmpty homes') (IsFilled homes') vs' rule id w
+        (there w) in
         let least = sum_below_limit F' (length s.homes) (bit_small 1 ws') in (
           w,
           gives,
@@ -307,7 +312,7 @@ module _ (width : ℕ) (s : St) (h : Holds width s) (id : ℕ) (seat : SeatState
             unlisted (length s.homes) D C F T K E H s.views r id seat.0 e n was.1,
             (λ i. (w, rest (has i))),
             omega (arith, most, least),
-            rule_agrees (length s.homes) D C F' T K' (IsEmpty homes') (IsFilled homes') vs'
+            filed_and_taken_agree (length s.homes) D C F' T K' (IsEmpty homes') (IsFilled homes') vs'
                 rule id w (there w),
           ),
         )
@@ -319,19 +324,22 @@ module _ (width : ℕ) (s : St) (h : Holds width s) (id : ℕ) (seat : SeatState
         × (after ≡ (after_take seat.0 n b, (n, Some b) ∷ seat.1)) × (length seat.0.takes < length s.homes)
         × SameBlocks after.0)
         × (x ≡ 1 → after ≡ (with_taken seat.0 (n ∷ []), seat.1)))
-    take_by rich n low small saw_it zero is =
+    take_by has_share n low small saw_it zero is =
         let near : 4 * (n / 64) + 2 < length s.words = inside (4 * (n / 64) + 2) small in
         let ws' : List ℕ = marked 2 s.words n in
-        let f1 : F n ≡ 1 = filings n saw_it in let full = r.contents.filed_is_home n f1 is in let b : Block = full.0 in
+        let f1 : F n ≡ 1 = filings n saw_it in let full = r.contents.filed_is_stored n f1 is in let b : Block = full.0
+        in
         let homes' : Homes = set s.homes n none in let w : View = after_take seat.0 n b in
         let vs' : List View = set s.views id w in let T' : ℕ → ℕ = bit_of 2 ws' in
-        let rule : StepRule (length s.homes) D C F T' K (IsEmpty homes') (IsFilled homes') vs' = rule_takes
-        (length s.homes) D C F T K E H s.views r id seat.0 e (has_any rich) T' (IsEmpty homes') (IsFilled homes') n b f1
+        let rule : BoardInvariant (length s.homes) D C F T' K (IsEmpty homes') (IsFilled homes') vs' = take_preserves
+        (length s.homes) D C F T K E H s.views r id seat.0 e (has_any has_share) T' (IsEmpty homes') (IsFilled homes') n
+        b f1
         is (bit_here 2 s.words n near) (bit_else 2 s.words n near) full.1
         (λ m ne empty l. set_else s.homes n m none ne ∙ empty (subst (λ (y : ℕ). m < y) (length-set s.homes n none) l))
         (λ m x ne full. set_else s.homes n m none ne ∙ full) (λ m x ne full. sym (set_else s.homes n m none ne) ∙ full)
         (λ x full. none_full none x refl (sym (set_here s.homes n none low) ∙ full)) in
-        let most = few_taken (length s.homes) D C F T' K (IsEmpty homes') (IsFilled homes') vs' rule id w (there w) in
+        let most = takes_length_bound (length s.homes) D C F T' K (IsEmpty homes') (IsFilled homes') vs' rule id w
+        (there w) in
         let least = sum_below_limit T' (length s.homes) (bit_small 2 ws') in (
           w,
           takes n (Some b),
@@ -342,7 +350,7 @@ module _ (width : ℕ) (s : St) (h : Holds width s) (id : ℕ) (seat : SeatState
               K,
               resized K (length s.homes) (length homes') (bit_of 3 ws') (bit_of 0 ws') (bit_of 1 ws') (bit_of 2 ws')
                   (IsEmpty homes') (IsFilled homes') vs' (length-set s.homes n none)
-                  (rule_alike (length s.homes) D (bit_of 3 ws') C (bit_of 0 ws') F (bit_of 1 ws') T' T' K
+                  (equal_bits_preserve (length s.homes) D (bit_of 3 ws') C (bit_of 0 ws') F (bit_of 1 ws') T' T' K
                   (IsEmpty homes')
                   (IsFilled homes') vs' (bit_row 2 s.words n near 3 (omega arith) (omega arith) (λ z. omega arith))
                   (bit_row 2 s.words n near 0 (omega arith) (omega arith) (λ z. omega arith))
@@ -357,13 +365,13 @@ module _ (width : ℕ) (s : St) (h : Holds width s) (id : ℕ) (seat : SeatState
               untaken (length s.homes) D C F T K E H s.views r id seat.0 e n is,
               refl,
               omega (arith, most, least),
-              rule_agrees (length s.homes) D C F T' K (IsEmpty homes') (IsFilled homes') vs'
+              filed_and_taken_agree (length s.homes) D C F T' K (IsEmpty homes') (IsFilled homes') vs'
                   rule id w (there w),
             )),
             λ z. absurd (omega (arith, z)),
           ),
         )
-    take_by rich n low small saw_it (suc zero) is = let near : 4 * (n / 64) + 2 < length s.words = inside
+    take_by has_share n low small saw_it (suc zero) is = let near : 4 * (n / 64) + 2 < length s.words = inside
         (4 * (n / 64) + 2) small in (
           with_taken seat.0 (n ∷ []),
           keeps,
@@ -371,32 +379,34 @@ module _ (width : ℕ) (s : St) (h : Holds width s) (id : ℕ) (seat : SeatState
           stands 2 n (omega arith) near is (with_taken seat.0 (n ∷ [])) (sees_3 (n ∷ []) (λ m. only_here T n m is)),
           ((λ z. absurd (omega (arith, z))), λ _. refl),
         )
-    take_by rich n low small saw_it (suc (suc k)) is = absurd (omega (arith, is, bit_small 2 s.words n))
+    take_by has_share n low small saw_it (suc (suc k)) is = absurd (omega (arith, is, bit_small 2 s.words n))
 
 -- a word and a mask may be replaced by equal ones
-pub at_word : (Tells : TableStep → SeatState → ℕ → SeatState → Type 0) (width slots id : ℕ) (seat : SeatState)
+pub at_word : (Post : TableStep → SeatState → ℕ → SeatState → Type 0) (width slots id : ℕ) (seat : SeatState)
     (i j m k : ℕ) → i ≡ j → m ≡ k
-    → Allows (Holds width) slots id seat j (λ x. bit_or x k) (Tells (step slots j k 0 none) seat) → Allows (Holds width)
-    slots id seat i (λ x. bit_or x m) (Tells (step slots i m 0 none) seat)
-at_word Tells width slots id seat i j m k is same allowed =
-    subst (λ (z : ℕ × ℕ). Allows (Holds width) slots id seat z.0 (λ x. bit_or x z.1) (Tells (step slots z.0 z.1 0 none)
+    → Allows (Holds width) slots id seat j (λ x. bit_or x k) (Post (step slots j k 0 none) seat) → Allows (Holds width)
+    slots id seat i (λ x. bit_or x m) (Post (step slots i m 0 none) seat)
+at_word Post width slots id seat i j m k is same allowed =
+    subst (λ (z : ℕ × ℕ). Allows (Holds width) slots id seat z.0 (λ x. bit_or x z.1) (Post (step slots z.0 z.1 0 none)
     seat)) (λ t. (sym is t, sym same t)) allowed
 
 -- what holds of d holds of each number that the step on the bit of d is at, which is d
-told : (slots k d : ℕ) (F : ℕ → Type 0) → F d → (n : ℕ) → IsAtBit (step slots (4 * (d / 64) + k) (mask_of d) 0 none) k n
+at_one_number : (slots k d : ℕ) (F : ℕ → Type 0) → F d → (n : ℕ) → IsAtBit
+    (step slots (4 * (d / 64) + k) (mask_of d) 0 none) k n
     → F n
-told slots k d F f n a = subst F (one_number k d n a.word a.mask) f
+at_one_number slots k d F f n a = subst F (one_number k d n a.word a.mask) f
 
 pub draws_allowed : (width slots id : ℕ) (seat : SeatState) → 0 < length seat.0.share → (d : ℕ) → 4 * (d / 64) + 3 <
     width → Allows (Holds width) slots id seat (4 * (d / 64) + 3) (λ n. bit_or n (mask_of d))
-    (DrawTells (step slots (4 * (d / 64) + 3) (mask_of d) 0 none) seat)
-draws_allowed width slots id seat rich d small s h wide e fits = let g = draw_by width s h id seat e rich d small
+    (DrawPost (step slots (4 * (d / 64) + 3) (mask_of d) 0 none) seat)
+draws_allowed width slots id seat has_share d small s h wide e fits = let g = draw_by width s h id seat e has_share d
+    small
     (bit_of 3 s.words d) refl in (
       g.0,
       g.1,
       g.2,
       g.3,
-      told slots 3 d (λ n. (bit_at (get_or s.words (4 * (d / 64) + 3) 0) (n % 64) ≡ 0
+      at_one_number slots 3 d (λ n. (bit_at (get_or s.words (4 * (d / 64) + 3) 0) (n % 64) ≡ 0
           → (occurrences n seat.0.draws ≡ 0) × (occurrences n seat.0.found ≡ 0) × ((g.0, carried_after seat.1 g.1)
           ≡ (after_draw seat.0 n, seat.1))) × (bit_at (get_or s.words (4 * (d / 64) + 3) 0) (n % 64) ≡ 1
           → (g.0, carried_after seat.1 g.1) ≡ (with_found seat.0 n, seat.1))) g.4,
@@ -404,14 +414,15 @@ draws_allowed width slots id seat rich d small s h wide e fits = let g = draw_by
 
 pub claims_allowed : (width slots id : ℕ) (seat : SeatState) → 0 < length seat.0.share → (n : ℕ) → n < slots
     → 4 * (n / 64) + 0 < width → seat.0.pending ≡ [] → Allows (Holds width) slots id seat (4 * (n / 64) + 0)
-    (λ x. bit_or x (mask_of n)) (ClaimTells (step slots (4 * (n / 64) + 0) (mask_of n) 0 none) seat)
-claims_allowed width slots id seat rich n low small free s h wide e fits = let g = claim_by width s h id seat e rich n
+    (λ x. bit_or x (mask_of n)) (ClaimPost (step slots (4 * (n / 64) + 0) (mask_of n) 0 none) seat)
+claims_allowed width slots id seat has_share n low small free s h wide e fits = let g = claim_by width s h id seat e
+    has_share n
     (omega (arith, low, wide)) small free (bit_of 0 s.words n) refl in (
       g.0,
       g.1,
       g.2,
       g.3,
-      told slots 0 n (λ m. (bit_at (get_or s.words (4 * (n / 64) + 0) 0) (m % 64) ≡ 0
+      at_one_number slots 0 n (λ m. (bit_at (get_or s.words (4 * (n / 64) + 0) 0) (m % 64) ≡ 0
           → (occurrences m (numbers seat.0.list) ≡ 0) × ((g.0, carried_after seat.1 g.1) ≡ (
             after_claim seat.0 m,
             (m, None)
@@ -422,15 +433,17 @@ claims_allowed width slots id seat rich n low small free s h wide e fits = let g
 
 pub takes_allowed : (width slots id : ℕ) (seat : SeatState) → 0 < length seat.0.share → (n : ℕ) → n < slots
     → 4 * (n / 64) + 2 < width → 0 < occurrences n seat.0.filed → Allows (Holds width) slots id seat (4 * (n / 64) + 2)
-    (λ x. bit_or x (mask_of n)) (TakeTells (step slots (4 * (n / 64) + 2) (mask_of n) 0 none) seat)
-takes_allowed width slots id seat rich n low small saw_it s h wide e fits = let g = take_by width s h id seat e rich n
+    (λ x. bit_or x (mask_of n)) (TakePost (step slots (4 * (n / 64) + 2) (mask_of n) 0 none) seat)
+takes_allowed width slots id seat has_share n low small saw_it s h wide e fits = let g = take_by width s h id seat e
+    has_share n
     (omega (arith, low, wide)) small saw_it (bit_of 2 s.words n) refl in
     let after : SeatState = (g.0, carried_after seat.1 g.1) in (
       g.0,
       g.1,
       g.2,
       g.3,
-      told slots 2 n (λ m. (bit_at (get_or s.words (4 * (n / 64) + 2) 0) (m % 64) ≡ 0 → (b : Block) × (b.number ≡ m)
+      at_one_number slots 2 n (λ m. (bit_at (get_or s.words (4 * (n / 64) + 2) 0) (m % 64) ≡ 0 → (b : Block) ×
+          (b.number ≡ m)
           × (occurrences m (numbers seat.0.takes) ≡ 0) × (after ≡ (after_take seat.0 m b, (m, Some b) ∷ seat.1))
           × (length seat.0.takes < slots) × SameBlocks after.0)
           × (bit_at (get_or s.words (4 * (n / 64) + 2) 0) (m % 64) ≡ 1
@@ -455,7 +468,7 @@ FiledAs slots seat after n b = (occurrences n (numbers seat.0.list) ≡ 0) × (a
 pub files_allowed : (width slots id : ℕ) (seat : SeatState) (n : ℕ) (b : Block) → b.number ≡ n → n < slots
     → 4 * (n / 64) + 1 < width → seat.0.pending ≡ n ∷ [] → seat.1 ≡ (n, Some b) ∷ []
     → Allows (Holds width) slots id seat (4 * (n / 64) + 1) (λ x. bit_or x (mask_of n))
-    (FileTells (step slots (4 * (n / 64) + 1) (mask_of n) 0 none) seat)
+    (FilePost (step slots (4 * (n / 64) + 1) (mask_of n) 0 none) seat)
 files_allowed width slots id seat n b own low small one has s h wide e fits = let g = file_by width s h id seat e n b
     own (omega (arith, low, wide)) small one has in
     let after : SeatState = (g.0, carried_after seat.1 g.1) in
@@ -504,7 +517,7 @@ shown_at k g i ws is small m h =
     ap (λ (y : ℕ). bit_at (get_or ws y 0) (m % 64)) a ∙ (ap (λ (y : ℕ). bit_at (get_or ws i 0) y) b ∙ t.3)
 
 pub looks_claimed : (width slots id : ℕ) (seat : SeatState) (i g : ℕ) → i ≡ 4 * g + 0 → i < width → Allows (Holds width)
-    slots id seat i (λ x. x) (ClaimedLookTells (step slots i 0 0 none) seat)
+    slots id seat i (λ x. x) (ClaimedLookPost (step slots i 0 0 none) seat)
 looks_claimed width slots id seat i g is near s h wide e fits = let ms : List ℕ = set_bits (64 * (i / 4))
     (bit_at (get_or s.words i 0)) 64 in (
       with_claimed seat.0 ms,
@@ -520,7 +533,7 @@ looks_claimed width slots id seat i g is near s h wide e fits = let ms : List �
     )
 
 pub looks_filed : (width slots id : ℕ) (seat : SeatState) (i g : ℕ) → i ≡ 4 * g + 1 → i < width → Allows (Holds width)
-    slots id seat i (λ x. x) (FiledLookTells (step slots i 0 0 none) seat)
+    slots id seat i (λ x. x) (FiledLookPost (step slots i 0 0 none) seat)
 looks_filed width slots id seat i g is near s h wide e fits = let ms : List ℕ = set_bits (64 * (i / 4))
     (bit_at (get_or s.words i 0)) 64 in (
       with_filed seat.0 ms,
@@ -538,7 +551,7 @@ looks_filed width slots id seat i g is near s h wide e fits = let ms : List ℕ 
     )
 
 pub looks_taken : (width slots id : ℕ) (seat : SeatState) (i g : ℕ) → i ≡ 4 * g + 2 → i < width → Allows (Holds width)
-    slots id seat i (λ x. x) (TakenLookTells (step slots i 0 0 none) seat)
+    slots id seat i (λ x. x) (TakenLookPost (step slots i 0 0 none) seat)
 looks_taken width slots id seat i g is near s h wide e fits = let ms : List ℕ = set_bits (64 * (i / 4))
     (bit_at (get_or s.words i 0)) 64 in (
       with_taken seat.0 ms,
@@ -554,13 +567,14 @@ looks_taken width slots id seat i g is near s h wide e fits = let ms : List ℕ 
     )
 
 pub counts : (width slots id : ℕ) (seat : SeatState) → 0 < width → Allows (Holds width) slots id seat 0 (λ x. x)
-    (CountTells (step slots 0 0 0 none) seat)
+    (CountPost (step slots 0 0 0 none) seat)
 counts width slots id seat near s h wide e fits =
-    let q = h.1.1 in let L : ℕ = length s.homes in let once = rule_once L (bit_of 3 s.words) (bit_of 0 s.words)
+    let q = h.1.1 in let L : ℕ = length s.homes in let once = view_has_no_duplicates L (bit_of 3 s.words)
+    (bit_of 0 s.words)
     (bit_of 1 s.words) (bit_of 2 s.words) (h.1.0) (IsEmpty s.homes) (IsFilled s.homes) s.views q id seat.0 e in
-    let a = few_listed L (bit_of 3 s.words) (bit_of 0 s.words) (bit_of 1 s.words) (bit_of 2 s.words) (h.1.0)
+    let a = list_length_bound L (bit_of 3 s.words) (bit_of 0 s.words) (bit_of 1 s.words) (bit_of 2 s.words) (h.1.0)
     (IsEmpty s.homes) (IsFilled s.homes) s.views q id seat.0 e in
-    let b = few_taken L (bit_of 3 s.words) (bit_of 0 s.words) (bit_of 1 s.words) (bit_of 2 s.words) (h.1.0)
+    let b = takes_length_bound L (bit_of 3 s.words) (bit_of 0 s.words) (bit_of 1 s.words) (bit_of 2 s.words) (h.1.0)
     (IsEmpty s.homes) (IsFilled s.homes) s.views q id seat.0 e in
     let x = sum_below_limit (bit_of 1 s.words) L (bit_small 1 s.words) in let y = sum_below_limit (bit_of 2 s.words) L
     (bit_small 2 s.words) in (
@@ -576,7 +590,7 @@ counts width slots id seat near s h wide e fits =
         once.2,
         omega (arith, a, x, wide),
         omega (arith, b, y, wide),
-        rule_agrees L (bit_of 3 s.words) (bit_of 0 s.words) (bit_of 1 s.words) (bit_of 2 s.words) (h.1.0)
+        filed_and_taken_agree L (bit_of 3 s.words) (bit_of 0 s.words) (bit_of 1 s.words) (bit_of 2 s.words) (h.1.0)
             (IsEmpty s.homes) (IsFilled s.homes) s.views q id seat.0 e,
       ),
     )
@@ -584,14 +598,15 @@ counts width slots id seat near s h wide e fits =
 -- returning the emptied slot of a number that the seat took keeps the invariant
 pub gives_allowed : (width slots id : ℕ) (seat : SeatState) (n : ℕ) → 0 < width → n < slots → 0 < occurrences n
     (numbers seat.0.takes) → seat.1 ≡ (n, None) ∷ [] → Allows (Holds width) slots id seat 0 (λ x. x)
-    (GiveTells (step slots 0 0 0 none) seat)
+    (GivePost (step slots 0 0 0 none) seat)
 gives_allowed width slots id seat n wide_enough low mine has s h wide e fits =
     let q = h.1.1 in let K : Contents_of = h.1.0 in let L : ℕ = length s.homes in let out : Option Block = None in
     let homes' : Homes = set s.homes n (some out) in let near : n < length s.homes = omega (arith, low, wide) in
     let t1 = is_taken L (bit_of 3 s.words) (bit_of 0 s.words) (bit_of 1 s.words) (bit_of 2 s.words) K (IsEmpty s.homes)
     (IsFilled s.homes) s.views q id seat.0 e n mine in
-    let rule : StepRule L (bit_of 3 s.words) (bit_of 0 s.words) (bit_of 1 s.words) (bit_of 2 s.words) K (IsEmpty homes')
-    (IsFilled homes') s.views = rule_gives L (bit_of 3 s.words) (bit_of 0 s.words) (bit_of 1 s.words)
+    let rule : BoardInvariant L (bit_of 3 s.words) (bit_of 0 s.words) (bit_of 1 s.words) (bit_of 2 s.words) K
+    (IsEmpty homes')
+    (IsFilled homes') s.views = give_preserves L (bit_of 3 s.words) (bit_of 0 s.words) (bit_of 1 s.words)
     (bit_of 2 s.words) K (IsEmpty s.homes) (IsFilled s.homes) s.views q (IsEmpty homes') (IsFilled homes') n t1
     (λ m ne empty l. set_else s.homes n m (some out) ne
     ∙ empty (subst (λ (y : ℕ). m < y) (length-set s.homes n (some out)) l)) (λ m x ne full. set_else s.homes n m
@@ -672,8 +687,8 @@ opens width total ws is long = let blank : (k m : ℕ) → bit_of k ws m ≡ 0 =
           contents = record {
             free_is_empty = λ m _ l. vacant_at total m (omega (arith, l, vacant_length total));
             unfiled_is_none = λ m _. refl;
-            filed_is_home = λ m z. absurd (omega (arith, z, blank 1 m));
-            home_is_filed = λ m b t. absurd (unfilled total m b t);
+            filed_is_stored = λ m z. absurd (omega (arith, z, blank 1 m));
+            stored_is_filed = λ m b t. absurd (unfilled total m b t);
             listed = from_fresh (λ v. (n : ℕ) (b : Block) → HasPair v.list n b → nothing n ≡ Some b)
                 (λ n b h. absurd h);
             took = from_fresh (λ v. (n : ℕ) (b : Block) → HasPair v.takes n b → nothing n ≡ Some b) (λ n b h. absurd h);
@@ -689,7 +704,7 @@ splits width id v s (wide, (k, q, own)) e
       wide,
       (
         k,
-        rule_splits (length s.homes) (bit_of 3 s.words) (bit_of 0 s.words) (bit_of 1 s.words) (bit_of 2 s.words)
+        split_preserves (length s.homes) (bit_of 3 s.words) (bit_of 0 s.words) (bit_of 1 s.words) (bit_of 2 s.words)
             k (IsEmpty s.homes) (IsFilled s.homes) s.views q id v e,
         own,
       ),
@@ -701,7 +716,7 @@ joins width id other v w s (wide, (k, q, own)) e ne f
       wide,
       (
         k,
-        rule_joins (length s.homes) (bit_of 3 s.words) (bit_of 0 s.words) (bit_of 1 s.words) (bit_of 2 s.words) k
+        join_preserves (length s.homes) (bit_of 3 s.words) (bit_of 0 s.words) (bit_of 1 s.words) (bit_of 2 s.words) k
             (IsEmpty s.homes) (IsFilled s.homes) s.views q id v e other w ne
             (sym (set_else s.views id other (joint_view v w) ne)
             ∙ f),

@@ -1,5 +1,5 @@
 pub mod Words
-pub mod Tells
+pub mod Postconditions
 pub mod Refusals
 pub mod Views
 pub mod Contents

@@ -12,7 +12,7 @@ use Rattle.std.specs.Int.{bit_at}
 use Rattle.atomic_table.specs.Table.{State}
 use Rattle.vme_trace.specs.declared.block.Block.{Block}
 use Rattle.vme_core.specs.declared.view.View.{View}
-use Rattle.vme_core.specs.Rule.{StepRule}
+use Rattle.vme_core.specs.BoardInvariant.{BoardInvariant}
 
 -- the bit of n in the row k
 abbrev pub bit_of : ℕ → List ℕ → ℕ → ℕ
@@ -38,7 +38,7 @@ IsFilled homes n b = get_elem? homes n ≡ some (some (Some b))
 
 abbrev pub Reads : (ℕ → Option Block) → List ℕ → Homes → List View → Type 0
 Reads content words homes views =
-    StepRule (length homes) (bit_of 3 words) (bit_of 0 words) (bit_of 1 words) (bit_of 2 words) content
+    BoardInvariant (length homes) (bit_of 3 words) (bit_of 0 words) (bit_of 1 words) (bit_of 2 words) content
     (IsEmpty homes) (IsFilled homes) views
 
 -- the content of a number is a block of that number

@@ -7,8 +7,8 @@ ghost use Rattle.vme_core.specs.Counting.{occurrences, numbers, AreDisjoint};
 ghost use Rattle.vme_core.specs.Stages.{rank, seen, HasSeen, SeesMore};
 ghost use Rattle.vme_core.specs.Views.{empty_view, first_view, kept_view, split_view, joint_view};
 ghost use Rattle.vme_board.specs.Refusals.{IsDeliverable, IsReason};
-ghost use Rattle.vme_board.specs.Tells.{DrawTells, ClaimTells, FileTells, TakeTells, GiveTells, CountTells};
-ghost use Rattle.vme_board.specs.Tells.{ClaimedLookTells, FiledLookTells, TakenLookTells};
+ghost use Rattle.vme_board.specs.Postconditions.{DrawPost, ClaimPost, FilePost, TakePost, GivePost, CountPost};
+ghost use Rattle.vme_board.specs.Postconditions.{ClaimedLookPost, FiledLookPost, TakenLookPost};
 ghost use Rattle.vme_board.specs.Views.{SameDraws, SameWork, SameNumbers, AllFound, IsNewDraw, SameBlocks};
 ghost use Rattle.vme_board.specs.Views.{HasNothingToTake, SeesGreater};
 ghost use Rattle.vme_board.specs.declared.delivery.DeliveryRefusal.TheVariants.{Doubled, Memory};
@@ -25,55 +25,55 @@ use vme_trace::Block;
 struct Draw;
 
 impl Play<Option<Judged>, View> for Draw {
-    ghost then = { DrawTells };
+    ghost then = { DrawPost };
 }
 
 struct Claim;
 
 impl Play<Option<Judged>, View> for Claim {
-    ghost then = { ClaimTells };
+    ghost then = { ClaimPost };
 }
 
 struct File;
 
 impl Play<Option<Judged>, View> for File {
-    ghost then = { FileTells };
+    ghost then = { FilePost };
 }
 
 struct Take;
 
 impl Play<Option<Judged>, View> for Take {
-    ghost then = { TakeTells };
+    ghost then = { TakePost };
 }
 
 struct Give;
 
 impl Play<Option<Judged>, View> for Give {
-    ghost then = { GiveTells };
+    ghost then = { GivePost };
 }
 
 struct LookAtClaimed;
 
 impl Play<Option<Judged>, View> for LookAtClaimed {
-    ghost then = { ClaimedLookTells };
+    ghost then = { ClaimedLookPost };
 }
 
 struct LookAtFiled;
 
 impl Play<Option<Judged>, View> for LookAtFiled {
-    ghost then = { FiledLookTells };
+    ghost then = { FiledLookPost };
 }
 
 struct LookAtTaken;
 
 impl Play<Option<Judged>, View> for LookAtTaken {
-    ghost then = { TakenLookTells };
+    ghost then = { TakenLookPost };
 }
 
 struct Count;
 
 impl Play<Option<Judged>, View> for Count {
-    ghost then = { CountTells };
+    ghost then = { CountPost };
 }
 
 struct SplitOff;

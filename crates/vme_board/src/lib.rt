@@ -14,9 +14,9 @@
 //!
 //! What a bench has filed, taken, drawn and seen is its view, which is only in contracts: `view_of`
 //! in `specs/Benches.antt`, with the fields of [`vme_core::View`]. `specs/Words.antt` says how the
-//! words and slots of the table are read; their invariant is that of vme_core. `specs/Tells.antt` has
-//! the postcondition of each atomic step, and `proofs/Steps.antt` shows that each step keeps the
-//! invariant.
+//! words and slots of the table are read; their invariant is that of vme_core.
+//! `specs/Postconditions.antt` has the postcondition of each atomic step, and `proofs/Steps.antt`
+//! shows that each step keeps the invariant.
 //!
 //! # What is proved
 //!

@@ -18,20 +18,20 @@ use Rattle.vme_core.specs.Counting.{occurrences, numbers, set_bits, update}
 use Rattle.vme_core.specs.Stages.{claimed_bit, filed_bit, taken_bit}
 use Rattle.vme_core.specs.Views.{after_draw, with_found, after_claim, after_filing, after_take, with_claimed}
 use Rattle.vme_core.specs.Views.{with_filed, with_taken, kept_view, split_view, joint_view, empty_view, first_view}
-use Rattle.vme_core.specs.Rule.{Invariant}
+use Rattle.vme_core.specs.BoardInvariant.{Invariant}
 use Rattle.vme_core.specs.Machine.{Core, BoardEvent, split, join, Happens, IsRun, Slot, empty, away, filled, WordRow}
 use Rattle.vme_core.specs.Machine.{claimed_row, filed_row, taken_row, BenchProgress, idle, has_claimed, has_put}
 use Rattle.vme_core.specs.Machine.{has_taken, has_lifted, HasView, with_views, after_claim_step, after_file_step}
 use Rattle.vme_core.specs.Machine.{after_draw_step, after_take_step, after_look, start}
-use Rattle.vme_core.proofs.Sums.{update_here, update_else, each, occurrences_here}
-use Rattle.vme_core.proofs.RuleSteps.{is_pending}
+use Rattle.vme_core.proofs.Sums.{update_here, update_else, cases_at, occurrences_here}
+use Rattle.vme_core.proofs.InvariantSteps.{is_pending}
 use Rattle.vme_core.proofs.Runs.{keeps_event}
 use Rattle.vme_board.specs.Words.{bit_of, mask_of, IsWideFor}
-use Rattle.vme_board.specs.Tells.{SeatState, ClaimTells, DrawTells, FileTells, TakeTells, GiveTells}
-use Rattle.vme_board.specs.Tells.{CountTells}
+use Rattle.vme_board.specs.Postconditions.{SeatState, ClaimPost, DrawPost, FilePost, TakePost, GivePost}
+use Rattle.vme_board.specs.Postconditions.{CountPost}
 use Rattle.vme_board.proofs.Bits.{bit_small, marked, bit_here, bit_row, bit_else, bit_again, word_within, no_bit}
 use Rattle.vme_board_machine.specs.Steps.{BoardState, IsBoardRun, TableState, Sets, Loads, Takes, IsAt}
-use Rattle.vme_board_machine.specs.Steps.{opened, after_claiming, after_taking, number_of, LookTells}
+use Rattle.vme_board_machine.specs.Steps.{opened, after_claiming, after_taking, number_of, LookPost}
 use Rattle.vme_board_machine.specs.ReadsAs.{ReadsAs, IsViewAt, home_of}
 use Rattle.vme_board_machine.proofs.Acts.{at_within, leaves_homes, gives_home, takes_home}
 
@@ -180,14 +180,14 @@ module _ (total draws : ℕ) (s : BoardState) (m : Core) (sh : ReadsAs total dra
   stays : (f : Stage → ℕ) (k : ℕ) (ws : List ℕ) (n : ℕ) (new : Stage) → f new ≡ f (m.stage n)
       → ((j : ℕ) → bit_of k ws j ≡ bit_of k W j) → ((j : ℕ) → f (m.stage j) ≡ bit_of k W j) → (j : ℕ)
       → f (update m.stage n new j) ≡ bit_of k ws j
-  stays f k ws n new same bits was = each n (λ j. f (update m.stage n new j) ≡ bit_of k ws j)
+  stays f k ws n new same bits was = cases_at n (λ j. f (update m.stage n new j) ≡ bit_of k ws j)
       (ap f (update_here m.stage n new) ∙ (same ∙ (was n ∙ sym (bits n))))
       (λ j ne. ap f (update_else m.stage n new j ne) ∙ (was j ∙ sym (bits j)))
 
   -- the bits of a row are those of the stages, after the stage of n changed and its bit was set
   turns : (f : Stage → ℕ) (k : ℕ) (n : ℕ) (new : Stage) → f new ≡ 1 → 4 * (n / 64) + k < length W
       → ((j : ℕ) → f (m.stage j) ≡ bit_of k W j) → (j : ℕ) → f (update m.stage n new j) ≡ bit_of k (marked k W n) j
-  turns f k n new one near was = each n (λ j. f (update m.stage n new j) ≡ bit_of k (marked k W n) j)
+  turns f k n new one near was = cases_at n (λ j. f (update m.stage n new j) ≡ bit_of k (marked k W n) j)
       (ap f (update_here m.stage n new) ∙ (one ∙ sym (bit_here k W n near)))
       (λ j ne. ap f (update_else m.stage n new j ne) ∙ (was j ∙ sym (bit_else k W n near j ne)))
 
@@ -213,11 +213,11 @@ module _ (total draws : ℕ) (s : BoardState) (m : Core) (sh : ReadsAs total dra
 
   -- `ReadsAs` holds after a claim
   claim_shown : (t : BoardState) (i n : ℕ) (b : Block) (v : View) (after : SeatState) → n < total → IsAt s i v idle
-      → Sets ClaimTells s i v idle 0 n after t.table → (x : ℕ) → claimed_bit (m.stage n) ≡ x
+      → Sets ClaimPost s i v idle 0 n after t.table → (x : ℕ) → claimed_bit (m.stage n) ≡ x
       → t.progress ≡ update s.progress i (after_claiming n b x) → ReadsAs total draws t (after_claim_step m i n b v x)
   claim_shown t i n b v after low (e, p) st zero is pg =
       let near : 4 * (n / 64) + 0 < length W = near_number n 0 low (omega arith) in
-      let told = (st.tells n (record { word = refl; mask = refl })).0 (sym (sh.claimed n) ∙ is) in
+      let told = (st.post n (record { word = refl; mask = refl })).0 (sym (sh.claimed n) ∙ is) in
       let now : after ≡ (after_claim v n, (n, None) ∷ []) = told.1 in
       let out = takes_home H st.act n None st.valid (ap (λ (y : SeatState). y.1) (sym now) ∙ st.slots) in
       let free : m.stage n ≡ Free = one_free (m.stage n) is in
@@ -235,7 +235,7 @@ module _ (total draws : ℕ) (s : BoardState) (m : Core) (sh : ReadsAs total dra
       (λ z. omega arith)) sh.filed)
       (stays taken_bit 2 (marked 0 W n) n Claimed (ap taken_bit (sym free)) (row 0 n near (omega arith) 2 (omega arith)
       (λ z. omega arith)) sh.taken)
-      (each n (λ j. j < total → get_elem? (homes_after H [] st.act) j ≡ some (home_of (update m.home n away j)))
+      (cases_at n (λ j. j < total → get_elem? (homes_after H [] st.act) j ≡ some (home_of (update m.home n away j)))
       (λ l. out.out ∙ ap (λ (y : Slot). some (home_of y)) (sym (update_here m.home n away)))
       (λ j ne l. out.others j ne ∙ (sh.homes j l ∙ ap (λ (y : Slot). some (home_of y))
       (sym (update_else m.home n away j ne)))))
@@ -243,25 +243,25 @@ module _ (total draws : ℕ) (s : BoardState) (m : Core) (sh : ReadsAs total dra
       (λ j ne. ap (λ (f : ℕ → BenchProgress). f j) pg ∙ update_else s.progress i (has_claimed n b) j ne)
   claim_shown t i n b v after low (e, p) st (suc zero) is pg =
       let near : 4 * (n / 64) + 0 < length W = near_number n 0 low (omega arith) in
-      let now : after ≡ (with_claimed v (n ∷ []), []) = (st.tells n (record { word = refl; mask = refl })).1
+      let now : after ≡ (with_claimed v (n ∷ []), []) = (st.post n (record { word = refl; mask = refl })).1
       (sym (sh.claimed n) ∙ is) in
       seen t i v (with_claimed v (n ∷ [])) (marked 0 W n) e
       (at_view t.table (4 * (n / 64) + 0) (bit_or (get_or W (4 * (n / 64) + 0) 0) (mask_of n)) i [] [] after st.act
       (with_claimed v (n ∷ [])) H st.table now (leaves_homes H st.act st.valid (ap (λ (y : SeatState). y.1) (sym now)
       ∙ st.slots)))
       (length-set W (4 * (n / 64) + 0) _) (all_again 0 n (omega arith) near (sym (sh.claimed n) ∙ is))
-      (each i (λ j. t.progress j ≡ s.progress j) (ap (λ (f : ℕ → BenchProgress). f i) pg
+      (cases_at i (λ j. t.progress j ≡ s.progress j) (ap (λ (f : ℕ → BenchProgress). f i) pg
       ∙ (update_here s.progress i idle ∙ sym p)) (λ j ne. ap (λ (f : ℕ → BenchProgress). f j) pg
       ∙ update_else s.progress i idle j ne)) refl refl
   claim_shown t i n b v after low at st (suc (suc x)) is pg = absurd (omega (arith, is, sh.claimed n, bit_small 0 W n))
 
   -- `ReadsAs` holds after a draw
   draw_shown : (t : BoardState) (i d : ℕ) (v : View) (after : SeatState) → d < draws → IsAt s i v idle
-      → Sets DrawTells s i v idle 3 d after t.table → (x : ℕ) → m.drawn d ≡ x → t.progress ≡ s.progress
+      → Sets DrawPost s i v idle 3 d after t.table → (x : ℕ) → m.drawn d ≡ x → t.progress ≡ s.progress
       → ReadsAs total draws t (after_draw_step m i d v x)
   draw_shown t i d v after low (e, p) st zero is pg =
       let near : 4 * (d / 64) + 3 < length W = near_draw d low in
-      let now : after ≡ (after_draw v d, []) = ((st.tells d (record { word = refl; mask = refl })).0 (sym (sh.drawn d)
+      let now : after ≡ (after_draw v d, []) = ((st.post d (record { word = refl; mask = refl })).0 (sym (sh.drawn d)
       ∙ is)).2 in
       let same : (j : ℕ) → t.progress j ≡ s.progress j = λ j. ap (λ (f : ℕ → BenchProgress). f j) pg in
       build t i v (after_draw v d) (marked 3 W d) H m.stage m.content m.home (update m.drawn d 1) m.progress e
@@ -269,7 +269,7 @@ module _ (total draws : ℕ) (s : BoardState) (m : Core) (sh : ReadsAs total dra
       (after_draw v d) H st.table now (leaves_homes H st.act st.valid (ap (λ (y : SeatState). y.1) (sym now)
       ∙ st.slots)))
       (length-set W (4 * (d / 64) + 3) _) refl
-      (each d (λ j. update m.drawn d 1 j ≡ bit_of 3 (marked 3 W d) j) (update_here m.drawn d 1
+      (cases_at d (λ j. update m.drawn d 1 j ≡ bit_of 3 (marked 3 W d) j) (update_here m.drawn d 1
       ∙ sym (bit_here 3 W d near)) (λ j ne. update_else m.drawn d 1 j ne
       ∙ (sh.drawn j ∙ sym (bit_else 3 W d near j ne))))
       (λ n. sh.claimed n ∙ sym (row 3 d near (omega arith) 0 (omega arith) (λ z. omega arith) n))
@@ -279,7 +279,7 @@ module _ (total draws : ℕ) (s : BoardState) (m : Core) (sh : ReadsAs total dra
       (same_view (after_draw v d) v (s.progress i) refl refl (sh.calls i v e))) (λ j ne. same j)
   draw_shown t i d v after low (e, p) st (suc zero) is pg =
       let near : 4 * (d / 64) + 3 < length W = near_draw d low in
-      let now : after ≡ (with_found v d, []) = (st.tells d (record { word = refl; mask = refl })).1 (sym (sh.drawn d)
+      let now : after ≡ (with_found v d, []) = (st.post d (record { word = refl; mask = refl })).1 (sym (sh.drawn d)
       ∙ is) in
       seen t i v (with_found v d) (marked 3 W d) e
       (at_view t.table (4 * (d / 64) + 3) (bit_or (get_or W (4 * (d / 64) + 3) 0) (mask_of d)) i [] [] after st.act
@@ -312,11 +312,11 @@ module _ (total draws : ℕ) (s : BoardState) (m : Core) (sh : ReadsAs total dra
       refl (λ k n small. refl) (λ k. ap (λ (f : ℕ → BenchProgress). f k) pg) b c
 
   look_shown : (t : BoardState) (i : ℕ) (r : WordRow) (g : ℕ) (v : View) (after : SeatState) → IsAt s i v idle
-      → Loads (LookTells r) s i v idle (4 * g + number_of r) after t.table → t.progress ≡ s.progress
+      → Loads (LookPost r) s i v idle (4 * g + number_of r) after t.table → t.progress ≡ s.progress
       → ReadsAs total draws t (with_views m (set m.views i (after_look m v r g)))
   look_shown t i claimed_row g v after at st pg =
       let now : after ≡ (with_claimed v (set_bits (64 * ((4 * g + 0) / 4)) (bit_at (get_or W (4 * g + 0) 0)) 64), [])
-      = st.tells.0 in
+      = st.post.0 in
       let same : after ≡ (after_look m v claimed_row g, []) = now
       ∙ ap (λ (l : List ℕ). let x : SeatState = (with_claimed v l, []) in
       x) (shown_alike claimed_bit 0 g (omega arith) sh.claimed) in
@@ -324,7 +324,7 @@ module _ (total draws : ℕ) (s : BoardState) (m : Core) (sh : ReadsAs total dra
       (leaves_homes H st.act st.valid (ap (λ (y : SeatState). y.1) (sym now) ∙ st.slots)) st.table pg refl refl
   look_shown t i filed_row g v after at st pg =
       let now : after ≡ (with_filed v (set_bits (64 * ((4 * g + 1) / 4)) (bit_at (get_or W (4 * g + 1) 0)) 64), [])
-      = st.tells.0 in
+      = st.post.0 in
       let same : after ≡ (after_look m v filed_row g, []) = now
       ∙ ap (λ (l : List ℕ). let x : SeatState = (with_filed v l, []) in x) (shown_alike filed_bit 1 g (omega arith)
       sh.filed) in
@@ -332,17 +332,17 @@ module _ (total draws : ℕ) (s : BoardState) (m : Core) (sh : ReadsAs total dra
       (leaves_homes H st.act st.valid (ap (λ (y : SeatState). y.1) (sym now) ∙ st.slots)) st.table pg refl refl
   look_shown t i taken_row g v after at st pg =
       let now : after ≡ (with_taken v (set_bits (64 * ((4 * g + 2) / 4)) (bit_at (get_or W (4 * g + 2) 0)) 64), [])
-      = st.tells.0 in
+      = st.post.0 in
       let same : after ≡ (after_look m v taken_row g, []) = now
       ∙ ap (λ (l : List ℕ). let x : SeatState = (with_taken v l, []) in x) (shown_alike taken_bit 2 g (omega arith)
       sh.taken) in
       load_shown t i (4 * g + 2) v (after_look m v taken_row g) after st.act at same
       (leaves_homes H st.act st.valid (ap (λ (y : SeatState). y.1) (sym now) ∙ st.slots)) st.table pg refl refl
 
-  count_shown : (t : BoardState) (i : ℕ) (v : View) (after : SeatState) → IsAt s i v idle → Loads CountTells s i v idle
+  count_shown : (t : BoardState) (i : ℕ) (v : View) (after : SeatState) → IsAt s i v idle → Loads CountPost s i v idle
       0 after t.table → t.progress ≡ s.progress → ReadsAs total draws t m
   count_shown t i v after (e, p) st pg =
-      let now : after ≡ (v, []) = st.tells.0 in let homes = leaves_homes H st.act st.valid
+      let now : after ≡ (v, []) = st.post.0 in let homes = leaves_homes H st.act st.valid
       (ap (λ (y : SeatState). y.1) (sym now) ∙ st.slots) in
       let got : (vs : List View) → vs ≡ m.views → ReadsAs total draws t (with_views m vs) → ReadsAs total draws t m
       = λ vs q z. subst (λ (y : List View). ReadsAs total draws t (with_views m y)) q z in
@@ -355,7 +355,7 @@ module _ (total draws : ℕ) (s : BoardState) (m : Core) (sh : ReadsAs total dra
   module _ (r : Invariant total m) where
     -- `ReadsAs` holds after a filing
     file_shown : (t : BoardState) (i n : ℕ) (b : Block) (v : View) (after : SeatState) → IsAt s i v (has_put n b)
-        → Sets FileTells s i v (has_put n b) 1 n after t.table → t.progress ≡ update s.progress i idle
+        → Sets FilePost s i v (has_put n b) 1 n after t.table → t.progress ≡ update s.progress i idle
         → ReadsAs total draws t (after_file_step m i n b v)
     file_shown t i n b v after (e, p) st pg =
         let one : v.pending ≡ n ∷ [] = (subst (IsViewAt v) p (sh.calls i v e)).0 in
@@ -366,7 +366,7 @@ module _ (total draws : ℕ) (s : BoardState) (m : Core) (sh : ReadsAs total dra
         let t0 : taken_bit (m.stage n) ≡ 0 = omega (arith, f0, r.stages.taken_is_filed n) in
         let low : n < total = r.stages.in_range n (omega (arith, c1)) in
         let near : 4 * (n / 64) + 1 < length W = near_number n 1 low (omega arith) in
-        let now : after ≡ (after_filing v n b, []) = (st.tells n (record { word = refl; mask = refl }) b refl).1 in
+        let now : after ≡ (after_filing v n b, []) = (st.post n (record { word = refl; mask = refl }) b refl).1 in
         let homes : homes_after H ((n, Some b) ∷ []) st.act ≡ set H n (some (Some b)) = gives_home H st.act n (Some b)
         st.valid (ap (λ (y : SeatState). y.1) (sym now) ∙ st.slots) in
         let pt : (j : ℕ) → update m.progress i idle j ≡ t.progress j = λ j. ap (λ (y : BenchProgress). cond (j == i)
@@ -383,7 +383,8 @@ module _ (total draws : ℕ) (s : BoardState) (m : Core) (sh : ReadsAs total dra
         (turns filed_bit 1 n Filed refl near sh.filed)
         (stays taken_bit 2 (marked 1 W n) n Filed (sym t0) (row 1 n near (omega arith) 2 (omega arith)
         (λ z. omega arith)) sh.taken)
-        (each n (λ j. j < total → get_elem? (set H n (some (Some b))) j ≡ some (home_of (update m.home n (filled b) j)))
+        (cases_at n (λ j. j < total → get_elem? (set H n (some (Some b))) j ≡ some
+        (home_of (update m.home n (filled b) j)))
         (λ l. set_here H n (some (Some b)) (omega (arith, low, size)) ∙ ap (λ (y : Slot). some (home_of y))
         (sym (update_here m.home n (filled b))))
         (λ j ne l. set_else H n j (some (Some b)) ne ∙ (sh.homes j l ∙ ap (λ (y : Slot). some (home_of y))
@@ -393,7 +394,7 @@ module _ (total draws : ℕ) (s : BoardState) (m : Core) (sh : ReadsAs total dra
 
     -- `ReadsAs` holds after a take
     take_shown : (t : BoardState) (i n : ℕ) (v : View) (after : SeatState) → n < total → IsAt s i v idle
-        → 0 < occurrences n v.filed → Sets TakeTells s i v idle 2 n after t.table → t.progress ≡ update s.progress i
+        → 0 < occurrences n v.filed → Sets TakePost s i v idle 2 n after t.table → t.progress ≡ update s.progress i
         (after_taking n after.1)
         → (x : ℕ) (c : Option Block) → taken_bit (m.stage n) ≡ x → m.content n ≡ c → ReadsAs total draws t
         (after_take_step m i n v x c)
@@ -401,8 +402,8 @@ module _ (total draws : ℕ) (s : BoardState) (m : Core) (sh : ReadsAs total dra
         let near : 4 * (n / 64) + 2 < length W = near_number n 2 low (omega arith) in
         let f1 : filed_bit (m.stage n) ≡ 1 = r.stages.saw_filed i v (has_view i v e) n saw in
         let c1 : claimed_bit (m.stage n) ≡ 1 = omega (arith, f1, r.stages.pending_once n, r.stages.bit n) in
-        let full = r.contents.filed_is_home n f1 is in let b : Block = full.0 in
-        let told = (st.tells n (record { word = refl; mask = refl })).0 (sym (sh.taken n) ∙ is) in
+        let full = r.contents.filed_is_stored n f1 is in let b : Block = full.0 in
+        let told = (st.post n (record { word = refl; mask = refl })).0 (sym (sh.taken n) ∙ is) in
         let b' : Block = told.0 in
         let found : after ≡ (after_take v n b', (n, Some b') ∷ []) = told.3 in
         let took = takes_home H st.act n (Some b') st.valid (ap (λ (y : SeatState). y.1) (sym found) ∙ st.slots) in
@@ -427,7 +428,7 @@ module _ (total draws : ℕ) (s : BoardState) (m : Core) (sh : ReadsAs total dra
         (stays filed_bit 1 (marked 2 W n) n Taken (sym f1) (row 2 n near (omega arith) 1 (omega arith)
         (λ z. omega arith)) sh.filed)
         (turns taken_bit 2 n Taken refl near sh.taken)
-        (each n (λ j. j < total → get_elem? (homes_after H [] st.act) j ≡ some (home_of (update m.home n away j)))
+        (cases_at n (λ j. j < total → get_elem? (homes_after H [] st.act) j ≡ some (home_of (update m.home n away j)))
         (λ l. took.out ∙ ap (λ (y : Slot). some (home_of y)) (sym (update_here m.home n away)))
         (λ j ne l. took.others j ne ∙ (sh.homes j l ∙ ap (λ (y : Slot). some (home_of y))
         (sym (update_else m.home n away j ne)))))
@@ -436,7 +437,7 @@ module _ (total draws : ℕ) (s : BoardState) (m : Core) (sh : ReadsAs total dra
         (λ j ne. ap (λ (f : ℕ → BenchProgress). f j) pg' ∙ update_else s.progress i (has_taken n b) j ne))
     take_shown t i n v after low (e, p) saw st pg (suc zero) c is has =
         let near : 4 * (n / 64) + 2 < length W = near_number n 2 low (omega arith) in
-        let now : after ≡ (with_taken v (n ∷ []), []) = (st.tells n (record { word = refl; mask = refl })).1
+        let now : after ≡ (with_taken v (n ∷ []), []) = (st.post n (record { word = refl; mask = refl })).1
         (sym (sh.taken n) ∙ is) in
         let pg' : t.progress ≡ update s.progress i idle = pg
         ∙ ap (λ (y : SeatState). update s.progress i (after_taking n y.1)) now in
@@ -445,7 +446,7 @@ module _ (total draws : ℕ) (s : BoardState) (m : Core) (sh : ReadsAs total dra
         (with_taken v (n ∷ [])) H st.table now (leaves_homes H st.act st.valid (ap (λ (y : SeatState). y.1) (sym now)
         ∙ st.slots)))
         (length-set W (4 * (n / 64) + 2) _) (all_again 2 n (omega arith) near (sym (sh.taken n) ∙ is))
-        (each i (λ j. t.progress j ≡ s.progress j) (ap (λ (f : ℕ → BenchProgress). f i) pg'
+        (cases_at i (λ j. t.progress j ≡ s.progress j) (ap (λ (f : ℕ → BenchProgress). f i) pg'
         ∙ (update_here s.progress i idle ∙ sym p)) (λ j ne. ap (λ (f : ℕ → BenchProgress). f j) pg'
         ∙ update_else s.progress i idle j ne)) refl refl
     take_shown t i n v after low at saw st pg (suc (suc x)) c is has = absurd
@@ -476,10 +477,10 @@ module _ (total draws : ℕ) (s : BoardState) (m : Core) (sh : ReadsAs total dra
 
   -- `ReadsAs` holds after a slot is returned to the table
   give_shown : (t : BoardState) (i n : ℕ) (b : Block) (v : View) (after : SeatState) → IsAt s i v (has_lifted n b)
-      → Loads GiveTells s i v (has_lifted n b) 0 after t.table → t.progress ≡ update s.progress i idle
+      → Loads GivePost s i v (has_lifted n b) 0 after t.table → t.progress ≡ update s.progress i idle
       → ReadsAs total draws t (record m { home = update m.home n empty; progress = update m.progress i idle })
   give_shown t i n b v after (e, p) st pg =
-      let now : after ≡ (v, []) = st.tells in let out : Option Block = None in
+      let now : after ≡ (v, []) = st.post in let out : Option Block = None in
       let homes : homes_after H ((n, None) ∷ []) st.act ≡ set H n (some out) = gives_home H st.act n None st.valid
       (ap (λ (y : SeatState). y.1) (sym now) ∙ st.slots) in
       let pt : (j : ℕ) → update m.progress i idle j ≡ t.progress j = λ j. ap (λ (y : BenchProgress). cond (j == i) idle
@@ -495,7 +496,7 @@ module _ (total draws : ℕ) (s : BoardState) (m : Core) (sh : ReadsAs total dra
       ∙ ap (λ (ws : List ℕ). let x : TableState = record { words = ws; homes = set H n (some out); views = set V i v }
       in x) (loaded W 0))
       refl (length-set H n (some out)) sh.drawn sh.claimed sh.filed sh.taken
-      (each n (λ j. j < total → get_elem? (set H n (some out)) j ≡ some (home_of (update m.home n empty j)))
+      (cases_at n (λ j. j < total → get_elem? (set H n (some out)) j ≡ some (home_of (update m.home n empty j)))
       (λ l. set_here H n (some out) (omega (arith, l, size)) ∙ ap (λ (y : Slot). some (home_of y))
       (sym (update_here m.home n empty)))
       (λ j ne l. set_else H n j (some out) ne ∙ (sh.homes j l ∙ ap (λ (y : Slot). some (home_of y))
@@ -577,9 +578,9 @@ module _ (total draws : ℕ) (s : BoardState) (m : Core) (sh : ReadsAs total dra
   simulates r t (BoardEvent.split i) (v, at, is) = subst (Goal (BoardEvent.split i)) (sym is) (split_shown i v at)
   simulates r t (BoardEvent.join i j) (v, w, ne, at, bt, is) = subst (Goal (BoardEvent.join i j)) (sym is)
       (join_shown i j v w ne at bt)
-  simulates r t (BoardEvent.claim i n b) (v, after, low, at, rich, st, pg) = (
+  simulates r t (BoardEvent.claim i n b) (v, after, low, at, has_share, st, pg) = (
     after_claim_step m i n b v (claimed_bit (m.stage n)),
-    (v, low, has_view i v at.0, rich, pending_none i v at, refl),
+    (v, low, has_view i v at.0, has_share, pending_none i v at, refl),
     claim_shown t i n b v after low at st (claimed_bit (m.stage n)) refl
         (pg ∙ ap (λ (x : ℕ). update s.progress i (after_claiming n b x)) (sym (sh.claimed n))),
   )
@@ -602,15 +603,15 @@ module _ (total draws : ℕ) (s : BoardState) (m : Core) (sh : ReadsAs total dra
     look_shown t i row g v after
         at st pg,
   )
-  simulates r t (BoardEvent.draw i d) (v, after, low, at, rich, st, pg) = (
+  simulates r t (BoardEvent.draw i d) (v, after, low, at, has_share, st, pg) = (
     after_draw_step m i d v (m.drawn d),
-    (v, low, has_view i v at.0, rich, refl),
+    (v, low, has_view i v at.0, has_share, refl),
     draw_shown t i d v after low at st
         (m.drawn d) refl pg,
   )
-  simulates r t (BoardEvent.take i n) (v, after, low, at, rich, saw, st, pg) = (
+  simulates r t (BoardEvent.take i n) (v, after, low, at, has_share, saw, st, pg) = (
     after_take_step m i n v (taken_bit (m.stage n)) (m.content n),
-    (v, has_view i v at.0, rich, saw, refl),
+    (v, has_view i v at.0, has_share, saw, refl),
     take_shown r t i n v after low at saw st pg (taken_bit (m.stage n)) (m.content n) refl refl,
   )
   simulates r t (BoardEvent.lift i n) (v, b, at, is) = let own : IsViewAt v (has_taken n b) = subst (IsViewAt v) at.1

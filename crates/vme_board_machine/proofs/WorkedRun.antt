@@ -16,7 +16,7 @@ use Rattle.vme_core.specs.Machine.{idle, has_claimed, has_put, has_taken, has_li
 use Rattle.vme_core.proofs.ViewChanges.{cons_none}
 use Rattle.vme_board.specs.Words.{mask_of}
 use Rattle.vme_board.specs.Views.{SameBlocks}
-use Rattle.vme_board.specs.Tells.{SeatState, IsAtBit}
+use Rattle.vme_board.specs.Postconditions.{SeatState, IsAtBit}
 use Rattle.vme_board.proofs.Bits.{one_number}
 use Rattle.vme_board_machine.specs.Steps.{BoardState, Takes}
 use Rattle.vme_board_machine.specs.Worked.{IsWorked}
@@ -144,7 +144,7 @@ module _ (b c : Block) (own : b.number ≡ 0) where
       valid = refl;
       slots = refl;
       table = refl;
-      tells = λ n at. named 0 n (λ m. (bit_at 0 (m % 64) ≡ 0 → (occurrences m (numbers first.list) ≡ 0)
+      post = λ n at. named 0 n (λ m. (bit_at 0 (m % 64) ≡ 0 → (occurrences m (numbers first.list) ≡ 0)
           × (◌≡◌ {A = SeatState} (claimer, (0, None) ∷ []) (after_claim first m, (m, None) ∷ [])))
           × (bit_at 0 (m % 64) ≡ 1 → ◌≡◌ {A = SeatState} (claimer, (0, None) ∷ []) (with_claimed first (m ∷ []), [])))
           ((λ _. (refl, refl)), λ z. let q : 0 ≡ 1 = z in absurd (omega (arith, q))) at;
@@ -164,7 +164,7 @@ module _ (b c : Block) (own : b.number ≡ 0) where
       valid = tt;
       slots = refl;
       table = refl;
-      tells = λ n at. named 0 n (λ m. (bit_at 1 (m % 64) ≡ 0 → (occurrences m (numbers second.list) ≡ 0)
+      post = λ n at. named 0 n (λ m. (bit_at 1 (m % 64) ≡ 0 → (occurrences m (numbers second.list) ≡ 0)
           × (◌≡◌ {A = SeatState} (loser, []) (after_claim second m, (m, None) ∷ [])))
           × (bit_at 1 (m % 64) ≡ 1 → ◌≡◌ {A = SeatState} (loser, []) (with_claimed second (m ∷ []), [])))
           ((λ z. let q : 1 ≡ 0 = z in absurd (omega (arith, q))), λ _. refl) at;
@@ -187,7 +187,7 @@ module _ (b c : Block) (own : b.number ≡ 0) where
       valid = tt;
       slots = refl;
       table = refl;
-      tells = λ n at x has. let same : b ≡ x = ap (block_in b) has in
+      post = λ n at x has. let same : b ≡ x = ap (block_in b) has in
           subst (FiledAs n) same (named 1 n (λ m. FiledAs m b) (refl, refl, omega arith, λ m y z p q. absurd q) at);
     },
     refl,
@@ -203,7 +203,7 @@ module _ (b c : Block) (own : b.number ≡ 0) where
       valid = tt;
       slots = refl;
       table = refl;
-      tells = (refl, (λ n same h. absurd (omega (arith, h))), λ n same h. absurd (omega (arith, h)));
+      post = (refl, (λ n same h. absurd (omega (arith, h))), λ n same h. absurd (omega (arith, h)));
     },
     refl,
   )
@@ -221,7 +221,7 @@ module _ (b c : Block) (own : b.number ≡ 0) where
       valid = refl;
       slots = refl;
       table = refl;
-      tells = λ n at. named 2 n (λ m. (bit_at 0 (m % 64) ≡ 0 → (x : Block) × (x.number ≡ m)
+      post = λ n at. named 2 n (λ m. (bit_at 0 (m % 64) ≡ 0 → (x : Block) × (x.number ≡ m)
           × (occurrences m (numbers looker.takes) ≡ 0)
           × (◌≡◌ {A = SeatState} (taker, (0, Some b) ∷ []) (after_take looker m x, (m, Some x) ∷ []))
           × (length looker.takes < 1) × SameBlocks taker)
@@ -245,7 +245,7 @@ module _ (b c : Block) (own : b.number ≡ 0) where
       valid = tt;
       slots = refl;
       table = refl;
-      tells = refl;
+      post = refl;
     },
     refl,
   )

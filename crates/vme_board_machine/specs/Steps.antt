@@ -12,8 +12,8 @@ use Rattle.vme_core.specs.Machine.{WordRow, claimed_row, filed_row, taken_row}
 use Rattle.vme_core.specs.Machine.{BoardEvent, make, split, join, claim, put, file, look, draw, take, lift, give, load}
 use Rattle.vme_core.specs.Views.{first_view, empty_view, kept_view, split_view, joint_view}
 use Rattle.vme_board.specs.Words.{bit_of, mask_of}
-use Rattle.vme_board.specs.Tells.{SeatState, TableStep, DrawTells, ClaimTells, FileTells, TakeTells, GiveTells}
-use Rattle.vme_board.specs.Tells.{ClaimedLookTells, FiledLookTells, TakenLookTells, CountTells}
+use Rattle.vme_board.specs.Postconditions.{SeatState, TableStep, DrawPost, ClaimPost, FilePost, TakePost, GivePost}
+use Rattle.vme_board.specs.Postconditions.{ClaimedLookPost, FiledLookPost, TakenLookPost, CountPost}
 
 abbrev pub TableState : Type 0
 TableState = State (Option Block) View
@@ -43,27 +43,27 @@ abbrev pub IsAt : BoardState → ℕ → View → BenchProgress → Type 0
 IsAt s i v p = (get_elem? s.table.views i ≡ some v) × (s.progress i ≡ p)
 
 -- a step's postcondition: over the step, the seat's state before, the word's value before, and the seat's state after
-abbrev pub StepTells : Type 1
-StepTells = TableStep → SeatState → ℕ → SeatState → Type 0
+abbrev pub Postcondition : Type 1
+Postcondition = TableStep → SeatState → ℕ → SeatState → Type 0
 
 -- The bench i makes one atomic step on the word j, which becomes `change` of its value. The bench gets any new view,
--- and its slots change by any valid act, if the postcondition `Tells` holds.
-pub record IsStep (Tells : StepTells) (change : ℕ → ℕ) (s : TableState) (i : ℕ) (seat : SeatState) (j mask : ℕ)
+-- and its slots change by any valid act, if the postcondition `Post` holds.
+pub record IsStep (Post : Postcondition) (change : ℕ → ℕ) (s : TableState) (i : ℕ) (seat : SeatState) (j mask : ℕ)
     (after : SeatState) (t : TableState) : Type 0 where
   pub act : Act (Option Block)
   pub valid : Valid s.homes seat.1 act
   pub slots : after.1 ≡ carried_after seat.1 act
   pub table : t ≡ stepped s j (change (slice_index_or s.words j 0)) i seat.1 after.0 act
-  pub tells : Tells (step (length s.homes) j mask 0 none) seat (slice_index_or s.words j 0) after
+  pub post : Post (step (length s.homes) j mask 0 none) seat (slice_index_or s.words j 0) after
 
 -- the bench i sets the bit of n in the row k
-abbrev pub Sets : StepTells → BoardState → ℕ → View → BenchProgress → ℕ → ℕ → SeatState → TableState → Type 0
-Sets Tells s i v p k n after t =
-    IsStep Tells (λ x. bit_or x (mask_of n)) s.table i (v, held p) (4 * (n / 64) + k) (mask_of n) after t
+abbrev pub Sets : Postcondition → BoardState → ℕ → View → BenchProgress → ℕ → ℕ → SeatState → TableState → Type 0
+Sets Post s i v p k n after t =
+    IsStep Post (λ x. bit_or x (mask_of n)) s.table i (v, held p) (4 * (n / 64) + k) (mask_of n) after t
 
 -- the bench i loads the word j
-abbrev pub Loads : StepTells → BoardState → ℕ → View → BenchProgress → ℕ → SeatState → TableState → Type 0
-Loads Tells s i v p j after t = IsStep Tells (λ x. x) s.table i (v, held p) j 0 after t
+abbrev pub Loads : Postcondition → BoardState → ℕ → View → BenchProgress → ℕ → SeatState → TableState → Type 0
+Loads Post s i v p j after t = IsStep Post (λ x. x) s.table i (v, held p) j 0 after t
 
 -- where a bench is in its call after it tried to claim n for b; the last argument is the bit that it found
 abbrev pub after_claiming : ℕ → Block → ℕ → BenchProgress
@@ -82,10 +82,10 @@ number_of claimed_row = 0
 number_of filed_row = 1
 number_of taken_row = 2
 
-abbrev pub LookTells : WordRow → StepTells
-LookTells claimed_row = ClaimedLookTells
-LookTells filed_row = FiledLookTells
-LookTells taken_row = TakenLookTells
+abbrev pub LookPost : WordRow → Postcondition
+LookPost claimed_row = ClaimedLookPost
+LookPost filed_row = FiledLookPost
+LookPost taken_row = TakenLookPost
 
 module _ (total draws : ℕ) where
   -- Benches of a board of `total` numbers and `draws` draws take the step of this event, which leads from s to t. A
@@ -105,36 +105,36 @@ module _ (total draws : ℕ) where
       })
   Takes s (claim i n b) t =
       (v : View) × (after : SeatState) × (n < total) × IsAt s i v idle × (v.share ≢ [])
-      × Sets ClaimTells s i v idle 0 n after t.table
+      × Sets ClaimPost s i v idle 0 n after t.table
       × (t.progress ≡ update s.progress i (after_claiming n b (bit_of 0 s.table.words n)))
   Takes s (put i n b) t =
       (v : View) × IsAt s i v (has_claimed n b) × (t ≡ record s { progress = update s.progress i (has_put n b) })
   Takes s (file i n b) t =
       (v : View) × (after : SeatState) × IsAt s i v (has_put n b)
-      × Sets FileTells s i v (has_put n b) 1 n after t.table
+      × Sets FilePost s i v (has_put n b) 1 n after t.table
       × (t.progress ≡ update s.progress i idle)
   Takes s (look i row g) t =
       (v : View) × (after : SeatState) × IsAt s i v idle
-      × Loads (LookTells row) s i v idle (4 * g + number_of row) after t.table
+      × Loads (LookPost row) s i v idle (4 * g + number_of row) after t.table
       × (t.progress ≡ s.progress)
   Takes s (draw i d) t =
       (v : View) × (after : SeatState) × (d < draws) × IsAt s i v idle × (v.share ≢ [])
-      × Sets DrawTells s i v idle 3 d after t.table
+      × Sets DrawPost s i v idle 3 d after t.table
       × (t.progress ≡ s.progress)
   Takes s (take i n) t =
       (v : View) × (after : SeatState) × (n < total) × IsAt s i v idle × (v.share ≢ []) × (0 < occurrences n v.filed)
-      × Sets TakeTells s i v idle 2 n after t.table
+      × Sets TakePost s i v idle 2 n after t.table
       × (t.progress ≡ update s.progress i (after_taking n after.1))
   Takes s (lift i n) t =
       (v : View) × (b : Block) × IsAt s i v (has_taken n b)
       × (t ≡ record s { progress = update s.progress i (has_lifted n b) })
   Takes s (give i n) t =
       (v : View) × (b : Block) × (after : SeatState) × IsAt s i v (has_lifted n b)
-      × Loads GiveTells s i v (has_lifted n b) 0 after t.table
+      × Loads GivePost s i v (has_lifted n b) 0 after t.table
       × (t.progress ≡ update s.progress i idle)
   Takes s (load i) t =
       (v : View) × (after : SeatState) × IsAt s i v idle
-      × Loads CountTells s i v idle 0 after t.table
+      × Loads CountPost s i v idle 0 after t.table
       × (t.progress ≡ s.progress)
 
   -- the steps of these events, one after the other, lead from s to t

@@ -3,10 +3,10 @@
 //!
 //! # Parts
 //!
-//! - `specs/Steps.antt`: what benches do to the table, event by event: the word that a call loads or
-//!   in which it sets a bit, the postcondition of that step (`Tells` of vme_board, which its calls
-//!   name), and where the bench is in its call after it. A step may give its bench any view, and
-//!   check out or return slots in any way that satisfies the postcondition.
+//! - `specs/Steps.antt`: what benches do to the table, event by event: the word that a call loads
+//!   or in which it sets a bit, the postcondition of that step (`Postconditions` of vme_board,
+//!   which its calls name), and where the bench is in its call after it. A step may give its bench
+//!   any view, and check out or return slots in any way that satisfies the postcondition.
 //! - `specs/ReadsAs.antt`: when such a state corresponds to one of the machine: the bits of a row are
 //!   those of the stages, the table's slots are its slots, the views are its views.
 //! - `specs/Worked`: a worked run.

@@ -22,8 +22,8 @@ use Rattle.vme_summary.specs.declared.running_verdict.RunningVerdict.{RunningVer
 use Rattle.vme_summary.specs.declared.span.Span.{Span}
 use Rattle.vme_summary.proofs.Chains.{not_empty, steps-append}
 use Rattle.vme_summary.proofs.Progressing.{come_join, span_first}
-use Rattle.vme_book.specs.BookState.{AreJoinedTo, ArePlaced, ComeTo, HaveSpans, IsEnd, IsBlockNumbered, IsPast, Keeps}
-use Rattle.vme_book.specs.BookState.{StandsForSome}
+use Rattle.vme_book.specs.BookState.{AreAtOwnNumbers, AreJoinedTo, HaveSpans, IsBlockNumbered, IsEnd, IsJudgedPrefix}
+use Rattle.vme_book.specs.BookState.{IsStateAfter, Keeps, StandsForSome}
 use Rattle.vme_book.specs.declared.joined.JoinedPrefix.{JoinedPrefix}
 use Rattle.vme_book.specs.declared.places.BookSlots.{BookSlots}
 
@@ -186,12 +186,12 @@ many_steps (p ∷ inserted) (b ∷ bs) e short =
     let others = many_steps inserted bs rest (λ n c f. short (suc n) c f) in
     omega (arith, here, others, length-append b.steps (joined_steps bs))
 
-pub few_steps : (inserted : List (Option Block)) (bs : List Block) → ArePlaced inserted → take (length bs) inserted
-    ≡ map Some bs → length bs ≤ 4096 → length (joined_steps bs) ≤ 268435456
+pub few_steps : (inserted : List (Option Block)) (bs : List Block) → AreAtOwnNumbers inserted
+    → take (length bs) inserted ≡ map Some bs → length bs ≤ 4096 → length (joined_steps bs) ≤ 268435456
 few_steps inserted bs placed e few = let k = many_steps inserted bs e (λ n b f. (placed.each n b f).short) in
     omega (arith, k, few)
 
-pub steps_fit : (inserted : List (Option Block)) (bs : List Block) (b : Block) (m n : ℕ) → ArePlaced inserted
+pub steps_fit : (inserted : List (Option Block)) (bs : List Block) (b : Block) (m n : ℕ) → AreAtOwnNumbers inserted
     → take (length bs) inserted ≡ map Some bs → stored inserted (length bs) ≡ Some b
     → m ≡ length (joined_steps bs) → n ≡ length (joined_steps (b ∷ [])) → m + n ≤ 268435456
 steps_fit inserted bs b m n placed e f p q =
@@ -236,9 +236,9 @@ joined_after inserted old new xs b a there more stands =
 
 -- where p is the state of judging after one more block, block b, it is that after the first n + 1 blocks
 pub past_one_more : (inserted : List (Option Block)) (progress : Option RunningVerdict) (p : RunningVerdict) (n : ℕ)
-    (bs : List Block) (b : Block) {before : Option RunningVerdict} → IsPast inserted before n bs → stored inserted
-    (length bs) ≡ Some b
-    → progress ≡ Some p → HasCome p (bs ++ b ∷ []) → IsPast inserted progress (n + 1) (bs ++ b ∷ [])
+    (bs : List Block) (b : Block) {before : Option RunningVerdict} → IsJudgedPrefix inserted before n bs
+    → stored inserted (length bs) ≡ Some b
+    → progress ≡ Some p → HasCome p (bs ++ b ∷ []) → IsJudgedPrefix inserted progress (n + 1) (bs ++ b ∷ [])
 past_one_more inserted progress p n bs b past there e come =
     record {
       prefix = record {
@@ -246,7 +246,7 @@ past_one_more inserted progress p n bs b past there e come =
         join = come_join p (bs ++ b ∷ []) come;
       };
       count = length-append bs (b ∷ []) ∙ ap (λ (k : ℕ). k + 1) past.count;
-      come = subst (λ (q : Option RunningVerdict). ComeTo q (bs ++ b ∷ [])) (sym e) come;
+      come = subst (λ (q : Option RunningVerdict). IsStateAfter q (bs ++ b ∷ [])) (sym e) come;
     }
 
 -- the span that is read at the number of a block stands for that block
@@ -316,7 +316,8 @@ same_or_other m n = grind arith
 
 -- what stays true where block b is inserted at number n
 module _ (inserted : List (Option Block)) (n : ℕ) (b : Block) (below : n < length inserted) where
-  pub placed_set : ArePlaced inserted → b.number ≡ n → length b.steps ≤ 65536 → ArePlaced (set inserted n (Some b))
+  pub placed_set : AreAtOwnNumbers inserted → b.number ≡ n → length b.steps ≤ 65536
+      → AreAtOwnNumbers (set inserted n (Some b))
   placed_set p number short =
       let long = length-set inserted n (Some b) in
       let few = p.few in
@@ -362,7 +363,7 @@ module _ (inserted : List (Option Block)) (n : ℕ) (b : Block) (below : n < len
   ]
 
   pub past_set : (progress : Option RunningVerdict) (m : ℕ) (bs : List Block) → stored inserted n ≡ None
-      → IsPast inserted progress m bs → IsPast (set inserted n (Some b)) progress m bs
+      → IsJudgedPrefix inserted progress m bs → IsJudgedPrefix (set inserted n (Some b)) progress m bs
   past_set progress m bs free p = record {
     prefix = record { there = there_set bs free p.prefix.there; join = p.prefix.join };
     count = p.count;
@@ -378,7 +379,7 @@ pub spans_later : (inserted : List (Option Block)) (spans : List (Option Span)) 
 spans_later inserted spans from to h le = record { as_many = h.as_many; each = λ n b m e. h.each n b (omega arith) e }
 
 pub longest_at : (inserted : List (Option Block)) (progress : Option RunningVerdict) (n : ℕ) (bs : List Block)
-    → IsPast inserted progress n bs → IsEnd inserted n bs → IsLongestPrefix inserted bs
+    → IsJudgedPrefix inserted progress n bs → IsEnd inserted n bs → IsLongestPrefix inserted bs
 longest_at inserted progress n bs past end = longest_of inserted bs past.prefix (subst (λ (k : ℕ). IsEnd inserted k bs)
     (sym past.count) end)
 
@@ -386,9 +387,9 @@ longest_at inserted progress n bs past end = longest_of inserted bs past.prefix 
 pub record IsReady (inserted : List (Option Block)) (spans : List (Option Span)) (progress : Option RunningVerdict)
     (reached : ℕ) (start : JoinedPrefix) (bs xs : List Block) : Type 0 where
   pub some : 0 < length inserted
-  pub placed : ArePlaced inserted
+  pub placed : AreAtOwnNumbers inserted
   pub waiting : HaveSpans inserted spans start.count
-  pub past : IsPast inserted progress reached bs
+  pub past : IsJudgedPrefix inserted progress reached bs
   pub joined : AreJoinedTo inserted start xs
   pub within : start.count ≤ reached
 
@@ -422,11 +423,10 @@ ready_after old progress reached before start bs xs ys blocks spans n b s kept s
     ys) (sym same) ready
 
 pub keeps_after : (places : BookSlots) (progress further : Option RunningVerdict) (reached end : ℕ)
-    (start : JoinedPrefix) (bs cs xs : List Block) → IsReady places.blocks.items places.spans.items progress reached
-    start
-    bs xs → reached ≤ end
-    → IsPast places.blocks.items further end cs → IsEnd places.blocks.items end cs → Keeps places further end start cs
-    xs
+    (start : JoinedPrefix) (bs cs xs : List Block)
+    → IsReady places.blocks.items places.spans.items progress reached start bs xs → reached ≤ end
+    → IsJudgedPrefix places.blocks.items further end cs → IsEnd places.blocks.items end cs
+    → Keeps places further end start cs xs
 keeps_after places progress further reached end start bs cs xs ready le past ended =
     let within = ready.within in
     record {
@@ -454,7 +454,7 @@ same_front places xs ys e f n =
     no_length (x ∷ l) e = absurd (omega arith)
 
 -- a span of all blocks starts at number 0
-pub starts_at_zero : (inserted : List (Option Block)) (s : Span) (bs : List Block) → ArePlaced inserted → inserted
+pub starts_at_zero : (inserted : List (Option Block)) (s : Span) (bs : List Block) → AreAtOwnNumbers inserted → inserted
     ≡ map Some bs → 0 < length inserted → SpanStandsFor s bs → first_number s ≡ 0
 starts_at_zero inserted s [] placed e some stands = let none = ap length e in absurd (omega arith)
 starts_at_zero inserted s (b ∷ bs) placed e some stands =

@@ -17,7 +17,7 @@ pub record IsBlockNumbered (n : ℕ) (b : Block) : Type 0 where
   pub short : length b.steps ≤ 65536
 
 -- there are at most 4,096 numbers, and each inserted block is at its number
-pub record ArePlaced (inserted : List (Option Block)) : Type 0 where
+pub record AreAtOwnNumbers (inserted : List (Option Block)) : Type 0 where
   pub few : length inserted ≤ 4096
   pub each : (n : ℕ) (b : Block) → stored inserted n ≡ Some b → IsBlockNumbered n b
 
@@ -28,28 +28,29 @@ pub record HaveSpans (inserted : List (Option Block)) (spans : List (Option Span
       → (s : Span) × (stored spans n ≡ Some s) × SpanStandsFor s (b ∷ [])
 
 -- the state of judging is that after the blocks bs; None if bs is empty
-abbrev pub ComeTo : Option RunningVerdict → List Block → Type 0
-ComeTo None bs = bs ≡ []
-ComeTo (Some p) bs = HasCome p bs
+abbrev pub IsStateAfter : Option RunningVerdict → List Block → Type 0
+IsStateAfter None bs = bs ≡ []
+IsStateAfter (Some p) bs = HasCome p bs
 
 -- bs is the first n blocks, which are inserted and join, and p is the state of judging after them
-pub record IsPast (inserted : List (Option Block)) (p : Option RunningVerdict) (n : ℕ) (bs : List Block) : Type 0 where
+pub record IsJudgedPrefix (inserted : List (Option Block)) (p : Option RunningVerdict) (n : ℕ) (bs : List Block)
+    : Type 0 where
   pub prefix : IsJoinedPrefix inserted bs
   pub count : length bs ≡ n
-  pub come : ComeTo p bs
+  pub come : IsStateAfter p bs
 
 -- the block at number n, if one is inserted, doesn't join the blocks bs
 pub record IsEnd (inserted : List (Option Block)) (n : ℕ) (bs : List Block) : Type 0 where
   pub torn : (b : Block) → stored inserted n ≡ Some b → ¬ BlocksJoin (bs ++ b ∷ [])
 
 -- `progress` is the state of judging after the first n blocks, which are inserted and join
-abbrev pub IsPastSome : List (Option Block) → Option RunningVerdict → ℕ → Type 0
-IsPastSome inserted progress n = (bs : List Block) × IsPast inserted progress n bs
+abbrev pub HasJudgedPrefix : List (Option Block) → Option RunningVerdict → ℕ → Type 0
+HasJudgedPrefix inserted progress n = (bs : List Block) × IsJudgedPrefix inserted progress n bs
 
 -- `progress` is the state of judging after the first n blocks, which are inserted and join; block n isn't inserted, or
 -- doesn't join them
-abbrev pub IsPastMost : List (Option Block) → Option RunningVerdict → ℕ → Type 0
-IsPastMost inserted progress n = (bs : List Block) × IsPast inserted progress n bs × IsEnd inserted n bs
+abbrev pub HasJudgedLongest : List (Option Block) → Option RunningVerdict → ℕ → Type 0
+HasJudgedLongest inserted progress n = (bs : List Block) × IsJudgedPrefix inserted progress n bs × IsEnd inserted n bs
 
 -- the first n blocks are inserted and join
 abbrev pub FirstJoin : List (Option Block) → ℕ → Type 0
@@ -86,26 +87,26 @@ pub record AreJoinedTo (inserted : List (Option Block)) (joined : JoinedPrefix) 
   pub count : length bs ≡ joined.count
   pub stands : StandsForSome joined.span bs
 
--- `joined` is of some first blocks
-abbrev pub AreSomeJoined : List (Option Block) → JoinedPrefix → Type 0
-AreSomeJoined inserted joined = (xs : List Block) × AreJoinedTo inserted joined xs
+-- the span of `joined` stands for the first blocks, as many as `joined` counts
+abbrev pub StandsForPrefix : List (Option Block) → JoinedPrefix → Type 0
+StandsForPrefix inserted joined = (xs : List Block) × AreJoinedTo inserted joined xs
 
 -- all blocks are inserted, join and are well formed, and have at most `room` steps
-abbrev pub CanRecord : List (Option Block) → ℕ → Type 0
-CanRecord inserted room =
+abbrev pub JoinWithin : List (Option Block) → ℕ → Type 0
+JoinWithin inserted room =
     (bs : List Block) × AllJoin inserted bs × AreSound bs × (length (joined_steps bs) ≤ room)
 
--- all that a book keeps: `come` is the state of judging after the first n blocks, bs, and `start` has joined the first
--- blocks xs
-pub record Keeps (p : BookSlots) (come : Option RunningVerdict) (n : ℕ) (start : JoinedPrefix) (bs xs : List Block)
+-- all that a book keeps: `progress` is the state of judging after the first n blocks, bs, and `start` has joined the
+-- first blocks xs
+pub record Keeps (p : BookSlots) (progress : Option RunningVerdict) (n : ℕ) (start : JoinedPrefix) (bs xs : List Block)
     : Type 0 where
   pub some : 0 < length p.blocks.items
-  pub placed : ArePlaced p.blocks.items
+  pub placed : AreAtOwnNumbers p.blocks.items
   pub waiting : HaveSpans p.blocks.items p.spans.items start.count
-  pub past : IsPast p.blocks.items come n bs
+  pub past : IsJudgedPrefix p.blocks.items progress n bs
   pub ended : IsEnd p.blocks.items n bs
   pub joined : AreJoinedTo p.blocks.items start xs
   pub within : start.count ≤ n
 
-abbrev pub KeepsSome : BookSlots → Option RunningVerdict → ℕ → JoinedPrefix → Type 0
-KeepsSome p progress n start = (bs : List Block) × (xs : List Block) × Keeps p progress n start bs xs
+abbrev pub IsBookState : BookSlots → Option RunningVerdict → ℕ → JoinedPrefix → Type 0
+IsBookState p progress n start = (bs : List Block) × (xs : List Block) × Keeps p progress n start bs xs

@@ -75,11 +75,11 @@ impl Model for Book {
 
     ghost Value = { List (Option Block) };
 
-    ghost use Rattle.vme_book.specs.BookState.{KeepsSome};
+    ghost use Rattle.vme_book.specs.BookState.{IsBookState};
 
     ghost view = { λ a. a.places.blocks.items };
 
-    ghost invariant = { λ a. KeepsSome a.places a.progress a.reached a.joined };
+    ghost invariant = { λ a. IsBookState a.places a.progress a.reached a.joined };
 }
 
 impl Book {
@@ -121,7 +121,7 @@ impl Book {
         }
         if self
             .joined
-            .go_on(alloc, &mut self.places, self.reached)
+            .join_up_to(alloc, &mut self.places, self.reached)
             .is_err()
         {
             return Err((judged, InsertFault::Memory));
@@ -129,7 +129,7 @@ impl Book {
         let (block, span) = judged.into_parts();
         self.places.blocks[number] = Some(block);
         self.places.spans[number] = Some(span);
-        let (progress, reached) = self.places.judged_on(self.progress.take(), self.reached);
+        let (progress, reached) = self.places.judge_from(self.progress.take(), self.reached);
         self.progress = progress;
         self.reached = reached;
         Ok(())
@@ -163,7 +163,7 @@ impl Book {
         }
         if book
             .joined
-            .go_on(alloc, &mut book.places, book.reached)
+            .join_up_to(alloc, &mut book.places, book.reached)
             .is_err()
         {
             return Err((book, CloseFault::Memory));

@@ -1,8 +1,8 @@
 //! The first blocks, joined to one span.
 
 ghost use Rattle.std.specs.Prelude.{◌≡◌, ◌+◌, ◌<◌, ◌≤◌, None, OnOk, OnErr, IfErr};
-ghost use Rattle.vme_book.specs.BookState.{AreSomeJoined, ArePlaced, FirstJoin, FitsAfter, HaveSpans, IsJoinedTo};
-ghost use Rattle.vme_book.specs.BookState.{JoinsAfter, StandsAsBefore};
+ghost use Rattle.vme_book.specs.BookState.{AreAtOwnNumbers, FirstJoin, FitsAfter, HaveSpans, IsJoinedTo};
+ghost use Rattle.vme_book.specs.BookState.{JoinsAfter, StandsAsBefore, StandsForPrefix};
 
 use crate::places::BookSlots;
 use std::alloc::{AllocError, Global};
@@ -62,20 +62,20 @@ impl JoinedPrefix {
     }
 
     /// Takes over the spans of the next blocks, those with numbers below `end`. Without memory it takes over fewer.
-    pub(crate) fn go_on(
+    pub(crate) fn join_up_to(
         &mut self,
         alloc: Global,
         places: &mut BookSlots,
         end: usize,
     ) -> Result<(), AllocError>
-        requires placed { ArePlaced places.old.blocks.items }
+        requires placed { AreAtOwnNumbers places.old.blocks.items }
         requires waiting { HaveSpans places.old.blocks.items places.old.spans.items self.old.count }
-        requires joined { AreSomeJoined places.old.blocks.items self.old }
+        requires joined { StandsForPrefix places.old.blocks.items self.old }
         requires prefix { FirstJoin places.old.blocks.items end }
         requires within { self.old.count ≤ end }
         ensures blocks { places.new.blocks ≡ places.old.blocks }
         ensures waiting { HaveSpans places.old.blocks.items places.new.spans.items self.new.count }
-        ensures joined { AreSomeJoined places.old.blocks.items self.new }
+        ensures joined { StandsForPrefix places.old.blocks.items self.new }
         ensures within { self.new.count ≤ end }
         ensures all { OnOk result (self.new.count ≡ end) }
     {

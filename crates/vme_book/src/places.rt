@@ -2,7 +2,7 @@
 
 ghost use Rattle.std.specs.Prelude.{◌≡◌, ◌≤◌, replicate, IfOk, IfSome, None, MatchOption};
 ghost use Rattle.vme_book.specs.Inserted.{AllThere, IsLeastMissing};
-ghost use Rattle.vme_book.specs.BookState.{ArePlaced, HaveSpans, IsPastMost, IsPastSome};
+ghost use Rattle.vme_book.specs.BookState.{AreAtOwnNumbers, HasJudgedLongest, HasJudgedPrefix, HaveSpans};
 
 use std::alloc::{AllocError, Global};
 use vme_summary::{RunningVerdict, Span};
@@ -53,16 +53,16 @@ impl BookSlots {
 
     /// Continues judging with the blocks from number `from` on, as long as they are inserted and join those before. The
     /// result is the state of judging after them, and the first number that isn't judged.
-    pub(crate) fn judged_on(
+    pub(crate) fn judge_from(
         &self,
         progress: Option<RunningVerdict>,
         from: usize,
     ) -> (Option<RunningVerdict>, usize)
-        requires placed { ArePlaced self.now.blocks.items }
+        requires placed { AreAtOwnNumbers self.now.blocks.items }
         requires waiting { HaveSpans self.now.blocks.items self.now.spans.items from }
-        requires past { IsPastSome self.now.blocks.items progress from }
+        requires past { HasJudgedPrefix self.now.blocks.items progress from }
         ensures within { from ≤ result.1 }
-        ensures past { IsPastMost self.now.blocks.items result.0 result.1 }
+        ensures past { HasJudgedLongest self.now.blocks.items result.0 result.1 }
     {
         let mut progress = progress;
         for number in from..self.blocks.len() {

@@ -3,7 +3,7 @@
 ghost use Rattle.std.specs.Prelude.{◌≡◌, ◌<◌, List, [], length, map, Some, vec_capacity};
 ghost use Rattle.vme_trace.specs.declared.block.Block.{Block as Stored};
 ghost use Rattle.vme_summary.specs.Joins.{joined_trace};
-ghost use Rattle.vme_book.specs.BookState.{ArePlaced, CanRecord};
+ghost use Rattle.vme_book.specs.BookState.{AreAtOwnNumbers, JoinWithin};
 
 use vme_trace::{Block, Capture, Step};
 
@@ -11,8 +11,8 @@ use vme_trace::{Block, Capture, Step};
 /// has the capacity for them.
 pub(crate) fn recording(blocks: Vec<Option<Block>>, room: Vec<Step>) -> Capture
     requires some { 0 < length blocks.items }
-    requires placed { ArePlaced blocks.items }
-    requires join { CanRecord blocks.items (vec_capacity room) }
+    requires placed { AreAtOwnNumbers blocks.items }
+    requires join { JoinWithin blocks.items (vec_capacity room) }
     requires empty { room.items ≡ [] }
     ensures { (bs : List Stored) → blocks.items ≡ map Some bs → joined_trace bs ≡ Some result }
 {

@@ -10,14 +10,15 @@ use Rattle.vme_trace.proofs.EveryRule.{every-rule, same-rule}
 use Rattle.vme_trace.proofs.Ranges.{any-fails, fails-any, least-none}
 use Rattle.vme_trace.proofs.Changing.{level-kept}
 use Rattle.vme_trace.proofs.SpanEnds.{slots_at}
-use Rattle.vme_cert.specs.Words.{A, BERR, Change, Class, DS0, DS1, DTACK, H1, High, LWORD, Level, Levels, Low, Rule, S1}
-use Rattle.vme_cert.specs.Words.{S3, Stretch, Trace, U1, U2, U3, U4, Unknown, WRITE, any, break_at, breaks, class_of}
-use Rattle.vme_cert.specs.Words.{cycle_runs, cycle_starts, ends_span, every, falls, has_edge, has_line, high}
-use Rattle.vme_cert.specs.Words.{highest_address, is_answer, is_broken, is_changed, is_extended, is_high, is_judged}
-use Rattle.vme_cert.specs.Words.{is_known_on, is_low, is_needed, is_selected, is_short, is_standard, known, least}
-use Rattle.vme_cert.specs.Words.{level, level_at, levels_at, line_count, low, modifier_of, needs_of, none, rises}
-use Rattle.vme_cert.specs.Words.{rule_break, rule_number, same_level, time_at, transfer_starts}
-use Rattle.vme_cert.specs.RulesByLine.{rules_on, speaks_of, asks_for_edge}
+use Rattle.vme_cert.specs.Vocabulary.{A, BERR, Change, Class, DS0, DS1, DTACK, H1, High, LWORD, Level, Levels, Low}
+use Rattle.vme_cert.specs.Vocabulary.{Rule, S1, S3, Stretch, Trace, U1, U2, U3, U4, Unknown, WRITE, any, break_at}
+use Rattle.vme_cert.specs.Vocabulary.{breaks, class_of, cycle_runs, cycle_starts, ends_span, every, falls, has_edge}
+use Rattle.vme_cert.specs.Vocabulary.{has_line, high, highest_address, is_answer, is_broken, is_changed, is_extended}
+use Rattle.vme_cert.specs.Vocabulary.{is_high, is_judged, is_known_on, is_low, is_needed, is_selected, is_short}
+use Rattle.vme_cert.specs.Vocabulary.{is_standard, known, least, level, level_at, levels_at, line_count, low}
+use Rattle.vme_cert.specs.Vocabulary.{modifier_of, needs_of, none, rises, rule_break, rule_number, same_level, time_at}
+use Rattle.vme_cert.specs.Vocabulary.{transfer_starts}
+use Rattle.vme_cert.specs.RulesByLine.{may_be_broken_on, needs_edge, rules_on}
 use Rattle.vme_cert.specs.Instant.{LeadToInstant, IsBusOf}
 use Rattle.vme_cert.specs.State.{IsStateOf}
 use Rattle.vme_cert.specs.declared.bus.Bus.{Bus}
@@ -31,16 +32,17 @@ use Rattle.vme_cert.proofs.Fields.{starts-is}
 abbrev listed : Rule → ℕ → Bool
 listed r l = list_any (λ y. rule_number y == rule_number r) (rules_on l)
 
-tried : (r : Rule) → agree_below (listed r) (speaks_of r) line_count ≡ true
+tried : (r : Rule) → agree_below (listed r) (may_be_broken_on r) line_count ≡ true
 unfolding rules_on
-tried r = every-rule (λ q. agree_below (listed q) (speaks_of q) line_count) refl r
+tried r = every-rule (λ q. agree_below (listed q) (may_be_broken_on q) line_count) refl r
 
-pub listed-is : (l : ℕ) (r : Rule) → l < line_count → listed r l ≡ speaks_of r l
-listed-is l r below = agree_below_at (listed r) (speaks_of r) line_count l (tried r) below
+pub listed-is : (l : ℕ) (r : Rule) → l < line_count → listed r l ≡ may_be_broken_on r l
+listed-is l r below = agree_below_at (listed r) (may_be_broken_on r) line_count l (tried r) below
 
--- each rule on the row of a line speaks of it
-pub listed-speaks : (l k : ℕ) → l < line_count → k < length (rules_on l) → speaks_of (get_or (rules_on l) k U1) l ≡ true
-listed-speaks l k below within =
+-- each rule on the row of a line may be broken on it
+pub listed-may_be_broken : (l k : ℕ) → l < line_count → k < length (rules_on l)
+    → may_be_broken_on (get_or (rules_on l) k U1) l ≡ true
+listed-may_be_broken l k below within =
     let r = get_or (rules_on l) k U1 in
     sym (listed-is l r below)
     ∙ list_any_at (λ y. rule_number y == rule_number r) (rules_on l) k U1 within (same (rule_number r))
@@ -48,10 +50,10 @@ listed-speaks l k below within =
     same : (n : ℕ) → (n == n) ≡ true
     same n = grind (arith, nat_tests)
 
--- each rule that speaks of a line is on the line's row
-pub speaks-listed : (l : ℕ) (r : Rule) → l < line_count → speaks_of r l ≡ true
+-- each rule that may be broken on a line is on the line's row
+pub may_be_broken-listed : (l : ℕ) (r : Rule) → l < line_count → may_be_broken_on r l ≡ true
     → (k : ℕ) × (k < length (rules_on l)) × (get_or (rules_on l) k U1 ≡ r)
-speaks-listed l r below spoken = found (rules_on l) (listed-is l r below ∙ spoken)
+may_be_broken-listed l r below its_line = found (rules_on l) (listed-is l r below ∙ its_line)
   where
     found : (rs : List Rule) → list_any (λ y. rule_number y == rule_number r) rs ≡ true
         → (k : ℕ) × (k < length rs) × (get_or rs k U1 ≡ r)
@@ -89,47 +91,48 @@ needs_31 v = by_class (class_of v) refl
     by_class class.F e = rw e (omega arith)
 
 -- a cycle needs no line outside of 5 to 44, as tests on numbers
-outside : (l k : ℕ) (m : Bool) → k ≤ 31 → (nat_le 5 l && nat_le l 44) ≡ false
+unneeded_outside : (l k : ℕ) (m : Bool) → k ≤ 31 → (nat_le 5 l && nat_le l 44) ≡ false
     → ((l == 5) || (m && ((nat_le 6 l && nat_le l 11) || (l == 12))) || (nat_le 14 l && nat_le l (13 + k))) ≡ false
-outside l k m most h = grind (arith, nat_tests)
+unneeded_outside l k m most h = grind (arith, nat_tests)
 
 -- a cycle needs only lines 5 to 44: IACK*, the modifier, LWORD* and the address
 not_needed : (v : Levels) (l : ℕ) → (nat_le 5 l && nat_le l 44) ≡ false → is_needed v l ≡ false
 unfolding is_needed
-not_needed v l h = outside l (needs_of v).highest (needs_of v).modifier (needs_31 v) h
+not_needed v l h = unneeded_outside l (needs_of v).highest (needs_of v).modifier (needs_31 v) h
 
 -- a transfer moves no line outside of 159 to 190, as tests on numbers
-apart : (l : ℕ) (w x y u v : Bool) → (nat_le 159 l && nat_le l 190) ≡ false
+unmoved_outside : (l : ℕ) (w x y u v : Bool) → (nat_le 159 l && nat_le l 190) ≡ false
     → ((w && ((x && (nat_le 159 l && nat_le l 166)) || (y && (nat_le 167 l && nat_le l 174)))) || (u && v && x && y
     && (nat_le 159 l && nat_le l 190))) ≡ false
-apart l w x y u v h = grind (arith, nat_tests)
+unmoved_outside l w x y u v h = grind (arith, nat_tests)
 
 -- a transfer moves only data lines, 159 to 190
 not_selected : (v : Levels) (l : ℕ) → (nat_le 159 l && nat_le l 190) ≡ false → is_selected v l ≡ false
 unfolding is_selected
 not_selected v l h =
-    apart l (is_high (level_at v LWORD)) (is_low (level_at v DS0)) (is_low (level_at v DS1)) (is_low (level_at v LWORD))
-    (is_low (level_at v (A 1))) h
+    unmoved_outside l (is_high (level_at v LWORD)) (is_low (level_at v DS0)) (is_low (level_at v DS1))
+    (is_low (level_at v LWORD)) (is_low (level_at v (A 1))) h
 
 abbrev holds : Trace → Stretch → ℕ → ℕ → ℕ → Bool
 holds t span j l i = cycle_starts t span i && cycle_runs t span i j && none (is_answer t span) i (j + 1) && is_needed
     (levels_at t i) l
 
--- a rule isn't broken on a line of which it doesn't speak
+-- a rule isn't broken on a line on which it can't be
 module _ (t : Trace) (span : Stretch) (j l : ℕ) where
-  pub unspoken : (r : Rule) → is_judged span j ≡ true → speaks_of r l ≡ false → is_broken t span r j l ≡ false
+  pub unbroken_elsewhere : (r : Rule) → is_judged span j ≡ true → may_be_broken_on r l ≡ false
+      → is_broken t span r j l ≡ false
   unfolding is_broken
-  unspoken U1 n h = rw (eq_fails j span.end
+  unbroken_elsewhere U1 n h = rw (eq_fails j span.end
       (ltb-true j span.end (and_parts (nat_lt span.start j) (nat_lt j span.end) n).1)) refl
-  unspoken U2 n h = rw (not_needed (levels_at t j) l h, and_off) refl
-  unspoken U4 n h = rw (not_selected (levels_at t j) l h) refl
-  unspoken S1 n h = ap (λ b. has_edge t l j && b)
+  unbroken_elsewhere U2 n h = rw (not_needed (levels_at t j) l h, and_off) refl
+  unbroken_elsewhere U4 n h = rw (not_selected (levels_at t j) l h) refl
+  unbroken_elsewhere S1 n h = ap (λ b. has_edge t l j && b)
       (fails-any (holds t span j l) (span.start + 1) j
       (λ i a b. rw (not_needed (levels_at t i) l h)
       (and_off (cycle_starts t span i && cycle_runs t span i j && none (is_answer t span) i (j + 1)))))
       ∙ and_off (has_edge t l j)
-  unspoken S3 n h = rw (not_selected (levels_at t (j - 1)) l h) refl
-  unspoken r n h = rw h refl
+  unbroken_elsewhere S3 n h = rw (not_selected (levels_at t (j - 1)) l h) refl
+  unbroken_elsewhere r n h = rw h refl
 
 -- ---- A rule that asks for an edge isn't broken on a line that doesn't change. And what follows where no rule is
 -- broken.
@@ -155,15 +158,15 @@ module _ (t : Trace) (l j : ℕ) (still : level t l j ≡ level t l (j - 1)) whe
   unfolding has_edge
   no_edge = rw still (one_level (level t l (j - 1))).2
 
-  pub unbroken-still : (span : Stretch) (r : Rule) → asks_for_edge r ≡ true → is_broken t span r j l ≡ false
+  pub unbroken_without_edge : (span : Stretch) (r : Rule) → needs_edge r ≡ true → is_broken t span r j l ≡ false
   unfolding is_broken
-  unbroken-still span S1 e = rw no_edge refl
-  unbroken-still span U1 e = absurd (cc)
-  unbroken-still span U2 e = absurd (cc)
-  unbroken-still span U3 e = absurd (cc)
-  unbroken-still span U4 e = absurd (cc)
-  unbroken-still span H1 e = absurd (cc)
-  unbroken-still span r e = first_of (rw (no_fall, and_off), rw (no_rise, and_off), rw (no_edge, and_off))
+  unbroken_without_edge span S1 e = rw no_edge refl
+  unbroken_without_edge span U1 e = absurd (cc)
+  unbroken_without_edge span U2 e = absurd (cc)
+  unbroken_without_edge span U3 e = absurd (cc)
+  unbroken_without_edge span U4 e = absurd (cc)
+  unbroken_without_edge span H1 e = absurd (cc)
+  unbroken_without_edge span r e = first_of (rw (no_fall, and_off), rw (no_rise, and_off), rw (no_edge, and_off))
 
 -- a line that isn't among the changes stays
 pub stays : (t : Trace) (bus : Bus) (cs : List Change) (l : ℕ) → IsBusOf t bus → LeadToInstant bus cs
@@ -198,14 +201,15 @@ module _ (t : Trace) (span : Stretch) (j l : ℕ) where
       none true b = refl
       none false b = refl
 
-  pub breaks-unspoken : (r : Rule) → is_judged span j ≡ true → speaks_of r l ≡ false → false ≡ breaks t span r j l
-  breaks-unspoken r judged h = sym (breaks-off r (unspoken t span j l r judged h))
+  pub breaks-elsewhere : (r : Rule) → is_judged span j ≡ true → may_be_broken_on r l ≡ false
+      → false ≡ breaks t span r j l
+  breaks-elsewhere r judged h = sym (breaks-off r (unbroken_elsewhere t span j l r judged h))
 
   -- U3 is broken on no line if it isn't broken on WRITE*
   pub direction-only : is_judged span j ≡ true → is_broken t span U3 j WRITE ≡ false → is_broken t span U3 j l ≡ false
   direction-only judged h = decide (l == WRITE)
       (λ e. subst (λ k. is_broken t span U3 j k ≡ false) (sym (eqb-true l WRITE e)) h)
-      (λ e. unspoken t span j l U3 judged e)
+      (λ e. unbroken_elsewhere t span j l U3 judged e)
 
   -- H1 is broken on no line if it isn't broken on DTACK* and BERR*
   pub answers-only : is_judged span j ≡ true → is_broken t span H1 j DTACK ≡ false
@@ -213,7 +217,7 @@ module _ (t : Trace) (span : Stretch) (j l : ℕ) where
   answers-only judged h k = decide (l == DTACK)
       (λ e. subst (λ k. is_broken t span H1 j k ≡ false) (sym (eqb-true l DTACK e)) h)
       (λ e. decide (l == BERR) (λ f. subst (λ k. is_broken t span H1 j k ≡ false) (sym (eqb-true l BERR f)) k)
-      (λ f. unspoken t span j l H1 judged (rw (e, f) refl)))
+      (λ f. unbroken_elsewhere t span j l H1 judged (rw (e, f) refl)))
 
   pub unstarted-direction : transfer_starts t span j ≡ false → is_broken t span U3 j l ≡ false
   unfolding is_broken
@@ -263,31 +267,31 @@ module _ (t : Trace) (span : Stretch) (bus : Bus) (state : State) (cs : List Cha
   j : ℕ
   j = bus.instant
 
-  pub unbroken : ((r : Rule) (l : ℕ) → is_changed cs l ≡ true → speaks_of r l ≡ true
+  pub unbroken : ((r : Rule) (l : ℕ) → is_changed cs l ≡ true → may_be_broken_on r l ≡ true
       → is_broken t span r bus.instant l ≡ false)
       → ((l : ℕ) → breaks t span U2 bus.instant l ≡ false) → ((l : ℕ) → is_broken t span U3 bus.instant l ≡ false)
       → ((l : ℕ) → is_broken t span H1 bus.instant l ≡ false) → ((l : ℕ) → breaks t span U4 bus.instant l ≡ false)
       → (r : Rule) (l : ℕ) → l < line_count → breaks t span r bus.instant l ≡ false
-  unbroken changes u2 u3 h1 u4 r l below = by_edge (asks_for_edge r) refl
+  unbroken changes u2 u3 h1 u4 r l below = by_edge (needs_edge r) refl
     where
-      starts : (q : Rule) → asks_for_edge q ≡ false → breaks t span q bus.instant l ≡ false
-      starts U1 e = breaks-off t span bus.instant l U1 (unspoken t span bus.instant l U1 h.judged refl)
+      starts : (q : Rule) → needs_edge q ≡ false → breaks t span q bus.instant l ≡ false
+      starts U1 e = breaks-off t span bus.instant l U1 (unbroken_elsewhere t span bus.instant l U1 h.judged refl)
       starts U2 e = u2 l
       starts U3 e = breaks-off t span bus.instant l U3 (u3 l)
       starts U4 e = u4 l
       starts H1 e = breaks-off t span bus.instant l H1 (h1 l)
       starts q e = absurd (cc)
 
-      by_spoken : asks_for_edge r ≡ true → is_changed cs l ≡ true → (b : Bool) → speaks_of r l ≡ b
+      by_line : needs_edge r ≡ true → is_changed cs l ≡ true → (b : Bool) → may_be_broken_on r l ≡ b
           → is_broken t span r bus.instant l ≡ false
-      by_spoken e c true s = changes r l c s
-      by_spoken e c false s = unspoken t span bus.instant l r h.judged s
+      by_line e c true s = changes r l c s
+      by_line e c false s = unbroken_elsewhere t span bus.instant l r h.judged s
 
-      by_change : asks_for_edge r ≡ true → (b : Bool) → is_changed cs l ≡ b → is_broken t span r bus.instant l ≡ false
-      by_change e true c = by_spoken e c (speaks_of r l) refl
-      by_change e false c = unbroken-still t l bus.instant (stays t bus cs l h.at lead c) span r e
+      by_change : needs_edge r ≡ true → (b : Bool) → is_changed cs l ≡ b → is_broken t span r bus.instant l ≡ false
+      by_change e true c = by_line e c (may_be_broken_on r l) refl
+      by_change e false c = unbroken_without_edge t l bus.instant (stays t bus cs l h.at lead c) span r e
 
-      by_edge : (b : Bool) → asks_for_edge r ≡ b → breaks t span r bus.instant l ≡ false
+      by_edge : (b : Bool) → needs_edge r ≡ b → breaks t span r bus.instant l ≡ false
       by_edge true e = breaks-off t span bus.instant l r (by_change e (is_changed cs l) refl)
       by_edge false e = starts r e
 
@@ -297,7 +301,7 @@ has-is t bus l at = ap (λ (v : Levels). has_line v.slots l) at.levels
     ∙ ap (λ slots. has_line slots l) (slots_at t bus.instant)
 
 -- for the goals of `breaks`
-pub ruleset asked_breaks = (breaks-absent, breaks-is, breaks-unspoken, has-is)
+pub ruleset asked_breaks = (breaks-absent, breaks-is, breaks-elsewhere, has-is)
 
 -- for the goals of `is_transfer_start_broken`
 pub ruleset started = (answers-only, direction-only, unstarted-answers, unstarted-direction, starts-is, or_false)

@@ -9,26 +9,27 @@ use Rattle.std.proofs.lemmas.List.{append-nil, length-take-le, take_all}
 use Rattle.std.proofs.lemmas.Option.{slice_get_read, slice_get_within}
 use Rattle.std.proofs.Math.Seq.{get_or-append_seam}
 use Rattle.std.proofs.lemmas.Bool.{lt-ltb, le-ltb, and_parts}
-use Rattle.vme_trace.proofs.JudgedSpans.{AreInOrder, starts_before_end, ends_within, spans_in_order, span_holds}
-use Rattle.vme_trace.proofs.JudgedSpans.{span_runs, awaits-first, awaits-next, busy-no_start, end-after}
-use Rattle.vme_trace.proofs.JudgedSpans.{end-within, reset-holds_at, span_reset, spans_from_first}
+use Rattle.vme_trace.proofs.JudgedSpans.{AreInOrder, starts_before_end, ends_within, spans_in_order, span_unlost}
+use Rattle.vme_trace.proofs.JudgedSpans.{span_unreset, awaits-first, awaits-next, busy-no_start, end-after}
+use Rattle.vme_trace.proofs.JudgedSpans.{end-within, reset-unlost_at, span_reset, spans_from_first}
 use Rattle.vme_trace.proofs.JudgedSpans.{spans_next}
 use Rattle.vme_trace.proofs.Changing.{lost-least}
 use Rattle.vme_trace.proofs.Ranges.{any-fails, any-holds, fails-any, least-alike, least-found, least-none-any}
 use Rattle.vme_trace.proofs.Ranges.{those-none, those-split}
 use Rattle.vme_trace.proofs.OpenTransfers.{suc-sub-one, is_judged-holds}
-use Rattle.vme_trace.proofs.SpanEnds.{break_before-stays, end-is, end-past, u1-lost, u1-held}
+use Rattle.vme_trace.proofs.SpanEnds.{break_before-stays, end-is, end-past, u1-lost, u1-unlost}
 use Rattle.vme_trace.proofs.CutBlocks.{levels_after-append, levels_at-taken, taken_more}
 use Rattle.vme_listing.proofs.FoundBreaks.{least_break-judged}
-use Rattle.vme_cert.specs.Words.{Break, Change, Conforming, IsSpanOf, ListedVerdict, NeverIdle, Row, Rule, Stretch}
-use Rattle.vme_cert.specs.Words.{Trace, U1, Verdict, all_rules, any, are_changes, break_at, break_before, breaks}
-use Rattle.vme_cert.specs.Words.{changed, has_line, is_broken, is_judged, is_lost, is_reset_at, judged_spans}
-use Rattle.vme_cert.specs.Words.{last_instant, least, least_break, least_of, levels_at, line_count, listed_end}
-use Rattle.vme_cert.specs.Words.{listing_before, listing_by, listing_of_spans, loses_control, loses_control_at}
-use Rattle.vme_cert.specs.Words.{lost_among, outcome_of, recorded_rows, rows_before, rows_of_span, rule_break, span_end}
-use Rattle.vme_cert.specs.Words.{span_from, stops_at, time_at, AS, BBSY, Broken, IsCapture, Levels, Reset, Step}
-use Rattle.vme_cert.specs.Words.{Unreadable, Version, is_idle, is_idle_at, is_reset, is_step, is_unreadable}
-use Rattle.vme_cert.specs.Words.{Awaits, malformed_step, span_starts, spans_after, those, with_steps}
+use Rattle.vme_cert.specs.Vocabulary.{Break, Change, Conforming, IsSpanOf, ListedVerdict, NeverIdle, Row, Rule, Stretch}
+use Rattle.vme_cert.specs.Vocabulary.{Trace, U1, Verdict, all_rules, any, are_changes, break_at, break_before, breaks}
+use Rattle.vme_cert.specs.Vocabulary.{changed, has_line, is_broken, is_judged, is_lost, is_reset_at, judged_spans}
+use Rattle.vme_cert.specs.Vocabulary.{last_instant, least, least_break, least_of, levels_at, line_count, listed_end}
+use Rattle.vme_cert.specs.Vocabulary.{listing_before, listing_by, listing_of_spans, loses_control, loses_control_at}
+use Rattle.vme_cert.specs.Vocabulary.{lost_among, outcome_of, recorded_rows, rows_before, rows_of_span, rule_break}
+use Rattle.vme_cert.specs.Vocabulary.{span_end, span_from, stops_at, time_at, AS, BBSY, Broken, IsCapture, Levels}
+use Rattle.vme_cert.specs.Vocabulary.{Reset, Step, Unreadable, Version, is_idle, is_idle_at, is_reset, is_step}
+use Rattle.vme_cert.specs.Vocabulary.{is_unreadable, Awaits, malformed_step, span_starts, spans_after, those}
+use Rattle.vme_cert.specs.Vocabulary.{with_steps}
 use Rattle.vme_cert.specs.Checking.{reset_at, rows_by, rows_from, Checks, HasCompared, HasFollowed, IsEnded}
 use Rattle.vme_cert.specs.Checking.{IsInStretch, IsPhase, IsWaiting, MayGoOn, last_levels}
 use Rattle.vme_cert.specs.Following.{rows_to, CanClose, Follows}
@@ -175,15 +176,15 @@ module _ (t : Trace) (span : Stretch) where
           sym (ap (λ (x : Break). x.instant) same)
 
   -- no rule is broken at an instant that isn't judged, if no line is lost there
-  unbroken : (j : ℕ) → is_judged span j ≡ false → ((l : ℕ) → l < line_count → breaks t span U1 j l ≡ false) → (r : Rule)
-      (l : ℕ) → l < line_count → breaks t span r j l ≡ false
+  unjudged_unbroken : (j : ℕ) → is_judged span j ≡ false → ((l : ℕ) → l < line_count → breaks t span U1 j l ≡ false)
+      → (r : Rule) (l : ℕ) → l < line_count → breaks t span r j l ≡ false
   unfolding breaks
-  unbroken j out still U1 l below = still l below
-  unbroken j out still r l below = rw out refl
+  unjudged_unbroken j out still U1 l below = still l below
+  unjudged_unbroken j out still r l below = rw out refl
 
   pub quiet : (j : ℕ) → is_judged span j ≡ false → ((l : ℕ) → l < line_count → breaks t span U1 j l ≡ false)
       → (rules : List Rule) → break_at t span rules j ≡ None
-  quiet j out still rules = break_at-none t span j (λ r l below. unbroken j out still r l below) rules
+  quiet j out still rules = break_at-none t span j (λ r l below. unjudged_unbroken j out still r l below) rules
 
   -- without a break before `j` or at `j` there is none before `j + 1`
   pub none-on : (rules : List Rule) (j : ℕ) → break_before t span rules j ≡ None → break_at t span rules j ≡ None
@@ -227,8 +228,8 @@ module _ (t : Trace) (s j : ℕ) (is : IsSpanOf t (span_from t s)) (from : s ≤
     (within : suc j ≤ last_instant t) where
   ran : any (stops_at t) (s + 1) (j + 1) ≡ false
   ran = fails-any (stops_at t) (s + 1) (j + 1) (λ i a b. both
-      (span_runs t (span_from t s) i is (omega arith) (omega arith))
-      (span_holds t (span_from t s) i is (omega arith) (omega arith)))
+      (span_unreset t (span_from t s) i is (omega arith) (omega arith))
+      (span_unlost t (span_from t s) i is (omega arith) (omega arith)))
     where
       both : {a b : Bool} → a ≡ false → b ≡ false → (a || b) ≡ false
       both h k = rw (h, k) refl
@@ -262,7 +263,7 @@ module _ (t : Trace) (s : ℕ) (is : IsSpanOf t (span_from t s)) where
         → lost_among (levels_at t (suc j)) cs ≡ least (is_lost (levels_at t (suc j))) 0 line_count
     unfolding loses_control_at is_reset_at
     lost-is j from before few made sound = rw made (lost-least (levels_at t j) cs few sound
-        (span_holds t stretch j is from before) (span_runs t stretch j is from before))
+        (span_unlost t stretch j is from before) (span_unreset t stretch j is from before))
 
     pub at-loss : (n l : ℕ) → s < n → n ≤ stretch.end → n ≤ last_instant t → (levels_at t (n - 1)).slots ≤ 21
         → levels_at t n ≡ changed (levels_at t (n - 1)) cs → are_changes (levels_at t (n - 1)) 0 cs ≡ true
@@ -416,11 +417,11 @@ module _ {Whole Source : Type 0} {gave : Whole → Source → List Row → Type 
 
               u1_at : (n l : ℕ) → h.start < n → l < line_count → loses_control_at t n ≡ false
                   → breaks t span U1 n l ≡ false
-              u1_at (suc m) l after below unlost = u1-held t h.start m unlost l below
+              u1_at (suc m) l after below unlost = u1-unlost t h.start m unlost l below
               u1_at zero l after below unlost = absurd (omega arith)
 
               by_order : (i l : ℕ) → l < line_count → (i ≡ n) ⊎ (n < i) → breaks t span U1 i l ≡ false
-              by_order i l below (inl e) = rw e (u1_at n l h.after below (reset-holds_at t n reset))
+              by_order i l below (inl e) = rw e (u1_at n l h.after below (reset-unlost_at t n reset))
               by_order i l below (inr after) = held t span i l (eq_past i span.end (omega (arith, after, ends)))
 
           whole_span : rows_by t span (least_break t span all_rules) later ≡ rows_to t span n

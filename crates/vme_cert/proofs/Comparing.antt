@@ -6,9 +6,9 @@ use Rattle.std.proofs.lemmas.Bool.Decides.{nat_tests}
 use Rattle.std.proofs.lemmas.Option.{slice_get_past, slice_get_within}
 use Rattle.std.proofs.lemmas.List.{append-nil}
 use Rattle.std.proofs.lemmas.Bool.{eqb-true}
-use Rattle.vme_cert.specs.Words.{Row}
+use Rattle.vme_cert.specs.Vocabulary.{Row}
 use Rattle.vme_cert.specs.Comparing.{Decides, Extends, IsBegun, IsCompared, IsDue, IsGiven, IsGivenNext, IsSame}
-use Rattle.vme_cert.specs.Comparing.{HasComparedRow, same_to, spares}
+use Rattle.vme_cert.specs.Comparing.{HasComparedRow, same_to, without}
 use Rattle.vme_cert.specs.declared.comparison.Comparison.{Comparison}
 use Rattle.vme_cert.specs.declared.comparison.OpenRow.{OpenRow}
 use Rattle.vme_cert.specs.declared.compare.Answer.TheVariants.{Yes, No}
@@ -51,20 +51,20 @@ module _ {A : Type 0} where
   past (x ∷ xs) zero h = absurd (none_some x (sym h))
   past (x ∷ xs) (suc n) h = omega (arith, past xs n h)
 
-spared : (still : ℕ → Bool) (row : OpenRow) (n : ℕ) → spares still (Some row) n ≡ false → (n ≡ row.place) ⊎ (still n
-    ≡ false)
-spared still row n off = decide (n == row.place) (λ f. inl (eqb-true n row.place f)) (λ f. decide (still n)
+without-false : (open_at : ℕ → Bool) (row : OpenRow) (n : ℕ) → without open_at (Some row) n ≡ false
+    → (n ≡ row.place) ⊎ (open_at n ≡ false)
+without-false open_at row n off = decide (n == row.place) (λ f. inl (eqb-true n row.place f)) (λ f. decide (open_at n)
     (λ e. let h : (true && not false) ≡ false = rw (e, f) at off in absurd (cc)) (λ e. inr e))
 
-module _ (given right : List Row) (taken : ℕ) (still : ℕ → Bool) (row : OpenRow) where
+module _ (given right : List Row) (taken : ℕ) (open_at : ℕ → Bool) (row : OpenRow) where
   -- an open row that differs is the least that does, if the least so far doesn't come before it
-  pub compare_row-other : (wrong : Option ℕ) → IsCompared given right taken still wrong → row.place < taken
+  pub compare_row-other : (wrong : Option ℕ) → IsCompared given right taken open_at wrong → row.place < taken
       → row.place ≤ same_to taken wrong → (IsSame given right row.place → ⊥)
-      → IsCompared given right taken (spares still (Some row)) (Some (row.place + 1))
+      → IsCompared given right taken (without open_at (Some row)) (Some (row.place + 1))
   compare_row-other wrong h within sooner other =
       let back : row.place + 1 - 1 ≡ row.place = omega arith in
       record {
-        same = λ n below off. elim (spared still row n off) [
+        same = λ n below off. elim (without-false open_at row n off) [
           | inl e ↦ absurd (omega arith)
           | inr closed ↦ h.same n (omega arith) closed
         ];
@@ -72,10 +72,10 @@ module _ (given right : List Row) (taken : ℕ) (still : ℕ → Bool) (row : Op
       }
 
   -- an open row that doesn't come before the least that differs leaves it as it is
-  pub compare_row-later : (wrong : Option ℕ) → IsCompared given right taken still wrong
-      → same_to taken wrong ≤ row.place → IsCompared given right taken (spares still (Some row)) wrong
+  pub compare_row-later : (wrong : Option ℕ) → IsCompared given right taken open_at wrong
+      → same_to taken wrong ≤ row.place → IsCompared given right taken (without open_at (Some row)) wrong
   compare_row-later wrong h later = record {
-    same = λ n below off. elim (spared still row n off) [
+    same = λ n below off. elim (without-false open_at row n off) [
       | inl e ↦ absurd (omega arith)
       | inr closed ↦ h.same n below closed
     ];
@@ -83,15 +83,15 @@ module _ (given right : List Row) (taken : ℕ) (still : ℕ → Bool) (row : Op
   }
 
 -- `IsCompared` stays if more rows are given and taken, each of them open, and each open row stays open
-pub compared-on : (given more right rights : List Row) (taken next : ℕ) (still now : ℕ → Bool) (wrong : Option ℕ)
+pub compared-on : (given more right rights : List Row) (taken next : ℕ) (open_at now : ℕ → Bool) (wrong : Option ℕ)
     → taken ≤ next → Extends given more taken → Extends right rights taken
-    → ((n : ℕ) → n < next → now n ≡ false → (n < taken) × (still n ≡ false))
-    → IsCompared given right taken still wrong → IsCompared more rights next now wrong
-compared-on given more right rights taken next still now None order extends all kept h = record {
+    → ((n : ℕ) → n < next → now n ≡ false → (n < taken) × (open_at n ≡ false))
+    → IsCompared given right taken open_at wrong → IsCompared more rights next now wrong
+compared-on given more right rights taken next open_at now None order extends all kept h = record {
   same = λ n below off. let was = kept n below off in extends n was.0 ∙ h.same n was.0 was.1 ∙ sym (all n was.0);
   differs = tt;
 }
-compared-on given more right rights taken next still now (Some row) order extends all kept h =
+compared-on given more right rights taken next open_at now (Some row) order extends all kept h =
     let (first, within, other) = h.differs in
     let taken_before : (n : ℕ) → n < row - 1 → n < taken = λ n below. omega (arith, first, within) in
     let last : row - 1 < taken = omega (arith, first, within) in
@@ -107,8 +107,8 @@ compared-on given more right rights taken next still now (Some row) order extend
     }
 
 -- `IsCompared` stays if each open row stays open, and others may be open
-pub compared-fewer : {given right : List Row} {taken : ℕ} {still : ℕ → Bool} {wrong : Option ℕ} (now : ℕ → Bool)
-    → IsCompared given right taken still wrong → ((n : ℕ) → now n ≡ false → still n ≡ false)
+pub compared-fewer : {given right : List Row} {taken : ℕ} {open_at : ℕ → Bool} {wrong : Option ℕ} (now : ℕ → Bool)
+    → IsCompared given right taken open_at wrong → ((n : ℕ) → now n ≡ false → open_at n ≡ false)
     → IsCompared given right taken now wrong
 compared-fewer now h kept = record {
   same = λ n below off. h.same n below (kept n off);
@@ -118,11 +118,12 @@ compared-fewer now h kept = record {
 -- after one row was compared
 module _ {Source : Type 0} {o : Option OpenRow} {edge : Option ℕ} {old new : Comparison Source}
     (s : HasComparedRow o edge old new) where
-  pub compare_row-compared : {given right : List Row} {still : ℕ → Bool}
-      → IsCompared given right old.taken still old.wrong → IsDue given right old.taken edge o
-      → IsCompared given right new.taken (spares still o) new.wrong
-  compare_row-compared {given} {right} {still} h due = subst (λ n. IsCompared given right n (spares still o) new.wrong)
-      (sym s.taken) (s.wrong given right still h due)
+  pub compare_row-compared : {given right : List Row} {open_at : ℕ → Bool}
+      → IsCompared given right old.taken open_at old.wrong → IsDue given right old.taken edge o
+      → IsCompared given right new.taken (without open_at o) new.wrong
+  compare_row-compared {given} {right} {open_at} h due =
+      subst (λ n. IsCompared given right n (without open_at o) new.wrong) (sym s.taken)
+      (s.wrong given right open_at h due)
 
   pub compare_row-given : {Whole : Type 0} {gave : Whole → Source → List Row → Type 0} {is_over : Source → Type 0}
       {whole : Whole} {given : List Row} → IsGiven gave is_over whole given old.source old.taken
@@ -134,15 +135,15 @@ module _ {Source : Type 0} {o : Option OpenRow} {edge : Option ℕ} {old new : C
 -- after one more row was taken
 module _ {Whole Source : Type 0} {gave : Whole → Source → List Row → Type 0} {is_over : Source → Type 0} {right : Row}
     {old new : Comparison Source} {row : OpenRow} (b : IsBegun gave is_over right old new row) where
-  pub begun-compared : {given rights : List Row} {still : ℕ → Bool} (more all : List Row) (now : ℕ → Bool)
-      → IsCompared given rights old.taken still old.wrong → Extends given more old.taken
+  pub begun-compared : {given rights : List Row} {open_at : ℕ → Bool} (more all : List Row) (now : ℕ → Bool)
+      → IsCompared given rights old.taken open_at old.wrong → Extends given more old.taken
       → Extends rights all old.taken
-      → ((n : ℕ) → now n ≡ false → (still n ≡ false) × ((n == row.place) ≡ false))
+      → ((n : ℕ) → now n ≡ false → (open_at n ≡ false) × ((n == row.place) ≡ false))
       → IsCompared more all new.taken now new.wrong
-  begun-compared {given} {rights} {still} more all now h extends others kept =
+  begun-compared {given} {rights} {open_at} more all now h extends others kept =
       subst (λ n. IsCompared more all n now new.wrong) (sym b.taken)
       (subst (λ (w : Option ℕ). IsCompared more all (old.taken + 1) now w) (sym b.wrong)
-      (compared-on given more rights all old.taken (old.taken + 1) still now old.wrong (omega arith) extends others
+      (compared-on given more rights all old.taken (old.taken + 1) open_at now old.wrong (omega arith) extends others
       (λ n below off. (below_last n b.place below (kept n off).1, (kept n off).0)) h))
     where
       below_last : (n : ℕ) → row.place ≡ old.taken → n < old.taken + 1 → (n == row.place) ≡ false → n < old.taken

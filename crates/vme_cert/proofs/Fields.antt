@@ -9,15 +9,14 @@ use Rattle.std.proofs.lemmas.Bool.{le-leb, ltb-true, ltb-false, and_parts}
 use Rattle.vme_trace.proofs.OpenTransfers.{in_transfer-is, ReadsStrobes}
 use Rattle.vme_trace.proofs.Ranges.{any-holds, fails-any, any-step, any-fails, clash, any-least, least-found}
 use Rattle.vme_trace.proofs.JudgedSpans.{span_reads}
-use Rattle.vme_cert.specs.Words.{AS, DS0, DS1, DTACK, High, Level, Low, Stretch, Trace, Unknown, WRITE, answer_falls}
-use Rattle.vme_cert.specs.Words.{answers, answers_of, answers_write, any, class_at, cycle_starts, differ, falls}
-use Rattle.vme_cert.specs.Words.{greatest, high, in_transfer, is_answer, is_answered, is_high, is_judged, is_known}
-use Rattle.vme_cert.specs.Words.{has_earlier_answer, is_low, is_write, known, last_before, lasts, level, levels_at, low}
-use Rattle.vme_cert.specs.Words.{needs_of}
-use Rattle.vme_cert.specs.Words.{none, rises, breaks_read_modify_write, strobe_rises, strobes_high, those}
-use Rattle.vme_cert.specs.Words.{transfer_starts, changes_direction}
-use Rattle.vme_cert.specs.Words.{BERR, IsSpanOf, Needs, cycle_of, cycle_runs, in_cycle, is_block_class, is_interrupt}
-use Rattle.vme_cert.specs.Words.{is_needed, is_single, is_within}
+use Rattle.vme_cert.specs.Vocabulary.{AS, DS0, DS1, DTACK, High, Level, Low, Stretch, Trace, Unknown, WRITE}
+use Rattle.vme_cert.specs.Vocabulary.{answer_falls, answers, answers_of, answers_write, any, class_at, cycle_starts}
+use Rattle.vme_cert.specs.Vocabulary.{differ, falls, greatest, high, in_transfer, is_answer, is_answered, is_high}
+use Rattle.vme_cert.specs.Vocabulary.{is_judged, is_known, has_earlier_answer, is_low, is_write, known, last_before}
+use Rattle.vme_cert.specs.Vocabulary.{lasts, level, levels_at, low, needs_of, none, rises, breaks_read_modify_write}
+use Rattle.vme_cert.specs.Vocabulary.{strobe_rises, strobes_high, those, transfer_starts, changes_direction, BERR}
+use Rattle.vme_cert.specs.Vocabulary.{IsSpanOf, Needs, cycle_of, cycle_runs, in_cycle, is_block_class, is_interrupt}
+use Rattle.vme_cert.specs.Vocabulary.{is_needed, is_single, is_within}
 use Rattle.vme_cert.specs.State.{is_many, writes_first, AreClosed, IsOpenTransfer, IsTransfer, IsCycle, IsLastCycle}
 use Rattle.vme_cert.specs.State.{is_acknowledged, is_data_held, is_unanswered}
 use Rattle.vme_cert.specs.Instant.{starts_transfer}
@@ -865,12 +864,12 @@ module _ (t : Trace) (span : Stretch) (is : IsSpanOf t span) where
 
 -- ---- The parts of a rule, as the code tests them and as they are defined.
 
-module _ {s : Bool} (spoken : s ≡ true) {a b x y : Bool} (first : a ≡ x) (second : b ≡ y) where
+module _ {s : Bool} (its_line : s ≡ true) {a b x y : Bool} (first : a ≡ x) (second : b ≡ y) where
   pub two : (a && b) ≡ (s && x && y)
-  two = rw (spoken, first, second) refl
+  two = rw (its_line, first, second) refl
 
   pub net : {c z : Bool} → c ≡ z → (a && b && c) ≡ ((s && x) && y && z)
-  net third = rw (spoken, first, second, third) refl
+  net third = rw (its_line, first, second, third) refl
 
 pub either : {a b x y : Bool} → a ≡ x → b ≡ y → (a || b) ≡ (x || y)
 either e f = rw (e, f) refl

@@ -9,16 +9,16 @@ use Rattle.vme_trace.proofs.Ranges.{clash, least-is, least-none, any-fails, any-
 use Rattle.vme_trace.proofs.Ranges.{least-none-any}
 use Rattle.vme_trace.specs.declared.class.Class.TheVariants as class
 use Rattle.vme_listing.specs.declared.row.Row.TheVariants as variant
-use Rattle.vme_cert.specs.Words.{AnswerLine, Berr, DS0, DS1, DTACK, Direction, Dtack, Lanes, One, Read, Row, Start}
-use Rattle.vme_cert.specs.Words.{Stretch, Three, Trace, Two, Version, Write, answer_falls, answered_row, answers, any}
-use Rattle.vme_cert.specs.Words.{cycle_of, cycle_starts, data_at, data_of, falls, greatest, high, is_answer}
-use Rattle.vme_cert.specs.Words.{is_answered, is_judged, known, lanes_at, lasts, least, level, levels_at, low, rises}
-use Rattle.vme_cert.specs.Words.{row_in, rows_in, strobes_high, transfer_row, transfer_starts, without_data, AS, BBSY}
-use Rattle.vme_cert.specs.Words.{Class, IsSpanOf, Levels, OpenTenure, PendingTransfer, Tenure, class_of, cycle_row}
-use Rattle.vme_cert.specs.Words.{cycle_rows, rows_before, tenure_level, tenure_row, tenure_rows, tenure_slot}
-use Rattle.vme_cert.specs.Words.{tenure_starts, WRITE, is_write, transfer_rows}
-use Rattle.vme_cert.specs.Comparing.{Extends, HasComparedRow, IsBegun, IsCompared, IsDue, IsGiven, is_at, spares}
-use Rattle.vme_cert.specs.Ended.{ended}
+use Rattle.vme_cert.specs.Vocabulary.{AnswerLine, Berr, DS0, DS1, DTACK, Direction, Dtack, Lanes, One, Read, Row, Start}
+use Rattle.vme_cert.specs.Vocabulary.{Stretch, Three, Trace, Two, Version, Write, answer_falls, answered_row, answers}
+use Rattle.vme_cert.specs.Vocabulary.{any, cycle_of, cycle_starts, data_at, data_of, falls, greatest, high, is_answer}
+use Rattle.vme_cert.specs.Vocabulary.{is_answered, is_judged, known, lanes_at, lasts, least, level, levels_at, low}
+use Rattle.vme_cert.specs.Vocabulary.{rises, row_in, rows_in, strobes_high, transfer_row, transfer_starts, without_data}
+use Rattle.vme_cert.specs.Vocabulary.{AS, BBSY, Class, IsSpanOf, Levels, OpenTenure, PendingTransfer, Tenure, class_of}
+use Rattle.vme_cert.specs.Vocabulary.{cycle_row, cycle_rows, rows_before, tenure_level, tenure_row, tenure_rows}
+use Rattle.vme_cert.specs.Vocabulary.{tenure_slot, tenure_starts, WRITE, is_write, transfer_rows}
+use Rattle.vme_cert.specs.Comparing.{Extends, HasComparedRow, IsBegun, IsCompared, IsDue, IsGiven, is_at, without}
+use Rattle.vme_cert.specs.WithEdge.{with_edge}
 use Rattle.vme_cert.specs.Following.{AreAtPlaces, CanClose, IsOpenAt, IsTakenAt, IsTransferAt, is_open, right_to}
 use Rattle.vme_cert.specs.Following.{AreOpen, AreTaken, Follows, NoneIsOpen, WithAnswer, WithCycle, WithTenure}
 use Rattle.vme_cert.specs.Following.{WithTransfer, count_before, count_with_cycle, count_with_tenure}
@@ -32,7 +32,7 @@ use Rattle.vme_cert.proofs.Comparing.{begun-compared, compare_row-compared, comp
 use Rattle.vme_cert.proofs.Comparing.{compared-on, slice_get-front}
 use Rattle.vme_cert.proofs.Fields.{low-no_fall, stays-low, answers-is, is_answer-is, starts-is, high-and-low}
 use Rattle.vme_cert.proofs.Fields.{high-between, answer-is, fall-low, no-fall}
-use Rattle.vme_cert.proofs.Placing.{row_behind, rows_in-append, rows_in-length, cycle-place, next-count, tenure-place}
+use Rattle.vme_cert.proofs.Placing.{cycle-place, next-count, row_after, rows_in-append, rows_in-length, tenure-place}
 use Rattle.vme_cert.proofs.Placing.{transfer-place}
 use Rattle.vme_cert.proofs.Ranges.{same_value, any-more, any-start, second_fails, greatest-found, after_start}
 use Rattle.vme_cert.proofs.Ranges.{greatest-here, greatest-not, below_or_from, false_of_not, first_fails, decide}
@@ -40,14 +40,16 @@ use Rattle.vme_cert.proofs.Ranges.{case_of, unjudged}
 use Rattle.vme_cert.proofs.Instant.{address-known, control-known}
 
 -- the last edge of a row may be set before or after the row is put in a version
-ended-without : (row : Row) (edge : Option ℕ) → ended (without_data row) edge ≡ without_data (ended row edge)
-ended-without (Start i) edge = refl
-ended-without row edge = refl
+with_edge-without_data : (row : Row) (edge : Option ℕ)
+    → with_edge (without_data row) edge ≡ without_data (with_edge row edge)
+with_edge-without_data (Start i) edge = refl
+with_edge-without_data row edge = refl
 
-pub ended-in : (v : Version) (row : Row) (edge : Option ℕ) → ended (row_in v row) edge ≡ row_in v (ended row edge)
-ended-in One row edge = ended-without row edge
-ended-in Two row edge = refl
-ended-in Three row edge = refl
+pub with_edge-in : (v : Version) (row : Row) (edge : Option ℕ)
+    → with_edge (row_in v row) edge ≡ row_in v (with_edge row edge)
+with_edge-in One row edge = with_edge-without_data row edge
+with_edge-in Two row edge = refl
+with_edge-in Three row edge = refl
 
 -- the places of the open rows
 pub each-off : (a b c : Bool) → (a || b || c) ≡ false → (a ≡ false) × (b ≡ false) × (c ≡ false)
@@ -61,9 +63,9 @@ all-off a b c h k l = rw (h, k, l) refl
 pub none-at : (o : Option OpenRow) (n : ℕ) → o ≡ None → is_at o n ≡ false
 none-at o n e = rw e refl
 
-pub spares-off : (x a : Bool) → (a ≡ false → x ≡ false) → (x && not a) ≡ false
-spares-off x true h = second_fails x false refl
-spares-off x false h = rw (h refl) refl
+pub without-off : (x a : Bool) → (a ≡ false → x ≡ false) → (x && not a) ≡ false
+without-off x true h = second_fails x false refl
+without-off x false h = rw (h refl) refl
 
 -- a row that was taken stays so when more rows are given and taken
 taken-more : (given more : List Row) (taken many : ℕ) → taken ≤ many → Extends given more taken → (o : Option OpenRow)
@@ -107,7 +109,7 @@ module _ (v : Version) (done : List Row) (t : Trace) (span : Stretch) (l j : ℕ
   open-due given taken (Some row) here placed h end after within = (
     placed.below,
     placed.given_is,
-    h.right end (omega (arith, h.before)) within ∙ ap (λ (e : Option ℕ). Some (ended row.right e))
+    h.right end (omega (arith, h.before)) within ∙ ap (λ (e : Option ℕ). Some (with_edge row.right e))
         (least-is (rises t l) (h.start + 1) end j (omega (arith, h.before)) (omega arith) here h.still),
   )
 
@@ -118,7 +120,7 @@ module _ (v : Version) (done : List Row) (t : Trace) (span : Stretch) (l j : ℕ
   open-last given taken (Some row) placed h within = (
     placed.below,
     placed.given_is,
-    h.right j (omega (arith, h.before)) within ∙ ap (λ (e : Option ℕ). Some (ended row.right e))
+    h.right j (omega (arith, h.before)) within ∙ ap (λ (e : Option ℕ). Some (with_edge row.right e))
         (least-none (rises t l) (h.start + 1) j h.still),
   )
 
@@ -130,7 +132,7 @@ module _ (v : Version) (done : List Row) (t : Trace) (span : Stretch) (l j : ℕ
   -- a row that starts where the line is low is open
   pub open-new : (row : OpenRow) (right : Row) → low t l j ≡ true → row.right ≡ row_in v right
       → ((end : ℕ) → j + 1 ≤ end → end ≤ span.end → slice_get (right_to v done t span end) row.place
-      ≡ Some (row_in v (ended right (least (rises t l) (j + 1) end)))) → EdgeAt (j + 1) (Some row)
+      ≡ Some (row_in v (with_edge right (least (rises t l) (j + 1) end)))) → EdgeAt (j + 1) (Some row)
   open-new row right is_low is places =
       let back : j + 1 - 1 ≡ j = omega arith in
       record {
@@ -139,24 +141,24 @@ module _ (v : Version) (done : List Row) (t : Trace) (span : Stretch) (l j : ℕ
         still = any-start (rises t l) (j + 1) (j + 1) (omega arith);
         is_low = rw back is_low;
         right = λ end from within. places end from within ∙ ap (λ (r : Row). Some r)
-            (sym (ap (λ (r : Row). ended r (least (rises t l) (j + 1) end)) is
-            ∙ ended-in v right (least (rises t l) (j + 1) end)));
+            (sym (ap (λ (r : Row). with_edge r (least (rises t l) (j + 1) end)) is
+            ∙ with_edge-in v right (least (rises t l) (j + 1) end)));
       }
 
 -- the open rows are compared without a last edge, and then one more row, which has no last edge
 module _ {Whole Source : Type 0} {gave : Whole → Source → List Row → Type 0} {is_over : Source → Type 0} {whole : Whole}
     {v : Version} {rights : List Row} {old : OpenRows Source} (h : CanClose gave is_over whole v rights old)
-    {c1 c2 c3 c4 c5 : Comparison Source} {row : OpenRow} {right : Row} (edge : ended right None ≡ right)
+    {c1 c2 c3 c4 c5 : Comparison Source} {row : OpenRow} {right : Row} (edge : with_edge right None ≡ right)
     (s1 : HasComparedRow old.tenure None old.compared c1) (s2 : HasComparedRow old.cycle None c1 c2)
     (s3 : HasComparedRow old.transfer None c2 c3) (b : IsBegun gave is_over right c3 c4 row)
     (s4 : HasComparedRow (Some row) None c4 c5) where
   abbrev all : List Row
   all = rows_in v rights
 
-  abbrev still : ℕ → Bool
-  still = spares (spares (spares (is_open old) old.tenure) old.cycle) old.transfer
+  abbrev open_at : ℕ → Bool
+  open_at = without (without (without (is_open old) old.tenure) old.cycle) old.transfer
 
-  closed_all : IsCompared h.given all c3.taken still c3.wrong
+  closed_all : IsCompared h.given all c3.taken open_at c3.wrong
   closed_all =
       compare_row-compared s3 (compare_row-compared s2 (compare_row-compared s1 h.compared h.tenure)
       (subst (λ n. IsDue h.given all n None old.cycle) (sym s1.taken) h.cycle))
@@ -182,8 +184,8 @@ module _ {Whole Source : Type 0} {gave : Whole → Source → List Row → Type 
         compared = compared-fewer (λ n. false) (compare_row-compared s4 begun (
           omega (arith, b.place, b.taken),
           g.given_is ∙ ap (slice_get g.more) (sym b.place),
-          ap (slice_get more) (b.place ∙ upto) ∙ (row_behind v rights [] right ∙ ap (λ (r : Row). Some r)
-              (sym (ap (λ (r : Row). ended r None) is ∙ (ended-in v right None ∙ ap (row_in v) edge)))),
+          ap (slice_get more) (b.place ∙ upto) ∙ (row_after v rights [] right ∙ ap (λ (r : Row). Some r)
+              (sym (ap (λ (r : Row). with_edge r None) is ∙ (with_edge-in v right None ∙ ap (row_in v) edge)))),
         )) (λ n off. same_off (n == row.place));
         tenure = tt;
         cycle = tt;
@@ -243,21 +245,21 @@ module _ (t : Trace) (span : Stretch) where
       (first_fails (lasts t span i r) (answer_falls t r) (lasts-no_more i j r order (omega arith) high)))
 
   -- the row of a transfer already has its close as its last edge
-  edge-own : (end i : ℕ) (answer : Option ℕ) → ended (transfer_row t span end i answer)
+  edge-own : (end i : ℕ) (answer : Option ℕ) → with_edge (transfer_row t span end i answer)
       (least (strobes_high t) (i + 1) end) ≡ transfer_row t span end i answer
   edge-own end i None = refl
   edge-own end i (Some r) = by_cycle (cycle_of t span r)
     where
-      by_cycle : (o : Option ℕ) → ended (answered_row t span end i r o) (least (strobes_high t) (i + 1) end)
+      by_cycle : (o : Option ℕ) → with_edge (answered_row t span end i r o) (least (strobes_high t) (i + 1) end)
           ≡ answered_row t span end i r o
       by_cycle None = refl
       by_cycle (Some k) = refl
 
   edge-in : (v : Version) (end i : ℕ) (answer edge : Option ℕ) → least (strobes_high t) (i + 1) end ≡ edge
-      → row_in v (transfer_row t span end i answer) ≡ ended (row_in v (transfer_row t span end i answer)) edge
+      → row_in v (transfer_row t span end i answer) ≡ with_edge (row_in v (transfer_row t span end i answer)) edge
   edge-in v end i answer edge e =
-      sym (ended-in v (transfer_row t span end i answer) edge ∙ ap (row_in v)
-      (ap (ended (transfer_row t span end i answer)) (sym e) ∙ edge-own end i answer))
+      sym (with_edge-in v (transfer_row t span end i answer) edge ∙ ap (row_in v)
+      (ap (with_edge (transfer_row t span end i answer)) (sym e) ∙ edge-own end i answer))
 
   -- where the listing ends the row has no close
   pub transfer-last : (v : Version) (done given : List Row) (taken j : ℕ) (o : Option OpenRow)
@@ -296,7 +298,7 @@ module _ (t : Trace) (span : Stretch) where
       still = any-start (strobes_high t) (j + 1) j (omega arith);
       right = places;
       known = λ end edge. rw (least-none (answers t span j) j j (any-start (answers t span j) j j (omega arith)))
-          (ap (λ (r : Row). ended r edge) (right end));
+          (ap (λ (r : Row). with_edge r edge) (right end));
     }
 
     pub transfer-kept : (o : Option OpenRow) → starts_transfer t j ≡ false → At j j j o → At (j + 1) j j o
@@ -355,8 +357,8 @@ module _ (t : Trace) (span : Stretch) where
     pub transfer-answered : (row : OpenRow) (c : Transfer) → is_answer t span j ≡ true
         → IsOpenTransfer t span (j + 1) j c
         → At (j + 1) j j (Some row) → (later : OpenRow) → later.place ≡ row.place
-        → ((end : ℕ) (edge : Option ℕ) → ended later.right edge
-        ≡ ended (row_in v (transfer_row t span end c.start (Some j))) edge) → At (j + 1) (j + 1) j (Some later)
+        → ((end : ℕ) (edge : Option ℕ) → with_edge later.right edge
+        ≡ with_edge (row_in v (transfer_row t span end c.start (Some j))) edge) → At (j + 1) (j + 1) j (Some later)
     transfer-answered row c here opened h later same_place known =
         let answered = asked h.start h.last h.still ∙ here in
         let found = greatest-found (transfer_starts t span) (span.start + 1) (j + 1) h.start h.last in
@@ -367,8 +369,9 @@ module _ (t : Trace) (span : Stretch) where
           last = h.last;
           still = h.still;
           right = λ end from within. ap (slice_get (right_to v done t span end)) same_place ∙ h.right end from within;
-          known = λ end edge. rw answer (known end edge ∙ ap (λ i. ended (row_in v (transfer_row t span end i (Some j)))
-              edge) (same_value c.start h.start (sym opened.last ∙ h.last)));
+          known = λ end edge. rw answer (known end edge
+              ∙ ap (λ i. with_edge (row_in v (transfer_row t span end i (Some j))) edge)
+              (same_value c.start h.start (sym opened.last ∙ h.last)));
         }
 
     -- where both strobes are high the close of the transfer is known
@@ -398,8 +401,8 @@ module _ (t : Trace) (span : Stretch) where
 
         by_edge : (end : ℕ) (edge : Option ℕ) → least (strobes_high t) (h.start + 1) end ≡ edge
             → least (answers t span h.start) h.start end ≡ least (answers t span h.start) h.start (j + 1)
-            → row_in v (transfer_row t span end h.start (least (answers t span h.start) h.start end)) ≡ ended row.right
-            edge
+            → row_in v (transfer_row t span end h.start (least (answers t span h.start) h.start end))
+            ≡ with_edge row.right edge
         by_edge end edge e same =
             ap (λ (a : Option ℕ). row_in v (transfer_row t span end h.start a)) same
             ∙ (edge-in v end h.start (least (answers t span h.start) h.start (j + 1)) edge e
@@ -441,7 +444,7 @@ module _ (t : Trace) (span : Stretch) where
     pub answered-is : (d : Direction) (l : AnswerLine) (k : ℕ) (x : Option Lanes) (edge : Option ℕ)
         → greatest (cycle_starts t span) (span.start + 1) (j + 1) ≡ Some k → d ≡ (if c.is_write then Write else Read)
         → l ≡ (if falls t DTACK j then Dtack else Berr) → x ≡ data_of t span end c.start j
-        → variant.Transfer d l c.start k j edge x ≡ ended (transfer_row t span end c.start (Some j)) edge
+        → variant.Transfer d l c.start k j edge x ≡ with_edge (transfer_row t span end c.start (Some j)) edge
     unfolding cycle_of
     answered-is d l k x edge cycle same_direction same_line same_data =
         rw (cycle, same_direction ∙ ap (λ b. if b then Write else Read) is.direction, same_line, same_data) refl
@@ -526,7 +529,7 @@ module _ {Whole Source : Type 0} {gave : Whole → Source → List Row → Type 
       is_given = compare_row-given s h.is_given;
       compared = λ end from within. compared-fewer (is_open (put k old new None))
           (compare_row-compared s (h.compared end (omega arith) within) (due end from within))
-          (λ n off. spares-off (is_open old n) (is_at (at k old) n) (put-off old new None k n off).1);
+          (λ n off. without-off (is_open old n) (is_at (at k old) n) (put-off old new None k n off).1);
       placed = put-placed old new None k (subst (λ n. AreAtPlaces h.given n old) (sym s.taken) h.placed) tt;
     }
 
@@ -562,7 +565,7 @@ module _ {Whole Source : Type 0} {gave : Whole → Source → List Row → Type 
     line-begins : {right : Row} {row : OpenRow} {many : ℕ} (j : ℕ) → next ≡ j + 1 → at k old ≡ None → low t l j ≡ true
         → IsBegun gave is_over right old.compared new row → taken + 1 ≡ many
         → ((end : ℕ) → j + 1 ≤ end → slice_get (right_to v done t span end) taken
-        ≡ Some (row_in v (ended right (least (rises t l) (j + 1) end))))
+        ≡ Some (row_in v (with_edge right (least (rises t l) (j + 1) end))))
         → AreTaken gave is_over whole v done t span next many (put k old new (Some row))
         × IsOpenAt v done t span l (j + 1) (Some row)
     line-begins {right} {row} j here none is_low b e places = (
@@ -609,10 +612,10 @@ module _ (t : Trace) (span : Stretch) (j : ℕ) (judged : is_judged span j ≡ t
   unfolding transfer_rows
   transfer-rows-not here = rw (starts-is t span j judged ∙ here) refl
 
-cycle-ended : (i : ℕ) (v : Levels) (edge : Option ℕ) (c : Class)
-    → ended (cycle_row i v None c) edge ≡ cycle_row i v edge c
-cycle-ended i v edge class.S = refl
-cycle-ended i v edge c = refl
+cycle_row-with_edge : (i : ℕ) (v : Levels) (edge : Option ℕ) (c : Class)
+    → with_edge (cycle_row i v None c) edge ≡ cycle_row i v edge c
+cycle_row-with_edge i v edge class.S = refl
+cycle_row-with_edge i v edge c = refl
 
 same-length : {xs ys : List Row} → xs ≡ ys → length xs ≡ length ys
 same-length e = ap (λ (rows : List Row). length rows) e
@@ -702,8 +705,8 @@ module _ {Whole Source : Type 0} {gave : Whole → Source → List Row → Type 
         (open-none v done t span AS j old.cycle here h.cycle) (fall-low t AS j here) b
         (ap (λ n. count_with_tenure v done t span j + n) (sym (same-length (cycle-rows-at t span j judged j here))))
         (λ end from. cycle-place t span v done end j from _ (cycle-rows-at t span j judged end here)
-        ∙ ap (λ (r : Row). Some (row_in v r)) (sym (ap (λ (r : Row). ended r (least (rises t AS) (j + 1) end)) is
-        ∙ (cycle-ended j levels (least (rises t AS) (j + 1) end) (class_of levels)
+        ∙ ap (λ (r : Row). Some (row_in v r)) (sym (ap (λ (r : Row). with_edge r (least (rises t AS) (j + 1) end)) is
+        ∙ (cycle_row-with_edge j levels (least (rises t AS) (j + 1) end) (class_of levels)
         ∙ ap (λ (w : Levels). cycle_row j w (least (rises t AS) (j + 1) end) (class_of w)) same)))) in
         record { are_taken = taken; tenure = h.tenure; cycle = opened; transfer = h.transfer }
 

@@ -4,11 +4,11 @@ use Rattle.std.proofs.Common.{inr, ◌⊎◌, ◌&&◌}
 use Rattle.std.specs.Prelude.{None, is_some, Option, Some, option_map, unwrap_or, nat_lt}
 use Rattle.std.proofs.lemmas.Bool.{ltb-true, and_parts}
 use Rattle.vme_trace.proofs.Ranges.{any-holds, fails-any, least-found, least-none-any, any-fails}
-use Rattle.vme_trace.proofs.JudgedSpans.{span_holds, span_runs}
-use Rattle.vme_cert.specs.Words.{AS, IsSpanOf, Stretch, Trace, any, every, falls, grant, greatest, has_edge}
-use Rattle.vme_cert.specs.Words.{has_reached, high, is_control, is_granting, is_judged, is_known_on, is_lost, is_reset}
-use Rattle.vme_cert.specs.Words.{is_reset_at, known, least, levels_at, line_count, loses_control, loses_control_at, low}
-use Rattle.vme_cert.specs.Words.{near, rises, taken_grant, tenure_level, tenure_slot}
+use Rattle.vme_trace.proofs.JudgedSpans.{span_unlost, span_unreset}
+use Rattle.vme_cert.specs.Vocabulary.{AS, IsSpanOf, Stretch, Trace, any, every, falls, grant, greatest, has_edge}
+use Rattle.vme_cert.specs.Vocabulary.{has_reached, high, is_control, is_granting, is_judged, is_known_on, is_lost}
+use Rattle.vme_cert.specs.Vocabulary.{is_reset, is_reset_at, known, least, levels_at, line_count, loses_control}
+use Rattle.vme_cert.specs.Vocabulary.{loses_control_at, low, near, rises, taken_grant, tenure_level, tenure_slot}
 use Rattle.vme_cert.proofs.Ranges.{or_on, any-first, greatest-is, any-start, decide}
 
 -- for what a line shows by the levels that a `Bus` keeps: to unfold this is to unfold each of these names
@@ -118,11 +118,11 @@ module _ (t : Trace) (span : Stretch) (is : IsSpanOf t span) (j : ℕ) (judged :
   none_lost : (l : ℕ) → l < line_count → is_lost (levels_at t j) l ≡ false
   unfolding loses_control_at loses_control
   none_lost l below = any-fails (is_lost (levels_at t j)) 0 line_count l
-      (span_holds t span j is (omega (arith, after)) before) (omega arith) below
+      (span_unlost t span j is (omega (arith, after)) before) (omega arith) below
 
   unreset : is_reset (levels_at t j) ≡ false
   unfolding is_reset_at
-  unreset = span_runs t span j is (omega (arith, after)) before
+  unreset = span_unreset t span j is (omega (arith, after)) before
 
   pub control-known : (l : ℕ) → l < line_count → is_control (levels_at t j).slots l ≡ true → known t l j ≡ true
   unfolding known

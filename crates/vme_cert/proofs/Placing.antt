@@ -7,11 +7,11 @@ use Rattle.std.proofs.lemmas.Bool.Decides.{nat_tests}
 use Rattle.std.proofs.Math.Nat.{pow-le-pow_right, pow-succ', mod-eq_of_lt}
 use Rattle.std.proofs.lemmas.List.{append-nil, length-map, map-append}
 use Rattle.vme_trace.specs.declared.class.Class.TheVariants as class
-use Rattle.vme_cert.specs.Words.{A, AddressedCycle, BBSY, Class, Levels, Needs, One, Row, Start, Stretch, Three, Trace}
-use Rattle.vme_cert.specs.Words.{Two, Version, address_to, class_of, cycle_row, cycle_rows, cycle_starts, is_high}
-use Rattle.vme_cert.specs.Words.{is_within, least, level_at, low, modifier_of, needs_of, rises, row_in, rows_before}
-use Rattle.vme_cert.specs.Words.{rows_in, tenure_level, tenure_row, tenure_rows, tenure_slot, tenure_starts}
-use Rattle.vme_cert.specs.Words.{transfer_rows, transfer_starts, without_data}
+use Rattle.vme_cert.specs.Vocabulary.{A, AddressedCycle, BBSY, Class, Levels, Needs, One, Row, Start, Stretch, Three}
+use Rattle.vme_cert.specs.Vocabulary.{Trace, Two, Version, address_to, class_of, cycle_row, cycle_rows, cycle_starts}
+use Rattle.vme_cert.specs.Vocabulary.{is_high, is_within, least, level_at, low, modifier_of, needs_of, rises, row_in}
+use Rattle.vme_cert.specs.Vocabulary.{rows_before, rows_in, tenure_level, tenure_row, tenure_rows, tenure_slot}
+use Rattle.vme_cert.specs.Vocabulary.{tenure_starts, transfer_rows, transfer_starts, without_data}
 use Rattle.vme_cert.specs.Following.{count_before, count_with_cycle, count_with_tenure, right_to}
 use Rattle.vme_cert.proofs.Comparing.{slice_get-here}
 use Rattle.vme_cert.proofs.Ranges.{last_or_before}
@@ -101,17 +101,17 @@ rows_in-length Two xs = refl
 rows_in-length Three xs = refl
 
 -- the row after the rows `xs`
-pub row_behind : (v : Version) (xs ys : List Row) (row : Row) → slice_get (rows_in v (xs ++ row ∷ ys)) (length xs)
+pub row_after : (v : Version) (xs ys : List Row) (row : Row) → slice_get (rows_in v (xs ++ row ∷ ys)) (length xs)
     ≡ Some (row_in v row)
-row_behind v xs ys row =
+row_after v xs ys row =
     ap (slice_get (rows_in v (xs ++ row ∷ ys))) (sym (rows_in-length v xs))
     ∙ (ap (λ (rows : List Row). slice_get rows (length (rows_in v xs))) (rows_in-append v xs (row ∷ ys)
     ∙ ap (λ (rows : List Row). rows_in v xs ++ rows) (rows_in-first v row ys))
     ∙ slice_get-here (rows_in v xs) (row_in v row) (rows_in v ys))
 
-alike : (b : Bool) (x y : Row) → length (cond b (x ∷ []) []) ≡ length (cond b (y ∷ []) [])
-alike true x y = refl
-alike false x y = refl
+same_length : (b : Bool) (x y : Row) → length (cond b (x ∷ []) []) ≡ length (cond b (y ∷ []) [])
+same_length true x y = refl
+same_length false x y = refl
 
 regroup : (a b c d e : List Row) → a ++ b ++ c ++ d ++ e ≡ a ++ (b ++ (c ++ (d ++ e)))
 regroup a b c d e = simp append_assoc
@@ -137,11 +137,11 @@ module _ (t : Trace) (span : Stretch) where
 
     pub cycle-count : (i : ℕ) → length (cycle_rows t span e i) ≡ length (cycle_rows t span f i)
     unfolding cycle_rows
-    cycle-count i = alike (cycle_starts t span i) _ _
+    cycle-count i = same_length (cycle_starts t span i) _ _
 
     pub transfer-count : (i : ℕ) → length (transfer_rows t span e i) ≡ length (transfer_rows t span f i)
     unfolding transfer_rows
-    transfer-count i = alike (transfer_starts t span i) _ _
+    transfer-count i = same_length (transfer_starts t span i) _ _
 
     -- how many rows start before an instant doesn't depend on the end
     pub rows-count : (j : ℕ) → length (rows_before t span e j) ≡ length (rows_before t span f j)
@@ -180,9 +180,9 @@ module _ (t : Trace) (span : Stretch) where
 
   module _ (v : Version) (done : List Row) where
     -- a row of the stretch after the rows `xs` is the right row at `place`, which counts all rows before it
-    placed : (end : ℕ) (xs ys : List Row) (row : Row) (place : ℕ) → rows_before t span end end ≡ xs ++ row ∷ ys
+    row_at : (end : ℕ) (xs ys : List Row) (row : Row) (place : ℕ) → rows_before t span end end ≡ xs ++ row ∷ ys
         → length done + 1 + length xs ≡ place → slice_get (right_to v done t span end) place ≡ Some (row_in v row)
-    placed end xs ys row place is at =
+    row_at end xs ys row place is at =
         let all : done ++ (Start span.start ∷ rows_before t span end end) ≡
         (done ++ Start span.start ∷ xs) ++ row ∷ ys =
         ap (λ (rows : List Row). done ++ (Start span.start ∷ rows)) is
@@ -190,7 +190,7 @@ module _ (t : Trace) (span : Stretch) where
         ap (λ (rows : List Row). slice_get (rows_in v rows) place) all
         ∙ (ap (slice_get (rows_in v ((done ++ Start span.start ∷ xs) ++ row ∷ ys)))
         (sym (length-append done (Start span.start ∷ xs) ∙ counted) ∙ refl)
-        ∙ row_behind v (done ++ Start span.start ∷ xs) ys row)
+        ∙ row_after v (done ++ Start span.start ∷ xs) ys row)
       where
         counted : length done + length (Start span.start ∷ xs) ≡ place
         counted = omega (arith, at)
@@ -201,14 +201,14 @@ module _ (t : Trace) (span : Stretch) where
           → slice_get (right_to v done t span end) (count_before v done t span j) ≡ Some (row_in v row)
       tenure-place is =
           let (rest, all) = all_rows end j h in
-          placed end (rows_before t span end j) (cycle_rows t span end j ++ (transfer_rows t span end j ++ rest)) row _
+          row_at end (rows_before t span end j) (cycle_rows t span end j ++ (transfer_rows t span end j ++ rest)) row _
           (rw is at all) (ap (λ n. length done + 1 + n) (rows-count end j j))
 
       pub cycle-place : cycle_rows t span end j ≡ row ∷ []
           → slice_get (right_to v done t span end) (count_with_tenure v done t span j) ≡ Some (row_in v row)
       cycle-place is =
           let (rest, all) = all_rows end j h in
-          placed end (rows_before t span end j ++ tenure_rows t span end j) (transfer_rows t span end j ++ rest) row _
+          row_at end (rows_before t span end j ++ tenure_rows t span end j) (transfer_rows t span end j ++ rest) row _
           (rw is at all ∙ sym (append_assoc (rows_before t span end j) (tenure_rows t span end j)
           (row ∷ (transfer_rows t span end j ++ rest))))
           (omega (
@@ -222,7 +222,7 @@ module _ (t : Trace) (span : Stretch) where
           → slice_get (right_to v done t span end) (count_with_cycle v done t span j) ≡ Some (row_in v row)
       transfer-place is =
           let (rest, all) = all_rows end j h in
-          placed end (rows_before t span end j ++ tenure_rows t span end j ++ cycle_rows t span end j) rest row _
+          row_at end (rows_before t span end j ++ tenure_rows t span end j ++ cycle_rows t span end j) rest row _
           (rw is at all ∙ simp append_assoc)
           (omega (
             arith,

@@ -6,7 +6,7 @@ use Rattle.std.proofs.lemmas.Bool.Decides.{nat_tests}
 use Rattle.std.proofs.lemmas.Bool.{leb-true, le-leb, ltb-true, lt-ltb, le-ltb, and_parts}
 use Rattle.vme_trace.proofs.Ranges.{any-fails, fails-any, clash, searches, any-holds, any-step, least-found}
 use Rattle.vme_trace.proofs.Ranges.{least-none-any, those-none}
-use Rattle.vme_cert.specs.Words.{Stretch, any, greatest, is_judged, least, none, those}
+use Rattle.vme_cert.specs.Vocabulary.{Stretch, any, greatest, is_judged, least, none, those}
 
 -- ---- Tests on numbers, and two tests together.
 

@@ -1,10 +1,10 @@
 -- The rows of a recording, stretch by stretch, and how far a checker has followed them after an instant.
 use Rattle.std.specs.Prelude.{◌≡◌, ℕ, ◌+◌, ◌*◌, ◌<◌, ◌≤◌, ◌&&◌, true, List, [], ◌∷◌, ◌++◌, Option, None, Some, nat_lt}
 use Rattle.std.specs.Prelude.{if◌then◌else◌}
-use Rattle.vme_cert.specs.Words.{Awaits, Break, Conforming, IsSpanOf, Levels, ListedVerdict, Reset, Row, Step, Stretch}
-use Rattle.vme_cert.specs.Words.{Trace, Verdict, Version, all_rules, are_changes, break_before, capture_limit}
-use Rattle.vme_cert.specs.Words.{is_reset_at, last_instant, least_break, levels_after, outcome_of, recorded_rows}
-use Rattle.vme_cert.specs.Words.{rows_in, span_end, span_from, spans_after, with_steps}
+use Rattle.vme_cert.specs.Vocabulary.{Awaits, Break, Conforming, IsSpanOf, Levels, ListedVerdict, Reset, Row, Step}
+use Rattle.vme_cert.specs.Vocabulary.{Stretch, Trace, Verdict, Version, all_rules, are_changes, break_before}
+use Rattle.vme_cert.specs.Vocabulary.{capture_limit, is_reset_at, last_instant, least_break, levels_after, outcome_of}
+use Rattle.vme_cert.specs.Vocabulary.{recorded_rows, rows_in, span_end, span_from, spans_after, with_steps}
 use Rattle.vme_cert.specs.Comparing.{Decides}
 use Rattle.vme_cert.specs.Following.{CanClose, Follows, rows_to}
 use Rattle.vme_cert.specs.Instant.{IsBusOf}

@@ -1,9 +1,9 @@
 -- Which of the right rows were compared with the given ones, and the least that differs.
 use Rattle.std.specs.Prelude.{ℕ, Option, ◌≡◌, ◌+◌, ◌-◌, ◌<◌, ◌≤◌, ◌==◌, ◌&&◌, ◌⊎◌, not, Bool, false, List, length}
 use Rattle.std.specs.Prelude.{slice_get, None, Some}
-use Rattle.vme_cert.specs.Words.{Row, row_in}
+use Rattle.vme_cert.specs.Vocabulary.{Row, row_in}
 use Rattle.vme_cert.specs.Agreement.{DiffersAt}
-use Rattle.vme_cert.specs.Ended.{ended}
+use Rattle.vme_cert.specs.WithEdge.{with_edge}
 use Rattle.vme_cert.specs.declared.compare.Answer.{Answer}
 use Rattle.vme_cert.specs.declared.compare.Answer.TheVariants.{Yes, No}
 use Rattle.vme_cert.specs.declared.comparison.Comparison.{Comparison}
@@ -14,9 +14,9 @@ abbrev pub is_at : Option OpenRow → ℕ → Bool
 is_at None n = false
 is_at (Some row) n = n == row.place
 
--- the places that are in `still` without that of `row`, if there is one
-abbrev pub spares : (ℕ → Bool) → Option OpenRow → ℕ → Bool
-spares still row n = still n && not (is_at row n)
+-- the places that are in `open_at` without that of `row`, if there is one
+abbrev pub without : (ℕ → Bool) → Option OpenRow → ℕ → Bool
+without open_at row n = open_at n && not (is_at row n)
 
 -- how many rows come before the least that differs, which is counted from 1: all `taken` if none differs
 abbrev pub same_to : ℕ → Option ℕ → ℕ
@@ -31,17 +31,17 @@ module _ (given right : List Row) where
   Differs taken None = Unit {0}
   Differs taken (Some row) = (1 ≤ row) × (row ≤ taken) × (IsSame (row - 1) → ⊥)
 
-  -- of the first `taken` rows all but those at the places in `still` were compared, and `wrong` is the least that
+  -- of the first `taken` rows all but those at the places in `open_at` were compared, and `wrong` is the least that
   -- differs, counted from 1
-  pub record IsCompared (taken : ℕ) (still : ℕ → Bool) (wrong : Option ℕ) : Type 0 where
-    pub same : (n : ℕ) → n < same_to taken wrong → still n ≡ false → IsSame n
+  pub record IsCompared (taken : ℕ) (open_at : ℕ → Bool) (wrong : Option ℕ) : Type 0 where
+    pub same : (n : ℕ) → n < same_to taken wrong → open_at n ≡ false → IsSame n
     pub differs : Differs taken wrong
 
   -- the open row was taken, and with `edge` it is the right one at its place
   abbrev pub IsDue : ℕ → Option ℕ → Option OpenRow → Type 0
   IsDue taken edge None = Unit {0}
   IsDue taken edge (Some row) = (row.place < taken) × (row.given ≡ slice_get given row.place)
-      × (slice_get right row.place ≡ Some (ended row.right edge))
+      × (slice_get right row.place ≡ Some (with_edge row.right edge))
 
 -- `more` has the same first `taken` rows as `given`
 abbrev pub Extends : List Row → List Row → ℕ → Type 0
@@ -78,8 +78,8 @@ pub record HasComparedRow {Source : Type 0} (row : Option OpenRow) (edge : Optio
   pub source : new.source ≡ old.source
   pub version : new.version ≡ old.version
   pub taken : new.taken ≡ old.taken
-  pub wrong : (given right : List Row) (still : ℕ → Bool) → IsCompared given right old.taken still old.wrong
-      → IsDue given right old.taken edge row → IsCompared given right old.taken (spares still row) new.wrong
+  pub wrong : (given right : List Row) (open_at : ℕ → Bool) → IsCompared given right old.taken open_at old.wrong
+      → IsDue given right old.taken edge row → IsCompared given right old.taken (without open_at row) new.wrong
 
 module _ {Source : Type 0} (is_over : Source → Type 0) where
   -- `answer` is right for the rows in `given` and all that the source gives after them

@@ -1,11 +1,11 @@
 -- The rows of a stretch that have started, and those of them that are open: their last edge is to come.
 use Rattle.std.specs.Prelude.{◌≡◌, ℕ, ◌+◌, ◌-◌, ◌<◌, ◌≤◌, ◌||◌, Bool, true, false, List, ◌∷◌, ◌++◌, length, slice_get}
 use Rattle.std.specs.Prelude.{Option, None, Some}
-use Rattle.vme_cert.specs.Words.{AS, BBSY, IsSpanOf, Row, Start, Stretch, Trace, Version, answers, any, cycle_rows}
-use Rattle.vme_cert.specs.Words.{greatest, is_judged, least, low, rises, row_in, rows_before, rows_in, strobes_high}
-use Rattle.vme_cert.specs.Words.{tenure_rows, transfer_row, transfer_starts}
+use Rattle.vme_cert.specs.Vocabulary.{AS, BBSY, IsSpanOf, Row, Start, Stretch, Trace, Version, answers, any, cycle_rows}
+use Rattle.vme_cert.specs.Vocabulary.{greatest, is_judged, least, low, rises, row_in, rows_before, rows_in}
+use Rattle.vme_cert.specs.Vocabulary.{strobes_high, tenure_rows, transfer_row, transfer_starts}
 use Rattle.vme_cert.specs.Comparing.{IsCompared, IsDue, IsGiven, is_at}
-use Rattle.vme_cert.specs.Ended.{ended}
+use Rattle.vme_cert.specs.WithEdge.{with_edge}
 use Rattle.vme_cert.specs.Instant.{IsBusOf}
 use Rattle.vme_cert.specs.declared.bus.Bus.{Bus}
 use Rattle.vme_cert.specs.declared.comparison.OpenRow.{OpenRow}
@@ -74,7 +74,7 @@ module _ (version : Version) (done : List Row) (t : Trace) (span : Stretch) wher
     pub before : start < j
     pub still : any (rises t l) (start + 1) j ≡ false
     pub is_low : low t l (j - 1) ≡ true
-    pub right : IsRight (start + 1) row.place (λ end. ended row.right (least (rises t l) (start + 1) end))
+    pub right : IsRight (start + 1) row.place (λ end. with_edge row.right (least (rises t l) (start + 1) end))
 
   abbrev pub IsOpenAt : ℕ → ℕ → Option OpenRow → Type 0
   IsOpenAt l j None = Unit {0}
@@ -89,8 +89,8 @@ module _ (version : Version) (done : List Row) (t : Trace) (span : Stretch) wher
     pub still : any (strobes_high t) (start + 1) closed ≡ false
     pub right : IsRight (start + 1) row.place
         (λ end. row_in version (transfer_row t span end start (least (answers t span start) start end)))
-    pub known : (end : ℕ) (edge : Option ℕ) → ended row.right edge
-        ≡ ended (row_in version (transfer_row t span end start (least (answers t span start) start answered))) edge
+    pub known : (end : ℕ) (edge : Option ℕ) → with_edge row.right edge
+        ≡ with_edge (row_in version (transfer_row t span end start (least (answers t span start) start answered))) edge
 
   abbrev pub IsTransferAt : ℕ → ℕ → ℕ → Option OpenRow → Type 0
   IsTransferAt opened answered closed None = Unit {0}

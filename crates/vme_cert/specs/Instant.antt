@@ -1,8 +1,8 @@
 -- The levels that a `Bus` keeps of a recording: whether a transfer starts by them, and the changes that lead to them.
 -- Also a break by its rule and line.
 use Rattle.std.specs.Prelude.{◌≡◌, ℕ, Bool, ◌-◌, ◌&&◌, ◌||◌, true, List, Option, option_map}
-use Rattle.vme_cert.specs.Words.{Break, Change, DS0, DS1, Rule, Trace, are_changes, changed, levels_at, low}
-use Rattle.vme_cert.specs.Words.{strobes_high}
+use Rattle.vme_cert.specs.Vocabulary.{Break, Change, DS0, DS1, Rule, Trace, are_changes, changed, levels_at, low}
+use Rattle.vme_cert.specs.Vocabulary.{strobes_high}
 use Rattle.vme_cert.specs.declared.bus.Bus.{Bus}
 
 -- the levels of the bus are those of the recording at its instant and at the one before

@@ -1,10 +1,10 @@
 pub mod Agreement
 pub mod Checking
 pub mod Comparing
-pub mod Ended
 pub mod Following
 pub mod Instant
 pub mod RulesByLine
 pub mod State
 pub mod Tests
-pub mod Words
+pub mod Vocabulary
+pub mod WithEdge

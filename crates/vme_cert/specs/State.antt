@@ -2,11 +2,10 @@
 -- happened before instant `j`, which is `opened` or the one before it.
 use Rattle.std.specs.Prelude.{◌≡◌, ℕ, ◌+◌, ◌-◌, ◌<◌, ◌&&◌, Bool, true, false, get_or, List, [], ◌∷◌, None, Some, not}
 use Rattle.std.specs.Prelude.{nat_lt}
-use Rattle.vme_cert.specs.Words.{AS, BBSY, BERR, BR, DTACK, IsSpanOf, Stretch, Trace, answers_of, answers_write, any}
-use Rattle.vme_cert.specs.Words.{class_at, cycle_starts, falls, grant_falls, greatest, in_transfer, is_answer}
-use Rattle.vme_cert.specs.Words.{is_answered, is_judged, has_earlier_answer, is_write, last_before, levels_at, low}
-use Rattle.vme_cert.specs.Words.{needs_of}
-use Rattle.vme_cert.specs.Words.{none, rises, strobe_rises, strobes_high, transfer_starts}
+use Rattle.vme_cert.specs.Vocabulary.{AS, BBSY, BERR, BR, DTACK, IsSpanOf, Stretch, Trace, answers_of, answers_write}
+use Rattle.vme_cert.specs.Vocabulary.{any, class_at, cycle_starts, falls, grant_falls, greatest, in_transfer, is_answer}
+use Rattle.vme_cert.specs.Vocabulary.{is_answered, is_judged, has_earlier_answer, is_write, last_before, levels_at, low}
+use Rattle.vme_cert.specs.Vocabulary.{needs_of, none, rises, strobe_rises, strobes_high, transfer_starts}
 use Rattle.vme_cert.specs.Instant.{IsBusOf}
 use Rattle.vme_cert.specs.declared.bus.Bus.{Bus}
 use Rattle.vme_cert.specs.declared.state.Cycle.{Cycle}

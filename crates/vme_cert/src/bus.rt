@@ -3,10 +3,10 @@
 #![tactic(auto, unfolding(crate::proofs::Instant::shown))]
 
 ghost use Rattle.std.specs.Prelude.{◌≡◌, ◌+◌, ◌-◌, ◌<◌, ◌≤◌, not, IsTrue, IfSome, unwrap_or};
-ghost use Rattle.vme_cert.specs.Words.{BR, Trace, answer_falls, capture_limit, changed, falls, grant, grant_falls};
-ghost use Rattle.vme_cert.specs.Words.{has_edge, has_line, high, is_granting, is_low, known, least, level_at};
-ghost use Rattle.vme_cert.specs.Words.{levels_at, low, near, rises, strobe_falls, strobe_rises, strobes_high};
-ghost use Rattle.vme_cert.specs.Words.{taken_grant, tenure_level, tenure_slot};
+ghost use Rattle.vme_cert.specs.Vocabulary.{BR, Trace, answer_falls, capture_limit, changed, falls, grant, grant_falls};
+ghost use Rattle.vme_cert.specs.Vocabulary.{has_edge, has_line, high, is_granting, is_low, known, least, level_at};
+ghost use Rattle.vme_cert.specs.Vocabulary.{levels_at, low, near, rises, strobe_falls, strobe_rises, strobes_high};
+ghost use Rattle.vme_cert.specs.Vocabulary.{taken_grant, tenure_level, tenure_slot};
 
 use crate::search::least;
 use vme_trace::{Change, Line, Lines, edges};

@@ -2,8 +2,8 @@
 //! a rule).
 
 ghost use Rattle.std.specs.Prelude.{◌≡◌, ◌+◌, ◌*◌, ◌<◌, ◌≤◌, List, [], ◌∷◌, true, if◌then◌else◌};
-ghost use Rattle.vme_cert.specs.Words.{Broken, Row, Trace, Unreadable, Version, is_unreadable, last_instant};
-ghost use Rattle.vme_cert.specs.Words.{with_steps};
+ghost use Rattle.vme_cert.specs.Vocabulary.{Broken, Row, Trace, Unreadable, Version, is_unreadable, last_instant};
+ghost use Rattle.vme_cert.specs.Vocabulary.{with_steps};
 
 use crate::bus::Bus;
 use crate::compare::Answer;

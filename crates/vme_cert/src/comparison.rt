@@ -1,8 +1,8 @@
 //! The given rows, taken one by one as the right ones start, and the least row that differs.
 
 ghost use Rattle.std.specs.Prelude.{◌≡◌, ◌<◌, ◌^◌, true, false, List, length, Some, None};
-ghost use Rattle.vme_cert.specs.Words.{Row};
-ghost use Rattle.vme_cert.specs.Ended.{ended};
+ghost use Rattle.vme_cert.specs.Vocabulary.{Row};
+ghost use Rattle.vme_cert.specs.WithEdge.{with_edge};
 
 use crate::compare::Answer;
 use crate::source::RowSource;
@@ -31,8 +31,8 @@ pub(crate) struct Comparison<S: RowSource> {
 }
 
 /// `row` with `edge` as its end or its close. A row of another kind stays as it is.
-fn ended(row: Row, edge: Option<u32>) -> Row
-    ensures { result ≡ ended row edge }
+fn with_edge(row: Row, edge: Option<u32>) -> Row
+    ensures { result ≡ with_edge row edge }
 {
     let mut row = row;
     match &mut row {
@@ -90,7 +90,7 @@ impl<S: RowSource> Comparison<S> {
         let Some(row) = row else {
             return;
         };
-        if is_given(row.given, ended(row.right, edge)) {
+        if is_given(row.given, with_edge(row.right, edge)) {
             return;
         }
         self.wrong = match self.wrong {

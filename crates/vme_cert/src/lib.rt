@@ -32,8 +32,8 @@
 //!
 //! # In which order to read
 //!
-//! 1. The definitions named above, and `specs/Agreement.antt`. `specs/Words.antt` lists the words of
-//!    both crates that are used here.
+//! 1. The definitions named above, and `specs/Agreement.antt`. `specs/Vocabulary.antt` lists the
+//!    words of both crates that are used here.
 //! 2. `bus`: the levels at an instant and at the one before; `search`: the loop that it uses.
 //! 3. `state`: what the rules need of earlier instants, each field by its definition
 //!    (`specs/State.antt`), and the questions that it answers.

@@ -1,7 +1,7 @@
 //! The rows that are open: at most one of each kind.
 
 ghost use Rattle.std.specs.Prelude.{◌≡◌, ◌+◌, ◌<◌, ◌^◌, ◌∷◌, ◌++◌, [], List, None};
-ghost use Rattle.vme_cert.specs.Words.{Row, Version};
+ghost use Rattle.vme_cert.specs.Vocabulary.{Row, Version};
 
 use crate::comparison::{Comparison, OpenRow};
 use crate::source::RowSource;
@@ -17,7 +17,7 @@ pub(crate) struct OpenRows<S: RowSource> {
 }
 
 impl<S: RowSource> OpenRows<S> {
-    ghost use Rattle.vme_cert.specs.Ended.{ended};
+    ghost use Rattle.vme_cert.specs.WithEdge.{with_edge};
     ghost use Rattle.vme_cert.specs.Following.{CanClose, NoneIsOpen};
 
     /// The rows before any has started.
@@ -43,7 +43,7 @@ impl<S: RowSource> OpenRows<S> {
     /// a stretch, a reset, or the verdict.
     pub(crate) fn close_before(&mut self, row: Row)
         requires { self.old.compared.taken < 2 ^ 62 }
-        ensures rows { (whole : S.Whole) (version : Version) (rights : List Row) → ended row None ≡ row
+        ensures rows { (whole : S.Whole) (version : Version) (rights : List Row) → with_edge row None ≡ row
             → CanClose S.gave S.is_over whole version rights self.old
             → CanClose S.gave S.is_over whole version (rights ++ row ∷ []) self.new }
         ensures closed { NoneIsOpen self.new }

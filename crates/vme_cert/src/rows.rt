@@ -1,9 +1,9 @@
 //! The rows that start at an instant, and those that end.
 
 ghost use Rattle.std.specs.Prelude.{◌≡◌, ◌+◌, ◌<◌, ◌≤◌, ◌^◌, ℕ, List, Option, None, Some, if◌then◌else◌};
-ghost use Rattle.vme_cert.specs.Words.{Berr, DTACK, Dtack, Read, Row, Stretch, Trace, Version, Write, address_to};
-ghost use Rattle.vme_cert.specs.Words.{class_of, cycle_row, data_of, falls, needs_of, transfer_row};
-ghost use Rattle.vme_cert.specs.Ended.{ended};
+ghost use Rattle.vme_cert.specs.Vocabulary.{Berr, DTACK, Dtack, Read, Row, Stretch, Trace, Version, Write, address_to};
+ghost use Rattle.vme_cert.specs.Vocabulary.{class_of, cycle_row, data_of, falls, needs_of, transfer_row};
+ghost use Rattle.vme_cert.specs.WithEdge.{with_edge};
 ghost use Rattle.vme_cert.specs.Following.{CanClose, Follows, IsInStretch, WithAnswer, WithCycle, WithTenure, LeadsOn};
 ghost use Rattle.vme_cert.specs.Following.{WithTransfer};
 ghost use Rattle.vme_cert.specs.Instant.{IsBusOf};
@@ -110,7 +110,7 @@ fn answered_row(bus: &Bus, transfer: &Transfer, cycle: &Cycle) -> Row
     ensures { (t : Trace) (span : Stretch) (end : ℕ) (edge : Option ℕ) → IsBusOf t bus.now
         → IsOpenTransfer t span (bus.now.instant + 1) bus.now.instant transfer.now
         → IsLastCycle t span (bus.now.instant + 1) bus.now.instant cycle.now
-        → ended result edge ≡ ended (transfer_row t span end transfer.now.start (Some bus.now.instant)) edge }
+        → with_edge result edge ≡ with_edge (transfer_row t span end transfer.now.start (Some bus.now.instant)) edge }
 {
     Row::Transfer {
         direction: direction(transfer.is_write),

@@ -2,13 +2,13 @@
 
 ghost use Rattle.std.specs.Prelude.{◌≡◌, ◌==◌, ℕ, ◌+◌, ◌<◌, ◌≤◌, ◌&&◌, ◌||◌, true, false, nat_le, not, IsTrue};
 ghost use Rattle.std.specs.List.{list_any};
-ghost use Rattle.vme_cert.specs.Words.{H1, Rule as BusRule, Stretch, Trace, U3, all_rules, any, break_at, breaks};
-ghost use Rattle.vme_cert.specs.Words.{grant, grant_level, grant_place, has_line, input_of as input_net};
-ghost use Rattle.vme_cert.specs.Words.{is_block_class, is_broken, is_changed, is_grant, is_interrupt, is_option_equal};
-ghost use Rattle.vme_cert.specs.Words.{is_single, is_slot_grant, is_slot_iack, known, least, line_count, low};
-ghost use Rattle.vme_cert.specs.Words.{rule_number, tenure_slot};
+ghost use Rattle.vme_cert.specs.Vocabulary.{H1, Rule as BusRule, Stretch, Trace, U3, all_rules, any, break_at, breaks};
+ghost use Rattle.vme_cert.specs.Vocabulary.{grant, grant_level, grant_place, has_line, input_of as input_net};
+ghost use Rattle.vme_cert.specs.Vocabulary.{is_block_class, is_broken, is_changed, is_grant, is_interrupt};
+ghost use Rattle.vme_cert.specs.Vocabulary.{is_option_equal, is_single, is_slot_grant, is_slot_iack, known, least};
+ghost use Rattle.vme_cert.specs.Vocabulary.{line_count, low, rule_number, tenure_slot};
 ghost use Rattle.vme_cert.specs.Instant.{LeadToInstant, named};
-ghost use Rattle.vme_cert.specs.RulesByLine.{rules_on, speaks_of};
+ghost use Rattle.vme_cert.specs.RulesByLine.{may_be_broken_on, rules_on};
 ghost use Rattle.vme_cert.specs.State.{IsStateOf};
 
 use crate::bus::Bus;
@@ -46,9 +46,9 @@ fn is_listed(rules: &[Rule], number: u8) -> bool
     rules.iter().any(|rule| rule.number() == number)
 }
 
-/// Whether a rule speaks of a line, i.e. may be broken on it at a judged instant.
-fn speaks_of(rule: Rule, line: Line) -> bool
-    ensures { result ≡ speaks_of rule line }
+/// Whether a rule may be broken on a line at a judged instant.
+fn may_be_broken_on(rule: Rule, line: Line) -> bool
+    ensures { result ≡ may_be_broken_on rule line }
 {
     is_listed(rules_on(line), rule.number())
 }
@@ -157,7 +157,7 @@ impl State {
     #[tactic(auto, unfolding(vme_trace::specs::Rules::is_broken), using(crate::proofs::Fields::asked))]
     fn is_broken(&self, bus: &Bus, rule: Rule, line: Line) -> bool
         requires has { IsTrue (has_line bus.now.levels.slots line) }
-        requires speaks { IsTrue (speaks_of rule line) }
+        requires its_line { IsTrue (may_be_broken_on rule line) }
         ensures { (t : Trace) (span : Stretch) → IsStateOf t span bus.now self.now
             → result ≡ is_broken t span rule bus.now.instant line }
     {
@@ -262,7 +262,7 @@ impl State {
         if !bus.levels.has(line) {
             return false;
         }
-        if !speaks_of(rule, line) {
+        if !may_be_broken_on(rule, line) {
             return false;
         }
         self.is_broken(bus, rule, line)
@@ -288,7 +288,7 @@ impl State {
     fn is_line_broken(&self, bus: &Bus, line: Line) -> bool
         requires { IsTrue (has_line bus.now.levels.slots line) }
         ensures { (t : Trace) (span : Stretch) (rule : BusRule) → IsStateOf t span bus.now self.now → result ≡ false
-            → speaks_of rule line ≡ true → is_broken t span rule bus.now.instant line ≡ false }
+            → may_be_broken_on rule line ≡ true → is_broken t span rule bus.now.instant line ≡ false }
     {
         for rule in rules_on(line) {
             if self.is_broken(bus, *rule, line) {
@@ -302,7 +302,7 @@ impl State {
     fn is_change_broken(&self, bus: &Bus, changes: &[Change]) -> bool
         requires { LeadToInstant bus.now changes.now }
         ensures { (t : Trace) (span : Stretch) (rule : BusRule) (l : ℕ) → IsStateOf t span bus.now self.now
-            → result ≡ false → is_changed changes.now l ≡ true → speaks_of rule l ≡ true
+            → result ≡ false → is_changed changes.now l ≡ true → may_be_broken_on rule l ≡ true
             → is_broken t span rule bus.now.instant l ≡ false }
     {
         for change in changes {

@@ -1,7 +1,7 @@
 //! Searches over a range of numbers, its first one included and its end not.
 
 ghost use Rattle.std.specs.Prelude.{◌≡◌, ℕ, ◌<◌, ◌≤◌, Bool, IfSome};
-ghost use Rattle.vme_cert.specs.Words.{least};
+ghost use Rattle.vme_cert.specs.Vocabulary.{least};
 ghost use Rattle.vme_cert.specs.Tests.{MayAsk, Tests};
 
 /// The least number of the range that meets the test.

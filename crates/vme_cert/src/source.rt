@@ -1,7 +1,7 @@
 //! Where the rows of a listing come from, one by one: a listing, or a text.
 
 ghost use Rattle.std.specs.Prelude.{◌≡◌, ◌∷◌, ◌++◌, [], ℕ, List, true, IfSome, MatchOption};
-ghost use Rattle.vme_cert.specs.Words.{HasRead, IsFaultOfText, IsTextOfListing, Row, ends_listing, listed};
+ghost use Rattle.vme_cert.specs.Vocabulary.{HasRead, IsFaultOfText, IsTextOfListing, Row, ends_listing, listed};
 
 use vme_listing::{ListFault, Row, RowReader};
 
@@ -32,7 +32,7 @@ pub(crate) struct ListedRows<'a> {
 
 impl RowSource for ListedRows<'_> {
     ghost use Rattle.std.specs.Prelude.{◌≡◌, ◌++◌, [], List};
-    ghost use Rattle.vme_cert.specs.Words.{Row};
+    ghost use Rattle.vme_cert.specs.Vocabulary.{Row};
 
     ghost Whole = { List Row };
 
@@ -79,7 +79,7 @@ impl TextRows<'_> {
 
 impl RowSource for TextRows<'_> {
     ghost use Rattle.std.specs.Prelude.{◌≡◌, ◌⊎◌, ℕ, true, List, IfSome, IsSome};
-    ghost use Rattle.vme_cert.specs.Words.{HasRead, IsFaultOfText, Version, ends_listing};
+    ghost use Rattle.vme_cert.specs.Vocabulary.{HasRead, IsFaultOfText, Version, ends_listing};
 
     ghost Whole = { List ℕ × Version };
 

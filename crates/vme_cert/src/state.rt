@@ -2,8 +2,8 @@
 //! `specs/State.antt`.
 
 ghost use Rattle.std.specs.Prelude.{◌≡◌, ℕ, ◌+◌, ◌<◌, IsTrue, get_or, false, true};
-ghost use Rattle.vme_cert.specs.Words.{Stretch, Trace, answers_write, any, is_answer, is_answer_line, is_judged};
-ghost use Rattle.vme_cert.specs.Words.{strobe_rises};
+ghost use Rattle.vme_cert.specs.Vocabulary.{Stretch, Trace, answers_write, any, is_answer, is_answer_line, is_judged};
+ghost use Rattle.vme_cert.specs.Vocabulary.{strobe_rises};
 ghost use Rattle.vme_cert.specs.State.{DecidesCondition, is_data_held, is_unanswered, AreRequested, Holds, IsCycle};
 ghost use Rattle.vme_cert.specs.State.{IsOpenTransfer, IsTransfer, IsStateOf, is_freed};
 ghost use Rattle.vme_cert.specs.Instant.{IsBusOf};

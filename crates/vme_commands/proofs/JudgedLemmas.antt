@@ -20,25 +20,26 @@ at_most : (most n : ℕ) → (most < n → ⊥) → n ≤ most
 at_most most n not_over = elim (cases_lt most n) [ inl over ↦ absurd (not_over over) | inr within ↦ within ]
 
 module _ {X : Type 0} (t : Trace) (block : ℕ) (r : Result X NoVerdict)
-    (long : (r ≡ Err TooManySteps) ↔ (capture_limit < length t.steps))
-    (many : (r ≡ Err TooManyBlocks) ↔ ((length t.steps ≤ capture_limit) × (4096 < block_count block t))) where
-  -- if there is a result of judging, the recording is within the limits
-  pub judged-fits : (x : X) → r ≡ Ok x → limited_in_blocks block t ≡ Ok t
-  judged-fits x is =
-      let short : length t.steps ≤ capture_limit = at_most capture_limit (length t.steps)
-      (λ over. let no = long.1 over in absurd (cc)) in
-      let few : block_count block t ≤ 4096 = at_most 4096 (block_count block t)
-      (λ over. let no = many.1 (short, over) in absurd (cc)) in
-      rw (le-ltb capture_limit (length t.steps) short) (rw (le-ltb 4096 (block_count block t) few) refl)
+    (too_many_steps : (r ≡ Err TooManySteps) ↔ (capture_limit < length t.steps))
+    (too_many_blocks : (r ≡ Err TooManyBlocks) ↔ ((length t.steps ≤ capture_limit) × (4096 < block_count block t)))
+  where
+    -- if there is a result of judging, the recording is within the limits
+    pub judged-fits : (x : X) → r ≡ Ok x → limited_in_blocks block t ≡ Ok t
+    judged-fits x is =
+        let short : length t.steps ≤ capture_limit = at_most capture_limit (length t.steps)
+        (λ over. let no = too_many_steps.1 over in absurd (cc)) in
+        let few : block_count block t ≤ 4096 = at_most 4096 (block_count block t)
+        (λ over. let no = too_many_blocks.1 (short, over) in absurd (cc)) in
+        rw (le-ltb capture_limit (length t.steps) short) (rw (le-ltb 4096 (block_count block t) few) refl)
 
-  -- if there is no result of judging, the refusal is the one by the limits of the recording, or `Memory`
-  pub judged-refused : (why : NoVerdict) → r ≡ Err why → AnswerGives (λ (t : Trace). t) (Err (judging_refusal why))
-      (limited_in_blocks block t)
-  judged-refused TooManySteps is = rw (lt-ltb capture_limit (length t.steps) (long.0 is)) refl
-  judged-refused TooManyBlocks is =
-      let (short, over) = many.0 is in
-      rw (le-ltb capture_limit (length t.steps) short) (rw (lt-ltb 4096 (block_count block t) over) refl)
-  judged-refused Memory is = tt
+    -- if there is no result of judging, the refusal is the one by the limits of the recording, or `Memory`
+    pub judged-refused : (why : NoVerdict) → r ≡ Err why → AnswerGives (λ (t : Trace). t) (Err (judging_refusal why))
+        (limited_in_blocks block t)
+    judged-refused TooManySteps is = rw (lt-ltb capture_limit (length t.steps) (too_many_steps.0 is)) refl
+    judged-refused TooManyBlocks is =
+        let (short, over) = too_many_blocks.0 is in
+        rw (le-ltb capture_limit (length t.steps) short) (rw (lt-ltb 4096 (block_count block t) over) refl)
+    judged-refused Memory is = tt
 
 verdict_in : (block : ℕ) (r : Result Trace Refusal) → (r >>= verdict_in_blocks block)
     ≡ ((r >>= in_blocks block) >>= λ t. Ok (verdict_by rules_in_force t))

@@ -68,14 +68,14 @@ fn judged_by_skew<K: GhostSkew, B: Source, D: Source, J: ChunkJudge>(
     settled_judge(alloc, settled)
 }
 
-/// The visitor `taker`, after it took the recording that a binding makes of a dump, which is read in order, `piece`
+/// `visitor`, after it took the recording that a binding makes of a dump, which is read in order, `piece`
 /// bytes at once.
 fn taken_in_order<F: StepVisitor, D: Source>(
     alloc: Global,
     piece: usize,
     bound: &Binding,
     dump: &mut D,
-    taker: F,
+    visitor: F,
 ) -> Result<F, Refusal>
     requires { (1 ≤ piece) × (piece ≤ longest_input) }
     ensures gives { (bytes : Option (List ℕ))
@@ -83,7 +83,7 @@ fn taken_in_order<F: StepVisitor, D: Source>(
         × AnswerGives (λ w. F.recorded w) result (recording_by bound.now (dump_read bytes)) }
     ensures formed { IfOk result (λ w. malformed_step (F.recorded w) ≡ None) }
 {
-    let reader = DumpReader::new(bound, taker);
+    let reader = DumpReader::new(bound, visitor);
     match read_by(
         alloc,
         dump,
@@ -92,7 +92,7 @@ fn taken_in_order<F: StepVisitor, D: Source>(
         &|reader: DumpReader<'_, F>, bytes: &[u8]| reader.take(alloc, bytes),
     ) {
         Ok((reader, rest)) => match reader.finish(alloc, rest.as_slice()) {
-            Ok(taker) => Ok(taker),
+            Ok(visitor) => Ok(visitor),
             Err(fault) => Err(Refusal::of_capture(fault)),
         },
         Err(fault) => Err(Refusal::of_input(Input::Dump, fault)),

@@ -23,7 +23,7 @@ use Rattle.vme_dump_input.specs.DumpBeginnings.{IsReadDump, IsSound}
 use Rattle.vme_confirm_command.specs.DumpChecks.{FindsOf}
 use Rattle.vme_confirm_command.specs.DumpChecks.{IsChecked}
 use Rattle.vme_dump_input.specs.BodyPieces.{IsAtEnd}
-use Rattle.vme_confirm_command.specs.StepChecks.{Finds, HasStepped}
+use Rattle.vme_confirm_command.specs.StepChecks.{Finds, HasCheckedSteps}
 use Rattle.vme_confirm_command.specs.declared.step_check.StepCheck.{StepCheck}
 use Rattle.vme_dump_input.proofs.BodyLemmas.{sound-next}
 use Rattle.vme_dump_input.proofs.DumpRefusals.{dump-is}
@@ -34,13 +34,13 @@ pub checked-next : {Source : Type 0} (skew : Option ℕ) (r next : StepReading) 
     (time : ℕ) (t : Trace) (check : StepCheck Source) → IsSound r
     → ((rest : List ℕ) → whole_reading r (piece ++ rest) ≡ whole_reading next rest)
     → next.given ≡ with_steps r.given steps → time ≡ (whole_reading next []).time
-    → HasStepped skew (with_steps r.given steps) time t check.settler check.checker check.count check.is_too_long
+    → HasCheckedSteps skew (with_steps r.given steps) time t check.settler check.checker check.count check.is_too_long
     → IsChecked skew next t check
 checked-next skew r next steps piece time t check sound taken given now stepped = record {
   sound = sound-next r next steps piece sound taken given;
-  stepped = subst (λ (u : Trace). HasStepped skew u (whole_reading next []).time t check.settler check.checker
+  stepped = subst (λ (u : Trace). HasCheckedSteps skew u (whole_reading next []).time t check.settler check.checker
       check.count check.is_too_long) (sym given)
-      (subst (λ n. HasStepped skew (with_steps r.given steps) n t check.settler check.checker check.count
+      (subst (λ n. HasCheckedSteps skew (with_steps r.given steps) n t check.settler check.checker check.count
       check.is_too_long) now stepped);
 }
 

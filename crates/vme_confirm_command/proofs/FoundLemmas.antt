@@ -30,24 +30,24 @@ use Rattle.vme_dump_input.specs.BufferedInputs.{InputSoFar}
 use Rattle.vme_dump_input.specs.declared.definitions.Begun.{Begun}
 use Rattle.vme_dump_input.specs.declared.definitions.Begun.TheVariants.{Body, Unusable}
 use Rattle.vme_dump_input.proofs.BufferedLemmas.{some-reading}
-use Rattle.vme_confirm_command.specs.FoundRows.{DecidesSo, EndsFound, FindsRows, IsAnswerTo}
-use Rattle.vme_confirm_command.specs.RowsOfListing.{EndsRows, rows_refusal}
+use Rattle.vme_confirm_command.specs.FoundRows.{DecidesSoFar, FindsRows, IsAnswerTo, IsAnswerToListing}
+use Rattle.vme_confirm_command.specs.RowsOfListing.{IsListingRead, rows_refusal}
 use Rattle.vme_confirm_command.proofs.ConfirmLemmas.{text-fits}
 use Rattle.vme_confirm_command.specs.declared.rows_fault.RowsFault.{RowsFault}
 
 -- ---- a listing that is read to its end
 
 module _ (version : Version) (right : List Row) (given more : List Row) (over : Type 0) (ends : over → more ≡ []) where
-  decided : (answer : Answer) → DecidesSo given right over answer → DecidesListing (given ++ more) right answer
+  decided : (answer : Answer) → DecidesSoFar given right over answer → DecidesListing (given ++ more) right answer
   decided Yes h = decides-all {Source = Unit {0}} (λ _. over) given more right tt Yes h ends
   decided (No row) h = decides-all {Source = Unit {0}} (λ _. over) given more right tt (No row) h ends
 
 -- the listing has no fault
 pub found-whole : (old : Reading) (version : Version) (now : Reading) (given : List Row) (over : Type 0)
     (right : Result (List Row) BindFault) (found : Result Answer BindFault)
-    → EndsRows old version now given over (Ok tt)
+    → IsListingRead old version now given over (Ok tt)
     → FindsRows version right found given over → (result : Result Answer Refusal)
-    → result ≡ or_bad_binding found → EndsFound old version now right result
+    → result ≡ or_bad_binding found → IsAnswerToListing old version now right result
 found-whole old version now given over right found ends finds result is =
     let (text, more, reading, short, text_is, none) = ends in (
       Some text,
@@ -71,9 +71,9 @@ found-whole old version now given over right found ends finds result is =
 
 -- the listing has a fault
 pub found-faulty : (old : Reading) (version : Version) (now : Reading) (given : List Row) (over : Type 0)
-    (right : Result (List Row) BindFault) (fault : RowsFault) → EndsRows old version now given over (Err fault)
+    (right : Result (List Row) BindFault) (fault : RowsFault) → IsListingRead old version now given over (Err fault)
     → (result : Result Answer Refusal) → result ≡ Err (rows_refusal fault)
-    → EndsFound old version now right result
+    → IsAnswerToListing old version now right result
 found-faulty old version now given over right fault ends result is =
     let (bytes, reading, gives) = ends in
     (bytes, Err (rows_refusal fault), reading, gives, is)
@@ -145,7 +145,7 @@ confirms-refused skew bound old now refusal is = (
 -- ---- what is found of a recording, or of none
 
 decides-so : {Source : Type 0} (is_over : Source → Type 0) (given right : List Row) (source : Source) (answer : Answer)
-    → Decides is_over given right source answer → DecidesSo given right (is_over source) answer
+    → Decides is_over given right source answer → DecidesSoFar given right (is_over source) answer
 decides-so is_over given right source Yes h = h
 decides-so is_over given right source (No row) h = h
 

@@ -10,9 +10,8 @@ use Rattle.vme_listing.specs.declared.row.Version.{Version}
 use Rattle.vme_stream.specs.declared.input.InFault.{InFault}
 use Rattle.vme_confirm_command.specs.Confirmations.{longest_listing}
 use Rattle.vme_dump_input.specs.BufferedInputs.{FailsAs, InputSoFar, IsAllOf}
-use Rattle.vme_confirm_command.specs.RowsOfListing.{AreRead, EndsAt, EndsRows, GaveRows, HasTextFault, IsOver}
-use Rattle.vme_confirm_command.specs.RowsOfListing.{IsWholeText}
-use Rattle.vme_confirm_command.specs.RowsOfListing.{ReadsRow}
+use Rattle.vme_confirm_command.specs.RowsOfListing.{AreRead, GaveAllRows, GaveRows, HasTextFault, IsListingRead, IsOver}
+use Rattle.vme_confirm_command.specs.RowsOfListing.{IsWholeText, ReadsRow}
 use Rattle.vme_confirm_command.specs.declared.rows_fault.RowsFault.{RowsFault}
 use Rattle.vme_confirm_command.specs.declared.rows_fault.RowsFault.TheVariants.{Input, Text}
 use Rattle.vme_dump_input.proofs.BufferedLemmas.{all-read}
@@ -21,10 +20,10 @@ use Rattle.vme_confirm_command.proofs.RowLemmas.{ends-whole, input-refused, text
 -- ---- one row more
 
 module _ (old : Reading) (version : Version) (now : Reading) (input : InputSoFar) (rows : List Row) where
-  pub ends-none : (fault : Option RowsFault) → GaveRows old version now input None fault rows
-      → EndsAt old version now input None fault rows
-  ends-none (Some fault) gave = gave
-  ends-none None gave = absurd gave
+  pub no-pieces : (fault : Option RowsFault) → GaveRows old version now input None fault rows
+      → GaveAllRows old version now input None fault rows
+  no-pieces (Some fault) gave = gave
+  no-pieces None gave = absurd gave
 
   pub rows-read : (so_far : RowsSoFar) (fault : Option RowsFault) → fault ≡ None
       → GaveRows old version now input (Some so_far) fault rows
@@ -35,7 +34,7 @@ module _ (old : Reading) (version : Version) (now : Reading) (input : InputSoFar
   -- a row that is read is given; if none is read, the rows end
   pub gives-on : (so_far : RowsSoFar) (fault : Option RowsFault) → fault ≡ None → input.limit ≡ longest_listing
       → so_far.version ≡ version → (row : Option Row) → ReadsRow old now input so_far rows (Ok row)
-      → MatchOption row (EndsAt old version now input (Some so_far) fault rows)
+      → MatchOption row (GaveAllRows old version now input (Some so_far) fault rows)
       (λ row. GaveRows old version now input (Some so_far) fault (rows ++ row ∷ []))
   gives-on so_far (Some fault) none limit same row reads = absurd (cc)
   gives-on so_far None none limit same (Some row) reads = (limit, same, reads)
@@ -64,7 +63,7 @@ is-over-at so_far (Some fault) none over = absurd (cc)
 module _ (old : Reading) (version : Version) (now : Reading) (input : InputSoFar) (pieces : Option RowsSoFar)
     (fault : Option RowsFault) (given : List Row) where
   abbrev Gives : Option Row → Type 0
-  Gives row = MatchOption row (EndsAt old version now input pieces fault given)
+  Gives row = MatchOption row (GaveAllRows old version now input pieces fault given)
       (λ r. GaveRows old version now input pieces fault (given ++ r ∷ []))
 
   pub one-more : (row : Option Row) → is_some row ≡ true → Gives row
@@ -73,7 +72,7 @@ module _ (old : Reading) (version : Version) (now : Reading) (input : InputSoFar
   one-more None some h = absurd (cc)
 
   pub no-more : (row : Option Row) → is_some row ≡ false → Gives row
-      → EndsAt old version now input pieces fault given
+      → GaveAllRows old version now input pieces fault given
   no-more None none h = h
   no-more (Some r) none h = absurd (cc)
 
@@ -86,7 +85,7 @@ never-some (Some r) some none = cc
 -- the listing is whole
 pub whole-ends : (old : Reading) (version : Version) (now : Reading) (input : InputSoFar) (pieces : Option RowsSoFar)
     (fault : Option RowsFault) → fault ≡ None → (rows more : List Row) (over : Type 0) → (over → more ≡ [])
-    → EndsAt old version now input pieces fault (rows ++ more) → EndsRows old version now rows over (Ok tt)
+    → GaveAllRows old version now input pieces fault (rows ++ more) → IsListingRead old version now rows over (Ok tt)
 whole-ends old version now input pieces (Some fault) none rows more over none_more ends = absurd (cc)
 whole-ends old version now input None None none rows more over none_more ends = absurd ends
 whole-ends old version now input (Some so_far) None none rows more over none_more ends =
@@ -103,17 +102,17 @@ whole-ends old version now input (Some so_far) None none rows more over none_mor
 -- there is a fault
 pub fault-gave : (old : Reading) (version : Version) (now : Reading) (input : InputSoFar) (pieces : Option RowsSoFar)
     (given : Option RowsFault) (fault : RowsFault) → given ≡ Some fault → (rows : List Row)
-    → EndsAt old version now input pieces given rows → GaveRows old version now input pieces (Some fault) rows
+    → GaveAllRows old version now input pieces given rows → GaveRows old version now input pieces (Some fault) rows
 fault-gave old version now input pieces None fault is rows ends = absurd (cc)
 fault-gave old version now input pieces (Some own) fault is rows ends =
     subst (λ (f : Option RowsFault). GaveRows old version now input pieces f rows) is ends
 
--- if the listing ends with `rows ++ more`, it ends with `rows` and more rows after them
-pub ends-behind : (old : Reading) (version : Version) (now : Reading) (rows more : List Row) (over : Type 0)
+-- a listing that was read, and has `rows ++ more`, has `rows` and more rows after them
+pub more-after : (old : Reading) (version : Version) (now : Reading) (rows more : List Row) (over : Type 0)
     → (over → more ≡ []) → (result : Result (Unit {0}) RowsFault)
-    → EndsRows old version now (rows ++ more) (Unit {0}) result → EndsRows old version now rows over result
-ends-behind old version now rows more over none_more (Err fault) ends = ends
-ends-behind old version now rows more over none_more (Ok u) ends =
+    → IsListingRead old version now (rows ++ more) (Unit {0}) result → IsListingRead old version now rows over result
+more-after old version now rows more over none_more (Err fault) ends = ends
+more-after old version now rows more over none_more (Ok u) ends =
     let (text, rest, reading, short, is, none) = ends in (
       text,
       more ++ rest,
@@ -125,13 +124,13 @@ ends-behind old version now rows more over none_more (Ok u) ends =
 
 module _ (old : Reading) (version : Version) (now : Reading) (rows : List Row) where
   pub input-ends : (fault : InFault) → FailsAs longest_listing old now fault
-      → EndsRows old version now rows (Unit {0}) (Err (Input fault))
+      → IsListingRead old version now rows (Unit {0}) (Err (Input fault))
   input-ends fault fails = input-refused old now fault fails
 
   -- the text has a fault, and all of it was read
   pub text-ends : (done : List ℕ) (input : InputSoFar) (more : List ℕ) (fault : ListFault)
       → IsAllOf old now (done ++ (input.held ++ more)) longest_listing → HasTextFault done input fault
-      → (input.is_whole ≡ true → more ≡ []) → EndsRows old version now rows (Unit {0}) (Err (Text fault))
+      → (input.is_whole ≡ true → more ≡ []) → IsListingRead old version now rows (Unit {0}) (Err (Text fault))
   text-ends done input more fault all has ends = (
     Some (done ++ (input.held ++ more)),
     all.0,

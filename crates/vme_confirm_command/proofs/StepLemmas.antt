@@ -23,7 +23,7 @@ use Rattle.vme_cert.specs.Checking.{MayGoOn, last_levels}
 use Rattle.vme_cert.proofs.Checking.{sound-step}
 use Rattle.vme_dump_input.specs.SettledReadings.{settled_so_far, settled_whole}
 use Rattle.vme_dump_input.specs.SettledSteps.{ComesOut}
-use Rattle.vme_confirm_command.specs.StepChecks.{ComesTo, StepsMayFollow}
+use Rattle.vme_confirm_command.specs.StepChecks.{HasDeskewed, StepsMayFollow}
 
 -- ---- one more step
 
@@ -112,7 +112,7 @@ module _ (skew : Option ℕ) (t given : Trace) (made : List Step) (few : length 
 
 -- too many steps came
 pub many-came : (skew : Option ℕ) (given : Trace) (time : ℕ) (settler : Option Settling) (count : ℕ) (flag : Bool)
-    (t : Trace) (steps : List Step) → ComesTo skew given time settler count flag t
+    (t : Trace) (steps : List Step) → HasDeskewed skew given time settler count flag t
     → (flag ≡ false → capture_limit < count + length steps)
     → capture_limit < length (given.steps ++ steps)
 many-came skew given time settler count true t steps comes many =
@@ -121,19 +121,19 @@ many-came skew given time settler count false t steps comes many =
     omega (arith, comes.0, many refl, length-append given.steps steps)
 
 pub not-many : (skew : Option ℕ) (given : Trace) (time : ℕ) (settler : Option Settling) (count : ℕ) (flag : Bool)
-    (t : Trace) → ComesTo skew given time settler count flag t → flag ≡ false
+    (t : Trace) → HasDeskewed skew given time settler count flag t → flag ≡ false
     → (count ≡ length given.steps) × (count ≤ capture_limit) × ComesOut skew settler given time t
 not-many skew given time settler count true t comes e = absurd (cc)
 not-many skew given time settler count false t comes e = comes
 
 pub comes-many : (skew : Option ℕ) (given : Trace) (time : ℕ) (settler : Option Settling) (count : ℕ) (flag : Bool)
-    (t : Trace) → flag ≡ true → capture_limit < length given.steps → ComesTo skew given time settler count flag t
+    (t : Trace) → flag ≡ true → capture_limit < length given.steps → HasDeskewed skew given time settler count flag t
 comes-many skew given time settler count true t e many = many
 comes-many skew given time settler count false t e many = absurd (cc)
 
 pub comes-few : (skew : Option ℕ) (given : Trace) (time : ℕ) (settler : Option Settling) (count : ℕ) (flag : Bool)
     (t : Trace) → flag ≡ false → count ≡ length given.steps → count ≤ capture_limit
-    → ComesOut skew settler given time t → ComesTo skew given time settler count flag t
+    → ComesOut skew settler given time t → HasDeskewed skew given time settler count flag t
 comes-few skew given time settler count true t e same few comes = absurd (cc)
 comes-few skew given time settler count false t e same few comes = (same, few, comes)
 

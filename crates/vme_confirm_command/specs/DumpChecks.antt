@@ -14,14 +14,14 @@ use Rattle.vme_cert.specs.Checking.{HasDecided}
 use Rattle.vme_cert.specs.declared.compare.Answer.{Answer}
 use Rattle.vme_step_reader.specs.StepReading.{StepReading, whole_reading}
 use Rattle.vme_dump_input.specs.DumpBeginnings.{IsDumpRefused, IsReadDump, IsSound}
-use Rattle.vme_confirm_command.specs.StepChecks.{HasStepped}
+use Rattle.vme_confirm_command.specs.StepChecks.{HasCheckedSteps}
 use Rattle.vme_confirm_command.specs.declared.step_check.StepCheck.{StepCheck}
 
 -- the steps that `r` has given are counted, and what came out of deskewing them is compared
 pub record IsChecked {Source : Type 0} (skew : Option ℕ) (r : StepReading) (t : Trace) (check : StepCheck Source) : Type
     0 where
   pub sound : IsSound r
-  pub stepped : HasStepped skew r.given (whole_reading r []).time t check.settler check.checker check.count
+  pub stepped : HasCheckedSteps skew r.given (whole_reading r []).time t check.settler check.checker check.count
       check.is_too_long
 
 module _ {Whole Source : Type 0} (gave : Whole → Source → List Row → Type 0) (is_over : Source → Type 0) (whole : Whole)

@@ -14,13 +14,13 @@ use Rattle.vme_stream.specs.declared.refusal.Refusal.TheVariants.{BadBinding}
 use Rattle.vme_confirm_command.specs.Confirmations.{GivesRows, listing_text}
 
 -- the answer by the rows `given`, which holds whatever rows follow them; `over` says that none do
-abbrev pub DecidesSo : List Row → List Row → Type 0 → Answer → Type 0
-DecidesSo given right over Yes = (given ≡ right) × over
-DecidesSo given right over (No row) = DiffersAt given right row × ((row ≤ length given) ⊎ over)
+abbrev pub DecidesSoFar : List Row → List Row → Type 0 → Answer → Type 0
+DecidesSoFar given right over Yes = (given ≡ right) × over
+DecidesSoFar given right over (No row) = DiffersAt given right row × ((row ≤ length given) ⊎ over)
 
 -- by the rows that were given, the answer for the right rows, or the fault for which there are no right rows
 abbrev pub FindsRows : Version → Result (List Row) BindFault → Result Answer BindFault → List Row → Type 0 → Type 0
-FindsRows version (Ok right) (Ok answer) given over = DecidesSo given right over answer
+FindsRows version (Ok right) (Ok answer) given over = DecidesSoFar given right over answer
 FindsRows version (Err own) (Err fault) given over = own ≡ fault
 FindsRows version (Ok right) (Err fault) given over = ⊥
 FindsRows version (Err own) (Ok answer) given over = ⊥
@@ -34,7 +34,8 @@ IsAnswerTo version (Ok right) (Ok given) found =
     (answer : Answer) × (found ≡ Ok answer) × (given.version ≡ version) × DecidesListing given.rows right answer
 
 -- a listing was read to its end, and `found` is the answer to it, or why there is no answer
-abbrev pub EndsFound : Reading → Version → Reading → Result (List Row) BindFault → Result Answer Refusal → Type 0
-EndsFound old version now right found =
+abbrev pub IsAnswerToListing : Reading → Version → Reading → Result (List Row) BindFault → Result Answer Refusal
+    → Type 0
+IsAnswerToListing old version now right found =
     (bytes : Option (List ℕ)) × (given : Result Listed Refusal) × IsReading old now bytes
     × GivesRows (listing_text bytes) given × IsAnswerTo version right given found

@@ -75,16 +75,17 @@ GaveRows old version now input (Some so_far) None rows =
 GaveRows old version now input None None rows = ⊥
 
 -- these rows were given, and no more are: the listing is whole, or there is a fault
-abbrev pub EndsAt : Reading → Version → Reading → InputSoFar → Option RowsSoFar → Option RowsFault → List Row → Type 0
-EndsAt old version now input pieces (Some fault) rows = GaveRows old version now input pieces (Some fault) rows
-EndsAt old version now input (Some so_far) None rows =
+abbrev pub GaveAllRows : Reading → Version → Reading → InputSoFar → Option RowsSoFar → Option RowsFault → List Row
+    → Type 0
+GaveAllRows old version now input pieces (Some fault) rows = GaveRows old version now input pieces (Some fault) rows
+GaveAllRows old version now input (Some so_far) None rows =
     GaveRows old version now input (Some so_far) None rows
     × ((done : List ℕ) × IsReadTo old now done input × IsWholeText done input version rows)
-EndsAt old version now input None None rows = ⊥
+GaveAllRows old version now input None None rows = ⊥
 
 -- a bound for the bytes that may still be taken: those that are held, and those that may still be read
-abbrev pub rows_left : InputSoFar → ℕ
-rows_left input = input.limit + input.room + length input.held - input.read
+abbrev pub bytes_left : InputSoFar → ℕ
+bytes_left input = input.limit + input.room + length input.held - input.read
 
 -- no more rows are given
 abbrev pub IsOver : Option RowsSoFar → Option RowsFault → Type 0
@@ -100,11 +101,11 @@ rows_refusal (Input fault) = refused Listing fault
 rows_refusal (Text fault) = listing_refusal fault
 
 -- the listing was read to its end, and has these rows, and after them `more`, none if `over`; or this is its fault
-abbrev pub EndsRows : Reading → Version → Reading → List Row → Type 0 → Result (Unit {0}) RowsFault → Type 0
-EndsRows old version now rows over (Ok _) =
+abbrev pub IsListingRead : Reading → Version → Reading → List Row → Type 0 → Result (Unit {0}) RowsFault → Type 0
+IsListingRead old version now rows over (Ok _) =
     (text : List ℕ) × (more : List Row) × IsReading old now (Some text) × (length text ≤ longest_listing)
     × IsTextOfListing text (listed version (rows ++ more)) × (over → more ≡ [])
-EndsRows old version now rows over (Err fault) =
+IsListingRead old version now rows over (Err fault) =
     (bytes : Option (List ℕ)) × IsReading old now bytes × GivesRows (listing_text bytes) (Err (rows_refusal fault))
 
 -- some reading of the source leads from `old` to `now`

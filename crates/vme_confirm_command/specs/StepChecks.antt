@@ -16,9 +16,9 @@ use Rattle.vme_dump_input.specs.SettledReadings.{settled_whole}
 use Rattle.vme_dump_input.specs.SettledSteps.{ComesOut}
 
 -- the steps of `given` are counted, and `t` came out of deskewing them; or they are too many
-abbrev pub ComesTo : Option ℕ → Trace → ℕ → Option Settling → ℕ → Bool → Trace → Type 0
-ComesTo skew given time settler count true t = capture_limit < length given.steps
-ComesTo skew given time settler count false t =
+abbrev pub HasDeskewed : Option ℕ → Trace → ℕ → Option Settling → ℕ → Bool → Trace → Type 0
+HasDeskewed skew given time settler count true t = capture_limit < length given.steps
+HasDeskewed skew given time settler count false t =
     (count ≡ length given.steps) × (count ≤ capture_limit) × ComesOut skew settler given time t
 
 -- `steps` may follow those of `recorded`: they leave it well-formed and within the limit
@@ -27,9 +27,9 @@ pub record StepsMayFollow (recorded : Trace) (steps : List Step) : Type 0 where
   pub within : length recorded.steps + length steps ≤ capture_limit
 
 -- the dump gave all steps of `given` up to `time`, and the checker took `t`, which came out of deskewing them
-pub record HasStepped {Source : Type 0} (skew : Option ℕ) (given : Trace) (time : ℕ) (t : Trace)
+pub record HasCheckedSteps {Source : Type 0} (skew : Option ℕ) (given : Trace) (time : ℕ) (t : Trace)
     (settler : Option Settling) (checker : Checker Source) (count : ℕ) (is_too_long : Bool) : Type 0 where
-  pub comes : ComesTo skew given time settler count is_too_long t
+  pub comes : HasDeskewed skew given time settler count is_too_long t
   pub taken : HasFollowed t checker
 
 module _ {Whole Source : Type 0} (gave : Whole → Source → List Row → Type 0) (is_over : Source → Type 0) (whole : Whole)

@@ -15,7 +15,7 @@ ghost use Rattle.vme_bind.specs.declared.fault.BindFault.{BindFault};
 ghost use Rattle.vme_listing.specs.declared.row.Row.{Row};
 ghost use Rattle.vme_listing.specs.declared.row.Version.{Version};
 ghost use Rattle.vme_dump_input.specs.DumpBeginnings.{BeginsDump, HoldsDefinitions, MayBeRead};
-ghost use Rattle.vme_confirm_command.specs.FoundRows.{EndsFound, FindsRows};
+ghost use Rattle.vme_confirm_command.specs.FoundRows.{FindsRows, IsAnswerToListing};
 ghost use Rattle.vme_confirm_command.specs.RowsOfListing.{GaveRows, IsOver};
 ghost use Rattle.vme_stream.specs.declared.refusal.Refusal.{Refusal};
 
@@ -199,7 +199,7 @@ fn comparison_found<L: Source + Drop>(
     ensures { (old : Reading) (version : Version) (given : List Row) (right : Result (List Row) BindFault)
         → GaveRows old version (L.reading rows.source) rows.input rows.pieces rows.fault given
         → FindsRows version right found given (IsOver rows.pieces rows.fault)
-        → EndsFound old version (L.reading result.1) right result.0 }
+        → IsAnswerToListing old version (L.reading result.1) right result.0 }
 {
     let (ended, listing) = rows.finish();
     match ended {

@@ -6,8 +6,8 @@ ghost use Rattle.vme_trace.specs.Streams.{Reading};
 ghost use Rattle.vme_listing.specs.declared.row.Row.{Row};
 ghost use Rattle.vme_listing.specs.declared.row.Version.{Version};
 ghost use Rattle.vme_dump_input.specs.BufferedInputs.{not_read};
-ghost use Rattle.vme_confirm_command.specs.RowsOfListing.{AreCounted, EndsAt, EndsRows, GaveRows, IsOver};
-ghost use Rattle.vme_confirm_command.specs.RowsOfListing.{IsSomeReading, rows_left};
+ghost use Rattle.vme_confirm_command.specs.RowsOfListing.{AreCounted, GaveAllRows, GaveRows, IsListingRead, IsOver};
+ghost use Rattle.vme_confirm_command.specs.RowsOfListing.{IsSomeReading, bytes_left};
 
 use crate::row_reading::{begin_rows, next_row};
 use crate::rows_fault::RowsFault;
@@ -84,12 +84,12 @@ impl<L: Source + Drop> ListingRows<L> {
     fn give(&mut self) -> Option<Row>
         ensures gave { (old : Reading) (version : Version) (rows : List Row)
             → GaveRows old version (L.reading self.old.source) self.old.input self.old.pieces self.old.fault rows
-            → MatchOption result (EndsAt old version (L.reading self.new.source) self.new.input self.new.pieces
+            → MatchOption result (GaveAllRows old version (L.reading self.new.source) self.new.input self.new.pieces
             self.new.fault rows) (λ row. GaveRows old version (L.reading self.new.source) self.new.input
             self.new.pieces self.new.fault (rows ++ row ∷ [])) }
         ensures over { result ≡ None → IsOver self.new.pieces self.new.fault }
         ensures stays { IsOver self.old.pieces self.old.fault → result ≡ None }
-        ensures shorter { IfSome result (λ row. rows_left self.new.input < rows_left self.old.input) }
+        ensures shorter { IfSome result (λ row. bytes_left self.new.input < bytes_left self.old.input) }
     {
         let Some(mut pieces) = self.pieces.take() else {
             return None;
@@ -110,7 +110,7 @@ impl<L: Source + Drop> ListingRows<L> {
     pub fn finish(self) -> (Result<(), RowsFault>, L)
         ensures { (old : Reading) (version : Version) (rows : List Row)
             → GaveRows old version (L.reading self.source) self.input self.pieces self.fault rows
-            → EndsRows old version (L.reading result.1) rows (IsOver self.pieces self.fault) result.0 }
+            → IsListingRead old version (L.reading result.1) rows (IsOver self.pieces self.fault) result.0 }
     {
         let mut rows = self;
         while rows.give().is_some() {}
@@ -122,7 +122,7 @@ impl<L: Source + Drop> ListingRows<L> {
         } = rows;
         match fault {
             None => (Ok(()), source),
-            Some(fault) => read_on(source, input, fault),
+            Some(fault) => read_to_end(source, input, fault),
         }
     }
 
@@ -143,14 +143,14 @@ impl<L: Source + Drop> ListingRows<L> {
 }
 
 /// Reads the listing to its end after `fault`. That it can't be read, or is too long, comes before a fault of its text.
-fn read_on<L: Source + Drop>(
+fn read_to_end<L: Source + Drop>(
     source: L,
     input: BufferedInput,
     fault: RowsFault,
 ) -> (Result<(), RowsFault>, L)
     ensures { (old : Reading) (version : Version) (rows : List Row) (pieces : Option RowsSoFar)
         → GaveRows old version (L.reading source) input pieces (Some fault) rows
-        → EndsRows old version (L.reading result.1) rows (Unit {0}) result.0 }
+        → IsListingRead old version (L.reading result.1) rows (Unit {0}) result.0 }
 {
     let mut source = source;
     let mut input = input;

@@ -8,7 +8,7 @@ ghost use Rattle.vme_listing.specs.Places.{ends_listing};
 ghost use Rattle.vme_listing.specs.declared.row.Row.{Row};
 ghost use Rattle.vme_confirm_command.specs.Confirmations.{longest_listing};
 ghost use Rattle.vme_dump_input.specs.BufferedInputs.{FailsAs, IsReadTo};
-ghost use Rattle.vme_confirm_command.specs.RowsOfListing.{AreRead, HoldsMore, IsCounted, ReadsRow, rows_left};
+ghost use Rattle.vme_confirm_command.specs.RowsOfListing.{AreRead, HoldsMore, IsCounted, ReadsRow, bytes_left};
 
 use crate::rows_fault::RowsFault;
 use vme_dump_input::BufferedInput;
@@ -74,7 +74,7 @@ pub(crate) fn next_row<L: Source>(
     ensures version { pieces.new.version ≡ pieces.old.version }
     ensures limit { input.new.limit ≡ input.old.limit }
     ensures over { result ≡ Ok None → ends_listing pieces.new.last ≡ true }
-    ensures shorter { IfOk result (λ row. IfSome row (λ _. rows_left input.new < rows_left input.old)) }
+    ensures shorter { IfOk result (λ row. IfSome row (λ _. bytes_left input.new < bytes_left input.old)) }
     ensures stays { ends_listing pieces.old.last ≡ true → IfOk result (λ row. row ≡ None) }
 {
     if let Err(fault) = fill(source, input) {

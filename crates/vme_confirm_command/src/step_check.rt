@@ -11,7 +11,7 @@ ghost use Rattle.vme_listing.specs.declared.row.Version.{Version};
 ghost use Rattle.vme_cert.specs.Checking.{HasCompared, HasFollowed, at_opening};
 ghost use Rattle.vme_dump_input.specs.SettledReadings.{skew_of};
 ghost use Rattle.vme_dump_input.specs.SettledSteps.{GoOnFrom, GoOnTo};
-ghost use Rattle.vme_confirm_command.specs.StepChecks.{Finds, HasStepped, IsComparing, StepsMayFollow};
+ghost use Rattle.vme_confirm_command.specs.StepChecks.{Finds, HasCheckedSteps, IsComparing, StepsMayFollow};
 
 use std::alloc::{AllocError, Global};
 use vme_bind::{BindFault, BindFaultKind};
@@ -51,8 +51,8 @@ fn check_all<S: RowSource>(checker: &mut Checker<S>, steps: &[Step])
 impl<S: RowSource> StepCheck<S> {
     /// Before the first step.
     pub fn new(alloc: Global, opening: &Lines, skew: u64, version: Version, rows: S) -> StepCheck<S>
-        ensures stepped { (time : ℕ) → HasStepped (skew_of skew) (at_opening opening.now) time (at_opening opening.now)
-            result.settler result.checker result.count result.is_too_long }
+        ensures stepped { (time : ℕ) → HasCheckedSteps (skew_of skew) (at_opening opening.now) time
+            (at_opening opening.now) result.settler result.checker result.count result.is_too_long }
         ensures compared { (whole : S.Whole) → S.gave whole rows []
             → HasCompared S.gave S.is_over whole version (at_opening opening.now) result.checker }
         ensures whole { length opening.now.levels ≡ line_count }
@@ -66,7 +66,7 @@ impl<S: RowSource> StepCheck<S> {
     }
 
     /// Counts the `steps` steps that follow. Returns false if there are too many.
-    fn counts(&mut self, steps: usize) -> bool
+    fn count_more(&mut self, steps: usize) -> bool
         ensures few { result ≡ true → (self.new.count ≡ self.old.count + steps) × (self.new.is_too_long ≡ false)
             × (self.old.is_too_long ≡ false) }
         ensures within { result ≡ true → self.old.count ≤ capture_limit → self.new.count ≤ capture_limit }
@@ -85,12 +85,12 @@ impl<S: RowSource> StepCheck<S> {
     /// Takes the steps that follow, once the dump has come to `time`.
     pub fn take(&mut self, alloc: Global, steps: Vec<Step>, time: u64) -> Result<(), AllocError>
         requires { (skew : Option ℕ) × (given : Trace) × (from : ℕ) × (t : Trace)
-            × HasStepped skew given from t self.old.settler self.old.checker self.old.count self.old.is_too_long
+            × HasCheckedSteps skew given from t self.old.settler self.old.checker self.old.count self.old.is_too_long
             × GoOnTo given from steps.items time }
         ensures stepped { (skew : Option ℕ) (given : Trace) (from : ℕ) (t : Trace)
-            → HasStepped skew given from t self.old.settler self.old.checker self.old.count self.old.is_too_long
+            → HasCheckedSteps skew given from t self.old.settler self.old.checker self.old.count self.old.is_too_long
             → GoOnTo given from steps.items time
-            → OnOk result ((later : Trace) × HasStepped skew (with_steps given steps.items) time later
+            → OnOk result ((later : Trace) × HasCheckedSteps skew (with_steps given steps.items) time later
             self.new.settler self.new.checker self.new.count self.new.is_too_long
             × ((whole : S.Whole) (version : Version)
             → HasCompared S.gave S.is_over whole version t self.old.checker
@@ -99,7 +99,7 @@ impl<S: RowSource> StepCheck<S> {
             → IsComparing S.gave S.is_over whole version self.old.checker
             → IsComparing S.gave S.is_over whole version self.new.checker }
     {
-        if !self.counts(steps.len()) {
+        if !self.count_more(steps.len()) {
             return Ok(());
         }
         let settled = settled_steps(alloc, &mut self.settler, steps, time)?;
@@ -115,10 +115,10 @@ impl<S: RowSource> StepCheck<S> {
         steps: Vec<Step>,
     ) -> (Result<Result<Answer, BindFault>, AllocError>, S)
         requires { (skew : Option ℕ) × (given : Trace) × (from : ℕ) × (t : Trace)
-            × HasStepped skew given from t self.settler self.checker self.count self.is_too_long
+            × HasCheckedSteps skew given from t self.settler self.checker self.count self.is_too_long
             × GoOnFrom given from steps.items }
         ensures finds { (whole : S.Whole) (version : Version) (skew : Option ℕ) (given : Trace) (from : ℕ) (t : Trace)
-            → HasStepped skew given from t self.settler self.checker self.count self.is_too_long
+            → HasCheckedSteps skew given from t self.settler self.checker self.count self.is_too_long
             → HasCompared S.gave S.is_over whole version t self.checker → GoOnFrom given from steps.items
             → IfOk result.0 (λ found. Finds S.gave S.is_over whole version skew (with_steps given steps.items) found
             result.1) }
@@ -126,7 +126,7 @@ impl<S: RowSource> StepCheck<S> {
             → IsComparing S.gave S.is_over whole version self.checker → (rows : List Row) × S.gave whole result.1 rows }
     {
         let mut check = self;
-        if !check.counts(steps.len()) {
+        if !check.count_more(steps.len()) {
             let fault = BindFault {
                 line: 0,
                 kind: BindFaultKind::TooManySteps,

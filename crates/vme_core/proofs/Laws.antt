@@ -11,11 +11,11 @@ use Rattle.vme_core.specs.Views.{empty_view, kept_view, split_view, joint_view}
 use Rattle.vme_core.specs.Machine.{Core, BoardEvent, empty, filled, idle, has_put, has_lifted, make, split, join, claim}
 use Rattle.vme_core.specs.Machine.{put, file, look, draw, take, lift, give, load, with_views, after_claim_step}
 use Rattle.vme_core.specs.Machine.{after_file_step, after_draw_step, after_take_step, after_look, Happens, IsRun}
-use Rattle.vme_core.specs.Rule.{Invariant}
+use Rattle.vme_core.specs.BoardInvariant.{Invariant}
 use Rattle.vme_core.specs.Law.{IsLawful, OnlyGrows}
-use Rattle.vme_core.proofs.Sums.{sum_by_plus, update_here, update_else, each}
+use Rattle.vme_core.proofs.Sums.{sum_by_plus, update_here, update_else, cases_at}
 use Rattle.vme_core.proofs.StageRanks.{bits_of, seen_below}
-use Rattle.vme_core.proofs.RuleSteps.{own_draws, own_list, own_takes, own_claims, is_pending, none_some}
+use Rattle.vme_core.proofs.InvariantSteps.{own_draws, own_list, own_takes, own_claims, is_pending, none_some}
 use Rattle.vme_core.proofs.Runs.{keeps_event}
 
 filed_bits : (x : Stage) → x ≡ Filed → (filed_bit x ≡ 1) × (taken_bit x ≡ 0)
@@ -37,9 +37,9 @@ lawful limit s r = let C : ℕ → ℕ = λ n. claimed_bit (s.stage n) in let F 
       taken_once = r.stages.taken_once;
       listed = r.contents.listed;
       took = r.contents.took;
-      filed_is_home = λ n is. let f = filed_bits (s.stage n) is in r.contents.filed_is_home n f.0 f.1;
+      filed_is_stored = λ n is. let f = filed_bits (s.stage n) is in r.contents.filed_is_stored n f.0 f.1;
       won_once = r.draws.won_once;
-      alone = λ i v e all. record {
+      whole_share_did_all = λ i v e all. record {
         draws = own_draws limit s.drawn C F T s.content E H s.views r i v e all;
         filed = own_list limit s.drawn C F T s.content E H s.views r i v e all;
         taken = own_takes limit s.drawn C F T s.content E H s.views r i v e all;
@@ -63,7 +63,7 @@ advanced : (s t : Core) (n : ℕ) (x : Stage) → t.stage ≡ update s.stage n x
     → ((m : ℕ) (b : Block) → s.content m ≡ Some b → t.content m ≡ Some b) → s.drawn ≡ t.drawn → OnlyGrows s t
 advanced s t n x is up stay d = record {
   stages = λ m. subst (λ (f : ℕ → Stage). rank (s.stage m) ≤ rank (f m)) (sym is)
-      (each n (λ m. rank (s.stage m) ≤ rank (update s.stage n x m))
+      (cases_at n (λ m. rank (s.stage m) ≤ rank (update s.stage n x m))
       (omega (arith, up, ap rank (update_here s.stage n x)))
       (λ m ne. omega (arith, ap rank (update_else s.stage n x m ne))) m);
   contents = stay;
@@ -80,7 +80,7 @@ module _ (limit : ℕ) (s : Core) (r : Invariant limit s) where
   on_file : (i n : ℕ) (b : Block) (v : View) → filed_bit (s.stage n) ≡ 0 → OnlyGrows s (after_file_step s i n b v)
   on_file i n b v none = let bits = bits_of (s.stage n) in advanced s (after_file_step s i n b v) n Filed refl
       (omega (arith, none, bits.sum, bits.taken, bits.claimed))
-      (λ m x. each n (λ m. s.content m ≡ Some x → update s.content n (Some b) m ≡ Some x)
+      (λ m x. cases_at n (λ m. s.content m ≡ Some x → update s.content n (Some b) m ≡ Some x)
       (λ z. absurd (none_some x (sym (r.contents.unfiled_is_none n none) ∙ z))) (λ m ne z. update_else s.content n
       (Some b) m ne ∙ z) m) refl
 
@@ -95,7 +95,7 @@ module _ (limit : ℕ) (s : Core) (r : Invariant limit s) where
   on_draw i d v zero is = record {
     stages = λ n. le_refl _;
     contents = λ n b h. h;
-    draws = each d (λ m. s.drawn m ≤ update s.drawn d 1 m) (omega (arith, is, update_here s.drawn d 1))
+    draws = cases_at d (λ m. s.drawn m ≤ update s.drawn d 1 m) (omega (arith, is, update_here s.drawn d 1))
         (λ m ne. omega (arith, update_else s.drawn d 1 m ne));
   }
 

@@ -3,7 +3,7 @@ pub mod ShareSums
 pub mod SetBits
 pub mod ViewChanges
 pub mod SumsBelow
-pub mod RuleSteps
+pub mod InvariantSteps
 pub mod StageRanks
 pub mod Runs
 pub mod Laws

@@ -11,13 +11,13 @@ use Rattle.vme_core.specs.Views.{empty_view, kept_view, split_view, joint_view, 
 use Rattle.vme_core.specs.Machine.{Core, BoardEvent, empty, idle, has_put, has_lifted, make, split, join, claim, put}
 use Rattle.vme_core.specs.Machine.{file, look, draw, take, lift, give, load, with_views, HasView, after_claim_step}
 use Rattle.vme_core.specs.Machine.{after_file_step, after_draw_step, after_take_step, after_look, Happens}
-use Rattle.vme_core.specs.Rule.{Invariant}
+use Rattle.vme_core.specs.BoardInvariant.{Invariant}
 use Rattle.vme_core.specs.Law.{IsFiledByOwner, IsTakenWhenFiled, IsRightStep}
-use Rattle.vme_core.proofs.Sums.{occurrences_here, update_here, update_else, each, set_here}
+use Rattle.vme_core.proofs.Sums.{occurrences_here, update_here, update_else, cases_at, set_here}
 
 -- `IsRightStep` holds if the stages don't change
-quiet : (s t : Core) → s.stage ≡ t.stage → IsRightStep s t
-quiet s t e = record {
+no_stage_changes : (s t : Core) → s.stage ≡ t.stage → IsRightStep s t
+no_stage_changes s t e = record {
   files = λ n more. absurd (let same = ap (λ (f : ℕ → Stage). filed_bit (f n)) e in omega (arith, more, same));
   takes = λ n more. absurd (let same = ap (λ (f : ℕ → Stage). taken_bit (f n)) e in omega (arith, more, same));
 }
@@ -35,10 +35,10 @@ module _ (s t : Core) (n : ℕ) (x : Stage) (is : t.stage ≡ update s.stage n x
   changed : (filed_bit (s.stage n) < filed_bit x → IsFiledByOwner s t n) → (taken_bit (s.stage n) < taken_bit x
       → IsTakenWhenFiled s t n) → IsRightStep s t
   changed files takes = record {
-    files = each n (λ m. filed_bit (s.stage m) < filed_bit (t.stage m) → IsFiledByOwner s t m)
+    files = cases_at n (λ m. filed_bit (s.stage m) < filed_bit (t.stage m) → IsFiledByOwner s t m)
         (λ more. files (omega (arith, more, here filed_bit)))
         (λ m ne more. absurd (omega (arith, more, else_same filed_bit m ne)));
-    takes = each n (λ m. taken_bit (s.stage m) < taken_bit (t.stage m) → IsTakenWhenFiled s t m)
+    takes = cases_at n (λ m. taken_bit (s.stage m) < taken_bit (t.stage m) → IsTakenWhenFiled s t m)
         (λ more. takes (omega (arith, more, here taken_bit)))
         (λ m ne more. absurd (omega (arith, more, else_same taken_bit m ne)));
   }
@@ -50,13 +50,13 @@ is_filed Filed f t = refl
 is_filed Taken f t = absurd (omega arith)
 
 by_claim : (s : Core) (i n : ℕ) (b : Block) (v : View) (x : ℕ) → IsRightStep s (after_claim_step s i n b v x)
-by_claim s i n b v (suc k) = quiet s _ refl
+by_claim s i n b v (suc k) = no_stage_changes s _ refl
 by_claim s i n b v zero = changed s (after_claim_step s i n b v zero) n Claimed refl (λ more. absurd (omega arith))
     (λ more. absurd (omega arith))
 
 by_draw : (s : Core) (i d : ℕ) (v : View) (x : ℕ) → IsRightStep s (after_draw_step s i d v x)
-by_draw s i d v zero = quiet s _ refl
-by_draw s i d v (suc k) = quiet s _ refl
+by_draw s i d v zero = no_stage_changes s _ refl
+by_draw s i d v (suc k) = no_stage_changes s _ refl
 
 by_file : (s : Core) (i n : ℕ) (b : Block) (v : View) → HasView s i v → v.pending ≡ n ∷ []
     → IsRightStep s (after_file_step s i n b v)
@@ -73,8 +73,8 @@ by_file s i n b v e one = changed s (after_file_step s i n b v) n Filed refl
 
 by_take : (s : Core) (i n : ℕ) (v : View) (x : ℕ) (c : Option Block) → HasView s i v → filed_bit (s.stage n) ≡ 1
     → IsRightStep s (after_take_step s i n v x c)
-by_take s i n v (suc k) c e full = quiet s _ refl
-by_take s i n v zero None e full = quiet s s refl
+by_take s i n v (suc k) c e full = no_stage_changes s _ refl
+by_take s i n v zero None e full = no_stage_changes s s refl
 by_take s i n v zero (Some b) e full = changed s (after_take_step s i n v zero (Some b)) n Taken refl
     (λ more. absurd (omega (arith, more, full)))
     (λ more. (
@@ -90,23 +90,23 @@ by_take s i n v zero (Some b) e full = changed s (after_take_step s i n v zero (
 pub right_step : (limit : ℕ) (s : Core) → Invariant limit s → (draws : ℕ) (e : BoardEvent) (t : Core)
     → Happens limit draws s e t → IsRightStep s t
 right_step limit s r draws make t is = subst (IsRightStep s) (sym is)
-    (quiet s (with_views s (s.views ++ empty_view ∷ [])) refl)
+    (no_stage_changes s (with_views s (s.views ++ empty_view ∷ [])) refl)
 right_step limit s r draws (split i) t (v, e, _, is) = subst (IsRightStep s) (sym is)
-    (quiet s (with_views s (set s.views i (kept_view v) ++ split_view v ∷ [])) refl)
+    (no_stage_changes s (with_views s (set s.views i (kept_view v) ++ split_view v ∷ [])) refl)
 right_step limit s r draws (join i j) t (v, w, ne, e, f, _, _, is) = subst (IsRightStep s) (sym is)
-    (quiet s (with_views s (set (set s.views i (joint_view v w)) j empty_view)) refl)
+    (no_stage_changes s (with_views s (set (set s.views i (joint_view v w)) j empty_view)) refl)
 right_step limit s r draws (claim i n b) t (v, _, e, _, _, is) = subst (IsRightStep s) (sym is)
     (by_claim s i n b v (claimed_bit (s.stage n)))
 right_step limit s r draws (put i n b) t (v, _, _, _, is) = subst (IsRightStep s) (sym is)
-    (quiet s (record s { progress = update s.progress i (has_put n b) }) refl)
+    (no_stage_changes s (record s { progress = update s.progress i (has_put n b) }) refl)
 right_step limit s r draws (file i n b) t (v, e, one, _, is) = subst (IsRightStep s) (sym is) (by_file s i n b v e one)
 right_step limit s r draws (look i row g) t (v, e, is) = subst (IsRightStep s) (sym is)
-    (quiet s (with_views s (set s.views i (after_look s v row g))) refl)
+    (no_stage_changes s (with_views s (set s.views i (after_look s v row g))) refl)
 right_step limit s r draws (draw i d) t (v, _, e, _, is) = subst (IsRightStep s) (sym is) (by_draw s i d v (s.drawn d))
 right_step limit s r draws (take i n) t (v, e, _, saw, is) = subst (IsRightStep s) (sym is)
     (by_take s i n v (taken_bit (s.stage n)) (s.content n) e (r.stages.saw_filed i v e n saw))
 right_step limit s r draws (lift i n) t (v, b, _, _, is) = subst (IsRightStep s) (sym is)
-    (quiet s (record s { progress = update s.progress i (has_lifted n b) }) refl)
+    (no_stage_changes s (record s { progress = update s.progress i (has_lifted n b) }) refl)
 right_step limit s r draws (give i n) t (v, b, _, _, _, is) = subst (IsRightStep s) (sym is)
-    (quiet s (record s { home = update s.home n empty; progress = update s.progress i idle }) refl)
-right_step limit s r draws (load i) t (v, _, is) = subst (IsRightStep s) (sym is) (quiet s s refl)
+    (no_stage_changes s (record s { home = update s.home n empty; progress = update s.progress i idle }) refl)
+right_step limit s r draws (load i) t (v, _, is) = subst (IsRightStep s) (sym is) (no_stage_changes s s refl)

@@ -125,9 +125,10 @@ module _ {V : Type 0} (share : V → List ℕ) where
   one_whole k v f is = (one_fits k v f, omega (arith, is, sum_by-cons (λ u. weight k (share u)) v []))
 
   -- if v has the whole share, and g is 0 for each without a share, then the sum of g over all is g v
-  pub alone : (k : ℕ) (vs : List V) → AllWhole k vs → (i : ℕ) (v : V) → get_elem? vs i ≡ some v → IsWholeShare (share v)
+  pub sum_of_sole_owner : (k : ℕ) (vs : List V) → AllWhole k vs → (i : ℕ) (v : V) → get_elem? vs i ≡ some v →
+      IsWholeShare (share v)
       → (g : V → ℕ) → ((j : ℕ) (u : V) → get_elem? vs j ≡ some u → share u ≡ [] → g u ≡ 0) → sum_by g vs ≡ g v
-  alone k vs w i v e (m, f, is) g none =
+  sum_of_sole_owner k vs w i v e (m, f, is) g none =
       let a = whole_by m k vs w in let b = whole_by k m (v ∷ []) (one_whole m v f is) in let n : ℕ = m + k in
       let same : k + m ≡ n = omega arith in
       let c : sum_by (λ u. weight n (share u)) (v ∷ []) ≡ 2 ^ n = subst (λ (y : ℕ). sum_by (λ u. weight y (share u))

@@ -79,8 +79,8 @@ module _ {X : Type 0} (f : ℕ → X) (n : ℕ) (x : X) where
   update_else m ne = ap (λ b. cond b x (f m)) (ne_eqb m n ne)
 
 -- a fact holds of each number if it holds of n and of every other number
-pub each : (n : ℕ) (F : ℕ → Type 0) → F n → ((m : ℕ) → m ≢ n → F m) → (m : ℕ) → F m
-each n F here else m = dite (ℕ_discrete m n) (λ e. subst F (sym e) here) (λ ne. else m ne)
+pub cases_at : (n : ℕ) (F : ℕ → Type 0) → F n → ((m : ℕ) → m ≢ n → F m) → (m : ℕ) → F m
+cases_at n F here else m = dite (ℕ_discrete m n) (λ e. subst F (sym e) here) (λ ne. else m ne)
 
 -- the items of a list after the one with index i changed, or after one was added
 module _ {A : Type 0} where

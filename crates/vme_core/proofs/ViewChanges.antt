@@ -9,12 +9,12 @@ use Rattle.std.specs.Prelude.{sum_by}
 use Rattle.std.proofs.lemmas.List.Sums.{sum_by_push}
 use Rattle.vme_core.specs.Counting.{occurrences, numbers, HasPair}
 use Rattle.vme_core.specs.Views.{first_view, kept_view, split_view}
-use Rattle.vme_core.specs.Rule.{DrawRule, StageRule, ContentRule, HasNothing, ShareRule}
+use Rattle.vme_core.specs.BoardInvariant.{DrawInvariant, StageInvariant, ContentInvariant, HasNothing, ShareInvariant}
 use Rattle.vme_core.specs.Shares.{weight, FitsIn, kept_share}
 use Rattle.vme_core.proofs.ShareSums.{fits-append, weight-append, fits_kept, fits_split, halves, whole_more}
 use mathlib.Core.Logic.{dite}
 use native.Mathlib.Decide.{ℕ_discrete}
-use Rattle.vme_core.proofs.Sums.{sum_by_set, at_set, at_snoc, set_else, occurrences_else, occurrences-append, each}
+use Rattle.vme_core.proofs.Sums.{sum_by_set, at_set, at_snoc, set_else, occurrences_else, occurrences-append, cases_at}
 
 pub cons_none : {x : ℕ} {xs : List ℕ} → x ∷ xs ≡ [] → ⊥
 cons_none z = omega (arith, ap length z)
@@ -54,11 +54,11 @@ none_of : (xs ys : List ℕ) → xs ++ ys ≡ [] → (xs ≡ []) × (ys ≡ [])
 none_of [] ys z = (refl, z)
 none_of (x ∷ xs) ys z = absurd (cons_none z)
 
-module _ (drawn : ℕ → ℕ) (vs : List View) (r : DrawRule drawn vs) where
+module _ (drawn : ℕ → ℕ) (vs : List View) (r : DrawInvariant drawn vs) where
   pub draws_set : (drawn' : ℕ → ℕ) (i : ℕ) (v w : View) → get_elem? vs i ≡ some v → ((d : ℕ) → drawn' d ≤ 1)
       → ((d : ℕ) → drawn d ≤ drawn' d)
       → ((d : ℕ) → occurrences d w.draws + drawn d ≡ occurrences d v.draws + drawn' d)
-      → ((d : ℕ) → 0 < occurrences d w.found → drawn' d ≡ 1) → DrawRule drawn' (set vs i w)
+      → ((d : ℕ) → 0 < occurrences d w.found → drawn' d ≡ 1) → DrawInvariant drawn' (set vs i w)
   draws_set drawn' i v w e bit more count found = record {
     bit = bit;
     won_once = λ d. omega (arith, sum_by_set (λ (u : View). occurrences d u.draws) vs i v w e, r.won_once d, count d);
@@ -67,7 +67,7 @@ module _ (drawn : ℕ → ℕ) (vs : List View) (r : DrawRule drawn vs) where
   }
 
   pub draws_append : (w : View) → ((d : ℕ) → occurrences d w.draws ≡ 0) → ((d : ℕ) → 0 < occurrences d w.found → drawn d
-      ≡ 1) → DrawRule drawn (vs ++ w ∷ [])
+      ≡ 1) → DrawInvariant drawn (vs ++ w ∷ [])
   draws_append w none found = record {
     bit = r.bit;
     won_once = λ d. omega (arith, sum_by_push (λ (u : View). occurrences d u.draws) vs w, r.won_once d, none d);
@@ -77,7 +77,7 @@ module _ (drawn : ℕ → ℕ) (vs : List View) (r : DrawRule drawn vs) where
   pub draws_two : (i j : ℕ) (v w b s : View) → get_elem? vs i ≡ some v → j ≢ i → get_elem? vs j ≡ some w
       → ((d : ℕ) → occurrences d b.draws + occurrences d s.draws ≡ occurrences d v.draws + occurrences d w.draws)
       → ((d : ℕ) → 0 < occurrences d b.found → drawn d ≡ 1) → ((d : ℕ) → 0 < occurrences d s.found → drawn d ≡ 1)
-      → DrawRule drawn (set (set vs i b) j s)
+      → DrawInvariant drawn (set (set vs i b) j s)
   draws_two i j v w b s e ne f same mine spent = record {
     bit = r.bit;
     won_once = λ d. omega (
@@ -88,28 +88,30 @@ module _ (drawn : ℕ → ℕ) (vs : List View) (r : DrawRule drawn vs) where
     found = after_two (λ u. (d : ℕ) → 0 < occurrences d u.found → drawn d ≡ 1) vs i j b s mine spent r.found;
   }
 
-module _ (vs : List View) (r : ShareRule vs) where
-  -- `ShareRule` holds if one view changes to w, but not its share, and w satisfies `HasNothing` if the share is empty
+module _ (vs : List View) (r : ShareInvariant vs) where
+  -- `ShareInvariant` holds if one view changes to w, but not its share, and w satisfies `HasNothing` if the share is
+  -- empty
   pub shares_set : (i : ℕ) (v w : View) → get_elem? vs i ≡ some v → w.share ≡ v.share → (v.share ≡ [] → HasNothing w)
-      → ShareRule (set vs i w)
+      → ShareInvariant (set vs i w)
   shares_set i v w e same none = record {
     k = r.k;
     fit = after_set (λ u. FitsIn r.k u.share) vs i w (subst (FitsIn r.k) (sym same) (r.fit i v e)) r.fit;
     whole = omega (arith, sum_by_set (λ (u : View). weight r.k u.share) vs i v w e, r.whole, ap (weight r.k) same);
-    poor = after_set (λ u. u.share ≡ [] → HasNothing u) vs i w (λ z. none (sym same ∙ z)) r.poor;
+    no_share_has_nothing = after_set (λ u. u.share ≡ [] → HasNothing u) vs i w (λ z. none (sym same ∙ z))
+        r.no_share_has_nothing;
   }
 
-  pub shares_append : (w : View) → w.share ≡ [] → HasNothing w → ShareRule (vs ++ w ∷ [])
+  pub shares_append : (w : View) → w.share ≡ [] → HasNothing w → ShareInvariant (vs ++ w ∷ [])
   shares_append w lacks none = record {
     k = r.k;
     fit = after_append (λ u. FitsIn r.k u.share) vs w (subst (FitsIn r.k) (sym lacks) tt) r.fit;
     whole = omega (arith, sum_by_push (λ (u : View). weight r.k u.share) vs w, r.whole, ap (weight r.k) lacks);
-    poor = after_append (λ u. u.share ≡ [] → HasNothing u) vs w (λ _. none) r.poor;
+    no_share_has_nothing = after_append (λ u. u.share ≡ [] → HasNothing u) vs w (λ _. none) r.no_share_has_nothing;
   }
 
-  -- `ShareRule` holds after a split
-  pub shares_split : (i : ℕ) (v : View) → get_elem? vs i ≡ some v → ShareRule (set vs i (kept_view v) ++ split_view v
-      ∷ [])
+  -- `ShareInvariant` holds after a split
+  pub shares_split : (i : ℕ) (v : View) → get_elem? vs i ≡ some v
+      → ShareInvariant (set vs i (kept_view v) ++ split_view v ∷ [])
   shares_split i v e = let f = r.fit i v e in let more = whole_more (λ (u : View). u.share) r.k vs (r.fit, r.whole) in
       let n : ℕ = suc r.k in let ws : List View = set vs i (kept_view v) in record {
         k = n;
@@ -122,17 +124,17 @@ module _ (vs : List View) (r : ShareRule vs) where
           more.1,
           halves r.k v.share f,
         );
-        poor = after_append (λ u. u.share ≡ [] → HasNothing u) ws (split_view v)
+        no_share_has_nothing = after_append (λ u. u.share ≡ [] → HasNothing u) ws (split_view v)
             (λ _. record { list = refl; takes = refl; draws = refl; pending = refl })
             (after_set (λ u. u.share ≡ [] → HasNothing u) vs i (kept_view v)
-            (λ z. let h = r.poor i v e (none_kept v.share z) in
-            record { list = h.list; takes = h.takes; draws = h.draws; pending = h.pending }) r.poor);
+            (λ z. let h = r.no_share_has_nothing i v e (none_kept v.share z) in
+            record { list = h.list; takes = h.takes; draws = h.draws; pending = h.pending }) r.no_share_has_nothing);
       }
 
-  -- `ShareRule` holds after a join: b has both shares, and s has none
+  -- `ShareInvariant` holds after a join: b has both shares, and s has none
   pub shares_two : (i j : ℕ) (v w b s : View) → get_elem? vs i ≡ some v → j ≢ i → get_elem? vs j ≡ some w → b.share
       ≡ v.share ++ w.share → s.share ≡ [] → HasNothing s → (v.share ≡ [] → w.share ≡ [] → HasNothing b)
-      → ShareRule (set (set vs i b) j s)
+      → ShareInvariant (set (set vs i b) j s)
   shares_two i j v w b s e ne g both lacks spent none = let k : ℕ = r.k in record {
     k = k;
     fit = after_two (λ u. FitsIn k u.share) vs i j b s
@@ -144,8 +146,9 @@ module _ (vs : List View) (r : ShareRule vs) where
           (omega (arith, ap (weight k) both, ap (weight k) lacks, weight-append k v.share w.share)),
       r.whole,
     );
-    poor = after_two (λ u. u.share ≡ [] → HasNothing u) vs i j b s (λ z. let parts = none_of v.share w.share
-        (sym both ∙ z) in none parts.0 parts.1) (λ _. spent) r.poor;
+    no_share_has_nothing = after_two (λ u. u.share ≡ [] → HasNothing u) vs i j b s
+        (λ z. let parts = none_of v.share w.share
+        (sym both ∙ z) in none parts.0 parts.1) (λ _. spent) r.no_share_has_nothing;
   }
 
 -- what the view w has seen is so
@@ -155,7 +158,7 @@ pub record Sighted (c f t : ℕ → ℕ) (w : View) : Type 0 where
   pub taken : (n : ℕ) → 0 < occurrences n w.taken → t n ≡ 1
 
 -- c, f and t are the bits `claimed`, `filed` and `taken`
-module _ (limit : ℕ) (c f t : ℕ → ℕ) (vs : List View) (r : StageRule limit c f t vs) where
+module _ (limit : ℕ) (c f t : ℕ → ℕ) (vs : List View) (r : StageInvariant limit c f t vs) where
   pub sighted : (i : ℕ) (v : View) → get_elem? vs i ≡ some v → Sighted c f t v
   sighted i v e = record { claimed = r.saw_claimed i v e; filed = r.saw_filed i v e; taken = r.saw_taken i v e }
 
@@ -165,7 +168,7 @@ module _ (limit : ℕ) (c f t : ℕ → ℕ) (vs : List View) (r : StageRule lim
       → ((n : ℕ) → occurrences n w.pending + f' n + c n ≡ occurrences n v.pending + f n + c' n)
       → ((n : ℕ) → occurrences n (numbers w.list) + f n ≡ occurrences n (numbers v.list) + f' n)
       → ((n : ℕ) → occurrences n (numbers w.takes) + t n ≡ occurrences n (numbers v.takes) + t' n) → Sighted c' f' t' w
-      → StageRule limit c' f' t' (set vs i w)
+      → StageInvariant limit c' f' t' (set vs i w)
   stages_set c' f' t' i v w e bit within order mc mf mt pend list take saw =
       let pends : (n : ℕ) → sum_by (λ (u : View). occurrences n u.pending) (set vs i w) + f' n ≡ c' n = λ n. omega
       (arith, sum_by_set (λ (u : View). occurrences n u.pending) vs i v w e, r.pending_once n, pend n) in record {
@@ -193,17 +196,18 @@ module _ (limit : ℕ) (c f t : ℕ → ℕ) (vs : List View) (r : StageRule lim
             (λ j u there n s. omega (arith, r.saw_taken j u there n s, bit n, mt n, order n, pends n));
       }
 
-  -- `StageRule` holds if one view saw other numbers, which satisfy `Sighted`, and nothing else changed
+  -- `StageInvariant` holds if one view saw other numbers, which satisfy `Sighted`, and nothing else changed
   pub stages_saw : (i : ℕ) (v w : View) → get_elem? vs i ≡ some v → ((n : ℕ) → occurrences n w.pending
       ≡ occurrences n v.pending) → ((n : ℕ) → occurrences n (numbers w.list) ≡ occurrences n (numbers v.list))
       → ((n : ℕ) → occurrences n (numbers w.takes) ≡ occurrences n (numbers v.takes))
-      → Sighted c f t w → StageRule limit c f t (set vs i w)
+      → Sighted c f t w → StageInvariant limit c f t (set vs i w)
   stages_saw i v w e p l k saw = stages_set c f t i v w e r.bit r.in_range r.taken_is_filed (λ n. le_refl _)
       (λ n. le_refl _) (λ n. le_refl _) (λ n. omega (arith, p n)) (λ n. omega (arith, l n)) (λ n. omega (arith, k n))
       saw
 
   pub stages_append : (w : View) → ((n : ℕ) → occurrences n w.pending ≡ 0) → ((n : ℕ) → occurrences n (numbers w.list)
-      ≡ 0) → ((n : ℕ) → occurrences n (numbers w.takes) ≡ 0) → Sighted c f t w → StageRule limit c f t (vs ++ w ∷ [])
+      ≡ 0) → ((n : ℕ) → occurrences n (numbers w.takes) ≡ 0) → Sighted c f t w → StageInvariant limit c f t
+      (vs ++ w ∷ [])
   stages_append w p l k saw = record {
     bit = r.bit;
     in_range = r.in_range;
@@ -232,7 +236,7 @@ module _ (limit : ℕ) (c f t : ℕ → ℕ) (vs : List View) (r : StageRule lim
       → ((n : ℕ) → occurrences n (numbers b.list) + occurrences n (numbers s.list) ≡ occurrences n (numbers v.list) +
       occurrences n (numbers w.list))
       → ((n : ℕ) → occurrences n (numbers b.takes) + occurrences n (numbers s.takes) ≡ occurrences n (numbers v.takes) +
-      occurrences n (numbers w.takes)) → Sighted c f t b → Sighted c f t s → StageRule limit c f t
+      occurrences n (numbers w.takes)) → Sighted c f t b → Sighted c f t s → StageInvariant limit c f t
       (set (set vs i b) j s)
   stages_two i j v w b s e ne has p l k mine spent = record {
     bit = r.bit;
@@ -268,23 +272,23 @@ pub record Holding (content : ℕ → Option Block) (w : View) : Type 0 where
   pub listed : (n : ℕ) (b : Block) → HasPair w.list n b → content n ≡ Some b
   pub took : (n : ℕ) (b : Block) → HasPair w.takes n b → content n ≡ Some b
 
--- the part of `ContentRule` that isn't about views: how the bits, the contents and the slots agree
+-- the part of `ContentInvariant` that isn't about views: how the bits, the contents and the slots agree
 pub record Placed (c f t : ℕ → ℕ) (K : ℕ → Option Block) (E : ℕ → Type 0) (H : ℕ → Block → Type 0) : Type 0 where
   pub free_is_empty : (n : ℕ) → c n ≡ 0 → E n
   pub unfiled_is_none : (n : ℕ) → f n ≡ 0 → K n ≡ None
-  pub filed_is_home : (n : ℕ) → f n ≡ 1 → t n ≡ 0 → (b : Block) × (K n ≡ Some b) × H n b
-  pub home_is_filed : (n : ℕ) (b : Block) → H n b → (f n ≡ 1) × (t n ≡ 0) × (K n ≡ Some b)
+  pub filed_is_stored : (n : ℕ) → f n ≡ 1 → t n ≡ 0 → (b : Block) × (K n ≡ Some b) × H n b
+  pub stored_is_filed : (n : ℕ) (b : Block) → H n b → (f n ≡ 1) × (t n ≡ 0) × (K n ≡ Some b)
 
 -- c, f and t are the bits `claimed`, `filed` and `taken`, K is `content`, E is `IsEmpty`, and H is `IsFilled`
 module _ (c f t : ℕ → ℕ) (K : ℕ → Option Block) (E : ℕ → Type 0) (H : ℕ → Block → Type 0) (vs : List View)
-    (r : ContentRule c f t K E H vs) where
+    (r : ContentInvariant c f t K E H vs) where
   pub placed : Placed c f t K E H
   placed = record {
     free_is_empty = r.free_is_empty;
     unfiled_is_none = r.unfiled_is_none;
-    filed_is_home
-        = r.filed_is_home;
-    home_is_filed = r.home_is_filed;
+    filed_is_stored
+        = r.filed_is_stored;
+    stored_is_filed = r.stored_is_filed;
   }
 
   pub holding : (i : ℕ) (v : View) → get_elem? vs i ≡ some v → Holding K v
@@ -292,38 +296,39 @@ module _ (c f t : ℕ → ℕ) (K : ℕ → Option Block) (E : ℕ → Type 0) (
 
   pub contents_set : (c' f' t' : ℕ → ℕ) (K' : ℕ → Option Block) (E' : ℕ → Type 0) (H' : ℕ → Block → Type 0) (i : ℕ)
       (w : View) → Placed c' f' t' K' E' H' → ((n : ℕ) (b : Block) → K n ≡ Some b → K' n ≡ Some b) → Holding K' w
-      → ContentRule c' f' t' K' E' H' (set vs i w)
+      → ContentInvariant c' f' t' K' E' H' (set vs i w)
   contents_set c' f' t' K' E' H' i w p stays mine = record {
     free_is_empty = p.free_is_empty;
     unfiled_is_none = p.unfiled_is_none;
-    filed_is_home = p.filed_is_home;
-    home_is_filed = p.home_is_filed;
+    filed_is_stored = p.filed_is_stored;
+    stored_is_filed = p.stored_is_filed;
     listed = after_set (λ u. (n : ℕ) (b : Block) → HasPair u.list n b → K' n ≡ Some b) vs i w mine.listed
         (λ j u there n b has. stays n b (r.listed j u there n b has));
     took = after_set (λ u. (n : ℕ) (b : Block) → HasPair u.takes n b → K' n ≡ Some b) vs i w mine.took
         (λ j u there n b has. stays n b (r.took j u there n b has));
   }
 
-  -- `ContentRule` holds if one view changes to w, which satisfies `Holding`, and no bit, content or slot changes
-  pub contents_look : (i : ℕ) (w : View) → Holding K w → ContentRule c f t K E H (set vs i w)
-  contents_look i w mine = contents_set c f t K E H i w placed (λ _ _ h. h) mine
+  -- `ContentInvariant` holds if one view changes to w, which satisfies `Holding`, and no bit, content or slot changes
+  pub contents_saw : (i : ℕ) (w : View) → Holding K w → ContentInvariant c f t K E H (set vs i w)
+  contents_saw i w mine = contents_set c f t K E H i w placed (λ _ _ h. h) mine
 
-  pub contents_append : (w : View) → Holding K w → ContentRule c f t K E H (vs ++ w ∷ [])
+  pub contents_append : (w : View) → Holding K w → ContentInvariant c f t K E H (vs ++ w ∷ [])
   contents_append w mine = record {
     free_is_empty = r.free_is_empty;
     unfiled_is_none = r.unfiled_is_none;
-    filed_is_home = r.filed_is_home;
-    home_is_filed = r.home_is_filed;
+    filed_is_stored = r.filed_is_stored;
+    stored_is_filed = r.stored_is_filed;
     listed = after_append (λ u. (n : ℕ) (b : Block) → HasPair u.list n b → K n ≡ Some b) vs w mine.listed r.listed;
     took = after_append (λ u. (n : ℕ) (b : Block) → HasPair u.takes n b → K n ≡ Some b) vs w mine.took r.took;
   }
 
-  pub contents_two : (i j : ℕ) (b s : View) → Holding K b → Holding K s → ContentRule c f t K E H (set (set vs i b) j s)
+  pub contents_two : (i j : ℕ) (b s : View) → Holding K b → Holding K s → ContentInvariant c f t K E H
+      (set (set vs i b) j s)
   contents_two i j b s mine spent = record {
     free_is_empty = r.free_is_empty;
     unfiled_is_none = r.unfiled_is_none;
-    filed_is_home = r.filed_is_home;
-    home_is_filed = r.home_is_filed;
+    filed_is_stored = r.filed_is_stored;
+    stored_is_filed = r.stored_is_filed;
     listed = after_two (λ u. (n : ℕ) (x : Block) → HasPair u.list n x → K n ≡ Some x) vs i j b s mine.listed
         spent.listed r.listed;
     took = after_two (λ u. (n : ℕ) (x : Block) → HasPair u.takes n x → K n ≡ Some x) vs i j b s mine.took spent.took
@@ -332,7 +337,7 @@ module _ (c f t : ℕ → ℕ) (K : ℕ → Option Block) (E : ℕ → Type 0) (
 
 pub saw_one : (c : ℕ → ℕ) (n : ℕ) (xs : List ℕ) → c n ≡ 1 → ((m : ℕ) → 0 < occurrences m xs → c m ≡ 1) → (m : ℕ)
     → 0 < occurrences m (n ∷ xs) → c m ≡ 1
-saw_one c n xs here old = each n (λ m. 0 < occurrences m (n ∷ xs) → c m ≡ 1) (λ _. here)
+saw_one c n xs here old = cases_at n (λ m. 0 < occurrences m (n ∷ xs) → c m ≡ 1) (λ _. here)
     (λ m ne h. old m (omega (arith, occurrences_else m n xs ne)))
 
 pub saw_both : (c : ℕ → ℕ) (xs ys : List ℕ) → ((m : ℕ) → 0 < occurrences m xs → c m ≡ 1)
@@ -349,10 +354,10 @@ pub from_fresh : (F : View → Type 0) → F first_view → (i : ℕ) (v : View)
 from_fresh F f i v e = subst F (only_one first_view v i e) f
 
 -- the first bench has the whole share
-pub shares_first : ShareRule (first_view ∷ [])
+pub shares_first : ShareInvariant (first_view ∷ [])
 shares_first = record {
   k = 0;
   fit = from_fresh (λ v. FitsIn 0 v.share) (omega arith, tt);
   whole = refl;
-  poor = from_fresh (λ v. v.share ≡ [] → HasNothing v) (λ z. absurd (cons_none z));
+  no_share_has_nothing = from_fresh (λ v. v.share ≡ [] → HasNothing v) (λ z. absurd (cons_none z));
 }

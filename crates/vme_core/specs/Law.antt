@@ -39,10 +39,10 @@ pub record IsLawful (s : Core) : Type 0 where
   -- a block that a bench filed or took is the content of its number, and a filed block that isn't taken is in its slot
   pub listed : (i : ℕ) (v : View) → HasView s i v → (n : ℕ) (b : Block) → HasPair v.list n b → s.content n ≡ Some b
   pub took : (i : ℕ) (v : View) → HasView s i v → (n : ℕ) (b : Block) → HasPair v.takes n b → s.content n ≡ Some b
-  pub filed_is_home : (n : ℕ) → s.stage n ≡ Filed → (b : Block) × (s.content n ≡ Some b) × (s.home n ≡ filled b)
+  pub filed_is_stored : (n : ℕ) → s.stage n ≡ Filed → (b : Block) × (s.content n ≡ Some b) × (s.home n ≡ filled b)
   pub won_once : (d : ℕ) → sum_by (λ v. occurrences d v.draws) s.views ≡ s.drawn d
   -- the bench that has the whole share has done all that was done
-  pub alone : (i : ℕ) (v : View) → HasView s i v → IsWholeShare v.share → HasDoneAll s v
+  pub whole_share_did_all : (i : ℕ) (v : View) → HasView s i v → IsWholeShare v.share → HasDoneAll s v
   -- no bench has seen a number at a later stage than its own, or a draw won that isn't
   pub seen_is_so : (i : ℕ) (v : View) → HasView s i v → (n : ℕ) → rank (seen v n) ≤ rank (s.stage n)
   pub found_is_drawn : (i : ℕ) (v : View) → HasView s i v → (d : ℕ) → 0 < occurrences d v.found → s.drawn d ≡ 1

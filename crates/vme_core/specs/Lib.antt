@@ -3,5 +3,5 @@ pub mod Shares
 pub mod Stages
 pub mod Views
 pub mod Machine
-pub mod Rule
+pub mod BoardInvariant
 pub mod Law

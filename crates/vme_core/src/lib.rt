@@ -17,10 +17,10 @@
 //!   is only in contracts.
 //! - `specs/Machine.antt`: the states and the events. `specs/Shares.antt`: the shares.
 //! - `specs/Law.antt`: what holds after every run.
-//! - `specs/Rule.antt`: the invariant from which the law follows. It is over functions that give what
-//!   is claimed, filed, taken and drawn, and the slots. `proofs/RuleSteps.antt` shows that each step
-//!   preserves it, for any source of those functions: the machine's state here, the words and slots
-//!   of a shared table in vme_board.
+//! - `specs/BoardInvariant.antt`: the invariant from which the law follows. It is over functions
+//!   that give what is claimed, filed, taken and drawn, and the slots. `proofs/InvariantSteps.antt`
+//!   shows that each step preserves it, for any source of those functions: the machine's state
+//!   here, the words and slots of a shared table in vme_board.
 //!
 //! # What is proved
 //!

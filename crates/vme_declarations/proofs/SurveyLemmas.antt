@@ -22,22 +22,22 @@ use Rattle.vcd_read.proofs.FrontLemmas.{found-front}
 use Rattle.vcd_read.proofs.ReadLemmas.{fails_first}
 use Rattle.vcd_read.proofs.CurrentValues.{CurrentValues}
 use Rattle.vcd_read.proofs.BodyFoldLemmas.{Ends, Follows, fails-followed, gives-followed, taken-follows}
-use Rattle.vme_declarations.specs.Surveys.{EndsBetweenTokens, IsSurveyOf, Survey, body_ahead, count_ahead, count_behind}
-use Rattle.vme_declarations.specs.Surveys.{counted, definitions_of, is_want_of_memory, survey_of, uncounted}
+use Rattle.vme_declarations.specs.Surveys.{EndsBetweenTokens, IsSurveyOf, Survey, body_ahead, count_after, count_ahead}
+use Rattle.vme_declarations.specs.Surveys.{definitions_of, is_want_of_memory, next_count, same_count, survey_of}
 use Rattle.vme_declarations.specs.Surveys.{variables_by, variables_in, with_count}
 use Rattle.vme_declarations.proofs.HeaderLemmas.{is-taken}
 
 -- ---- faults
 
 -- a fault that isn't want of memory is the result of reading
-pub told-is : {X : Type 0} (fault : VcdFault) (r : Result X VcdFault) → is_want_of_memory fault.kind ≡ false
+pub fails-is : {X : Type 0} (fault : VcdFault) (r : Result X VcdFault) → is_want_of_memory fault.kind ≡ false
     → ReadFails fault r → r ≡ Err fault
-told-is {X = X} fault r told fails = by_kind fault.line fault.kind told fails
+fails-is {X = X} fault r not_want fails = by_kind fault.line fault.kind not_want fails
   where
     by_kind : (line : ℕ) (kind : FaultKind) → is_want_of_memory kind ≡ false → ReadFailsAs line kind r
         → r ≡ Err (record { line = line; kind = kind })
-    by_kind line Memory told fails = absurd (cc told)
-    by_kind line kind told fails = fails
+    by_kind line Memory not_want fails = absurd (cc not_want)
+    by_kind line kind not_want fails = fails
 
 -- if `r` followed by a total function `f` fails, `r` fails with the same fault
 fails_back : {X Y : Type 0} (line : ℕ) (kind : FaultKind) (r : Result X VcdFault) (f : X → Y) → ReadFailsAs line kind
@@ -61,7 +61,7 @@ abbrev pub header : List ℕ → List Token → Result (Defined (Unit {0})) VcdF
 header text ts = header_of passed text (nothing_declared tt) ts
 
 abbrev surveyed : Defined (List Variable) → Result Survey VcdFault
-surveyed d = with_count d.variables (count_behind d)
+surveyed d = with_count d.variables (count_after d)
 
 -- a fault of the definitions is one of the survey
 pub definitions-fail : (text : List ℕ) (fault : VcdFault) → ReadFails fault (header text (tokens text))
@@ -74,7 +74,7 @@ definitions-fail text fault fails =
 
 -- the survey of a text has its variables and the number of instants after its definitions
 pub behind-counts : (text : List ℕ) (h : Headed) (n : ℕ) → header text (tokens text) ≡ Ok (defined h tt)
-    → fold_body uncounted counted h.nets 0 h.body ≡ Ok n
+    → fold_body same_count next_count h.nets 0 h.body ≡ Ok n
     → survey_of text ≡ Ok (record { variables = variables_in text; instants = n })
 unfolding survey_of
 behind-counts text h n is counts =
@@ -85,11 +85,11 @@ behind-counts text h n is counts =
 
 -- a fault of the body is the fault of the survey
 pub behind-fails : (text : List ℕ) (h : Headed) (fault : VcdFault) → header text (tokens text) ≡ Ok (defined h tt)
-    → ReadFails fault (fold_body uncounted counted h.nets 0 h.body) → ReadFails fault (survey_of text)
+    → ReadFails fault (fold_body same_count next_count h.nets 0 h.body) → ReadFails fault (survey_of text)
 unfolding survey_of
 behind-fails text h fault is fails =
     let taken = is-taken passed text h tt tt is in
-    fails_first fault (fold_body uncounted counted h.nets 0 h.body)
+    fails_first fault (fold_body same_count next_count h.nets 0 h.body)
     (λ n. Ok (record { variables = taken.0; instants = n })) (survey_of text)
     (ap (λ (r : Result (Defined (List Variable)) VcdFault). r >>= surveyed) taken.1) fails
 
@@ -103,8 +103,8 @@ one_more : (done : List Instant) (n : ℕ) (x : Instant) → length done ≡ n �
 one_more done n x e = omega (arith, e, length-append done (x ∷ []))
 
 follows : (h : Headed) → Follows (Ends Counts) (instants_from h.nets h.body)
-    (fold_body uncounted counted h.nets 0 h.body)
-follows h = taken-follows uncounted counted h.nets Counts (λ done current n net bits lt counts. counts)
+    (fold_body same_count next_count h.nets 0 h.body)
+follows h = taken-follows same_count next_count h.nets Counts (λ done current n net bits lt counts. counts)
     (λ done current n time counts. one_more done n _ counts) h.body 0 refl
 
 count_ok : (variables : List Variable) (r : Result ℕ VcdFault) (survey : Survey) → with_count variables r ≡ Ok survey
@@ -121,8 +121,8 @@ is-of-dump text survey e = by_case (definitions_of text) refl e
     by_case : (r : Result (Defined (List Variable)) VcdFault) → definitions_of text ≡ r → (r >>= surveyed) ≡ Ok survey
         → IsSurveyOf survey text
     by_case (Ok d) is made =
-        let (same, counts) = count_ok d.variables (count_behind d) survey made in
-        let gives = gives-followed (Ends Counts) (instants_from d.head.nets d.head.body) (count_behind d)
+        let (same, counts) = count_ok d.variables (count_after d) survey made in
+        let gives = gives-followed (Ends Counts) (instants_from d.head.nets d.head.body) (count_after d)
         survey.instants (follows d.head) counts in (
           record { variables = d.variables; instants = gives.0 },
           dump_behind text d is
@@ -147,36 +147,38 @@ fails-of-dump text fault fails =
         → ReadFails fault (r >>= contents_behind)
     by_case (Ok d) h =
         fails_first fault (instants_from d.head.nets d.head.body) (with_variables d.variables) (contents_behind d) refl
-        (fails-followed (Ends Counts) (instants_from d.head.nets d.head.body) (count_behind d) fault (follows d.head)
-        (count_fails fault.line fault.kind d.variables (count_behind d) h))
+        (fails-followed (Ends Counts) (instants_from d.head.nets d.head.body) (count_after d) fault (follows d.head)
+        (count_fails fault.line fault.kind d.variables (count_after d) h))
     by_case (Err first) h = fails_alike _ _ fault.line fault.kind first h
 
 -- ---- piece by piece
 
 abbrev ends_as : Result (State ℕ) VcdFault → Result ℕ VcdFault
-ends_as r = r >>= at_end counted
+ends_as r = r >>= at_end next_count
 
 module _ (r : Reached ℕ) where
   -- the result for the tokens `ts`
   abbrev comes_of : List Token → Result ℕ VcdFault
-  comes_of ts = ends_as (steps uncounted counted r.nets (state_at r.progress r.dump_section) (body_from r.place ts))
+  comes_of ts =
+      ends_as (steps same_count next_count r.nets (state_at r.progress r.dump_section) (body_from r.place ts))
 
   -- the count for a piece and the rest, in two parts
   parts : (piece rest : List ℕ) → EndsBetweenTokens piece → count_ahead r (piece ++ rest)
-      ≡ ends_as (rest_of uncounted counted r (tokens_from r.line piece) (tokens_from (line_behind r.line piece) rest))
+      ≡ ends_as (rest_of same_count next_count r (tokens_from r.line piece)
+      (tokens_from (line_behind r.line piece) rest))
   parts piece rest ends = ap comes_of (append-nil (tokens_from r.line (piece ++ rest)) ∙ ends r.line rest)
 
   later : (line : ℕ) (rest : List ℕ) → r.line ≡ line
-      → ends_as (rest_of uncounted counted r [] (tokens_from line rest)) ≡ count_ahead r rest
+      → ends_as (rest_of same_count next_count r [] (tokens_from line rest)) ≡ count_ahead r rest
   later line rest is =
       ap (λ (l : ℕ). comes_of (tokens_from l rest)) (sym is) ∙ ap comes_of (sym (append-nil (tokens_from r.line rest)))
 
 -- reading `ts` from `r` leads to `r2`: both give the same result for any `more`
 abbrev pub Leads : Reached ℕ → List Token → Reached ℕ → Type 0
-Leads r ts r2 = (more : List Token) → rest_of uncounted counted r ts more ≡ rest_of uncounted counted r2 [] more
+Leads r ts r2 = (more : List Token) → rest_of same_count next_count r ts more ≡ rest_of same_count next_count r2 [] more
 
 abbrev pub FailsAhead : VcdFault → Reached ℕ → List Token → Type 0
-FailsAhead fault r ts = (more : List Token) → ReadFails fault (rest_of uncounted counted r ts more)
+FailsAhead fault r ts = (more : List Token) → ReadFails fault (rest_of same_count next_count r ts more)
 
 -- where a piece of the body is read, the survey for the piece and the rest is that for the rest
 pub read-on : (front front2 : List ℕ) (r r2 : Reached ℕ) (piece : List ℕ) → front2 ≡ front
@@ -194,7 +196,7 @@ count-of-fault : (fault : VcdFault) (variables : List Variable) (r : Result (Sta
     → ReadFails fault whole
 count-of-fault fault variables r whole is fails =
     fails_first fault (ends_as r) (λ n. Ok (record { variables = variables; instants = n })) whole is
-    (fails_first fault r (at_end counted) (ends_as r) refl fails)
+    (fails_first fault r (at_end next_count) (ends_as r) refl fails)
 
 -- a fault of a piece of the body is the fault of the survey
 pub read-fails : (front : List ℕ) (r : Reached ℕ) (piece : List ℕ) (fault : VcdFault) → EndsBetweenTokens piece
@@ -202,14 +204,14 @@ pub read-fails : (front : List ℕ) (r : Reached ℕ) (piece : List ℕ) (fault 
     → (rest : List ℕ) → ReadFails fault (body_ahead front r (piece ++ rest))
 read-fails front r piece fault ends fails rest =
     let more = tokens_from (line_behind r.line piece) rest in
-    count-of-fault fault (variables_in front) (rest_of uncounted counted r (tokens_from r.line piece) more)
+    count-of-fault fault (variables_in front) (rest_of same_count next_count r (tokens_from r.line piece) more)
     (body_ahead front r (piece ++ rest)) (ap (with_count (variables_in front)) (parts r piece rest ends)) (fails more)
 
 -- a fault of the last bytes of the body is the fault of the survey
 pub last-fails : (front : List ℕ) (r : Reached ℕ) (rest : List ℕ) (fault : VcdFault)
     → FailsAhead fault r (tokens_from r.line rest) → ReadFails fault (body_ahead front r rest)
 last-fails front r rest fault fails =
-    count-of-fault fault (variables_in front) (rest_of uncounted counted r (tokens_from r.line rest) [])
+    count-of-fault fault (variables_in front) (rest_of same_count next_count r (tokens_from r.line rest) [])
     (body_ahead front r rest) refl (fails [])
 
 -- ---- the definitions
@@ -245,14 +247,15 @@ pub record IsBegun (front left : List ℕ) (h : Headed) (r : Reached ℕ) : Type
 
 module _ (front left : List ℕ) (h : Headed) (r : Reached ℕ) (begun : IsBegun front left h r)
     (ends : EndsBetweenTokens front) where
-  whole_count : (more : List Token) → fold_body uncounted counted h.nets 0 (h.body ++ more)
-      ≡ ends_as (rest_of uncounted counted r (tokens_from r.line left) more)
+  whole_count : (more : List Token) → fold_body same_count next_count h.nets 0 (h.body ++ more)
+      ≡ ends_as (rest_of same_count next_count r (tokens_from r.line left) more)
   whole_count more = rw (begun.nets, begun.progress, begun.dump_section, begun.place, begun.body) refl
 
   -- the survey of a text that begins with `front`, by the body from `r` on
   begun_ahead : (rest : List ℕ) → survey_of (front ++ rest)
       ≡ with_count (variables_in front)
-      (ends_as (rest_of uncounted counted r (tokens_from r.line left) (tokens_from (line_behind 1 front) rest)))
+      (ends_as (rest_of same_count next_count r (tokens_from r.line left)
+      (tokens_from (line_behind 1 front) rest)))
   begun_ahead rest =
       let more = tokens_from (line_behind 1 front) rest in
       let whole : header front (tokens front) ≡ Ok (defined (going_on h []) tt) =
@@ -262,10 +265,10 @@ module _ (front left : List ℕ) (h : Headed) (r : Reached ℕ) (begun : IsBegun
       (defined (going_on h []) taken.0) taken.1 in
       of_front front rest ends ∙ ap (λ (d : Result (Defined (List Variable)) VcdFault). d >>= surveyed) found
       ∙ ap (with_count taken.0)
-      (ap (λ (body : List Token). fold_body uncounted counted h.nets 0 (body ++ more)) (append-nil h.body)
+      (ap (λ (body : List Token). fold_body same_count next_count h.nets 0 (body ++ more)) (append-nil h.body)
       ∙ whole_count more)
       ∙ ap (λ (vs : List Variable). with_count vs
-      (ends_as (rest_of uncounted counted r (tokens_from r.line left) more))) (sym (ap variables_by taken.1))
+      (ends_as (rest_of same_count next_count r (tokens_from r.line left) more))) (sym (ap variables_by taken.1))
 
   -- where what `front` has of the body is read, the survey of a text that begins with `front` is that for the rest
   pub begun-read : (r2 : Reached ℕ) → r2.line ≡ line_behind r.line left → Leads r (tokens_from r.line left) r2
@@ -280,5 +283,5 @@ module _ (front left : List ℕ) (h : Headed) (r : Reached ℕ) (begun : IsBegun
       → ReadFails fault (survey_of (front ++ rest))
   begun-fails fault fails rest =
       let more = tokens_from (line_behind 1 front) rest in
-      count-of-fault fault (variables_in front) (rest_of uncounted counted r (tokens_from r.line left) more)
+      count-of-fault fault (variables_in front) (rest_of same_count next_count r (tokens_from r.line left) more)
       (survey_of (front ++ rest)) (begun_ahead rest) (fails more)

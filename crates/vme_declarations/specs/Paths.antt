@@ -8,31 +8,33 @@ use Rattle.vme_declarations.specs.declared.declared.DeclaredNames.{DeclaredNames
 use Rattle.vme_declarations.specs.declared.declared.Scope.{Scope}
 
 -- the offset in `path` after `name` and a dot, if these are at the offset `before`; else `nowhere`
-abbrev pub begun_by : List ℕ → ℕ → List ℕ → ℕ
-begun_by path before name =
+abbrev pub offset_after_name : List ℕ → ℕ → List ℕ → ℕ
+offset_after_name path before name =
     if starts_with nat_eq (drop before path) name && (slice_index (drop before path) (length name) == 46)
     then before + length name + 1
     else nowhere
 
 -- the offset in `path` after `name` and a dot, if the scope around `name` has an offset
-abbrev pub begun_in : List ℕ → List ℕ → Option ℕ → ℕ
-begun_in path name None = nowhere
-begun_in path name (Some before) = begun_by path before name
+abbrev pub offset_after_name_at : List ℕ → List ℕ → Option ℕ → ℕ
+offset_after_name_at path name None = nowhere
+offset_after_name_at path name (Some before) = offset_after_name path before name
 
--- the offset in `path` after the path of `scope` and a dot, or `nowhere`; 0 for the scope around all others; `begun`
+-- the offset in `path` after the path of `scope` and a dot, or `nowhere`; 0 for the scope around all others; `offsets`
 -- has the offsets of the scopes before it
-abbrev pub begun_of : DeclaredNames → List ℕ → List ℕ → Scope → ℕ
-begun_of declared path begun scope =
-    if scope.parent == nowhere then 0 else begun_in path (scope_name declared scope) (slice_get begun scope.parent)
+abbrev pub offset_after_scope : DeclaredNames → List ℕ → List ℕ → Scope → ℕ
+offset_after_scope declared path offsets scope =
+    if scope.parent == nowhere then 0
+    else offset_after_name_at path (scope_name declared scope) (slice_get offsets scope.parent)
 
--- `begun` with the offset of `scope`
-abbrev pub begun_more : DeclaredNames → List ℕ → List ℕ → Scope → List ℕ
-begun_more declared path begun scope = begun ++ begun_of declared path begun scope ∷ []
+-- `offsets` with the offset of `scope`
+abbrev pub with_offset : DeclaredNames → List ℕ → List ℕ → Scope → List ℕ
+with_offset declared path offsets scope = offsets ++ offset_after_scope declared path offsets scope ∷ []
 
 -- for each scope, the offset in `path` after the scope's own path and a dot, or `nowhere`
-abbrev pub scopes_begun : DeclaredNames → List ℕ → List ℕ
-scopes_begun declared path = fold (begun_more declared path) [] (scopes declared)
+abbrev pub offsets_after_scopes : DeclaredNames → List ℕ → List ℕ
+offsets_after_scopes declared path = fold (with_offset declared path) [] (scopes declared)
 
 -- for each scope, whether its path is `path`
 abbrev pub scopes_of : DeclaredNames → List ℕ → List Bool
-scopes_of declared path = map (λ begun. begun == length (with_dot path)) (scopes_begun declared (with_dot path))
+scopes_of declared path =
+    map (λ offset. offset == length (with_dot path)) (offsets_after_scopes declared (with_dot path))

@@ -17,7 +17,7 @@ body_reached body = reached (λ (l : LevelsSeen). l.instants) body.pieces
 abbrev pub stage_ahead : SurveyStage → List ℕ → Result Survey VcdFault
 stage_ahead Definitions rest = survey_of rest
 stage_ahead (Body body) rest = body_ahead body.front.items (body_reached body) rest
-stage_ahead (Failed told) rest = Err told.fault
+stage_ahead (Failed first) rest = Err first.fault
 
 abbrev pub survey_ahead : DumpSurvey → List ℕ → Result Survey VcdFault
 survey_ahead survey rest = stage_ahead survey.stage rest

@@ -14,17 +14,17 @@ use Rattle.vcd_read.specs.declared.fault.FaultKind.{FaultKind}
 use Rattle.vcd_read.specs.declared.fault.FaultKind.TheVariants.{Memory}
 use Rattle.vcd_read.specs.declared.fault.VcdFault.{VcdFault}
 
--- ---- the instants, counted
+-- ---- the number of instants
 
-abbrev pub uncounted : ℕ → ℕ → List Bit → ℕ
-uncounted count net bits = count
+abbrev pub same_count : ℕ → ℕ → List Bit → ℕ
+same_count count net bits = count
 
-abbrev pub counted : ℕ → ℕ → ℕ
-counted count time = count + 1
+abbrev pub next_count : ℕ → ℕ → ℕ
+next_count count time = count + 1
 
 -- the number of instants in the body after the definitions `d`, or the first fault of the body
-abbrev pub count_behind : {V : Type 0} → Defined V → Result ℕ VcdFault
-count_behind d = fold_body uncounted counted d.head.nets 0 d.head.body
+abbrev pub count_after : {V : Type 0} → Defined V → Result ℕ VcdFault
+count_after d = fold_body same_count next_count d.head.nets 0 d.head.body
 
 -- ---- the definitions
 
@@ -51,7 +51,7 @@ with_count variables count = count >>= λ n. Ok (record { variables = variables;
 
 -- the survey of the dump `text`, or its first fault
 unfoldable pub survey_of : List ℕ → Result Survey VcdFault
-survey_of text = definitions_of text >>= λ d. with_count d.variables (count_behind d)
+survey_of text = definitions_of text >>= λ d. with_count d.variables (count_after d)
 
 -- the greatest number of instants of a survey
 abbrev pub most_instants : ℕ
@@ -71,7 +71,7 @@ EndsBetweenTokens front = (line : ℕ) (rest : List ℕ) → tokens_from line (f
 
 -- the number of instants of a body that is read to `r` and continues with `rest`, or its first fault
 abbrev pub count_ahead : Reached ℕ → List ℕ → Result ℕ VcdFault
-count_ahead r rest = rest_of uncounted counted r (tokens_from r.line rest) [] >>= at_end counted
+count_ahead r rest = rest_of same_count next_count r (tokens_from r.line rest) [] >>= at_end next_count
 
 -- the survey of a dump whose definitions end in `front`, whose body is read to `r`, and whose text continues with
 -- `rest`
@@ -80,7 +80,7 @@ body_ahead front r rest = with_count (variables_in front) (count_ahead r rest)
 
 -- the survey of a dump whose definitions end in `front`, and whose text ends at `r`
 abbrev pub body_survey : List ℕ → Reached ℕ → Result Survey VcdFault
-body_survey front r = with_count (variables_in front) (outcome_of uncounted counted r)
+body_survey front r = with_count (variables_in front) (outcome_of same_count next_count r)
 
 -- ---- faults
 

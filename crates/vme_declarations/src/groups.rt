@@ -9,7 +9,7 @@ use vme_trace::Line;
 pub type Groups = u32;
 
 /// The groups that distinguish a bus from a memory: all but the data lines.
-pub const TELLING: Groups = 0x7_FFFF ^ (1 << 17);
+pub const BUS_GROUPS: Groups = 0x7_FFFF ^ (1 << 17);
 
 /// The place of the bit of the line's group in a set, from the right.
 fn group_place(line: Line) -> u32

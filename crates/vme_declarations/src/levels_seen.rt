@@ -3,7 +3,7 @@
 ghost use Rattle.std.specs.Prelude.{◌≡◌, ◌≤◌};
 ghost use Rattle.vcd_read.specs.Meaning.{ReadGives};
 ghost use Rattle.vcd_read.specs.BodyFold.{fold_body};
-ghost use Rattle.vme_declarations.specs.Surveys.{counted, uncounted};
+ghost use Rattle.vme_declarations.specs.Surveys.{next_count, same_count};
 
 use std::alloc::{AllocError, Global};
 use vcd_read::{ChangeVisitor, Head, VcdFault};
@@ -43,15 +43,15 @@ impl LevelsSeen {
 
 impl ChangeVisitor for LevelsSeen {
     ghost use Rattle.std.specs.Prelude.{ℕ};
-    ghost use Rattle.vme_declarations.specs.Surveys.{counted, uncounted};
+    ghost use Rattle.vme_declarations.specs.Surveys.{next_count, same_count};
 
     ghost Taken = { ℕ };
 
     ghost taken = { λ l. l.instants };
 
-    ghost with_change = { uncounted };
+    ghost with_change = { same_count };
 
-    ghost with_instant = { counted };
+    ghost with_instant = { next_count };
 
     fn change(
         &mut self,
@@ -87,7 +87,7 @@ impl ChangeVisitor for LevelsSeen {
 /// The levels of the nets in the body after the definitions `head`.
 pub(crate) fn levels_in(alloc: Global, head: &Head<'_>) -> Result<LevelsSeen, VcdFault>
     ensures { ReadGives (λ levels. levels.instants) result
-        (fold_body uncounted counted head.now.nets 0 head.now.body) }
+        (fold_body same_count next_count head.now.nets 0 head.now.body) }
 {
     head.read_body(alloc, LevelsSeen::none(alloc))
 }

@@ -6,8 +6,8 @@
 //!   hash of names.
 //! - `levels_seen`, `moving`, `reading`: which bits move, i.e. were seen both low and high
 //!   ([`LevelsSeen`]); the names and the levels of a whole text.
-//! - `survey`, `told_fault`: a dump that comes piece by piece ([`DumpSurvey`]), of whose text only
-//!   a prefix with the definitions is kept; the survey at its end ([`SurveyedDump`]).
+//! - `survey`, `non_memory_fault`: a dump that comes piece by piece ([`DumpSurvey`]), of whose text
+//!   only a prefix with the definitions is kept; the survey at its end ([`SurveyedDump`]).
 //! - `scope_paths`, `scope_search`: the scopes that a path leads through; [`has_scope`], whether a
 //!   dump has the scope of a path.
 //! - `groups`, `found_lines`: the groups of lines; which bits were found for the lines
@@ -24,7 +24,7 @@
 //! - The answers of [`DeclaredNames`], [`DeclaredVariable`], [`LevelsSeen`] and [`FoundLines`] are
 //!   defined over what these keep, in `specs/Names`, `specs/Levels` and `specs/Found`: a name, a
 //!   path, the number of a bit, whether one moves, the bit of a line, the groups and the slots that
-//!   were found. [`scopes_begun`] and [`scopes_of`] are those of `specs/Paths`.
+//!   were found. [`offsets_after_scopes`] and [`scopes_of`] are those of `specs/Paths`.
 //! - [`group_of`], [`count`], [`has_cycle`] and [`has_handshake`] by `specs/Groups`; [`hash_of`] by
 //!   `specs/Hashes`.
 //!
@@ -49,17 +49,17 @@ mod groups;
 mod hash;
 mod levels_seen;
 mod moving;
+mod non_memory_fault;
 mod reading;
 mod scope_paths;
 mod scope_search;
 mod survey;
-mod told_fault;
 
 pub use declared::{DeclaredNames, DeclaredVariable, NOWHERE, Scope};
 pub use found_lines::{FoundLines, VariableBit};
-pub use groups::{Groups, TELLING, count, group_of, has_cycle, has_handshake};
+pub use groups::{BUS_GROUPS, Groups, count, group_of, has_cycle, has_handshake};
 pub use hash::{EMPTY_HASH, hash_of};
 pub use levels_seen::{LevelsSeen, MOST_BITS};
-pub use scope_paths::{front_of, scopes_begun, scopes_of};
+pub use scope_paths::{front_of, offsets_after_scopes, scopes_of};
 pub use scope_search::has_scope;
 pub use survey::{DumpSurvey, SurveyedDump, surveys_are_of_dumps};

@@ -2,7 +2,7 @@
 
 ghost use Rattle.std.specs.Prelude.{◌≡◌, IfOk};
 ghost use Rattle.vcd_read.specs.Scopes.{with_dot};
-ghost use Rattle.vme_declarations.specs.Paths.{begun_by, begun_of, scopes_begun, scopes_of};
+ghost use Rattle.vme_declarations.specs.Paths.{offset_after_name, offset_after_scope, offsets_after_scopes, scopes_of};
 
 use crate::declared::{DeclaredNames, NOWHERE, Scope};
 use std::alloc::{AllocError, Global};
@@ -20,8 +20,8 @@ pub fn front_of(alloc: Global, path: &[u8]) -> Result<Vec<u8>, AllocError>
 }
 
 /// The offset in `path` after `name` and a dot, if these are at the offset `before`; else `NOWHERE`.
-fn begun_by(path: &[u8], before: usize, name: &[u8]) -> usize
-    ensures { result ≡ begun_by path.now before name.now }
+fn offset_after_name(path: &[u8], before: usize, name: &[u8]) -> usize
+    ensures { result ≡ offset_after_name path.now before name.now }
 {
     let Some(rest) = path.get(before..) else {
         return NOWHERE;
@@ -32,35 +32,40 @@ fn begun_by(path: &[u8], before: usize, name: &[u8]) -> usize
     }
 }
 
-/// The offset in `path` after the path of `scope` and a dot, or `NOWHERE`; 0 for the first scope. `begun` has the
+/// The offset in `path` after the path of `scope` and a dot, or `NOWHERE`; 0 for the first scope. `offsets` has the
 /// offsets of the scopes before it.
-fn begun_of(declared: &DeclaredNames, path: &[u8], begun: &[usize], scope: &Scope) -> usize
-    ensures { result ≡ begun_of declared.now path.now begun.now scope.now }
+fn offset_after_scope(
+    declared: &DeclaredNames,
+    path: &[u8],
+    offsets: &[usize],
+    scope: &Scope,
+) -> usize
+    ensures { result ≡ offset_after_scope declared.now path.now offsets.now scope.now }
 {
     if scope.parent == NOWHERE {
         return 0;
     }
-    match begun.get(scope.parent) {
-        Some(before) => begun_by(path, *before, declared.scope_name(scope)),
+    match offsets.get(scope.parent) {
+        Some(before) => offset_after_name(path, *before, declared.scope_name(scope)),
         None => NOWHERE,
     }
 }
 
 /// For each scope, the offset in `path` after the scope's own path and a dot, if `path` begins with these; else
 /// `NOWHERE`.
-pub fn scopes_begun(
+pub fn offsets_after_scopes(
     alloc: Global,
     declared: &DeclaredNames,
     path: &[u8],
 ) -> Result<Vec<usize>, AllocError>
-    ensures { IfOk result (λ begun. begun.items ≡ scopes_begun declared.now path.now) }
+    ensures { IfOk result (λ offsets. offsets.items ≡ offsets_after_scopes declared.now path.now) }
 {
-    let mut begun: Vec<usize> = Vec::new(alloc);
+    let mut offsets: Vec<usize> = Vec::new(alloc);
     let scopes = declared.scopes();
     for scope in scopes {
-        begun.push(begun_of(declared, path, &begun, scope))?;
+        offsets.push(offset_after_scope(declared, path, &offsets, scope))?;
     }
-    Ok(begun)
+    Ok(offsets)
 }
 
 /// For each scope, whether its path is `path`.
@@ -72,7 +77,7 @@ pub fn scopes_of(
     ensures { IfOk result (λ named. named.items ≡ scopes_of declared.now path.now) }
 {
     let dotted = front_of(alloc, path)?;
-    let begun = scopes_begun(alloc, declared, &dotted)?;
+    let offsets = offsets_after_scopes(alloc, declared, &dotted)?;
     let length = dotted.len();
-    begun.iter().map(|count| *count == length).collect(alloc)
+    offsets.iter().map(|count| *count == length).collect(alloc)
 }

@@ -9,13 +9,13 @@ ghost use Rattle.vcd_read.specs.Tokens.{tokens_from};
 ghost use Rattle.vme_declarations.specs.SurveyStages.{body_reached, stage_ahead, survey_ahead};
 ghost use Rattle.vcd_read.specs.declared.fault.VcdFault.{VcdFault};
 ghost use Rattle.vme_declarations.specs.Surveys.{EndsBetweenTokens, IsSurveyOf, Survey, body_ahead, body_survey};
-ghost use Rattle.vme_declarations.specs.Surveys.{counted, is_want_of_memory, most_instants, survey_of, uncounted};
-ghost use Rattle.vme_declarations.specs.Surveys.{variables_in};
+ghost use Rattle.vme_declarations.specs.Surveys.{is_want_of_memory, most_instants, next_count, same_count};
+ghost use Rattle.vme_declarations.specs.Surveys.{survey_of, variables_in};
 
 use crate::declared::{DeclaredNames, NamesReader};
 use crate::levels_seen::LevelsSeen;
+use crate::non_memory_fault::NonMemoryFault;
 use crate::reading::read_declarations;
-use crate::told_fault::ToldFault;
 use std::alloc::{AllocError, Global};
 use std::marker::Model;
 use vcd_read::{FaultKind, Pieces, VcdFault, read_front, whole_tokens};
@@ -36,7 +36,7 @@ pub(crate) enum SurveyStage {
     Definitions,
     Body(SurveyedBody),
     /// The dump has a fault.
-    Failed(ToldFault),
+    Failed(NonMemoryFault),
 }
 
 /// A dump that is surveyed piece by piece: of its text only a prefix with the definitions is kept.
@@ -93,8 +93,8 @@ impl SurveyedBody {
         ensures front { IfOk result (λ body. body.front.items ≡ self.front.items) }
         ensures line { IfOk result (λ body. (body_reached body).line
             ≡ line_behind (body_reached self).line piece.now) }
-        ensures rest { BodyContinuesTo (λ body. rest_of uncounted counted (body_reached body) []) result
-            (rest_of uncounted counted (body_reached self) (tokens_from (body_reached self).line piece.now)) }
+        ensures rest { BodyContinuesTo (λ body. rest_of same_count next_count (body_reached body) []) result
+            (rest_of same_count next_count (body_reached self) (tokens_from (body_reached self).line piece.now)) }
     {
         let SurveyedBody {
             front,
@@ -147,7 +147,7 @@ impl DumpSurvey {
     /// The fault that was met, if there is one: then the rest of the dump is taken, and isn't looked at.
     pub fn fault(&self) -> Option<VcdFault> {
         match &self.stage {
-            SurveyStage::Failed(told) => Some(told.fault),
+            SurveyStage::Failed(first) => Some(first.fault),
             _ => None,
         }
     }
@@ -170,8 +170,8 @@ impl DumpSurvey {
                 Ok(body) => Ok((DumpSurvey::at(SurveyStage::Body(body)), count)),
                 Err(fault) => Ok((failed(fault)?, count)),
             },
-            SurveyStage::Failed(told) => {
-                Ok((DumpSurvey::at(SurveyStage::Failed(told)), bytes.len()))
+            SurveyStage::Failed(first) => {
+                Ok((DumpSurvey::at(SurveyStage::Failed(first)), bytes.len()))
             }
         }
     }
@@ -187,7 +187,7 @@ impl DumpSurvey {
                 Ok(body) => body.finish(alloc),
                 Err(fault) => Err(fault),
             },
-            SurveyStage::Failed(told) => Err(told.fault),
+            SurveyStage::Failed(first) => Err(first.fault),
         }
     }
 }
@@ -195,14 +195,14 @@ impl DumpSurvey {
 /// The survey of a dump that has `fault`: it takes all bytes that follow, and looks at none. Where `fault` is want of
 /// memory, that is the error.
 fn failed(fault: VcdFault) -> Result<DumpSurvey, AllocError>
-    ensures told { IfOk result (λ survey. is_want_of_memory fault.kind ≡ false) }
+    ensures not_want { IfOk result (λ survey. is_want_of_memory fault.kind ≡ false) }
     ensures ahead { IfOk result (λ survey. (rest : List ℕ) → survey_ahead survey rest ≡ Err fault) }
 {
     match fault.kind {
         FaultKind::Memory => Err(AllocError),
         _ => {
-            let told = ToldFault { fault };
-            Ok(DumpSurvey::at(SurveyStage::Failed(told)))
+            let first = NonMemoryFault { fault };
+            Ok(DumpSurvey::at(SurveyStage::Failed(first)))
         }
     }
 }

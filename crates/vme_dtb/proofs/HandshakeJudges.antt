@@ -55,17 +55,18 @@ answered_line true None = refl
 answered_line true (Some l) = refl
 answered_line false o = refl
 
-abbrev told : Option Lanes → Option ℕ → Option Answer
-told d o = option_map (λ l. record { line = l; lanes = d }) o
+abbrev answer_on : Option Lanes → Option ℕ → Option Answer
+answer_on d o = option_map (λ l. record { line = l; lanes = d }) o
 
 -- the data of an answer don't depend on whether the test of a write also asks for an answer line that falls
-told_by_write : (e : TransferPhase) (o : Option ℕ) (d : Lanes) → told (cond (is_writing e && is_some o) (Some d) None)
-    (cond (is_unanswered e) o None) ≡ told (cond (is_writing e) (Some d) None) (cond (is_unanswered e) o None)
-told_by_write Closed o d = refl
-told_by_write Reading o d = refl
-told_by_write Writing None d = refl
-told_by_write Writing (Some l) d = refl
-told_by_write Answered o d = refl
+answer_by_write : (e : TransferPhase) (o : Option ℕ) (d : Lanes)
+    → answer_on (cond (is_writing e && is_some o) (Some d) None) (cond (is_unanswered e) o None)
+    ≡ answer_on (cond (is_writing e) (Some d) None) (cond (is_unanswered e) o None)
+answer_by_write Closed o d = refl
+answer_by_write Reading o d = refl
+answer_by_write Writing None d = refl
+answer_by_write Writing (Some l) d = refl
+answer_by_write Answered o d = refl
 
 module _ (t : Trace) (span : Stretch) (facts : IsSpan t span) (n : ℕ) (from : span.start ≤ n)
     (before : suc n < span.end) (m : HandshakeMemory) (holds : Holds t span n m) where
@@ -119,15 +120,16 @@ module _ (t : Trace) (span : Stretch) (facts : IsSpan t span) (n : ℕ) (from : 
   answered_is : answered t span (suc n) ≡ answered_in within (old t n) (new t n) seen
   unfolding answered
   answered_is =
-      same_told (answers_write t span (suc n)) (is_writing within && is_some seen.answer_fall) (data_at t span (suc n))
-      (lanes_at (cond (starts_between (old t n) (new t n)) (new t n) (old t n))) (answer_line t span (suc n))
-      (answer_in within seen)
+      same_answer_on (answers_write t span (suc n)) (is_writing within && is_some seen.answer_fall)
+      (data_at t span (suc n)) (lanes_at (cond (starts_between (old t n) (new t n)) (new t n) (old t n)))
+      (answer_line t span (suc n)) (answer_in within seen)
       (write_is t span facts.reads n from before m holds) data_is answer_line_is
-      ∙ told_by_write within seen.answer_fall (lanes_at (cond (starts_between (old t n) (new t n)) (new t n) (old t n)))
+      ∙ answer_by_write within seen.answer_fall
+      (lanes_at (cond (starts_between (old t n) (new t n)) (new t n) (old t n)))
     where
-      same_told : (a b : Bool) (d e : Lanes) (o q : Option ℕ) → a ≡ b → d ≡ e → o ≡ q → told (cond a (Some d) None) o
-          ≡ told (cond b (Some e) None) q
-      same_told a b d e o q x y z = rw (x, y, z) refl
+      same_answer_on : (a b : Bool) (d e : Lanes) (o q : Option ℕ) → a ≡ b → d ≡ e → o ≡ q
+          → answer_on (cond a (Some d) None) o ≡ answer_on (cond b (Some e) None) q
+      same_answer_on a b d e o q x y z = rw (x, y, z) refl
 
   open_unless : (p : TransferPhase) → IsTransferPhase t span n p → is_within p ≡ not (strobes_high t n)
   open_unless Closed h = rw h refl

@@ -17,7 +17,7 @@ pub mod UsualNexts
 pub mod ChangedLines
 pub mod Needed
 pub mod Lasting
-pub mod LackedLines
+pub mod UnknownNeeds
 pub mod Progressing
 pub mod StabilityMeaning
 pub mod AskedLines
@@ -26,8 +26,8 @@ pub mod HeldAddress
 pub mod HeldData
 pub mod Unobserved
 pub mod StabilityJudges
-pub mod PassedNeeds
+pub mod UnneededChanges
 pub mod HeldFaults
-pub mod PassedData
+pub mod NonDataChanges
 pub mod UndrivenLines
 pub mod UnchangedTransferState

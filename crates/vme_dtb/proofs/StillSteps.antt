@@ -111,8 +111,8 @@ built as_falls as_rises starts closes rise0 rise1 fall0 fall1 dtack_falls berr_f
     }
 
 -- the edges of a step that has none; u says that AS* is low neither before nor after
-abbrev silent : Bool → Edges
-silent u = record {
+abbrev absent_edges : Bool → Edges
+absent_edges u = record {
   shown = no_step_marks;
   answer_not_high = None;
   strobe_rise = None;
@@ -124,11 +124,11 @@ silent u = record {
   unaddressed = u;
 }
 
-same_silent : (a b s c r0 r1 f0 f1 d e g h u : Bool) (x : CycleStart) (y : Bool) (o : Option ℕ) → a ≡ false → b ≡ false
-    → s ≡ false → c ≡ false → r0 ≡ false → r1 ≡ false → f0 ≡ false → f1 ≡ false → d ≡ false → e ≡ false → g ≡ false → h
-    ≡ false
-    → built a b s c r0 r1 f0 f1 d e g h u x y o ≡ silent u
-same_silent a b s c r0 r1 f0 f1 d e g h u x y o pa pb ps pc p0 p1 q0 q1 pd pe pg ph = rw (
+built_absent_edges : (a b s c r0 r1 f0 f1 d e g h u : Bool) (x : CycleStart) (y : Bool) (o : Option ℕ) → a ≡ false
+    → b ≡ false → s ≡ false → c ≡ false → r0 ≡ false → r1 ≡ false → f0 ≡ false → f1 ≡ false → d ≡ false → e ≡ false
+    → g ≡ false → h ≡ false
+    → built a b s c r0 r1 f0 f1 d e g h u x y o ≡ absent_edges u
+built_absent_edges a b s c r0 r1 f0 f1 d e g h u x y o pa pb ps pc p0 p1 q0 q1 pd pe pg ph = rw (
   pa,
   pb,
   ps,
@@ -179,9 +179,9 @@ module _ (v w : Levels) (still : is_still v w ≡ true) where
   abbrev unaddressed_in : Bool
   unaddressed_in = not (is_low (level_at v AS) || is_low (level_at w AS))
 
-  edges_still : edges_between v w ≡ silent unaddressed_in
+  edges_still : edges_between v w ≡ absent_edges unaddressed_in
   edges_still =
-      same_silent (falls_between v w AS) (rises_between v w AS) (starts_between v w) (strobes_high_in w
+      built_absent_edges (falls_between v w AS) (rises_between v w AS) (starts_between v w) (strobes_high_in w
       && not (strobes_high_in v)) (rises_between v w DS0) (rises_between v w DS1) (falls_between v w DS0)
       (falls_between v w DS1) (falls_between v w DTACK)
       (falls_between v w BERR) (rises_between v w DTACK) (rises_between v w BERR) unaddressed_in (cycle_start_of w)
@@ -230,8 +230,8 @@ module _ (t : Trace) (span : Stretch) (n : ℕ) (m : HandshakeMemory) (holds : H
       ≡ m.berr_may_rise → record { transfer = p; cycle = c; dtack_may_rise = a; berr_may_rise = b } ≡ m
   same_memory p c a b x y z u = rw (x, y, z, u) refl
 
-  abbrev told : TransferPhase → ℕ → Answer
-  told e l = record { line = l; lanes = data_in e (old t n) (new t n) }
+  abbrev answer_on : TransferPhase → ℕ → Answer
+  answer_on e l = record { line = l; lanes = data_in e (old t n) (new t n) }
 
   -- a step without edges leaves the memory as it is, breaks nothing and shows nothing
   pub next_still : is_still (old t n) (new t n) ≡ true → dtb_next m (old t n) (new t n)
@@ -243,13 +243,13 @@ module _ (t : Trace) (span : Stretch) (n : ℕ) (m : HandshakeMemory) (holds : H
       let u = not (is_low (level_at v AS) || is_low (level_at w AS)) in
       let e = entered m.transfer v w in
       let kept = each v w still in
-      let none : answer_in e (silent u) ≡ None = nowhere (is_unanswered e) None refl in
-      let no_mark : answered_in e v w (silent u) ≡ None = ap (λ (o : Option ℕ). option_map (λ (l : ℕ). told e l) o)
-      none in
+      let none : answer_in e (absent_edges u) ≡ None = nowhere (is_unanswered e) None refl in
+      let no_mark : answered_in e v w (absent_edges u) ≡ None = ap
+      (λ (o : Option ℕ). option_map (λ (l : ℕ). answer_on e l) o) none in
       ap (dtb_next m v w) (edges_still v w still)
-      ∙ same_next (memory_after m v w (silent u)) (option_or (handshake_fault m e (silent u))
-      (cycle_fault m.cycle (is_writing e) (answer_in e (silent u)))) (answered_in e v w (silent u))
-      (same_memory (tracked m.transfer v w) (cond (is_some (answer_in e (silent u)))
+      ∙ same_next (memory_after m v w (absent_edges u)) (option_or (handshake_fault m e (absent_edges u))
+      (cycle_fault m.cycle (is_writing e) (answer_in e (absent_edges u)))) (answered_in e v w (absent_edges u))
+      (same_memory (tracked m.transfer v w) (cond (is_some (answer_in e (absent_edges u)))
       (after_answer m.cycle (is_writing e)) m.cycle) (is_low (level_at w DTACK) && (m.dtack_may_rise || false))
       (is_low (level_at w BERR) && (m.berr_may_rise || false))
       (tracked_still v w still m.transfer ∙ transfer_kept m.transfer holds.transfer)
@@ -258,21 +258,22 @@ module _ (t : Trace) (span : Stretch) (n : ℕ) (m : HandshakeMemory) (holds : H
       holds.dtack) (may_rise_kept (is_low (level_at w BERR)) (is_low (level_at v BERR)) _ m.berr_may_rise
       (ap is_low kept.4)
       holds.berr))
-      (neither (handshake_fault m e (silent u)) (cycle_fault m.cycle (is_writing e) (answer_in e (silent u)))
-      (none-first (strobe_faults m e (silent u)) (
+      (neither (handshake_fault m e (absent_edges u))
+      (cycle_fault m.cycle (is_writing e) (answer_in e (absent_edges u)))
+      (none-first (strobe_faults m e (absent_edges u)) (
         refl,
         (
-          unnamed H2 (is_left_unanswered m.transfer (silent u)),
+          unnamed H2 (is_left_unanswered m.transfer (absent_edges u)),
           (
             unnamed H3 (is_replied m.transfer),
             (
               unnamed H4 (not (is_within e)),
               (
-                unnamed H5 (is_doubled e (silent u)),
+                unnamed H5 (is_doubled e (absent_edges u)),
                 (
                   refl,
                   (
-                    not_applied H7 _ (Some AS) (and_false (is_left_unanswered m.transfer (silent u))),
+                    not_applied H7 _ (Some AS) (and_false (is_left_unanswered m.transfer (absent_edges u))),
                     (ap (fault_if H8 u) none ∙ unnamed H8 u, tt),
                   ),
                 ),

@@ -9,7 +9,7 @@ use Rattle.vme_trace.proofs.Counting.{least-outside}
 use Rattle.vme_trace.proofs.Ranges.{any-fails, any-step, fails-any, least-is, least-none}
 use Rattle.vme_dtb.specs.StabilityRules.{is_undriven}
 use Rattle.vme_dtb.proofs.HeldData.{selected_from, selected_to}
-use Rattle.vme_dtb.proofs.LackedLines.{unknown_one}
+use Rattle.vme_dtb.proofs.UnknownNeeds.{unknown_one}
 
 first_false : (a b : Bool) → (a ≡ true → ⊥) → (a && b) ≡ false
 first_false true b h = absurd (h refl)

@@ -147,18 +147,18 @@ module _ (m : HandshakeMemory) (v w : Levels) where
   within_is : starts_between v w ≡ false → within ≡ m.transfer
   within_is s = ap (λ (b : Bool). cond b (cond (is_low (level_at w WRITE)) Writing Reading) m.transfer) s
 
-  abbrev told_with : Option Lanes → ℕ → Answer
-  told_with d l = record { line = l; lanes = d }
+  abbrev answer_with : Option Lanes → ℕ → Answer
+  answer_with d l = record { line = l; lanes = d }
 
-  abbrev told : ℕ → Answer
-  told = told_with (data_in within v w)
+  abbrev answer_on : ℕ → Answer
+  answer_on = answer_with (data_in within v w)
 
-  no_mark : option_map told (cond (is_unanswered within) None None) ≡ None
-  no_mark = ap (option_map told) (nowhere (is_unanswered within))
+  no_mark : option_map answer_on (cond (is_unanswered within) None None) ≡ None
+  no_mark = ap (option_map answer_on) (nowhere (is_unanswered within))
 
   -- the answer of the transfer that was open before the step
   abbrev pub plain_answer : ℕ → Answer
-  plain_answer = told_with (cond (is_writing m.transfer) (Some (lanes_at v)) None)
+  plain_answer = answer_with (cond (is_writing m.transfer) (Some (lanes_at v)) None)
 
   plain_data : starts_between v w ≡ false → data_in within v w ≡ cond (is_writing m.transfer) (Some (lanes_at v)) None
   plain_data s = by_start (starts_between v w) within m.transfer s (within_is s)
@@ -304,7 +304,7 @@ module _ (m : HandshakeMemory) (v w : Levels) where
       (ap (cycle_fault m.cycle (is_writing within)) one.2
       ∙ ap (λ (p : TransferPhase). cycle_fault m.cycle (is_writing p)
       (Some DTACK)) same)
-      (ap (option_map told) one.2 ∙ ap (λ (d : Option Lanes). Some (told_with d DTACK))
+      (ap (option_map answer_on) one.2 ∙ ap (λ (d : Option Lanes). Some (answer_with d DTACK))
       (plain_data (no_start v w all.1 all.2))))
       ∙ ap (dtb_next m v w) (answer_is v w alone falls addressed)
 

@@ -20,7 +20,7 @@ use Rattle.vme_stream.specs.Refusals.{dump_refusal, refused}
 use Rattle.vme_stream.specs.declared.refusal.Input.TheVariants.{Dump}
 use Rattle.vme_stream.specs.declared.refusal.Refusal.{Refusal}
 use Rattle.vme_stream.specs.declared.refusal.Refusal.TheVariants.{BadDump, Memory}
-use Rattle.vme_stream.proofs.AnswerLemmas.{too_long_is, whole_is}
+use Rattle.vme_stream.proofs.AnswerLemmas.{too_long_is, within_limit_is}
 use Rattle.vme_dump_input.specs.DumpBeginnings.{HasFault, IsDumpRefused, IsReadDump}
 use Rattle.vme_dump_input.specs.BufferedInputs.{FailsAs, IsAllOf}
 
@@ -32,7 +32,7 @@ pub dump-is : (text : List ℕ) → length text ≤ longest_input → (r : Resul
     → dump_read (Some text) ≡ or_bad_dump r
 unfolding dump_read
 dump-is text short r is =
-    ap read_or (whole_is Dump text short) ∙ ap (λ (w : Result Contents VcdFault). or_bad_dump w) is
+    ap read_or (within_limit_is Dump text short) ∙ ap (λ (w : Result Contents VcdFault). or_bad_dump w) is
 
 -- a dump that can't be had
 pub unread-is : (old now : Reading) (fault : InFault) → FailsAs longest_input old now fault

@@ -14,7 +14,7 @@ use Rattle.vme_bind.specs.Binding.{BoundLines}
 use Rattle.vme_bind.specs.BoundGroups.{bound_groups_in}
 use Rattle.vme_bind.specs.Capture.{capture_of, limited, recording, recording_of}
 use Rattle.vme_bind.specs.TextCapture.{or_binding, or_dump}
-use Rattle.vme_bind.specs.TextReading.{TextReading, body_reading, reading_behind, reading_by, reading_of_text}
+use Rattle.vme_bind.specs.TextReading.{TextReading, body_reading, reading_after, reading_by, reading_of_text}
 use Rattle.vme_bind.specs.declared.fault.BindFault.{BindFault}
 use Rattle.vme_bind.specs.declared.fault.CaptureFault.{CaptureFault}
 use Rattle.vme_bind.specs.declared.fault.CaptureFault.TheVariants.{Dump}
@@ -89,7 +89,7 @@ module _ (b : BoundLines) where
     }
 
   by_header : (h : Result (Defined (List Variable)) VcdFault)
-      → Agrees (h >>= contents_behind) (or_dump h >>= reading_behind b)
+      → Agrees (h >>= contents_behind) (or_dump h >>= reading_after b)
   by_header (Ok d) = by_groups d (bound_groups_in d.variables b.assignments) refl
   by_header (Err first) = record {
     whole = λ r is none. absurd (cc);
@@ -100,7 +100,7 @@ module _ (b : BoundLines) where
   pub agree : (text : List ℕ) → Agrees (dump_of text) (reading_of_text b text)
   unfolding reading_of_text
   agree text =
-      subst (λ (dump : Result Contents VcdFault). Agrees dump (or_dump (whole_header text) >>= reading_behind b))
+      subst (λ (dump : Result Contents VcdFault). Agrees dump (or_dump (whole_header text) >>= reading_after b))
       (sym (dump_of-header text)) (by_header (whole_header text))
 
   same_trace : (x y : Trace) → ◌≡◌ {A = Result Trace BindFault} (Ok x) (Ok y) → x ≡ y

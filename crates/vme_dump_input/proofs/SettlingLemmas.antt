@@ -116,15 +116,15 @@ both true b e f = f
 both false b e f = absurd cc
 
 -- steps that may follow one another are in order
-order-behind : (reached now : ℕ) (v : Levels) (steps : List Step) → reached ≤ now → MayStand v (Some now) steps
+order-after : (reached now : ℕ) (v : Levels) (steps : List Step) → reached ≤ now → MayStand v (Some now) steps
     → are_in_order reached steps ≡ true
 unfolding are_in_order
-order-behind reached now v [] le m = refl
-order-behind reached now v (x ∷ xs) le m =
+order-after reached now v [] le m = refl
+order-after reached now v (x ∷ xs) le m =
     let late : now ≤ x.time = less now x.time m.0 in
     let here : reached ≤ x.time = omega (arith, le, late) in
     both (nat_le reached x.time) (are_in_order (max reached x.time) xs) (le-test reached x.time here)
-    (order-behind (max reached x.time) x.time (changed v x.changes) xs (omega (arith, max-is reached x.time here))
+    (order-after (max reached x.time) x.time (changed v x.changes) xs (omega (arith, max-is reached x.time here))
     m.2)
 
 order-first : (reached : ℕ) (v : Levels) (steps : List Step) → All (λ (step : Step). reached ≤ step.time) steps
@@ -134,7 +134,7 @@ order-first reached v [] late m = refl
 order-first reached v (x ∷ xs) late m =
     let here : reached ≤ x.time = All-head (λ (step : Step). reached ≤ step.time) x xs late in
     both (nat_le reached x.time) (are_in_order (max reached x.time) xs) (le-test reached x.time here)
-    (order-behind (max reached x.time) x.time (changed v x.changes) xs (omega (arith, max-is reached x.time here))
+    (order-after (max reached x.time) x.time (changed v x.changes) xs (omega (arith, max-is reached x.time here))
     m.2)
 
 reached-within : (reached time : ℕ) (steps : List Step) → reached ≤ time

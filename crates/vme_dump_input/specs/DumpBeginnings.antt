@@ -73,18 +73,18 @@ abbrev pub MayBeRead : Begun → Type 0
 MayBeRead (Body r count) = IsBodyUnread r
 MayBeRead (Unusable fault) = Unit {0}
 
-abbrev pub MayBeReadIf : Option Begun → Type 0
-MayBeReadIf None = Unit {0}
-MayBeReadIf (Some begun) = MayBeRead begun
+abbrev pub MayBeReadIfSome : Option Begun → Type 0
+MayBeReadIfSome None = Unit {0}
+MayBeReadIfSome (Some begun) = MayBeRead begun
 
 -- the bytes of the definitions are held
 abbrev pub HoldsDefinitions : InputSoFar → Begun → Type 0
 HoldsDefinitions input (Body r count) = count ≤ length input.held
 HoldsDefinitions input (Unusable fault) = Unit {0}
 
-abbrev pub HoldsDefinitionsIf : InputSoFar → Option Begun → Type 0
-HoldsDefinitionsIf input None = Unit {0}
-HoldsDefinitionsIf input (Some begun) = HoldsDefinitions input begun
+abbrev pub HoldsDefinitionsIfSome : InputSoFar → Option Begun → Type 0
+HoldsDefinitionsIfSome input None = Unit {0}
+HoldsDefinitionsIfSome input (Some begun) = HoldsDefinitions input begun
 
 -- the definitions of a dump were read; or the binding can't be used on it, and all of it was; or it is refused
 abbrev pub BeginsDump : BoundLines → Reading → Reading → InputSoFar → Result Begun Refusal → Type 0

@@ -66,7 +66,7 @@ fn forget_first(held: &mut Vec<u8>, count: usize)
 }
 
 /// Reads the next bytes after those that are held, and returns how many: 0 only at the end.
-fn read_behind<R: Source>(
+fn read_after<R: Source>(
     source: &mut R,
     held: &mut Vec<u8>,
     room: &mut Vec<u8>,
@@ -156,7 +156,7 @@ impl BufferedInput {
         }
         forget_first(&mut self.held, self.start);
         self.start = 0;
-        let count = match read_behind(source, &mut self.held, &mut self.room) {
+        let count = match read_after(source, &mut self.held, &mut self.room) {
             Ok(count) => count,
             Err(fault) => return Err(fault),
         };

@@ -12,7 +12,8 @@ ghost use Rattle.vme_bind.specs.declared.fault.BindFault.{BindFault};
 ghost use Rattle.vme_dump_input.specs.declared.definitions.Begun.TheVariants.{Body, Unusable};
 ghost use Rattle.vme_dump_input.specs.BufferedInputs.{IsReadTo, not_read};
 ghost use Rattle.vme_dump_input.specs.DumpBeginnings.{BeginsDump, HasFaultBefore, HoldsDefinitions};
-ghost use Rattle.vme_dump_input.specs.DumpBeginnings.{HoldsDefinitionsIf, IsDumpRefused, MayBeRead, MayBeReadIf};
+ghost use Rattle.vme_dump_input.specs.DumpBeginnings.{HoldsDefinitionsIfSome, IsDumpRefused, MayBeRead};
+ghost use Rattle.vme_dump_input.specs.DumpBeginnings.{MayBeReadIfSome};
 ghost use Rattle.vme_dump_input.specs.DumpBeginnings.{MayBegin};
 
 use crate::buffered_input::BufferedInput;
@@ -135,7 +136,7 @@ fn begin_last<D: Source>(
 }
 
 /// The reader of the body, and after how many bytes the body begins.
-fn body_behind(found: (StepReader, usize)) -> Begun
+fn body_after(found: (StepReader, usize)) -> Begun
     ensures { result ≡ Body found.0 found.1 }
 {
     let (reader, count) = found;
@@ -149,15 +150,15 @@ fn begin<D: Source>(
     dump: &mut D,
     input: &mut BufferedInput,
 ) -> Result<Option<Begun>, Refusal>
-    ensures begun { IfOk result MayBeReadIf }
-    ensures held { IfOk result (HoldsDefinitionsIf input.new) }
+    ensures begun { IfOk result MayBeReadIfSome }
+    ensures held { IfOk result (HoldsDefinitionsIfSome input.new) }
     ensures read { (old : Reading) → IsReadTo old (D.reading dump.old) [] input.old → input.old.limit ≡ longest_input
         → MayBegin bound.now old (D.reading dump.new) input.old input.new result }
     ensures left { result ≡ Ok None → input.new ≡ input.old }
     ensures limit { input.old.limit ≡ longest_input → input.new.limit ≡ longest_input }
 {
     match begin_steps(alloc, bound, input.bytes()) {
-        Ok(Some(found)) => Ok(Some(body_behind(found))),
+        Ok(Some(found)) => Ok(Some(body_after(found))),
         Ok(None) => Ok(None),
         Err(fault) => match not_begun(alloc, bound, dump, input, fault) {
             Ok(begun) => Ok(Some(begun)),

@@ -27,7 +27,7 @@ pub fn settler_for(alloc: Global, opening: &Lines, skew: u64) -> Option<StepSett
 }
 
 /// Keeps a step that came out, if one did.
-fn keep(settled: &mut Vec<Step>, made: Option<Step>) -> Result<(), AllocError>
+fn push_if_some(settled: &mut Vec<Step>, made: Option<Step>) -> Result<(), AllocError>
     ensures { OnOk result (settled.new.items ≡ settled.old.items ++ option_to_list made) }
 {
     if let Some(step) = made {
@@ -47,7 +47,7 @@ fn take_all(
     let mut settled = Vec::new(alloc);
     for step in steps {
         let made = settler.take(alloc, step)?;
-        keep(&mut settled, made)?;
+        push_if_some(&mut settled, made)?;
     }
     Ok(settled)
 }
@@ -64,7 +64,7 @@ fn settle(
 {
     let mut settled = take_all(alloc, settler, steps)?;
     let made = settler.reach(alloc, time)?;
-    keep(&mut settled, made)?;
+    push_if_some(&mut settled, made)?;
     Ok(settled)
 }
 
@@ -77,7 +77,7 @@ fn settle_last(alloc: Global, settler: StepSettler, steps: &[Step]) -> Result<Ve
     let mut settler = settler;
     let mut settled = take_all(alloc, &mut settler, steps)?;
     let made = settler.end(alloc)?;
-    keep(&mut settled, made)?;
+    push_if_some(&mut settled, made)?;
     Ok(settled)
 }
 

@@ -9,8 +9,8 @@ use Rattle.vme_listing.specs.Recorded.{recorded_rows}
 use Rattle.vme_listing.specs.RowText.{row_text}
 
 -- the listing of a recording, each row as its text
-abbrev pub told : Trace → List (List ℕ)
-told t = map row_text (recorded_rows t)
+abbrev pub listed_rows : Trace → List (List ℕ)
+listed_rows t = map row_text (recorded_rows t)
 
 -- the stretches of a recording that are judged, each by its start and its end
 abbrev pub judged : Trace → List (ℕ × ℕ)
@@ -26,7 +26,7 @@ pub record Recording : Type 0 where
 pub record Agrees (r : Recording) : Type 0 where
   pub well_formed : malformed_step r.trace ≡ None
   pub verdict : verdict r.trace ≡ r.verdict
-  pub rows : told r.trace ≡ r.rows
+  pub rows : listed_rows r.trace ≡ r.rows
 
 -- each of the recordings agrees
 abbrev pub AllAgree : List Recording → Type 0

@@ -29,8 +29,8 @@ is_single_transfer v = is_single (class_of v)
 abbrev pub is_block_transfer : Levels → Bool
 is_block_transfer v = is_block_class (class_of v)
 
-abbrev pub asks_up_to : ℕ → Levels → Bool
-asks_up_to n v = (needs_of v).highest == n
+abbrev pub needs_up_to : ℕ → Levels → Bool
+needs_up_to n v = (needs_of v).highest == n
 
 -- the codes whose lines have the property
 abbrev pub codes_that : (Levels → Bool) → List ℕ
@@ -45,8 +45,8 @@ abbrev pub not_idle_with : Level → List ℕ
 not_idle_with x = those (λ l. not (is_idle (high_but l x))) 0 line_count
 
 -- the lines by which control of the bus is lost while one of them is unknown
-abbrev pub lost_lines : List ℕ
-lost_lines = those (λ l. loses_control (high_but l Unknown)) 0 line_count
+abbrev pub lines_losing_control : List ℕ
+lines_losing_control = those (λ l. loses_control (high_but l Unknown)) 0 line_count
 
 -- the nets of the grant chains and of the IACK* chain of three slots
 abbrev pub nets : List ℕ
@@ -74,4 +74,4 @@ standard_lines =
 
 -- the lines that make a cycle of code 0F a free one while they are unknown
 abbrev pub modifier_lines : List ℕ
-modifier_lines = those (λ l. asks_up_to 0 (set_level (lines_of_code 15) l Unknown)) 0 line_count
+modifier_lines = those (λ l. needs_up_to 0 (set_level (lines_of_code 15) l Unknown)) 0 line_count

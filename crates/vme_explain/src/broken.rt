@@ -14,13 +14,13 @@ use vme_trace::{Break, Level, Line, Lines, Rule};
 #[derive(Clone, Copy)]
 struct EventWords {
     before: &'static str,
-    behind: &'static str,
+    after: &'static str,
     none: &'static str,
 }
 
 /// The words on the first event that a rule refers to. If `before` is empty, the name of the event's line is first.
 fn first_words(rule: Rule) -> EventWords {
-    let (before, behind, none) = match rule {
+    let (before, after, none) = match rule {
         Rule::H1 => ("", ", and is not High since", ""),
         Rule::H2 | Rule::H7 => ("the transfer started", ", and is not answered since", ""),
         Rule::H3 => ("the transfer was answered", "", ""),
@@ -67,7 +67,7 @@ fn first_words(rule: Rule) -> EventWords {
     };
     EventWords {
         before,
-        behind,
+        after,
         none,
     }
 }
@@ -77,12 +77,12 @@ fn second_words(rule: Rule) -> EventWords {
     match rule {
         Rule::G5 => EventWords {
             before: "",
-            behind: ", the last request of the level",
+            after: ", the last request of the level",
             none: "no request of the level came since judging starts",
         },
         _ => EventWords {
             before: "the last grant came",
-            behind: "",
+            after: "",
             none: "no grant came before",
         },
     }
@@ -164,7 +164,7 @@ fn other_event(
         text.push(b" in slot ")?;
         text.push_decimal(alloc, u64::from(tenure.slot))?;
     }
-    text.push(words.behind.as_bytes())?;
+    text.push(words.after.as_bytes())?;
     Ok(OtherEvent {
         instant: Some(moment.instant),
         text,

@@ -73,9 +73,9 @@ fn push_counts(
     kinds: &[(RowKind, &str)],
 ) -> Result<(), AllocError> {
     text.push(name.as_bytes())?;
-    for (kind, behind) in kinds {
+    for (kind, after) in kinds {
         text.push_decimal(alloc, account.count_of(*kind))?;
-        text.push(behind.as_bytes())?;
+        text.push(after.as_bytes())?;
     }
     Ok(())
 }
@@ -162,7 +162,7 @@ are High.\n",
     let mut is_any = false;
     for number in 0..LINE_COUNT {
         if let Some(line) = control_line(account.opening(), number) {
-            if !account.was_fit(line) {
+            if !account.was_idle_level(line) {
                 is_any = true;
                 text.push(line.name().as_bytes())?;
                 text.push(wanted(line).as_bytes())?;
@@ -176,14 +176,14 @@ are High.\n",
     text.push(b"Each line is so at some instant, but not all at once; at the last instant, ")?;
     push_instant(text, alloc, account, account.end())?;
     text.push(b":\n")?;
-    push_unfit(text, account)
+    push_not_idle(text, account)
 }
 
 /// Appends the lines that aren't as an idle bus has them at the end.
-fn push_unfit(text: &mut Text, account: &Account) -> Result<(), AllocError> {
+fn push_not_idle(text: &mut Text, account: &Account) -> Result<(), AllocError> {
     for number in 0..LINE_COUNT {
         if let Some(line) = control_line(account.opening(), number) {
-            if !account.is_fit(line) {
+            if !account.is_idle_level(line) {
                 text.push(line.name().as_bytes())?;
                 text.push(wanted(line).as_bytes())?;
                 text.push(b"\n")?;

@@ -12,7 +12,7 @@ use vme_trace::{Break, Line, Lines, Verdict};
 /// How many instants an excerpt shows before and after the break.
 const BEFORE: u32 = 8;
 
-const BEHIND: u32 = 3;
+const AFTER: u32 = 3;
 
 /// What an excerpt shows.
 #[derive(Drop)]
@@ -41,7 +41,7 @@ pub fn break_of(verdict: &Verdict) -> Option<&Break> {
 fn window(account: &Account, around: u32) -> (u32, u32)
     ensures { result.0 ≤ result.1 }
 {
-    let last = around.saturating_add(BEHIND).min(account.end());
+    let last = around.saturating_add(AFTER).min(account.end());
     let first = around.saturating_sub(BEFORE).max(account.first());
     (first.min(last), last)
 }
@@ -52,7 +52,7 @@ pub fn excerpt_of(alloc: Global, subject: &Subject<'_>) -> Result<Excerpt, Alloc
     let found = break_of(subject.verdict);
     let around = match found {
         Some(found) => found.instant,
-        None => account.end().saturating_sub(BEHIND),
+        None => account.end().saturating_sub(AFTER),
     };
     let (first, last) = window(account, around);
     let levels = account.levels_from(alloc, first, last)?;

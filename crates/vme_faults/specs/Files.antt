@@ -45,21 +45,21 @@ is_space b = b == 32 || b == 9 || b == 10 || b == 13
 
 -- the text from its first word on that isn't in a remark, i.e. a line that begins with #; `within` says that the text
 -- begins in a remark
-unfoldable pub behind_remarks : Bool → List ℕ → List ℕ
-behind_remarks within [] = []
-behind_remarks true (b ∷ text) = behind_remarks (not (b == 10)) text
-behind_remarks false (b ∷ text) =
-    if is_space b then behind_remarks false text
-    else if b == 35 then behind_remarks true text
+unfoldable pub after_remarks : Bool → List ℕ → List ℕ
+after_remarks within [] = []
+after_remarks true (b ∷ text) = after_remarks (not (b == 10)) text
+after_remarks false (b ∷ text) =
+    if is_space b then after_remarks false text
+    else if b == 35 then after_remarks true text
     else b ∷ text
 
 -- the first word of a binding that isn't in a remark begins with `slots`, as its first line does
 unfoldable pub is_binding : List ℕ → Bool
-is_binding bytes = begins_with (codes "slots") (behind_remarks false bytes)
+is_binding bytes = begins_with (codes "slots") (after_remarks false bytes)
 
 -- the first word of a dump that isn't in a remark begins with a dollar sign
 unfoldable pub is_dump : List ℕ → Bool
-is_dump bytes = begins_with (codes "$") (behind_remarks false bytes)
+is_dump bytes = begins_with (codes "$") (after_remarks false bytes)
 
 -- a tab or above, and no byte above those of ASCII
 abbrev pub is_text : ℕ → Bool

@@ -1,7 +1,7 @@
 //! What kind of file some bytes are, by the first of them.
 
 ghost use Rattle.std.specs.Prelude.{◌≡◌, false};
-ghost use Rattle.vme_faults.specs.Files.{begins_with, behind_remarks, file_help, file_kind, file_name, is_big_utf16};
+ghost use Rattle.vme_faults.specs.Files.{after_remarks, begins_with, file_help, file_kind, file_name, is_big_utf16};
 ghost use Rattle.vme_faults.specs.Files.{is_binding, is_dump, is_little_utf16, is_space, is_text, unmarked};
 
 /// A kind of file.
@@ -169,7 +169,7 @@ fn is_text(byte: u8) -> bool
 fn is_dump(bytes: &[u8]) -> bool
     ensures { result ≡ is_dump bytes.now }
 {
-    begins_with(behind_remarks(bytes), b"$")
+    begins_with(after_remarks(bytes), b"$")
 }
 
 /// Whether the first word that isn't in a remark begins with `slots`.
@@ -177,13 +177,13 @@ fn is_dump(bytes: &[u8]) -> bool
 fn is_binding(bytes: &[u8]) -> bool
     ensures { result ≡ is_binding bytes.now }
 {
-    begins_with(behind_remarks(bytes), b"slots")
+    begins_with(after_remarks(bytes), b"slots")
 }
 
 /// The text from its first word on that isn't in a remark, i.e. a line that begins with `#`.
-#[tactic(auto, unfolding(crate::specs::Files::behind_remarks))]
-fn behind_remarks(text: &[u8]) -> &[u8]
-    ensures { result.now ≡ behind_remarks false text.now }
+#[tactic(auto, unfolding(crate::specs::Files::after_remarks))]
+fn after_remarks(text: &[u8]) -> &[u8]
+    ensures { result.now ≡ after_remarks false text.now }
 {
     let mut rest = text;
     let mut is_within = false;

@@ -23,7 +23,7 @@ pub struct KeptLines {
     /// The line of the dump section that is open, and that of the comment that is open.
     dump_section: Option<KeptLine>,
     comment: Option<KeptLine>,
-    faulty: Vec<u8>,
+    fault_line: Vec<u8>,
     /// Whether the line of the fault is read to its end.
     is_ended: bool,
 }
@@ -37,7 +37,7 @@ impl KeptLines {
             last: None,
             dump_section: None,
             comment: None,
-            faulty: Vec::new(alloc),
+            fault_line: Vec::new(alloc),
             is_ended: false,
         }
     }
@@ -61,17 +61,17 @@ impl KeptLines {
 
     /// Keeps the line `number`, that of a fault which is met in `bytes` or at their end. They follow the pieces that
     /// were passed. The only error is want of memory.
-    pub fn stop(&mut self, number: u64, bytes: &[u8]) -> Result<(), AllocError> {
-        self.faulty.clear();
+    pub fn record_fault(&mut self, number: u64, bytes: &[u8]) -> Result<(), AllocError> {
+        self.fault_line.clear();
         match number.checked_sub(self.next) {
-            Some(further) => self.stop_in(further, bytes),
+            Some(further) => self.record_fault_in(further, bytes),
             None => {
                 self.is_ended = true;
                 for kept in [&self.last, &self.dump_section, &self.comment] {
                     if let Some(line) = kept {
                         if line.number == number {
-                            self.faulty.clear();
-                            self.faulty.extend_from_slice(&line.bytes)?;
+                            self.fault_line.clear();
+                            self.fault_line.extend_from_slice(&line.bytes)?;
                         }
                     }
                 }
@@ -81,7 +81,7 @@ impl KeptLines {
     }
 
     /// Keeps the line of a fault, which is `further` lines after the one that `bytes` begin on.
-    fn stop_in(&mut self, further: u64, bytes: &[u8]) -> Result<(), AllocError> {
+    fn record_fault_in(&mut self, further: u64, bytes: &[u8]) -> Result<(), AllocError> {
         let mut rest = bytes;
         for _ in 0..further {
             let (line, is_ended) = up_to_feed(rest);
@@ -92,25 +92,25 @@ impl KeptLines {
             rest = rest.get(line.len().saturating_add(1)..).unwrap_or(b"");
         }
         if further == 0 {
-            self.faulty.extend_from_slice(&self.current)?;
+            self.fault_line.extend_from_slice(&self.current)?;
         }
-        self.go_on(rest)
+        self.extend_fault(rest)
     }
 
     /// Adds the rest of the fault's line, as far as `bytes` have it. The only error is want of memory.
-    pub fn go_on(&mut self, bytes: &[u8]) -> Result<(), AllocError> {
+    pub fn extend_fault(&mut self, bytes: &[u8]) -> Result<(), AllocError> {
         if self.is_ended {
             return Ok(());
         }
         let (line, is_ended) = up_to_feed(bytes);
-        self.faulty.extend_from_slice(line)?;
+        self.fault_line.extend_from_slice(line)?;
         self.is_ended = is_ended;
         Ok(())
     }
 
     /// The line of the fault, without its end.
-    pub fn faulty(&self) -> &[u8] {
-        match self.faulty.as_slice() {
+    pub fn fault_line(&self) -> &[u8] {
+        match self.fault_line.as_slice() {
             [front @ .., b'\r'] => front,
             line => line,
         }

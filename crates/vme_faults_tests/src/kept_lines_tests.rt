@@ -35,15 +35,15 @@ fn is_cut(at: usize) -> bool {
 /// Whether the line of the fault is the one with this number.
 fn is_line(lines: &KeptLines, number: usize) -> bool {
     let line = LINES.get(number.saturating_sub(1)).copied().unwrap_or("");
-    lines.faulty() == line.as_bytes()
+    lines.fault_line() == line.as_bytes()
 }
 
 /// Whether the line `number` is kept, if the dump comes in three parts: before a fault, with the fault, and the rest.
 fn is_kept(alloc: Global, first: usize, second: usize, number: usize) -> Result<bool, AllocError> {
     let mut lines = KeptLines::new(alloc);
     lines.pass(alloc, part(0, first))?;
-    lines.stop(number as u64, part(first, second))?;
-    lines.go_on(part(second, DUMP.len()))?;
+    lines.record_fault(number as u64, part(first, second))?;
+    lines.extend_fault(part(second, DUMP.len()))?;
     Ok(is_line(&lines, number))
 }
 
@@ -57,7 +57,7 @@ fn is_kept_of_two(
     let mut lines = KeptLines::new(alloc);
     lines.pass(alloc, part(0, first))?;
     lines.pass(alloc, part(first, second))?;
-    lines.stop(number as u64, part(second, DUMP.len()))?;
+    lines.record_fault(number as u64, part(second, DUMP.len()))?;
     Ok(is_line(&lines, number))
 }
 

@@ -28,7 +28,7 @@ use Rattle.vme_part_format.specs.Tables.{PartValue, SegmentValue, TableValue, se
 use Rattle.vme_part_format.specs.declared.segment.Segment.{Segment}
 use Rattle.vme_parts.specs.Files.{IsPartOfFile}
 use Rattle.vme_part_format.specs.declared.segment.SegmentTimes.{SegmentTimes}
-use Rattle.vme_part_tables.specs.Runs.{SaysBoth, TellsRuns}
+use Rattle.vme_part_tables.specs.Runs.{AgreesWithRuns, IsComposition}
 use Rattle.vme_parts.specs.Buddies.{HasTables}
 use Rattle.vme_file_part.specs.Growing.{IsExtended, FileMayGoOn, StandsForFile}
 use Rattle.vme_parts.specs.Meeting.{ends_at, starts_at}
@@ -75,27 +75,27 @@ module _ (listing : Bool) (s : SegmentValue) (b : Block) (a : StandsForFile list
   }
 
   moved : {P : Type 0} (run : P → Levels → List Step → Outcome P) (place : P → ℕ) (n : ℕ) (u : TableValue)
-      → TellsRuns listing n place u (λ p. run p s.opening (joined_steps (b ∷ [])))
-      → TellsRuns listing n place u (λ p. run p b.opening b.steps)
+      → AgreesWithRuns listing n place u (λ p. run p s.opening (joined_steps (b ∷ [])))
+      → AgreesWithRuns listing n place u (λ p. run p b.opening b.steps)
   moved run place n u h =
-      subst (λ (x : List Step). TellsRuns listing n place u (λ p. run p b.opening x)) own
-      (subst (λ (o : Levels). TellsRuns listing n place u (λ p. run p o (joined_steps (b ∷ [])))) file-opening h)
+      subst (λ (x : List Step). AgreesWithRuns listing n place u (λ p. run p b.opening x)) own
+      (subst (λ (o : Levels). AgreesWithRuns listing n place u (λ p. run p o (joined_steps (b ∷ [])))) file-opening h)
 
-  file_known : TellsRuns listing 4 (phase_place nil_place) s.known (λ p. known_run p b.opening b.steps)
+  file_known : AgreesWithRuns listing 4 (phase_place nil_place) s.known (λ p. known_run p b.opening b.steps)
   file_known = moved known_run (phase_place nil_place) 4 s.known a.stands.known
 
-  file_handshake : TellsRuns listing 147 (phase_place memory_place) s.handshake
+  file_handshake : AgreesWithRuns listing 147 (phase_place memory_place) s.handshake
       (λ p. handshake_run p b.opening b.steps)
   file_handshake = moved handshake_run (phase_place memory_place) 147 s.handshake a.stands.handshake
 
-  file_stability : TellsRuns listing 13 (phase_place holding_place) s.stability
+  file_stability : AgreesWithRuns listing 13 (phase_place holding_place) s.stability
       (λ p. stability_run p b.opening b.steps)
   file_stability = moved stability_run (phase_place holding_place) 13 s.stability a.stands.stability
 
-  file_grant : TellsRuns listing 35 (phase_place arbitration_place) s.grant (λ p. grant_run p b.opening b.steps)
+  file_grant : AgreesWithRuns listing 35 (phase_place arbitration_place) s.grant (λ p. grant_run p b.opening b.steps)
   file_grant = moved grant_run (phase_place arbitration_place) 35 s.grant a.stands.grant
 
-  file_acknowledge : TellsRuns listing 11 (phase_place acknowledgement_place) s.acknowledge
+  file_acknowledge : AgreesWithRuns listing 11 (phase_place acknowledgement_place) s.acknowledge
       (λ p. acknowledge_run p b.opening b.steps)
   file_acknowledge = moved acknowledge_run (phase_place acknowledgement_place) 11 s.acknowledge a.stands.acknowledge
 
@@ -165,22 +165,23 @@ module _ (listing : Bool) (s t r : SegmentValue) (number : ℕ) (o : Levels) (x 
         (e.opening ∙ file-opening listing s before a) left starts ends
         (numbers ∙ ap (λ (n : ℕ). option_map (λ (k : Step). n) (slice_get (x ++ y) 0)) (sym first_is_number))
         (tables_of_both known_run known_is_run (phase_place nil_place) listing 4 o (levels_after o x) x y s.known
-        t.known r.known refl fits (subst (λ (n : ℕ). SaysBoth n s.known t.known r.known) steps_first e.known)
+        t.known r.known refl fits (subst (λ (n : ℕ). IsComposition n s.known t.known r.known) steps_first e.known)
         (file_known listing s before a) (file_known listing t behind b))
         (tables_of_both handshake_run handshake_is_run (phase_place memory_place) listing 147 o (levels_after o x) x y
         s.handshake t.handshake r.handshake refl fits
-        (subst (λ (n : ℕ). SaysBoth n s.handshake t.handshake r.handshake) steps_first e.handshake)
+        (subst (λ (n : ℕ). IsComposition n s.handshake t.handshake r.handshake) steps_first e.handshake)
         (file_handshake listing s before a) (file_handshake listing t behind b))
         (tables_of_both stability_run stability_is_run (phase_place holding_place) listing 13 o (levels_after o x) x y
         s.stability t.stability r.stability refl fits
-        (subst (λ (n : ℕ). SaysBoth n s.stability t.stability r.stability) steps_first e.stability)
+        (subst (λ (n : ℕ). IsComposition n s.stability t.stability r.stability) steps_first e.stability)
         (file_stability listing s before a) (file_stability listing t behind b))
         (tables_of_both grant_run grant_is_run (phase_place arbitration_place) listing 35 o (levels_after o x) x y
-        s.grant t.grant r.grant refl fits (subst (λ (n : ℕ). SaysBoth n s.grant t.grant r.grant) steps_first e.grant)
+        s.grant t.grant r.grant refl fits
+        (subst (λ (n : ℕ). IsComposition n s.grant t.grant r.grant) steps_first e.grant)
         (file_grant listing s before a) (file_grant listing t behind b))
         (tables_of_both acknowledge_run acknowledge_is_run (phase_place acknowledgement_place) listing 11 o
         (levels_after o x) x y s.acknowledge t.acknowledge r.acknowledge refl fits
-        (subst (λ (n : ℕ). SaysBoth n s.acknowledge t.acknowledge r.acknowledge) steps_first e.acknowledge)
+        (subst (λ (n : ℕ). IsComposition n s.acknowledge t.acknowledge r.acknowledge) steps_first e.acknowledge)
         (file_acknowledge listing s before a) (file_acknowledge listing t behind b));
   }
 

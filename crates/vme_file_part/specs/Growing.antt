@@ -8,7 +8,7 @@ use Rattle.vme_trace.specs.declared.block.Block.{Block}
 use Rattle.vme_trace.specs.declared.step.Step.{Step}
 use Rattle.vme_part_format.specs.Tables.{SegmentValue, segment_value}
 use Rattle.vme_part_format.specs.declared.segment.Segment.{Segment}
-use Rattle.vme_part_tables.specs.Runs.{SaysBoth}
+use Rattle.vme_part_tables.specs.Runs.{IsComposition}
 use Rattle.vme_parts.specs.Joined.{joined_times}
 use Rattle.vme_file_part.specs.FileOf.{file_of}
 use Rattle.vme_parts.specs.Stands.{SegmentStandsFor}
@@ -28,11 +28,11 @@ pub record IsExtended (s t r : SegmentValue) : Type 0 where
   pub opening : r.opening ≡ s.opening
   pub left : r.left ≡ t.left
   pub times : r.times ≡ joined_times s.times t.times
-  pub known : SaysBoth s.steps s.known t.known r.known
-  pub handshake : SaysBoth s.steps s.handshake t.handshake r.handshake
-  pub stability : SaysBoth s.steps s.stability t.stability r.stability
-  pub grant : SaysBoth s.steps s.grant t.grant r.grant
-  pub acknowledge : SaysBoth s.steps s.acknowledge t.acknowledge r.acknowledge
+  pub known : IsComposition s.steps s.known t.known r.known
+  pub handshake : IsComposition s.steps s.handshake t.handshake r.handshake
+  pub stability : IsComposition s.steps s.stability t.stability r.stability
+  pub grant : IsComposition s.steps s.grant t.grant r.grant
+  pub acknowledge : IsComposition s.steps s.acknowledge t.acknowledge r.acknowledge
 
 -- the recording t continued with `steps` is well-formed, and not too long
 pub record FileMayGoOn (t : Trace) (steps : List Step) : Type 0 where

@@ -4,7 +4,7 @@ ghost use Rattle.std.specs.Prelude.{◌≡◌, ◌∷◌, ◌≤◌, [], ℕ, If
 ghost use Rattle.vme_trace.specs.WellFormed.{malformed_step};
 ghost use Rattle.vme_summary.specs.Joins.{block_of};
 ghost use Rattle.vme_part_format.specs.Tables.{part_value, segment_value, table_value};
-ghost use Rattle.vme_part_tables.specs.Runs.{SaysBoth};
+ghost use Rattle.vme_part_tables.specs.Runs.{IsComposition};
 ghost use Rattle.vme_parts.specs.Buddies.{IsTableOf};
 ghost use Rattle.vme_parts.specs.Joined.{joined_times};
 ghost use Rattle.vme_file_part.specs.Growing.{StandsForFile};
@@ -55,7 +55,7 @@ pub(crate) fn joined_table(
     steps: u64,
 ) -> Result<OutcomeTable, PartRefusal>
     requires { (n : ℕ) × IsTableOf n (table_value first) × IsTableOf n (table_value second) }
-    ensures { IfOk result (λ t. SaysBoth steps (table_value first) (table_value second) (table_value t)) }
+    ensures { IfOk result (λ t. IsComposition steps (table_value first) (table_value second) (table_value t)) }
 {
     if !are_few_together(&first, &second) {
         return Err(PartRefusal::TooManyNodes);

@@ -34,21 +34,21 @@ abbrev OkOf : {X A E : Type 0} → (X → Result A E) → Type 0
 OkOf {X} {A} {E} f = A
 
 -- the type of bound groups
-abbrev Wired : Type 0
-Wired = OkOf (bound_group_in [])
+abbrev BoundGroupType : Type 0
+BoundGroupType = OkOf (bound_group_in [])
 
 -- each line of the group `w` has the same level after n and after m instants
-abbrev Stays : Wired → Type 0
-Stays w = (slots : ℕ) (ws : List Wired) (instants : List Instant) (n m l place : ℕ)
+abbrev KeepsLevels : BoundGroupType → Type 0
+KeepsLevels w = (slots : ℕ) (ws : List BoundGroupType) (instants : List Instant) (n m l place : ℕ)
     → level_by slots ws instants n l (Some (source_on place w.source))
     ≡ level_by slots ws instants m l (Some (source_on place w.source))
 
-AllStay : List Wired → Type 0
-AllStay [] = Unit {0}
-AllStay (w ∷ ws) = Stays w × AllStay ws
+AllKeepLevels : List BoundGroupType → Type 0
+AllKeepLevels [] = Unit {0}
+AllKeepLevels (w ∷ ws) = KeepsLevels w × AllKeepLevels ws
 
 constant_group : (vs : List Variable) (a : Assignment) (level : Level) → a.source ≡ Constant level
-    → (w : Wired) × (bound_group_in vs a ≡ Ok w) × Stays w
+    → (w : BoundGroupType) × (bound_group_in vs a ≡ Ok w) × KeepsLevels w
 constant_group vs a level is = (
   _,
   ap (λ (s : LevelSource). bound_group_by a (source_in vs a.group.count s)) is,
@@ -60,10 +60,10 @@ and_parts true b e = (refl, e)
 and_parts false b e = cc
 
 abbrev ConstantGroups : List Variable → List Assignment → Type 0
-ConstantGroups vs as' = (ws : List Wired) × (bound_groups_in vs as' ≡ Ok ws) × AllStay ws
+ConstantGroups vs as' = (ws : List BoundGroupType) × (bound_groups_in vs as' ≡ Ok ws) × AllKeepLevels ws
 
 constant_groups : (vs : List Variable) (as' : List Assignment) → list_all is_constant as' ≡ true → ConstantGroups vs as'
-unfolding bound_groups_in AllStay
+unfolding bound_groups_in AllKeepLevels
 constant_groups vs [] e = ([], refl, tt)
 constant_groups vs (a ∷ as') e =
     let parts = and_parts (is_constant a) (list_all is_constant as') e in
@@ -83,11 +83,11 @@ same_itself Low = refl
 same_itself High = refl
 same_itself Unknown = refl
 
-module _ (slots : ℕ) (all : List Wired) (instants : List Instant) where
-  source_stays : (ws : List Wired) (n m l : ℕ) → AllStay ws
+module _ (slots : ℕ) (all : List BoundGroupType) (instants : List Instant) where
+  source_stays : (ws : List BoundGroupType) (n m l : ℕ) → AllKeepLevels ws
       → level_by slots all instants n l (bound_group_source ws l)
       ≡ level_by slots all instants m l (bound_group_source ws l)
-  unfolding AllStay
+  unfolding AllKeepLevels
   source_stays [] n m l stay = refl
   source_stays (w ∷ ws) n m l (stays, stay) =
       by_test (holds w.group l) (stays slots all instants n m l (w.group.first - l)) (source_stays ws n m l stay)
@@ -104,7 +104,8 @@ module _ (slots : ℕ) (all : List Wired) (instants : List Instant) where
       by_test true here later = here
       by_test false here later = later
 
-  level_stays : (n m l : ℕ) → AllStay all → level_after slots all instants n l ≡ level_after slots all instants m l
+  level_stays : (n m l : ℕ) → AllKeepLevels all
+      → level_after slots all instants n l ≡ level_after slots all instants m l
   unfolding level_after
   level_stays n m l stay = by_test (has_line slots l) (source_stays all n m l stay)
     where
@@ -116,17 +117,17 @@ module _ (slots : ℕ) (all : List Wired) (instants : List Instant) where
       by_test true here = here
       by_test false here = refl
 
-  never_changes : (n l : ℕ) → AllStay all → changes_at slots all instants n l ≡ false
+  never_changes : (n l : ℕ) → AllKeepLevels all → changes_at slots all instants n l ≡ false
   unfolding changes_at
   never_changes n l stay =
       ap (λ (level : Level). not (same_level (level_after slots all instants n l) level)) (level_stays (n + 1) n l stay)
       ∙ ap not (same_itself (level_after slots all instants n l))
 
-  no_step : (n : ℕ) → AllStay all → is_step slots all instants n ≡ false
+  no_step : (n : ℕ) → AllKeepLevels all → is_step slots all instants n ≡ false
   unfolding is_step
   no_step n stay = fails-any (changes_at slots all instants n) 0 line_count (λ l a b. never_changes n l stay)
 
-  no_steps : (n : ℕ) → AllStay all → (recording slots all instants n).steps ≡ []
+  no_steps : (n : ℕ) → AllKeepLevels all → (recording slots all instants n).steps ≡ []
   unfolding recording
   no_steps n stay = ap (map (step_at slots all instants)) (those-none (is_step slots all instants) 0 n
       (fails-any (is_step slots all instants) 0 n (λ i a b. no_step i stay)))
@@ -143,7 +144,7 @@ captured b dump constant =
     let (ws, are, stay) = constant_groups dump.variables b.assignments constant in
     let t = recording b.slots ws dump.instants (length dump.instants) in (
       t,
-      ap (λ (r : Result (List Wired) BindFault). r >>= λ bound_groups. limited
+      ap (λ (r : Result (List BoundGroupType) BindFault). r >>= λ bound_groups. limited
           (recording b.slots bound_groups dump.instants (length dump.instants))) are
           ∙ short_enough t (no_steps b.slots ws dump.instants (length dump.instants) stay),
     )

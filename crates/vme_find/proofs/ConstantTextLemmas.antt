@@ -14,7 +14,7 @@ use Rattle.vme_trace.proofs.Ranges.{any-fails}
 use Rattle.vcd_read.specs.Header.{◌>>=◌}
 use Rattle.vme_bind.specs.Answers.{at_line}
 use Rattle.vme_bind.specs.Binding.{BoundLines, binding_from, binding_of, bound, bound_all, finished, group_of}
-use Rattle.vme_bind.specs.Binding.{name_and_source, no_assignments, once, slots_behind, with_assignment}
+use Rattle.vme_bind.specs.Binding.{name_and_source, no_assignments, once, slots_stated, with_assignment}
 use Rattle.vme_bind.specs.Groups.{down_from, group_named, single}
 use Rattle.vme_bind.specs.Text.{StatementText, statements_of, end_line, is_feed, statement_on, statements_from}
 use Rattle.vme_bind.specs.Text.{without_return, words}
@@ -71,7 +71,7 @@ split_first (x ∷ xs) ys e =
 -- there is one statement, and it says `slots` as the number of slots
 says_slots : ℕ → List StatementText → Bool
 says_slots slots [] = false
-says_slots slots (s ∷ []) = elim (slots_behind s.first s.others) [
+says_slots slots (s ∷ []) = elim (slots_stated s.first s.others) [
   | Ok count ↦ count == slots
   | Err kind ↦ false
 ]
@@ -101,7 +101,7 @@ holds_for p all n low high = true_of_not (p n) (any-fails (λ k. not (p k)) 1 22
     (omega (arith, high)))
 
 abbrev SaysSlots : ℕ → List StatementText → Type 0
-SaysSlots slots ss = (s : StatementText) × (ss ≡ s ∷ []) × (slots_behind s.first s.others ≡ Ok slots)
+SaysSlots slots ss = (s : StatementText) × (ss ≡ s ∷ []) × (slots_stated s.first s.others ≡ Ok slots)
 
 abbrev ok_count : ℕ → Result ℕ BindFaultKind
 ok_count n = Ok n
@@ -109,9 +109,9 @@ ok_count n = Ok n
 slots_said : (slots : ℕ) (ss : List StatementText) → says_slots slots ss ≡ true → SaysSlots slots ss
 unfolding says_slots
 slots_said slots [] e = cc
-slots_said slots (s ∷ []) e = by_count (slots_behind s.first s.others) refl e
+slots_said slots (s ∷ []) e = by_count (slots_stated s.first s.others) refl e
   where
-    by_count : (r : Result ℕ BindFaultKind) → slots_behind s.first s.others ≡ r
+    by_count : (r : Result ℕ BindFaultKind) → slots_stated s.first s.others ≡ r
         → elim r as (λ _. Bool) [ Ok count ↦ count == slots | Err kind ↦ false ] ≡ true → SaysSlots slots (s ∷ [])
     by_count (Ok count) is same = (s, refl, is ∙ ap ok_count (eqb-true count slots same))
     by_count (Err kind) is same = cc
@@ -119,12 +119,12 @@ slots_said slots (s ∷ t ∷ ss) e = cc
 
 -- ---- the other lines
 
-abbrev others_said : List StatementText
-others_said = statements_from 2 (slice_split is_feed other_lines)
+abbrev other_statements : List StatementText
+other_statements = statements_from 2 (slice_split is_feed other_lines)
 
 -- the group of a name, among the names that the text has
-abbrev group_quickly : ℕ → List ℕ → Option Group
-group_quickly slots name =
+abbrev group_by_table : ℕ → List ℕ → Option Group
+group_by_table slots name =
     if bytes_eq name (codes "AS") then Some (down_from AS 1)
     else if bytes_eq name (codes "DS0") then Some (down_from DS0 1)
     else if bytes_eq name (codes "DS1") then Some (down_from DS1 1)
@@ -144,28 +144,28 @@ group_quickly slots name =
     else if bytes_eq name (codes "IA") then Some (down_from (iack slots) slots)
     else None
 
--- `bound`, by `group_quickly`
-abbrev bound_quickly : BoundLines → StatementText → Result BoundLines BindFaultKind
-bound_quickly b s = do
+-- `bound`, by `group_by_table`
+abbrev bound_by_table : BoundLines → StatementText → Result BoundLines BindFaultKind
+bound_by_table b s = do
   words ← name_and_source s.first s.others
-  group ← group_of (group_quickly b.slots words.0)
+  group ← group_of (group_by_table b.slots words.0)
   new ← once b.assignments group
   Ok (with_assignment b s.line new words.1)
 
--- `bound_all`, by `group_quickly`
-unfoldable all_quickly : BoundLines → List StatementText → Result BoundLines BindFault
-all_quickly b [] = Ok b
-all_quickly b (s ∷ ss) = do
-  next ← at_line s.line (bound_quickly b s)
-  all_quickly next ss
+-- `bound_all`, by `group_by_table`
+unfoldable bound_all_by_table : BoundLines → List StatementText → Result BoundLines BindFault
+bound_all_by_table b [] = Ok b
+bound_all_by_table b (s ∷ ss) = do
+  next ← at_line s.line (bound_by_table b s)
+  bound_all_by_table next ss
 
--- `group_quickly` gives the group of `name`
-abbrev IsQuick : List ℕ → Type 0
-IsQuick name = (slots : ℕ) → group_named slots name ≡ group_quickly slots name
+-- `group_by_table` gives the group of `name`
+abbrev AgreesWithTable : List ℕ → Type 0
+AgreesWithTable name = (slots : ℕ) → group_named slots name ≡ group_by_table slots name
 
-AllQuick : List StatementText → Type 0
-AllQuick [] = Unit {0}
-AllQuick (s ∷ ss) = IsQuick s.first × AllQuick ss
+AllAgreeWithTable : List StatementText → Type 0
+AllAgreeWithTable [] = Unit {0}
+AllAgreeWithTable (s ∷ ss) = AgreesWithTable s.first × AllAgreeWithTable ss
 
 bind_same : {A B E : Type 0} (r : Result A E) (f g : A → Result B E) → ((x : A) → f x ≡ g x) → (r >>= f) ≡ (r >>= g)
 bind_same (Ok x) f g same = same x
@@ -178,40 +178,40 @@ with_group b s source group = group_of group >>= λ group. once b.assignments gr
 abbrev by_equals : List ℕ → List ℕ → Bool → Result (List ℕ × List ℕ) BindFaultKind
 by_equals first source test = if test then Ok (first, source) else Err BadLine
 
-same_bound : (b : BoundLines) (s : StatementText) → IsQuick s.first → bound b s ≡ bound_quickly b s
-same_bound b s quick = by_others s.others
+same_bound : (b : BoundLines) (s : StatementText) → AgreesWithTable s.first → bound b s ≡ bound_by_table b s
+same_bound b s agrees = by_others s.others
   where
     by_test : (test : Bool) (source : List ℕ)
         → (by_equals s.first source test >>= λ words. with_group b s words.1 (group_named b.slots words.0))
-        ≡ (by_equals s.first source test >>= λ words. with_group b s words.1 (group_quickly b.slots words.0))
-    by_test true source = ap (with_group b s source) (quick b.slots)
+        ≡ (by_equals s.first source test >>= λ words. with_group b s words.1 (group_by_table b.slots words.0))
+    by_test true source = ap (with_group b s source) (agrees b.slots)
     by_test false source = refl
 
     by_others : (others : List (List ℕ))
         → (name_and_source s.first others >>= λ words. with_group b s words.1 (group_named b.slots words.0))
-        ≡ (name_and_source s.first others >>= λ words. with_group b s words.1 (group_quickly b.slots words.0))
+        ≡ (name_and_source s.first others >>= λ words. with_group b s words.1 (group_by_table b.slots words.0))
     by_others [] = refl
     by_others (equals ∷ []) = refl
     by_others (equals ∷ source ∷ []) = by_test (bytes_eq equals (codes "=")) source
     by_others (equals ∷ source ∷ more ∷ others) = refl
 
-same_all : (ss : List StatementText) (b : BoundLines) → AllQuick ss → bound_all b ss ≡ all_quickly b ss
-unfolding bound_all all_quickly AllQuick
-same_all [] b quick = refl
-same_all (s ∷ ss) b quick =
+same_all : (ss : List StatementText) (b : BoundLines) → AllAgreeWithTable ss → bound_all b ss ≡ bound_all_by_table b ss
+unfolding bound_all bound_all_by_table AllAgreeWithTable
+same_all [] b agrees = refl
+same_all (s ∷ ss) b agrees =
     ap (λ (r : Result BoundLines BindFaultKind). at_line s.line r >>= λ next. bound_all next ss)
-    (same_bound b s quick.0)
-    ∙ bind_same (at_line s.line (bound_quickly b s)) (λ next. bound_all next ss) (λ next. all_quickly next ss)
-    (λ next. same_all ss next quick.1)
+    (same_bound b s agrees.0)
+    ∙ bind_same (at_line s.line (bound_by_table b s)) (λ next. bound_all next ss) (λ next. bound_all_by_table next ss)
+    (λ next. same_all ss next agrees.1)
 
 -- the group of the name of the line `l` is that line alone
 own : (l : ℕ) (name : List ℕ) (slots : ℕ) → l < line_count → line_name l ≡ name
     → option_and_then (single slots) (line_named name) ≡ single slots l
 own l name slots below is = ap (option_and_then (single slots)) (line_named-is l name below is)
 
-others_quick : AllQuick others_said
-unfolding AllQuick statements_from digits
-others_quick = (
+others_agree : AllAgreeWithTable other_statements
+unfolding AllAgreeWithTable statements_from digits
+others_agree = (
   λ slots. own AS (codes "AS") slots (omega arith) refl,
   (
     λ slots. own DS0 (codes "DS0") slots (omega arith) refl,
@@ -282,28 +282,28 @@ what_binds slots (Ok b) e =
 what_binds slots (Err fault) e = cc
 
 abbrev bound_by : ℕ → ℕ → Result BoundLines BindFault
-bound_by line slots = all_quickly (no_assignments slots) others_said >>= finished line
+bound_by line slots = bound_all_by_table (no_assignments slots) other_statements >>= finished line
 
 -- the lines after the first bind all lines of the backplane to constants, for each number of slots from 1 to 21
 all_bind : (line : ℕ) → every (λ slots. binds slots (bound_by line slots)) 1 22 ≡ true
-unfolding any least all_quickly statements_from binds
+unfolding any least bound_all_by_table statements_from binds
 all_bind line = refl
 
 said_all : (slots : ℕ) (s : StatementText) → list_all (λ b. not (is_feed b)) (first_line slots) ≡ true
     → first_said slots
-    ≡ s ∷ [] → statements_of (text_of slots) ≡ s ∷ others_said
+    ≡ s ∷ [] → statements_of (text_of slots) ≡ s ∷ other_statements
 unfolding statements_from
 said_all slots s plain is =
     ap (statements_from 1) (split_first (first_line slots) other_lines plain)
-    ∙ ap (λ (ss : List StatementText). ss ++ others_said) is
+    ∙ ap (λ (ss : List StatementText). ss ++ other_statements) is
 
-binding_is : (slots line : ℕ) (s : StatementText) → slots_behind s.first s.others ≡ Ok slots
-    → binding_from line (s ∷ others_said) ≡ bound_by line slots
+binding_is : (slots line : ℕ) (s : StatementText) → slots_stated s.first s.others ≡ Ok slots
+    → binding_from line (s ∷ other_statements) ≡ bound_by line slots
 binding_is slots line s is =
-    ap (λ (r : Result ℕ BindFaultKind). at_line s.line r >>= λ count. bound_all (no_assignments count) others_said >>=
-    finished line) is
-    ∙ ap (λ (r : Result BoundLines BindFault). r >>= finished line) (same_all others_said (no_assignments slots)
-    others_quick)
+    ap (λ (r : Result ℕ BindFaultKind). at_line s.line r >>= λ count. bound_all (no_assignments count) other_statements
+    >>= finished line) is
+    ∙ ap (λ (r : Result BoundLines BindFault). r >>= finished line) (same_all other_statements (no_assignments slots)
+    others_agree)
 
 pub binds-constants : (slots : ℕ) → 1 ≤ slots → slots ≤ 21 → BindsConstants slots (text_of slots)
 unfolding binding_of

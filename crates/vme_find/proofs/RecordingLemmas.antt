@@ -13,7 +13,7 @@ use Rattle.vme_bind.specs.Binding.{BoundLines, binding_of}
 use Rattle.vme_bind.specs.BoundGroups.{bound_group_in, bound_groups_in}
 use Rattle.vme_bind.specs.Capture.{capture_of, is_step, limited, recording, step_at}
 use Rattle.vme_bind.specs.TextCapture.{capture_of_text, capture_read, or_binding, or_dump}
-use Rattle.vme_bind.specs.TextReading.{TextReading, or_fault, reading_behind, reading_of_text}
+use Rattle.vme_bind.specs.TextReading.{TextReading, or_fault, reading_after, reading_of_text}
 use Rattle.vme_bind.specs.declared.fault.BindFault.{BindFault}
 use Rattle.vme_bind.specs.declared.fault.BindFaultKind.TheVariants.{TooManySteps}
 use Rattle.vme_bind.specs.declared.fault.CaptureFault.{CaptureFault}
@@ -29,8 +29,8 @@ abbrev OkOf : {X A E : Type 0} → (X → Result A E) → Type 0
 OkOf {X} {A} {E} f = A
 
 -- the type of bound groups
-abbrev Wired : Type 0
-Wired = OkOf (bound_group_in [])
+abbrev BoundGroupType : Type 0
+BoundGroupType = OkOf (bound_group_in [])
 
 -- ---- what is bound
 
@@ -47,7 +47,7 @@ finds-all b front fault read is none =
     by_definitions (definitions_of front) refl (is ∙ ap (λ (f : Option BindFault). or_fault f read) none)
   where
     by_definitions : (r : Result (Defined (List Variable)) VcdFault) → definitions_of front ≡ r
-        → (or_dump r >>= reading_behind b) ≡ Ok read → finds_all b (variables_in front) ≡ true
+        → (or_dump r >>= reading_after b) ≡ Ok read → finds_all b (variables_in front) ≡ true
     by_definitions (Ok d) defined made =
         ap (λ (vs : List Variable). finds_all b vs) (ap variables_by defined)
         ∙ was_ok (bound_groups_in d.variables b.assignments) _ read made
@@ -71,7 +71,7 @@ length-those p (suc n) =
     )
 
 -- a recording has at most one step for each instant
-few_steps : (slots : ℕ) (bound_groups : List Wired) (instants : List Instant)
+few_steps : (slots : ℕ) (bound_groups : List BoundGroupType) (instants : List Instant)
     → length (recording slots bound_groups instants (length instants)).steps ≤ length instants
 unfolding recording
 few_steps slots bound_groups instants =
@@ -95,16 +95,16 @@ short_enough t few = by_test (nat_lt capture_limit (length t.steps)) (not_over (
 -- ---- the recording
 
 -- a result that is ok has a value
-there : {A E : Type 0} (r : Result A E) → is_ok r ≡ true → (a : A) × (r ≡ Ok a)
-there (Ok a) e = (a, refl)
-there (Err fault) e = absurd (cc e)
+ok_value : {A E : Type 0} (r : Result A E) → is_ok r ≡ true → (a : A) × (r ≡ Ok a)
+ok_value (Ok a) e = (a, refl)
+ok_value (Err fault) e = absurd (cc e)
 
 pub records-surveyed : (text : List ℕ) (b : BoundLines) (survey : Survey) (variables : List Variable)
     → binding_of text ≡ Ok b → variables ≡ survey.variables → survey.instants ≤ most_instants
     → finds_all b variables ≡ true → MakesRecordings text survey
 unfolding capture_of_text capture_of
 records-surveyed text b survey variables is same few finds dump (contents, read, declared, count) =
-    let (groups, are) = there (bound_groups_in contents.variables b.assignments)
+    let (groups, are) = ok_value (bound_groups_in contents.variables b.assignments)
     (ap (λ (vs : List Variable). finds_all b vs) (declared ∙ sym same) ∙ finds) in
     let t = recording b.slots groups contents.instants (length contents.instants) in
     let short : length t.steps ≤ capture_limit =
@@ -114,6 +114,6 @@ records-surveyed text b survey variables is same few finds dump (contents, read,
       recording = t;
       is_binding = is;
       records = ap (capture_read b) read
-          ∙ ap or_binding (ap (λ (r : Result (List Wired) BindFault). r >>= λ bound_groups. limited
+          ∙ ap or_binding (ap (λ (r : Result (List BoundGroupType) BindFault). r >>= λ bound_groups. limited
           (recording b.slots bound_groups contents.instants (length contents.instants))) are ∙ short_enough t short);
     }

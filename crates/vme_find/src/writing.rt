@@ -14,7 +14,7 @@ use std::alloc::{AllocError, Global};
 use vme_bind::{BindFault, BindFaultKind, Binding, CaptureFault, StepCollector, read_binding};
 use vme_declarations::{DeclaredNames, LevelsSeen, SurveyedDump, has_scope};
 use vme_line_names::find_lines;
-use vme_proposal::{propose_binding, told_constants};
+use vme_proposal::{constants_report, propose_binding};
 use vme_text::Text;
 
 /// A binding for a dump, and the report of it.
@@ -25,11 +25,11 @@ pub struct FoundBinding {
     /// A line for people, from `vmecheck: ` to its end: how many of the 19 groups of lines are bound to variables, in
     /// which scope, which aren't, and why a check by the binding judges nothing, if so. It has visible characters
     /// alone.
-    pub told: Text,
+    pub report: Text,
     /// Whether AS, a strobe and DTACK are bound to variables, and AS moves in the dump: else a check by the binding
     /// judges no cycle, no transfer or no answer.
     pub is_bus: bool,
-    ghost visible: { IsVisible told },
+    ghost visible: { IsVisible report },
 }
 
 /// Why there is no binding for a dump.
@@ -120,7 +120,7 @@ fn constant_binding(alloc: Global, slots: Option<u8>) -> Result<FoundBinding, Al
 {
     Ok(FoundBinding {
         text: constant_text(alloc, slots.unwrap_or(1))?,
-        told: told_constants(alloc)?,
+        report: constants_report(alloc)?,
         is_bus: false,
     })
 }
@@ -202,7 +202,7 @@ fn proposal_by(
     let proposed = propose_binding(alloc, declared, found, slots)?;
     Ok(FoundBinding {
         text: proposed.text,
-        told: proposed.told,
+        report: proposed.report,
         is_bus: proposed.is_bus,
     })
 }

@@ -9,7 +9,7 @@ use vme_declarations::{
 };
 use vme_find::{FindFault, FoundBinding, write_binding};
 use vme_line_names::find_lines;
-use vme_proposal::{ProposedBinding, propose_binding, told_constants};
+use vme_proposal::{ProposedBinding, constants_report, propose_binding};
 use vme_trace::Line;
 use vme_variables::{time_scale, time_unit, variables_text};
 
@@ -161,7 +161,7 @@ fn a_scope_is_looked_for(rt: HostRuntime) {
 fn is_proposed(proposed: &ProposedBinding) -> bool {
     has(proposed.text.as_bytes(), "\nAS = bus.as_n\n")
         && proposed
-            .told
+            .report
             .as_bytes()
             .starts_with(b"vmecheck: bound 1 of 19 groups in scope bus, 2 slots")
         && !proposed.is_bus
@@ -191,7 +191,7 @@ fn are_lines_found_or_refused(alloc: Global) -> bool {
 
 /// Whether the report says that nothing is bound.
 fn are_constants_told(alloc: Global) -> bool {
-    match told_constants(alloc) {
+    match constants_report(alloc) {
         Ok(told) => told
             .as_bytes()
             .starts_with(b"vmecheck: bound 0 of 19 groups: "),
@@ -271,7 +271,7 @@ fn binding_in_has(alloc: Global, dump: &str, path: &str, part: &str) -> bool {
 /// Whether the report of the binding that is found for a dump is `told`, and its `is_bus` is as given.
 fn binding_is_told(alloc: Global, dump: &str, told: &str, is_bus: bool) -> bool {
     match binding_of(alloc, dump, None, None) {
-        Some(found) => found.told.as_bytes() == told.as_bytes() && found.is_bus == is_bus,
+        Some(found) => found.report.as_bytes() == told.as_bytes() && found.is_bus == is_bus,
         None => false,
     }
 }
@@ -677,7 +677,7 @@ static STEERING_BOUND: [&str; 2] = [
 /// Whether the report of the binding of `STEERING` contains `part`.
 fn steering_is_told(alloc: Global, part: &str) -> bool {
     match binding_of(alloc, STEERING, None, None) {
-        Some(found) => has(found.told.as_bytes(), part),
+        Some(found) => has(found.report.as_bytes(), part),
         None => false,
     }
 }

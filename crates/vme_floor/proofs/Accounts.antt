@@ -12,9 +12,9 @@ use Rattle.vme_board.specs.Contents.{DidAll, HasBlock}
 use Rattle.vme_core.specs.Stages.{HasSeen}
 use Rattle.vme_core.specs.declared.stage.Stage.TheVariants.{Claimed}
 use Rattle.vme_board.specs.declared.board.Closed.{Closed}
-use Rattle.vme_floor.specs.Answering.{Suits, FiledAs, IsFiled, IsFiledNumber}
+use Rattle.vme_floor.specs.Answering.{IsRightAnswer, FiledAs, IsFiled, IsFiledNumber}
 use Rattle.vme_floor.specs.Claims.{HasAnswers, IsContent, IsRecorded, IsLeastUnfiled, IsTorn}
-use Rattle.vme_floor.specs.Collecting.{HasTakenOwn}
+use Rattle.vme_floor.specs.Collecting.{OwnAreTaken}
 use Rattle.vme_floor.specs.Accounts.{reply_of, AreReplies, IsAccount, IsClosed, IsUnion}
 use Rattle.vme_floor.specs.declared.collector.Collection.{Collection}
 use Rattle.vme_floor.specs.Works.{number_in, number_at, filings, IsListed, IsReply, IsSeenIf, IsWork}
@@ -41,7 +41,8 @@ module _ (total : ℕ) (ds : List Block) (v : View) (replies : List Reply) (answ
   reply_at : (k : ℕ) (r : Reply) → slice_get replies k ≡ Some r → IsReply total ds v.list r
   reply_at k r at = each_at (IsReply total ds v.list) replies k r w.right at
 
-  right_at : (d : ℕ) (a : Answer) (b : Block) → slice_get answers d ≡ Some a → slice_get ds d ≡ Some b → Suits total b a
+  right_at : (d : ℕ) (a : Answer) (b : Block) → slice_get answers d ≡ Some a → slice_get ds d ≡ Some b → IsRightAnswer
+      total b a
       × IsListed v.list b a
   right_at d a b at there = let p = are d a at in (reply_at p.0 (reply_of d a) p.1).1 b there
 
@@ -232,7 +233,7 @@ module _ (total : ℕ) (ds : List Block) (v : View) (replies : List Reply) (c : 
     }
 
     -- if each number that the bench filed was taken, and each place has a block, all blocks were collected
-    pub all_early : (all : List (Option Block)) → IsUnion c.book closed.contents.items all → HasTakenOwn v
+    pub all_early : (all : List (Option Block)) → IsUnion c.book closed.contents.items all → OwnAreTaken v
         → ((n : ℕ) → n < total → (b : Block) × HasBlock all n b) → c.count ≡ total
     all_early all u own there =
         let long = k.collected.long in let counted = k.collected.counted in

@@ -21,7 +21,7 @@ use Rattle.vme_board.specs.declared.board.Board.{Board}
 use Rattle.vme_floor.specs.Works.{number_at, IsDelivered}
 use Rattle.vme_floor.specs.declared.answer.Answer.TheVariants.{Filed}
 use Rattle.vme_floor.specs.declared.answer.Reply.{Reply}
-use Rattle.vme_floor.specs.Collecting.{block_count, IsCollected, IsGone, HasTakenOwn, TakesOnly}
+use Rattle.vme_floor.specs.Collecting.{block_count, IsCollected, IsKnownTaken, OwnAreTaken, TakesOnly}
 use Rattle.vme_floor.specs.declared.collector.Collection.{Collection}
 use Rattle.vme_floor.proofs.Places.{get_here, get_else, get_replicate}
 
@@ -188,8 +188,8 @@ filed_of_seen v n is =
     (λ ne. omega (arith, ne))
 
 -- a number that is taken stays so
-pub gone_on : (v w : View) (n : ℕ) → TakesOnly v w → IsGone v n → IsGone w n
-gone_on v w n more gone = let g : 0 < occurrences n (numbers v.takes) + occurrences n v.taken = gone in
+pub stays_known_taken : (v w : View) (n : ℕ) → TakesOnly v w → IsKnownTaken v n → IsKnownTaken w n
+stays_known_taken v w n more gone = let g : 0 < occurrences n (numbers v.takes) + occurrences n v.taken = gone in
     let a = more.takes n in let b = more.sees.taken n in let on : 0 < occurrences n (numbers w.takes) + occurrences n
     w.taken = omega (arith, g, a, b) in on
 
@@ -202,14 +202,15 @@ sees_on u v w a b = record {
 }
 
 -- after one more delivery each number that the bench filed is taken
-pub own_next : (board : Board) (ds : List Block) (u v w : View) (r : Reply) (n : ℕ) → IsDelivered board ds u v r
-    → TakesOnly v w → number_at ds r.delivery ≡ n → (r.answer ≡ Filed → IsGone w n) → HasTakenOwn u → HasTakenOwn w
-own_next board ds u v w r n d more is gone own m some =
+pub own_stay_taken : (board : Board) (ds : List Block) (u v w : View) (r : Reply) (n : ℕ) → IsDelivered board ds u v r
+    → TakesOnly v w → number_at ds r.delivery ≡ n → (r.answer ≡ Filed → IsKnownTaken w n) → OwnAreTaken u → OwnAreTaken
+    w
+own_stay_taken board ds u v w r n d more is gone own m some =
     let z = ap (λ (l : List (ℕ × Block)). occurrences m (numbers l)) more.list in
     ⊎_elim
     (λ old. let g : 0 < occurrences m (numbers u.takes) + occurrences m u.taken = own m old in
     let t = ap (λ (l : List (ℕ × Block)). occurrences m (numbers l)) d.takes in let s = d.sees.taken m in
     let now : 0 < occurrences m (numbers v.takes) + occurrences m v.taken = omega (arith, g, t, s) in
-    gone_on v w m more now)
-    (λ now. subst (IsGone w) (sym is ∙ now.1) (gone now.0))
+    stays_known_taken v w m more now)
+    (λ now. subst (IsKnownTaken w) (sym is ∙ now.1) (gone now.0))
     (d.lists m (omega (arith, z, some)))

@@ -15,13 +15,13 @@ use Rattle.vme_core.specs.declared.stage.Stage.TheVariants.{Claimed}
 use Rattle.vme_core.proofs.StageRanks.{seen_grows}
 use Rattle.vme_board.specs.Views.{AllFound}
 use Rattle.vme_core.proofs.Sums.{occurrences-append, numbers-append}
-use Rattle.vme_floor.specs.Answering.{first_refusal, Suits}
+use Rattle.vme_floor.specs.Answering.{first_refusal, IsRightAnswer}
 use Rattle.vme_floor.specs.declared.answer.Answer.{Answer}
 use Rattle.vme_floor.specs.declared.answer.Answer.TheVariants.{Filed, Stranger, TooLong, Malformed, Doubled, Memory}
 use Rattle.vme_floor.specs.declared.answer.Reply.{Reply}
 use Rattle.vme_floor.specs.Accounts.{reply_of}
 use Rattle.vme_floor.specs.Works.{number_in, number_at, filing, filings, replied, Each, IsListed, IsSeenIf}
-use Rattle.vme_floor.specs.Works.{IsOldOrFiled, IsReply, IsWork, Lists, left}
+use Rattle.vme_floor.specs.Works.{IsOldOrFiled, IsReply, IsWork, IsListAfter, unfound_below}
 use Rattle.vme_floor.proofs.Weighing.{is_filing}
 
 low_where : (total n : ℕ) (test : Bool) (rest : Option Answer) → nat_lt n total ≡ test
@@ -121,7 +121,8 @@ no_work total ds v l d = record {
 
 -- a delivery adds the number of its block to the list if it is filed, and else nothing
 module _ (old new : List (ℕ × Block)) (b : Block) where
-  counted : (a : Answer) → Lists old new b a → (n : ℕ) → occurrences n (numbers new) ≡ filing a b.number n + occurrences
+  counted : (a : Answer) → IsListAfter old new b a → (n : ℕ) → occurrences n (numbers new) ≡ filing a b.number n +
+      occurrences
       n (numbers old)
   counted Filed r n = ap (λ (xs : List (ℕ × Block)). occurrences n (numbers xs)) r.1
   counted Stranger r n = omega (arith, ap (λ (xs : List (ℕ × Block)). occurrences n (numbers xs)) r)
@@ -133,7 +134,7 @@ module _ (old new : List (ℕ × Block)) (b : Block) where
   kept_by : new ≡ old → IsSubset old new
   kept_by e n c h = subst (λ (xs : List (ℕ × Block)). HasPair xs n c) (sym e) h
 
-  kept : (a : Answer) → Lists old new b a → IsSubset old new
+  kept : (a : Answer) → IsListAfter old new b a → IsSubset old new
   kept Filed r n c h = subst (λ (xs : List (ℕ × Block)). HasPair xs n c) (sym r.1) (inr h)
   kept Stranger r n c h = kept_by r n c h
   kept TooLong r n c h = kept_by r n c h
@@ -141,7 +142,7 @@ module _ (old new : List (ℕ × Block)) (b : Block) where
   kept Doubled r n c h = kept_by r n c h
   kept Memory r n c h = kept_by r n c h
 
-  listed : (a : Answer) → Lists old new b a → IsListed new b a
+  listed : (a : Answer) → IsListAfter old new b a → IsListed new b a
   listed Filed r = subst (λ (xs : List (ℕ × Block)). HasPair xs b.number b) (sym r.1) (inl (refl, refl))
   listed Stranger r = tt
   listed TooLong r = tt
@@ -152,7 +153,8 @@ module _ (old new : List (ℕ × Block)) (b : Block) where
   once_by : new ≡ old → (n : ℕ) → occurrences n (numbers old) ≤ 1 → occurrences n (numbers new) ≤ 1
   once_by e n o = let z = ap (λ (xs : List (ℕ × Block)). occurrences n (numbers xs)) e in omega (arith, z, o)
 
-  once : (a : Answer) → Lists old new b a → (n : ℕ) → occurrences n (numbers old) ≤ 1 → occurrences n (numbers new) ≤ 1
+  once : (a : Answer) → IsListAfter old new b a → (n : ℕ) → occurrences n (numbers old) ≤ 1 → occurrences n
+      (numbers new) ≤ 1
   once Filed r n o = let e = ap (λ (xs : List (ℕ × Block)). occurrences n (numbers xs)) r.1 in
       dite (ℕ_discrete n b.number) (λ s. let z = subst (λ (y : ℕ). occurrences y (numbers old) ≡ 0) (sym s) r.0 in
       grind (arith, nat_tests)) (λ ne. let t = ap {B = ℕ} (λ t. cond t 1 0) (ne_eqb n b.number ne) in
@@ -169,12 +171,13 @@ same_block b c o e f = cc
 -- `IsWork` holds after one more draw and its delivery
 pub works_on : (total : ℕ) (ds : List Block) (u v w : View) (rs : List Reply) (d : ℕ) (b : Block) (a : Answer)
     → IsWork total ds u rs
-    → occurrences d u.draws ≡ 0 → v.draws ≡ d ∷ u.draws → v.list ≡ u.list → w.draws ≡ v.draws → Suits total b a
-    → Lists v.list w.list b a → d < length ds → slice_get ds d ≡ Some b
+    → occurrences d u.draws ≡ 0 → v.draws ≡ d ∷ u.draws → v.list ≡ u.list → w.draws ≡ v.draws → IsRightAnswer total b a
+    → IsListAfter v.list w.list b a → d < length ds → slice_get ds d ≡ Some b
     → SeesMore u w → (a ≡ Doubled → HasSeen w b.number Claimed) → IsWork total ds w (rs ++ reply_of d a ∷ [])
 works_on total ds u v w rs d b a k fresh drew same_list more suits changed near at sees second =
     let one : List Reply = reply_of d a ∷ [] in
-    let lists : Lists u.list w.list b a = subst (λ (xs : List (ℕ × Block)). Lists xs w.list b a) same_list changed in
+    let lists : IsListAfter u.list w.list b a = subst (λ (xs : List (ℕ × Block)). IsListAfter xs w.list b a) same_list
+    changed in
     let n_is : number_at ds d ≡ b.number = ap number_in at in
     let draws : (e : ℕ) → occurrences e w.draws ≡ cond (e == d) 1 0 + occurrences e u.draws = λ e. ap (occurrences e)
     (more ∙ drew) in
@@ -187,7 +190,7 @@ works_on total ds u v w rs d b a k fresh drew same_list more suits changed near 
           (kept u.list w.list b a lists) rs k.right) (
             (
               near,
-              λ c e. subst (λ (x : Block). Suits total x a × IsListed w.list x a)
+              λ c e. subst (λ (x : Block). IsRightAnswer total x a × IsListed w.list x a)
                   (same_block b c (slice_get ds d) at e) (suits, listed u.list w.list b a lists),
             ),
             tt,
@@ -246,7 +249,8 @@ works_same total ds v w rs list draws sees k = record {
 
 -- each number of the list after a delivery was there before, or is that of the delivery, which was filed
 pub old_or_filed : (ds : List Block) (old new : List (ℕ × Block)) (d : ℕ) (b : Block) (a : Answer) → slice_get ds d
-    ≡ Some b → Lists old new b a → (n : ℕ) → 0 < occurrences n (numbers new) → IsOldOrFiled ds old (reply_of d a) n
+    ≡ Some b → IsListAfter old new b a → (n : ℕ) → 0 < occurrences n (numbers new) → IsOldOrFiled ds old (reply_of d a)
+    n
 old_or_filed ds old new d b a at lists n some = dite (ℕ_discrete (occurrences n (numbers old)) 0)
     (λ z. let c = counted old new b a lists n in let f = is_filing a b.number n (omega (arith, c, z, some)) in
     inr (f.0, ap number_in at ∙ sym f.1))
@@ -262,22 +266,24 @@ unfound k found none = ap is_none none
 found_once : (k : ℕ) (found : List ℕ) → occurrences k found ≢ 0 → is_none (occurrences k found) ≡ is_none 1
 found_once k found some = ap {B = ℕ} (λ t. cond t 1 0) (ne_eqb (occurrences k found) 0 some)
 
-left_least : (k : ℕ) (f g : List ℕ) → ((e : ℕ) → occurrences e f ≤ occurrences e g) → left k g ≤ left k f
-left_least zero f g more = omega arith
-left_least (suc k) f g more = let h = left_least k f g more in let m = more k in dite (ℕ_discrete (occurrences k g) 0)
+unfound_below_least : (k : ℕ) (f g : List ℕ) → ((e : ℕ) → occurrences e f ≤ occurrences e g) → unfound_below k g ≤
+    unfound_below k f
+unfound_below_least zero f g more = omega arith
+unfound_below_least (suc k) f g more = let h = unfound_below_least k f g more in let m = more k in dite
+    (ℕ_discrete (occurrences k g) 0)
     (λ z. let a = unfound k f (omega (arith, m, z)) in let b = unfound k g z in omega (arith, h, a, b))
     (λ ne. let b = found_once k g ne in omega (arith, h, b))
 
 -- if one more draw was found, fewer are left
-pub left_less : (k : ℕ) (f g : List ℕ) → ((e : ℕ) → occurrences e f ≤ occurrences e g) → (d : ℕ) → d < k
-    → occurrences d f ≡ 0 → 0 < occurrences d g → left k g < left k f
-left_less zero f g more d near none some = absurd (omega arith)
-left_less (suc k) f g more d near none some = dite (ℕ_discrete d k)
-    (λ is. let h = left_least k f g more in
+pub unfound_below_less : (k : ℕ) (f g : List ℕ) → ((e : ℕ) → occurrences e f ≤ occurrences e g) → (d : ℕ) → d < k
+    → occurrences d f ≡ 0 → 0 < occurrences d g → unfound_below k g < unfound_below k f
+unfound_below_less zero f g more d near none some = absurd (omega arith)
+unfound_below_less (suc k) f g more d near none some = dite (ℕ_discrete d k)
+    (λ is. let h = unfound_below_least k f g more in
     let a = unfound k f (ap (λ (y : ℕ). occurrences y f) (sym is) ∙ none) in
     let s : 0 < occurrences k g = subst (λ (y : ℕ). 0 < occurrences y g) is some in
     let b = found_once k g (λ z. omega (arith, z, s)) in omega (arith, h, a, b))
-    (λ ne. let h = left_less k f g more d (omega (arith, near, ne)) none some in let m = more k in
+    (λ ne. let h = unfound_below_less k f g more d (omega (arith, near, ne)) none some in let m = more k in
     dite (ℕ_discrete (occurrences k g) 0)
     (λ z. let a = unfound k f (omega (arith, m, z)) in let b = unfound k g z in omega (arith, h, a, b))
     (λ nz. let b = found_once k g nz in omega (arith, h, b)))

@@ -7,7 +7,7 @@ use Rattle.vme_board.specs.Contents.{AreNumbered, DidAll, HasBlock, HasOnlyList,
 use Rattle.vme_board.specs.Contents.{untaken_count}
 use Rattle.vme_board.specs.Views.{AllFound, SameBlocks}
 use Rattle.vme_board.specs.declared.board.Closed.{Closed}
-use Rattle.vme_floor.specs.Collecting.{HasTakenOwn, IsCollected}
+use Rattle.vme_floor.specs.Collecting.{IsCollected, OwnAreTaken}
 use Rattle.vme_floor.specs.Works.{replied, IsWork}
 use Rattle.vme_floor.specs.declared.answer.Answer.{Answer}
 use Rattle.vme_floor.specs.declared.answer.Reply.{Reply}
@@ -60,7 +60,7 @@ pub record IsAccount
 -- if `IsAccount` holds, and each number that the bench filed was taken, then all `total` blocks were taken early
 abbrev pub IsOwnEarly : ℕ → List Block → List Reply → Collection → Closed → ℕ → Type 0
 IsOwnEarly total deliveries replies collection closed early =
-    (v : View) → IsAccount total deliveries v replies collection closed → HasTakenOwn v → early ≡ total
+    (v : View) → IsAccount total deliveries v replies collection closed → OwnAreTaken v → early ≡ total
 
 -- the contents are exactly the blocks of the view's list
 pub record IsClosed (total : ℕ) (v : View) (contents : List (Option Block)) : Type 0 where

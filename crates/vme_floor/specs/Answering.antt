@@ -19,13 +19,13 @@ first_refusal total b =
 
 -- when an answer to a block is right: a refusal is the block's first; for any other answer there is none, except that
 -- memory may run out for any block
-abbrev pub Suits : ℕ → Block → Answer → Type 0
-Suits total b Filed = first_refusal total b ≡ None
-Suits total b Stranger = first_refusal total b ≡ Some Stranger
-Suits total b TooLong = first_refusal total b ≡ Some TooLong
-Suits total b (Malformed step) = first_refusal total b ≡ Some (Malformed step)
-Suits total b Doubled = first_refusal total b ≡ None
-Suits total b Memory = Unit {0}
+abbrev pub IsRightAnswer : ℕ → Block → Answer → Type 0
+IsRightAnswer total b Filed = first_refusal total b ≡ None
+IsRightAnswer total b Stranger = first_refusal total b ≡ Some Stranger
+IsRightAnswer total b TooLong = first_refusal total b ≡ Some TooLong
+IsRightAnswer total b (Malformed step) = first_refusal total b ≡ Some (Malformed step)
+IsRightAnswer total b Doubled = first_refusal total b ≡ None
+IsRightAnswer total b Memory = Unit {0}
 
 -- the delivery with this index is the block b, and it was filed
 abbrev pub FiledAs : List Block → List Answer → ℕ → Block → Type 0

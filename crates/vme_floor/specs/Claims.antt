@@ -5,7 +5,7 @@ use Rattle.vme_trace.specs.Trace.{Trace}
 use Rattle.vme_summary.specs.Joins.{BlocksJoin, joined_trace}
 use Rattle.vme_summary.specs.Stands.{SpanStandsFor, first_number}
 use Rattle.vme_summary.specs.declared.span.Span.{Span}
-use Rattle.vme_floor.specs.Answering.{Suits, FiledAs, IsFiled, IsFiledNumber}
+use Rattle.vme_floor.specs.Answering.{IsRightAnswer, FiledAs, IsFiled, IsFiledNumber}
 use Rattle.vme_floor.specs.Orders.{IsLeastTornBlock}
 use Rattle.vme_floor.specs.declared.answer.Answer.{Answer}
 use Rattle.vme_floor.specs.declared.answer.Answer.TheVariants.{Doubled}
@@ -27,7 +27,7 @@ pub record HasAnswers (total : ℕ) (deliveries : List Block) (answers : List An
   pub count : length answers ≡ length deliveries
   pub right :
       (d : ℕ) (a : Answer) (b : Block) → slice_get answers d ≡ Some a → slice_get deliveries d ≡ Some b
-      → Suits total b a
+      → IsRightAnswer total b a
   pub once :
       (d e : ℕ) (b c : Block) → FiledAs deliveries answers d b → FiledAs deliveries answers e c → b.number ≡ c.number
       → d ≡ e

@@ -28,12 +28,12 @@ pub record IsCollected (total : ℕ) (v : View) (c : Collection) : Type 0 where
   pub saw : (n : ℕ) → 0 < occurrences n (numbers v.takes) → 0 < occurrences n v.filed
 
 -- the bench took the number n, or has seen it taken
-abbrev pub IsGone : View → ℕ → Type 0
-IsGone v n = 0 < occurrences n (numbers v.takes) + occurrences n v.taken
+abbrev pub IsKnownTaken : View → ℕ → Type 0
+IsKnownTaken v n = 0 < occurrences n (numbers v.takes) + occurrences n v.taken
 
--- each number that the bench filed was taken, by it or another (`IsGone`)
-abbrev pub HasTakenOwn : View → Type 0
-HasTakenOwn v = (n : ℕ) → 0 < occurrences n (numbers v.list) → IsGone v n
+-- each number that the bench filed was taken, by it or another (`IsKnownTaken`)
+abbrev pub OwnAreTaken : View → Type 0
+OwnAreTaken v = (n : ℕ) → 0 < occurrences n (numbers v.list) → IsKnownTaken v n
 
 -- the bench may have taken more and seen more numbers; its list, its draws, the draws found won and its share don't
 -- change

@@ -10,7 +10,7 @@ use Rattle.vme_board.specs.Benches.{IsOf, draws_of, total_of, view_of}
 use Rattle.vme_board.specs.Views.{SameNumbers}
 use Rattle.vme_board.specs.declared.bench.Bench.{Bench}
 use Rattle.vme_board.specs.declared.board.Board.{Board}
-use Rattle.vme_floor.specs.Answering.{Suits}
+use Rattle.vme_floor.specs.Answering.{IsRightAnswer}
 use Rattle.vme_floor.specs.declared.answer.Answer.{Answer}
 use Rattle.vme_floor.specs.declared.answer.Answer.TheVariants.{Filed, Stranger, TooLong, Malformed, Doubled, Memory}
 use Rattle.vme_floor.specs.declared.answer.Reply.{Reply}
@@ -65,7 +65,8 @@ IsSeenIf deliveries v r = r.answer ≡ Doubled → HasSeen v (number_at deliveri
 abbrev pub IsReply : ℕ → List Block → List (ℕ × Block) → Reply → Type 0
 IsReply total deliveries list r =
     (r.delivery < length deliveries)
-    × ((b : Block) → slice_get deliveries r.delivery ≡ Some b → Suits total b r.answer × IsListed list b r.answer)
+    × ((b : Block) → slice_get deliveries r.delivery ≡ Some b → IsRightAnswer total b r.answer × IsListed list b
+    r.answer)
 
 -- a bench's view and its replies: its draws are the deliveries with a reply, and its list has the numbers of those that
 -- were answered Filed
@@ -101,18 +102,18 @@ IsWorkBy board deliveries worker work =
     IsOtherWorkOf board deliveries work × ((view_of work.bench).share ≡ worker ∷ [])
 
 -- how a delivery of the block b with this answer changes the bench's list
-abbrev pub Lists : List (ℕ × Block) → List (ℕ × Block) → Block → Answer → Type 0
-Lists old new b Filed = (occurrences b.number (numbers old) ≡ 0) × (new ≡ (b.number, b) ∷ old)
-Lists old new b Stranger = new ≡ old
-Lists old new b TooLong = new ≡ old
-Lists old new b (Malformed step) = new ≡ old
-Lists old new b Doubled = new ≡ old
-Lists old new b Memory = new ≡ old
+abbrev pub IsListAfter : List (ℕ × Block) → List (ℕ × Block) → Block → Answer → Type 0
+IsListAfter old new b Filed = (occurrences b.number (numbers old) ≡ 0) × (new ≡ (b.number, b) ∷ old)
+IsListAfter old new b Stranger = new ≡ old
+IsListAfter old new b TooLong = new ≡ old
+IsListAfter old new b (Malformed step) = new ≡ old
+IsListAfter old new b Doubled = new ≡ old
+IsListAfter old new b Memory = new ≡ old
 
 -- how many draws below k aren't in `found`
-abbrev pub left : ℕ → List ℕ → ℕ
-left zero found = 0
-left (suc k) found = left k found + cond (occurrences k found == 0) 1 0
+abbrev pub unfound_below : ℕ → List ℕ → ℕ
+unfound_below zero found = 0
+unfound_below (suc k) found = unfound_below k found + cond (occurrences k found == 0) 1 0
 
 -- the bench has seen the number n filed, or taken
 pub record IsKnownFiled (total : ℕ) (v : View) (n : ℕ) : Type 0 where
@@ -127,7 +128,7 @@ IsOldOrFiled deliveries old r n =
 -- how one more delivery, with the reply r, changes the bench's view
 pub record IsDelivered (board : Board) (deliveries : List Block) (old new : View) (r : Reply) : Type 0 where
   pub within : r.delivery < length deliveries
-  pub less : left (draws_of board) new.found < left (draws_of board) old.found
+  pub less : unfound_below (draws_of board) new.found < unfound_below (draws_of board) old.found
   pub takes : new.takes ≡ old.takes
   pub sees : SeesMore old new
   pub filed : r.answer ≡ Filed → IsKnownFiled (total_of board) new (number_at deliveries r.delivery)

@@ -6,7 +6,7 @@ ghost use Rattle.vme_core.specs.Stages.{HasSeen};
 ghost use Rattle.vme_core.specs.declared.stage.Stage.TheVariants as stage;
 ghost use Rattle.vme_core.specs.declared.view.View.{View};
 ghost use Rattle.vme_board.specs.Benches.{IsOf, total_of, view_of};
-ghost use Rattle.vme_floor.specs.Collecting.{HasTakenOwn, IsCollected, IsCollectedOf, IsGone, TakesOnly};
+ghost use Rattle.vme_floor.specs.Collecting.{IsCollected, IsCollectedOf, IsKnownTaken, OwnAreTaken, TakesOnly};
 ghost use Rattle.vme_floor.specs.Works.{IsKnownFiled, IsNew};
 ghost use Rattle.vme_floor.specs.declared.answer.Answer.TheVariants.{Filed};
 
@@ -60,7 +60,7 @@ impl Collection {
         ensures rest { TakesOnly (view_of bench.old) (view_of bench.new) }
         ensures collected { OnOk result (IsCollected (total_of board.now) (view_of bench.new) self.new) }
         ensures gone { OnOk result (HasSeen (view_of bench.old) number stage.Filed
-            → IsGone (view_of bench.new) number) }
+            → IsKnownTaken (view_of bench.new) number) }
     {
         match bench.look(board, number) {
             Stage::Free | Stage::Claimed => return Ok(false),
@@ -96,7 +96,7 @@ impl Collection {
         ensures board { IsOf bench.new board.now }
         ensures rest { TakesOnly (view_of bench.old) (view_of bench.new) }
         ensures collected { OnOk result (IsCollected (total_of board.now) (view_of bench.new) self.new) }
-        ensures gone { OnOk result (answer ≡ Filed → IsGone (view_of bench.new) number) }
+        ensures gone { OnOk result (answer ≡ Filed → IsKnownTaken (view_of bench.new) number) }
     {
         if let Answer::Filed = answer {
             self.collect(alloc, board, bench, number)?;
@@ -130,7 +130,7 @@ pub(crate) fn deliver_and_collect<G: Gate>(
     requires new { IsNew board.now deliveries.now bench }
     requires collected { IsCollected (total_of board.now) (view_of bench) collection }
     ensures collected { IfOk result (λ all. IsCollectedOf board.now deliveries.now all) }
-    ensures own { IfOk result (λ all. HasTakenOwn (view_of all.work.bench)) }
+    ensures own { IfOk result (λ all. OwnAreTaken (view_of all.work.bench)) }
     ensures share { IfOk result (λ all. (view_of all.work.bench).share ≡ (view_of bench).share) }
 {
     let mut work = Work {

@@ -3,7 +3,7 @@
 ghost use Rattle.std.specs.Prelude.{◌≡◌, ◌<◌, ℕ, List, [], ◌∷◌, ◌++◌, IfOk, IfErr};
 ghost use Rattle.vme_core.specs.Shares.{IsWholeShare};
 ghost use Rattle.vme_board.specs.Benches.{total_of, view_of};
-ghost use Rattle.vme_floor.specs.Collecting.{HasTakenOwn, IsCollected, IsCollectedOf};
+ghost use Rattle.vme_floor.specs.Collecting.{IsCollected, IsCollectedOf, OwnAreTaken};
 ghost use Rattle.vme_floor.specs.declared.threads.ThreadFault.TheVariants.{NoWorker};
 ghost use Rattle.vme_floor.specs.Works.{IsNew, IsOtherWorkOf, IsWorkBy};
 
@@ -54,7 +54,7 @@ pub(crate) fn work_together<R: Threads + Wait + Sync, G: Gate + Sync>(
     requires share { (view_of bench).share ≡ 0 ∷ [] }
     requires collected { IsCollected (total_of board.now) (view_of bench) collection }
     ensures collected { IfOk result (λ all. IsCollectedOf board.now deliveries.now all) }
-    ensures own { IfOk result (λ all. workers ≡ 1 → HasTakenOwn (view_of all.work.bench)) }
+    ensures own { IfOk result (λ all. workers ≡ 1 → OwnAreTaken (view_of all.work.bench)) }
     ensures whole { IfOk result (λ all. IsWholeShare (view_of all.work.bench).share) }
     ensures alone { IfErr result (λ fault. fault ≡ NoWorker → 1 < workers) }
 {
@@ -66,7 +66,7 @@ pub(crate) fn work_together<R: Threads + Wait + Sync, G: Gate + Sync>(
             requires share { (view_of bench).share ≡ 0 ∷ [] }
             requires collected { IsCollected (total_of board.now) (view_of bench) collection }
             ensures collected { IfOk result (λ all. IsCollectedOf board.entry.now deliveries.entry.now all) }
-            ensures own { IfOk result (λ all. workers ≡ 1 → HasTakenOwn (view_of all.work.bench)) }
+            ensures own { IfOk result (λ all. workers ≡ 1 → OwnAreTaken (view_of all.work.bench)) }
             ensures whole { IfOk result (λ all. IsWholeShare (view_of all.work.bench).share) }
             ensures alone { IfErr result (λ fault. fault ≡ NoWorker → 1 < workers) }
         {
@@ -94,7 +94,7 @@ fn work_in_scope<'s, E, R: Threads, G: Gate + Sync>(
     requires share { (view_of bench).share ≡ 0 ∷ [] }
     requires collected { IsCollected (total_of board.now) (view_of bench) collection }
     ensures collected { IfOk result (λ all. IsCollectedOf board.now deliveries.now all) }
-    ensures own { IfOk result (λ all. workers ≡ 1 → HasTakenOwn (view_of all.work.bench)) }
+    ensures own { IfOk result (λ all. workers ≡ 1 → OwnAreTaken (view_of all.work.bench)) }
     ensures whole { IfOk result (λ all. IsWholeShare (view_of all.work.bench).share) }
     ensures alone { IfErr result (λ fault. fault ≡ NoWorker → 1 < workers) }
 {

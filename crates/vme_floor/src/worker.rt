@@ -5,9 +5,9 @@ ghost use Rattle.vme_core.specs.Stages.{HasSeen, SeesMore};
 ghost use Rattle.vme_core.specs.declared.stage.Stage.TheVariants as stage;
 ghost use Rattle.vme_board.specs.Benches.{IsOf, draws_of, total_of, view_of};
 ghost use Rattle.vme_board.specs.Views.{AllFound, SameDraws};
-ghost use Rattle.vme_floor.specs.Answering.{Suits};
+ghost use Rattle.vme_floor.specs.Answering.{IsRightAnswer};
 ghost use Rattle.vme_floor.specs.declared.answer.Answer.TheVariants.{Doubled, Filed};
-ghost use Rattle.vme_floor.specs.Works.{IsNew, IsNext, IsOtherWorkOf, IsWorkOf, Lists};
+ghost use Rattle.vme_floor.specs.Works.{IsListAfter, IsNew, IsNext, IsOtherWorkOf, IsWorkOf};
 
 use crate::answer::{Answer, Reply};
 use crate::gate::Gate;
@@ -85,8 +85,8 @@ fn deliver_copy(alloc: Global, board: &Board, block: &Block, bench: &mut Bench) 
     ensures sees { SeesMore (view_of bench.old) (view_of bench.new) }
     ensures filed { result ≡ Filed → HasSeen (view_of bench.new) block.now.number stage.Filed }
     ensures doubled { result ≡ Doubled → HasSeen (view_of bench.new) block.now.number stage.Claimed }
-    ensures suits { Suits (total_of board.now) block.now result }
-    ensures lists { Lists (view_of bench.old).list (view_of bench.new).list block.now result }
+    ensures suits { IsRightAnswer (total_of board.now) block.now result }
+    ensures lists { IsListAfter (view_of bench.old).list (view_of bench.new).list block.now result }
 {
     let Ok(copy) = block.copy(alloc) else {
         return Answer::Memory;

@@ -33,7 +33,7 @@ ghost use Rattle.vme_eval.specs.Resets.{resets, reset_after_a_lost_strobe, two_r
 ghost use Rattle.vme_eval.specs.SameInstant.{same_instant};
 ghost use Rattle.vme_eval.specs.Leniencies.{leniencies};
 ghost use Rattle.vme_summary.specs.Joins.{BlocksJoin};
-ghost use Rattle.vme_judging_eval.specs.WorkedBlocks.{first, next, empty, after_empty, on_slots, on_other_lines};
+ghost use Rattle.vme_judging_eval.specs.WorkedBlocks.{after_empty, empty, first, next, on_other_lines, on_slots};
 
 /// Steps that may not follow what precedes them: one that changes nothing, one that is no later than the step before,
 /// and ones that change a line that a backplane of one slot doesn't have, a line to the level that it has, and lines
@@ -96,6 +96,6 @@ pub fn blocks_that_are_torn()
     ensures by_slots { ¬ BlocksJoin (first ∷ on_slots 2 ∷ []) }
     ensures by_time { ¬ BlocksJoin (first ∷ next 10 ∷ []) }
     ensures before_empty { BlocksJoin (first ∷ empty ∷ []) }
-    ensures behind_empty { BlocksJoin (empty ∷ after_empty 10 ∷ []) }
+    ensures after_empty { BlocksJoin (empty ∷ after_empty 10 ∷ []) }
     ensures across_empty { ¬ BlocksJoin (first ∷ empty ∷ after_empty 10 ∷ []) }
 {}

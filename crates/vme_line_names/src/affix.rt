@@ -6,7 +6,7 @@ use vme_declarations::{EMPTY_HASH, hash_of};
 #[derive(Clone, Copy, Debug, PartialEq, Eq)]
 pub(crate) enum Direction {
     /// The name says none.
-    Unsaid,
+    Unknown,
     Input,
     Both,
     Output,
@@ -33,7 +33,7 @@ pub(crate) struct Affix {
 
 /// What a word of an affix is.
 #[derive(Clone, Copy, PartialEq, Eq)]
-enum Mark {
+enum WordKind {
     Polarity,
     Direction(Direction),
     Bus,
@@ -44,86 +44,86 @@ enum Mark {
 }
 
 /// The words that are known, in lower case.
-const MARKS: [(&[u8], Mark); 55] = [
-    (b"n", Mark::Polarity),
-    (b"l", Mark::Polarity),
-    (b"b", Mark::Polarity),
-    (b"x", Mark::Polarity),
-    (b"z", Mark::Polarity),
-    (b"bar", Mark::Polarity),
-    (b"not", Mark::Polarity),
-    (b"neg", Mark::Polarity),
-    (b"inv", Mark::Polarity),
-    (b"low", Mark::Polarity),
-    (b"lo", Mark::Polarity),
-    (b"al", Mark::Polarity),
-    (b"i", Mark::Direction(Direction::Input)),
-    (b"in", Mark::Direction(Direction::Input)),
-    (b"input", Mark::Direction(Direction::Input)),
-    (b"ni", Mark::Direction(Direction::Input)),
-    (b"io", Mark::Direction(Direction::Both)),
-    (b"nio", Mark::Direction(Direction::Both)),
-    (b"inout", Mark::Direction(Direction::Both)),
-    (b"bi", Mark::Direction(Direction::Both)),
-    (b"bidir", Mark::Direction(Direction::Both)),
-    (b"o", Mark::Direction(Direction::Output)),
-    (b"no", Mark::Direction(Direction::Output)),
-    (b"out", Mark::Direction(Direction::Output)),
-    (b"output", Mark::Direction(Direction::Output)),
-    (b"drv", Mark::Direction(Direction::Output)),
-    (b"drive", Mark::Direction(Direction::Output)),
-    (b"r", Mark::Direction(Direction::Register)),
-    (b"q", Mark::Direction(Direction::Register)),
-    (b"reg", Mark::Direction(Direction::Register)),
-    (b"t", Mark::Direction(Direction::Enable)),
-    (b"tri", Mark::Direction(Direction::Enable)),
-    (b"oe", Mark::Direction(Direction::Enable)),
-    (b"en", Mark::Direction(Direction::Enable)),
-    (b"vme", Mark::Bus),
-    (b"vmebus", Mark::Bus),
-    (b"vme64", Mark::Bus),
-    (b"bus", Mark::Bus),
-    (b"backplane", Mark::Bus),
-    (b"bp", Mark::Bus),
-    (b"p1", Mark::Bus),
-    (b"p2", Mark::Bus),
-    (b"j1", Mark::Bus),
-    (b"j2", Mark::Bus),
-    (b"chain", Mark::Filler),
-    (b"daisy", Mark::Filler),
-    (b"code", Mark::Filler),
-    (b"sig", Mark::Filler),
-    (b"signal", Mark::Filler),
-    (b"net", Mark::Filler),
-    (b"wire", Mark::Filler),
-    (b"line", Mark::Filler),
-    (b"lines", Mark::Filler),
-    (b"pin", Mark::Filler),
-    (b"pad", Mark::Filler),
+const KNOWN_WORDS: [(&[u8], WordKind); 55] = [
+    (b"n", WordKind::Polarity),
+    (b"l", WordKind::Polarity),
+    (b"b", WordKind::Polarity),
+    (b"x", WordKind::Polarity),
+    (b"z", WordKind::Polarity),
+    (b"bar", WordKind::Polarity),
+    (b"not", WordKind::Polarity),
+    (b"neg", WordKind::Polarity),
+    (b"inv", WordKind::Polarity),
+    (b"low", WordKind::Polarity),
+    (b"lo", WordKind::Polarity),
+    (b"al", WordKind::Polarity),
+    (b"i", WordKind::Direction(Direction::Input)),
+    (b"in", WordKind::Direction(Direction::Input)),
+    (b"input", WordKind::Direction(Direction::Input)),
+    (b"ni", WordKind::Direction(Direction::Input)),
+    (b"io", WordKind::Direction(Direction::Both)),
+    (b"nio", WordKind::Direction(Direction::Both)),
+    (b"inout", WordKind::Direction(Direction::Both)),
+    (b"bi", WordKind::Direction(Direction::Both)),
+    (b"bidir", WordKind::Direction(Direction::Both)),
+    (b"o", WordKind::Direction(Direction::Output)),
+    (b"no", WordKind::Direction(Direction::Output)),
+    (b"out", WordKind::Direction(Direction::Output)),
+    (b"output", WordKind::Direction(Direction::Output)),
+    (b"drv", WordKind::Direction(Direction::Output)),
+    (b"drive", WordKind::Direction(Direction::Output)),
+    (b"r", WordKind::Direction(Direction::Register)),
+    (b"q", WordKind::Direction(Direction::Register)),
+    (b"reg", WordKind::Direction(Direction::Register)),
+    (b"t", WordKind::Direction(Direction::Enable)),
+    (b"tri", WordKind::Direction(Direction::Enable)),
+    (b"oe", WordKind::Direction(Direction::Enable)),
+    (b"en", WordKind::Direction(Direction::Enable)),
+    (b"vme", WordKind::Bus),
+    (b"vmebus", WordKind::Bus),
+    (b"vme64", WordKind::Bus),
+    (b"bus", WordKind::Bus),
+    (b"backplane", WordKind::Bus),
+    (b"bp", WordKind::Bus),
+    (b"p1", WordKind::Bus),
+    (b"p2", WordKind::Bus),
+    (b"j1", WordKind::Bus),
+    (b"j2", WordKind::Bus),
+    (b"chain", WordKind::Filler),
+    (b"daisy", WordKind::Filler),
+    (b"code", WordKind::Filler),
+    (b"sig", WordKind::Filler),
+    (b"signal", WordKind::Filler),
+    (b"net", WordKind::Filler),
+    (b"wire", WordKind::Filler),
+    (b"line", WordKind::Filler),
+    (b"lines", WordKind::Filler),
+    (b"pin", WordKind::Filler),
+    (b"pad", WordKind::Filler),
 ];
 
 /// What a word is.
-fn mark_of(word: &[u8]) -> Mark {
-    for (known, mark) in MARKS {
+fn kind_of(word: &[u8]) -> WordKind {
+    for (known, kind) in KNOWN_WORDS {
         if word.eq_ignore_ascii_case(known) {
-            return mark;
+            return kind;
         }
     }
-    Mark::Word
+    WordKind::Word
 }
 
 /// What a word is that is joined to the name of a line without a separator. As a polarity it is `n` or has at least
 /// three letters. As a direction it has at least two letters: one letter may belong to another name, as the `i` of `ia`
 /// does.
-fn mark_close(word: &[u8]) -> Mark {
-    let mark = mark_of(word);
-    let is_known = match &mark {
-        Mark::Polarity => word.eq_ignore_ascii_case(b"n") || word.len() > 2,
-        Mark::Direction(_) => word.len() > 1,
-        Mark::Bus => true,
-        Mark::Filler | Mark::Word => false,
+fn kind_of_joined(word: &[u8]) -> WordKind {
+    let kind = kind_of(word);
+    let is_known = match &kind {
+        WordKind::Polarity => word.eq_ignore_ascii_case(b"n") || word.len() > 2,
+        WordKind::Direction(_) => word.len() > 1,
+        WordKind::Bus => true,
+        WordKind::Filler | WordKind::Word => false,
     };
-    if is_known { mark } else { Mark::Word }
+    if is_known { kind } else { WordKind::Word }
 }
 
 /// A text up to its last separator, and its last word.
@@ -161,13 +161,13 @@ pub(crate) fn affix_of(before: &[u8], behind: &[u8]) -> Affix {
     let mut made = Affix::of_style(EMPTY_HASH, EMPTY_HASH, EMPTY_HASH);
     let (words, close) = split_last(before);
     for word in words.split(|byte| !byte.is_ascii_alphanumeric()) {
-        made.take(word, mark_of(word), true);
+        made.take(word, kind_of(word), true);
     }
-    made.take(close, mark_close(close), true);
+    made.take(close, kind_of_joined(close), true);
     let (close, words) = split_first(behind);
-    made.take(close, mark_close(close), false);
+    made.take(close, kind_of_joined(close), false);
     for word in words.split(|byte| !byte.is_ascii_alphanumeric()) {
-        made.take(word, mark_of(word), false);
+        made.take(word, kind_of(word), false);
     }
     let has_sign = before.iter().any(|byte| is_sign(*byte))
         || behind.iter().any(|byte| is_sign(*byte));
@@ -177,17 +177,17 @@ pub(crate) fn affix_of(before: &[u8], behind: &[u8]) -> Affix {
 
 impl Affix {
     /// Adds a word before or after the name of a line.
-    fn take(&mut self, word: &[u8], mark: Mark, is_before: bool) {
+    fn take(&mut self, word: &[u8], kind: WordKind, is_before: bool) {
         if word.is_empty() {
             return;
         }
-        match mark {
-            Mark::Polarity => self.is_marked = true,
-            Mark::Direction(direction) => self.direction = direction,
-            Mark::Bus => self.bus = with_word(self.bus, word),
-            Mark::Filler => {}
-            Mark::Word if is_before => self.before = with_word(self.before, word),
-            Mark::Word => self.after = with_word(self.after, word),
+        match kind {
+            WordKind::Polarity => self.is_marked = true,
+            WordKind::Direction(direction) => self.direction = direction,
+            WordKind::Bus => self.bus = with_word(self.bus, word),
+            WordKind::Filler => {}
+            WordKind::Word if is_before => self.before = with_word(self.before, word),
+            WordKind::Word => self.after = with_word(self.after, word),
         }
     }
 
@@ -197,7 +197,7 @@ impl Affix {
             before,
             after,
             bus,
-            direction: Direction::Unsaid,
+            direction: Direction::Unknown,
             is_marked: false,
         }
     }

@@ -7,8 +7,8 @@ use crate::names::{NameReading, Named, push_readings};
 use crate::vote::{ScopeVote, VoteCounter};
 use std::alloc::{AllocError, Global};
 use vme_declarations::{
-    DeclaredNames, DeclaredVariable, FoundLines, Groups, LevelsSeen, MOST_BITS, NOWHERE, TELLING,
-    VariableBit, count, group_of, scopes_of,
+    BUS_GROUPS, DeclaredNames, DeclaredVariable, FoundLines, Groups, LevelsSeen, MOST_BITS,
+    NOWHERE, VariableBit, count, group_of, scopes_of,
 };
 use vme_trace::{LINE_COUNT, Line};
 
@@ -25,7 +25,7 @@ struct Candidate {
 }
 
 /// Whether `variable` is bound to a line whose group isn't in `group`.
-fn is_used(found: &FoundLines, variable: usize, group: Groups) -> bool {
+fn is_bound_elsewhere(found: &FoundLines, variable: usize, group: Groups) -> bool {
     (0..LINE_COUNT).any(|number| match Line::from_number(number) {
         Some(line) => {
             let same = group_of(line) & group != 0;
@@ -62,7 +62,7 @@ fn take(
     if candidate.direction == Direction::Output && is_taken {
         found.doubled |= groups;
     }
-    if is_taken || groups == 0 || is_used(found, candidate.variable, groups) {
+    if is_taken || groups == 0 || is_bound_elsewhere(found, candidate.variable, groups) {
         return;
     }
     for place in 0..size {
@@ -153,7 +153,7 @@ fn push_candidates(
 fn rank_of(reading: &NameReading, vote: &ScopeVote, outside: u64) -> Option<u64> {
     let style = u64::from(reading.affix.rank_in(&vote.style)?);
     let direction = match reading.affix.direction {
-        Direction::Unsaid => 0,
+        Direction::Unknown => 0,
         Direction::Input => 10,
         Direction::Both => 20,
         Direction::Output => 30,
@@ -235,9 +235,9 @@ pub fn find_lines(
             take(&mut found, variable, candidate, levels);
         }
     }
-    let half = count(best.found & TELLING) / 2;
+    let half = count(best.found & BUS_GROUPS) / 2;
     for other in &votes {
-        let names = count(other.found & TELLING);
+        let names = count(other.found & BUS_GROUPS);
         let is_named = other.scope != best.scope && names >= half.max(2);
         if is_named && found.others.len() < MOST_OTHERS {
             found.others.push(declared.path_of(alloc, other.scope)?)?;

@@ -132,7 +132,7 @@ pub(crate) fn is_separator(byte: u8) -> bool {
 }
 
 /// The text from its first byte on that is no separator.
-fn behind_separators(text: &[u8]) -> &[u8] {
+fn after_separators(text: &[u8]) -> &[u8] {
     match text.iter().position(|byte| !is_separator(*byte)) {
         Some(at) => text.get(at..).unwrap_or(b""),
         None => b"",
@@ -140,11 +140,11 @@ fn behind_separators(text: &[u8]) -> &[u8] {
 }
 
 /// The text after `word`, if `text` begins with that, in whichever case it is written.
-fn behind_word<'a>(text: &'a [u8], word: &[u8]) -> Option<&'a [u8]> {
+fn after_word<'a>(text: &'a [u8], word: &[u8]) -> Option<&'a [u8]> {
     let mut rest = text;
     for wanted in word {
         if *wanted == b'_' {
-            rest = behind_separators(rest);
+            rest = after_separators(rest);
         } else {
             match rest {
                 [byte, behind @ ..] if byte.to_ascii_lowercase() == *wanted => rest = behind,
@@ -157,7 +157,7 @@ fn behind_word<'a>(text: &'a [u8], word: &[u8]) -> Option<&'a [u8]> {
 
 /// A number of one or two digits that `text` begins with after any separators, and the text after it.
 fn number(text: &[u8]) -> Option<(u8, &[u8])> {
-    match behind_separators(text) {
+    match after_separators(text) {
         [b'0'..=b'9', b'0'..=b'9', b'0'..=b'9', ..] => None,
         [ten @ b'0'..=b'9', digit @ b'0'..=b'9', rest @ ..] => {
             Some(((*ten - b'0') * 10 + (*digit - b'0'), rest))
@@ -215,10 +215,10 @@ fn ending_number(text: &[u8]) -> Option<(u8, &[u8])> {
 
 /// The direction `in` or `out` that `text` begins with after any separators, and the text after it; `None` where a
 /// letter follows.
-fn behind_way(text: &[u8]) -> Option<(Direction, &[u8])> {
-    let (direction, rest) = match behind_word(text, b"_in") {
+fn after_direction(text: &[u8]) -> Option<(Direction, &[u8])> {
+    let (direction, rest) = match after_word(text, b"_in") {
         Some(rest) => (Direction::Input, rest),
-        None => (Direction::Output, behind_word(text, b"_out")?),
+        None => (Direction::Output, after_word(text, b"_out")?),
     };
     match rest {
         [byte, ..] if byte.is_ascii_alphabetic() => None,
@@ -233,7 +233,7 @@ fn direction_of(word: &[u8]) -> Direction {
     } else if word.ends_with(b"_out") {
         Direction::Output
     } else {
-        Direction::Unsaid
+        Direction::Unknown
     }
 }
 
@@ -274,7 +274,7 @@ fn push_reading(
         return Ok(());
     };
     let mut affix = affix_of(matched.before, after);
-    if affix.direction == Direction::Unsaid {
+    if affix.direction == Direction::Unknown {
         affix.direction = matched.direction;
     }
     readings.push(NameReading {
@@ -305,7 +305,7 @@ fn push_word(
 
 /// A level of arbitration that `behind` begins with after any separators, and the text after it.
 fn level_behind(behind: &[u8]) -> Option<(u8, &[u8])> {
-    match behind_separators(behind) {
+    match after_separators(behind) {
         [digit @ b'0'..=b'3', rest @ ..] => Some((*digit - b'0', rest)),
         _ => None,
     }
@@ -337,7 +337,7 @@ fn push_level(
     behind: &[u8],
 ) -> Result<(), AllocError> {
     push_reading(readings, matched, Some(Named::Grants(level)), behind)?;
-    let Some((direction, after)) = behind_way(behind) else {
+    let Some((direction, after)) = after_direction(behind) else {
         return push_nets(readings, matched, level, behind);
     };
     let way = MatchedWord {
@@ -383,7 +383,7 @@ fn push_readings_at(
 ) -> Result<(), AllocError> {
     for place in 0..WORDS.len() {
         let (word, meaning, is_standard) = WORDS[place];
-        if let Some(behind) = behind_word(text, word) {
+        if let Some(behind) = after_word(text, word) {
             let matched = MatchedWord {
                 before,
                 direction: direction_of(word),

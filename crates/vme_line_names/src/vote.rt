@@ -4,7 +4,7 @@ use crate::affix::Affix;
 use crate::names::{NameReading, Named, push_readings};
 use std::alloc::{AllocError, Global};
 use vme_declarations::{
-    DeclaredNames, DeclaredVariable, Groups, LevelsSeen, MOST_BITS, NOWHERE, TELLING, count,
+    BUS_GROUPS, DeclaredNames, DeclaredVariable, Groups, LevelsSeen, MOST_BITS, NOWHERE, count,
     group_of, has_cycle, has_handshake,
 };
 
@@ -49,8 +49,8 @@ impl ScopeVote {
         (
             has_handshake(self.found),
             has_cycle(self.moving),
-            count(self.found & TELLING),
-            count(self.moving & TELLING),
+            count(self.found & BUS_GROUPS),
+            count(self.moving & BUS_GROUPS),
             NOWHERE - self.depth,
         )
     }

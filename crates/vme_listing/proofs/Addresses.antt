@@ -35,31 +35,32 @@ unfolding highest_address
 space modifier h = space_by modifier (is_extended modifier) (is_standard modifier) (is_short modifier) refl refl refl h
 
 -- the address fits in the digits of its space, and in 32 bits
-abbrev Held : ℕ → ℕ → Type 0
-Held address highest = (address < 16 ^ ((highest + 1) / 4)) × (address < 2 ^ 32)
+abbrev FitsDigits : ℕ → ℕ → Type 0
+FitsDigits address highest = (address < 16 ^ ((highest + 1) / 4)) × (address < 2 ^ 32)
 
-held_at : (n highest address : ℕ) → highest ≡ n → (address < 2 ^ (n + 1) → Held address n) → address < 2 ^ (highest + 1)
-    → Held address highest
-held_at n highest address e f below = subst (Held address) (sym e) (f (subst (λ h. address < 2 ^ (h + 1)) e below))
+fits_at : (n highest address : ℕ) → highest ≡ n → (address < 2 ^ (n + 1) → FitsDigits address n)
+    → address < 2 ^ (highest + 1) → FitsDigits address highest
+fits_at n highest address e f below =
+    subst (FitsDigits address) (sym e) (f (subst (λ h. address < 2 ^ (h + 1)) e below))
 
-held_31 : (address : ℕ) → address < 2 ^ 32 → Held address 31
-held_31 address below = (below, below)
+fits_31 : (address : ℕ) → address < 2 ^ 32 → FitsDigits address 31
+fits_31 address below = (below, below)
 
-held_23 : (address : ℕ) → address < 2 ^ 24 → Held address 23
-held_23 address below = (below, omega arith)
+fits_23 : (address : ℕ) → address < 2 ^ 24 → FitsDigits address 23
+fits_23 address below = (below, omega arith)
 
-held_15 : (address : ℕ) → address < 2 ^ 16 → Held address 15
-held_15 address below = (below, omega arith)
+fits_15 : (address : ℕ) → address < 2 ^ 16 → FitsDigits address 15
+fits_15 address below = (below, omega arith)
 
-holds : (highest address : ℕ) → (highest ≡ 31) ⊎ ((highest ≡ 23) ⊎ (highest ≡ 15)) → address < 2 ^ (highest + 1)
-    → Held address highest
-holds highest address which below =
+fits_space : (highest address : ℕ) → (highest ≡ 31) ⊎ ((highest ≡ 23) ⊎ (highest ≡ 15)) → address < 2 ^ (highest + 1)
+    → FitsDigits address highest
+fits_space highest address which below =
     elim which [
-      | inl e ↦ held_at 31 highest address e (held_31 address) below
+      | inl e ↦ fits_at 31 highest address e (fits_31 address) below
       | inr other ↦ elim other [
-        | inl e ↦ held_at 23 highest address e (held_23 address) below
-        | inr e ↦ held_at 15
-            highest address e (held_15 address) below
+        | inl e ↦ fits_at 23 highest address e (fits_23 address) below
+        | inr e ↦ fits_at 15
+            highest address e (fits_15 address) below
       ]
     ]
 
@@ -75,6 +76,6 @@ address-digits modifier address h =
     let parts = and_parts (not (highest_address modifier == 0)) (nat_lt address (2 ^ (highest_address modifier + 1)))
     front.0 in
     let at = space modifier parts.0 in
-    let held = holds (highest_address modifier) address at.1 (ltb-true address (2 ^ (highest_address modifier + 1))
+    let held = fits_space (highest_address modifier) address at.1 (ltb-true address (2 ^ (highest_address modifier + 1))
     parts.1) in
     record { modifier_below = at.0; address_below = held.0; by_32_bits = held.1 }

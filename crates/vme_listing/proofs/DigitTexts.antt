@@ -3,7 +3,7 @@ use Rattle.std.proofs.Common.{◌≡◌, ◌==◌, ℕ, zero, suc, ◌<◌, ◌�
 use Rattle.std.specs.Prelude.{if◌then◌else◌}
 use Rattle.std.specs.Fmt.{digit_glyph}
 use Rattle.std.proofs.lemmas.Bool.Decides.{nat_tests}
-use Rattle.vme_listing.specs.Places.{is_digit}
+use Rattle.vme_listing.specs.Places.{is_allowed_digit}
 use Rattle.vme_listing.specs.RowText.{digit_text}
 use Rattle.vme_listing.specs.Words.{digit_of, flag_of}
 use Rattle.vme_listing.proofs.Numerals.{digit_of-glyph}
@@ -23,16 +23,16 @@ pub text_past : (moved : Bool) (digit flag : ℕ) → 45 ≤ digit_text moved di
 text_past false digit flag = omega arith
 text_past true digit flag = shown_past digit (flag == 1)
 
-no_digit : (digit flag : ℕ) → is_digit false digit flag ≡ true → digit ≡ 0
+no_digit : (digit flag : ℕ) → is_allowed_digit false digit flag ≡ true → digit ≡ 0
 no_digit digit flag h = grind (arith, nat_tests)
 
-no_flag : (digit flag : ℕ) → is_digit false digit flag ≡ true → flag ≡ 0
+no_flag : (digit flag : ℕ) → is_allowed_digit false digit flag ≡ true → flag ≡ 0
 no_flag digit flag h = grind (arith, nat_tests)
 
-unknown_digit : (digit : ℕ) → is_digit true digit 1 ≡ true → digit ≡ 0
+unknown_digit : (digit : ℕ) → is_allowed_digit true digit 1 ≡ true → digit ≡ 0
 unknown_digit digit h = grind (arith, nat_tests)
 
-pub digit_of-text : (moved : Bool) (digit flag : ℕ) → digit < 16 → flag < 2 → is_digit moved digit flag ≡ true
+pub digit_of-text : (moved : Bool) (digit flag : ℕ) → digit < 16 → flag < 2 → is_allowed_digit moved digit flag ≡ true
     → digit_of (digit_text moved digit flag) ≡ digit
 digit_of-text false digit flag d f h = sym (no_digit digit flag h)
 digit_of-text true digit zero d f h = digit_of-glyph digit d
@@ -42,7 +42,7 @@ digit_of-text true digit (suc (suc flag)) d f h = absurd (omega arith)
 no_x : (byte : ℕ) → byte ≤ 70 → flag_of byte ≡ 0
 no_x byte most = grind (arith, nat_tests)
 
-pub flag_of-text : (moved : Bool) (digit flag : ℕ) → digit < 16 → flag < 2 → is_digit moved digit flag ≡ true
+pub flag_of-text : (moved : Bool) (digit flag : ℕ) → digit < 16 → flag < 2 → is_allowed_digit moved digit flag ≡ true
     → flag_of (digit_text moved digit flag) ≡ flag
 flag_of-text false digit flag d f h = sym (no_flag digit flag h)
 flag_of-text true digit zero d f h = no_x (digit_glyph true digit) (glyph_most digit d)

@@ -13,19 +13,19 @@ use Rattle.std.proofs.lemmas.Int.Digits.{digits_value_more}
 use Rattle.std.proofs.lemmas.List.{get_or-take, length-take-le, take-append-drop}
 use Rattle.std.proofs.lemmas.Slice.Eq.{bytes_eq-Decides}
 use Rattle.std.proofs.lemmas.Str.Parse.{IsNumeralModel, digits_value_short, numerals_by_value, tells_all_ascii_digits}
-use Rattle.vme_listing.specs.Lines.{behind, digits_at, number_in}
-use Rattle.vme_listing.proofs.Pieces.{behind-is}
+use Rattle.vme_listing.specs.Lines.{after_word, digits_at, number_in}
+use Rattle.vme_listing.proofs.Pieces.{after_word-is}
 
 -- the first `count` bytes of the text are digits
-abbrev pub AreDigits : List ℕ → ℕ → Type 0
-AreDigits text count = (k : ℕ) → k < count → is_ascii_digit (get_or text k 0) ≡ true
+abbrev pub FirstAreDigits : List ℕ → ℕ → Type 0
+FirstAreDigits text count = (k : ℕ) → k < count → is_ascii_digit (get_or text k 0) ≡ true
 
 -- where `count` is below `most`, no digit follows the first `count` bytes
-abbrev pub Ends : List ℕ → ℕ → ℕ → Type 0
-Ends text most count = count < most → count < length text → is_ascii_digit (get_or text count 0) ≡ false
+abbrev pub DigitsEndAt : List ℕ → ℕ → ℕ → Type 0
+DigitsEndAt text most count = count < most → count < length text → is_ascii_digit (get_or text count 0) ≡ false
 
-pub digit-more : (text : List ℕ) (count : ℕ) → AreDigits text count → is_ascii_digit (get_or text count 0) ≡ true
-    → AreDigits text (count + 1)
+pub digit-more : (text : List ℕ) (count : ℕ) → FirstAreDigits text count → is_ascii_digit (get_or text count 0) ≡ true
+    → FirstAreDigits text (count + 1)
 digit-more text count digits digit k below = by_order (cases_order k count)
   where
     by_order : (k ≡ count) ⊎ ((k < count) ⊎ (count < k)) → is_ascii_digit (get_or text k 0) ≡ true
@@ -44,7 +44,7 @@ number-more text count within digit =
     let worth : digit_value (get_or text count 0) ≡ get_or text count 0 - 48 = grind (arith, nat_tests) in
     digits_value_more 10 text count within ∙ ap (λ d. digits_value 10 (take count text) * 10 + d) worth
 
-are-digits : (text : List ℕ) (count : ℕ) → count ≤ length text → AreDigits text count
+are-digits : (text : List ℕ) (count : ℕ) → count ≤ length text → FirstAreDigits text count
     → all_ascii_digits (take count text) ≡ true
 are-digits text zero within digits = refl
 are-digits [] (suc count) within digits = absurd (omega arith)
@@ -55,14 +55,14 @@ are-digits (byte ∷ text) (suc count) within digits =
 numerals : IsNumeralModel (λ (ds : List ℕ). all_ascii_digits ds ≡ true) (digits_value 10)
 numerals = numerals_by_value (λ (ds : List ℕ). all_ascii_digits ds ≡ true) tells_all_ascii_digits
 
-pub number-short : (text : List ℕ) (count most : ℕ) → count ≤ most → count ≤ length text → AreDigits text count
+pub number-short : (text : List ℕ) (count most : ℕ) → count ≤ most → count ≤ length text → FirstAreDigits text count
     → digits_value 10 (take count text) < 10 ^ most
 number-short text count most few within digits =
     digits_value_short numerals (take count text) most (are-digits text count within digits)
     (omega (arith, few, length-take-le count text within))
 
-digits_at-front : (text : List ℕ) (most count : ℕ) → count ≤ most → count ≤ length text → AreDigits text count
-    → Ends text most count → digits_at most text ≡ take count text
+digits_at-front : (text : List ℕ) (most count : ℕ) → count ≤ most → count ≤ length text → FirstAreDigits text count
+    → DigitsEndAt text most count → digits_at most text ≡ take count text
 digits_at-front text zero zero few within digits end = refl
 digits_at-front text zero (suc count) few within digits end = absurd (omega arith)
 digits_at-front [] (suc most) zero few within digits end = refl
@@ -73,15 +73,16 @@ digits_at-front (byte ∷ text) (suc most) (suc count) few within digits end =
     (ap (λ l. byte ∷ l) (digits_at-front text most count (omega arith) (omega arith)
     (λ k below. digits (suc k) (omega arith)) (λ less inside. end (omega arith) (omega arith))))
 
-pub unlike : (xs ys : List ℕ) → (xs ≡ ys → ⊥) → bytes_eq xs ys ≡ false
-unlike xs ys h = false_from_ne_true (bytes_eq xs ys) (λ e. h ((bytes_eq-Decides xs ys).0 e))
+pub bytes_eq-differs : (xs ys : List ℕ) → (xs ≡ ys → ⊥) → bytes_eq xs ys ≡ false
+bytes_eq-differs xs ys h = false_from_ne_true (bytes_eq xs ys) (λ e. h ((bytes_eq-Decides xs ys).0 e))
 
-pub like : (text : List ℕ) → bytes_eq text text ≡ true
-like text = (bytes_eq-Decides text text).1 refl
+pub bytes_eq-refl : (text : List ℕ) → bytes_eq text text ≡ true
+bytes_eq-refl text = (bytes_eq-Decides text text).1 refl
 
-pub behind-take : (count : ℕ) (text : List ℕ) → behind (take count text) text ≡ Some (drop count text)
-behind-take count text =
-    ap (behind (take count text)) (sym (take-append-drop count text)) ∙ behind-is (take count text) (drop count text)
+pub after_word-take : (count : ℕ) (text : List ℕ) → after_word (take count text) text ≡ Some (drop count text)
+after_word-take count text =
+    ap (after_word (take count text)) (sym (take-append-drop count text))
+    ∙ after_word-is (take count text) (drop count text)
 
 -- no decimal text is empty; below, none has a zero before another digit
 empty-unlike : (n : ℕ) (ds : List ℕ) → n < 2 ^ 64 → length ds ≡ 0 → decimal n ≡ ds → ⊥
@@ -103,7 +104,7 @@ number_in-unlike : (text ds : List ℕ) → digits_at 10 text ≡ ds → (decima
     → number_in text ≡ None
 unfolding number_in
 number_in-unlike text ds e h =
-    rw (e, unlike (decimal (digits_value 10 ds)) ds h)
+    rw (e, bytes_eq-differs (decimal (digits_value 10 ds)) ds h)
     (no_other (nat_lt (digits_value 10 ds) (2 ^ 32)) (digits_value 10 ds))
 
 pub is_less : (m n : ℕ) → m < n → nat_lt m n ≡ true
@@ -115,8 +116,8 @@ not_less m n h = grind (arith, nat_tests)
 leads : (count first : ℕ) → 0 < count → (nat_lt 1 count && (first == 48)) ≡ false → first ≡ 48 → count ≡ 1
 leads count first some h e = grind (arith, nat_tests)
 
-module _ (text : List ℕ) (count : ℕ) (few : count ≤ 10) (within : count ≤ length text) (digits : AreDigits text count)
-    (end : Ends text 10 count) where
+module _ (text : List ℕ) (count : ℕ) (few : count ≤ 10) (within : count ≤ length text)
+    (digits : FirstAreDigits text count) (end : DigitsEndAt text 10 count) where
   front-is : digits_at 10 text ≡ take count text
   front-is = digits_at-front text 10 count few within digits end
 
@@ -154,8 +155,9 @@ module _ (text : List ℕ) (count : ℕ) (few : count ≤ 10) (within : count �
       pub number_in-front : number < 2 ^ 32 → number_in text ≡ Some number
       unfolding number_in
       number_in-front small =
-          rw (front-is, decimal-front, sym value, is_less number (2 ^ 32) small, like (take count text)) refl
+          rw (front-is, decimal-front, sym value, is_less number (2 ^ 32) small, bytes_eq-refl (take count text)) refl
 
-      pub behind-front : behind (decimal number) text ≡ Some (drop count text)
-      behind-front =
-          ap (λ n. behind (decimal n) text) value ∙ ap (λ ds. behind ds text) decimal-front ∙ behind-take count text
+      pub after_word-front : after_word (decimal number) text ≡ Some (drop count text)
+      after_word-front =
+          ap (λ n. after_word (decimal n) text) value ∙ ap (λ ds. after_word ds text) decimal-front
+          ∙ after_word-take count text

@@ -10,10 +10,10 @@ use Rattle.std.proofs.lemmas.Grind.{take_at_read}
 use Rattle.std.proofs.lemmas.List.{length-take-le, take_all}
 use Rattle.std.proofs.lemmas.Slice.Eq.{bytes_eq-Decides}
 use Rattle.vme_trace.specs.declared.data.Lanes.{Lanes}
-use Rattle.vme_listing.specs.Lines.{are_hexadecimal, behind, hexadecimal_in, is_hexadecimal, lanes_in, lanes_of}
+use Rattle.vme_listing.specs.Lines.{after_word, are_hexadecimal, hexadecimal_in, is_hexadecimal, lanes_in, lanes_of}
 use Rattle.vme_listing.specs.RowText.{hexadecimal, lanes_text}
 use Rattle.vme_listing.specs.Words.{number_of}
-use Rattle.vme_listing.proofs.FrontDigits.{behind-take, like, unlike}
+use Rattle.vme_listing.proofs.FrontDigits.{after_word-take, bytes_eq-differs, bytes_eq-refl}
 use Rattle.vme_listing.proofs.Numerals.{number_of-hexadecimal}
 
 glyph_hexadecimal : (digit : ℕ) → digit < 16 → is_hexadecimal (digit_glyph true digit) ≡ true
@@ -84,7 +84,7 @@ below-most i most number few below = omega (arith, below, pow-le-pow_right {n = 
 pub hexadecimal_in-short : (k : ℕ) (text : List ℕ) → length text < k → hexadecimal_in k text ≡ None
 unfolding hexadecimal_in
 hexadecimal_in-short k text short =
-    rw (unlike (hexadecimal k (number_of 16 (take k text))) (take k text)
+    rw (bytes_eq-differs (hexadecimal k (number_of 16 (take k text))) (take k text)
     (λ e. omega (
       arith,
       ap length e,
@@ -95,7 +95,7 @@ hexadecimal_in-short k text short =
 pub hexadecimal_in-not : (k : ℕ) (text : List ℕ) → are_hexadecimal (take k text) ≡ false → hexadecimal_in k text ≡ None
 unfolding hexadecimal_in
 hexadecimal_in-not k text h =
-    rw (unlike (hexadecimal k (number_of 16 (take k text))) (take k text)
+    rw (bytes_eq-differs (hexadecimal k (number_of 16 (take k text))) (take k text)
     (λ e. false≢true (sym h ∙ ap are_hexadecimal (sym e) ∙ hexadecimal-are k (number_of 16 (take k text))))) refl
 
 module _ (k : ℕ) (text : List ℕ) (number : ℕ) (few : k ≤ 8) (within : k ≤ length text)
@@ -118,12 +118,12 @@ module _ (k : ℕ) (text : List ℕ) (number : ℕ) (few : k ≤ 8) (within : k 
       rw (
         sym word-is,
         number_of-hexadecimal k number under (omega (arith, by_32_bits)),
-        like
+        bytes_eq-refl
             (hexadecimal k number),
       ) refl
 
-  pub behind-hexadecimal : behind (hexadecimal k number) text ≡ Some (drop k text)
-  behind-hexadecimal = ap (λ w. behind w text) word-is ∙ behind-take k text
+  pub after_word-hexadecimal : after_word (hexadecimal k number) text ≡ Some (drop k text)
+  after_word-hexadecimal = ap (λ w. after_word w text) word-is ∙ after_word-take k text
 
 -- the text of data has eight bytes
 pub lanes-length : (a : Lanes) → length (lanes_text a) ≡ 8
@@ -133,7 +133,7 @@ lanes-length a = refl
 pub lanes_in-short : (text : List ℕ) → length text < 8 → lanes_in text ≡ None
 unfolding lanes_in
 lanes_in-short text short =
-    rw (unlike (lanes_text (lanes_of (take 8 text))) (take 8 text)
+    rw (bytes_eq-differs (lanes_text (lanes_of (take 8 text))) (take 8 text)
     (λ e. omega (arith, ap length e, lanes-length (lanes_of (take 8 text)), ap length (take_all 8 text (omega arith)))))
     refl
 
@@ -148,7 +148,7 @@ module _ (text : List ℕ) (a : Lanes) (is : a ≡ lanes_of (take 8 text)) where
   pub lanes_in-other : bytes_eq (lanes_text a) (take 8 text) ≡ false → lanes_in text ≡ None
   lanes_in-other h = lanes_in-by ∙ (rw h refl)
 
-pub behind-lanes : (text : List ℕ) (a : Lanes) → bytes_eq (lanes_text a) (take 8 text) ≡ true
-    → behind (lanes_text a) text ≡ Some (drop 8 text)
-behind-lanes text a h =
-    ap (λ w. behind w text) ((bytes_eq-Decides (lanes_text a) (take 8 text)).0 h) ∙ behind-take 8 text
+pub after_word-lanes : (text : List ℕ) (a : Lanes) → bytes_eq (lanes_text a) (take 8 text) ≡ true
+    → after_word (lanes_text a) text ≡ Some (drop 8 text)
+after_word-lanes text a h =
+    ap (λ w. after_word w text) ((bytes_eq-Decides (lanes_text a) (take 8 text)).0 h) ∙ after_word-take 8 text

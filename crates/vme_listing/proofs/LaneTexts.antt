@@ -10,7 +10,7 @@ use Rattle.vme_trace.specs.declared.data.Lanes.{Lanes}
 use Rattle.vme_trace.specs.declared.data.MovedBytes.{MovedBytes}
 use Rattle.vme_trace.specs.declared.data.MovedBytes.TheVariants.{Nothing, OddByte, EvenByte, Word, LongWord}
 use Rattle.vme_listing.specs.LaneDigits.{is_moved_in, digit_in, flag_in}
-use Rattle.vme_listing.specs.Places.{is_digit_in, are_digits_from, is_lanes}
+use Rattle.vme_listing.specs.Places.{are_digits_from, is_allowed_data, is_allowed_digit_in}
 use Rattle.vme_listing.specs.RowText.{digit_text, digit_text_in, lanes_text}
 use Rattle.vme_listing.specs.Words.{digit_of, number_after, number_of, flag_of, flags_after, flags_of, moved_of}
 use Rattle.vme_listing.specs.Lines.{lanes_of}
@@ -18,31 +18,33 @@ use Rattle.vme_listing.proofs.DigitTexts.{text_past, digit_of-text, flag_of-text
 use Rattle.vme_listing.proofs.Numerals.{last}
 
 -- the data is one that its form allows, by parts: the numbers' bounds, and each digit with its bit
-record AreDigits (a : Lanes) : Type 0 where
+record IsAllowedData (a : Lanes) : Type 0 where
   value : a.value < 2 ^ 32
   unknown : a.unknown < 256
-  d0 : is_digit_in a 0 ≡ true
-  d1 : is_digit_in a 1 ≡ true
-  d2 : is_digit_in a 2 ≡ true
-  d3 : is_digit_in a 3 ≡ true
-  d4 : is_digit_in a 4 ≡ true
-  d5 : is_digit_in a 5 ≡ true
-  d6 : is_digit_in a 6 ≡ true
-  d7 : is_digit_in a 7 ≡ true
+  d0 : is_allowed_digit_in a 0 ≡ true
+  d1 : is_allowed_digit_in a 1 ≡ true
+  d2 : is_allowed_digit_in a 2 ≡ true
+  d3 : is_allowed_digit_in a 3 ≡ true
+  d4 : is_allowed_digit_in a 4 ≡ true
+  d5 : is_allowed_digit_in a 5 ≡ true
+  d6 : is_allowed_digit_in a 6 ≡ true
+  d7 : is_allowed_digit_in a 7 ≡ true
 
-digits : (a : Lanes) → is_lanes a ≡ true → AreDigits a
-unfolding is_lanes
+digits : (a : Lanes) → is_allowed_data a ≡ true → IsAllowedData a
+unfolding is_allowed_data
 digits a h =
     let high = and_parts (nat_lt a.value (2 ^ 32) && nat_lt a.unknown 256 && are_digits_from a 0) (are_digits_from a 4)
     h in
     let low = and_parts (nat_lt a.value (2 ^ 32) && nat_lt a.unknown 256) (are_digits_from a 0) high.0 in
     let p = and_parts (nat_lt a.value (2 ^ 32)) (nat_lt a.unknown 256) low.0 in
-    let p3 = and_parts (is_digit_in a 0 && is_digit_in a 1 && is_digit_in a 2) (is_digit_in a 3) low.1 in
-    let p2 = and_parts (is_digit_in a 0 && is_digit_in a 1) (is_digit_in a 2) p3.0 in
-    let p1 = and_parts (is_digit_in a 0) (is_digit_in a 1) p2.0 in
-    let p7 = and_parts (is_digit_in a 4 && is_digit_in a 5 && is_digit_in a 6) (is_digit_in a 7) high.1 in
-    let p6 = and_parts (is_digit_in a 4 && is_digit_in a 5) (is_digit_in a 6) p7.0 in
-    let p5 = and_parts (is_digit_in a 4) (is_digit_in a 5) p6.0 in
+    let p3 = and_parts (is_allowed_digit_in a 0 && is_allowed_digit_in a 1 && is_allowed_digit_in a 2)
+    (is_allowed_digit_in a 3) low.1 in
+    let p2 = and_parts (is_allowed_digit_in a 0 && is_allowed_digit_in a 1) (is_allowed_digit_in a 2) p3.0 in
+    let p1 = and_parts (is_allowed_digit_in a 0) (is_allowed_digit_in a 1) p2.0 in
+    let p7 = and_parts (is_allowed_digit_in a 4 && is_allowed_digit_in a 5 && is_allowed_digit_in a 6)
+    (is_allowed_digit_in a 7) high.1 in
+    let p6 = and_parts (is_allowed_digit_in a 4 && is_allowed_digit_in a 5) (is_allowed_digit_in a 6) p7.0 in
+    let p5 = and_parts (is_allowed_digit_in a 4) (is_allowed_digit_in a 5) p6.0 in
     record {
       value = ltb-true a.value (2 ^ 32) p.0;
       unknown = ltb-true a.unknown 256 p.1;
@@ -64,7 +66,7 @@ number_step n front byte word below e d =
     (ap (λ f. (f * 16 % 2 ^ 32 + digit_of byte) % 2 ^ 32) e ∙ ap (λ x. (n / 16 * 16 % 2 ^ 32 + x) % 2 ^ 32) d
     ∙ last 16 (n / 16) (n % 16) n (omega arith) below)
 
-number_read : (a : Lanes) → is_lanes a ≡ true → number_of 16 (lanes_text a) ≡ a.value
+number_read : (a : Lanes) → is_allowed_data a ≡ true → number_of 16 (lanes_text a) ≡ a.value
 unfolding number_of lanes_text
 number_read a h =
     let are = digits a h in
@@ -103,7 +105,7 @@ flags_step n front byte word below e f =
     (ap (λ x. x * 2 % 256 + flag_of byte) e ∙ ap (λ x. n / 2 * 2 % 256 + x) f ∙ ap (λ x. x + n % 2) (mod-eq_of_lt small)
     ∙ omega arith)
 
-flags_read : (a : Lanes) → is_lanes a ≡ true → flags_of (lanes_text a) ≡ a.unknown
+flags_read : (a : Lanes) → is_allowed_data a ≡ true → flags_of (lanes_text a) ≡ a.unknown
 unfolding flags_of lanes_text
 flags_read a h =
     let are = digits a h in
@@ -152,7 +154,7 @@ moved_read a =
     by_bytes LongWord = refl
 
 -- the data that is read from its own text is the data
-pub lanes-are : (a : Lanes) → is_lanes a ≡ true → lanes_of (lanes_text a) ≡ a
+pub lanes-are : (a : Lanes) → is_allowed_data a ≡ true → lanes_of (lanes_text a) ≡ a
 lanes-are a h = rw (moved_read a, number_read a h, flags_read a h) refl
 
 digit_stays : (moved : Bool) (digit flag : ℕ) → not (digit_text moved digit flag == 10) ≡ true

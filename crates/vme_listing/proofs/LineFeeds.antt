@@ -21,8 +21,8 @@ use Rattle.vme_trace.specs.declared.data.Lanes.{Lanes}
 use Rattle.vme_trace.proofs.EveryRule.{every-rule}
 use Rattle.vme_listing.proofs.Glyphs.{are_glyphs, decimal-glyphs, hexadecimal-glyphs}
 use Rattle.vme_listing.proofs.LaneTexts.{lanes-inside}
-use Rattle.vme_listing.specs.Listed.{tells_resets}
-use Rattle.vme_listing.specs.Places.{is_number, is_edge, has_class, is_address, is_outcome, has_data, is_row}
+use Rattle.vme_listing.specs.Listed.{includes_resets}
+use Rattle.vme_listing.specs.Places.{is_number, is_edge, has_class, is_address, is_allowed_outcome, has_data, is_row}
 use Rattle.vme_listing.specs.RowText.{edge_text, hexadecimal, address_digits, class_text, direction_text, answer_text}
 use Rattle.vme_listing.specs.RowText.{data_text, break_text, row_text, line_of}
 use Rattle.vme_listing.specs.declared.row.AnswerLine.{AnswerLine}
@@ -127,7 +127,8 @@ five true true false d e h = absurd (cc)
 five true false c d e h = absurd (cc)
 five false b c d e h = absurd (cc)
 
-outcome-inside : (outcome : ListedVerdict) → is_outcome outcome ≡ true → is_inside (row_text (Verdict outcome)) ≡ true
+outcome-inside : (outcome : ListedVerdict) → is_allowed_outcome outcome ≡ true
+    → is_inside (row_text (Verdict outcome)) ≡ true
 unfolding row_text
 outcome-inside Conforming h = refl
 outcome-inside NeverIdle h = refl
@@ -139,7 +140,7 @@ outcome-inside (Unreadable rule instant line) h = let p = three _ (is_number ins
 pub row-inside : (version : Version) (row : Row) → is_row version row ≡ true → is_inside (row_text row) ≡ true
 unfolding is_row row_text
 row-inside version (Start instant) h = number-inside instant h
-row-inside version (Reset instant) h = number-inside instant (two (tells_resets version) (is_number instant) h).1
+row-inside version (Reset instant) h = number-inside instant (two (includes_resets version) (is_number instant) h).1
 row-inside version (OpenTenure start end) h =
     let p = two (is_number start) (is_edge end) h in
     let s = number-inside start p.0 in

@@ -8,34 +8,35 @@ use Rattle.std.proofs.lemmas.Bool.Decides.{nat_tests}
 use Rattle.std.proofs.lemmas.Fmt.{decimal_by_steps, decimal_is_IsNumeral, length-decimal-le}
 use Rattle.std.proofs.lemmas.Option.{none-some, same_Some}
 use Rattle.std.proofs.lemmas.Slice.Eq.{bytes_eq-Decides}
-use Rattle.vme_listing.specs.Lines.{Left, behind, past, past_read, past_piece, or_other, piece, digits_at, number_in}
+use Rattle.vme_listing.specs.Lines.{Rest, after_word, digits_at, number_in, or_other, past, past_piece, past_read}
+use Rattle.vme_listing.specs.Lines.{piece}
 
-pub behind-is : (word more : List ℕ) → behind word (word ++ more) ≡ Some more
-behind-is [] more = refl
-behind-is (byte ∷ word) more = rw (eq-eqb byte byte refl) (behind-is word more)
+pub after_word-is : (word more : List ℕ) → after_word word (word ++ more) ≡ Some more
+after_word-is [] more = refl
+after_word-is (byte ∷ word) more = rw (eq-eqb byte byte refl) (after_word-is word more)
 
-pub behind-said : (word line more : List ℕ) → behind word line ≡ Some more → line ≡ word ++ more
-behind-said [] line more e = same_Some line more e
-behind-said (byte ∷ word) [] more e = absurd (none-some more e)
-behind-said (byte ∷ word) (first ∷ line) more e = by_test (behind-said word line more) (byte == first) refl e
+pub after_word-said : (word line more : List ℕ) → after_word word line ≡ Some more → line ≡ word ++ more
+after_word-said [] line more e = same_Some line more e
+after_word-said (byte ∷ word) [] more e = absurd (none-some more e)
+after_word-said (byte ∷ word) (first ∷ line) more e = by_test (after_word-said word line more) (byte == first) refl e
   where
-    by_test : (behind word line ≡ Some more → line ≡ word ++ more) → (same : Bool) → (byte == first) ≡ same
-        → (if same then behind word line else None) ≡ Some more
+    by_test : (after_word word line ≡ Some more → line ≡ word ++ more) → (same : Bool) → (byte == first) ≡ same
+        → (if same then after_word word line else None) ≡ Some more
         → first ∷ line ≡ byte ∷ (word ++ more)
     by_test said true s e = rw (sym (eqb-true byte first s)) (ap (λ l. byte ∷ l) (said e))
     by_test said false s e = absurd (none-some more e)
 
-pub past-said : (word : List ℕ) (left : Left) (more : List ℕ) → past word left ≡ Some more → left ≡ Some (word ++ more)
+pub past-said : (word : List ℕ) (left : Rest) (more : List ℕ) → past word left ≡ Some more → left ≡ Some (word ++ more)
 past-said word None more e = absurd (none-some more e)
-past-said word (Some line) more e = ap Some (behind-said word line more e)
+past-said word (Some line) more e = ap Some (after_word-said word line more e)
 
 module _ {A : Type 0} (read : List ℕ → Option A) (text : A → List ℕ) (other : A) where
   said-by : (line more : List ℕ) (o : Option A) → past_read read text o line ≡ Some more
       → Some line ≡ Some (text (or_other read other o) ++ more)
   said-by line more None e = absurd (none-some more e)
-  said-by line more (Some x) e = ap Some (behind-said (text x) line more e)
+  said-by line more (Some x) e = ap Some (after_word-said (text x) line more e)
 
-  pub piece-said : (left : Left) (more : List ℕ) → past_piece read text left ≡ Some more
+  pub piece-said : (left : Rest) (more : List ℕ) → past_piece read text left ≡ Some more
       → left ≡ Some (text (piece read other left) ++ more)
   piece-said None more e = absurd (none-some more e)
   piece-said (Some line) more e = said-by line more (read line) e
@@ -45,7 +46,7 @@ module _ {A : Type 0} (read : List ℕ → Option A) (text : A → List ℕ) (ot
     piece-is = ap (or_other read other) e
 
     pub past_piece-is : past_piece read text (Some (text x ++ more)) ≡ Some more
-    past_piece-is = ap (λ o. past_read read text o (text x ++ more)) e ∙ behind-is (text x) more
+    past_piece-is = ap (λ o. past_read read text o (text x ++ more)) e ∙ after_word-is (text x) more
 
 abbrev pub are_digits : List ℕ → Bool
 are_digits [] = true
@@ -97,24 +98,25 @@ number_in-is n more below end =
     ) refl
 
 -- where the line begins with the word, what is left is the line without as many bytes as the word has
-pub behind-by : (word line : List ℕ) → bytes_eq (take (length word) line) word ≡ true
-    → behind word line ≡ Some (drop (length word) line)
-behind-by [] line h = refl
-behind-by (byte ∷ word) [] h = absurd (false≢true h)
-behind-by (byte ∷ word) (first ∷ line) h =
+pub after_word-by : (word line : List ℕ) → bytes_eq (take (length word) line) word ≡ true
+    → after_word word line ≡ Some (drop (length word) line)
+after_word-by [] line h = refl
+after_word-by (byte ∷ word) [] h = absurd (false≢true h)
+after_word-by (byte ∷ word) (first ∷ line) h =
     let parts = and_parts (first == byte) (bytes_eq (take (length word) line) word) h in
-    rw (eq-eqb byte first (sym (eqb-true first byte parts.0))) (behind-by word line parts.1)
+    rw (eq-eqb byte first (sym (eqb-true first byte parts.0))) (after_word-by word line parts.1)
 
-pub behind-not : (word line : List ℕ) → bytes_eq (take (length word) line) word ≡ false → behind word line ≡ None
-behind-not [] line h = absurd (false≢true (sym h))
-behind-not (byte ∷ word) [] h = refl
-behind-not (byte ∷ word) (first ∷ line) h = by_test (behind-not word line) (byte == first) refl
+pub after_word-not : (word line : List ℕ) → bytes_eq (take (length word) line) word ≡ false
+    → after_word word line ≡ None
+after_word-not [] line h = absurd (false≢true (sym h))
+after_word-not (byte ∷ word) [] h = refl
+after_word-not (byte ∷ word) (first ∷ line) h = by_test (after_word-not word line) (byte == first) refl
   where
-    by_test : (bytes_eq (take (length word) line) word ≡ false → behind word line ≡ None) → (same : Bool)
-        → (byte == first) ≡ same → (if same then behind word line else None) ≡ None
+    by_test : (bytes_eq (take (length word) line) word ≡ false → after_word word line ≡ None) → (same : Bool)
+        → (byte == first) ≡ same → (if same then after_word word line else None) ≡ None
     by_test fails false s = refl
     by_test fails true s =
         let e : (first == byte) ≡ true = eq-eqb first byte (sym (eqb-true byte first s)) in
         fails (ap (λ b. b && bytes_eq (take (length word) line) word) (sym e) ∙ h)
 
-pub ruleset words = (behind-by, behind-not)
+pub ruleset words = (after_word-by, after_word-not)

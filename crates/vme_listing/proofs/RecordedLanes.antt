@@ -12,7 +12,7 @@ use Rattle.vme_trace.specs.declared.data.MovedBytes.{MovedBytes}
 use Rattle.vme_trace.specs.declared.data.MovedBytes.TheVariants.{Nothing, OddByte, EvenByte, Word, LongWord}
 use Rattle.vme_trace.specs.declared.level.Level.{Level}
 use Rattle.vme_trace.specs.declared.level.Level.TheVariants.{Low, High, Unknown}
-use Rattle.vme_listing.specs.Places.{is_digit, is_lanes}
+use Rattle.vme_listing.specs.Places.{is_allowed_data, is_allowed_digit}
 use Rattle.vme_listing.proofs.RowForms.{both, is_less}
 
 -- the selection of a line, by the level of the long word line and whether A01 and the strobes are low
@@ -55,7 +55,7 @@ has_selected v k below =
 record IsForm (moved : Bool) (digit flag : ℕ) : Type 0 where
   below : digit < 16
   bit : flag < 2
-  form : is_digit moved digit flag ≡ true
+  form : is_allowed_digit moved digit flag ≡ true
 
 form_by : (moved known : Bool) (digit : ℕ) → digit < 16 → IsForm moved (cond (moved && known) digit 0)
     (cond (moved && not known) 1 0)
@@ -94,7 +94,7 @@ digit_there base weight n low digit high e below rest positive =
     gone n rest none = omega arith
 
 -- d0 to d7 are the eight lower digits of n in base 16, d0 the lowest
-record AreDigits (n d0 d1 d2 d3 d4 d5 d6 d7 : ℕ) : Type 0 where
+record AreLowDigits (n d0 d1 d2 d3 d4 d5 d6 d7 : ℕ) : Type 0 where
   at0 : n / 16 ^ 0 % 16 ≡ d0
   at1 : n / 16 ^ 1 % 16 ≡ d1
   at2 : n / 16 ^ 2 % 16 ≡ d2
@@ -106,7 +106,7 @@ record AreDigits (n d0 d1 d2 d3 d4 d5 d6 d7 : ℕ) : Type 0 where
 
 digits_are : (n d0 d1 d2 d3 d4 d5 d6 d7 : ℕ) → n ≡ d0 + 16 * d1 + 256 * d2 + 4096 * d3 + 65536 * d4 + 1048576 * d5 +
     16777216 * d6 + 268435456 * d7 → d0 < 16 → d1 < 16 → d2 < 16 → d3 < 16 → d4 < 16 → d5 < 16 → d6 < 16 → d7 < 16
-    → AreDigits n d0 d1 d2 d3 d4 d5 d6 d7
+    → AreLowDigits n d0 d1 d2 d3 d4 d5 d6 d7
 digits_are n d0 d1 d2 d3 d4 d5 d6 d7 e b0 b1 b2 b3 b4 b5 b6 b7 =
     record {
       at0 = digit_there 16 1 n (0) d0 (d1 + 16 * (d2 + 16 * (d3 + 16 * (d4 + 16 * (d5 + 16 * (d6 + 16 * (d7)))))))
@@ -160,12 +160,13 @@ bits_are n d0 d1 d2 d3 d4 d5 d6 d7 e b0 b1 b2 b3 b4 b5 b6 b7 =
           (omega arith) (omega arith) (omega arith);
     }
 
-same_form : (m moved : Bool) (x digit y flag : ℕ) → m ≡ moved → x ≡ digit → y ≡ flag → is_digit moved digit flag ≡ true
-    → is_digit m x y ≡ true
+same_form : (m moved : Bool) (x digit y flag : ℕ) → m ≡ moved → x ≡ digit → y ≡ flag
+    → is_allowed_digit moved digit flag ≡ true
+    → is_allowed_digit m x y ≡ true
 same_form m moved x digit y flag p q r h = rw (p, q, r) h
 
-pub lanes_form : (v : Levels) → is_lanes (lanes_at v) ≡ true
-unfolding is_lanes lanes_at
+pub lanes_form : (v : Levels) → is_allowed_data (lanes_at v) ≡ true
+unfolding is_allowed_data lanes_at
 lanes_form v =
     let f0 = digit_form v 0 in
     let f1 = digit_form v 1 in

@@ -18,7 +18,7 @@ use Rattle.vme_trace.specs.declared.class.Class.TheVariants as class
 use Rattle.vme_trace.specs.declared.rule.Rule.TheVariants.{U2, B4}
 use Rattle.vme_trace.proofs.Ranges.{any-least, least-found}
 use Rattle.vme_trace.specs.declared.data.Lanes.{Lanes}
-use Rattle.vme_listing.specs.Places.{is_lanes, has_data, is_row}
+use Rattle.vme_listing.specs.Places.{is_allowed_data, has_data, is_row}
 use Rattle.vme_listing.specs.Recorded.{answered_row, cycle_row, cycle_rows, data_of, direction_of, tenure_row}
 use Rattle.vme_listing.specs.Recorded.{tenure_rows, transfer_row, transfer_rows}
 use Rattle.vme_listing.specs.declared.row.Direction.TheVariants.{Read, Write}
@@ -116,7 +116,7 @@ code_known t span i starts unbroken free unknown =
     negated true h = refl
     negated false h = absurd (cc)
 
-data_by : (write : Bool) (lanes : Lanes) → is_lanes lanes ≡ true → has_data Three (cond write Write Read)
+data_by : (write : Bool) (lanes : Lanes) → is_allowed_data lanes ≡ true → has_data Three (cond write Write Read)
     (cond write (Some lanes) None) ≡ true
 data_by true lanes h = h
 data_by false lanes h = refl

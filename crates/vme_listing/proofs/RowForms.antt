@@ -103,34 +103,34 @@ modifier_within v = omega (
 
 -- what the class of a cycle implies for its code: `known`, whether its bits are known; `block`, whether it is of block
 -- transfers; `free`, whether it has no address
-abbrev Says : Class → Bool → Bool → Bool → Type 0
-Says class.S known block free = (block ≡ false) × (free ≡ false)
-Says class.K known block free = block ≡ true
-Says class.I known block free = Unit {0}
-Says class.F known block free = (known ≡ false) ⊎ (free ≡ true)
+abbrev ClassImplies : Class → Bool → Bool → Bool → Type 0
+ClassImplies class.S known block free = (block ≡ false) × (free ≡ false)
+ClassImplies class.K known block free = block ≡ true
+ClassImplies class.I known block free = Unit {0}
+ClassImplies class.F known block free = (known ≡ false) ⊎ (free ≡ true)
 
 by_tests : (interrupt known block free : Bool)
-    → Says (cond interrupt class.I (cond (not known) class.F (cond block class.K (cond free class.F class.S)))) known
-    block free
+    → ClassImplies (cond interrupt class.I (cond (not known) class.F (cond block class.K (cond free class.F class.S))))
+    known block free
 by_tests true known block free = tt
 by_tests false false block free = inl refl
 by_tests false true true free = refl
 by_tests false true false true = inr refl
 by_tests false true false false = (refl, refl)
 
-class_says : (v : Levels) → Says (class_of v) (has_known_modifier v) (is_block (modifier_of v))
+class_implies : (v : Levels) → ClassImplies (class_of v) (has_known_modifier v) (is_block (modifier_of v))
     (highest_address (modifier_of v) == 0)
 unfolding class_of
-class_says v = by_tests (is_low (level_at v IACK)) (has_known_modifier v) (is_block (modifier_of v))
+class_implies v = by_tests (is_low (level_at v IACK)) (has_known_modifier v) (is_block (modifier_of v))
     (highest_address (modifier_of v) == 0)
 
 -- the row of a cycle is one that its form allows, if the code is known where the class is F
 pub cycle_form : (i : ℕ) (v : Levels) (e : Option ℕ) → is_number i ≡ true → is_edge e ≡ true
     → (class_of v ≡ class.F → has_known_modifier v ≡ false → ⊥) → IsMiddle i 3 (cycle_row i v e (class_of v))
 unfolding is_row
-cycle_form i v e n ed known = by_class (class_of v) refl (class_says v)
+cycle_form i v e n ed known = by_class (class_of v) refl (class_implies v)
   where
-    by_class : (c : Class) → class_of v ≡ c → Says c (has_known_modifier v) (is_block (modifier_of v))
+    by_class : (c : Class) → class_of v ≡ c → ClassImplies c (has_known_modifier v) (is_block (modifier_of v))
         (highest_address (modifier_of v) == 0) → IsMiddle i 3 (cycle_row i v e c)
     by_class class.S is f = record {
       allowed = both _ _ (both _ _ (both _ _ n (ap not f.0)) (address_form v (modifier_of v) f.1)) ed;

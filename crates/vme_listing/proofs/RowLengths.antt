@@ -15,8 +15,8 @@ use Rattle.vme_trace.specs.declared.class.Class.TheVariants as class
 use Rattle.vme_trace.specs.declared.data.Lanes.{Lanes}
 use Rattle.vme_trace.specs.declared.rule.Rule.{Rule}
 use Rattle.vme_trace.proofs.EveryRule.{every-rule}
-use Rattle.vme_listing.specs.Listed.{tells_resets}
-use Rattle.vme_listing.specs.Places.{has_class, has_data, is_address, is_edge, is_number, is_outcome, is_row}
+use Rattle.vme_listing.specs.Listed.{includes_resets}
+use Rattle.vme_listing.specs.Places.{has_class, has_data, is_address, is_allowed_outcome, is_edge, is_number, is_row}
 use Rattle.vme_listing.specs.RowText.{address_digits, answer_text, break_text, class_text, data_text, direction_text}
 use Rattle.vme_listing.specs.RowText.{edge_text, line_of, row_text}
 use Rattle.vme_listing.specs.declared.row.AnswerLine.{AnswerLine}
@@ -87,7 +87,7 @@ break-short : (rule : Rule) (instant line : ℕ) → is_number instant ≡ true 
 break-short rule instant line p q =
     simp length-append (omega (arith, rule-short rule, number-short instant p, line-short line q))
 
-outcome-short : (outcome : ListedVerdict) → is_outcome outcome ≡ true → length (row_text (Verdict outcome)) ≤ 95
+outcome-short : (outcome : ListedVerdict) → is_allowed_outcome outcome ≡ true → length (row_text (Verdict outcome)) ≤ 95
 unfolding row_text
 outcome-short Conforming h = omega arith
 outcome-short NeverIdle h = omega arith
@@ -104,7 +104,7 @@ row-short : (version : Version) (row : Row) → is_row version row ≡ true → 
 unfolding is_row row_text
 row-short version (Start instant) h = simp length-append (omega (arith, number-short instant h))
 row-short version (Reset instant) h =
-    let n = number-short instant (and_parts (tells_resets version) (is_number instant) h).1 in
+    let n = number-short instant (and_parts (includes_resets version) (is_number instant) h).1 in
     simp length-append (omega (arith, n))
 row-short version (OpenTenure start end) h =
     let p = and_parts (is_number start) (is_edge end) h in

@@ -29,12 +29,12 @@ use Rattle.vme_listing.specs.declared.row.Row.{Row}
 use Rattle.vme_listing.specs.declared.row.Row.TheVariants.{Start, Reset, OpenTenure, Tenure, AddressedCycle}
 use Rattle.vme_listing.specs.declared.row.Row.TheVariants.{FreeCycle, InterruptCycle, Transfer, PendingTransfer}
 use Rattle.vme_listing.specs.declared.row.Row.TheVariants.{Verdict}
-use Rattle.vme_listing.specs.Listed.{tells_data, tells_resets}
-use Rattle.vme_listing.specs.Places.{has_class, has_data, is_address, is_edge, is_lanes, is_number, is_outcome, is_row}
-use Rattle.vme_listing.specs.Places.{is_write}
+use Rattle.vme_listing.specs.Listed.{includes_data, includes_resets}
+use Rattle.vme_listing.specs.Places.{has_class, has_data, is_address, is_allowed_data, is_allowed_outcome, is_edge}
+use Rattle.vme_listing.specs.Places.{is_number, is_row, is_write}
 use Rattle.vme_listing.specs.RowText.{address_digits, answer_text, class_text, data_text, direction_text, edge_text}
 use Rattle.vme_listing.specs.RowText.{hexadecimal, lanes_text, row_text}
-use Rattle.vme_listing.specs.Lines.{Left, answer_at, behind, break_by, break_in, cycle_at, data_at}
+use Rattle.vme_listing.specs.Lines.{Rest, after_word, answer_at, break_by, break_in, cycle_at, data_at}
 use Rattle.vme_listing.specs.Lines.{direction_at, edge_at, hexadecimal_at, hexadecimal_in, lanes_in, line_in}
 use Rattle.vme_listing.specs.Lines.{modifier_at, named_break, no_lanes, number_at, number_in, or_other, outcome_in}
 use Rattle.vme_listing.specs.Lines.{past}
@@ -42,11 +42,11 @@ use Rattle.vme_listing.specs.Lines.{past_answer, past_cycle, past_data, past_dir
 use Rattle.vme_listing.specs.Lines.{past_hexadecimal, past_modifier, past_number, past_read, past_small, past_tenure}
 use Rattle.vme_listing.specs.Lines.{past_transfer, row_in, small_at, tenure_at, transfer_at, verdict_by}
 use Rattle.vme_listing.proofs.Addresses.{HasDigits, address-digits}
-use Rattle.vme_listing.proofs.FrontDigits.{is_less, like}
+use Rattle.vme_listing.proofs.FrontDigits.{bytes_eq-refl, is_less}
 use Rattle.vme_listing.proofs.FrontHexadecimals.{hexadecimal-length, lanes-length}
 use Rattle.vme_listing.proofs.LaneTexts.{lanes-are}
 use Rattle.vme_listing.proofs.Numerals.{number_of-hexadecimal}
-use Rattle.vme_listing.proofs.Pieces.{are_digits, behind-is, decimal-digits, is_end, number_in-is, past_piece-is}
+use Rattle.vme_listing.proofs.Pieces.{after_word-is, are_digits, decimal-digits, is_end, number_in-is, past_piece-is}
 use Rattle.vme_listing.proofs.Pieces.{piece-is}
 
 pub hexadecimal_in-is : (k n : ℕ) (more : List ℕ) → n < 16 ^ k → n < 2 ^ 32
@@ -56,17 +56,18 @@ hexadecimal_in-is k n more small below =
     rw (
       take_at (hexadecimal k n) more k (hexadecimal-length k n),
       number_of-hexadecimal k n small below,
-      like (hexadecimal k n),
+      bytes_eq-refl (hexadecimal k n),
     ) refl
 
-pub lanes_in-is : (a : Lanes) (more : List ℕ) → is_lanes a ≡ true → lanes_in (lanes_text a ++ more) ≡ Some a
+pub lanes_in-is : (a : Lanes) (more : List ℕ) → is_allowed_data a ≡ true → lanes_in (lanes_text a ++ more) ≡ Some a
 unfolding lanes_in
-lanes_in-is a more h = rw (take_at (lanes_text a) more 8 (lanes-length a), lanes-are a h, like (lanes_text a)) refl
+lanes_in-is a more h =
+    rw (take_at (lanes_text a) more 8 (lanes-length a), lanes-are a h, bytes_eq-refl (lanes_text a)) refl
 
 -- ---- the pieces
 
 -- reading the line with `at` gives x, and `past` leaves `more`
-abbrev Piece : {A : Type 0} → (Left → A) → (Left → Left) → List ℕ → A → List ℕ → Type 0
+abbrev Piece : {A : Type 0} → (Rest → A) → (Rest → Rest) → List ℕ → A → List ℕ → Type 0
 Piece at past line x more = (at (Some line) ≡ x) × (past (Some line) ≡ Some more)
 
 module _ (n : ℕ) (more : List ℕ) (end : is_end more ≡ true) where
@@ -86,7 +87,7 @@ module _ (n : ℕ) (more : List ℕ) (end : is_end more ≡ true) where
 hyphen_not : (byte : ℕ) → is_ascii_digit byte ≡ true → (45 == byte) ≡ false
 hyphen_not byte h = grind (arith, nat_tests)
 
-no-hyphen : (ds more : List ℕ) → are_digits ds ≡ true → 0 < length ds → behind (codes "-") (ds ++ more) ≡ None
+no-hyphen : (ds more : List ℕ) → are_digits ds ≡ true → 0 < length ds → after_word (codes "-") (ds ++ more) ≡ None
 no-hyphen [] more h some = absurd (omega arith)
 no-hyphen (byte ∷ ds) more h some =
     rw (hyphen_not byte (and_parts (is_ascii_digit byte) (are_digits ds) h).0) refl
@@ -99,9 +100,9 @@ edge more stop (Some n) h =
     let digits = decimal-digits n (omega (arith, below)) in
     let none = no-hyphen (decimal n) more digits (decimal_nonempty n (omega (arith, below))) in
     let read = number n more stop below in
-    let left : Left = Some (decimal n ++ more) in (
-      ap (λ (o : Left). if is_some o then None else Some (number_at left)) none ∙ ap Some read.0,
-      ap (λ (o : Left). if is_some o then o else past_number left) none ∙ read.1,
+    let left : Rest = Some (decimal n ++ more) in (
+      ap (λ (o : Rest). if is_some o then None else Some (number_at left)) none ∙ ap Some read.0,
+      ap (λ (o : Rest). if is_some o then o else past_number left) none ∙ read.1,
     )
 
 -- an end at the end of a line is read from its text, and nothing is left
@@ -143,12 +144,12 @@ last-data : (version : Version) (d : Direction) (o : Option Lanes) → has_data 
     → Piece data_at past_data (data_text o) o []
 last-data version d None h = (refl, refl)
 last-data version d (Some a) h =
-    let is = (and_parts (tells_data version && is_write d) (is_lanes a) h).1 in
+    let is = (and_parts (includes_data version && is_write d) (is_allowed_data a) h).1 in
     let e = sym (append-nil (lanes_text a)) in
     let read = ap lanes_in e ∙ lanes_in-is a [] is in (
       ap (λ (o : Option Lanes). Some (or_other lanes_in no_lanes o)) read,
-      ap (λ (o : Option Lanes). past_read lanes_in lanes_text o (lanes_text a)) read ∙ ap (behind (lanes_text a)) e
-          ∙ behind-is (lanes_text a) [],
+      ap (λ (o : Option Lanes). past_read lanes_in lanes_text o (lanes_text a)) read ∙ ap (after_word (lanes_text a)) e
+          ∙ after_word-is (lanes_text a) [],
     )
 
 -- ---- each kind
@@ -372,7 +373,7 @@ unreadable-outcome : (l : List ℕ) → outcome_in (codes "unreadable " ++ l) �
 unfolding outcome_in
 unreadable-outcome l = refl
 
-verdict-read : (outcome : ListedVerdict) → is_outcome outcome ≡ true → IsRead (Verdict outcome)
+verdict-read : (outcome : ListedVerdict) → is_allowed_outcome outcome ≡ true → IsRead (Verdict outcome)
 unfolding row_in outcome_in row_text
 verdict-read Conforming h = refl
 verdict-read NeverIdle h = refl
@@ -394,7 +395,7 @@ verdict-read (Unreadable r instant line) h =
 pub row-read : (version : Version) (row : Row) → is_row version row ≡ true → row_in (row_text row) ≡ Some row
 unfolding is_row
 row-read version (Start instant) h = start-read instant h
-row-read version (Reset instant) h = reset-read instant (and_parts (tells_resets version) (is_number instant) h).1
+row-read version (Reset instant) h = reset-read instant (and_parts (includes_resets version) (is_number instant) h).1
 row-read version (OpenTenure start end) h =
     let p = and_parts (is_number start) (is_edge end) h in
     open_tenure-read start end p.0 p.1

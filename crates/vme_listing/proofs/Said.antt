@@ -20,7 +20,7 @@ use Rattle.vme_listing.specs.declared.row.Row.TheVariants.{FreeCycle, InterruptC
 use Rattle.vme_listing.specs.declared.row.Row.TheVariants.{Verdict}
 use Rattle.vme_listing.specs.RowText.{answer_text, class_text, data_text, direction_text, edge_text}
 use Rattle.vme_listing.specs.RowText.{hexadecimal, lanes_text, row_text, verdict_text}
-use Rattle.vme_listing.specs.Lines.{Left, address_left, answer_at, answer_left, begins, behind, break_by, break_in}
+use Rattle.vme_listing.specs.Lines.{Rest, address_left, after_word, answer_at, answer_left, break_by, break_in}
 use Rattle.vme_listing.specs.Lines.{class_at, class_left, close_left, cycle_at, cycle_end, data_at, digits_left}
 use Rattle.vme_listing.specs.Lines.{direction_at, edge_at, end_left, free_end, free_left, hexadecimal_at}
 use Rattle.vme_listing.specs.Lines.{hexadecimal_in}
@@ -28,11 +28,11 @@ use Rattle.vme_listing.specs.Lines.{interrupt_end, interrupt_left, lanes_at, lan
 use Rattle.vme_listing.specs.Lines.{named_break, no_lanes, number_at, number_in, of_left, open_left, outcome_in, past}
 use Rattle.vme_listing.specs.Lines.{past_answer, past_class, past_cycle, past_data, past_direction, past_edge}
 use Rattle.vme_listing.specs.Lines.{past_hexadecimal, past_lanes, past_modifier, past_number, past_small, past_tenure}
-use Rattle.vme_listing.specs.Lines.{past_transfer, row_in, slot_left, small_at, tenure_at, transfer_at, verdict_by}
-use Rattle.vme_listing.specs.Lines.{verdict_in, whole}
-use Rattle.vme_listing.proofs.Pieces.{behind-said, past-said, piece-said}
+use Rattle.vme_listing.specs.Lines.{past_transfer, row_in, slot_left, small_at, starts_with, tenure_at, transfer_at}
+use Rattle.vme_listing.specs.Lines.{verdict_by, verdict_in, whole}
+use Rattle.vme_listing.proofs.Pieces.{after_word-said, past-said, piece-said}
 
-module _ (left : Left) (more : List ℕ) where
+module _ (left : Rest) (more : List ℕ) where
   number-said : past_number left ≡ Some more → left ≡ Some (decimal (number_at left) ++ more)
   number-said e = piece-said number_in decimal 0 left more e
 
@@ -45,7 +45,7 @@ module _ (left : Left) (more : List ℕ) where
       by_test false e = absurd (none-some more e)
 
   edge-said : past_edge left ≡ Some more → left ≡ Some (edge_text (edge_at left) ++ more)
-  edge-said e = by_test (begins (codes "-") left) e
+  edge-said e = by_test (starts_with (codes "-") left) e
     where
       by_test : (b : Bool) → (if b then past (codes "-") left else past_number left) ≡ Some more
           → left ≡ Some (edge_text (if b then None else Some (number_at left)) ++ more)
@@ -66,7 +66,7 @@ module _ (left : Left) (more : List ℕ) where
 
   direction-said : past_direction left ≡ Some more → left ≡ Some (codes " " ++ (direction_text (direction_at left)
       ++ more))
-  direction-said e = by_test (begins (codes " read") left) e
+  direction-said e = by_test (starts_with (codes " read") left) e
     where
       by_test : (b : Bool) → (if b then past (codes " read") left else past (codes " write") left) ≡ Some more
           → left ≡ Some (codes " " ++ (direction_text (if b then Read else Write) ++ more))
@@ -75,7 +75,7 @@ module _ (left : Left) (more : List ℕ) where
 
   answer-said : past_answer left ≡ Some more
       → left ≡ Some (codes " " ++ (answer_text (answer_at left) ++ (codes " " ++ more)))
-  answer-said e = by_test (begins (codes " DTACK ") left) e
+  answer-said e = by_test (starts_with (codes " DTACK ") left) e
     where
       by_test : (b : Bool) → (if b then past (codes " DTACK ") left else past (codes " BERR ") left) ≡ Some more
           → left ≡ Some (codes " " ++ (answer_text (if b then Dtack else Berr) ++ (codes " " ++ more)))
@@ -84,7 +84,7 @@ module _ (left : Left) (more : List ℕ) where
 
   class-said : past_class left ≡ Some more
       → left ≡ Some (codes " " ++ (class_text (class_at left) ++ (codes " " ++ more)))
-  class-said e = by_test (begins (codes " S ") left) e
+  class-said e = by_test (starts_with (codes " S ") left) e
     where
       by_test : (b : Bool) → (if b then past (codes " S ") left else past (codes " K ") left) ≡ Some more
           → left ≡ Some (codes " " ++ (class_text (if b then class.S else class.K) ++ (codes " " ++ more)))
@@ -92,7 +92,7 @@ module _ (left : Left) (more : List ℕ) where
       by_test false e = past-said (codes " K ") left more e
 
   data-said : past_data left ≡ Some more → left ≡ Some (data_text (data_at left) ++ more)
-  data-said e = by_test (begins (codes " data ") left) e
+  data-said e = by_test (starts_with (codes " data ") left) e
     where
       by_test : (b : Bool) → (if b then past_lanes (past (codes " data ") left) else left) ≡ Some more
           → left ≡ Some (data_text (if b then Some (lanes_at (past (codes " data ") left)) else None) ++ more)
@@ -101,13 +101,13 @@ module _ (left : Left) (more : List ℕ) where
       by_test false e = e
 
 -- what follows the first word of a line is unique
-line-is : (left : Left) (line said : List ℕ) → left ≡ Some line → left ≡ Some said → line ≡ said
+line-is : (left : Rest) (line said : List ℕ) → left ≡ Some line → left ≡ Some said → line ≡ said
 line-is left line said h e = same_Some line said (sym h ∙ e)
 
-module _ (left : Left) (line : List ℕ) (h : left ≡ Some line) where
+module _ (left : Rest) (line : List ℕ) (h : left ≡ Some line) where
   tenure-said : past_tenure left ≡ Some [] → codes "tenure " ++ line ≡ row_text (tenure_at left)
   unfolding past_tenure tenure_at row_text
-  tenure-said e = by_test (begins (codes " open end ") (past_number left)) e
+  tenure-said e = by_test (starts_with (codes " open end ") (past_number left)) e
     where
       by_test : (b : Bool) → (if b then past_edge (open_left left) else past_edge (end_left left)) ≡ Some []
           → codes "tenure " ++ line ≡ row_text
@@ -153,7 +153,7 @@ module _ (left : Left) (line : List ℕ) (h : left ≡ Some line) where
 
   cycle-said : past_cycle left ≡ Some [] → codes "cycle " ++ line ≡ row_text (cycle_at left)
   unfolding past_cycle cycle_at
-  cycle-said e = by_test (begins (codes " I ") (past_number left)) (begins (codes " F ") (past_number left)) e
+  cycle-said e = by_test (starts_with (codes " I ") (past_number left)) (starts_with (codes " F ") (past_number left)) e
     where
       by_test : (b c : Bool) → (if b then past_edge (interrupt_end left) else if c then past_edge (free_end left)
           else past_edge (cycle_end left)) ≡ Some []
@@ -168,7 +168,7 @@ module _ (left : Left) (line : List ℕ) (h : left ≡ Some line) where
 
   transfer-said : past_transfer left ≡ Some [] → codes "transfer " ++ line ≡ row_text (transfer_at left)
   unfolding past_transfer transfer_at row_text
-  transfer-said e = by_test (begins (codes " of ") (past_number left)) e
+  transfer-said e = by_test (starts_with (codes " of ") (past_number left)) e
     where
       by_test : (b : Bool) → (if b then past_data (past_edge (close_left left))
           else past (codes " pending") (past_direction (past_number left))) ≡ Some []
@@ -202,7 +202,7 @@ module _ (kind : Rule → ℕ → ℕ → ListedVerdict) (word : List ℕ)
       ∙ ap (λ a. codes "verdict " ++ (word ++ (rule_name r ++ (codes " " ++ (decimal n ++ (codes " " ++ a))))))
       (line_named-found l name (sym o)).1
 
-  line-said : (r : Rule) (left last : Left) (verdict : ListedVerdict)
+  line-said : (r : Rule) (left last : Rest) (verdict : ListedVerdict)
       → past (codes " ") (past_number (past (codes " ") left)) ≡ last
       → named_break kind r (number_at (past (codes " ") left)) (line_in last) ≡ Some verdict
       → (name : List ℕ) × (left ≡ Some name)
@@ -224,7 +224,7 @@ module _ (kind : Rule → ℕ → ℕ → ListedVerdict) (word : List ℕ)
       (ap (λ a. a ++ name) (rule_named-found r (take 2 line) (sym o))
       ∙ ap (λ a. take 2 line ++ a) (sym (same_Some (drop 2 line) name left)) ∙ take-append-drop 2 line)
 
-  break-said : (left : Left) (verdict : ListedVerdict) → break_in kind left ≡ Some verdict
+  break-said : (left : Rest) (verdict : ListedVerdict) → break_in kind left ≡ Some verdict
       → (line : List ℕ) × (left ≡ Some line) × (verdict_text verdict ≡ codes "verdict " ++ (word ++ line))
   break-said None verdict e = absurd (none-some verdict e)
   break-said (Some line) verdict e = by_length (nat_le 2 (length line)) e
@@ -248,17 +248,17 @@ outcome-said : (line : List ℕ) (verdict : ListedVerdict) → outcome_in line �
     ≡ codes "verdict " ++ line
 unfolding outcome_in
 outcome-said line verdict e = by_tests (bytes_eq line (codes "conforming")) (bytes_eq line (codes "never-idle"))
-    (begins (codes "broken ") (Some line)) refl refl e
+    (starts_with (codes "broken ") (Some line)) refl refl e
   where
     said : (kind : Rule → ℕ → ℕ → ListedVerdict) (word : List ℕ)
-        (b : (l : List ℕ) × (behind word line ≡ Some l) × (verdict_text verdict ≡ codes "verdict " ++ (word ++ l)))
+        (b : (l : List ℕ) × (after_word word line ≡ Some l) × (verdict_text verdict ≡ codes "verdict " ++ (word ++ l)))
         → verdict_text verdict ≡ codes "verdict " ++ line
-    said kind word b = b.2 ∙ ap (λ l. codes "verdict " ++ l) (sym (behind-said word line b.0 b.1))
+    said kind word b = b.2 ∙ ap (λ l. codes "verdict " ++ l) (sym (after_word-said word line b.0 b.1))
 
     by_tests : (a b c : Bool) → bytes_eq line (codes "conforming") ≡ a → bytes_eq line (codes "never-idle") ≡ b
         → (if a then Some Conforming else if b then Some NeverIdle
-        else if c then break_in Broken (behind (codes "broken ") line)
-        else break_in Unreadable (behind (codes "unreadable ") line)) ≡ Some verdict
+        else if c then break_in Broken (after_word (codes "broken ") line)
+        else break_in Unreadable (after_word (codes "unreadable ") line)) ≡ Some verdict
         → verdict_text verdict ≡ codes "verdict " ++ line
     by_tests true b c f g e =
         ap verdict_text (sym (same_Some Conforming verdict e)) ∙ ap (λ l. codes "verdict " ++ l) (sym (same_text _ _ f))
@@ -269,39 +269,39 @@ outcome-said line verdict e = by_tests (bytes_eq line (codes "conforming")) (byt
     by_tests false false false f g e =
         said Unreadable (codes "unreadable ") (break-said Unreadable (codes "unreadable ") unreadable_text _ verdict e)
 
-whole-is : (row : Row) (left : Left) (result : Row) → whole row left ≡ Some result → (left ≡ Some []) × (row ≡ result)
+whole-is : (row : Row) (left : Rest) (result : Row) → whole row left ≡ Some result → (left ≡ Some []) × (row ≡ result)
 whole-is row None result e = absurd (none-some result e)
 whole-is row (Some []) result e = (refl, same_Some row result e)
 whole-is row (Some (byte ∷ line)) result e = absurd (none-some result e)
 
 -- a row that is read after a first word has the whole line as its text
-first-said : (word line : List ℕ) (at : Left → Row) (past : Left → Left) (row : Row)
-    → ((left : Left) (l : List ℕ) → left ≡ Some l → past left ≡ Some [] → word ++ l ≡ row_text (at left))
-    → begins word (Some line) ≡ true → whole (at (behind word line)) (past (behind word line)) ≡ Some row
+first-said : (word line : List ℕ) (at : Rest → Row) (past : Rest → Rest) (row : Row)
+    → ((left : Rest) (l : List ℕ) → left ≡ Some l → past left ≡ Some [] → word ++ l ≡ row_text (at left))
+    → starts_with word (Some line) ≡ true → whole (at (after_word word line)) (past (after_word word line)) ≡ Some row
     → row_text row ≡ line
-first-said word line at past row said b e = by_left (behind word line) refl b e
+first-said word line at past row said b e = by_left (after_word word line) refl b e
   where
-    by_left : (o : Left) → behind word line ≡ o → begins word (Some line) ≡ true → whole (at o) (past o) ≡ Some row
-        → row_text row ≡ line
+    by_left : (o : Rest) → after_word word line ≡ o → starts_with word (Some line) ≡ true
+        → whole (at o) (past o) ≡ Some row → row_text row ≡ line
     by_left None s b e = absurd (cc)
     by_left (Some l) s b e =
         let w = whole-is (at (Some l)) (past (Some l)) row e in
-        ap row_text (sym w.1) ∙ (sym (said (Some l) l refl w.0) ∙ sym (behind-said word line l s))
+        ap row_text (sym w.1) ∙ (sym (said (Some l) l refl w.0) ∙ sym (after_word-said word line l s))
 
-start-said : (left : Left) (line : List ℕ) → left ≡ Some line → past_number left ≡ Some [] → codes "start " ++ line
+start-said : (left : Rest) (line : List ℕ) → left ≡ Some line → past_number left ≡ Some [] → codes "start " ++ line
     ≡ row_text (Start (number_at left))
 unfolding row_text
 start-said left line h e = rw (line-is left line _ h (number-said left [] e)) (simp append-nil)
 
-reset-said : (left : Left) (line : List ℕ) → left ≡ Some line → past_number left ≡ Some [] → codes "reset " ++ line
+reset-said : (left : Rest) (line : List ℕ) → left ≡ Some line → past_number left ≡ Some [] → codes "reset " ++ line
     ≡ row_text (Reset (number_at left))
 unfolding row_text
 reset-said left line h e = rw (line-is left line _ h (number-said left [] e)) (simp append-nil)
 
-verdict-said : (line : List ℕ) (row : Row) → verdict_in (behind (codes "verdict ") line) ≡ Some row → row_text row
+verdict-said : (line : List ℕ) (row : Row) → verdict_in (after_word (codes "verdict ") line) ≡ Some row → row_text row
     ≡ line
 unfolding row_text
-verdict-said line row e = by_left (behind (codes "verdict ") line) refl e
+verdict-said line row e = by_left (after_word (codes "verdict ") line) refl e
   where
     by_outcome : (l : List ℕ) (o : Option ListedVerdict) → line ≡ codes "verdict " ++ l → outcome_in l ≡ o
         → verdict_by o ≡ Some row → row_text row ≡ line
@@ -309,29 +309,34 @@ verdict-said line row e = by_left (behind (codes "verdict ") line) refl e
     by_outcome l (Some verdict) s f e =
         ap row_text (sym (same_Some (Verdict verdict) row e)) ∙ outcome-said l verdict f ∙ sym s
 
-    by_left : (o : Left) → behind (codes "verdict ") line ≡ o → verdict_in o ≡ Some row → row_text row ≡ line
+    by_left : (o : Rest) → after_word (codes "verdict ") line ≡ o → verdict_in o ≡ Some row → row_text row ≡ line
     by_left None s e = absurd (none-some row e)
-    by_left (Some l) s e = by_outcome l (outcome_in l) (behind-said (codes "verdict ") line l s) refl e
+    by_left (Some l) s e = by_outcome l (outcome_in l) (after_word-said (codes "verdict ") line l s) refl e
 
 pub row-said : (line : List ℕ) (row : Row) → row_in line ≡ Some row → row_text row ≡ line
 unfolding row_in
 row-said line row e =
-    by_tests (begins (codes "transfer ") (Some line)) (begins (codes "cycle ") (Some line))
-    (begins (codes "tenure ") (Some line)) (begins (codes "start ") (Some line)) (begins (codes "reset ") (Some line))
-    refl refl refl refl refl e
+    by_tests (starts_with (codes "transfer ") (Some line)) (starts_with (codes "cycle ") (Some line))
+    (starts_with (codes "tenure ") (Some line)) (starts_with (codes "start ") (Some line))
+    (starts_with (codes "reset ") (Some line)) refl refl refl refl refl e
   where
-    by_tests : (a b c d f : Bool) → begins (codes "transfer ") (Some line) ≡ a → begins (codes "cycle ") (Some line) ≡ b
-        → begins (codes "tenure ") (Some line) ≡ c → begins (codes "start ") (Some line) ≡ d
-        → begins (codes "reset ") (Some line) ≡ f
+    by_tests : (a b c d f : Bool) → starts_with (codes "transfer ") (Some line) ≡ a
+        → starts_with (codes "cycle ") (Some line) ≡ b → starts_with (codes "tenure ") (Some line) ≡ c
+        → starts_with (codes "start ") (Some line) ≡ d → starts_with (codes "reset ") (Some line) ≡ f
         → (if a
-        then whole (transfer_at (behind (codes "transfer ") line)) (past_transfer (behind (codes "transfer ") line))
-        else if b then whole (cycle_at (behind (codes "cycle ") line)) (past_cycle (behind (codes "cycle ") line))
-        else if c then whole (tenure_at (behind (codes "tenure ") line)) (past_tenure (behind (codes "tenure ") line))
+        then whole (transfer_at (after_word (codes "transfer ") line))
+        (past_transfer (after_word (codes "transfer ") line))
+        else if b
+        then whole (cycle_at (after_word (codes "cycle ") line)) (past_cycle (after_word (codes "cycle ") line))
+        else if c
+        then whole (tenure_at (after_word (codes "tenure ") line)) (past_tenure (after_word (codes "tenure ") line))
         else if d
-        then whole (Start (number_at (behind (codes "start ") line))) (past_number (behind (codes "start ") line))
+        then whole (Start (number_at (after_word (codes "start ") line)))
+        (past_number (after_word (codes "start ") line))
         else if f
-        then whole (Reset (number_at (behind (codes "reset ") line))) (past_number (behind (codes "reset ") line))
-        else verdict_in (behind (codes "verdict ") line)) ≡ Some row
+        then whole (Reset (number_at (after_word (codes "reset ") line)))
+        (past_number (after_word (codes "reset ") line))
+        else verdict_in (after_word (codes "verdict ") line)) ≡ Some row
         → row_text row ≡ line
     by_tests true b c d f ta tb tc td tf e =
         first-said (codes "transfer ") line transfer_at past_transfer row transfer-said ta e

@@ -18,9 +18,8 @@ use Rattle.vme_trace.specs.declared.rule.Rule.{Rule}
 use Rattle.vme_trace.specs.declared.rule.Rule.TheVariants.{U2, B4}
 use Rattle.vme_trace.specs.declared.verdict.Break.{Break}
 use Rattle.vme_trace.proofs.JudgedSpans.{AreInOrder, spans_in_order, starts_before_end}
-use Rattle.vme_listing.specs.Places.{follows, is_later_place, is_never_idle, is_outcome, is_reset, is_rest, is_row}
-use Rattle.vme_listing.specs.Places.{is_start}
-use Rattle.vme_listing.specs.Places.{is_verdict, is_well_placed, never_idles, place_of}
+use Rattle.vme_listing.specs.Places.{follows, is_allowed_outcome, is_later_place, is_never_idle, is_reset, is_rest}
+use Rattle.vme_listing.specs.Places.{is_row, is_start, is_verdict, is_well_placed, never_idles, place_of}
 use Rattle.vme_listing.specs.Recorded.{cycle_rows, listed_end, listing_before, listing_by, recorded_rows}
 use Rattle.vme_listing.specs.Recorded.{listing_of_spans, outcome_of, reset_rows, rows_before, rows_of_span, tenure_rows}
 use Rattle.vme_listing.specs.Recorded.{transfer_rows}
@@ -121,7 +120,7 @@ group before i kind (row ∷ []) more one p rest = both _ _ (follows_on before r
 group before i kind (row ∷ next ∷ rows) more one p rest = absurd one
 
 -- the verdict may follow a row that isn't a verdict
-last_is : (row : Row) (found : Option Break) → is_outcome (outcome_of found) ≡ true → is_verdict row ≡ false
+last_is : (row : Row) (found : Option Break) → is_allowed_outcome (outcome_of found) ≡ true → is_verdict row ≡ false
     → is_rest Three (Some row) (Verdict (outcome_of found) ∷ []) ≡ true
 unfolding is_rest follows is_row
 last_is row found is e =
@@ -145,11 +144,11 @@ last_is row found is e =
     named (Some b) = by_rule b (is_unreadable b.rule) refl
 
 -- the rules before a rule, and those after it
-abbrev till : Rule → List Rule
-till r = take (rule_number r) all_rules
+abbrev rules_before : Rule → List Rule
+rules_before r = take (rule_number r) all_rules
 
-abbrev behind : Rule → List Rule
-behind r = drop (rule_number r + 1) all_rules
+abbrev rules_after : Rule → List Rule
+rules_after r = drop (rule_number r + 1) all_rules
 
 last_or_before : (i s : ℕ) → s < suc i → (s ≡ i) ⊎ (s < i)
 last_or_before i s h = grind arith
@@ -265,7 +264,7 @@ module _ (t : Trace) (slots : t.opening.slots ≤ 21) (few : length t.steps < 2 
       ]
 
   outcome_form : (span : Stretch) (spans : List Stretch) → AreInOrder t (span ∷ spans) → (found : Option Break)
-      → least_of all_rules t (span ∷ spans) ≡ found → is_outcome (outcome_of found) ≡ true
+      → least_of all_rules t (span ∷ spans) ≡ found → is_allowed_outcome (outcome_of found) ≡ true
   outcome_form span spans order None e = refl
   outcome_form span spans order (Some b) e =
       let is = named span spans b order e in
@@ -273,7 +272,7 @@ module _ (t : Trace) (slots : t.opening.slots ≤ 21) (few : length t.steps < 2 
       (is_less b.line line_count is.line)
     where
       by_rule : (r : Bool) → is_unreadable b.rule ≡ r → nat_lt b.instant (2 ^ 32) ≡ true → nat_lt b.line line_count
-          ≡ true → is_outcome (outcome_of (Some b)) ≡ true
+          ≡ true → is_allowed_outcome (outcome_of (Some b)) ≡ true
       by_rule true h n l = rw (h, h, n, l) refl
       by_rule false h n l = rw (h, h, n, l) refl
 
@@ -314,15 +313,15 @@ module _ (t : Trace) (slots : t.opening.slots ≤ 21) (few : length t.steps < 2 
   held_always : (span : Stretch) → least_break t span all_rules ≡ None → (limit : ℕ) → limit ≤ last_instant t + 1
       → IsUnbroken limit span
   held_always span e limit most i l first below there = (
-    unbroken_always t span (till U2) (behind U2) U2 i l e (omega arith) there,
-    unbroken_always t span (till B4)
-        (behind B4) B4 i l e (omega arith) there,
+    unbroken_always t span (rules_before U2) (rules_after U2) U2 i l e (omega arith) there,
+    unbroken_always t span (rules_before B4)
+        (rules_after B4) B4 i l e (omega arith) there,
   )
 
   held_before : (span : Stretch) (b : Break) → least_break t span all_rules ≡ Some b → IsUnbroken b.instant span
   held_before span b e i l first below there = (
-    unbroken_before t span (till U2) (behind U2) U2 b i l e below there,
-    unbroken_before t span (till B4) (behind B4)
+    unbroken_before t span (rules_before U2) (rules_after U2) U2 b i l e below there,
+    unbroken_before t span (rules_before B4) (rules_after B4)
         B4 b i l e below there,
   )
 
@@ -379,7 +378,7 @@ module _ (t : Trace) (slots : t.opening.slots ≤ 21) (few : length t.steps < 2 
         higher : (i j : ℕ) → i < j → (nat_lt i j || ((i == j) && nat_lt 0 1)) ≡ true
         higher i j h = grind (arith, nat_tests)
 
-    module _ (found : Option Break) (is : is_outcome (outcome_of found) ≡ true) where
+    module _ (found : Option Break) (is : is_allowed_outcome (outcome_of found) ≡ true) where
       abbrev verdict : List Row
       verdict = Verdict (outcome_of found) ∷ []
 

@@ -26,29 +26,29 @@ use Rattle.vme_listing.specs.declared.row.Row.TheVariants.{FreeCycle, InterruptC
 use Rattle.vme_listing.specs.declared.row.Row.TheVariants.{Verdict}
 
 -- the bytes of a line after the pieces that were read, or None if one of the pieces wasn't there
-abbrev pub Left : Type 0
-Left = Option (List ℕ)
+abbrev pub Rest : Type 0
+Rest = Option (List ℕ)
 
 -- the bytes of the line after the word, or None if the line doesn't begin with the word
-abbrev pub behind : List ℕ → List ℕ → Left
-behind [] line = Some line
-behind (byte ∷ word) [] = None
-behind (byte ∷ word) (first ∷ line) = if byte == first then behind word line else None
+abbrev pub after_word : List ℕ → List ℕ → Rest
+after_word [] line = Some line
+after_word (byte ∷ word) [] = None
+after_word (byte ∷ word) (first ∷ line) = if byte == first then after_word word line else None
 
-abbrev pub past : List ℕ → Left → Left
+abbrev pub past : List ℕ → Rest → Rest
 past word None = None
-past word (Some line) = behind word line
+past word (Some line) = after_word word line
 
-abbrev pub begins : List ℕ → Left → Bool
-begins word left = is_some (past word left)
+abbrev pub starts_with : List ℕ → Rest → Bool
+starts_with word left = is_some (past word left)
 
 -- what is left of a line after a piece: `read` gives the piece at the start of a line, and `text` its text
 module _ {A : Type 0} (read : List ℕ → Option A) (text : A → List ℕ) where
-  abbrev pub past_read : Option A → List ℕ → Left
+  abbrev pub past_read : Option A → List ℕ → Rest
   past_read None line = None
-  past_read (Some x) line = behind (text x) line
+  past_read (Some x) line = after_word (text x) line
 
-  abbrev pub past_piece : Left → Left
+  abbrev pub past_piece : Rest → Rest
   past_piece None = None
   past_piece (Some line) = past_read (read line) line
 
@@ -58,7 +58,7 @@ module _ {A : Type 0} (read : List ℕ → Option A) (other : A) where
   or_other None = other
   or_other (Some x) = x
 
-  abbrev pub piece : Left → A
+  abbrev pub piece : Rest → A
   piece None = other
   piece (Some line) = or_other (read line)
 
@@ -101,172 +101,172 @@ lanes_in line =
     if bytes_eq (lanes_text (lanes_of (take 8 line))) (take 8 line) then Some (lanes_of (take 8 line)) else None
 
 -- what is left after a word that may be there or not
-abbrev pub skipped : List ℕ → Left → Left
-skipped word left = if begins word left then past word left else left
+abbrev pub skipped : List ℕ → Rest → Rest
+skipped word left = if starts_with word left then past word left else left
 
-module _ (left : Left) where
+module _ (left : Rest) where
   abbrev pub number_at : ℕ
   number_at = piece number_in 0 left
 
-  abbrev pub past_number : Left
+  abbrev pub past_number : Rest
   past_number = past_piece number_in decimal left
 
   -- the number that is read, where it is below 256, else 0
   abbrev pub small_at : ℕ
   small_at = if nat_lt number_at 256 then number_at else 0
 
-  abbrev pub past_small : Left
+  abbrev pub past_small : Rest
   past_small = if nat_lt number_at 256 then past_number else None
 
   abbrev pub edge_at : Option ℕ
-  edge_at = if begins (codes "-") left then None else Some number_at
+  edge_at = if starts_with (codes "-") left then None else Some number_at
 
-  abbrev pub past_edge : Left
-  past_edge = if begins (codes "-") left then past (codes "-") left else past_number
+  abbrev pub past_edge : Rest
+  past_edge = if starts_with (codes "-") left then past (codes "-") left else past_number
 
   abbrev pub hexadecimal_at : ℕ → ℕ
   hexadecimal_at digits = piece (hexadecimal_in digits) 0 left
 
-  abbrev pub past_hexadecimal : ℕ → Left
+  abbrev pub past_hexadecimal : ℕ → Rest
   past_hexadecimal digits = past_piece (hexadecimal_in digits) (hexadecimal digits) left
 
   abbrev pub modifier_at : ℕ
   modifier_at = if nat_lt (hexadecimal_at 2) 256 then hexadecimal_at 2 else 0
 
-  abbrev pub past_modifier : Left
+  abbrev pub past_modifier : Rest
   past_modifier = if nat_lt (hexadecimal_at 2) 256 then past_hexadecimal 2 else None
 
   abbrev pub direction_at : Direction
-  direction_at = if begins (codes " read") left then Read else Write
+  direction_at = if starts_with (codes " read") left then Read else Write
 
-  abbrev pub past_direction : Left
-  past_direction = if begins (codes " read") left then past (codes " read") left else past (codes " write") left
+  abbrev pub past_direction : Rest
+  past_direction = if starts_with (codes " read") left then past (codes " read") left else past (codes " write") left
 
   abbrev pub answer_at : AnswerLine
-  answer_at = if begins (codes " DTACK ") left then Dtack else Berr
+  answer_at = if starts_with (codes " DTACK ") left then Dtack else Berr
 
-  abbrev pub past_answer : Left
-  past_answer = if begins (codes " DTACK ") left then past (codes " DTACK ") left else past (codes " BERR ") left
+  abbrev pub past_answer : Rest
+  past_answer = if starts_with (codes " DTACK ") left then past (codes " DTACK ") left else past (codes " BERR ") left
 
   abbrev pub class_at : Class
-  class_at = if begins (codes " S ") left then class.S else class.K
+  class_at = if starts_with (codes " S ") left then class.S else class.K
 
-  abbrev pub past_class : Left
-  past_class = if begins (codes " S ") left then past (codes " S ") left else past (codes " K ") left
+  abbrev pub past_class : Rest
+  past_class = if starts_with (codes " S ") left then past (codes " S ") left else past (codes " K ") left
 
   abbrev pub lanes_at : Lanes
   lanes_at = piece lanes_in no_lanes left
 
-  abbrev pub past_lanes : Left
+  abbrev pub past_lanes : Rest
   past_lanes = past_piece lanes_in lanes_text left
 
-module _ (left : Left) where
+module _ (left : Rest) where
   -- the data of a transfer: None where the word " data " isn't there
   abbrev pub data_at : Option Lanes
-  data_at = if begins (codes " data ") left then Some (lanes_at (past (codes " data ") left)) else None
+  data_at = if starts_with (codes " data ") left then Some (lanes_at (past (codes " data ") left)) else None
 
-  abbrev pub past_data : Left
-  past_data = if begins (codes " data ") left then past_lanes (past (codes " data ") left) else left
+  abbrev pub past_data : Rest
+  past_data = if starts_with (codes " data ") left then past_lanes (past (codes " data ") left) else left
 
 -- the row after its first word, and what is left after the row. `*_left` and `*_end` are what is left before a piece,
 -- but `digits_left` is how many digits the address has
-module _ (left : Left) where
-  abbrev pub level_left : Left
+module _ (left : Rest) where
+  abbrev pub level_left : Rest
   level_left = past (codes " level ") (past_number left)
 
-  abbrev pub slot_left : Left
+  abbrev pub slot_left : Rest
   slot_left = past (codes " slot ") (past_small level_left)
 
-  abbrev pub end_left : Left
+  abbrev pub end_left : Rest
   end_left = past (codes " end ") (past_small slot_left)
 
-  abbrev pub open_left : Left
+  abbrev pub open_left : Rest
   open_left = past (codes " open end ") (past_number left)
 
   unfoldable pub tenure_at : Row
   tenure_at =
-      if begins (codes " open end ") (past_number left) then OpenTenure (number_at left) (edge_at open_left)
+      if starts_with (codes " open end ") (past_number left) then OpenTenure (number_at left) (edge_at open_left)
       else Tenure (number_at left) (small_at level_left) (small_at slot_left) (edge_at end_left)
 
-  unfoldable pub past_tenure : Left
-  past_tenure = if begins (codes " open end ") (past_number left) then past_edge open_left else past_edge end_left
+  unfoldable pub past_tenure : Rest
+  past_tenure = if starts_with (codes " open end ") (past_number left) then past_edge open_left else past_edge end_left
 
-  abbrev pub interrupt_left : Left
+  abbrev pub interrupt_left : Rest
   interrupt_left = past (codes " I ") (past_number left)
 
-  abbrev pub interrupt_end : Left
+  abbrev pub interrupt_end : Rest
   interrupt_end = past (codes " end ") (past_small interrupt_left)
 
-  abbrev pub free_left : Left
+  abbrev pub free_left : Rest
   free_left = past (codes " F ") (past_number left)
 
-  abbrev pub free_end : Left
+  abbrev pub free_end : Rest
   free_end = past (codes " end ") (past_modifier free_left)
 
-  abbrev pub class_left : Left
+  abbrev pub class_left : Rest
   class_left = past_class (past_number left)
 
-  abbrev pub address_left : Left
+  abbrev pub address_left : Rest
   address_left = past (codes " ") (past_modifier class_left)
 
   abbrev pub digits_left : ℕ
   digits_left = address_digits (modifier_at class_left)
 
-  abbrev pub cycle_end : Left
+  abbrev pub cycle_end : Rest
   cycle_end = past (codes " end ") (past_hexadecimal address_left digits_left)
 
   unfoldable pub cycle_at : Row
   cycle_at =
-      if begins (codes " I ") (past_number left)
+      if starts_with (codes " I ") (past_number left)
       then InterruptCycle (number_at left) (small_at interrupt_left) (edge_at interrupt_end)
-      else if begins (codes " F ") (past_number left)
+      else if starts_with (codes " F ") (past_number left)
       then FreeCycle (number_at left) (modifier_at free_left) (edge_at free_end)
       else AddressedCycle (number_at left) (class_at (past_number left)) (modifier_at class_left)
       (hexadecimal_at address_left digits_left) (edge_at cycle_end)
 
-  unfoldable pub past_cycle : Left
+  unfoldable pub past_cycle : Rest
   past_cycle =
-      if begins (codes " I ") (past_number left) then past_edge interrupt_end
-      else if begins (codes " F ") (past_number left) then past_edge free_end
+      if starts_with (codes " I ") (past_number left) then past_edge interrupt_end
+      else if starts_with (codes " F ") (past_number left) then past_edge free_end
       else past_edge cycle_end
 
-  abbrev pub of_left : Left
+  abbrev pub of_left : Rest
   of_left = past (codes " of ") (past_number left)
 
-  abbrev pub answer_left : Left
+  abbrev pub answer_left : Rest
   answer_left = past_direction (past_number of_left)
 
-  abbrev pub close_left : Left
+  abbrev pub close_left : Rest
   close_left = past (codes " close ") (past_number (past_answer answer_left))
 
   unfoldable pub transfer_at : Row
   transfer_at =
-      if begins (codes " of ") (past_number left)
+      if starts_with (codes " of ") (past_number left)
       then Transfer (direction_at (past_number of_left)) (answer_at answer_left) (number_at left) (number_at of_left)
       (number_at (past_answer answer_left)) (edge_at close_left) (data_at (past_edge close_left))
       else PendingTransfer (number_at left) (direction_at (past_number left))
 
-  unfoldable pub past_transfer : Left
+  unfoldable pub past_transfer : Rest
   past_transfer =
-      if begins (codes " of ") (past_number left) then past_data (past_edge close_left)
+      if starts_with (codes " of ") (past_number left) then past_data (past_edge close_left)
       else past (codes " pending") (past_direction (past_number left))
 
 abbrev pub named_break : (Rule → ℕ → ℕ → ListedVerdict) → Rule → ℕ → Option ℕ → Option ListedVerdict
 named_break kind rule instant None = None
 named_break kind rule instant (Some line) = Some (kind rule instant line)
 
-abbrev pub line_in : Left → Option ℕ
+abbrev pub line_in : Rest → Option ℕ
 line_in None = None
 line_in (Some line) = line_named line
 
-abbrev pub break_by : (Rule → ℕ → ℕ → ListedVerdict) → Option Rule → Left → Option ListedVerdict
+abbrev pub break_by : (Rule → ℕ → ℕ → ListedVerdict) → Option Rule → Rest → Option ListedVerdict
 break_by kind None left = None
 break_by kind (Some rule) left =
     named_break kind rule (number_at (past (codes " ") left)) (line_in (past (codes " ") (past_number (past
     (codes " ") left))))
 
 -- the break that is read after the word of its kind
-abbrev pub break_in : (Rule → ℕ → ℕ → ListedVerdict) → Left → Option ListedVerdict
+abbrev pub break_in : (Rule → ℕ → ℕ → ListedVerdict) → Rest → Option ListedVerdict
 break_in kind None = None
 break_in kind (Some line) =
     if nat_le 2 (length line) then break_by kind (rule_named (take 2 line)) (Some (drop 2 line)) else None
@@ -275,11 +275,11 @@ unfoldable pub outcome_in : List ℕ → Option ListedVerdict
 outcome_in line =
     if bytes_eq line (codes "conforming") then Some Conforming
     else if bytes_eq line (codes "never-idle") then Some NeverIdle
-    else if begins (codes "broken ") (Some line) then break_in Broken (behind (codes "broken ") line)
-    else break_in Unreadable (behind (codes "unreadable ") line)
+    else if starts_with (codes "broken ") (Some line) then break_in Broken (after_word (codes "broken ") line)
+    else break_in Unreadable (after_word (codes "unreadable ") line)
 
 -- the row, if the whole line was read
-abbrev pub whole : Row → Left → Option Row
+abbrev pub whole : Row → Rest → Option Row
 whole row None = None
 whole row (Some []) = Some row
 whole row (Some (byte ∷ line)) = None
@@ -288,21 +288,21 @@ abbrev pub verdict_by : Option ListedVerdict → Option Row
 verdict_by None = None
 verdict_by (Some outcome) = Some (Verdict outcome)
 
-abbrev pub verdict_in : Left → Option Row
+abbrev pub verdict_in : Rest → Option Row
 verdict_in None = None
 verdict_in (Some line) = verdict_by (outcome_in line)
 
 -- the row whose text a line is
 unfoldable pub row_in : List ℕ → Option Row
 row_in line =
-    if begins (codes "transfer ") (Some line)
-    then whole (transfer_at (behind (codes "transfer ") line)) (past_transfer (behind (codes "transfer ") line))
-    else if begins (codes "cycle ") (Some line)
-    then whole (cycle_at (behind (codes "cycle ") line)) (past_cycle (behind (codes "cycle ") line))
-    else if begins (codes "tenure ") (Some line)
-    then whole (tenure_at (behind (codes "tenure ") line)) (past_tenure (behind (codes "tenure ") line))
-    else if begins (codes "start ") (Some line)
-    then whole (Start (number_at (behind (codes "start ") line))) (past_number (behind (codes "start ") line))
-    else if begins (codes "reset ") (Some line)
-    then whole (Reset (number_at (behind (codes "reset ") line))) (past_number (behind (codes "reset ") line))
-    else verdict_in (behind (codes "verdict ") line)
+    if starts_with (codes "transfer ") (Some line)
+    then whole (transfer_at (after_word (codes "transfer ") line)) (past_transfer (after_word (codes "transfer ") line))
+    else if starts_with (codes "cycle ") (Some line)
+    then whole (cycle_at (after_word (codes "cycle ") line)) (past_cycle (after_word (codes "cycle ") line))
+    else if starts_with (codes "tenure ") (Some line)
+    then whole (tenure_at (after_word (codes "tenure ") line)) (past_tenure (after_word (codes "tenure ") line))
+    else if starts_with (codes "start ") (Some line)
+    then whole (Start (number_at (after_word (codes "start ") line))) (past_number (after_word (codes "start ") line))
+    else if starts_with (codes "reset ") (Some line)
+    then whole (Reset (number_at (after_word (codes "reset ") line))) (past_number (after_word (codes "reset ") line))
+    else verdict_in (after_word (codes "verdict ") line)

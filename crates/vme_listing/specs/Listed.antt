@@ -5,16 +5,16 @@ use Rattle.vme_listing.specs.declared.row.Version.{Version}
 use Rattle.vme_listing.specs.declared.row.Version.TheVariants.{One, Two, Three}
 
 -- the rows of answered writes have their data
-abbrev pub tells_data : Version → Bool
-tells_data One = false
-tells_data Two = true
-tells_data Three = true
+abbrev pub includes_data : Version → Bool
+includes_data One = false
+includes_data Two = true
+includes_data Three = true
 
 -- resets have rows
-abbrev pub tells_resets : Version → Bool
-tells_resets One = false
-tells_resets Two = false
-tells_resets Three = true
+abbrev pub includes_resets : Version → Bool
+includes_resets One = false
+includes_resets Two = false
+includes_resets Three = true
 
 pub record Listed : Type 0 where
   pub version : Version

@@ -10,7 +10,7 @@ use Rattle.vme_trace.specs.declared.class.Class.{Class}
 use Rattle.vme_trace.specs.declared.class.Class.TheVariants as class
 use Rattle.vme_trace.specs.declared.data.Lanes.{Lanes}
 use Rattle.vme_listing.specs.LaneDigits.{is_moved_in, digit_in, flag_in}
-use Rattle.vme_listing.specs.Listed.{Listed, tells_data, tells_resets}
+use Rattle.vme_listing.specs.Listed.{Listed, includes_data, includes_resets}
 use Rattle.vme_listing.specs.declared.row.Direction.{Direction}
 use Rattle.vme_listing.specs.declared.row.Direction.TheVariants.{Read, Write}
 use Rattle.vme_listing.specs.declared.row.Version.{Version}
@@ -41,27 +41,28 @@ abbrev pub is_address : ℕ → ℕ → Bool
 is_address modifier address = not (highest_address modifier == 0)
     && nat_lt address (2 ^ (highest_address modifier + 1)) && (address % 2 == 0)
 
-abbrev pub is_outcome : ListedVerdict → Bool
-is_outcome Conforming = true
-is_outcome NeverIdle = true
-is_outcome (Broken rule instant line) = not (is_unreadable rule) && is_number instant && nat_lt line line_count
-is_outcome (Unreadable rule instant line) = is_unreadable rule && is_number instant && nat_lt line line_count
+abbrev pub is_allowed_outcome : ListedVerdict → Bool
+is_allowed_outcome Conforming = true
+is_allowed_outcome NeverIdle = true
+is_allowed_outcome (Broken rule instant line) = not (is_unreadable rule) && is_number instant && nat_lt line line_count
+is_allowed_outcome (Unreadable rule instant line) = is_unreadable rule && is_number instant && nat_lt line line_count
 
 -- a digit is unknown only where it is moved, and is other than 0 only where it is moved and known
-abbrev pub is_digit : Bool → ℕ → ℕ → Bool
-is_digit moved digit flag = (moved || (flag == 0)) && ((moved && (flag == 0)) || (digit == 0))
+abbrev pub is_allowed_digit : Bool → ℕ → ℕ → Bool
+is_allowed_digit moved digit flag = (moved || (flag == 0)) && ((moved && (flag == 0)) || (digit == 0))
 
-abbrev pub is_digit_in : Lanes → ℕ → Bool
-is_digit_in a place = is_digit (is_moved_in a place) (digit_in a place) (flag_in a place)
+abbrev pub is_allowed_digit_in : Lanes → ℕ → Bool
+is_allowed_digit_in a place = is_allowed_digit (is_moved_in a place) (digit_in a place) (flag_in a place)
 
 -- the four digits from `place` on are ones that the form of data allows
 abbrev pub are_digits_from : Lanes → ℕ → Bool
 are_digits_from a place =
-    is_digit_in a place && is_digit_in a (place + 1) && is_digit_in a (place + 2) && is_digit_in a (place + 3)
+    is_allowed_digit_in a place && is_allowed_digit_in a (place + 1) && is_allowed_digit_in a (place + 2)
+    && is_allowed_digit_in a (place + 3)
 
 -- the value is below 2^32, `unknown` is below 256, and all eight digits are ones that the form of data allows
-unfoldable pub is_lanes : Lanes → Bool
-is_lanes a = nat_lt a.value (2 ^ 32) && nat_lt a.unknown 256 && are_digits_from a 0 && are_digits_from a 4
+unfoldable pub is_allowed_data : Lanes → Bool
+is_allowed_data a = nat_lt a.value (2 ^ 32) && nat_lt a.unknown 256 && are_digits_from a 0 && are_digits_from a 4
 
 abbrev pub is_write : Direction → Bool
 is_write Read = false
@@ -69,13 +70,13 @@ is_write Write = true
 
 -- the row of an answered write has data where the version has them; no other row has data
 abbrev pub has_data : Version → Direction → Option Lanes → Bool
-has_data version direction None = not (tells_data version && is_write direction)
-has_data version direction (Some a) = tells_data version && is_write direction && is_lanes a
+has_data version direction None = not (includes_data version && is_write direction)
+has_data version direction (Some a) = includes_data version && is_write direction && is_allowed_data a
 
 -- the row is one that its form allows
 unfoldable pub is_row : Version → Row → Bool
 is_row version (Start instant) = is_number instant
-is_row version (Reset instant) = tells_resets version && is_number instant
+is_row version (Reset instant) = includes_resets version && is_number instant
 is_row version (OpenTenure start end) = is_number start && is_edge end
 is_row version (Tenure start level slot end) =
     is_number start && nat_lt level 4 && nat_le 1 slot && nat_le slot 21 && is_edge end
@@ -87,7 +88,7 @@ is_row version (InterruptCycle start level end) = is_number start && nat_lt leve
 is_row version (Transfer direction line start cycle answer close lanes) =
     is_number start && is_number cycle && is_number answer && is_edge close && has_data version direction lanes
 is_row version (PendingTransfer start direction) = is_number start
-is_row version (Verdict outcome) = is_outcome outcome
+is_row version (Verdict outcome) = is_allowed_outcome outcome
 
 abbrev pub is_start : Row → Bool
 is_start (Start instant) = true
@@ -146,7 +147,7 @@ is_never_idle (Verdict outcome) = never_idles outcome
 -- the place of a row: its first instant, and the number of its kind in the order of the kinds. The verdict has no
 -- place, and a start has one only where the version has resets
 abbrev pub place_of : Version → Row → Option (ℕ × ℕ)
-place_of version (Start instant) = if tells_resets version then Some (instant, 1) else None
+place_of version (Start instant) = if includes_resets version then Some (instant, 1) else None
 place_of version (Reset instant) = Some (instant, 0)
 place_of version (OpenTenure start end) = Some (start, 2)
 place_of version (Tenure start level slot end) = Some (start, 2)
@@ -191,8 +192,8 @@ is_rest version before [] = ends_listing before
 is_rest version before (row ∷ rows) = follows version before row && is_rest version (Some row) rows
 
 -- a listing of the version can have these rows: the version has resets, or none of the rows is a reset
-abbrev pub can_tell : Version → List Row → Bool
-can_tell version rows = tells_resets version || list_all (λ row. not (is_reset row)) rows
+abbrev pub can_include : Version → List Row → Bool
+can_include version rows = includes_resets version || list_all (λ row. not (is_reset row)) rows
 
 abbrev pub is_well_placed : Listed → Bool
 is_well_placed l = is_rest l.version None l.rows

@@ -53,19 +53,19 @@ IsRowFault version rows rest (Unsorted n) = (n ≡ length rows + 1) × IsUnsorte
 IsRowFault version rows rest Memory = ⊥
 
 -- `rows` were read, and may follow one another; the last of them isn't a verdict, and the next row has the fault
-abbrev pub IsFaultBehind : List ℕ → ListFault → Version → List Row → List ℕ → Type 0
-IsFaultBehind text fault version rows rest =
+abbrev pub IsFaultAfter : List ℕ → ListFault → Version → List Row → List ℕ → Type 0
+IsFaultAfter text fault version rows rest =
     IsRead text version rows rest × IsUnfinished rows × IsRowFault version rows rest fault
 
-abbrev pub HasFaultBehind : List ℕ → ListFault → Type 0
-HasFaultBehind text fault =
-    (version : Version) × (rows : List Row) × (rest : List ℕ) × IsFaultBehind text fault version rows rest
+abbrev pub HasFaultAfter : List ℕ → ListFault → Type 0
+HasFaultAfter text fault =
+    (version : Version) × (rows : List Row) × (rest : List ℕ) × IsFaultAfter text fault version rows rest
 
 -- the text has this fault, and none before it
 abbrev pub IsFirstFault : List ℕ → ListFault → Type 0
 IsFirstFault text BadHeader = (version : Version) (rest : List ℕ) → text ≢ header version ++ rest
-IsFirstFault text (BadRow n) = HasFaultBehind text (BadRow n)
-IsFirstFault text (Unsorted n) = HasFaultBehind text (Unsorted n)
+IsFirstFault text (BadRow n) = HasFaultAfter text (BadRow n)
+IsFirstFault text (Unsorted n) = HasFaultAfter text (Unsorted n)
 IsFirstFault text Memory = Unit {0}
 
 -- no well placed listing has this text

@@ -25,7 +25,7 @@ use Rattle.vme_listing.specs.declared.row.Direction.{Direction}
 use Rattle.vme_listing.specs.declared.row.Direction.TheVariants.{Read, Write}
 use Rattle.vme_listing.specs.declared.row.ListedVerdict.{ListedVerdict}
 use Rattle.vme_listing.specs.declared.row.ListedVerdict.TheVariants.{Conforming, NeverIdle, Broken, Unreadable}
-use Rattle.vme_listing.specs.Listed.{Listed, in_newest_version, tells_data}
+use Rattle.vme_listing.specs.Listed.{Listed, in_newest_version, includes_data}
 use Rattle.vme_listing.specs.declared.row.Version.{Version}
 use Rattle.vme_listing.specs.declared.row.Row.{Row}
 use Rattle.vme_listing.specs.declared.row.Row.TheVariants.{Start, Reset, OpenTenure, Tenure, AddressedCycle}
@@ -160,8 +160,8 @@ without_data (Verdict outcome) = Verdict outcome
 
 -- a row of a listing of the newest version, in a listing of this version
 abbrev pub row_in : Version → Row → Row
-row_in version row = if tells_data version then row else without_data row
+row_in version row = if includes_data version then row else without_data row
 
 -- the rows of a listing of the newest version, in a listing of this version
 unfoldable pub rows_in : Version → List Row → List Row
-rows_in version rows = if tells_data version then rows else map without_data rows
+rows_in version rows = if includes_data version then rows else map without_data rows

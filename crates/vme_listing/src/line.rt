@@ -12,7 +12,7 @@ ghost use Rattle.vme_listing.specs.declared.row.Row.{Row};
 ghost use Rattle.vme_listing.specs.declared.row.ListedVerdict.TheVariants.{Broken, Unreadable};
 ghost use Rattle.vme_listing.specs.Places.{is_row};
 ghost use Rattle.vme_listing.specs.RowText.{hexadecimal, row_text, lanes_text};
-ghost use Rattle.vme_listing.specs.Lines.{past, behind, begins, skipped, number_in, hexadecimal_in, lanes_in};
+ghost use Rattle.vme_listing.specs.Lines.{after_word, hexadecimal_in, lanes_in, number_in, past, skipped, starts_with};
 ghost use Rattle.vme_listing.specs.Lines.{is_hexadecimal, are_hexadecimal};
 ghost use Rattle.vme_listing.specs.Lines.{number_at, past_number, small_at, past_small, edge_at, past_edge};
 ghost use Rattle.vme_listing.specs.Lines.{hexadecimal_at, past_hexadecimal, modifier_at, past_modifier};
@@ -41,10 +41,10 @@ struct RowLine<'a> {
 }
 
 impl<'a> Model for RowLine<'a> {
-    ghost use Rattle.vme_listing.specs.Lines.{Left};
+    ghost use Rattle.vme_listing.specs.Lines.{Rest};
     ghost use Rattle.std.specs.Option.{option_map};
 
-    ghost Value = { Left };
+    ghost Value = { Rest };
 
     ghost view = { λ a. option_map (λ rest. rest.now) a.rest };
 }
@@ -85,7 +85,7 @@ fn has_leading_zero(count: usize, text: &[u8]) -> bool
 /// The number whose decimal text is at the start of `text`, and the bytes after it.
 fn front_number(text: &[u8]) -> Option<(u32, &[u8])>
     ensures number { IfSome result (λ front. number_in text.now ≡ Some front.0) }
-    ensures behind { IfSome result (λ front. behind (decimal front.0) text.now ≡ Some front.1.now) }
+    ensures rest { IfSome result (λ front. after_word (decimal front.0) text.now ≡ Some front.1.now) }
     ensures none { result ≡ None → number_in text.now ≡ None }
 {
     let front = front_digits(text);
@@ -137,7 +137,7 @@ fn hexadecimal_word(word: &[u8]) -> Option<u32>
 fn front_hexadecimal(digits: usize, text: &[u8]) -> Option<(u32, &[u8])>
     requires { digits ≤ 8 }
     ensures number { IfSome result (λ front. hexadecimal_in digits text.now ≡ Some front.0) }
-    ensures behind { IfSome result (λ front. behind (hexadecimal digits front.0) text.now ≡ Some front.1.now) }
+    ensures rest { IfSome result (λ front. after_word (hexadecimal digits front.0) text.now ≡ Some front.1.now) }
     ensures none { result ≡ None → hexadecimal_in digits text.now ≡ None }
 {
     if text.len() < digits {
@@ -159,7 +159,7 @@ fn is_lanes_text(lanes: Lanes, word: &[u8]) -> bool
 /// The data whose text is at the start of `text`, and the bytes after it.
 fn front_lanes(text: &[u8]) -> Option<(Lanes, &[u8])>
     ensures lanes { IfSome result (λ front. lanes_in text.now ≡ Some front.0) }
-    ensures behind { IfSome result (λ front. behind (lanes_text front.0) text.now ≡ Some front.1.now) }
+    ensures rest { IfSome result (λ front. after_word (lanes_text front.0) text.now ≡ Some front.1.now) }
     ensures none { result ≡ None → lanes_in text.now ≡ None }
 {
     if text.len() < 8 {
@@ -191,7 +191,7 @@ impl<'a> RowLine<'a> {
     #[inline(always)]
     #[tactic(auto, using(crate::proofs::Pieces::words))]
     fn has(&mut self, word: &[u8]) -> bool
-        ensures found { result ≡ begins word.now self.old }
+        ensures found { result ≡ starts_with word.now self.old }
         ensures left { self.new ≡ skipped word.now self.old }
     {
         let Some(rest) = self.rest else {

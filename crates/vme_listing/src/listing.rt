@@ -3,7 +3,7 @@
 ghost use Rattle.std.specs.Prelude.{◌≡◌, ◌≤◌, ◌<◌, ◌^◌, length, true};
 ghost use Rattle.vme_trace.specs.Trace.{Trace};
 ghost use Rattle.vme_listing.specs.declared.row.Version.{Version};
-ghost use Rattle.vme_listing.specs.Places.{can_tell, is_well_placed};
+ghost use Rattle.vme_listing.specs.Places.{can_include, is_well_placed};
 ghost use Rattle.vme_listing.specs.Recorded.{listing_of, recorded_rows, rows_in};
 
 use crate::row::{Row, Version};
@@ -54,6 +54,6 @@ pub fn listings_are_well_placed()
     ensures recorded { (t : Trace) → t.opening.slots ≤ 21 → length t.steps < 2 ^ 32
         → is_well_placed (listing_of t) ≡ true }
     ensures versions { (v : Version) (t : Trace) → t.opening.slots ≤ 21 → length t.steps < 2 ^ 32
-        → can_tell v (recorded_rows t) ≡ true
+        → can_include v (recorded_rows t) ≡ true
         → is_well_placed (record { version = v; rows = rows_in v (recorded_rows t) }) ≡ true }
 {}

@@ -2,7 +2,8 @@
 #![tactic(auto)]
 
 ghost use Rattle.std.specs.Prelude.{◌≡◌, ◌==◌};
-ghost use Rattle.vme_listing.specs.Places.{has_class, is_address, is_outcome, is_digit, are_digits_from, is_lanes};
+ghost use Rattle.vme_listing.specs.Places.{are_digits_from, has_class, is_address, is_allowed_data, is_allowed_digit};
+ghost use Rattle.vme_listing.specs.Places.{is_allowed_outcome};
 ghost use Rattle.vme_listing.specs.Places.{has_data, is_row, is_start, is_reset, is_verdict, is_never_idle, place_of};
 ghost use Rattle.vme_listing.specs.Places.{may_follow, ascends};
 
@@ -35,8 +36,8 @@ fn is_address(modifier: u8, address: u32) -> bool
 
 impl ListedVerdict {
     /// Whether the verdict is one that its form allows.
-    fn is_outcome(self) -> bool
-        ensures { result ≡ is_outcome self }
+    fn is_allowed_outcome(self) -> bool
+        ensures { result ≡ is_allowed_outcome self }
     {
         match self {
             ListedVerdict::Conforming | ListedVerdict::NeverIdle => true,
@@ -47,8 +48,8 @@ impl ListedVerdict {
 }
 
 /// Whether a digit of the data of a write is one that its form allows, with its bit of the unknown digits.
-fn is_digit(is_moved: bool, digit: u32, flag: u8) -> bool
-    ensures { result ≡ is_digit is_moved digit flag }
+fn is_allowed_digit(is_moved: bool, digit: u32, flag: u8) -> bool
+    ensures { result ≡ is_allowed_digit is_moved digit flag }
 {
     (is_moved || flag == 0) && ((is_moved && flag == 0) || digit == 0)
 }
@@ -60,10 +61,10 @@ fn are_low_digits(lanes: Lanes) -> bool
     let moved = lanes.moved;
     let value = lanes.value;
     let flags = lanes.unknown;
-    is_digit(moved.has_digit(0), value % 16, flags % 2)
-        && is_digit(moved.has_digit(1), value / 0x10 % 16, flags / 2 % 2)
-        && is_digit(moved.has_digit(2), value / 0x100 % 16, flags / 4 % 2)
-        && is_digit(moved.has_digit(3), value / 0x1000 % 16, flags / 8 % 2)
+    is_allowed_digit(moved.has_digit(0), value % 16, flags % 2)
+        && is_allowed_digit(moved.has_digit(1), value / 0x10 % 16, flags / 2 % 2)
+        && is_allowed_digit(moved.has_digit(2), value / 0x100 % 16, flags / 4 % 2)
+        && is_allowed_digit(moved.has_digit(3), value / 0x1000 % 16, flags / 8 % 2)
 }
 
 /// Whether the four higher digits of the data of a write are ones that their form allows.
@@ -73,10 +74,10 @@ fn are_high_digits(lanes: Lanes) -> bool
     let moved = lanes.moved;
     let value = lanes.value;
     let flags = lanes.unknown;
-    is_digit(moved.has_digit(4), value / 0x1_0000 % 16, flags / 16 % 2)
-        && is_digit(moved.has_digit(5), value / 0x10_0000 % 16, flags / 32 % 2)
-        && is_digit(moved.has_digit(6), value / 0x100_0000 % 16, flags / 64 % 2)
-        && is_digit(
+    is_allowed_digit(moved.has_digit(4), value / 0x1_0000 % 16, flags / 16 % 2)
+        && is_allowed_digit(moved.has_digit(5), value / 0x10_0000 % 16, flags / 32 % 2)
+        && is_allowed_digit(moved.has_digit(6), value / 0x100_0000 % 16, flags / 64 % 2)
+        && is_allowed_digit(
             moved.has_digit(7),
             value / 0x1000_0000 % 16,
             flags / 128 % 2,
@@ -84,9 +85,9 @@ fn are_high_digits(lanes: Lanes) -> bool
 }
 
 /// Whether the data of a write is data that its form allows: the types bound its numbers.
-#[tactic(auto, unfolding(crate::specs::Places::is_lanes))]
-fn is_lanes(lanes: Lanes) -> bool
-    ensures { result ≡ is_lanes lanes }
+#[tactic(auto, unfolding(crate::specs::Places::is_allowed_data))]
+fn is_allowed_data(lanes: Lanes) -> bool
+    ensures { result ≡ is_allowed_data lanes }
 {
     are_low_digits(lanes) && are_high_digits(lanes)
 }
@@ -95,10 +96,10 @@ fn is_lanes(lanes: Lanes) -> bool
 fn has_data(version: Version, direction: Direction, lanes: Option<Lanes>) -> bool
     ensures { result ≡ has_data version direction lanes }
 {
-    let is_told = version.tells_data() && direction == Direction::Write;
+    let needs_data = version.includes_data() && direction == Direction::Write;
     match lanes {
-        Some(lanes) => is_told && is_lanes(lanes),
-        None => !is_told,
+        Some(lanes) => needs_data && is_allowed_data(lanes),
+        None => !needs_data,
     }
 }
 
@@ -109,7 +110,7 @@ fn is_allowed(version: Version, row: Row) -> bool
 {
     match row {
         Row::Start { .. } | Row::OpenTenure { .. } | Row::PendingTransfer { .. } => true,
-        Row::Reset { .. } => version.tells_resets(),
+        Row::Reset { .. } => version.includes_resets(),
         Row::Tenure { level, slot, .. } => level < 4 && 1 <= slot && slot <= MOST_SLOTS,
         Row::AddressedCycle {
             class,
@@ -124,7 +125,7 @@ fn is_allowed(version: Version, row: Row) -> bool
             lanes,
             ..
         } => has_data(version, direction, lanes),
-        Row::Verdict(outcome) => outcome.is_outcome(),
+        Row::Verdict(outcome) => outcome.is_allowed_outcome(),
     }
 }
 
@@ -168,7 +169,7 @@ impl Row {
     {
         match *self {
             Row::Reset { instant } => Some((instant, 0)),
-            Row::Start { instant } => version.tells_resets().then_some((instant, 1)),
+            Row::Start { instant } => version.includes_resets().then_some((instant, 1)),
             Row::OpenTenure { start, .. } | Row::Tenure { start, .. } => Some((start, 2)),
             Row::AddressedCycle { start, .. }
             | Row::FreeCycle { start, .. }

@@ -14,11 +14,11 @@ pub enum Version {
 }
 
 impl Version {
-    ghost use Rattle.vme_listing.specs.Listed.{tells_data, tells_resets};
+    ghost use Rattle.vme_listing.specs.Listed.{includes_data, includes_resets};
 
     /// Whether the rows of answered writes have their data.
-    pub fn tells_data(self) -> bool
-        ensures { result ≡ tells_data self }
+    pub fn includes_data(self) -> bool
+        ensures { result ≡ includes_data self }
     {
         match self {
             Version::One => false,
@@ -27,8 +27,8 @@ impl Version {
     }
 
     /// Whether resets have rows.
-    pub fn tells_resets(self) -> bool
-        ensures { result ≡ tells_resets self }
+    pub fn includes_resets(self) -> bool
+        ensures { result ≡ includes_resets self }
     {
         match self {
             Version::One | Version::Two => false,
@@ -166,7 +166,7 @@ impl Row {
     pub fn in_version(self, version: Version) -> Row
         ensures { result ≡ row_in version self }
     {
-        if version.tells_data() {
+        if version.includes_data() {
             self
         } else {
             self.without_data()

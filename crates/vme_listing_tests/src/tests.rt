@@ -308,7 +308,7 @@ fn is_told_with_data(row: &Row) -> (bool, bool, bool) {
 
 /// Whether a version has data, and resets.
 fn is_told_by(version: Version) -> (bool, bool) {
-    (version.tells_data(), version.tells_resets())
+    (version.includes_data(), version.includes_resets())
 }
 
 #[test]
@@ -370,7 +370,7 @@ fn is_front_of(part: &Page, whole: &Page) -> bool {
 }
 
 /// Whether a listing of a hundred rows is written whole, and a prefix of it where a write fails.
-fn goes_out(alloc: Global, listing: &Listing) -> bool {
+fn is_written_in_pieces(alloc: Global, listing: &Listing) -> bool {
     let mut whole = empty_page(alloc, 10000);
     let mut part = empty_page(alloc, 4200);
     write_listing(listing, &mut whole).is_ok()
@@ -380,9 +380,9 @@ fn goes_out(alloc: Global, listing: &Listing) -> bool {
 }
 
 /// Whether a listing of these rows is written whole, and a prefix of it where a write fails.
-fn go_out(alloc: Global, rows: &[Row]) -> bool {
+fn are_written_in_pieces(alloc: Global, rows: &[Row]) -> bool {
     match listing_of(alloc, Version::One, rows) {
-        Ok(listing) => goes_out(alloc, &listing),
+        Ok(listing) => is_written_in_pieces(alloc, &listing),
         Err(_) => false,
     }
 }
@@ -397,7 +397,7 @@ fn pieces(rt: HostRuntime) {
         1000000000,
         1000000000,
     ); 100];
-    assert!(rt; go_out(rt.alloc(), rows.as_slice()));
+    assert!(rt; are_written_in_pieces(rt.alloc(), rows.as_slice()));
 }
 
 /// A listing of five rows: a read in the standard space.

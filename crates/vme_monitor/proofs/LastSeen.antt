@@ -66,8 +66,8 @@ among_itself ms i p e = (i, e)
 
 module _ {P : Type 0} (place : P → ℕ) where
   -- memories whose places have their indices as entries of `last_seen` are at different places
-  pub seated_apart : (ms : List P) (last_seen : List ℕ) → AreLastSeen place ms last_seen → AreDistinct place ms
-  seated_apart ms last_seen index_at_place i j p q a b same = same_value i j (sym (index_at_place i p a)
+  pub last_seen_distinct : (ms : List P) (last_seen : List ℕ) → AreLastSeen place ms last_seen → AreDistinct place ms
+  last_seen_distinct ms last_seen index_at_place i j p q a b same = same_value i j (sym (index_at_place i p a)
       ∙ ap (λ k. slice_get last_seen k) same ∙ index_at_place j q b)
 
   -- the entries of `last_seen` at the places of ms are `stamp`
@@ -80,18 +80,18 @@ module _ {P : Type 0} (place : P → ℕ) where
       (λ same. ap (λ n. slice_get (set last_seen k stamp) n) same ∙ get_set last_seen k stamp below)
       (λ ne. get_unset last_seen k (place p) stamp ne ∙ stamped i p e)
 
-  pub stamped_more : (stamp : ℕ) (ms : List P) (last_seen : List ℕ) (m : P) (k : ℕ) → k ≡ place m → k < length last_seen
-      → AreStamped stamp ms last_seen → AreStamped stamp (ms ++ m ∷ []) (set last_seen k stamp)
-  stamped_more stamp ms last_seen m k is below stamped i p e =
+  pub stamped_appended : (stamp : ℕ) (ms : List P) (last_seen : List ℕ) (m : P) (k : ℕ) → k ≡ place m
+      → k < length last_seen → AreStamped stamp ms last_seen → AreStamped stamp (ms ++ m ∷ []) (set last_seen k stamp)
+  stamped_appended stamp ms last_seen m k is below stamped i p e =
       ⊎_elim (λ a. stamped_set stamp ms last_seen k below stamped i p a)
       (λ a. ap (λ n. slice_get (set last_seen k stamp) n) (ap place a.1 ∙ sym is) ∙ get_set last_seen k stamp below)
       (get_pushed ms m p i e)
 
   -- a memory m whose place has another entry than `stamp` is at another place than those of ms
-  pub apart_more : (stamp found : ℕ) (ms : List P) (last_seen : List ℕ) (m : P) (k : ℕ) → k ≡ place m
+  pub distinct_appended : (stamp found : ℕ) (ms : List P) (last_seen : List ℕ) (m : P) (k : ℕ) → k ≡ place m
       → slice_get last_seen k ≡ Some found → found ≢ stamp → AreStamped stamp ms last_seen → AreDistinct place ms
       → AreDistinct place (ms ++ m ∷ [])
-  apart_more stamp found ms last_seen m k is there other stamped apart i j p q a b same =
+  distinct_appended stamp found ms last_seen m k is there other stamped apart i j p q a b same =
       ⊎_elim
       (λ x. ⊎_elim (λ y. apart i j p q x y same) (λ y. absurd (new p i x (same ∙ ap place y.1)))
       (get_pushed ms m q j b))
@@ -104,43 +104,43 @@ module _ {P : Type 0} (place : P → ℕ) where
 
   -- if no memory of ms is at the place k of m, `AreLastSeen` stays true as m is appended to ms and its index is written
   -- to entry k
-  pub seated_more : (ms : List P) (last_seen : List ℕ) (m : P) (k : ℕ) → k ≡ place m → k < length last_seen
+  pub last_seen_appended : (ms : List P) (last_seen : List ℕ) (m : P) (k : ℕ) → k ≡ place m → k < length last_seen
       → ((i : ℕ) (p : P) → slice_get ms i ≡ Some p → place p ≢ k) → AreLastSeen place ms last_seen → AreLastSeen place
       (ms ++ m ∷ []) (set last_seen k (length ms))
-  seated_more ms last_seen m k is below new index_at_place i p e =
+  last_seen_appended ms last_seen m k is below new index_at_place i p e =
       ⊎_elim (λ a. get_unset last_seen k (place p) (length ms) (new i p a) ∙ index_at_place i p a)
       (λ a. ap (λ n. slice_get (set last_seen k (length ms)) n) (ap place a.1 ∙ sym is) ∙ get_set last_seen k
       (length ms) below ∙ ap Some (sym a.0)) (get_pushed ms m p i e)
 
-  -- no memory of ms is at a place without an entry, nor (`seated_beyond`, `seated_other`) at one whose entry is an
+  -- no memory of ms is at a place without an entry, nor (`none_past_end`, `none_elsewhere`) at one whose entry is an
   -- index past ms or that of a memory at another place
-  pub seated_past : (ms : List P) (last_seen : List ℕ) (k : ℕ) → length last_seen ≤ k → AreLastSeen place ms last_seen
-      → (i : ℕ) (p : P) → slice_get ms i ≡ Some p → place p ≢ k
-  seated_past ms last_seen k past index_at_place i p e same = let w = slice_get_within last_seen (place p) i
+  pub none_without_entry : (ms : List P) (last_seen : List ℕ) (k : ℕ) → length last_seen ≤ k
+      → AreLastSeen place ms last_seen → (i : ℕ) (p : P) → slice_get ms i ≡ Some p → place p ≢ k
+  none_without_entry ms last_seen k past index_at_place i p e same = let w = slice_get_within last_seen (place p) i
       (index_at_place i p e) in omega (arith, w, same, past)
 
-  seat_of : (ms : List P) (last_seen : List ℕ) (k at : ℕ) → slice_get last_seen k ≡ Some at → AreLastSeen place ms
+  entry_of : (ms : List P) (last_seen : List ℕ) (k at : ℕ) → slice_get last_seen k ≡ Some at → AreLastSeen place ms
       last_seen → (i : ℕ) (p : P) → slice_get ms i ≡ Some p → place p ≡ k → at ≡ i
-  seat_of ms last_seen k at there index_at_place i p e same = same_value at i
+  entry_of ms last_seen k at there index_at_place i p e same = same_value at i
       (sym there ∙ ap (λ n. slice_get last_seen n) (sym same) ∙ index_at_place i p e)
 
-  pub seated_beyond : (ms : List P) (last_seen : List ℕ) (k at : ℕ) → slice_get last_seen k ≡ Some at → length ms ≤ at
+  pub none_past_end : (ms : List P) (last_seen : List ℕ) (k at : ℕ) → slice_get last_seen k ≡ Some at → length ms ≤ at
       → AreLastSeen place ms last_seen → (i : ℕ) (p : P) → slice_get ms i ≡ Some p → place p ≢ k
-  seated_beyond ms last_seen k at there past index_at_place i p e same = let is = seat_of ms last_seen k at there
+  none_past_end ms last_seen k at there past index_at_place i p e same = let is = entry_of ms last_seen k at there
       index_at_place i p e same in let w = slice_get_within ms i p e in omega (arith, is, w, past)
 
-  pub seated_other : (ms : List P) (last_seen : List ℕ) (k at : ℕ) (other : P) → slice_get last_seen k ≡ Some at
+  pub none_elsewhere : (ms : List P) (last_seen : List ℕ) (k at : ℕ) (other : P) → slice_get last_seen k ≡ Some at
       → slice_get ms at ≡ Some other → place other ≢ k → AreLastSeen place ms last_seen → (i : ℕ) (p : P)
       → slice_get ms i
       ≡ Some p → place p ≢ k
-  seated_other ms last_seen k at other there here ne index_at_place i p e same =
+  none_elsewhere ms last_seen k at other there here ne index_at_place i p e same =
       ne (ap place
-      (same_value other p (sym here ∙ ap (λ n. slice_get ms n) (seat_of ms last_seen k at there index_at_place i p e
+      (same_value other p (sym here ∙ ap (λ n. slice_get ms n) (entry_of ms last_seen k at there index_at_place i p e
       same) ∙ e)) ∙ same)
 
   -- two memories at different places
-  pub two_apart : (ms : List P) (p q : P) → ms ≡ p ∷ q ∷ [] → place p ≢ place q → AreDistinct place ms
-  two_apart ms p q is other = subst (AreDistinct place) (sym is) at
+  pub two_distinct : (ms : List P) (p q : P) → ms ≡ p ∷ q ∷ [] → place p ≢ place q → AreDistinct place ms
+  two_distinct ms p q is other = subst (AreDistinct place) (sym is) at
     where
       at : (i j : ℕ) (a b : P) → slice_get (p ∷ q ∷ []) i ≡ Some a → slice_get (p ∷ q ∷ []) j ≡ Some b → place a
           ≡ place b → i ≡ j
@@ -155,8 +155,8 @@ module _ {P : Type 0} (place : P → ℕ) where
       at (suc zero) (suc (suc j)) a b e f same = absurd (no_value b f)
 
   -- at most one memory
-  pub one_apart : (ms : List P) → length ms < 2 → AreDistinct place ms
-  one_apart ms few i j p q a b same = let x = slice_get_within ms i p a in let y = slice_get_within ms j q b in
+  pub one_distinct : (ms : List P) → length ms < 2 → AreDistinct place ms
+  one_distinct ms few i j p q a b same = let x = slice_get_within ms i p a in let y = slice_get_within ms j q b in
       omega (arith, x, y)
 
 -- a list with one memory more is among `others` if that memory is
@@ -182,10 +182,10 @@ two_memories {P} (x ∷ y ∷ []) a b len first second =
 two_memories (x ∷ y ∷ z ∷ rows) a b len first second = absurd (omega arith)
 
 -- two rows are in different memories if one is more sensitive, or if the places differ
-pub two_rows_apart : {P : Type 0} (place sensitivity : P → ℕ) (nth : ℕ → P) → ((p : P) → nth (place p) ≡ p)
+pub two_rows_distinct : {P : Type 0} (place sensitivity : P → ℕ) (nth : ℕ → P) → ((p : P) → nth (place p) ≡ p)
     → (rows : List (TableRow P)) (a b : TableRow P) → length rows ≡ 2 → a ≡ get_or rows 0 a → b ≡ get_or rows 1 b
     → (sensitivity a.memory ≢ sensitivity b.memory) ⊎ (place a.memory ≢ place b.memory) → AreDistinct place
     (memories_in (map outcome_of rows))
-two_rows_apart place sensitivity nth found rows a b len first second either =
-    two_apart place (memories_in (map outcome_of rows)) a.memory b.memory (two_memories rows a b len first second)
+two_rows_distinct place sensitivity nth found rows a b len first second either =
+    two_distinct place (memories_in (map outcome_of rows)) a.memory b.memory (two_memories rows a b len first second)
     (⊎_elim (λ ne same. ne (ap sensitivity (sym (found a.memory) ∙ ap nth same ∙ found b.memory))) (λ ne. ne) either)

@@ -5,7 +5,7 @@ use Rattle.vme_trace.specs.Levels.{Levels}
 use Rattle.vme_trace.specs.Trace.{Trace}
 use Rattle.vme_trace.specs.declared.rule.Rule.{Rule}
 use Rattle.vme_trace.specs.declared.step.Step.{Step}
-use Rattle.vme_monitor.specs.Joined.{AreApart, AreJoined, together}
+use Rattle.vme_monitor.specs.Joined.{AreJoined, ShareNoKind, together}
 use Rattle.vme_monitor.specs.Outcome.{Outcome}
 use Rattle.vme_monitor.specs.Whole.{FindsLeast, ShowsAll}
 use Rattle.vme_monitor.specs.declared.mark.StepMarks.{StepMarks}
@@ -22,7 +22,7 @@ module _ {P Q R : Type 0} (first : P → Levels → List Step → Outcome P) (be
   -- if `first` and `second` show their marks, never two of one kind at once, `both` shows the marks of both
   abbrev pub ShowsTogether : Type 0
   ShowsTogether =
-      (a b : StepMarks) (f g : Trace → Stretch → ℕ → StepMarks) → AreApart a b
-      → ((t : Trace) (span : Stretch) (j : ℕ) → AreApart (f t span j) (g t span j))
+      (a b : StepMarks) (f g : Trace → Stretch → ℕ → StepMarks) → ShareNoKind a b
+      → ((t : Trace) (span : Stretch) (j : ℕ) → ShareNoKind (f t span j) (g t span j))
       → ShowsAll first begin_first a f → ShowsAll second begin_second b g
       → ShowsAll both begin_both (together a b) (λ t span j. together (f t span j) (g t span j))

@@ -13,7 +13,7 @@ use Rattle.vme_part_format.specs.Bounds.{FitsPart}
 use Rattle.vme_part_format.specs.PartText.{part_bytes}
 use Rattle.vme_part_format.specs.Tables.{PartValue}
 use Rattle.vme_part_command.specs.Inputs.{HasFaultAt, HaveRead, IsFaulty, ReadParts}
-use Rattle.vme_part_command.specs.declared.inputs.NoPartInput.{NoPartInput}
+use Rattle.vme_part_command.specs.declared.inputs.PartInputFault.{PartInputFault}
 
 -- ---- the items of lists by their indices
 
@@ -83,7 +83,7 @@ module _ {A : Type 0} (f : A → Reading) (xs ys : List A) (i : ℕ) (x y : A) (
   }
 
   -- if the input i has a fault, `HasFaultAt` holds at i
-  read_fault : (fault : NoPartInput) → IsFaulty (f (get_or ys i x)) (f y) fault
+  read_fault : (fault : PartInputFault) → IsFaulty (f (get_or ys i x)) (f y) fault
       → HasFaultAt (map f xs) (map f (set ys i y)) i fault
   read_fault fault faulty = record {
     parts = ps;
@@ -95,7 +95,8 @@ module _ {A : Type 0} (f : A → Reading) (xs ys : List A) (i : ℕ) (x y : A) (
     is = subst (λ (z : A). IsFaulty (f z) (f y) fault) (sym is) faulty;
   }
 
-  pub read_fault_at : (place : ℕ) (fault : NoPartInput) → place ≡ length ps → IsFaulty (f (get_or ys i x)) (f y) fault
+  pub read_fault_at : (place : ℕ) (fault : PartInputFault) → place ≡ length ps → IsFaulty (f (get_or ys i x)) (f y)
+      fault
       → HasFaultAt (map f xs) (map f (set ys i y)) place fault
   read_fault_at place fault e faulty =
       subst (λ (n : ℕ). HasFaultAt (map f xs) (map f (set ys i y)) n fault) (sym (e ∙ before.many))

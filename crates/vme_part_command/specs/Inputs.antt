@@ -11,8 +11,8 @@ use Rattle.vme_parts.specs.Alike.{AreRefused, MakeOne, first_listing}
 use Rattle.vme_parts.specs.Files.{JoinsParts}
 use Rattle.vme_part_command.specs.declared.inputs.PartInputError.{PartInputError}
 use Rattle.vme_part_command.specs.declared.inputs.PartInputError.TheVariants as error
-use Rattle.vme_part_command.specs.declared.inputs.NoPartInput.{NoPartInput}
-use Rattle.vme_part_command.specs.declared.inputs.NoPartInput.TheVariants as input
+use Rattle.vme_part_command.specs.declared.inputs.PartInputFault.{PartInputFault}
+use Rattle.vme_part_command.specs.declared.inputs.PartInputFault.TheVariants as input
 use Rattle.vme_part_command.specs.declared.inputs.NoJoin.{NoJoin}
 use Rattle.vme_part_command.specs.declared.inputs.NoJoin.TheVariants as none
 
@@ -32,7 +32,7 @@ pub record ReadParts (old new : List Reading) (ps : List PartValue) : Type 0 whe
       → slice_get ps k ≡ Some p → IsReading a b (Some (part_bytes p))
 
 -- why an input is no part: it can't be read, it is too long, or its bytes have the first fault `fault`
-abbrev pub IsFaulty : Reading → Reading → NoPartInput → Type 0
+abbrev pub IsFaulty : Reading → Reading → PartInputFault → Type 0
 IsFaulty a b input.Unread = IsReading a b None
 IsFaulty a b input.TooLong = (bytes : List ℕ) × (longest_input < length bytes) × IsReading a b (Some bytes)
 IsFaulty a b (input.Faulty fault) = (bytes : List ℕ) × IsReading a b (Some bytes) × (part_at bytes ≡ Err fault)
@@ -43,7 +43,7 @@ IsPartInputError a b error.Memory = Unit {0}
 IsPartInputError a b (error.Fault fault) = IsFaulty a b fault
 
 -- the inputs before `place` are parts, and the one at `place` is none, for the reason `fault`
-pub record HasFaultAt (old new : List Reading) (place : ℕ) (fault : NoPartInput) : Type 0 where
+pub record HasFaultAt (old new : List Reading) (place : ℕ) (fault : PartInputFault) : Type 0 where
   pub parts : List PartValue
   pub before : HaveRead old new place parts
   pub was : Reading

@@ -28,8 +28,8 @@ use Rattle.vme_parts.specs.declared.join_refusal.JoinRefusal.TheVariants as refu
 use Rattle.vme_part_command.specs.Inputs.{IsJoinOf, IsNoJoin}
 use Rattle.vme_part_command.specs.Lines.{fault_text, input_text, marks_text, part_text, refusing_text, told_text}
 use Rattle.vme_part_command.specs.Written.{written_part}
-use Rattle.vme_part_command.specs.declared.inputs.NoPartInput.{NoPartInput}
-use Rattle.vme_part_command.specs.declared.inputs.NoPartInput.TheVariants as input
+use Rattle.vme_part_command.specs.declared.inputs.PartInputFault.{PartInputFault}
+use Rattle.vme_part_command.specs.declared.inputs.PartInputFault.TheVariants as input
 use Rattle.vme_part_command.specs.declared.inputs.NoJoin.{NoJoin}
 use Rattle.vme_part_command.specs.declared.inputs.NoJoin.TheVariants as none
 
@@ -39,7 +39,7 @@ refusing text = record { out = []; error = line_of text; status = 3 }
 
 -- ---- why no part is joined from the inputs
 
-abbrev pub what_is_wrong : NoPartInput → List ℕ
+abbrev pub what_is_wrong : PartInputFault → List ℕ
 what_is_wrong input.Unread = codes "cannot read"
 what_is_wrong input.TooLong = codes "too long"
 what_is_wrong (input.Faulty fault) = fault_text fault

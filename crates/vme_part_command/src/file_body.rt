@@ -131,7 +131,7 @@ fn part_of_body<D: Source>(
 
 /// Judges the body after the definitions, which are held in `input` and have `count` bytes. First it reads the dump up
 /// to its first time.
-fn part_behind<D: Source>(
+fn part_after_definitions<D: Source>(
     alloc: Global,
     options: PartOptions,
     dump: &mut D,
@@ -168,7 +168,9 @@ pub(crate) fn part_of_begun<D: Source>(
         → input.old.limit ≡ longest_input → FindsOfDump options bound old (D.reading dump.new) result }
 {
     match begun {
-        Begun::Body(reader, count) => part_behind(alloc, options, dump, input, reader, count),
+        Begun::Body(reader, count) => part_after_definitions(
+            alloc, options, dump, input, reader, count,
+        ),
         Begun::Unusable(fault) => Err(NoPart::Refused(Refusal::BadBinding(fault))),
     }
 }

@@ -38,7 +38,7 @@ pub(crate) struct FileCheck {
 }
 
 /// Judges the steps that follow. The result is `None` if a table has too many nodes.
-fn gone_on(
+fn judge_more(
     alloc: Global,
     file: Option<FileSoFar>,
     steps: &[Step],
@@ -75,7 +75,7 @@ fn judge_batches(
     let mut pending = pending;
     while pending.len() >= BATCH {
         let rest = pending.split_off(BATCH)?;
-        file = gone_on(alloc, file, pending.as_slice())?;
+        file = judge_more(alloc, file, pending.as_slice())?;
         pending = rest;
     }
     Ok((file, pending))
@@ -98,7 +98,7 @@ fn judge_all(
     let mut steps = steps;
     pending.append(&mut steps)?;
     let (file, rest) = judge_batches(alloc, file, pending)?;
-    gone_on(alloc, file, rest.as_slice())
+    judge_more(alloc, file, rest.as_slice())
 }
 
 /// The part of a file whose steps were all given.

@@ -29,7 +29,7 @@ pub struct NamedPart<'a, P> {
 
 /// Why an input is no part.
 #[derive(Clone, Copy, Debug)]
-pub(crate) enum NoPartInput {
+pub(crate) enum PartInputFault {
     /// It can't be read.
     Unread,
     /// It has more than 268,435,456 bytes.
@@ -42,7 +42,7 @@ pub(crate) enum NoPartInput {
 #[derive(Clone, Copy, Debug)]
 enum PartInputError {
     Memory,
-    Fault(NoPartInput),
+    Fault(PartInputFault),
 }
 
 /// Why no part is joined from the inputs.
@@ -50,7 +50,7 @@ enum PartInputError {
 pub(crate) enum NoJoin {
     Memory,
     /// The input with this index is no part.
-    Input(usize, NoPartInput),
+    Input(usize, PartInputFault),
     /// The parts can't be joined for this reason. The flag is whether the first has marks.
     Refused(JoinRefusal, bool),
 }
@@ -85,14 +85,14 @@ fn part_in<P: Source>(alloc: Global, input: &mut NamedPart<'_, P>) -> Result<Par
 {
     let bytes = match read_all(alloc, &mut input.part) {
         Ok(bytes) => bytes,
-        Err(InFault::Read) => return Err(PartInputError::Fault(NoPartInput::Unread)),
-        Err(InFault::TooLong) => return Err(PartInputError::Fault(NoPartInput::TooLong)),
+        Err(InFault::Read) => return Err(PartInputError::Fault(PartInputFault::Unread)),
+        Err(InFault::TooLong) => return Err(PartInputError::Fault(PartInputFault::TooLong)),
         Err(InFault::Memory) => return Err(PartInputError::Memory),
     };
     match read_part(alloc, bytes.as_slice()) {
         Ok(part) => Ok(part),
         Err(ReadError::Memory) => Err(PartInputError::Memory),
-        Err(ReadError::Fault(fault)) => Err(PartInputError::Fault(NoPartInput::Faulty(fault))),
+        Err(ReadError::Fault(fault)) => Err(PartInputError::Fault(PartInputFault::Faulty(fault))),
     }
 }
 
@@ -162,14 +162,14 @@ fn name_of<'a, P>(inputs: &[NamedPart<'a, P>], place: usize) -> &'a [u8]
 }
 
 /// Writes why an input is no part. The answer is the exit status.
-fn refuse_input<E: Sink>(alloc: Global, name: &[u8], fault: &NoPartInput, err: &mut E) -> u8
+fn refuse_input<E: Sink>(alloc: Global, name: &[u8], fault: &PartInputFault, err: &mut E) -> u8
     ensures { ComplainsUnlessMemory (refusing (input_text name.now (what_is_wrong fault.now)))
         (E.writing err.old, E.writing err.new) result }
 {
     match fault {
-        NoPartInput::Unread => tell_input(alloc, name, b"cannot read", err),
-        NoPartInput::TooLong => tell_input(alloc, name, b"too long", err),
-        NoPartInput::Faulty(fault) => {
+        PartInputFault::Unread => tell_input(alloc, name, b"cannot read", err),
+        PartInputFault::TooLong => tell_input(alloc, name, b"too long", err),
+        PartInputFault::Faulty(fault) => {
             let what = fault_message(fault);
             tell_input(alloc, name, what.as_bytes(), err)
         }

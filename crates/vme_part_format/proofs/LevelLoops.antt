@@ -10,9 +10,8 @@ use Rattle.vme_part_format.specs.declared.fault.PartFaultKind.TheVariants as fau
 use Rattle.vme_part_format.specs.declared.fault.FieldFault.{FieldFault}
 use Rattle.vme_part_format.specs.declared.fault.FieldError.{FieldError}
 use Rattle.vme_part_format.specs.declared.fault.FieldError.TheVariants as field
-use Rattle.vme_part_format.specs.Reading.{◌>>=◌, Fails, SetsFour, SetsLevel, behind, byte_at, coded_level, fault_at}
-use Rattle.vme_part_format.specs.Reading.{four}
-use Rattle.vme_part_format.specs.Reading.{levels_at, packed_at, unpacked, with_levels}
+use Rattle.vme_part_format.specs.Reading.{◌>>=◌, Fails, SetsFour, SetsLevel, after_items, byte_at, coded_level}
+use Rattle.vme_part_format.specs.Reading.{fault_at, four, levels_at, packed_at, unpacked, with_levels}
 use Rattle.vme_part_format.proofs.LevelFacts.{four_is, four_takes}
 
 four_none : (oa ob oc od : Option Level) (a b c : Level) → oa ≡ Some a → ob ≡ Some b → oc ≡ Some c → od ≡ None
@@ -104,7 +103,7 @@ are_four v w place byte ls lt many read new =
     }
 
 regroup : (front ls : List Level) (read : Result (List Level × List ℕ) FieldFault)
-    → behind front (read >>= λ x. Ok (ls ++ x.0, x.1)) ≡ behind (front ++ ls) read
+    → after_items front (read >>= λ x. Ok (ls ++ x.0, x.1)) ≡ after_items (front ++ ls) read
 regroup front ls (Ok x) = ap (λ (xs : List Level). Ok (xs, x.1)) (sym (append_assoc front ls x.0))
 regroup front ls (Err f) = refl
 
@@ -112,48 +111,52 @@ module _ (slots : ℕ) where
   -- the loop invariant holds after one more byte, of four levels
   pub levels_step : (place byte : ℕ) (bytes after : List ℕ) (front ls : List Level)
       (total : Result (List Level × List ℕ) FieldFault) → place < 48 → byte_at bytes ≡ Ok (byte, after)
-      → unpacked slots (4 * place) byte ≡ Some ls → behind front (packed_at slots (4 * place) (48 - place) bytes)
+      → unpacked slots (4 * place) byte ≡ Some ls → after_items front (packed_at slots (4 * place) (48 - place) bytes)
       ≡ total
-      → behind (front ++ ls) (packed_at slots (4 * (place + 1)) (48 - (place + 1)) after) ≡ total
+      → after_items (front ++ ls) (packed_at slots (4 * (place + 1)) (48 - (place + 1)) after) ≡ total
   unfolding packed_at
   levels_step place byte bytes after front ls total lt h read so_far =
       let k : 48 - place ≡ suc (48 - (place + 1)) = omega arith in
-      let one : behind front (packed_at slots (4 * place) (48 - place) bytes)
-      ≡ behind (front ++ ls) (packed_at slots (4 * place + 4) (48 - (place + 1)) after) =
+      let one : after_items front (packed_at slots (4 * place) (48 - place) bytes)
+      ≡ after_items (front ++ ls) (packed_at slots (4 * place + 4) (48 - (place + 1)) after) =
       rw (k, h, read) (regroup front ls (packed_at slots (4 * place + 4) (48 - (place + 1)) after)) in
       let next : 4 * place + 4 ≡ 4 * (place + 1) = omega arith in
-      ap (λ (l : ℕ). behind (front ++ ls) (packed_at slots l (48 - (place + 1)) after)) (sym next) ∙ sym one ∙ so_far
+      ap (λ (l : ℕ). after_items (front ++ ls) (packed_at slots l (48 - (place + 1)) after)) (sym next) ∙ sym one ∙
+      so_far
 
   -- if the lines may not have the levels in a byte, the result is this fault
   pub levels_bad : (place byte : ℕ) (bytes after : List ℕ) (front : List Level)
       (total : Result (List Level × List ℕ) FieldFault) → place < 48 → byte_at bytes ≡ Ok (byte, after)
-      → unpacked slots (4 * place) byte ≡ None → behind front (packed_at slots (4 * place) (48 - place) bytes) ≡ total
+      → unpacked slots (4 * place) byte ≡ None → after_items front (packed_at slots (4 * place) (48 - place) bytes) ≡
+      total
       → total ≡ Err (fault_at fault.BadLevels bytes)
   unfolding packed_at
   levels_bad place byte bytes after front total lt h read so_far =
       let k : 48 - place ≡ suc (48 - (place + 1)) = omega arith in
-      let one : behind front (packed_at slots (4 * place) (48 - place) bytes) ≡ Err (fault_at fault.BadLevels bytes) =
+      let one : after_items front (packed_at slots (4 * place) (48 - place) bytes) ≡ Err
+      (fault_at fault.BadLevels bytes) =
       rw (k, h, read) refl in
       sym so_far ∙ one
 
   -- if the next byte isn't read, its error is the error of the whole
   pub levels_cut : (error : FieldError) (place : ℕ) (bytes : List ℕ) (front : List Level)
       (total : Result (List Level × List ℕ) FieldFault) → place < 48 → Fails error (byte_at bytes)
-      → behind front (packed_at slots (4 * place) (48 - place) bytes) ≡ total → Fails error total
+      → after_items front (packed_at slots (4 * place) (48 - place) bytes) ≡ total → Fails error total
   unfolding packed_at
   levels_cut field.Memory place bytes front total lt h so_far = tt
   levels_cut (field.Fault f) place bytes front total lt h so_far =
       let k : 48 - place ≡ suc (48 - (place + 1)) = omega arith in
-      let one : behind front (packed_at slots (4 * place) (48 - place) bytes) ≡ Err f = rw (k, h) refl in
+      let one : after_items front (packed_at slots (4 * place) (48 - place) bytes) ≡ Err f = rw (k, h) refl in
       sym so_far ∙ one
 
   -- after 48 bytes the result is all levels
   pub levels_done : (place : ℕ) (bytes : List ℕ) (front : List Level) (total : Result (List Level × List ℕ) FieldFault)
-      → 48 ≤ place → behind front (packed_at slots (4 * place) (48 - place) bytes) ≡ total → total ≡ Ok (front, bytes)
+      → 48 ≤ place → after_items front (packed_at slots (4 * place) (48 - place) bytes) ≡ total → total ≡ Ok
+      (front, bytes)
   unfolding packed_at
   levels_done place bytes front total le so_far =
       let k : 48 - place ≡ 0 = omega arith in
-      let one : behind front (packed_at slots (4 * place) (48 - place) bytes) ≡ Ok (front, bytes) =
+      let one : after_items front (packed_at slots (4 * place) (48 - place) bytes) ≡ Ok (front, bytes) =
       rw k (ap (λ (ls : List Level). Ok (ls, bytes)) (append-nil front)) in
       sym so_far ∙ one
 

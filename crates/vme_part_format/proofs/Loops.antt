@@ -7,13 +7,13 @@ use Rattle.vme_part_format.specs.declared.fault.FieldError.TheVariants as field
 use Rattle.vme_part_format.specs.declared.fault.FieldFault.{FieldFault}
 use Rattle.vme_part_format.specs.declared.table.TableEntry.{TableEntry}
 use Rattle.vme_part_format.specs.declared.wide.WideMark.{WideMark}
-use Rattle.vme_part_format.specs.Reading.{◌>>=◌, Fails, behind, entries_at, entry_at, mark_at, marks_at, node_at}
+use Rattle.vme_part_format.specs.Reading.{◌>>=◌, Fails, after_items, entries_at, entry_at, mark_at, marks_at, node_at}
 use Rattle.vme_part_format.specs.Reading.{nodes_at}
 use Rattle.vme_part_format.specs.Reading.{segment_at, segments_at}
 use Rattle.vme_part_format.specs.Tables.{NodeValue, SegmentValue, last_of}
 
 pub regroup : {A : Type 0} (front : List A) (a : A) (read : Result (List A × List ℕ) FieldFault)
-    → behind front (read >>= λ x. Ok (a ∷ x.0, x.1)) ≡ behind (front ++ a ∷ []) read
+    → after_items front (read >>= λ x. Ok (a ∷ x.0, x.1)) ≡ after_items (front ++ a ∷ []) read
 regroup front a (Ok x) = ap (λ (xs : List _). Ok (xs, x.1)) (simp append_assoc)
 regroup front a (Err f) = refl
 
@@ -21,55 +21,57 @@ module _ (listing : Bool) (steps ways : ℕ) where
   pub entries_go_on : (front : List TableEntry) (count i : ℕ) (bytes : List ℕ) (e : TableEntry) (after : List ℕ)
       (total : Result (List TableEntry × List ℕ) FieldFault) → i < count
       → entry_at listing steps ways bytes ≡ Ok (e, after)
-      → behind front (entries_at listing steps ways (count - i) bytes) ≡ total
-      → behind (front ++ e ∷ []) (entries_at listing steps ways (count - (i + 1)) after) ≡ total
+      → after_items front (entries_at listing steps ways (count - i) bytes) ≡ total
+      → after_items (front ++ e ∷ []) (entries_at listing steps ways (count - (i + 1)) after) ≡ total
   unfolding entries_at
   entries_go_on front count i bytes e after total lt h so_far =
       let k : count - i ≡ suc (count - (i + 1)) = omega arith in
-      let one : behind front (entries_at listing steps ways (count - i) bytes)
-      ≡ behind (front ++ e ∷ []) (entries_at listing steps ways (count - (i + 1)) after) =
+      let one : after_items front (entries_at listing steps ways (count - i) bytes)
+      ≡ after_items (front ++ e ∷ []) (entries_at listing steps ways (count - (i + 1)) after) =
       rw (k, h) (regroup front e (entries_at listing steps ways (count - (i + 1)) after)) in
       sym one ∙ so_far
 
   pub entries_end : (error : FieldError) (front : List TableEntry) (count i : ℕ) (bytes : List ℕ)
       (total : Result (List TableEntry × List ℕ) FieldFault) → i < count
       → Fails error (entry_at listing steps ways bytes)
-      → behind front (entries_at listing steps ways (count - i) bytes) ≡ total → Fails error total
+      → after_items front (entries_at listing steps ways (count - i) bytes) ≡ total → Fails error total
   unfolding entries_at
   entries_end field.Memory front count i bytes total lt h so_far = tt
   entries_end (field.Fault f) front count i bytes total lt h so_far =
       let k : count - i ≡ suc (count - (i + 1)) = omega arith in
-      let one : behind front (entries_at listing steps ways (count - i) bytes) ≡ Err f = rw (k, h) refl in
+      let one : after_items front (entries_at listing steps ways (count - i) bytes) ≡ Err f = rw (k, h) refl in
       sym so_far ∙ one
 
   pub entries_done : (front : List TableEntry) (count i : ℕ) (bytes : List ℕ)
       (total : Result (List TableEntry × List ℕ) FieldFault) → count ≤ i
-      → behind front (entries_at listing steps ways (count - i) bytes) ≡ total → total ≡ Ok (front, bytes)
+      → after_items front (entries_at listing steps ways (count - i) bytes) ≡ total → total ≡ Ok (front, bytes)
   unfolding entries_at
   entries_done front count i bytes total le so_far =
       let k : count - i ≡ 0 = omega arith in
-      let one : behind front (entries_at listing steps ways (count - i) bytes) ≡ Ok (front, bytes) =
+      let one : after_items front (entries_at listing steps ways (count - i) bytes) ≡ Ok (front, bytes) =
       rw k (ap (λ (es : List TableEntry). Ok (es, bytes)) (append-nil front)) in
       sym so_far ∙ one
 
--- the loop invariant, `behind front read ≡ total`, holds after one more item, a
-pub more : {A : Type 0} (front : List A) (a : A) (read later total : Result (List A × List ℕ) FieldFault)
-    → read ≡ (later >>= λ x. Ok (a ∷ x.0, x.1)) → behind front read ≡ total → behind (front ++ a ∷ []) later ≡ total
-more front a read later total step so_far =
-    sym (regroup front a later) ∙ ap (λ (r : Result (List _ × List ℕ) FieldFault). behind front r) (sym step) ∙ so_far
+-- the loop invariant, `after_items front read ≡ total`, holds after one more item, a
+pub loop_step : {A : Type 0} (front : List A) (a : A) (read later total : Result (List A × List ℕ) FieldFault)
+    → read ≡ (later >>= λ x. Ok (a ∷ x.0, x.1)) → after_items front read ≡ total → after_items (front ++ a ∷ []) later ≡
+    total
+loop_step front a read later total step so_far =
+    sym (regroup front a later) ∙ ap (λ (r : Result (List _ × List ℕ) FieldFault). after_items front r) (sym step) ∙
+    so_far
 
 -- the error of reading an item is the error of the whole
-pub ends : {A : Type 0} (error : FieldError) (front : List A) (read total : Result (List A × List ℕ) FieldFault)
-    → Fails error read → behind front read ≡ total → Fails error total
-ends field.Memory front read total fails so_far = tt
-ends (field.Fault f) front read total fails so_far =
-    sym so_far ∙ ap (λ (r : Result (List _ × List ℕ) FieldFault). behind front r) fails
+pub loop_fault : {A : Type 0} (error : FieldError) (front : List A) (read total : Result (List A × List ℕ) FieldFault)
+    → Fails error read → after_items front read ≡ total → Fails error total
+loop_fault field.Memory front read total fails so_far = tt
+loop_fault (field.Fault f) front read total fails so_far =
+    sym so_far ∙ ap (λ (r : Result (List _ × List ℕ) FieldFault). after_items front r) fails
 
 -- if no item is left, the result is `front`
-pub done : {A : Type 0} (front : List A) (bytes : List ℕ) (read total : Result (List A × List ℕ) FieldFault)
-    → read ≡ Ok ([], bytes) → behind front read ≡ total → total ≡ Ok (front, bytes)
-done front bytes read total none so_far =
-    sym so_far ∙ ap (λ (r : Result (List _ × List ℕ) FieldFault). behind front r) none
+pub loop_end : {A : Type 0} (front : List A) (bytes : List ℕ) (read total : Result (List A × List ℕ) FieldFault)
+    → read ≡ Ok ([], bytes) → after_items front read ≡ total → total ≡ Ok (front, bytes)
+loop_end front bytes read total none so_far =
+    sym so_far ∙ ap (λ (r : Result (List _ × List ℕ) FieldFault). after_items front r) none
     ∙ ap (λ (xs : List _). Ok (xs, bytes)) (append-nil front)
 
 module _ (steps : ℕ) where

@@ -16,8 +16,8 @@ use Rattle.vme_part_format.specs.declared.fault.PartFault.{PartFault}
 use Rattle.vme_part_format.specs.Bounds.{FitsPart}
 use Rattle.vme_part_format.specs.PartText.{body_bytes, flag, name_bytes, part_bytes, segment_bytes, summed_bytes}
 use Rattle.vme_part_format.specs.PartText.{version_byte}
-use Rattle.vme_part_format.specs.Reading.{body_at, fault_at, flag_at, has_its_sum, number_at, part_at, placed}
-use Rattle.vme_part_format.specs.Reading.{read_whole, segments_at, summed_part, written_sum}
+use Rattle.vme_part_format.specs.Reading.{body_at, fault_at, flag_at, has_its_sum, number_at, part_at, read_whole}
+use Rattle.vme_part_format.specs.Reading.{segments_at, summed_part, with_place, written_sum}
 use Rattle.vme_part_format.specs.Sums.{DifferInOne, sum_of, sum_start}
 use Rattle.vme_part_format.specs.Tables.{PartValue}
 use Rattle.vme_part_format.proofs.FieldLaws.{IsBytes, IsBytes-drop, IsBytes-take, Takes, Takes-then, bind_ok}
@@ -95,9 +95,9 @@ found x = Ok x
 value_is : {A : Type 0} (x y : A) → found x ≡ found y → x ≡ y
 value_is x y e = cc
 
-placed_ok : {A : Type 0} (end : ℕ) (r : Result A FieldFault) (y : A) → placed end r ≡ Ok y → r ≡ Ok y
-placed_ok end (Ok x) y e = ap done (value_is x y e)
-placed_ok end (Err f) y e = absurd cc
+with_place_ok : {A : Type 0} (end : ℕ) (r : Result A FieldFault) (y : A) → with_place end r ≡ Ok y → r ≡ Ok y
+with_place_ok end (Ok x) y e = ap done (value_is x y e)
+with_place_ok end (Err f) y e = absurd cc
 
 same_bytes : (xs ys : List ℕ) → bytes_eq xs ys ≡ true → xs ≡ ys
 same_bytes xs ys e = (bytes_eq-Decides xs ys).0 e
@@ -131,7 +131,7 @@ part_takes bytes p fits e =
     let c = guard_not (has_its_sum bytes) _ _ p b.1 in
     let n = length bytes - 8 in
     let front = take n bytes in
-    let read = placed_ok n (body_at (drop 8 front)) p c.1 in
+    let read = with_place_ok n (body_at (drop 8 front)) p c.1 in
     let s = and_parts (nat_le 16 (length bytes)) (eqb (sum_of (summed_part bytes)) (written_sum bytes)) c.0 in
     let long : 16 ≤ length bytes = leb-true 16 (length bytes) s.0 in
     let sum-is : sum_of front ≡ from_le_bytes w64 (drop n bytes) = eqb-true _ _ s.1 in

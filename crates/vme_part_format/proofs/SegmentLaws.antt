@@ -12,9 +12,9 @@ use Rattle.vme_part_format.specs.declared.fault.PartFaultKind.TheVariants as fau
 use Rattle.vme_part_format.specs.declared.fault.FieldFault.{FieldFault}
 use Rattle.vme_part_format.specs.declared.segment.SegmentTimes.{SegmentTimes}
 use Rattle.vme_part_format.specs.Bounds.{FitSegments, FitsNumbers, FitsSegment, FitsTimes}
-use Rattle.vme_part_format.specs.Bounds.{IsBehind}
+use Rattle.vme_part_format.specs.Bounds.{IsAfter}
 use Rattle.vme_part_format.specs.PartText.{flag, levels_bytes, segment_bytes, table_bytes, tables_bytes, times_bytes}
-use Rattle.vme_part_format.specs.Reading.{◌>>=◌, are_numbers, are_times, byte_at, fault_at, flag_at, is_behind}
+use Rattle.vme_part_format.specs.Reading.{◌>>=◌, are_numbers, are_times, byte_at, fault_at, flag_at, is_after}
 use Rattle.vme_part_format.specs.Reading.{levels_at}
 use Rattle.vme_part_format.specs.Reading.{may_begin, number_at, numbers_at, read_segment, segment_at, segments_at}
 use Rattle.vme_part_format.specs.Reading.{slots_at}
@@ -30,7 +30,7 @@ use Rattle.vme_part_format.proofs.TableLaws.{TableTaken, table_again, table_take
 abbrev NumbersTaken : Option ℕ → List ℕ → (ℕ × ℕ) × List ℕ → Type 0
 NumbersTaken before bytes x =
     Takes bytes (to_le_bytes w64 x.0.0 ++ (x.0.1 ∷ [])) x.1 × FitsNumbers x.0.0 x.0.1
-    × (is_behind before x.0.0 ≡ true)
+    × (is_after before x.0.0 ≡ true)
 
 numbers_fit : (first order : ℕ) → are_numbers first order ≡ true → FitsNumbers first order
 numbers_fit first order e =
@@ -44,13 +44,13 @@ are_fit first order f =
     (and_from (nat_lt first (2 ^ 63)) (nat_lt order 63) (lt-ltb _ _ f.low) (lt-ltb _ _ f.few))
     (eq-eqb _ _ f.aligned)
 
-behind_from : (before : Option ℕ) (s : SegmentValue) → IsBehind before s → is_behind before s.first ≡ true
-behind_from None s h = refl
-behind_from (Some last) s h = lt-ltb last s.first h
+is_after_true : (before : Option ℕ) (s : SegmentValue) → IsAfter before s → is_after before s.first ≡ true
+is_after_true None s h = refl
+is_after_true (Some last) s h = lt-ltb last s.first h
 
-from_behind : (before : Option ℕ) (s : SegmentValue) → is_behind before s.first ≡ true → IsBehind before s
-from_behind None s h = tt
-from_behind (Some last) s h = ltb-true last s.first h
+is_after_holds : (before : Option ℕ) (s : SegmentValue) → is_after before s.first ≡ true → IsAfter before s
+is_after_holds None s h = tt
+is_after_holds (Some last) s h = ltb-true last s.first h
 
 numbers_take : (before : Option ℕ) (bytes : List ℕ) (x : (ℕ × ℕ) × List ℕ) → IsBytes bytes
     → numbers_at before bytes ≡ Ok x → NumbersTaken before bytes x
@@ -62,7 +62,7 @@ numbers_take before bytes x fits e =
     let b = bind_ok (byte_at a.0.1) (λ order.
     cond (may_begin before a.0.0 order.0) (Ok ((a.0.0, order.0), order.1)) (Err bad)) x a.2 in
     let g = guard_in (may_begin before a.0.0 b.0.0) bad ((a.0.0, b.0.0), b.0.1) x b.2 in
-    let p = and_parts (are_numbers a.0.0 b.0.0) (is_behind before a.0.0) g.0 in
+    let p = and_parts (are_numbers a.0.0 b.0.0) (is_after before a.0.0) g.0 in
     let t0 = number_takes w64 (2 ^ 64) wide64 bytes a.0.0 a.0.1 fits a.1 in
     let t1 = byte_takes a.0.1 b.0 t0.0.rest_fits b.1 in
     subst (λ (y : (ℕ × ℕ) × List ℕ). NumbersTaken before bytes y) g.1 (
@@ -72,12 +72,12 @@ numbers_take before bytes x fits e =
     )
 
 numbers_again : (before : Option ℕ) (first order : ℕ) (rest : List ℕ) → FitsNumbers first order
-    → is_behind before first ≡ true
+    → is_after before first ≡ true
     → numbers_at before (to_le_bytes w64 first ++ (order ∷ rest)) ≡ Ok ((first, order), rest)
 unfolding numbers_at
 numbers_again before first order rest fits behind =
     let may : may_begin before first order ≡ true =
-    and_from (are_numbers first order) (is_behind before first) (are_fit first order fits) behind in
+    and_from (are_numbers first order) (is_after before first) (are_fit first order fits) behind in
     rw (number_again w64 (2 ^ 64) wide64 first (order ∷ rest) (omega (arith, fits.low)), may) refl
 
 -- ---- slots
@@ -240,7 +240,7 @@ tables_text listing steps bytes a b c d e t =
 -- a segment that was read
 abbrev pub SegmentTaken : Bool → Option ℕ → List ℕ → SegmentValue × List ℕ → Type 0
 SegmentTaken listing before bytes x =
-    Takes bytes (segment_bytes listing x.0) x.1 × FitsSegment listing x.0 × IsBehind before x.0
+    Takes bytes (segment_bytes listing x.0) x.1 × FitsSegment listing x.0 × IsAfter before x.0
 
 segment_shape : (a st lo ll ti tb : List ℕ) (o s : ℕ)
     → (a ++ (o ∷ [])) ++ (st ++ (s ∷ (lo ++ (ll ++ (ti ++ tb)))))
@@ -287,7 +287,7 @@ segment_taken listing before bytes n st sl op le ti a b c d f h t =
         grant = t.grant.1;
         acknowledge = t.acknowledge.1;
       },
-      from_behind before s h.numbers-are.2,
+      is_after_holds before s h.numbers-are.2,
     )
 
 -- each monitor has at least 3 memories
@@ -513,7 +513,7 @@ unfolding segment_bytes
 segment_text listing s rest = simp append_assoc
 
 pub segment_again : (listing : Bool) (before : Option ℕ) (s : SegmentValue) (rest : List ℕ) → FitsSegment listing s
-    → IsBehind before s → segment_at listing before (segment_bytes listing s ++ rest) ≡ Ok (s, rest)
+    → IsAfter before s → segment_at listing before (segment_bytes listing s ++ rest) ≡ Ok (s, rest)
 unfolding segment_at
 segment_again listing before s rest fits behind =
     let b = table_bytes listing in
@@ -530,7 +530,7 @@ segment_again listing before s rest fits behind =
     ap (λ (k : ℕ). levels_at k r7) (sym fits.slots) ∙ levels_again s.left r6 fits.left.seen in
     ap (segment_at listing before) (segment_text listing s rest)
     ∙ rw (
-      numbers_again before s.first s.order r9 fits.numbers (behind_from before s behind),
+      numbers_again before s.first s.order r9 fits.numbers (is_after_true before s behind),
       number_again w64 (2 ^ 64) wide64 s.steps (s.opening.slots ∷ r8) fits.steps,
       slots_again s.opening.slots r8 fits.opening.slots.0 fits.opening.slots.1,
       levels_again s.opening r7 fits.opening.seen,

@@ -116,14 +116,14 @@ pub record FitsSegment (listing : Bool) (s : SegmentValue) : Type 0 where
   pub acknowledge : FitsTable listing 11 s.steps s.acknowledge
 
 -- the segment begins after the last file of the segments before it, if there are any
-abbrev pub IsBehind : Option ℕ → SegmentValue → Type 0
-IsBehind None s = Unit {0}
-IsBehind (Some last) s = last < s.first
+abbrev pub IsAfter : Option ℕ → SegmentValue → Type 0
+IsAfter None s = Unit {0}
+IsAfter (Some last) s = last < s.first
 
 abbrev pub FitSegments : Bool → Option ℕ → List SegmentValue → Type 0
 FitSegments listing before [] = Unit {0}
 FitSegments listing before (s ∷ ss) =
-    FitsSegment listing s × IsBehind before s × FitSegments listing (Some (last_of s.first s.order)) ss
+    FitsSegment listing s × IsAfter before s × FitSegments listing (Some (last_of s.first s.order)) ss
 
 pub record FitsPart (p : PartValue) : Type 0 where
   pub backplane : p.backplane < 2 ^ 64

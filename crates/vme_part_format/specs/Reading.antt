@@ -58,8 +58,9 @@ GivesPart view (Ok x) read = read ≡ Ok (view x)
 GivesPart view (Err e) read = Fails e read
 
 -- the items of `front`, then those of `read`
-abbrev pub behind : {A : Type 0} → List A → Result (List A × List ℕ) FieldFault → Result (List A × List ℕ) FieldFault
-behind front read = read >>= λ x. Ok (front ++ x.0, x.1)
+abbrev pub after_items : {A : Type 0} → List A → Result (List A × List ℕ) FieldFault → Result (List A × List ℕ)
+    FieldFault
+after_items front read = read >>= λ x. Ok (front ++ x.0, x.1)
 
 -- ---- numbers
 
@@ -309,12 +310,12 @@ table_at listing memories steps bytes = do
 abbrev pub are_numbers : ℕ → ℕ → Bool
 are_numbers first order = nat_lt first (2 ^ 63) && nat_lt order 63 && (first % 2 ^ order == 0)
 
-abbrev pub is_behind : Option ℕ → ℕ → Bool
-is_behind None first = true
-is_behind (Some last) first = nat_lt last first
+abbrev pub is_after : Option ℕ → ℕ → Bool
+is_after None first = true
+is_after (Some last) first = nat_lt last first
 
 abbrev pub may_begin : Option ℕ → ℕ → ℕ → Bool
-may_begin before first order = are_numbers first order && is_behind before first
+may_begin before first order = are_numbers first order && is_after before first
 
 -- reads the first number and the order of a segment; `before` is the last file of the segment before it
 unfoldable pub numbers_at : Option ℕ → List ℕ → Result ((ℕ × ℕ) × List ℕ) FieldFault
@@ -417,9 +418,9 @@ abbrev pub has_its_sum : List ℕ → Bool
 has_its_sum bytes = nat_le 16 (length bytes) && (sum_of (summed_part bytes) == written_sum bytes)
 
 -- a field's fault with its place, where the fields end at `end`
-abbrev pub placed : {A : Type 0} → ℕ → Result A FieldFault → Result A PartFault
-placed end (Ok x) = Ok x
-placed end (Err f) = Err (record { kind = f.kind; place = end - f.left })
+abbrev pub with_place : {A : Type 0} → ℕ → Result A FieldFault → Result A PartFault
+with_place end (Ok x) = Ok x
+with_place end (Err f) = Err (record { kind = f.kind; place = end - f.left })
 
 unfoldable pub part_at : List ℕ → Result PartValue PartFault
 part_at bytes =
@@ -427,7 +428,7 @@ part_at bytes =
     else if not (bytes_eq (version_byte ∷ []) (take 1 (drop 7 bytes)))
     then Err (record { kind = fault.OtherVersion; place = 7 })
     else if not (has_its_sum bytes) then Err (record { kind = fault.Damaged; place = length bytes - 8 })
-    else placed (length bytes - 8) (body_at (drop 8 (summed_part bytes)))
+    else with_place (length bytes - 8) (body_at (drop 8 (summed_part bytes)))
 
 -- the error of the reader is the fault of `read`, unless memory ran out
 abbrev pub Refuses : ReadError → Result PartValue PartFault → Type 0

@@ -5,8 +5,8 @@ ghost use Rattle.vme_part_format.specs.Bounds.{FitsNumbers, FitsPart};
 ghost use Rattle.vme_part_format.specs.PartText.{part_bytes};
 ghost use Rattle.vme_part_format.specs.Reading.{Gives, GivesPart, IsPartReading, are_numbers as are_numbers_of};
 ghost use Rattle.vme_part_format.specs.Reading.{are_times as are_times_of, body_at, has_its_sum as has_sum_of};
-ghost use Rattle.vme_part_format.specs.Reading.{is_behind, numbers_at, part_at, segment_at, segments_at, slots_at};
-ghost use Rattle.vme_part_format.specs.Reading.{placed, step_times_at, summed_part, times_at};
+ghost use Rattle.vme_part_format.specs.Reading.{is_after, numbers_at, part_at, segment_at, segments_at, slots_at};
+ghost use Rattle.vme_part_format.specs.Reading.{with_place, step_times_at, summed_part, times_at};
 ghost use Rattle.vme_part_format.specs.Sums.{DifferInOne};
 ghost use Rattle.vme_part_format.specs.Tables.{PartValue, part_value, segment_value};
 
@@ -33,8 +33,8 @@ const FEWEST_BYTES: usize = 16;
 const SUM_BYTES: usize = 8;
 
 /// Whether `first` is greater than `before`, if there is a `before`.
-fn comes_behind(before: Option<u64>, first: u64) -> bool
-    ensures { result ≡ is_behind before first }
+fn comes_after(before: Option<u64>, first: u64) -> bool
+    ensures { result ≡ is_after before first }
 {
     match before {
         None => true,
@@ -58,7 +58,7 @@ fn read_numbers(fields: &mut Fields, before: Option<u64>) -> Result<(u64, u8), F
     let bad = fields.fault(PartFaultKind::BadNumber);
     let first = fields.u64()?;
     let order = fields.byte()?;
-    if are_numbers(first, order) && comes_behind(before, first) {
+    if are_numbers(first, order) && comes_after(before, first) {
         Ok((first, order))
     } else {
         Err(FieldError::Fault(bad))
@@ -233,7 +233,7 @@ fn refusal(kind: PartFaultKind, place: usize) -> ReadError
 fn read_fields(alloc: Global, bytes: &[u8]) -> Result<Part, ReadError>
     requires { 16 ≤ length bytes.now }
     ensures { IsPartReading part_value result
-        (placed (length bytes.now - 8) (body_at (drop 8 (summed_part bytes.now)))) }
+        (with_place (length bytes.now - 8) (body_at (drop 8 (summed_part bytes.now)))) }
 {
     let end = bytes.len() - SUM_BYTES;
     let summed = &bytes[..end];

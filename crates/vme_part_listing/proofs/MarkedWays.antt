@@ -20,8 +20,8 @@ use Rattle.vme_summary.specs.MarkedRows.{listed}
 use Rattle.vme_summary.specs.Summaries.{first_break_of}
 use Rattle.vme_summary.proofs.MarkedListing.{marked_is_listed}
 use Rattle.vme_part_format.specs.Tables.{TableValue}
-use Rattle.vme_part_tables.specs.Runs.{TellsRun, TellsRuns, mark_of}
-use Rattle.vme_part_tables.specs.Ways.{WayOutcome, later_mark, outcome_in}
+use Rattle.vme_part_tables.specs.Runs.{AgreesWithRun, AgreesWithRuns, mark_of}
+use Rattle.vme_part_tables.specs.Ways.{WideOutcome, later_mark, outcome_in}
 use Rattle.vme_part_tables.proofs.Joining.{marks_of_both}
 use Rattle.vme_part_listing.specs.Marks.{HasWay}
 use Rattle.vme_parts.specs.Progress.{HasJudgedFiles}
@@ -36,11 +36,11 @@ pub past_way : {P : Type 0} (run : P → Levels → List Step → Outcome P) →
     → r.memory ≡ (outcome_in t w.memory).leaving
     → r.marks.items ≡ w.marks.items ++ map (later_mark steps) (outcome_in t w.memory).marks → v ≡ levels_after o x
     → steps ≡ length x → length x + length y < 2 ^ 64 → HasWay run begin place w o x
-    → TellsRuns true count place t (λ p. run p v y) → HasWay run begin place r o (x ++ y)
-past_way {P} run law begin place count t w r o v x y steps memory marks opens counted fits was tells =
+    → AgreesWithRuns true count place t (λ p. run p v y) → HasWay run begin place r o (x ++ y)
+past_way {P} run law begin place count t w r o v x y steps memory marks opens counted fits was agrees =
     let p = (run (begin o) o x).leaving in
-    let a : WayOutcome = record { leaving = w.memory; first_break = None; marks = w.marks.items } in
-    let b : TellsRun true place (outcome_in t w.memory) (run p v y) = rw was.leaving (tells.tells p) in
+    let a : WideOutcome = record { leaving = w.memory; first_break = None; marks = w.marks.items } in
+    let b : AgreesWithRun true place (outcome_in t w.memory) (run p v y) = rw was.leaving (agrees.agrees p) in
     let both = marks_of_both (length x) (length y) fits place true a (outcome_in t w.memory) (run (begin o) o x)
     (run p v y) was.marks b.marks (law.within p v y) in
     let whole : run (begin o) o (x ++ y) ≡ composed_outcome (length x) (run (begin o) o x) (run p v y) =

@@ -13,12 +13,13 @@ use Rattle.vme_part_format.specs.Tables.{NodeValue, TableValue}
 use Rattle.vme_part_format.specs.declared.table.TableEntry.{TableEntry}
 use Rattle.vme_part_format.specs.declared.wide.WideBreak.{WideBreak}
 use Rattle.vme_part_format.specs.declared.wide.WideMark.{WideMark}
-use Rattle.vme_part_tables.specs.Ways.{HasWays, NodesGoOn, WayOutcome, behind_break, behind_marks, ended_in, from_entry}
-use Rattle.vme_part_tables.specs.Ways.{gone_on, later_break, later_outcome, outcome_in, walked}
+use Rattle.vme_part_tables.specs.Ways.{HasWays, NodesGoOn, WideOutcome, ended_in, entry_outcome, followed_by}
+use Rattle.vme_part_tables.specs.Ways.{later_break, later_outcome, outcome_in, run_from, with_break_before}
+use Rattle.vme_part_tables.specs.Ways.{with_marks_before}
 use Rattle.vme_part_tables.specs.Composed.{CanCompose, entry_of, entry_on, first_break_on, later_node, next_on, node_on}
 use Rattle.vme_part_tables.specs.Composed.{nodes_on, table_on}
-use Rattle.vme_part_tables.proofs.Walking.{walked_here, walked_later, walked_memory, walked_over}
-use Rattle.vme_part_tables.proofs.Walking.{walked_past}
+use Rattle.vme_part_tables.proofs.Walking.{run_from_here, run_from_later, run_from_memory, run_from_over}
+use Rattle.vme_part_tables.proofs.Walking.{run_from_past}
 
 pub length-nodes_on : (es : List TableEntry) (n : ℕ) (ns : List NodeValue) → length (nodes_on es n ns) ≡ length ns
 length-nodes_on es n [] = refl
@@ -29,19 +30,20 @@ module _ (es : List TableEntry) (bs : List NodeValue) (steps : ℕ) where
   m = length es
 
   -- the outcome of the second table for the memory w
-  abbrev second_says : ℕ → WayOutcome
-  second_says w = behind_break (entry_of es w).first_break (walked m bs (entry_of es w).next)
+  abbrev second_says : ℕ → WideOutcome
+  second_says w = with_break_before (entry_of es w).first_break (run_from m bs (entry_of es w).next)
 
   -- the outcome of the first table from the way w, with the break `ev` before it, followed by that of the second
-  abbrev both_say : List NodeValue → ℕ → Option WideBreak → WayOutcome
-  both_say ns w ev = let a = behind_break ev (walked m ns w) in gone_on steps a (second_says a.leaving)
+  abbrev both_say : List NodeValue → ℕ → Option WideBreak → WideOutcome
+  both_say ns w ev = let a = with_break_before ev (run_from m ns w) in followed_by steps a (second_says a.leaving)
 
   abbrev nodes_of_both : List NodeValue → List NodeValue
   nodes_of_both ns = nodes_on es steps ns ++ map (later_node steps) bs
 
   -- the outcome of the composition from the same way
-  abbrev says_on : List NodeValue → ℕ → Option WideBreak → WayOutcome
-  says_on ns w ev = behind_break (first_break_on es steps w ev) (walked m (nodes_of_both ns) (next_on es (length ns) w))
+  abbrev says_on : List NodeValue → ℕ → Option WideBreak → WideOutcome
+  says_on ns w ev = with_break_before (first_break_on es steps w ev)
+      (run_from m (nodes_of_both ns) (next_on es (length ns) w))
 
   next_in : (between w : ℕ) → w < m → (entry_of es w).next < m → next_on es between w ≡ (entry_of es w).next
   next_in between w h k = rw (lt-ltb w m h, lt-ltb (entry_of es w).next m k) refl
@@ -60,22 +62,22 @@ module _ (es : List TableEntry) (bs : List NodeValue) (steps : ℕ) where
   first_break_past w ev h = rw (le-ltb w m h) refl
 
   -- if w is a memory of the first table, the composition continues as the second does from w
-  walked_second : (ns : List NodeValue) (w : ℕ) → w < m → ((entry_of es w).next < m) ⊎ (m ≤ (entry_of es w).next)
-      → walked m (nodes_of_both ns) (next_on es (length ns) w)
-      ≡ later_outcome steps (walked m bs (entry_of es w).next)
-  walked_second ns w h (inl k) =
-      ap (walked m (nodes_of_both ns)) (next_in (length ns) w h k)
-      ∙ (walked_memory m (nodes_of_both ns) (entry_of es w).next k
-      ∙ sym (ap (later_outcome steps) (walked_memory m bs (entry_of es w).next k)))
-  walked_second ns w h (inr k) =
-      ap (walked m (nodes_of_both ns))
+  run_from_second : (ns : List NodeValue) (w : ℕ) → w < m → ((entry_of es w).next < m) ⊎ (m ≤ (entry_of es w).next)
+      → run_from m (nodes_of_both ns) (next_on es (length ns) w)
+      ≡ later_outcome steps (run_from m bs (entry_of es w).next)
+  run_from_second ns w h (inl k) =
+      ap (run_from m (nodes_of_both ns)) (next_in (length ns) w h k)
+      ∙ (run_from_memory m (nodes_of_both ns) (entry_of es w).next k
+      ∙ sym (ap (later_outcome steps) (run_from_memory m bs (entry_of es w).next k)))
+  run_from_second ns w h (inr k) =
+      ap (run_from m (nodes_of_both ns))
       (next_out (length ns) w h k ∙ ap (λ l. (entry_of es w).next + l) (sym (length-nodes_on es steps ns)))
-      ∙ (walked_over m (nodes_on es steps ns) (map (later_node steps) bs) (entry_of es w).next k
-      ∙ walked_later m steps bs (entry_of es w).next)
+      ∙ (run_from_over m (nodes_on es steps ns) (map (later_node steps) bs) (entry_of es w).next k
+      ∙ run_from_later m steps bs (entry_of es w).next)
 
-  later_two : (a b : Option WideBreak) (r : WayOutcome)
-      → behind_break (option_or a (option_map (later_break steps) b)) (later_outcome steps r)
-      ≡ gone_on steps (record { leaving = r.leaving; first_break = a; marks = [] }) (behind_break b r)
+  later_two : (a b : Option WideBreak) (r : WideOutcome)
+      → with_break_before (option_or a (option_map (later_break steps) b)) (later_outcome steps r)
+      ≡ followed_by steps (record { leaving = r.leaving; first_break = a; marks = [] }) (with_break_before b r)
   later_two None None r = refl
   later_two None (Some x) r = refl
   later_two (Some y) b r = refl
@@ -86,21 +88,22 @@ module _ (es : List TableEntry) (bs : List NodeValue) (steps : ℕ) where
 
   from_memory : (ns : List NodeValue) (w : ℕ) (ev : Option WideBreak) → w < m → says_on ns w ev ≡ both_say ns w ev
   from_memory ns w ev h =
-      let e : walked m (nodes_of_both ns) (next_on es (length ns) w)
-      ≡ later_outcome steps (walked m bs (entry_of es w).next)
-      = walked_second ns w h (cases_lt (entry_of es w).next m) in
-      rw (e, first_break_in w ev h, walked_memory m ns w h, or_none ev)
-      (later_two ev (entry_of es w).first_break (walked m bs (entry_of es w).next))
+      let e : run_from m (nodes_of_both ns) (next_on es (length ns) w)
+      ≡ later_outcome steps (run_from m bs (entry_of es w).next)
+      = run_from_second ns w h (cases_lt (entry_of es w).next m) in
+      rw (e, first_break_in w ev h, run_from_memory m ns w h, or_none ev)
+      (later_two ev (entry_of es w).first_break (run_from m bs (entry_of es w).next))
 
-  with_marks : (ms : List WideMark) (ev : Option WideBreak) (a b : WayOutcome)
-      → behind_break ev (behind_marks ms (gone_on steps a b)) ≡ gone_on steps (behind_break ev (behind_marks ms a)) b
+  with_marks : (ms : List WideMark) (ev : Option WideBreak) (a b : WideOutcome)
+      → with_break_before ev (with_marks_before ms (followed_by steps a b)) ≡ followed_by steps
+      (with_break_before ev (with_marks_before ms a)) b
   with_marks ms None a b = rw append_assoc refl
   with_marks ms (Some x) a b = rw append_assoc refl
 
-  pub walked_both : (ns : List NodeValue) (w : ℕ) (ev : Option WideBreak) → NodesGoOn m ns → w < m + length ns
+  pub run_from_both : (ns : List NodeValue) (w : ℕ) (ev : Option WideBreak) → NodesGoOn m ns → w < m + length ns
       → says_on ns w ev ≡ both_say ns w ev
-  walked_both [] w ev g h = from_memory [] w ev (omega arith)
-  walked_both (n ∷ ns) w ev g h = by_order (λ w ev h. walked_both ns w ev g.1 h) w ev h (cases_order w m)
+  run_from_both [] w ev g h = from_memory [] w ev (omega arith)
+  run_from_both (n ∷ ns) w ev g h = by_order (λ w ev h. run_from_both ns w ev g.1 h) w ev h (cases_order w m)
     where
       at_node : ((w : ℕ) (ev : Option WideBreak) → w < m + length ns → says_on ns w ev ≡ both_say ns w ev)
           → (ev : Option WideBreak) → says_on (n ∷ ns) m ev ≡ both_say (n ∷ ns) m ev
@@ -108,12 +111,12 @@ module _ (es : List TableEntry) (bs : List NodeValue) (steps : ℕ) where
           rw (
             next_past (suc (length ns)) m (omega arith),
             first_break_past m ev (omega arith),
-            walked_here m (node_on es steps (length ns) n) (nodes_of_both ns),
-            walked_here m n ns,
+            run_from_here m (node_on es steps (length ns) n) (nodes_of_both ns),
+            run_from_here m n ns,
           )
-          (ap (λ r. behind_break ev (behind_marks n.marks r)) (more n.next n.first_break g.0)
-          ∙ with_marks n.marks ev (behind_break n.first_break (walked m ns n.next))
-          (second_says (walked m ns n.next).leaving))
+          (ap (λ r. with_break_before ev (with_marks_before n.marks r)) (more n.next n.first_break g.0)
+          ∙ with_marks n.marks ev (with_break_before n.first_break (run_from m ns n.next))
+          (second_says (run_from m ns n.next).leaving))
 
       by_order : ((w : ℕ) (ev : Option WideBreak) → w < m + length ns → says_on ns w ev ≡ both_say ns w ev)
           → (w : ℕ) (ev : Option WideBreak) → w < m + suc (length ns) → ((w ≡ m) ⊎ ((w < m) ⊎ (m < w)))
@@ -124,31 +127,31 @@ module _ (es : List TableEntry) (bs : List NodeValue) (steps : ℕ) where
           let past : m ≤ w - 1 = omega arith in
           let below : w - 1 < m + length ns = omega arith in
           let whole = more (w - 1) ev below in
-          let on : behind_break ev (walked m (nodes_of_both ns) (w - 1)) ≡ both_say ns (w - 1) ev
+          let on : with_break_before ev (run_from m (nodes_of_both ns) (w - 1)) ≡ both_say ns (w - 1) ev
           = rw (next_past (length ns) (w - 1) past, first_break_past (w - 1) ev past) at whole in
           rw (
             next_past (suc (length ns)) w (omega arith),
             first_break_past w ev (omega arith),
-            walked_past m (node_on es steps (length ns) n) (nodes_of_both ns) w k,
-            walked_past m n ns w k,
+            run_from_past m (node_on es steps (length ns) n) (nodes_of_both ns) w k,
+            run_from_past m n ns w k,
           ) on
 
 -- each run ends in a memory
-pub walked_leaving : (m : ℕ) (ns : List NodeValue) (w : ℕ) → NodesGoOn m ns → w < m + length ns
-    → (walked m ns w).leaving < m
-walked_leaving m [] w g h = omega arith
-walked_leaving m (n ∷ ns) w g h = by_order (λ w h. walked_leaving m ns w g.1 h) w h (cases_order w m)
+pub run_from_leaving : (m : ℕ) (ns : List NodeValue) (w : ℕ) → NodesGoOn m ns → w < m + length ns
+    → (run_from m ns w).leaving < m
+run_from_leaving m [] w g h = omega arith
+run_from_leaving m (n ∷ ns) w g h = by_order (λ w h. run_from_leaving m ns w g.1 h) w h (cases_order w m)
   where
-    by_order : ((w : ℕ) → w < m + length ns → (walked m ns w).leaving < m) → (w : ℕ) → w < m + suc (length ns)
-        → ((w ≡ m) ⊎ ((w < m) ⊎ (m < w))) → (walked m (n ∷ ns) w).leaving < m
-    by_order more w h (inl e) = rw (e, walked_here m n ns) (more n.next g.0)
-    by_order more w h (inr (inl k)) = rw (walked_memory m (n ∷ ns) w k) k
+    by_order : ((w : ℕ) → w < m + length ns → (run_from m ns w).leaving < m) → (w : ℕ) → w < m + suc (length ns)
+        → ((w ≡ m) ⊎ ((w < m) ⊎ (m < w))) → (run_from m (n ∷ ns) w).leaving < m
+    by_order more w h (inl e) = rw (e, run_from_here m n ns) (more n.next g.0)
+    by_order more w h (inr (inl k)) = rw (run_from_memory m (n ∷ ns) w k) k
     by_order more w h (inr (inr k)) =
         let below : w - 1 < m + length ns = omega arith in
-        rw (walked_past m n ns w k) (more (w - 1) below)
+        rw (run_from_past m n ns w k) (more (w - 1) below)
 
 outcome_at : (t : TableValue) (k : ℕ) (e : TableEntry) → slice_get t.entries k ≡ Some e → outcome_in t k
-    ≡ from_entry t e
+    ≡ entry_outcome t e
 outcome_at t k e h = rw h refl
 
 outcome_past : (t : TableValue) (k : ℕ) → slice_get t.entries k ≡ None → outcome_in t k ≡ ended_in k
@@ -177,7 +180,7 @@ module _ (a b : TableValue) (steps : ℕ) (c : CanCompose a b) where
 
   composed_at : (k : ℕ) (e : TableEntry) → k < length a.entries → slice_get a.entries k ≡ Some e
       → get_or a.entries k e ≡ e → outcome_in (table_on a b steps) k
-      ≡ gone_on steps (outcome_in a k) (outcome_in b (outcome_in a k).leaving)
+      ≡ followed_by steps (outcome_in a k) (outcome_in b (outcome_in a k).leaving)
   composed_at k e h at same =
       let m = length b.entries in
       let ways : NodesGoOn m a.nodes = rw c.as_many c.first.nodes in
@@ -186,24 +189,25 @@ module _ (a b : TableValue) (steps : ℕ) (c : CanCompose a b) where
       c.first.entries h same) in
       let there : slice_get (map on a.entries) k ≡ Some (on e)
       = slice_get-map on a.entries k ∙ ap (option_map on) at in
-      let left = walked_leaving m a.nodes e.next ways below in
-      let r = behind_break e.first_break (walked m a.nodes e.next) in
+      let left = run_from_leaving m a.nodes e.next ways below in
+      let r = with_break_before e.first_break (run_from m a.nodes e.next) in
       let on_both : outcome_in (table_on a b steps) k ≡ says_on b.entries b.nodes steps a.nodes e.next e.first_break =
       outcome_at (table_on a b steps) k (on e) there
-      ∙ ap (λ j. behind_break (on e).first_break (walked j (table_on a b steps).nodes (on e).next)) as_many_on in
+      ∙ ap (λ j. with_break_before (on e).first_break (run_from j (table_on a b steps).nodes (on e).next)) as_many_on in
       let from_a : r ≡ outcome_in a k =
-      ap (λ j. behind_break e.first_break (walked j a.nodes e.next)) c.as_many ∙ sym (outcome_at a k e at) in
-      on_both ∙ (walked_both b.entries b.nodes steps a.nodes e.next e.first_break ways below
-      ∙ (ap (gone_on steps r) (second_outcome r.leaving left)
-      ∙ ap (λ (s : WayOutcome). gone_on steps s (outcome_in b s.leaving)) from_a))
+      ap (λ j. with_break_before e.first_break (run_from j a.nodes e.next)) c.as_many ∙ sym (outcome_at a k e at) in
+      on_both ∙ (run_from_both b.entries b.nodes steps a.nodes e.next e.first_break ways below
+      ∙ (ap (followed_by steps r) (second_outcome r.leaving left)
+      ∙ ap (λ (s : WideOutcome). followed_by steps s (outcome_in b s.leaving)) from_a))
 
   pub composed_says : (k : ℕ) → outcome_in (table_on a b steps) k
-      ≡ gone_on steps (outcome_in a k) (outcome_in b (outcome_in a k).leaving)
+      ≡ followed_by steps (outcome_in a k) (outcome_in b (outcome_in a k).leaving)
   composed_says k = by_place (slice_get_cases a.entries k).1
     where
       by_place : ((x : TableEntry) × (k < length a.entries) × (slice_get a.entries k ≡ Some x)
           × (get_or a.entries k x ≡ x)) ⊎ ((length a.entries ≤ k) × (slice_get a.entries k ≡ None))
-          → outcome_in (table_on a b steps) k ≡ gone_on steps (outcome_in a k) (outcome_in b (outcome_in a k).leaving)
+          → outcome_in (table_on a b steps) k ≡ followed_by steps (outcome_in a k)
+          (outcome_in b (outcome_in a k).leaving)
       by_place (inl there) = composed_at k there.0 there.1 there.2 there.3
       by_place (inr past) =
           let none : slice_get (map on a.entries) k ≡ None

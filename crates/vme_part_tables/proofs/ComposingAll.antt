@@ -3,12 +3,12 @@ use Rattle.std.proofs.Common.{ℕ, ◌+◌, ◌∙◌, arith}
 use Rattle.vme_part_format.specs.Tables.{TableValue}
 use Rattle.vme_part_tables.specs.Composed.{CanCompose, table_on}
 use Rattle.vme_part_tables.specs.Pruned.{IsPruned}
-use Rattle.vme_part_tables.specs.Runs.{SaysBoth}
+use Rattle.vme_part_tables.specs.Runs.{IsComposition}
 use Rattle.vme_part_tables.proofs.Composing.{composed_count, composed_memories, composed_says}
 use Rattle.vme_part_tables.proofs.Fitting.{composed_fits}
 
 pub both_pruned : (a b : TableValue) (steps : ℕ) → CanCompose a b → (u : TableValue) → IsPruned (table_on a b steps) u
-    → SaysBoth steps a b u
+    → IsComposition steps a b u
 both_pruned a b steps c u p =
     record {
       counted = p.counted ∙ composed_memories a b steps c;

@@ -11,8 +11,8 @@ use Rattle.vme_monitor.specs.declared.mark.Mark.{Mark}
 use Rattle.vme_part_format.specs.Tables.{TableValue}
 use Rattle.vme_part_format.specs.declared.wide.WideBreak.{WideBreak}
 use Rattle.vme_part_format.specs.declared.wide.WideMark.{WideMark}
-use Rattle.vme_part_tables.specs.Ways.{WayOutcome, gone_on, later, later_break, later_mark, outcome_in}
-use Rattle.vme_part_tables.specs.Runs.{SaysBoth, ShowsMarks, TellsRun, TellsRuns, break_of, mark_of}
+use Rattle.vme_part_tables.specs.Ways.{WideOutcome, followed_by, later, later_break, later_mark, outcome_in}
+use Rattle.vme_part_tables.specs.Runs.{AgreesWithRun, AgreesWithRuns, IsComposition, ShowsMarks, break_of, mark_of}
 
 module _ (m n : ℕ) (fits : m + n < 2 ^ 64) where
   later_is : (i : ℕ) → i ≤ n → later m i ≡ i + m
@@ -53,8 +53,8 @@ module _ (m n : ℕ) (fits : m + n < 2 ^ 64) where
   earlier_of (Some a) b (Some e) f p q = p
 
   module _ {P : Type 0} (place : P → ℕ) where
-    pub marks_of_both : (listing : Bool) (a b : WayOutcome) (r s : Outcome P) → ShowsMarks listing a r
-        → ShowsMarks listing b s → IsWithin n s → ShowsMarks listing (gone_on m a b) (composed_outcome m r s)
+    pub marks_of_both : (listing : Bool) (a b : WideOutcome) (r s : Outcome P) → ShowsMarks listing a r
+        → ShowsMarks listing b s → IsWithin n s → ShowsMarks listing (followed_by m a b) (composed_outcome m r s)
     marks_of_both true a b r s p q h =
         map-append mark_of a.marks (map (later_mark m) b.marks)
         ∙ (ap (λ k. k ++ map mark_of (map (later_mark m) b.marks)) p
@@ -62,8 +62,9 @@ module _ (m n : ℕ) (fits : m + n < 2 ^ 64) where
     marks_of_both false a b r s p q h =
         ap (λ k. k ++ map (later_mark m) b.marks) p ∙ ap (map (later_mark m)) q
 
-    pub tells_both : (listing : Bool) (a b : WayOutcome) (r s : Outcome P) → TellsRun listing place a r
-        → TellsRun listing place b s → IsWithin n s → TellsRun listing place (gone_on m a b) (composed_outcome m r s)
+    pub tells_both : (listing : Bool) (a b : WideOutcome) (r s : Outcome P) → AgreesWithRun listing place a r
+        → AgreesWithRun listing place b s → IsWithin n s → AgreesWithRun listing place (followed_by m a b)
+        (composed_outcome m r s)
     tells_both listing a b r s p q h =
         record {
           leaving = q.leaving;
@@ -74,16 +75,16 @@ module _ (m n : ℕ) (fits : m + n < 2 ^ 64) where
         }
 
     pub tables_tell_both : (listing : Bool) (memories : ℕ) (first second both : TableValue) (f g h : P → Outcome P)
-        → SaysBoth m first second both → TellsRuns listing memories place first f
-        → TellsRuns listing memories place second g → ((p : P) → IsWithin n (g p))
-        → ((p : P) → h p ≡ composed_outcome m (f p) (g (f p).leaving)) → TellsRuns listing memories place both h
+        → IsComposition m first second both → AgreesWithRuns listing memories place first f
+        → AgreesWithRuns listing memories place second g → ((p : P) → IsWithin n (g p))
+        → ((p : P) → h p ≡ composed_outcome m (f p) (g (f p).leaving)) → AgreesWithRuns listing memories place both h
     tables_tell_both listing memories first second both f g h s p q within whole =
         record {
           counted = s.counted ∙ p.counted;
           ways = s.ways;
-          tells = λ k.
-              let a = p.tells k in
-              let b = rw (← a.leaving) at (q.tells (f k).leaving) in
+          agrees = λ k.
+              let a = p.agrees k in
+              let b = rw (← a.leaving) at (q.agrees (f k).leaving) in
               rw (s.outcomes (place k), whole k)
               (tells_both listing (outcome_in first (place k))
               (outcome_in second (outcome_in first (place k)).leaving) (f k) (g (f k).leaving) a b

@@ -17,66 +17,66 @@ use Rattle.vme_part_format.specs.declared.table.TableEntry.{TableEntry}
 use Rattle.vme_part_format.specs.declared.table.TableNode.{TableNode}
 use Rattle.vme_part_format.specs.declared.wide.WideBreak.{WideBreak}
 use Rattle.vme_part_format.specs.declared.wide.WideMark.{WideMark}
-use Rattle.vme_part_tables.specs.Ways.{HasWays, WayOutcome, behind_break, behind_marks, ended_in, from_entry}
-use Rattle.vme_part_tables.specs.Ways.{outcome_in, walked}
-use Rattle.vme_part_tables.specs.Runs.{TellsRun, TellsRuns, break_of, mark_of}
-use Rattle.vme_part_tables.specs.Marked.{AreMade, MadeGoOn, SayBelow, SaysBehind, entry_made}
-use Rattle.vme_part_tables.specs.Marked.{if_needed, is_needed, made_says, onward_at}
-use Rattle.vme_part_tables.specs.Marked.{says_at, turned}
+use Rattle.vme_part_tables.specs.Ways.{HasWays, WideOutcome, ended_in, entry_outcome, outcome_in, run_from}
+use Rattle.vme_part_tables.specs.Ways.{with_break_before, with_marks_before}
+use Rattle.vme_part_tables.specs.Runs.{AgreesWithRun, AgreesWithRuns, break_of, mark_of}
+use Rattle.vme_part_tables.specs.Marked.{AddsBefore, AgreeBelow, AreMade, MadeGoOn, entry_made, if_needed, is_needed}
+use Rattle.vme_part_tables.specs.Marked.{made_outcome, onward_at, onward_outcome, reversed_way}
 use Rattle.vme_part_tables.specs.declared.marked.Onward.{Onward}
-use Rattle.vme_part_tables.proofs.Walking.{behind_two, walked_here, walked_memory, walked_past}
+use Rattle.vme_part_tables.proofs.Walking.{run_from_here, run_from_memory, run_from_past, with_two_breaks_before}
 
 reverse_one : (xs : List NodeValue) (n : NodeValue) → reverse (xs ++ n ∷ []) ≡ n ∷ reverse xs
 reverse_one xs n = reverse-append xs (n ∷ [])
 
 module _ (m : ℕ) where
-  turned_memory : (k w : ℕ) → w < m → turned m k w ≡ w
-  turned_memory k w h = rw (lt-ltb w m h) refl
+  reversed_way_memory : (k w : ℕ) → w < m → reversed_way m k w ≡ w
+  reversed_way_memory k w h = rw (lt-ltb w m h) refl
 
-  turned_node : (k w : ℕ) → m ≤ w → turned m k w ≡ m + (k - 1 - (w - m))
-  turned_node k w h = rw (le-ltb w m h) refl
+  reversed_way_node : (k w : ℕ) → m ≤ w → reversed_way m k w ≡ m + (k - 1 - (w - m))
+  reversed_way_node k w h = rw (le-ltb w m h) refl
 
-  pub turned_below : (k w : ℕ) → w < m + k → turned m k w < m + k
-  turned_below k w h = by_place (cases_lt w m)
+  pub reversed_way_below : (k w : ℕ) → w < m + k → reversed_way m k w < m + k
+  reversed_way_below k w h = by_place (cases_lt w m)
     where
-      by_place : ((w < m) ⊎ (m ≤ w)) → turned m k w < m + k
-      by_place (inl i) = rw (turned_memory k w i) h
-      by_place (inr i) = rw (turned_node k w i) (omega arith)
+      by_place : ((w < m) ⊎ (m ≤ w)) → reversed_way m k w < m + k
+      by_place (inl i) = rw (reversed_way_memory k w i) h
+      by_place (inr i) = rw (reversed_way_node k w i) (omega arith)
 
   -- one more node doesn't change the outcome from the ways there were before
   pub says_still : (made : List NodeValue) (n : NodeValue) (ev : Option WideBreak) (w : ℕ) → w < m + length made
-      → made_says m (made ++ n ∷ []) ev w ≡ made_says m made ev w
+      → made_outcome m (made ++ n ∷ []) ev w ≡ made_outcome m made ev w
   says_still made n ev w h = by_place (cases_lt w m)
     where
       count : length (made ++ n ∷ []) ≡ length made + 1
       count = length-append made (n ∷ [])
 
-      by_place : ((w < m) ⊎ (m ≤ w)) → made_says m (made ++ n ∷ []) ev w ≡ made_says m made ev w
+      by_place : ((w < m) ⊎ (m ≤ w)) → made_outcome m (made ++ n ∷ []) ev w ≡ made_outcome m made ev w
       by_place (inl i) =
           rw (
-            turned_memory (length (made ++ n ∷ [])) w i,
-            turned_memory (length made) w i,
-            walked_memory m (reverse (made ++ n ∷ [])) w i,
-            walked_memory m (reverse made) w i,
+            reversed_way_memory (length (made ++ n ∷ [])) w i,
+            reversed_way_memory (length made) w i,
+            run_from_memory m (reverse (made ++ n ∷ [])) w i,
+            run_from_memory m (reverse made) w i,
           ) refl
       by_place (inr i) =
-          let to : turned m (length (made ++ n ∷ [])) w ≡ turned m (length made) w + 1
-          = turned_node (length (made ++ n ∷ [])) w i
-          ∙ (ap (λ k. m + (k - 1 - (w - m))) count ∙ rw (turned_node (length made) w i) (omega arith)) in
-          let past : m < turned m (length made) w + 1 = rw (turned_node (length made) w i) (omega arith) in
-          let e : turned m (length made) w + 1 - 1 ≡ turned m (length made) w = omega arith in
-          rw (to, reverse_one made n, walked_past m n (reverse made) (turned m (length made) w + 1) past, e) refl
+          let to : reversed_way m (length (made ++ n ∷ [])) w ≡ reversed_way m (length made) w + 1
+          = reversed_way_node (length (made ++ n ∷ [])) w i
+          ∙ (ap (λ k. m + (k - 1 - (w - m))) count ∙ rw (reversed_way_node (length made) w i) (omega arith)) in
+          let past : m < reversed_way m (length made) w + 1 = rw (reversed_way_node (length made) w i) (omega arith) in
+          let e : reversed_way m (length made) w + 1 - 1 ≡ reversed_way m (length made) w = omega arith in
+          rw (to, reverse_one made n, run_from_past m n (reverse made) (reversed_way m (length made) w + 1) past, e)
+          refl
 
   -- the outcome from the new node is its marks and its break, and then the outcome from its `next`
   pub says_new : (made : List NodeValue) (n : NodeValue)
-      → made_says m (made ++ n ∷ []) None (m + length made)
-      ≡ behind_marks n.marks (behind_break n.first_break (walked m (reverse made) n.next))
+      → made_outcome m (made ++ n ∷ []) None (m + length made)
+      ≡ with_marks_before n.marks (with_break_before n.first_break (run_from m (reverse made) n.next))
   says_new made n =
       let count : length (made ++ n ∷ []) ≡ length made + 1 = length-append made (n ∷ []) in
-      let to : turned m (length (made ++ n ∷ [])) (m + length made) ≡ m
-      = turned_node (length (made ++ n ∷ [])) (m + length made) (omega arith)
+      let to : reversed_way m (length (made ++ n ∷ [])) (m + length made) ≡ m
+      = reversed_way_node (length (made ++ n ∷ [])) (m + length made) (omega arith)
       ∙ (ap (λ k. m + (k - 1 - (m + length made - m))) count ∙ omega arith) in
-      rw (to, reverse_one made n, walked_here m n (reverse made)) refl
+      rw (to, reverse_one made n, run_from_here m n (reverse made)) refl
 
   pub made_go_on : (made : List NodeValue) (n : NodeValue) → MadeGoOn m made → n.next < m + length made
       → MadeGoOn m (made ++ n ∷ [])
@@ -87,12 +87,13 @@ break_or : (a b : Option WideBreak) → option_map break_of (option_or a b)
 break_or None b = refl
 break_or (Some a) b = refl
 
--- `behind_break` adds a break before the outcome w
-pub says_break : (ev : Option WideBreak) (w : WayOutcome) → SaysBehind (option_map break_of ev) [] w (behind_break ev w)
+-- `with_break_before` adds a break before the outcome w
+pub says_break : (ev : Option WideBreak) (w : WideOutcome) → AddsBefore (option_map break_of ev) [] w
+    (with_break_before ev w)
 says_break ev w = record { leaving = refl; first_break = break_or ev w.first_break; marks = refl }
 
-pub says_marks : (ev : Option WideBreak) (ws : List WideMark) (ms : List Mark) (w : WayOutcome) → map mark_of ws ≡ ms
-    → SaysBehind (option_map break_of ev) ms w (behind_marks ws (behind_break ev w))
+pub says_marks : (ev : Option WideBreak) (ws : List WideMark) (ms : List Mark) (w : WideOutcome) → map mark_of ws ≡ ms
+    → AddsBefore (option_map break_of ev) ms w (with_marks_before ws (with_break_before ev w))
 says_marks ev ws ms w e =
     record {
       leaving = refl;
@@ -102,27 +103,27 @@ says_marks ev ws ms w e =
 
 -- without marks, the break alone is added before the outcome from w
 pub through_nothing : (m : ℕ) (made : List NodeValue) (ev on : Option WideBreak) (w : ℕ)
-    → SaysBehind (option_map break_of ev) [] (made_says m made on w) (made_says m made (option_or ev on) w)
+    → AddsBefore (option_map break_of ev) [] (made_outcome m made on w) (made_outcome m made (option_or ev on) w)
 through_nothing m made ev on w =
-    subst (SaysBehind (option_map break_of ev) [] (made_says m made on w))
-    (sym (behind_two ev on (walked m (reverse made) (turned m (length made) w))))
-    (says_break ev (made_says m made on w))
+    subst (AddsBefore (option_map break_of ev) [] (made_outcome m made on w))
+    (sym (with_two_breaks_before ev on (run_from m (reverse made) (reversed_way m (length made) w))))
+    (says_break ev (made_outcome m made on w))
 
 -- with marks, the new node adds the break and the marks before the outcome from w
 pub through_node : (m : ℕ) (made : List NodeValue) (n : NodeValue) (ev on : Option WideBreak) (w : ℕ) (ms : List Mark)
-    → n.first_break ≡ option_or ev on → n.next ≡ turned m (length made) w → map mark_of n.marks ≡ ms
-    → SaysBehind (option_map break_of ev) ms (made_says m made on w)
-    (made_says m (made ++ n ∷ []) None (m + length made))
+    → n.first_break ≡ option_or ev on → n.next ≡ reversed_way m (length made) w → map mark_of n.marks ≡ ms
+    → AddsBefore (option_map break_of ev) ms (made_outcome m made on w)
+    (made_outcome m (made ++ n ∷ []) None (m + length made))
 through_node m made n ev on w ms first_break next marks =
-    let rest = walked m (reverse made) in
-    let same : made_says m (made ++ n ∷ []) None (m + length made)
-    ≡ behind_marks n.marks (behind_break ev (made_says m made on w)) =
+    let rest = run_from m (reverse made) in
+    let same : made_outcome m (made ++ n ∷ []) None (m + length made)
+    ≡ with_marks_before n.marks (with_break_before ev (made_outcome m made on w)) =
     says_new m made n
-    ∙ (ap (λ k. behind_marks n.marks (behind_break k (rest n.next))) first_break
-    ∙ (ap (λ k. behind_marks n.marks (behind_break (option_or ev on) (rest k))) next
-    ∙ ap (behind_marks n.marks) (behind_two ev on (rest (turned m (length made) w))))) in
-    subst (SaysBehind (option_map break_of ev) ms (made_says m made on w)) (sym same)
-    (says_marks ev n.marks ms (made_says m made on w) marks)
+    ∙ (ap (λ k. with_marks_before n.marks (with_break_before k (rest n.next))) first_break
+    ∙ (ap (λ k. with_marks_before n.marks (with_break_before (option_or ev on) (rest k))) next
+    ∙ ap (with_marks_before n.marks) (with_two_breaks_before ev on (rest (reversed_way m (length made) w))))) in
+    subst (AddsBefore (option_map break_of ev) ms (made_outcome m made on w)) (sym same)
+    (says_marks ev n.marks ms (made_outcome m made on w) marks)
 
 earlier_none : (e : Option Break) → earlier e None ≡ e
 earlier_none None = refl
@@ -131,13 +132,13 @@ earlier_none (Some b) = refl
 -- an outcome r with the break `ev` and the marks ms that ends in the memory p agrees with this run
 pub row_tells : {P : Type 0} (place : P → ℕ) (m : ℕ) (made : List NodeValue) (p : P) (ev : Option Break)
     (ms : List Mark)
-    (r : WayOutcome) → place p < m → SaysBehind ev ms (made_says m made None (place p)) r
-    → TellsRun true place r (record { leaving = p; first_break = ev; marks = ms })
+    (r : WideOutcome) → place p < m → AddsBefore ev ms (made_outcome m made None (place p)) r
+    → AgreesWithRun true place r (record { leaving = p; first_break = ev; marks = ms })
 row_tells place m made p ev ms r h s =
-    let ends : made_says m made None (place p) ≡ ended_in (place p) =
-    ap (λ k. behind_break None (walked m (reverse made) k)) (turned_memory m (length made) (place p) h)
-    ∙ ap (behind_break None) (walked_memory m (reverse made) (place p) h) in
-    let s = subst (λ w. SaysBehind ev ms w r) ends s in
+    let ends : made_outcome m made None (place p) ≡ ended_in (place p) =
+    ap (λ k. with_break_before None (run_from m (reverse made) k)) (reversed_way_memory m (length made) (place p) h)
+    ∙ ap (with_break_before None) (run_from_memory m (reverse made) (place p) h) in
+    let s = subst (λ w. AddsBefore ev ms w r) ends s in
     record { leaving = s.leaving; first_break = s.first_break ∙ earlier_none ev; marks = s.marks ∙ append-nil ms }
 
 -- one more item doesn't change the items before it
@@ -166,9 +167,9 @@ module _ (m : ℕ) (old new : List TableNode) (n : TableNode) (pushed : new ≡ 
   values = ap (map node_value) pushed ∙ map-append node_value old (n ∷ [])
 
   pub pushed_kept : (ev : Option WideBreak) (w : ℕ) → w < m + length old
-      → made_says m (map node_value new) ev w ≡ made_says m (map node_value old) ev w
+      → made_outcome m (map node_value new) ev w ≡ made_outcome m (map node_value old) ev w
   pushed_kept ev w h =
-      ap (λ l. made_says m l ev w) values
+      ap (λ l. made_outcome m l ev w) values
       ∙ says_still m (map node_value old) (node_value n) ev w (rw (length-map old node_value) h)
 
   pub pushed_go_on : MadeGoOn m (map node_value old) → n.next < m + length old → MadeGoOn m (map node_value new)
@@ -177,18 +178,18 @@ module _ (m : ℕ) (old new : List TableNode) (n : TableNode) (pushed : new ≡ 
       (made_go_on m (map node_value old) (node_value n) g (rw (length-map old node_value) h))
 
   pub pushed_says : (ev on : Option WideBreak) (w k : ℕ) (ms : List Mark) → k ≡ m + length old
-      → n.first_break ≡ option_or ev on → n.next ≡ turned m (length old) w → map mark_of n.marks.items ≡ ms
-      → SaysBehind (option_map break_of ev) ms (made_says m (map node_value old) on w)
-      (made_says m (map node_value new) None k)
+      → n.first_break ≡ option_or ev on → n.next ≡ reversed_way m (length old) w → map mark_of n.marks.items ≡ ms
+      → AddsBefore (option_map break_of ev) ms (made_outcome m (map node_value old) on w)
+      (made_outcome m (map node_value new) None k)
   pushed_says ev on w k ms at first_break next marks =
       let many = length-map old node_value in
       let made = map node_value old in
-      let to : made_says m (map node_value new) None k
-      ≡ made_says m (made ++ node_value n ∷ []) None (m + length made) =
-      ap (λ j. made_says m (map node_value new) None j) (at ∙ ap (λ j. m + j) (sym many))
-      ∙ ap (λ l. made_says m l None (m + length made)) values in
-      subst (SaysBehind (option_map break_of ev) ms (made_says m made on w)) (sym to)
-      (through_node m made (node_value n) ev on w ms first_break (next ∙ ap (λ j. turned m j w) (sym many)) marks)
+      let to : made_outcome m (map node_value new) None k
+      ≡ made_outcome m (made ++ node_value n ∷ []) None (m + length made) =
+      ap (λ j. made_outcome m (map node_value new) None j) (at ∙ ap (λ j. m + j) (sym many))
+      ∙ ap (λ l. made_outcome m l None (m + length made)) values in
+      subst (AddsBefore (option_map break_of ev) ms (made_outcome m made on w)) (sym to)
+      (through_node m made (node_value n) ev on w ms first_break (next ∙ ap (λ j. reversed_way m j w) (sym many)) marks)
 
 -- the table of the nodes in `made`, with the entries es
 module _ (m : ℕ) (made ns : List NodeValue) (onward : List Onward) (es : List TableEntry) (some : 0 < m)
@@ -208,13 +209,13 @@ module _ (m : ℕ) (made ns : List NodeValue) (onward : List Onward) (es : List 
           rw e (subst (λ (x : Onward). x.way < m + length made) there.3 (ways k there.0 there.1))
       by_place (inr past) = let e = past.1 in rw e (omega arith)
 
-  pub table_says : (k : ℕ) → k < m → outcome_in table k ≡ says_at m made (onward_at onward k)
+  pub table_says : (k : ℕ) → k < m → outcome_in table k ≡ onward_outcome m made (onward_at onward k)
   table_says k h =
       let o = onward_at onward k in
-      let w = turned m (length made) o.way in
-      ap (λ e. option_map_or (from_entry table) e (ended_in k)) (entries k h)
-      ∙ (ap (λ j. behind_break o.first_break (walked j ns w)) count
-      ∙ ap (λ l. behind_break o.first_break (walked m l w)) turn)
+      let w = reversed_way m (length made) o.way in
+      ap (λ e. option_map_or (entry_outcome table) e (ended_in k)) (entries k h)
+      ∙ (ap (λ j. with_break_before o.first_break (run_from j ns w)) count
+      ∙ ap (λ l. with_break_before o.first_break (run_from m l w)) turn)
 
   pub table_ways : HasWays table
   table_ways =
@@ -225,7 +226,7 @@ module _ (m : ℕ) (made ns : List NodeValue) (onward : List Onward) (es : List 
             let below : k < m = omega arith in
             let e = get_or_from_slice_get es k (entry_made m (length made) (onward_at onward k)) d (entries k below) in
             let next = ap (λ (x : TableEntry). x.next) e in
-            let low = turned_below m (length made) (onward_at onward k).way (onward_below k) in
+            let low = reversed_way_below m (length made) (onward_at onward k).way (onward_below k) in
             rw (next, count, nodes) low;
         nodes = rw (count, turn) g;
       }
@@ -277,16 +278,17 @@ onward_low m made os k some ways = by_place (slice_get_cases os k).1
 abbrev pub Stays : ℕ → List TableNode → List TableNode → Type 0
 Stays m first new =
     (ev : Option WideBreak) (w : ℕ) → w < m + length first
-    → made_says m (map node_value new) ev w ≡ made_says m (map node_value first) ev w
+    → made_outcome m (map node_value new) ev w ≡ made_outcome m (map node_value first) ev w
 
 -- the loop invariant holds after one more memory, with the number i
 pub memory_step : {P : Type 0} (place : P → ℕ) (m : ℕ) (first new : List TableNode) (os ps : List Onward) (o : Onward)
     (says : ℕ → Outcome P) (i : ℕ) → ps ≡ os ++ o ∷ [] → length os ≡ i → AreMade m (map node_value first) os
-    → Stays m first new → TellsRun true place (says_at m (map node_value new) o) (says i)
-    → SayBelow place m (map node_value first) os i says → SayBelow place m (map node_value new) ps (i + 1) says
+    → Stays m first new → AgreesWithRun true place (onward_outcome m (map node_value new) o) (says i)
+    → AgreeBelow place m (map node_value first) os i says → AgreeBelow place m (map node_value new) ps (i + 1) says
 memory_step place m first new os ps o says i pushed count ways stays here below k h = by_place (cases_lt k i)
   where
-    by_place : ((k < i) ⊎ (i ≤ k)) → TellsRun true place (says_at m (map node_value new) (onward_at ps k)) (says k)
+    by_place : ((k < i) ⊎ (i ≤ k)) → AgreesWithRun true place (onward_outcome m (map node_value new) (onward_at ps k))
+        (says k)
     by_place (inl j) =
         let inside : k < length os = omega arith in
         let many = length-map first node_value in
@@ -294,29 +296,30 @@ memory_step place m first new os ps o says i pushed count ways stays here below 
         let at : onward_at ps k ≡ onward_at os k
         = ap (λ (x : List Onward). onward_at x k) pushed ∙ onward_before os o k inside in
         let still = stays (onward_at os k).first_break (onward_at os k).way (omega (arith, made, many)) in
-        subst (λ w. TellsRun true place w (says k))
-        (sym (ap (says_at m (map node_value new)) at ∙ still)) (below k j)
+        subst (λ w. AgreesWithRun true place w (says k))
+        (sym (ap (onward_outcome m (map node_value new)) at ∙ still)) (below k j)
     by_place (inr j) =
         let same : i ≡ k = omega arith in
         let last : k ≡ length os = omega arith in
         let at : onward_at ps k ≡ o = ap (λ (x : List Onward). onward_at x k) pushed ∙ onward_last os o k last in
-        subst (λ w. TellsRun true place w (says k)) (sym (ap (says_at m (map node_value new)) at))
-        (subst (λ j. TellsRun true place (says_at m (map node_value new) o) (says j)) same here)
+        subst (λ w. AgreesWithRun true place w (says k)) (sym (ap (onward_outcome m (map node_value new)) at))
+        (subst (λ j. AgreesWithRun true place (onward_outcome m (map node_value new) o) (says j)) same here)
 
 -- if each item of `onward` gives the run of its memory, the table agrees with the runs of all memories
 pub marked_tells : {P : Type 0} (place : P → ℕ) (nth : ℕ → P) (count : ℕ) (made : List NodeValue)
     (onward : List Onward) (needs : List Bool) (says : P → Outcome P) (t : TableValue) → ((p : P) → place p < count)
     → ((p : P) → nth (place p) ≡ p)
-    → SayBelow place count made onward count (λ k. if_needed (is_needed needs k) (says (nth k)))
-    → ((k : ℕ) → k < count → outcome_in t k ≡ says_at count made (onward_at onward k)) → length t.entries ≡ count
-    → HasWays t → TellsRuns true count place t (λ p. if_needed (is_needed needs (place p)) (says p))
+    → AgreeBelow place count made onward count (λ k. if_needed (is_needed needs k) (says (nth k)))
+    → ((k : ℕ) → k < count → outcome_in t k ≡ onward_outcome count made (onward_at onward k)) → length t.entries ≡ count
+    → HasWays t → AgreesWithRuns true count place t (λ p. if_needed (is_needed needs (place p)) (says p))
 marked_tells place nth count made onward needs says t placed found say told many ways =
     record {
       counted = many;
       ways = ways;
-      tells = λ p.
+      agrees = λ p.
           let b = is_needed needs (place p) in
-          subst (λ w. TellsRun true place w (if_needed b (says p))) (sym (told (place p) (placed p)))
-          (subst (λ q. TellsRun true place (says_at count made (onward_at onward (place p))) (if_needed b (says q)))
+          subst (λ w. AgreesWithRun true place w (if_needed b (says p))) (sym (told (place p) (placed p)))
+          (subst (λ q. AgreesWithRun true place (onward_outcome count made (onward_at onward (place p)))
+          (if_needed b (says q)))
           (found p) (say (place p) (placed p)));
     }

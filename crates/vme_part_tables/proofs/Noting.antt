@@ -9,8 +9,8 @@ use Rattle.vme_monitor.specs.Outcome.{IsWithin, Outcome}
 use Rattle.vme_part_format.specs.Tables.{TableValue}
 use Rattle.vme_part_format.specs.declared.table.TableEntry.{TableEntry}
 use Rattle.vme_part_tables.specs.Marked.{if_needed, is_needed}
-use Rattle.vme_part_tables.specs.Ways.{HasWays, WayOutcome, ended_in, from_entry, outcome_in}
-use Rattle.vme_part_tables.proofs.Composing.{walked_leaving}
+use Rattle.vme_part_tables.specs.Ways.{HasWays, WideOutcome, ended_in, entry_outcome, outcome_in}
+use Rattle.vme_part_tables.proofs.Composing.{run_from_leaving}
 
 -- a run of a table ends in one of its memories
 pub leaves_one : (t : TableValue) (k : ℕ) → HasWays t → k < length t.entries
@@ -18,10 +18,10 @@ pub leaves_one : (t : TableValue) (k : ℕ) → HasWays t → k < length t.entri
 leaves_one t k p h =
     let d : TableEntry = record { next = 0; first_break = None } in
     let e : TableEntry = get_or t.entries k d in
-    let at : outcome_in t k ≡ from_entry t e =
-    ap (λ (o : Option TableEntry). option_map_or (from_entry t) o (ended_in k)) (slice_get-get_or t.entries k d h) in
-    let left = walked_leaving (length t.entries) t.nodes e.next p.nodes (p.entries k d h) in
-    subst (λ (w : WayOutcome). w.leaving < length t.entries) (sym at) left
+    let at : outcome_in t k ≡ entry_outcome t e =
+    ap (λ (o : Option TableEntry). option_map_or (entry_outcome t) o (ended_in k)) (slice_get-get_or t.entries k d h) in
+    let left = run_from_leaving (length t.entries) t.nodes e.next p.nodes (p.entries k d h) in
+    subst (λ (w : WideOutcome). w.leaving < length t.entries) (sym at) left
 
 -- the loop invariant holds after the memory in which the run from n ends is marked
 pub noted_more : (t : TableValue) (old new : List Bool) (n : ℕ)

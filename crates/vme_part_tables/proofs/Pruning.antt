@@ -12,12 +12,12 @@ use Rattle.std.proofs.lemmas.List.Elements.{All-map}
 use Rattle.std.proofs.lemmas.Option.{slice_get-map, slice_get_cases}
 use Rattle.vme_part_format.specs.Tables.{NodeValue, TableValue}
 use Rattle.vme_part_format.specs.declared.table.TableEntry.{TableEntry}
-use Rattle.vme_part_tables.specs.Ways.{HasWays, NodesGoOn, ended_in, from_entry, outcome_in}
-use Rattle.vme_part_tables.specs.Ways.{walked}
+use Rattle.vme_part_tables.specs.Ways.{HasWays, NodesGoOn, ended_in, entry_outcome, outcome_in}
+use Rattle.vme_part_tables.specs.Ways.{run_from}
 use Rattle.vme_part_tables.specs.Pruned.{AreCounts, KeepsWays, IsKept, KeptGoOn, entry_kept, kept_count, next_kept}
 use Rattle.vme_part_tables.specs.Pruned.{node_kept}
 use Rattle.vme_part_tables.specs.Pruned.{nodes_kept, table_kept}
-use Rattle.vme_part_tables.proofs.Walking.{walked_here, walked_memory, walked_past}
+use Rattle.vme_part_tables.proofs.Walking.{run_from_here, run_from_memory, run_from_past}
 
 kept_none : (bs : List Bool) → kept_count (take 0 bs) ≡ 0
 kept_none [] = refl
@@ -81,58 +81,60 @@ module _ (m : ℕ) where
   kept_first : (b : Bool) (bs : List Bool) → IsKept m (b ∷ bs) m → b ≡ true
   kept_first b bs k = let e : m - m ≡ 0 = omega arith in (rw e at (k (omega arith))).1
 
-  pub walked_kept : (bs : List Bool) (ns : List NodeValue) (w : ℕ) → length bs ≡ length ns → KeptGoOn m bs ns
-      → IsKept m bs w → walked m (nodes_kept m bs ns) (next_kept m bs w) ≡ walked m ns w
-  walked_kept [] [] w l g k = by_place (cases_lt w m)
+  pub run_from_kept : (bs : List Bool) (ns : List NodeValue) (w : ℕ) → length bs ≡ length ns → KeptGoOn m bs ns
+      → IsKept m bs w → run_from m (nodes_kept m bs ns) (next_kept m bs w) ≡ run_from m ns w
+  run_from_kept [] [] w l g k = by_place (cases_lt w m)
     where
-      by_place : ((w < m) ⊎ (m ≤ w)) → walked m [] (next_kept m [] w) ≡ walked m [] w
+      by_place : ((w < m) ⊎ (m ≤ w)) → run_from m [] (next_kept m [] w) ≡ run_from m [] w
       by_place (inl h) = ap ended_in (next_memory [] w h)
       by_place (inr h) = absurd (omega (arith, (k h).0))
-  walked_kept [] (n ∷ ns) w l g k = absurd (omega arith)
-  walked_kept (b ∷ bs) [] w l g k = absurd (omega arith)
-  walked_kept (true ∷ bs) (n ∷ ns) w l g k =
-      by_order (λ w k. walked_kept bs ns w (omega arith) g.1 k) w k (cases_order w m)
+  run_from_kept [] (n ∷ ns) w l g k = absurd (omega arith)
+  run_from_kept (b ∷ bs) [] w l g k = absurd (omega arith)
+  run_from_kept (true ∷ bs) (n ∷ ns) w l g k =
+      by_order (λ w k. run_from_kept bs ns w (omega arith) g.1 k) w k (cases_order w m)
     where
-      by_order : ((w : ℕ) → IsKept m bs w → walked m (nodes_kept m bs ns) (next_kept m bs w) ≡ walked m ns w) → (w : ℕ)
+      by_order : ((w : ℕ) → IsKept m bs w → run_from m (nodes_kept m bs ns) (next_kept m bs w) ≡ run_from m ns w) →
+          (w : ℕ)
           → IsKept m (true ∷ bs) w → ((w ≡ m) ⊎ ((w < m) ⊎ (m < w)))
-          → walked m (nodes_kept m (true ∷ bs) (n ∷ ns)) (next_kept m (true ∷ bs) w) ≡ walked m (n ∷ ns) w
+          → run_from m (nodes_kept m (true ∷ bs) (n ∷ ns)) (next_kept m (true ∷ bs) w) ≡ run_from m (n ∷ ns) w
       by_order more w k (inl e) =
           rw (
             e,
             next_first (true ∷ bs),
-            walked_here m (node_kept m bs n) (nodes_kept m bs ns),
+            run_from_here m (node_kept m bs n) (nodes_kept m bs ns),
             more n.next (g.0 refl),
-            walked_here m n ns,
+            run_from_here m n ns,
           ) refl
       by_order more w k (inr (inl h)) =
-          rw (next_memory (true ∷ bs) w h, walked_memory m (n ∷ ns) w h)
-          (walked_memory m (nodes_kept m (true ∷ bs) (n ∷ ns)) w h)
+          rw (next_memory (true ∷ bs) w h, run_from_memory m (n ∷ ns) w h)
+          (run_from_memory m (nodes_kept m (true ∷ bs) (n ∷ ns)) w h)
       by_order more w k (inr (inr h)) =
           let past : m < next_kept m bs (w - 1) + 1 = omega (arith, next_at_least bs (w - 1) (omega arith)) in
           let e : next_kept m bs (w - 1) + 1 - 1 ≡ next_kept m bs (w - 1) = omega arith in
           rw (
             next_kept_on bs w h,
-            walked_past m (node_kept m bs n) (nodes_kept m bs ns) (next_kept m bs (w - 1) + 1)
+            run_from_past m (node_kept m bs n) (nodes_kept m bs ns) (next_kept m bs (w - 1) + 1)
                 past,
             e,
-            walked_past m n ns w h,
+            run_from_past m n ns w h,
           )
           (more (w - 1) (kept_behind true bs w h k))
-  walked_kept (false ∷ bs) (n ∷ ns) w l g k =
-      by_order (λ w k. walked_kept bs ns w (omega arith) g.1 k) w k (cases_order w m)
+  run_from_kept (false ∷ bs) (n ∷ ns) w l g k =
+      by_order (λ w k. run_from_kept bs ns w (omega arith) g.1 k) w k (cases_order w m)
     where
-      by_order : ((w : ℕ) → IsKept m bs w → walked m (nodes_kept m bs ns) (next_kept m bs w) ≡ walked m ns w) → (w : ℕ)
+      by_order : ((w : ℕ) → IsKept m bs w → run_from m (nodes_kept m bs ns) (next_kept m bs w) ≡ run_from m ns w) →
+          (w : ℕ)
           → IsKept m (false ∷ bs) w → ((w ≡ m) ⊎ ((w < m) ⊎ (m < w)))
-          → walked m (nodes_kept m (false ∷ bs) (n ∷ ns)) (next_kept m (false ∷ bs) w) ≡ walked m (n ∷ ns) w
+          → run_from m (nodes_kept m (false ∷ bs) (n ∷ ns)) (next_kept m (false ∷ bs) w) ≡ run_from m (n ∷ ns) w
       by_order more w k (inl e) =
           let kept = subst (IsKept m (false ∷ bs)) e k in
           let wrong : false ≡ true = kept_first false bs kept in
           absurd (cc)
       by_order more w k (inr (inl h)) =
-          rw (next_memory (false ∷ bs) w h, walked_memory m (n ∷ ns) w h)
-          (walked_memory m (nodes_kept m (false ∷ bs) (n ∷ ns)) w h)
+          rw (next_memory (false ∷ bs) w h, run_from_memory m (n ∷ ns) w h)
+          (run_from_memory m (nodes_kept m (false ∷ bs) (n ∷ ns)) w h)
       by_order more w k (inr (inr h)) =
-          rw (next_dropped bs w h, walked_past m n ns w h) (more (w - 1) (kept_behind false bs w h k))
+          rw (next_dropped bs w h, run_from_past m n ns w h) (more (w - 1) (kept_behind false bs w h k))
 
   -- the kept nodes are as many as `keeps` says
   pub length-nodes_kept : (bs : List Bool) (ns : List NodeValue) → length bs ≡ length ns
@@ -165,7 +167,7 @@ module _ (m : ℕ) where
           inl (rw (next_node bs w h) (omega (arith, count_here bs (w - m) (k h).0 (k h).1)))
 
 outcome_at : (t : TableValue) (k : ℕ) (e : TableEntry) → slice_get t.entries k ≡ Some e → outcome_in t k
-    ≡ from_entry t e
+    ≡ entry_outcome t e
 outcome_at t k e h = rw h refl
 
 outcome_past : (t : TableValue) (k : ℕ) → slice_get t.entries k ≡ None → outcome_in t k ≡ ended_in k
@@ -188,7 +190,7 @@ module _ (t : TableValue) (keeps : List Bool) (c : KeepsWays (length t.entries) 
           let at : slice_get (map on t.entries) k ≡ Some (on e)
           = slice_get-map on t.entries k ∙ ap (option_map on) there.2 in
           outcome_at (table_kept keeps t) k (on e) at
-          ∙ (rw (length-map t.entries on, walked_kept (length t.entries) keeps t.nodes e.next c.as_many c.closed kept)
+          ∙ (rw (length-map t.entries on, run_from_kept (length t.entries) keeps t.nodes e.next c.as_many c.closed kept)
           refl
           ∙ sym (outcome_at t k e there.2))
       by_place (inr past) =

@@ -18,54 +18,55 @@ use Rattle.vme_part_format.specs.declared.wide.WideBreak.{WideBreak}
 use Rattle.vme_part_format.specs.declared.wide.WideMark.{WideMark}
 use Rattle.vme_part_tables.specs.Pruned.{IsPruned}
 use Rattle.vme_part_tables.specs.Shortened.{AreInOrder, MayTakeIn, SayTheSame, next_past, node_with}
-use Rattle.vme_part_tables.specs.Ways.{HasWays, NodesGoOn, WayOutcome, behind_break, behind_marks, ended_in, from_entry}
-use Rattle.vme_part_tables.specs.Ways.{outcome_in, walked}
-use Rattle.vme_part_tables.proofs.Walking.{walked_here, walked_memory, walked_past}
+use Rattle.vme_part_tables.specs.Ways.{HasWays, NodesGoOn, WideOutcome, ended_in, entry_outcome, outcome_in, run_from}
+use Rattle.vme_part_tables.specs.Ways.{with_break_before, with_marks_before}
+use Rattle.vme_part_tables.proofs.Walking.{run_from_here, run_from_memory, run_from_past}
 
 -- ---- outcomes
 
 -- `next_past` past one node gives the outcome from w among the nodes after it
-past_one : (m w : ℕ) (x : NodeValue) (xs : List NodeValue) → walked m (x ∷ xs) (next_past m 0 w) ≡ walked m xs w
+past_one : (m w : ℕ) (x : NodeValue) (xs : List NodeValue) → run_from m (x ∷ xs) (next_past m 0 w) ≡ run_from m xs w
 past_one m w x xs = by_place (cases_lt w m)
   where
-    by_place : ((w < m) ⊎ (m ≤ w)) → walked m (x ∷ xs) (next_past m 0 w) ≡ walked m xs w
-    by_place (inl h) = rw (lt-ltb w m h) (walked_memory m (x ∷ xs) w h ∙ sym (walked_memory m xs w h))
+    by_place : ((w < m) ⊎ (m ≤ w)) → run_from m (x ∷ xs) (next_past m 0 w) ≡ run_from m xs w
+    by_place (inl h) = rw (lt-ltb w m h) (run_from_memory m (x ∷ xs) w h ∙ sym (run_from_memory m xs w h))
     by_place (inr h) =
         let e : w + (0 + 1) - 1 ≡ w = omega arith in
-        rw (le-ltb w m h) (walked_past m x xs (w + (0 + 1)) (omega arith) ∙ ap (walked m xs) e)
+        rw (le-ltb w m h) (run_from_past m x xs (w + (0 + 1)) (omega arith) ∙ ap (run_from m xs) e)
 
 -- `next_past` past d + 2 nodes gives the outcome past d + 1 nodes among those after the first
 past_more : (m d w : ℕ) (x : NodeValue) (xs : List NodeValue)
-    → walked m (x ∷ xs) (next_past m (suc d) w) ≡ walked m xs (next_past m d w)
+    → run_from m (x ∷ xs) (next_past m (suc d) w) ≡ run_from m xs (next_past m d w)
 past_more m d w x xs = by_place (cases_lt w m)
   where
-    by_place : ((w < m) ⊎ (m ≤ w)) → walked m (x ∷ xs) (next_past m (suc d) w) ≡ walked m xs (next_past m d w)
-    by_place (inl h) = rw (lt-ltb w m h) (walked_memory m (x ∷ xs) w h ∙ sym (walked_memory m xs w h))
+    by_place : ((w < m) ⊎ (m ≤ w)) → run_from m (x ∷ xs) (next_past m (suc d) w) ≡ run_from m xs (next_past m d w)
+    by_place (inl h) = rw (lt-ltb w m h) (run_from_memory m (x ∷ xs) w h ∙ sym (run_from_memory m xs w h))
     by_place (inr h) =
         let e : w + (suc d + 1) - 1 ≡ w + (d + 1) = omega arith in
-        rw (le-ltb w m h) (walked_past m x xs (w + (suc d + 1)) (omega arith) ∙ ap (walked m xs) e)
+        rw (le-ltb w m h) (run_from_past m x xs (w + (suc d + 1)) (omega arith) ∙ ap (run_from m xs) e)
 
 -- the outcome from the node j with the index d
-walked_at : (m : ℕ) (ns : List NodeValue) (d : ℕ) (j : NodeValue) → d < length ns → get_or ns d j ≡ j
-    → walked m ns (m + d) ≡ behind_marks j.marks (behind_break j.first_break (walked m ns (next_past m d j.next)))
-walked_at m [] d j h e = absurd (omega (arith, h))
-walked_at m (x ∷ xs) zero j h e =
+run_from_at : (m : ℕ) (ns : List NodeValue) (d : ℕ) (j : NodeValue) → d < length ns → get_or ns d j ≡ j
+    → run_from m ns (m + d) ≡ with_marks_before j.marks
+    (with_break_before j.first_break (run_from m ns (next_past m d j.next)))
+run_from_at m [] d j h e = absurd (omega (arith, h))
+run_from_at m (x ∷ xs) zero j h e =
     let at : m + 0 ≡ m = omega arith in
-    ap (walked m (x ∷ xs)) at
-    ∙ (subst (λ (y : NodeValue). walked m (x ∷ xs) m ≡ behind_marks y.marks
-    (behind_break y.first_break (walked m xs y.next)))
-    e (walked_here m x xs)
-    ∙ ap (λ r. behind_marks j.marks (behind_break j.first_break r)) (sym (past_one m j.next x xs)))
-walked_at m (x ∷ xs) (suc d) j h e =
+    ap (run_from m (x ∷ xs)) at
+    ∙ (subst (λ (y : NodeValue). run_from m (x ∷ xs) m ≡ with_marks_before y.marks
+    (with_break_before y.first_break (run_from m xs y.next)))
+    e (run_from_here m x xs)
+    ∙ ap (λ r. with_marks_before j.marks (with_break_before j.first_break r)) (sym (past_one m j.next x xs)))
+run_from_at m (x ∷ xs) (suc d) j h e =
     let back : m + suc d - 1 ≡ m + d = omega arith in
-    walked_past m x xs (m + suc d) (omega arith)
-    ∙ (ap (walked m xs) back
-    ∙ (walked_at m xs d j (omega (arith, h)) e
-    ∙ ap (λ r. behind_marks j.marks (behind_break j.first_break r)) (sym (past_more m d j.next x xs))))
+    run_from_past m x xs (m + suc d) (omega arith)
+    ∙ (ap (run_from m xs) back
+    ∙ (run_from_at m xs d j (omega (arith, h)) e
+    ∙ ap (λ r. with_marks_before j.marks (with_break_before j.first_break r)) (sym (past_more m d j.next x xs))))
 
-in_one : (ms ks : List WideMark) (a b : Option WideBreak) (r : WayOutcome)
-    → behind_marks (ms ++ ks) (behind_break (option_or a b) r)
-    ≡ behind_marks ms (behind_break a (behind_marks ks (behind_break b r)))
+in_one : (ms ks : List WideMark) (a b : Option WideBreak) (r : WideOutcome)
+    → with_marks_before (ms ++ ks) (with_break_before (option_or a b) r)
+    ≡ with_marks_before ms (with_break_before a (with_marks_before ks (with_break_before b r)))
 in_one ms ks None b r =
     ap (λ l. record { leaving = r.leaving; first_break = option_or b r.first_break; marks = l })
     (append_assoc ms ks r.marks)
@@ -73,43 +74,44 @@ in_one ms ks (Some x) b r =
     ap (λ l. record { leaving = r.leaving; first_break = Some x; marks = l }) (append_assoc ms ks r.marks)
 
 taken_here : (m : ℕ) (n j : NodeValue) (xs : List NodeValue) (d : ℕ) → n.next ≡ m + d → d < length xs
-    → get_or xs d j ≡ j → (w : ℕ) → walked m (node_with m d n j ∷ xs) w ≡ walked m (n ∷ xs) w
+    → get_or xs d j ≡ j → (w : ℕ) → run_from m (node_with m d n j ∷ xs) w ≡ run_from m (n ∷ xs) w
 taken_here m n j xs d next h e w = by_order w (cases_order w m)
   where
     by_order : (w : ℕ) → ((w ≡ m) ⊎ ((w < m) ⊎ (m < w)))
-        → walked m (node_with m d n j ∷ xs) w ≡ walked m (n ∷ xs) w
+        → run_from m (node_with m d n j ∷ xs) w ≡ run_from m (n ∷ xs) w
     by_order w (inl same) =
-        rw same (walked_here m (node_with m d n j) xs
-        ∙ (in_one n.marks j.marks n.first_break j.first_break (walked m xs (next_past m d j.next))
-        ∙ (ap (λ r. behind_marks n.marks (behind_break n.first_break r))
-        (sym (walked_at m xs d j h e) ∙ ap (walked m xs) (sym next))
-        ∙ sym (walked_here m n xs))))
+        rw same (run_from_here m (node_with m d n j) xs
+        ∙ (in_one n.marks j.marks n.first_break j.first_break (run_from m xs (next_past m d j.next))
+        ∙ (ap (λ r. with_marks_before n.marks (with_break_before n.first_break r))
+        (sym (run_from_at m xs d j h e) ∙ ap (run_from m xs) (sym next))
+        ∙ sym (run_from_here m n xs))))
     by_order w (inr (inl below)) =
-        walked_memory m (node_with m d n j ∷ xs) w below ∙ sym (walked_memory m (n ∷ xs) w below)
+        run_from_memory m (node_with m d n j ∷ xs) w below ∙ sym (run_from_memory m (n ∷ xs) w below)
     by_order w (inr (inr above)) =
-        walked_past m (node_with m d n j) xs w above ∙ sym (walked_past m n xs w above)
+        run_from_past m (node_with m d n j) xs w above ∙ sym (run_from_past m n xs w above)
 
 -- if ys has the outcomes of xs, it has them with a node x before both
-over_one : (m : ℕ) (x : NodeValue) (xs ys : List NodeValue) → ((w : ℕ) → walked m ys w ≡ walked m xs w) → (w : ℕ)
-    → walked m (x ∷ ys) w ≡ walked m (x ∷ xs) w
+over_one : (m : ℕ) (x : NodeValue) (xs ys : List NodeValue) → ((w : ℕ) → run_from m ys w ≡ run_from m xs w) → (w : ℕ)
+    → run_from m (x ∷ ys) w ≡ run_from m (x ∷ xs) w
 over_one m x xs ys same w = by_order w (cases_order w m)
   where
-    by_order : (w : ℕ) → ((w ≡ m) ⊎ ((w < m) ⊎ (m < w))) → walked m (x ∷ ys) w ≡ walked m (x ∷ xs) w
+    by_order : (w : ℕ) → ((w ≡ m) ⊎ ((w < m) ⊎ (m < w))) → run_from m (x ∷ ys) w ≡ run_from m (x ∷ xs) w
     by_order w (inl e) =
-        rw e (walked_here m x ys
-        ∙ (ap (λ r. behind_marks x.marks (behind_break x.first_break r)) (same x.next) ∙ sym (walked_here m x xs)))
-    by_order w (inr (inl below)) = walked_memory m (x ∷ ys) w below ∙ sym (walked_memory m (x ∷ xs) w below)
+        rw e (run_from_here m x ys
+        ∙ (ap (λ r. with_marks_before x.marks (with_break_before x.first_break r)) (same x.next) ∙ sym
+        (run_from_here m x xs)))
+    by_order w (inr (inl below)) = run_from_memory m (x ∷ ys) w below ∙ sym (run_from_memory m (x ∷ xs) w below)
     by_order w (inr (inr above)) =
-        walked_past m x ys w above ∙ (same (w - 1) ∙ sym (walked_past m x xs w above))
+        run_from_past m x ys w above ∙ (same (w - 1) ∙ sym (run_from_past m x xs w above))
 
 taken_says : (m : ℕ) (ns : List NodeValue) (i k d : ℕ) (n j : NodeValue) → k ≡ i + 1 + d → get_or ns i n ≡ n
     → k < length ns → get_or ns k j ≡ j → n.next ≡ m + d → (w : ℕ)
-    → walked m (set ns i (node_with m d n j)) w ≡ walked m ns w
+    → run_from m (set ns i (node_with m d n j)) w ≡ run_from m ns w
 taken_says m [] i k d n j at e h f next w = absurd (omega (arith, h))
 taken_says m (x ∷ xs) zero zero d n j at e h f next w = absurd (omega (arith, at))
 taken_says m (x ∷ xs) zero (suc k) d n j at e h f next w =
     let same : k ≡ d = omega (arith, at) in
-    subst (λ (y : NodeValue). walked m (node_with m d n j ∷ xs) w ≡ walked m (y ∷ xs) w) (sym e)
+    subst (λ (y : NodeValue). run_from m (node_with m d n j ∷ xs) w ≡ run_from m (y ∷ xs) w) (sym e)
     (taken_here m n j xs d next (omega (arith, h, same)) (subst (λ q. get_or xs q j ≡ j) same f) w)
 taken_says m (x ∷ xs) (suc i) zero d n j at e h f next w = absurd (omega (arith, at))
 taken_says m (x ∷ xs) (suc i) (suc k) d n j at e h f next w =
@@ -367,10 +369,10 @@ module _ (t : TableValue) (ms : List NodeValue) (h : HasWays t) (s : SayTheSame 
   others_say memory = by_entry (slice_get t.entries memory)
     where
       by_entry : (o : Option TableEntry)
-          → option_map_or (from_entry with_others) o (ended_in memory)
-          ≡ option_map_or (from_entry t) o (ended_in memory)
+          → option_map_or (entry_outcome with_others) o (ended_in memory)
+          ≡ option_map_or (entry_outcome t) o (ended_in memory)
       by_entry None = refl
-      by_entry (Some e) = ap (behind_break e.first_break) (s.says e.next)
+      by_entry (Some e) = ap (with_break_before e.first_break) (s.says e.next)
 
   others_fit : (listing : Bool) (count steps : ℕ) → FitsTable listing count steps t
       → FitsTable listing count steps with_others

@@ -6,7 +6,7 @@ use Rattle.std.specs.Option.{option_or}
 use Rattle.vme_part_format.specs.Bounds.{FitNodes}
 use Rattle.vme_part_format.specs.Tables.{NodeValue}
 use Rattle.vme_part_format.specs.declared.wide.WideMark.{WideMark}
-use Rattle.vme_part_tables.specs.Ways.{NodesGoOn, walked}
+use Rattle.vme_part_tables.specs.Ways.{NodesGoOn, run_from}
 
 -- translates `way`, which counts the nodes after a node b, to one that counts those after an earlier node a, where
 -- `between` nodes are between a and b
@@ -27,7 +27,7 @@ pub record SayTheSame (memories : ℕ) (ns ms : List NodeValue) : Type 0 where
   pub as_many : length ms ≡ length ns
   pub go_on : NodesGoOn memories ms
   pub fit : (steps : ℕ) → FitNodes memories steps ns → FitNodes memories steps ms
-  pub says : (way : ℕ) → walked memories ms way ≡ walked memories ns way
+  pub says : (way : ℕ) → run_from memories ms way ≡ run_from memories ns way
 
 -- the last of ms isn't later than the first of ks
 abbrev pub AreInOrder : List WideMark → List WideMark → Type 0

@@ -8,42 +8,43 @@ use Rattle.vme_part_format.specs.declared.wide.WideBreak.{WideBreak}
 use Rattle.vme_part_format.specs.declared.wide.WideMark.{WideMark}
 
 -- the number of the memory in which a run ends, its first break, and its marks
-pub record WayOutcome : Type 0 where
+pub record WideOutcome : Type 0 where
   pub leaving : ℕ
   pub first_break : Option WideBreak
   pub marks : List WideMark
 
-abbrev pub ended_in : ℕ → WayOutcome
+abbrev pub ended_in : ℕ → WideOutcome
 ended_in memory = record { leaving = memory; first_break = None; marks = [] }
 
 -- the outcome of a run that has the break `first_break`, if there is one, and then the outcome w
-abbrev pub behind_break : Option WideBreak → WayOutcome → WayOutcome
-behind_break first_break w = record {
+abbrev pub with_break_before : Option WideBreak → WideOutcome → WideOutcome
+with_break_before first_break w = record {
   leaving = w.leaving;
   first_break = option_or first_break w.first_break;
   marks = w.marks;
 }
 
 -- the outcome of a run that has `marks`, and then the outcome w
-abbrev pub behind_marks : List WideMark → WayOutcome → WayOutcome
-behind_marks marks w = record { leaving = w.leaving; first_break = w.first_break; marks = marks ++ w.marks }
+abbrev pub with_marks_before : List WideMark → WideOutcome → WideOutcome
+with_marks_before marks w = record { leaving = w.leaving; first_break = w.first_break; marks = marks ++ w.marks }
 
 -- the outcome of a run that continues with `way`: below `memories` it is a memory, in which the run ends; else
 -- way - memories is the index of a node, with which the run continues
-abbrev pub walked : ℕ → List NodeValue → ℕ → WayOutcome
-walked memories [] way = ended_in way
-walked memories (n ∷ ns) way =
+abbrev pub run_from : ℕ → List NodeValue → ℕ → WideOutcome
+run_from memories [] way = ended_in way
+run_from memories (n ∷ ns) way =
     if nat_lt way memories then ended_in way
-    else if way == memories then behind_marks n.marks (behind_break n.first_break (walked memories ns n.next))
-    else walked memories ns (way - 1)
+    else if way == memories then with_marks_before n.marks
+    (with_break_before n.first_break (run_from memories ns n.next))
+    else run_from memories ns (way - 1)
 
 -- the outcome of the run from the entry e
-abbrev pub from_entry : TableValue → TableEntry → WayOutcome
-from_entry t e = behind_break e.first_break (walked (length t.entries) t.nodes e.next)
+abbrev pub entry_outcome : TableValue → TableEntry → WideOutcome
+entry_outcome t e = with_break_before e.first_break (run_from (length t.entries) t.nodes e.next)
 
 -- the outcome of the run from the memory with the number `memory`
-abbrev pub outcome_in : TableValue → ℕ → WayOutcome
-outcome_in t memory = option_map_or (from_entry t) (slice_get t.entries memory) (ended_in memory)
+abbrev pub outcome_in : TableValue → ℕ → WideOutcome
+outcome_in t memory = option_map_or (entry_outcome t) (slice_get t.entries memory) (ended_in memory)
 
 -- each node continues with a memory or with a node after it
 abbrev pub NodesGoOn : ℕ → List NodeValue → Type 0
@@ -66,7 +67,7 @@ later_break n b = record { instant = later n b.instant; time = b.time; rule = b.
 abbrev pub later_mark : ℕ → WideMark → WideMark
 later_mark n m = record { instant = later n m.instant; kind = m.kind }
 
-abbrev pub later_outcome : ℕ → WayOutcome → WayOutcome
+abbrev pub later_outcome : ℕ → WideOutcome → WideOutcome
 later_outcome n w =
     record {
       leaving = w.leaving;
@@ -75,5 +76,5 @@ later_outcome n w =
     }
 
 -- the outcome a of a segment of n steps, followed by the outcome b of one whose instants count from its own start
-abbrev pub gone_on : ℕ → WayOutcome → WayOutcome → WayOutcome
-gone_on n a b = behind_marks a.marks (behind_break a.first_break (later_outcome n b))
+abbrev pub followed_by : ℕ → WideOutcome → WideOutcome → WideOutcome
+followed_by n a b = with_marks_before a.marks (with_break_before a.first_break (later_outcome n b))

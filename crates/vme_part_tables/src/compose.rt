@@ -5,7 +5,7 @@ ghost use Rattle.vme_part_format.specs.Tables.{node_value, table_value};
 ghost use Rattle.vme_part_tables.specs.Composed.{CanCompose, NextsFit, entry_on, later_node as later_node_of, node_on};
 ghost use Rattle.vme_part_tables.specs.Composed.{nodes_on};
 ghost use Rattle.vme_part_tables.specs.Composed.{table_on};
-ghost use Rattle.vme_part_tables.specs.Runs.{SaysBoth};
+ghost use Rattle.vme_part_tables.specs.Runs.{IsComposition};
 ghost use Rattle.vme_part_tables.specs.Ways.{later_mark};
 
 use crate::prune::pruned;
@@ -16,7 +16,7 @@ use vme_part_format::{OutcomeTable, TableEntry, TableNode, WideBreak, WideMark};
 
 /// Where a run continues in the composed table if it continues with `way` in the first table. If `way` is a memory, the
 /// run goes through `second`. `between` nodes of the first table come before the nodes of the second.
-fn gone_on(
+fn continued(
     way: u32,
     first_break: Option<WideBreak>,
     between: u32,
@@ -52,7 +52,7 @@ fn connect_entry(entry: &mut TableEntry, between: u32, second: &[TableEntry], st
     requires fits { NextsFit second.now between }
     ensures { entry.new ≡ entry_on second.now steps between entry.old }
 {
-    *entry = gone_on(entry.next, entry.first_break, between, second, steps);
+    *entry = continued(entry.next, entry.first_break, between, second, steps);
 }
 
 /// Continues a node of the first table, with `between` nodes after it, in the second.
@@ -61,7 +61,7 @@ fn connect_node(node: &mut TableNode, between: u32, second: &[TableEntry], steps
     requires fits { NextsFit second.now between }
     ensures { node_value node.new ≡ node_on second.now steps between (node_value node.old) }
 {
-    let way = gone_on(node.next, node.first_break, between, second, steps);
+    let way = continued(node.next, node.first_break, between, second, steps);
     node.next = way.next;
     node.first_break = way.first_break;
 }
@@ -167,7 +167,7 @@ pub fn composed(
     steps: u64,
 ) -> Result<OutcomeTable, AllocError>
     requires { CanCompose (table_value first) (table_value second) }
-    ensures { IfOk result (λ t. SaysBoth steps (table_value first) (table_value second) (table_value t)) }
+    ensures { IfOk result (λ t. IsComposition steps (table_value first) (table_value second) (table_value t)) }
 {
     let table = connected(first, second, steps)?;
     let table = shortened(alloc, table)?;

@@ -17,11 +17,11 @@
 //! A table means its outcome for each memory in which the segment may begin (`outcome_in`,
 //! `specs/Ways`). [`follow`] and [`put_marks_on_way`] give exactly this outcome. The outcome of
 //! [`composed`] for a memory is that of the first table for it, followed by that of the second for
-//! the memory in which the first ends, with its instants `steps` later (`gone_on`). If both tables
-//! can be written in a part, so can the result (`SaysBoth`). [`marked_table`] gives for each memory
-//! what the summary does: the memory in which the run ends, the first break and, where they are
-//! needed, the marks (`TellsRuns`). They are needed for each memory in which the table before ends
-//! (`AreNeeded`).
+//! the memory in which the first ends, with its instants `steps` later (`followed_by`). If both
+//! tables can be written in a part, so can the result (`IsComposition`). [`marked_table`] gives for
+//! each memory what the summary does: the memory in which the run ends, the first break and, where
+//! they are needed, the marks (`AgreesWithRuns`). They are needed for each memory in which the
+//! table before ends (`AreNeeded`).
 //!
 //! # What isn't proved
 //!

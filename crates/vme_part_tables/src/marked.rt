@@ -4,10 +4,10 @@ ghost use Rattle.std.specs.Prelude.{◌≡◌, ℕ, ◌+◌, ◌<◌, ◌≤◌,
 ghost use Rattle.std.specs.Option.{option_map};
 ghost use Rattle.vme_part_format.specs.Tables.{node_value, table_value};
 ghost use Rattle.vme_part_format.specs.declared.wide.WideBreak.{WideBreak};
-ghost use Rattle.vme_part_tables.specs.Marked.{AreMade, MadeGoOn, SayBelow, SaysBehind, if_needed, made_says};
-ghost use Rattle.vme_part_tables.specs.Marked.{is_needed as is_needed_of, marks_if, says_at};
-ghost use Rattle.vme_part_tables.specs.Marked.{onward_at as onward_at_of, turned as turned_of};
-ghost use Rattle.vme_part_tables.specs.Runs.{TellsRuns, break_of, mark_of};
+ghost use Rattle.vme_part_tables.specs.Marked.{AddsBefore, AgreeBelow, AreMade, MadeGoOn, if_needed, made_outcome};
+ghost use Rattle.vme_part_tables.specs.Marked.{is_needed as is_needed_of, marks_if, onward_outcome};
+ghost use Rattle.vme_part_tables.specs.Marked.{onward_at as onward_at_of, reversed_way as reversed_way_of};
+ghost use Rattle.vme_part_tables.specs.Runs.{AgreesWithRuns, break_of, mark_of};
 ghost use Rattle.vme_part_tables.specs.Ways.{HasWays, outcome_in};
 
 use std::alloc::{AllocError, Global};
@@ -62,10 +62,10 @@ struct Made {
 }
 
 /// Translates `way`, which counts nodes in the order in which `made` nodes were made, to a way of the reverse order.
-fn turned(memories: u32, made: u32, way: u32) -> u32
+fn reversed_way(memories: u32, made: u32, way: u32) -> u32
     requires few { memories + made < 2 ^ 32 }
     requires way { way < memories + made }
-    ensures { result ≡ turned_of memories made way }
+    ensures { result ≡ reversed_way_of memories made way }
 {
     if way < memories {
         way
@@ -94,11 +94,11 @@ impl Made {
         ensures way { IfOk result (λ o. o.way < self.old.memories + length self.new.nodes.items) }
         ensures kept { OnOk result
             ((before : Option WideBreak) (way : ℕ) → way < self.old.memories + length self.old.nodes.items
-            → made_says self.old.memories (map node_value self.new.nodes.items) before way
-            ≡ made_says self.old.memories (map node_value self.old.nodes.items) before way) }
-        ensures says { IfOk result (λ o. SaysBehind (option_map break_of first_break) marks.now
-            (made_says self.old.memories (map node_value self.old.nodes.items) onward.first_break onward.way)
-            (made_says self.old.memories (map node_value self.new.nodes.items) o.first_break o.way)) }
+            → made_outcome self.old.memories (map node_value self.new.nodes.items) before way
+            ≡ made_outcome self.old.memories (map node_value self.old.nodes.items) before way) }
+        ensures says { IfOk result (λ o. AddsBefore (option_map break_of first_break) marks.now
+            (made_outcome self.old.memories (map node_value self.old.nodes.items) onward.first_break onward.way)
+            (made_outcome self.old.memories (map node_value self.new.nodes.items) o.first_break o.way)) }
     {
         let first_break = first_break.or(onward.first_break);
         if marks.is_empty() {
@@ -108,7 +108,7 @@ impl Made {
             });
         }
         let made = self.nodes.len() as u32;
-        let next = turned(self.memories, made, onward.way);
+        let next = reversed_way(self.memories, made, onward.way);
         let marks = wide_marks(alloc, marks)?;
         self.nodes.push(TableNode {
             next,
@@ -162,7 +162,7 @@ fn memory_ways<M: Finite>(
     ensures made { OnOk result (MadeGoOn made.old.memories (map node_value made.new.nodes.items)) }
     ensures ways { IfOk result (λ v. AreMade made.old.memories (map node_value made.new.nodes.items) v.items) }
     ensures says { IfOk result
-        (λ v. SayBelow M.place_of made.old.memories (map node_value made.new.nodes.items) v.items M.COUNT
+        (λ v. AgreeBelow M.place_of made.old.memories (map node_value made.new.nodes.items) v.items M.COUNT
         (λ k. if_needed (is_needed_of needs.now k) (M.outcome summary.now (M.nth_of k)))) }
 {
     let mut onward = Vec::with_capacity(alloc, M::COUNT)?;
@@ -207,7 +207,7 @@ fn made_table(
     requires made { MadeGoOn memories (map node_value made.nodes.items) }
     requires ways { AreMade memories (map node_value made.nodes.items) onward.now }
     ensures says { IfOk result (λ t. (k : ℕ) → k < memories → outcome_in (table_value t) k
-        ≡ says_at memories (map node_value made.nodes.items) (onward_at_of onward.now k)) }
+        ≡ onward_outcome memories (map node_value made.nodes.items) (onward_at_of onward.now k)) }
     ensures ways { IfOk result (λ t. HasWays (table_value t)) }
     ensures counted { IfOk result (λ t. length t.entries.items ≡ memories) }
 {
@@ -216,7 +216,7 @@ fn made_table(
     for place in 0..memories {
         let way = onward_at(onward, place);
         entries.push(TableEntry {
-            next: turned(made.memories, count, way.way),
+            next: reversed_way(made.memories, count, way.way),
             first_break: way.first_break,
         })?;
     }
@@ -233,7 +233,7 @@ pub fn marked_table<M: Finite>(
     needs: &[bool],
 ) -> Result<OutcomeTable, AllocError>
     requires { 0 < M.COUNT }
-    ensures { IfOk result (λ t. TellsRuns true M.COUNT M.place_of (table_value t)
+    ensures { IfOk result (λ t. AgreesWithRuns true M.COUNT M.place_of (table_value t)
         (λ p. if_needed (is_needed_of needs.now (M.place_of p)) (M.outcome summary.now p))) }
 {
     let mut made = Made {

@@ -10,8 +10,8 @@ use Rattle.vme_monitor.specs.Outcome.{Outcome}
 use Rattle.vme_part_format.specs.Tables.{TableValue}
 use Rattle.vme_part_format.specs.declared.table.TableEntry.{TableEntry}
 use Rattle.vme_part_format.specs.declared.wide.WideBreak.{WideBreak}
-use Rattle.vme_part_tables.specs.Runs.{TellsRun, TellsRuns, break_of}
-use Rattle.vme_part_tables.specs.Ways.{WayOutcome, ended_in, from_entry, outcome_in}
+use Rattle.vme_part_tables.specs.Runs.{AgreesWithRun, AgreesWithRuns, break_of}
+use Rattle.vme_part_tables.specs.Ways.{WideOutcome, ended_in, entry_outcome, outcome_in}
 
 get_before : {X : Type 0} (xs : List X) (x y : X) (k : ℕ) → slice_get xs k ≡ Some x → slice_get (xs ++ y ∷ []) k
     ≡ Some x
@@ -51,7 +51,7 @@ module _ {P : Type 0} (place : P → ℕ) (nth : ℕ → P) (says : P → Outcom
 
   pub bare_tells : (count : ℕ) (es : List TableEntry) → count < 2 ^ 32 → length es ≡ count → AreRows es count
       → ((p : P) → place p < count) → ((p : P) → nth (place p) ≡ p)
-      → TellsRuns false count place (record { entries = es; nodes = [] }) says
+      → AgreesWithRuns false count place (record { entries = es; nodes = [] }) says
   bare_tells count es few many rows placed found =
       record {
         counted = many;
@@ -65,26 +65,27 @@ module _ {P : Type 0} (place : P → ℕ) (nth : ℕ → P) (says : P → Outcom
               omega (arith, next, placed (says (nth k)).leaving, many);
           nodes = tt;
         };
-        tells = λ p.
+        agrees = λ p.
             let r = rows (place p) (placed p) in
             let t : TableValue = record { entries = es; nodes = [] } in
-            let at : outcome_in t (place p) ≡ from_entry t r.0
-            = ap (λ o. option_map_or (from_entry t) o (ended_in (place p))) r.1 in
+            let at : outcome_in t (place p) ≡ entry_outcome t r.0
+            = ap (λ o. option_map_or (entry_outcome t) o (ended_in (place p))) r.1 in
             record {
-              leaving = ap (λ (w : WayOutcome). w.leaving) at ∙ (r.2.next ∙ ap (λ q. place (says q).leaving) (found p));
-              first_break = ap (λ (w : WayOutcome). option_map break_of w.first_break) at
+              leaving = ap (λ (w : WideOutcome). w.leaving) at ∙
+                  (r.2.next ∙ ap (λ q. place (says q).leaving) (found p));
+              first_break = ap (λ (w : WideOutcome). option_map break_of w.first_break) at
                   ∙ (ap (option_map break_of) (or_none r.0.first_break)
                   ∙ (r.2.first_break ∙ ap (λ q. (says q).first_break) (found p)));
-              marks = ap (λ (w : WayOutcome). w.marks) at;
+              marks = ap (λ (w : WideOutcome). w.marks) at;
             };
       }
 
 -- a table that agrees with the runs f agrees with equal runs g
 pub tells_same : {P : Type 0} (listing : Bool) (count : ℕ) (place : P → ℕ) (t : TableValue) (f g : P → Outcome P)
-    → ((p : P) → f p ≡ g p) → TellsRuns listing count place t f → TellsRuns listing count place t g
+    → ((p : P) → f p ≡ g p) → AgreesWithRuns listing count place t f → AgreesWithRuns listing count place t g
 tells_same listing count place t f g e s =
     record {
       counted = s.counted;
       ways = s.ways;
-      tells = λ p. subst (TellsRun listing place (outcome_in t (place p))) (e p) (s.tells p);
+      agrees = λ p. subst (AgreesWithRun listing place (outcome_in t (place p))) (e p) (s.agrees p);
     }

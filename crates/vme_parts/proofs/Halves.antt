@@ -7,7 +7,7 @@ use Rattle.std.proofs.lemmas.Bool.{and_parts, eqb-true, ltb-true}
 use Rattle.std.proofs.lemmas.Nat.{pow_pos}
 use Rattle.vme_part_format.specs.Tables.{SegmentValue, TableValue}
 use Rattle.vme_part_tables.specs.Composed.{CanCompose}
-use Rattle.vme_part_tables.specs.Runs.{SaysBoth}
+use Rattle.vme_part_tables.specs.Runs.{IsComposition}
 use Rattle.vme_parts.specs.Buddies.{AreBuddies, FewNodes, IsTableOf, are_buddies}
 use Rattle.vme_parts.specs.Gathering.{IsSegment, Precedes}
 use Rattle.vme_parts.specs.Joined.{IsOfBoth}
@@ -37,7 +37,7 @@ pub can_compose : (n : ℕ) (a b : TableValue) → IsTableOf n a → IsTableOf n
 can_compose n a b p q few =
     record { first = p.ways; second = q.ways; as_many = q.counted ∙ sym p.counted; few = few }
 
-table_of_both : (n steps : ℕ) (a b c : TableValue) → SaysBoth steps a b c → IsTableOf n a → IsTableOf n c
+table_of_both : (n steps : ℕ) (a b c : TableValue) → IsComposition steps a b c → IsTableOf n a → IsTableOf n c
 table_of_both n steps a b c s p = record { ways = s.ways; counted = s.counted ∙ p.counted }
 
 -- r, joined from s and t, satisfies `IsSegment` if s does

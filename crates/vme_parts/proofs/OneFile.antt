@@ -27,7 +27,7 @@ use Rattle.vme_summary.proofs.Times.{last_or-got}
 use Rattle.vme_part_format.specs.Tables.{SegmentValue, last_of, segment_value}
 use Rattle.vme_part_format.specs.declared.segment.Segment.{Segment}
 use Rattle.vme_part_format.specs.declared.segment.SegmentTimes.{SegmentTimes}
-use Rattle.vme_part_tables.specs.Runs.{TellsRuns}
+use Rattle.vme_part_tables.specs.Runs.{AgreesWithRuns}
 use Rattle.vme_parts.specs.Meeting.{ends_at, starts_at}
 use Rattle.vme_parts.specs.Stands.{SegmentStandsFor, extent_of, first_with_step}
 
@@ -92,11 +92,11 @@ module _ (listing : Bool) (s : SegmentValue) (b : Block) (accepted : malformed_s
       }
 
   pub file_stands :
-      TellsRuns listing 4 (phase_place nil_place) s.known (λ p. known_run p b.opening b.steps)
-      → TellsRuns listing 147 (phase_place memory_place) s.handshake (λ p. handshake_run p b.opening b.steps)
-      → TellsRuns listing 13 (phase_place holding_place) s.stability (λ p. stability_run p b.opening b.steps)
-      → TellsRuns listing 35 (phase_place arbitration_place) s.grant (λ p. grant_run p b.opening b.steps)
-      → TellsRuns listing 11 (phase_place acknowledgement_place) s.acknowledge
+      AgreesWithRuns listing 4 (phase_place nil_place) s.known (λ p. known_run p b.opening b.steps)
+      → AgreesWithRuns listing 147 (phase_place memory_place) s.handshake (λ p. handshake_run p b.opening b.steps)
+      → AgreesWithRuns listing 13 (phase_place holding_place) s.stability (λ p. stability_run p b.opening b.steps)
+      → AgreesWithRuns listing 35 (phase_place arbitration_place) s.grant (λ p. grant_run p b.opening b.steps)
+      → AgreesWithRuns listing 11 (phase_place acknowledgement_place) s.acknowledge
       (λ p. acknowledge_run p b.opening b.steps) → SegmentStandsFor listing s (b ∷ [])
   file_stands known handshake stability grant acknowledge =
       record {

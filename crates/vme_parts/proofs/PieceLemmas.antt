@@ -12,7 +12,7 @@ use Rattle.vme_monitor.specs.Runs.{levels_after-append}
 use Rattle.vme_summary.proofs.Sound.{sound_apart}
 use Rattle.vme_part_format.specs.Tables.{TableValue}
 use Rattle.vme_part_tables.specs.Marked.{AreNeeded, if_needed, is_needed}
-use Rattle.vme_part_tables.specs.Runs.{SaysBoth, TellsRuns}
+use Rattle.vme_part_tables.specs.Runs.{AgreesWithRuns, IsComposition}
 use Rattle.vme_part_tables.proofs.Joining.{tables_tell_both}
 use Rattle.vme_part_tables.proofs.Noting.{needed_within, whole_needed}
 use Rattle.vme_parts.proofs.Bare.{tells_same}
@@ -49,8 +49,8 @@ none_sound o xs e = (sound_apart o [] xs e).first
 -- without steps there are no marks, so it doesn't matter which are needed
 pub none_needed : {P : Type 0} (place : P → ℕ) (count : ℕ) (t : TableValue) (needs : List Bool) (run : P → Outcome P)
     → ((p : P) → run p ≡ nothing_shown p)
-    → TellsRuns true count place t (λ p. if_needed (is_needed needs (place p)) (run p))
-    → TellsRuns true count place t run
+    → AgreesWithRuns true count place t (λ p. if_needed (is_needed needs (place p)) (run p))
+    → AgreesWithRuns true count place t run
 none_needed {P} place count t needs run e =
     tells_same true count place t (λ p. if_needed (is_needed needs (place p)) (run p)) run
     (λ p. rw (e p) (by_case (is_needed needs (place p)) p))
@@ -63,10 +63,10 @@ none_needed {P} place count t needs run e =
 -- over x, and b with that over y, where b has marks at least for the memories in which a ends
 pub needed_of_both : {P : Type 0} (run : P → Levels → List Step → Outcome P) → IsRun run → (place : P → ℕ) (count : ℕ)
     (needs : List Bool) (o v : Levels) (x y : List Step) (a b c : TableValue) → ((p : P) → place p < count)
-    → v ≡ levels_after o x → length x + length y < 2 ^ 64 → SaysBoth (length x) a b c → AreNeeded a needs
-    → TellsRuns true count place a (λ p. run p o x)
-    → TellsRuns true count place b (λ p. if_needed (is_needed needs (place p)) (run p v y))
-    → TellsRuns true count place c (λ p. run p o (x ++ y))
+    → v ≡ levels_after o x → length x + length y < 2 ^ 64 → IsComposition (length x) a b c → AreNeeded a needs
+    → AgreesWithRuns true count place a (λ p. run p o x)
+    → AgreesWithRuns true count place b (λ p. if_needed (is_needed needs (place p)) (run p v y))
+    → AgreesWithRuns true count place c (λ p. run p o (x ++ y))
 needed_of_both {P} run law place count needs o v x y a b c placed e fits s needed p q =
     tables_tell_both (length x) (length y) fits place true count a b c (λ k. run k o x)
     (λ k. if_needed (is_needed needs (place k)) (run k v y)) (λ k. run k o (x ++ y)) s p q
@@ -78,7 +78,7 @@ needed_of_both {P} run law place count needs o v x y a b c placed e fits s neede
         let left = (run k o x).leaving in
         let low : place k < length a.entries = omega (arith, placed k, p.counted) in
         let there : is_needed needs (place left) ≡ true =
-        subst (λ j. is_needed needs j ≡ true) (p.tells k).leaving (needed (place k) low) in
+        subst (λ j. is_needed needs j ≡ true) (p.agrees k).leaving (needed (place k) low) in
         let goes : run k o (x ++ y) ≡ composed_outcome (length x) (run k o x) (run left v y)
         = rw e (law.joined k o x y) in
         goes

@@ -10,9 +10,9 @@ use Rattle.vme_trace.specs.declared.step.Step.{Step}
 use Rattle.vme_monitor.specs.Outcome.{Outcome, composed_outcome}
 use Rattle.vme_part_format.specs.Tables.{TableValue}
 use Rattle.vme_part_format.specs.declared.table.TableEntry.{TableEntry}
-use Rattle.vme_part_tables.specs.Runs.{TellsRun, TellsRuns}
-use Rattle.vme_part_tables.specs.Ways.{WayOutcome, ended_in, from_entry, gone_on, later_break, outcome_in}
-use Rattle.vme_part_tables.proofs.Composing.{walked_leaving}
+use Rattle.vme_part_tables.specs.Runs.{AgreesWithRun, AgreesWithRuns}
+use Rattle.vme_part_tables.specs.Ways.{WideOutcome, ended_in, entry_outcome, followed_by, later_break, outcome_in}
+use Rattle.vme_part_tables.proofs.Composing.{run_from_leaving}
 use Rattle.vme_part_tables.proofs.Joining.{tells_both}
 use Rattle.vme_parts.specs.Buddies.{IsTableOf}
 use Rattle.vme_parts.specs.Progress.{HasState, way_of}
@@ -20,11 +20,11 @@ use Rattle.vme_parts.specs.declared.state.State.{State}
 use Rattle.vme_parts.proofs.Runs.{IsRun}
 
 -- the outcome w without its marks
-abbrev bare : WayOutcome → WayOutcome
+abbrev bare : WideOutcome → WideOutcome
 bare w = record { leaving = w.leaving; first_break = w.first_break; marks = [] }
 
-tells_bare : {P : Type 0} (listing : Bool) (place : P → ℕ) (w : WayOutcome) (r : Outcome P)
-    → TellsRun listing place w r → TellsRun false place (bare w) r
+tells_bare : {P : Type 0} (listing : Bool) (place : P → ℕ) (w : WideOutcome) (r : Outcome P)
+    → AgreesWithRun listing place w r → AgreesWithRun false place (bare w) r
 tells_bare listing place w r t = record { leaving = t.leaving; first_break = t.first_break; marks = refl }
 
 -- a run of a table of n memories ends in one of them
@@ -33,11 +33,11 @@ leaves_memory n t k p h =
     let below : k < length t.entries = omega (arith, p.counted, h) in
     let d : TableEntry = record { next = 0; first_break = None } in
     let e : TableEntry = get_or t.entries k d in
-    let at : outcome_in t k ≡ from_entry t e =
-    ap (λ (o : Option TableEntry). option_map_or (from_entry t) o (ended_in k))
+    let at : outcome_in t k ≡ entry_outcome t e =
+    ap (λ (o : Option TableEntry). option_map_or (entry_outcome t) o (ended_in k))
     (slice_get-get_or t.entries k d below) in
-    let left = walked_leaving (length t.entries) t.nodes e.next p.ways.nodes (p.ways.entries k d below) in
-    subst (λ (w : WayOutcome). w.leaving < n) (sym at) (omega (arith, left, p.counted))
+    let left = run_from_leaving (length t.entries) t.nodes e.next p.ways.nodes (p.ways.entries k d below) in
+    subst (λ (w : WideOutcome). w.leaving < n) (sym at) (omega (arith, left, p.counted))
 
 -- if a monitor has the state s after the steps x, and the table t agrees with its runs over y, it has the state r after
 -- both
@@ -47,18 +47,19 @@ pub past_state : {P : Type 0} (run : P → Levels → List Step → Outcome P) �
     → r.first_break ≡ option_or s.first_break (option_map (later_break steps) (outcome_in t s.memory).first_break) → v
     ≡ levels_after o x
     → steps ≡ length x → length x + length y < 2 ^ 64 → HasState run begin place s o x
-    → TellsRuns listing count place t (λ p. run p v y) → HasState run begin place r o (x ++ y)
-past_state {P} run law begin place listing count t s r o v x y steps memory first_break opens counted fits was tells =
+    → AgreesWithRuns listing count place t (λ p. run p v y) → HasState run begin place r o (x ++ y)
+past_state {P} run law begin place listing count t s r o v x y steps memory first_break opens counted fits was agrees =
     let p = (run (begin o) o x).leaving in
     let a = was in
-    let b : TellsRun false place (bare (outcome_in t s.memory)) (run p v y) =
-    tells_bare listing place (outcome_in t s.memory) (run p v y) (rw a.leaving (tells.tells p)) in
+    let b : AgreesWithRun false place (bare (outcome_in t s.memory)) (run p v y) =
+    tells_bare listing place (outcome_in t s.memory) (run p v y) (rw a.leaving (agrees.agrees p)) in
     let both = tells_both (length x) (length y) fits place false (way_of s) (bare (outcome_in t s.memory))
     (run (begin o) o x) (run p v y) a b (law.within p v y) in
-    let way : way_of r ≡ gone_on (length x) (way_of s) (bare (outcome_in t s.memory)) =
+    let way : way_of r ≡ followed_by (length x) (way_of s) (bare (outcome_in t s.memory)) =
     rw (memory, first_break, counted) refl in
     let whole : run (begin o) o (x ++ y) ≡ composed_outcome (length x) (run (begin o) o x) (run p v y) =
     rw opens (law.joined (begin o) o x y) in
-    subst (λ (w : WayOutcome). TellsRun false place w (run (begin o) o (x ++ y))) (sym way)
-    (subst (λ (q : Outcome P). TellsRun false place (gone_on (length x) (way_of s) (bare (outcome_in t s.memory))) q)
+    subst (λ (w : WideOutcome). AgreesWithRun false place w (run (begin o) o (x ++ y))) (sym way)
+    (subst (λ (q : Outcome P). AgreesWithRun false place
+    (followed_by (length x) (way_of s) (bare (outcome_in t s.memory))) q)
     (sym whole) both)

@@ -20,14 +20,14 @@ use Rattle.vme_parts.specs.Files.{AllStand, AreFiles, PartCovers, IsPartOf, file
 use Rattle.vme_parts.specs.Gathering.{Ascend}
 use Rattle.vme_parts.specs.Progress.{FoundAll, HasJudgedFiles, IsTornIn, StopsAt}
 use Rattle.vme_parts.specs.Stands.{SegmentStandsFor, extent_of}
-use Rattle.vme_parts.specs.Telling.{AllCovered, DeterminesRecordingAnswer, HasFiles, JudgesAll, JudgesFiles, told_of}
+use Rattle.vme_parts.specs.Telling.{AllCovered, DeterminesRecordingAnswer, HasFiles, JudgesAll, JudgesFiles, answer_of}
 use Rattle.vme_parts.specs.Telling.{verdict_of}
 use Rattle.vme_parts.specs.declared.answers.RecordingAnswer.{RecordingAnswer}
-use Rattle.vme_parts.specs.declared.answers.RecordingAnswer.TheVariants as told
+use Rattle.vme_parts.specs.declared.answers.RecordingAnswer.TheVariants as answer
 use Rattle.vme_parts.specs.declared.answers.WideVerdict.{WideVerdict}
 use Rattle.vme_parts.specs.declared.judged_segments.JudgedSegments.{JudgedSegments}
-use Rattle.vme_parts.specs.declared.judged_segments.Stop.{Stop}
-use Rattle.vme_parts.specs.declared.judged_segments.Stop.TheVariants as stop
+use Rattle.vme_parts.specs.declared.judged_segments.JudgingFault.{JudgingFault}
+use Rattle.vme_parts.specs.declared.judged_segments.JudgingFault.TheVariants as stop
 use Rattle.vme_parts.proofs.Covered.{all_covered, from_none, gap_missing, last_covered, next_low, next_missing}
 use Rattle.vme_parts.proofs.Covered.{next_whole}
 use Rattle.vme_parts.proofs.WholeFiles.{HasComeTo, come_first, come_on, found_all, torn_below, torn_whole}
@@ -104,7 +104,7 @@ module _ (j : JudgedSegments) (s : SegmentValue) (xs : List Segment) (i : ℕ) (
             );
       }
 
-  pub stops_here : (why : Stop)
+  pub stops_here : (why : JudgingFault)
       → ((listing : Bool) (e : Extent) (bs ys : List Block) → HasJudgedFiles j e bs
       → SegmentStandsFor listing (segment_value x) ys → x.first ≡ e.last + 1 → StopsAt bs ys why)
       → JudgesAll (s ∷ map segment_value xs) (Err why)
@@ -143,7 +143,7 @@ fit_ascend listing before [] f = tt
 fit_ascend listing before (s ∷ ss) f = (f.1, fit_ascend listing (Some (last_of s.first s.order)) ss f.2)
 
 pub beyond_told : (p : PartValue) (count : Option ℕ) (k : ℕ) → IsBeyond p.segments count k
-    → JudgesFiles p count (Err (told.Beyond k))
+    → JudgesFiles p count (Err (answer.Beyond k))
 beyond_told p count k b files n are part has =
     let own : HasFiles p (Some b.files) n = subst (λ (o : Option ℕ). HasFiles p o n) b.counted has in (
       subst (PartCovers p) (sym b.at) (last_covered p b.last b.there),
@@ -151,14 +151,14 @@ beyond_told p count k b files n are part has =
     )
 
 pub missing_told : (p : PartValue) (count : Option ℕ) (k : ℕ) → AreWithinFiles p.segments count → HasGap 0 p.segments k
-    → JudgesFiles p count (Err (told.Missing k))
+    → JudgesFiles p count (Err (answer.Missing k))
 missing_told p count k w g files n are part has =
     gap_missing p (from_none p.segments (fit_ascend p.listing None p.segments part.fits.segments)) count n k w has g
 
 module _ (p : PartValue) (count : Option ℕ) (end : ℕ) (w : AreWithinFiles p.segments count)
     (next : AreNext 0 p.segments end)
   where
-    pub lacking_told : LacksFrom count end → JudgesFiles p count (Err (told.Missing end))
+    pub lacking_told : LacksFrom count end → JudgesFiles p count (Err (answer.Missing end))
     lacking_told l files n are part has =
         next_missing p (from_none p.segments
         (fit_ascend p.listing None p.segments part.fits.segments)) end next count n has
@@ -195,7 +195,7 @@ module _ (p : PartValue) (count : Option ℕ) (end : ℕ) (w : AreWithinFiles p.
             ),
           )
 
-      pub torn_told : (k : ℕ) → JudgesAll p.segments (Err (stop.Torn k)) → JudgesFiles p count (Err (told.Torn k))
+      pub torn_told : (k : ℕ) → JudgesAll p.segments (Err (stop.Torn k)) → JudgesFiles p count (Err (answer.Torn k))
       torn_told k judges files n are part has =
           let r = judges p.listing files end are part.stands next in (
             covers_all files n part has,
@@ -203,10 +203,10 @@ module _ (p : PartValue) (count : Option ℕ) (end : ℕ) (w : AreWithinFiles p.
             omega (arith, r.1, has_all files n part has),
           )
 
-      pub many_told : JudgesFiles p count (Err told.TooManySteps)
+      pub many_told : JudgesFiles p count (Err answer.TooManySteps)
       many_told files n are part has = covers_all files n part has
 
-      pub stop_told : (why : Stop) → JudgesAll p.segments (Err why) → JudgesFiles p count (Err (told_of why))
+      pub stop_told : (why : JudgingFault) → JudgesAll p.segments (Err why) → JudgesFiles p count (Err (answer_of why))
       stop_told (stop.Torn k) judges = torn_told k judges
       stop_told stop.TooManySteps judges = many_told
 
@@ -214,7 +214,7 @@ module _ (p : PartValue) (count : Option ℕ) (end : ℕ) (w : AreWithinFiles p.
 pub verdict_told : (p : PartValue) (count : Option ℕ) (j : JudgedSegments) (v : WideVerdict)
     → JudgesFiles p count (Ok j)
     → ((t : Trace) → FoundAll j.states t → verdict_by rules_in_force t ≡ verdict_of v)
-    → DeterminesRecordingAnswer p count (told.Verdict v)
+    → DeterminesRecordingAnswer p count (answer.Verdict v)
 verdict_told p count j v judges found files n are part has =
     let r = judges files n are part has in (
       r.0,

@@ -8,23 +8,23 @@ use Rattle.vme_monitor.specs.Run.{machine_step, run_of}
 use Rattle.vme_monitor.specs.WithoutMarks.{unmarked_step, unmarked_run}
 use Rattle.vme_monitor.specs.declared.mark.Next.{Next}
 use Rattle.vme_part_format.specs.Tables.{TableValue}
-use Rattle.vme_part_tables.specs.Runs.{TellsRuns}
+use Rattle.vme_part_tables.specs.Runs.{AgreesWithRuns}
 use Rattle.vme_parts.proofs.Bare.{tells_same}
 
 pub unmarked_tells : {P S : Type 0} (observation : Levels → Levels → List Change → Option S)
     (next : P → Levels → Levels → S → Next P) (count : ℕ) (place : P → ℕ) (t : TableValue) (o : Levels) (x : List Step)
-    → TellsRuns false count place t (λ p. run_of (machine_step observation (unmarked_step next)) p o x)
-    → TellsRuns false count place t (λ p. run_of (machine_step observation next) p o x)
+    → AgreesWithRuns false count place t (λ p. run_of (machine_step observation (unmarked_step next)) p o x)
+    → AgreesWithRuns false count place t (λ p. run_of (machine_step observation next) p o x)
 unmarked_tells {P} observation next count place t o x s =
     record {
       counted = s.counted;
       ways = s.ways;
-      tells = λ k.
+      agrees = λ k.
           let e = unmarked_run observation next x k o in
           record {
-            leaving = (s.tells k).leaving ∙ ap (λ (r : Outcome P). place r.leaving) e;
-            first_break = (s.tells k).first_break ∙ ap (λ (r : Outcome P). r.first_break) e;
-            marks = (s.tells k).marks;
+            leaving = (s.agrees k).leaving ∙ ap (λ (r : Outcome P). place r.leaving) e;
+            first_break = (s.agrees k).first_break ∙ ap (λ (r : Outcome P). r.first_break) e;
+            marks = (s.agrees k).marks;
           };
     }
 
@@ -32,8 +32,8 @@ unmarked_tells {P} observation next count place t o x s =
 pub summary_tells : {P S : Type 0} (observation : Levels → Levels → List Change → Option S)
     (next : P → Levels → Levels → S → Next P) (count : ℕ) (place : P → ℕ) (t : TableValue) (says : P → Outcome P)
     (o : Levels) (x : List Step) → ((p : P) → says p ≡ run_of (machine_step observation (unmarked_step next)) p o x)
-    → TellsRuns false count place t says
-    → TellsRuns false count place t (λ p. run_of (machine_step observation next) p o x)
+    → AgreesWithRuns false count place t says
+    → AgreesWithRuns false count place t (λ p. run_of (machine_step observation next) p o x)
 summary_tells observation next count place t says o x e s =
     unmarked_tells observation next count place t o x
     (tells_same false count place t says (λ p. run_of (machine_step observation (unmarked_step next)) p o x) e s)

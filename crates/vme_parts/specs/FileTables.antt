@@ -11,17 +11,17 @@ use Rattle.vme_chains.specs.GrantMemory.{arbitration_place}
 use Rattle.vme_chains.specs.AcknowledgeRules.{acknowledgement_place}
 use Rattle.vme_summary.specs.Runs.{known_run, handshake_run, stability_run, grant_run, acknowledge_run}
 use Rattle.vme_part_format.specs.Tables.{table_value}
-use Rattle.vme_part_tables.specs.Runs.{TellsRuns}
+use Rattle.vme_part_tables.specs.Runs.{AgreesWithRuns}
 use Rattle.vme_parts.specs.declared.made.FileTables.{FileTables}
 
 -- the tables agree with the monitors' runs over the steps x from the opening o, and `all.left` is the levels after x
 pub record AreTablesOf (listing : Bool) (o : Levels) (x : List Step) (all : FileTables) : Type 0 where
-  pub known : TellsRuns listing 4 (phase_place nil_place) (table_value all.known) (λ p. known_run p o x)
-  pub handshake : TellsRuns listing 147 (phase_place memory_place) (table_value all.handshake)
+  pub known : AgreesWithRuns listing 4 (phase_place nil_place) (table_value all.known) (λ p. known_run p o x)
+  pub handshake : AgreesWithRuns listing 147 (phase_place memory_place) (table_value all.handshake)
       (λ p. handshake_run p o x)
-  pub stability : TellsRuns listing 13 (phase_place holding_place) (table_value all.stability)
+  pub stability : AgreesWithRuns listing 13 (phase_place holding_place) (table_value all.stability)
       (λ p. stability_run p o x)
-  pub grant : TellsRuns listing 35 (phase_place arbitration_place) (table_value all.grant) (λ p. grant_run p o x)
-  pub acknowledge : TellsRuns listing 11 (phase_place acknowledgement_place) (table_value all.acknowledge)
+  pub grant : AgreesWithRuns listing 35 (phase_place arbitration_place) (table_value all.grant) (λ p. grant_run p o x)
+  pub acknowledge : AgreesWithRuns listing 11 (phase_place acknowledgement_place) (table_value all.acknowledge)
       (λ p. acknowledge_run p o x)
   pub left : all.left ≡ levels_after o x

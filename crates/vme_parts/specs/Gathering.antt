@@ -3,7 +3,7 @@ use Rattle.std.specs.Prelude.{◌≡◌, ◌↔◌, ℕ, ◌+◌, ◌-◌, ◌*�
 use Rattle.std.specs.Prelude.{Option, None, Some}
 use Rattle.std.specs.List.{flat_map, last_or}
 use Rattle.vme_trace.specs.declared.block.Block.{Block}
-use Rattle.vme_part_format.specs.Bounds.{FitsNumbers, FitsSegment, IsBehind}
+use Rattle.vme_part_format.specs.Bounds.{FitsNumbers, FitsSegment, IsAfter}
 use Rattle.vme_part_format.specs.Sizes.{IsCompact}
 use Rattle.vme_part_format.specs.Tables.{PartValue, SegmentValue, last_of}
 use Rattle.vme_parts.specs.Buddies.{HasTables}
@@ -12,7 +12,7 @@ use Rattle.vme_parts.specs.Files.{AllStand, SegmentsCover}
 -- each segment begins after the last file of the one before it
 abbrev pub Ascend : Option ℕ → List SegmentValue → Type 0
 Ascend before [] = Unit {0}
-Ascend before (s ∷ ss) = IsBehind before s × Ascend (Some (last_of s.first s.order)) ss
+Ascend before (s ∷ ss) = IsAfter before s × Ascend (Some (last_of s.first s.order)) ss
 
 -- ss were gathered from `done`: they cover the same files, they stand for theirs if `done` do, they can be written if
 -- `done` can, and they are compact if `done` are

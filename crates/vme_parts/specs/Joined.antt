@@ -3,7 +3,7 @@ use Rattle.std.specs.Prelude.{◌≡◌, ◌+◌, ◌<◌, ◌^◌, Option, None
 use Rattle.vme_summary.specs.Extents.{Meets}
 use Rattle.vme_part_format.specs.Tables.{SegmentValue}
 use Rattle.vme_part_format.specs.declared.segment.SegmentTimes.{SegmentTimes}
-use Rattle.vme_part_tables.specs.Runs.{SaysBoth}
+use Rattle.vme_part_tables.specs.Runs.{IsComposition}
 use Rattle.vme_parts.specs.Stands.{extent_of}
 
 -- the times of the steps of a and then those of b
@@ -26,8 +26,8 @@ pub record IsOfBoth (s t r : SegmentValue) : Type 0 where
   pub opening : r.opening ≡ s.opening
   pub left : r.left ≡ t.left
   pub times : r.times ≡ joined_times s.times t.times
-  pub known : SaysBoth s.steps s.known t.known r.known
-  pub handshake : SaysBoth s.steps s.handshake t.handshake r.handshake
-  pub stability : SaysBoth s.steps s.stability t.stability r.stability
-  pub grant : SaysBoth s.steps s.grant t.grant r.grant
-  pub acknowledge : SaysBoth s.steps s.acknowledge t.acknowledge r.acknowledge
+  pub known : IsComposition s.steps s.known t.known r.known
+  pub handshake : IsComposition s.steps s.handshake t.handshake r.handshake
+  pub stability : IsComposition s.steps s.stability t.stability r.stability
+  pub grant : IsComposition s.steps s.grant t.grant r.grant
+  pub acknowledge : IsComposition s.steps s.acknowledge t.acknowledge r.acknowledge

@@ -21,24 +21,24 @@ use Rattle.vme_summary.specs.Joins.{BlocksJoin}
 use Rattle.vme_summary.specs.Runs.{known_run, handshake_run, stability_run, grant_run, acknowledge_run}
 use Rattle.vme_summary.specs.declared.extent.Extent.{Extent}
 use Rattle.vme_part_format.specs.Tables.{SegmentValue}
-use Rattle.vme_part_tables.specs.Runs.{TellsRun, TellsRuns}
-use Rattle.vme_part_tables.specs.Ways.{WayOutcome}
+use Rattle.vme_part_tables.specs.Runs.{AgreesWithRun, AgreesWithRuns}
+use Rattle.vme_part_tables.specs.Ways.{WideOutcome}
 use Rattle.vme_parts.specs.Meeting.{ends_at, starts_at}
 use Rattle.vme_parts.specs.Stands.{SegmentStandsFor, extent_of}
 use Rattle.vme_parts.specs.declared.judged_segments.JudgedSegments.{JudgedSegments}
-use Rattle.vme_parts.specs.declared.judged_segments.Stop.{Stop}
-use Rattle.vme_parts.specs.declared.judged_segments.Stop.TheVariants as stop
+use Rattle.vme_parts.specs.declared.judged_segments.JudgingFault.{JudgingFault}
+use Rattle.vme_parts.specs.declared.judged_segments.JudgingFault.TheVariants as stop
 use Rattle.vme_parts.specs.declared.state.State.{State}
 use Rattle.vme_parts.specs.declared.state.States.{States}
 
 -- a monitor's state as an outcome without marks
-abbrev pub way_of : State → WayOutcome
+abbrev pub way_of : State → WideOutcome
 way_of s = record { leaving = s.memory; first_break = s.first_break; marks = [] }
 
 -- s is the state, after the steps x, of a monitor that began at the opening o
 abbrev pub HasState : {P : Type 0} → (P → Levels → List Step → Outcome P) → (Levels → P) → (P → ℕ) → State → Levels
     → List Step → Type 0
-HasState run begin place s o x = TellsRun false place (way_of s) (run (begin o) o x)
+HasState run begin place s o x = AgreesWithRun false place (way_of s) (run (begin o) o x)
 
 -- s has the state of each monitor after the steps x, from the opening o
 pub record HasStates (s : States) (o : Levels) (x : List Step) : Type 0 where
@@ -66,16 +66,17 @@ pub record FitStates (s : States) : Type 0 where
 
 -- the tables of s agree with the monitors' runs over the steps y from the levels v
 pub record TellsAll (listing : Bool) (s : SegmentValue) (v : Levels) (y : List Step) : Type 0 where
-  pub known : TellsRuns listing 4 (phase_place nil_place) s.known (λ p. known_run p v y)
-  pub handshake : TellsRuns listing 147 (phase_place memory_place) s.handshake (λ p. handshake_run p v y)
-  pub stability : TellsRuns listing 13 (phase_place holding_place) s.stability (λ p. stability_run p v y)
-  pub grant : TellsRuns listing 35 (phase_place arbitration_place) s.grant (λ p. grant_run p v y)
-  pub acknowledge : TellsRuns listing 11 (phase_place acknowledgement_place) s.acknowledge (λ p. acknowledge_run p v y)
+  pub known : AgreesWithRuns listing 4 (phase_place nil_place) s.known (λ p. known_run p v y)
+  pub handshake : AgreesWithRuns listing 147 (phase_place memory_place) s.handshake (λ p. handshake_run p v y)
+  pub stability : AgreesWithRuns listing 13 (phase_place holding_place) s.stability (λ p. stability_run p v y)
+  pub grant : AgreesWithRuns listing 35 (phase_place arbitration_place) s.grant (λ p. grant_run p v y)
+  pub acknowledge : AgreesWithRuns listing 11 (phase_place acknowledgement_place) s.acknowledge
+      (λ p. acknowledge_run p v y)
 
 -- if the monitors have the states `old` after `steps` steps, and the tables of s agree with the steps after these, then
 -- the monitors have the states `new` after both
-abbrev pub HasStatesPast : States → States → SegmentValue → ℕ → Type 0
-HasStatesPast old new s steps =
+abbrev pub HasStatesAfter : States → States → SegmentValue → ℕ → Type 0
+HasStatesAfter old new s steps =
     (listing : Bool) (o v : Levels) (x y : List Step) → v ≡ levels_after o x → steps ≡ length x
     → length x + length y < 2 ^ 64 → HasStates old o x → TellsAll listing s v y → HasStates new o (x ++ y)
 
@@ -105,6 +106,6 @@ pub record IsTornIn (bs ys : List Block) (k : ℕ) : Type 0 where
   pub there : BlocksJoin ((bs ++ front) ++ torn ∷ []) → ⊥
 
 -- why judging stops at the files ys, after bs
-abbrev pub StopsAt : List Block → List Block → Stop → Type 0
+abbrev pub StopsAt : List Block → List Block → JudgingFault → Type 0
 StopsAt bs ys (stop.Torn k) = IsTornIn bs ys k
 StopsAt bs ys stop.TooManySteps = Unit {0}

@@ -15,7 +15,7 @@ use Rattle.vme_summary.specs.Runs.{known_run, handshake_run, stability_run, gran
 use Rattle.vme_summary.specs.declared.extent.Extent.{Extent}
 use Rattle.vme_part_format.specs.Tables.{SegmentValue, last_of}
 use Rattle.vme_part_format.specs.declared.segment.SegmentTimes.{SegmentTimes}
-use Rattle.vme_part_tables.specs.Runs.{TellsRuns}
+use Rattle.vme_part_tables.specs.Runs.{AgreesWithRuns}
 
 -- the numbers of a segment's first and last file, its levels before and after, and its first and last time
 abbrev pub extent_of : SegmentValue → Extent
@@ -45,12 +45,12 @@ pub record SegmentStandsFor (listing : Bool) (s : SegmentValue) (bs : List Block
   pub as_many : length bs ≡ 2 ^ s.order
   pub numbered : option_map (λ (t : SegmentTimes). t.number) s.times ≡ first_with_step bs
   pub counted : s.steps ≡ length (joined_steps bs)
-  pub known : TellsRuns listing 4 (phase_place nil_place) s.known (λ p. known_run p s.opening (joined_steps bs))
-  pub handshake : TellsRuns listing 147 (phase_place memory_place) s.handshake
+  pub known : AgreesWithRuns listing 4 (phase_place nil_place) s.known (λ p. known_run p s.opening (joined_steps bs))
+  pub handshake : AgreesWithRuns listing 147 (phase_place memory_place) s.handshake
       (λ p. handshake_run p s.opening (joined_steps bs))
-  pub stability : TellsRuns listing 13 (phase_place holding_place) s.stability
+  pub stability : AgreesWithRuns listing 13 (phase_place holding_place) s.stability
       (λ p. stability_run p s.opening (joined_steps bs))
-  pub grant : TellsRuns listing 35 (phase_place arbitration_place) s.grant
+  pub grant : AgreesWithRuns listing 35 (phase_place arbitration_place) s.grant
       (λ p. grant_run p s.opening (joined_steps bs))
-  pub acknowledge : TellsRuns listing 11 (phase_place acknowledgement_place) s.acknowledge
+  pub acknowledge : AgreesWithRuns listing 11 (phase_place acknowledgement_place) s.acknowledge
       (λ p. acknowledge_run p s.opening (joined_steps bs))

@@ -10,12 +10,12 @@ use Rattle.vme_summary.specs.Joins.{BlocksJoin, joined_trace}
 use Rattle.vme_summary.specs.declared.extent.Extent.{Extent}
 use Rattle.vme_part_format.specs.Tables.{PartValue, SegmentValue}
 use Rattle.vme_parts.specs.declared.answers.RecordingAnswer.{RecordingAnswer}
-use Rattle.vme_parts.specs.declared.answers.RecordingAnswer.TheVariants as told
+use Rattle.vme_parts.specs.declared.answers.RecordingAnswer.TheVariants as answer
 use Rattle.vme_parts.specs.declared.answers.WideVerdict.{WideVerdict}
 use Rattle.vme_parts.specs.declared.answers.WideVerdict.TheVariants as wide
 use Rattle.vme_parts.specs.declared.judged_segments.JudgedSegments.{JudgedSegments}
-use Rattle.vme_parts.specs.declared.judged_segments.Stop.{Stop}
-use Rattle.vme_parts.specs.declared.judged_segments.Stop.TheVariants as stop
+use Rattle.vme_parts.specs.declared.judged_segments.JudgingFault.{JudgingFault}
+use Rattle.vme_parts.specs.declared.judged_segments.JudgingFault.TheVariants as stop
 use Rattle.vme_parts.specs.Covering.{AreNext}
 use Rattle.vme_parts.specs.Files.{AllStand, AreFiles, PartCovers, IsPartOf}
 use Rattle.vme_parts.specs.Progress.{HasJudgedFiles}
@@ -57,11 +57,11 @@ IsVerdictOfFiles files v =
 
 -- when an answer is true of a recording of n files
 abbrev pub IsRecordingAnswer : List Block → PartValue → ℕ → RecordingAnswer → Type 0
-IsRecordingAnswer files p n (told.Beyond k) = PartCovers p k × (n ≤ k)
-IsRecordingAnswer files p n (told.Missing k) = IsMissing p k × (k < n)
-IsRecordingAnswer files p n (told.Torn k) = AllCovered p n × IsTornFile files k × (k < n)
-IsRecordingAnswer files p n told.TooManySteps = AllCovered p n
-IsRecordingAnswer files p n (told.Verdict v) = AllCovered p n × IsVerdictOfFiles (take n files) (verdict_of v)
+IsRecordingAnswer files p n (answer.Beyond k) = PartCovers p k × (n ≤ k)
+IsRecordingAnswer files p n (answer.Missing k) = IsMissing p k × (k < n)
+IsRecordingAnswer files p n (answer.Torn k) = AllCovered p n × IsTornFile files k × (k < n)
+IsRecordingAnswer files p n answer.TooManySteps = AllCovered p n
+IsRecordingAnswer files p n (answer.Verdict v) = AllCovered p n × IsVerdictOfFiles (take n files) (verdict_of v)
 
 -- whichever files p is a part of, the answer `what` is true of them
 abbrev pub DeterminesRecordingAnswer : PartValue → Option ℕ → RecordingAnswer → Type 0
@@ -70,12 +70,12 @@ DeterminesRecordingAnswer p count what =
     → IsRecordingAnswer files p n what
 
 -- the answer where judging stops
-abbrev pub told_of : Stop → RecordingAnswer
-told_of (stop.Torn k) = told.Torn k
-told_of stop.TooManySteps = told.TooManySteps
+abbrev pub answer_of : JudgingFault → RecordingAnswer
+answer_of (stop.Torn k) = answer.Torn k
+answer_of stop.TooManySteps = answer.TooManySteps
 
 -- the result of judging all segments ss, or why it stops, whichever files they stand for
-abbrev pub JudgesAll : List SegmentValue → Result JudgedSegments Stop → Type 0
+abbrev pub JudgesAll : List SegmentValue → Result JudgedSegments JudgingFault → Type 0
 JudgesAll ss (Ok j) =
     (listing : Bool) (files : List Block) (end : ℕ) → AreFiles files → AllStand listing files ss → AreNext 0 ss end
     → (e : Extent) × HasJudgedFiles j e (take end files) ×

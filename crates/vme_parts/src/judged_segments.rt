@@ -16,7 +16,7 @@ use vme_trace::Lines;
 
 /// Why judging stops at a segment.
 #[derive(Clone, Copy)]
-pub enum Stop {
+pub enum JudgingFault {
     /// This file of the segment doesn't follow those before it.
     Torn(u64),
     /// With the segment there are more steps than 64 bits count.
@@ -51,7 +51,7 @@ impl JudgedSegments {
     }
 
     /// Judges the segment that comes next. The error says why judging stops there.
-    pub fn go_past(&mut self, segment: &Segment) -> Result<(), Stop>
+    pub fn go_past(&mut self, segment: &Segment) -> Result<(), JudgingFault>
         requires fit { FitStates self.old.states }
         requires tables { HasTables (segment_value segment.now) }
         ensures fit { FitStates self.new.states }
@@ -69,10 +69,10 @@ impl JudgedSegments {
             segment.times,
         );
         if let Some(file) = torn {
-            return Err(Stop::Torn(file));
+            return Err(JudgingFault::Torn(file));
         }
         let Some(steps) = self.steps.checked_add(segment.steps) else {
-            return Err(Stop::TooManySteps);
+            return Err(JudgingFault::TooManySteps);
         };
         let states = self.states.past(segment, self.steps);
         let times = joined_times(self.times, segment.times);

@@ -62,7 +62,7 @@ pub use file::steps_of_file;
 pub use fits::can_write;
 pub use join::join_parts;
 pub use join_refusal::JoinRefusal;
-pub use judged_segments::{JudgedSegments, Stop};
+pub use judged_segments::{JudgedSegments, JudgingFault};
 pub use made::part_of_steps;
 pub use part_refusal::PartRefusal;
 pub use state::{State, States};

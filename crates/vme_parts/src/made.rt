@@ -8,14 +8,14 @@ ghost use Rattle.vme_trace.specs.declared.step.Step.{Step};
 ghost use Rattle.vme_summary.specs.Joins.{block_of, first_time, last_time};
 ghost use Rattle.vme_part_format.specs.Tables.{part_value, segment_value, table_value};
 ghost use Rattle.vme_part_format.specs.declared.segment.SegmentTimes.{SegmentTimes};
-ghost use Rattle.vme_part_tables.specs.Runs.{TellsRuns};
+ghost use Rattle.vme_part_tables.specs.Runs.{AgreesWithRuns};
 ghost use Rattle.vme_parts.specs.FileTables.{AreTablesOf};
 ghost use Rattle.vme_parts.specs.Files.{IsPartOfFile};
 ghost use Rattle.vme_parts.specs.Meeting.{ends_at, starts_at};
 ghost use Rattle.vme_parts.specs.Stands.{SegmentStandsFor};
 
 use crate::part_refusal::PartRefusal;
-use crate::pieces::{lines_behind, table_with_marks};
+use crate::pieces::{lines_after, table_with_marks};
 use std::alloc::{AllocError, Global};
 use vme_chains::acknowledge::{AcknowledgeRules, Iack};
 use vme_chains::grant::{Grant, GrantRules};
@@ -32,7 +32,8 @@ use vme_trace::{Lines, Step};
 
 /// The table without marks of a monitor's summary.
 fn bare_table<M: Finite>(alloc: Global, summary: &M::Summary) -> Result<OutcomeTable, AllocError>
-    ensures { IfOk result (λ t. TellsRuns false M.COUNT M.place_of (table_value t) (λ p. M.outcome summary.now p)) }
+    ensures { IfOk result (λ t. AgreesWithRuns false M.COUNT M.place_of (table_value t)
+        (λ p. M.outcome summary.now p)) }
 {
     let mut entries = Vec::with_capacity(alloc, M::COUNT)?;
     for place in 0..M::COUNT {
@@ -95,7 +96,7 @@ fn marked_tables(alloc: Global, opening: &Lines, steps: &[Step]) -> Result<FileT
     let stability = table_with_marks::<Stability>(alloc, opening, steps)?;
     let grant = table_with_marks::<Grant>(alloc, opening, steps)?;
     let acknowledge = table_with_marks::<Iack>(alloc, opening, steps)?;
-    let left = lines_behind(opening, steps);
+    let left = lines_after(opening, steps);
     Ok(FileTables {
         known,
         handshake,

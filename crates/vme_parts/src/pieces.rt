@@ -8,7 +8,7 @@ ghost use Rattle.vme_trace.specs.WellFormed.{malformed_step};
 ghost use Rattle.vme_trace.specs.declared.step.Step.{Step};
 ghost use Rattle.vme_part_format.specs.Tables.{table_value};
 ghost use Rattle.vme_part_tables.specs.Marked.{if_needed, is_needed};
-ghost use Rattle.vme_part_tables.specs.Runs.{TellsRuns};
+ghost use Rattle.vme_part_tables.specs.Runs.{AgreesWithRuns};
 ghost use Rattle.vme_parts.specs.Buddies.{IsTableOf};
 
 use crate::buddies::nodes_are_few;
@@ -24,7 +24,7 @@ use vme_trace::{Lines, Step};
 const PIECE: usize = 1024;
 
 /// The levels after `steps`.
-pub(crate) fn lines_behind(opening: &Lines, steps: &[Step]) -> Lines
+pub(crate) fn lines_after(opening: &Lines, steps: &[Step]) -> Lines
     ensures { result ≡ levels_after opening.now steps.now }
 {
     let mut lines = *opening;
@@ -44,7 +44,7 @@ fn piece_table<M: Finite>(
     requires accepted { malformed_step (record { opening = opening.now; steps = steps.now }) ≡ None }
     requires few { length steps.now ≤ 268435456 }
     requires some { 0 < M.COUNT }
-    ensures { IfOk result (λ t. TellsRuns true M.COUNT M.place_of (table_value t)
+    ensures { IfOk result (λ t. AgreesWithRuns true M.COUNT M.place_of (table_value t)
         (λ p. if_needed (is_needed needs.now (M.place_of p)) (M.run p opening.now steps.now))) }
 {
     let summary = M::summarise(alloc, opening, steps)?;
@@ -65,8 +65,8 @@ fn with_piece<M: Finite>(
     requires table { IsTableOf M.COUNT (table_value table) }
     requires fits { done + length piece.now < 2 ^ 64 }
     ensures { IfOk result (λ t. (o : Levels) (x : List Step) → opening.now ≡ levels_after o x → done ≡ length x
-        → TellsRuns true M.COUNT M.place_of (table_value table) (λ p. M.run p o x)
-        → TellsRuns true M.COUNT M.place_of (table_value t) (λ p. M.run p o (x ++ piece.now))) }
+        → AgreesWithRuns true M.COUNT M.place_of (table_value table) (λ p. M.run p o x)
+        → AgreesWithRuns true M.COUNT M.place_of (table_value t) (λ p. M.run p o (x ++ piece.now))) }
 {
     let needs = left_memories(alloc, &table)?;
     let next = piece_table::<M>(alloc, opening, piece, needs.as_slice())?;
@@ -86,7 +86,7 @@ pub(crate) fn table_with_marks<M: Finite>(
     requires accepted { malformed_step (record { opening = opening.now; steps = steps.now }) ≡ None }
     requires few { length steps.now ≤ 268435456 }
     requires some { 0 < M.COUNT }
-    ensures { IfOk result (λ t. TellsRuns true M.COUNT M.place_of (table_value t)
+    ensures { IfOk result (λ t. AgreesWithRuns true M.COUNT M.place_of (table_value t)
         (λ p. M.run p opening.now steps.now)) }
 {
     let mut table = piece_table::<M>(alloc, opening, &steps[..0], &[])?;
@@ -96,7 +96,7 @@ pub(crate) fn table_with_marks<M: Finite>(
         let end = steps.len().min(done + PIECE);
         let piece = &steps[done..end];
         table = with_piece::<M>(alloc, table, done, &lines, piece)?;
-        lines = lines_behind(&lines, piece);
+        lines = lines_after(&lines, piece);
         done = end;
     }
     Ok(table)

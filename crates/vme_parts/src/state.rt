@@ -13,7 +13,7 @@ ghost use Rattle.vme_part_format.specs.Tables.{segment_value, table_value};
 ghost use Rattle.vme_part_tables.specs.Runs.{break_of};
 ghost use Rattle.vme_part_tables.specs.Ways.{later_break as later_break_of, outcome_in};
 ghost use Rattle.vme_parts.specs.Buddies.{HasTables};
-ghost use Rattle.vme_parts.specs.Progress.{FitStates, FoundAll, HasStates, HasStatesPast};
+ghost use Rattle.vme_parts.specs.Progress.{FitStates, FoundAll, HasStates, HasStatesAfter};
 ghost use Rattle.vme_parts.specs.Telling.{verdict_of as verdict_is};
 
 use crate::answers::WideVerdict;
@@ -137,7 +137,7 @@ impl States {
         requires fit { FitStates self.now }
         requires tables { HasTables (segment_value segment.now) }
         ensures fit { FitStates result }
-        ensures found { HasStatesPast self.now result (segment_value segment.now) steps }
+        ensures found { HasStatesAfter self.now result (segment_value segment.now) steps }
     {
         States {
             known: past(self.known, &segment.known, steps),

@@ -5,15 +5,16 @@ ghost use Rattle.vme_part_format.specs.Bounds.{FitsPart};
 ghost use Rattle.vme_part_format.specs.Tables.{part_value, segment_value};
 ghost use Rattle.vme_parts.specs.Gathering.{IsSegment};
 ghost use Rattle.vme_parts.specs.Progress.{FitStates};
-ghost use Rattle.vme_parts.specs.Telling.{DeterminesRecordingAnswer, JudgesAll, JudgesFiles, told_of as told_of_stop};
+ghost use Rattle.vme_parts.specs.Telling.{DeterminesRecordingAnswer, JudgesAll, JudgesFiles};
+ghost use Rattle.vme_parts.specs.Telling.{answer_of as answer_of_stop};
 
 use crate::answers::RecordingAnswer;
 use crate::cover::{beyond, covered, lacks};
-use crate::judged_segments::{JudgedSegments, Stop};
+use crate::judged_segments::{JudgedSegments, JudgingFault};
 use vme_part_format::{Part, Segment};
 
 /// Judges a segment and those that follow it.
-fn judge_from(first: &Segment, rest: &[Segment]) -> Result<JudgedSegments, Stop>
+fn judge_from(first: &Segment, rest: &[Segment]) -> Result<JudgedSegments, JudgingFault>
     requires first { IsSegment (segment_value first.now) }
     requires rest { All IsSegment (map segment_value rest.now) }
     ensures fit { IfOk result (λ j. FitStates j.states) }
@@ -30,7 +31,7 @@ fn judge_from(first: &Segment, rest: &[Segment]) -> Result<JudgedSegments, Stop>
 }
 
 /// Judges all segments, which follow one another by their numbers.
-fn judge_all(segments: &[Segment]) -> Result<JudgedSegments, Stop>
+fn judge_all(segments: &[Segment]) -> Result<JudgedSegments, JudgingFault>
     requires segments { All IsSegment (map segment_value segments.now) }
     requires some { segments.now ≡ [] → ⊥ }
     ensures fit { IfOk result (λ j. FitStates j.states) }
@@ -43,12 +44,12 @@ fn judge_all(segments: &[Segment]) -> Result<JudgedSegments, Stop>
 }
 
 /// The answer where judging stops.
-fn told_of(stop: Stop) -> RecordingAnswer
-    ensures { result ≡ told_of_stop stop }
+fn answer_of(stop: JudgingFault) -> RecordingAnswer
+    ensures { result ≡ answer_of_stop stop }
 {
     match stop {
-        Stop::Torn(file) => RecordingAnswer::Torn(file),
-        Stop::TooManySteps => RecordingAnswer::TooManySteps,
+        JudgingFault::Torn(file) => RecordingAnswer::Torn(file),
+        JudgingFault::TooManySteps => RecordingAnswer::TooManySteps,
     }
 }
 
@@ -72,7 +73,7 @@ pub fn judged(part: &Part, files: Option<u64>) -> Result<JudgedSegments, Recordi
     }
     match judge_all(segments) {
         Ok(judging) => Ok(judging),
-        Err(stop) => Err(told_of(stop)),
+        Err(stop) => Err(answer_of(stop)),
     }
 }
 
@@ -84,6 +85,6 @@ pub fn tell_verdict(part: &Part, files: Option<u64>) -> RecordingAnswer
 {
     match judged(part, files) {
         Ok(judging) => RecordingAnswer::Verdict(judging.states.verdict()),
-        Err(told) => told,
+        Err(answer) => answer,
     }
 }

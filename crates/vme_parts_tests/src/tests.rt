@@ -325,7 +325,7 @@ fn join_all(alloc: Global, texts: &[Vec<u8>]) -> Result<Vec<u8>, &'static str> {
 }
 
 /// The answer of the part in `text` for `files` files.
-fn told_of(
+fn answer_of(
     alloc: Global,
     text: &[u8],
     files: Option<u64>,
@@ -405,7 +405,7 @@ fn told_of_files(
     count: Option<u64>,
 ) -> Result<RecordingAnswer, &'static str> {
     let text = joined(alloc, state, listing, files)?;
-    told_of(alloc, text.as_slice(), count)
+    answer_of(alloc, text.as_slice(), count)
 }
 
 /// The part joined from two. The second is given first.
@@ -452,8 +452,8 @@ fn tells_verdict(alloc: Global, seed: u64, listing: bool) -> Result<bool, &'stat
     let files = cut_recording(alloc, seed, &mut state, count)?;
     let verdict = verdict_of(alloc, seed)?;
     let text = joined(alloc, &mut state, listing, files.as_slice())?;
-    let told = told_of(alloc, text.as_slice(), Some(count as u64))?;
-    let again = told_of(alloc, text.as_slice(), None)?;
+    let told = answer_of(alloc, text.as_slice(), Some(count as u64))?;
+    let again = answer_of(alloc, text.as_slice(), None)?;
     Ok(is_verdict(&told, &verdict) && is_verdict(&again, &verdict))
 }
 
@@ -513,7 +513,7 @@ fn runs_that_overlap_make_the_whole(rt: HostRuntime) -> Result<(), Fail> {
     let files = cut_recording(alloc, 1, &mut state, 9)?;
     let part = joined_runs(alloc, &mut state, files.as_slice(), 6, 3)?;
     assert_eq!(rt; segments_in(alloc, part.as_slice())?, 2);
-    let told = told_of(alloc, part.as_slice(), Some(9))?;
+    let told = answer_of(alloc, part.as_slice(), Some(9))?;
     assert!(rt; matches!(told, RecordingAnswer::Verdict(_)));
     Ok(())
 }
@@ -549,7 +549,7 @@ fn told_without(
     let mut state = 4;
     let files = cut_recording(alloc, 2, &mut state, 8)?;
     let text = joined_without(alloc, &mut state, files.as_slice(), from, to)?;
-    told_of(alloc, text.as_slice(), count)
+    answer_of(alloc, text.as_slice(), count)
 }
 
 /// Files that are missing, torn by levels or by time, or beyond.

@@ -16,8 +16,8 @@ use Rattle.vme_picture.specs.declared.markup.Attribute.TheVariants as attribute
 use Rattle.vme_picture.specs.declared.markup.Tag.{Tag}
 use Rattle.vme_picture.specs.declared.markup.Tag.TheVariants as tag
 
-both : (xs ys : List ℕ) → IsVisible xs → IsVisible ys → IsVisible (xs ++ ys)
-both xs ys first second =
+visible_append : (xs ys : List ℕ) → IsVisible xs → IsVisible ys → IsVisible (xs ++ ys)
+visible_append xs ys first second =
     list_all-append is_visible xs ys ∙ and_from (list_all is_visible xs) (list_all is_visible ys) first second
 
 shown : (b : ℕ) → IsVisible (hex_escaped_byte b)
@@ -48,7 +48,7 @@ escaped_one b = by_tests (b == 38) (b == 60) (b == 62) (b == 34)
 
 escaped_all : (bs : List ℕ) → IsVisible (escaped bs)
 escaped_all [] = refl
-escaped_all (b ∷ bs) = both (escaped_byte b) (escaped bs) (escaped_one b) (escaped_all bs)
+escaped_all (b ∷ bs) = visible_append (escaped_byte b) (escaped bs) (escaped_one b) (escaped_all bs)
 
 visible_tag : (name : Tag) → IsVisible (tag_name name)
 visible_tag tag.Svg = refl
@@ -82,15 +82,16 @@ visible_attribute : (name : Attribute) (value : List ℕ) → IsVisible (attribu
 visible_attribute name value =
     let named : List ℕ = codes " " ++ attribute_name name in
     let opened : List ℕ = named ++ 61 ∷ 34 ∷ [] in
-    let of_named : IsVisible named = both (codes " ") (attribute_name name) refl (visible_name name) in
-    let of_opened : IsVisible opened = both named (61 ∷ 34 ∷ []) of_named refl in
-    let of_value : IsVisible (opened ++ escaped value) = both opened (escaped value) of_opened (escaped_all value) in
-    both (opened ++ escaped value) (34 ∷ []) of_value refl
+    let of_named : IsVisible named = visible_append (codes " ") (attribute_name name) refl (visible_name name) in
+    let of_opened : IsVisible opened = visible_append named (61 ∷ 34 ∷ []) of_named refl in
+    let of_value : IsVisible (opened ++ escaped value) =
+    visible_append opened (escaped value) of_opened (escaped_all value) in
+    visible_append (opened ++ escaped value) (34 ∷ []) of_value refl
 
 visible_attributes : (list : List (Attribute × List ℕ)) → IsVisible (flat_map attribute_text list)
 visible_attributes [] = refl
 visible_attributes ((name, value) ∷ rest) =
-    both (attribute_text (name, value)) (flat_map attribute_text rest) (visible_attribute name value)
+    visible_append (attribute_text (name, value)) (flat_map attribute_text rest) (visible_attribute name value)
     (visible_attributes rest)
 
 visible_element : (name : Tag) (attributes inner : List ℕ) → IsVisible attributes → IsVisible inner
@@ -100,22 +101,24 @@ visible_element name attributes inner a i =
     let opened : List ℕ = begun ++ attributes ++ codes ">" in
     let filled : List ℕ = opened ++ inner in
     let ended : List ℕ = filled ++ codes "</" in
-    let of_begun : IsVisible begun = both (codes "<") (tag_name name) refl (visible_tag name) in
-    let of_attributes : IsVisible (begun ++ attributes) = both begun attributes of_begun a in
-    let of_opened : IsVisible opened = both (begun ++ attributes) (codes ">") of_attributes refl in
-    let of_filled : IsVisible filled = both opened inner of_opened i in
-    let of_ended : IsVisible ended = both filled (codes "</") of_filled refl in
-    let of_name : IsVisible (ended ++ tag_name name) = both ended (tag_name name) of_ended (visible_tag name) in
-    both (ended ++ tag_name name) (codes ">") of_name refl
+    let of_begun : IsVisible begun = visible_append (codes "<") (tag_name name) refl (visible_tag name) in
+    let of_attributes : IsVisible (begun ++ attributes) = visible_append begun attributes of_begun a in
+    let of_opened : IsVisible opened = visible_append (begun ++ attributes) (codes ">") of_attributes refl in
+    let of_filled : IsVisible filled = visible_append opened inner of_opened i in
+    let of_ended : IsVisible ended = visible_append filled (codes "</") of_filled refl in
+    let of_name : IsVisible (ended ++ tag_name name) =
+    visible_append ended (tag_name name) of_ended (visible_tag name) in
+    visible_append (ended ++ tag_name name) (codes ">") of_name refl
 
 visible_tree : (m : MarkupTree) → IsVisible (markup_text m)
 unfolding markup_text
 visible_tree nothing = refl
-visible_tree (characters bytes rest) = both (escaped bytes) (markup_text rest) (escaped_all bytes) (visible_tree rest)
-visible_tree (end_of_line rest) = both (10 ∷ []) (markup_text rest) refl (visible_tree rest)
+visible_tree (characters bytes rest) =
+    visible_append (escaped bytes) (markup_text rest) (escaped_all bytes) (visible_tree rest)
+visible_tree (end_of_line rest) = visible_append (10 ∷ []) (markup_text rest) refl (visible_tree rest)
 visible_tree (element name attributes inner rest) =
     let written : List ℕ = flat_map attribute_text attributes in
-    both (element_text name written (markup_text inner)) (markup_text rest)
+    visible_append (element_text name written (markup_text inner)) (markup_text rest)
     (visible_element name written (markup_text inner) (visible_attributes attributes) (visible_tree inner))
     (visible_tree rest)
 
@@ -129,5 +132,5 @@ picture_is_visible attributes inner a i =
     of_attributes of_inner in
     let marked : List ℕ = picture_first_line ++ element_text tag.Svg attributes inner in
     let of_marked : IsVisible marked =
-    both picture_first_line (element_text tag.Svg attributes inner) refl of_element in
-    both marked (10 ∷ []) of_marked refl
+    visible_append picture_first_line (element_text tag.Svg attributes inner) refl of_element in
+    visible_append marked (10 ∷ []) of_marked refl

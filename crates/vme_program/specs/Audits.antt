@@ -20,8 +20,8 @@ use Rattle.vme_words.specs.OrderFaults.{IsOfWords}
 use Rattle.vme_words.specs.declared.order.AuditOrder.{AuditOrder}
 use Rattle.vme_program.specs.Openings.{WithInput}
 use Rattle.vme_program.specs.Saves.{TellsNoMemory}
-use Rattle.vme_program.specs.declared.audit.NoWords.{NoWords}
-use Rattle.vme_program.specs.declared.audit.NoWords.TheVariants.{Faulty}
+use Rattle.vme_program.specs.declared.audit.AllowancesError.{AllowancesError}
+use Rattle.vme_program.specs.declared.audit.AllowancesError.TheVariants.{Faulty}
 use Rattle.vme_program.specs.declared.environment.Environment.{Ghosts as Environment}
 use Rattle.vme_program.specs.declared.environment.WriteResult.{WriteResult}
 use Rattle.vme_program.specs.declared.environment.WriteResult.TheVariants as written
@@ -29,9 +29,9 @@ use Rattle.vme_program.specs.declared.environment.WriteResult.TheVariants as wri
 -- ---- the words
 
 -- a fault of the words isn't want of memory
-abbrev pub IsOfWordsIfAny : NoWords → Type 0
-IsOfWordsIfAny (Faulty fault) = IsOfWords fault
-IsOfWordsIfAny other = Unit {0}
+abbrev pub IsOfWordsIfFaulty : AllowancesError → Type 0
+IsOfWordsIfFaulty (Faulty fault) = IsOfWords fault
+IsOfWordsIfFaulty other = Unit {0}
 
 -- `allowances` are the breaks that the order allows, each by the text of its argument
 abbrev pub AreAllowed : AuditOrder → List Allowance → Type 0

@@ -108,17 +108,17 @@ module _ {S R : Type 0} (outside : Environment S R) (s : S) where
         ⊎ (AreAllowed inputs × ExplainsThenSaves inputs binding dump out err status)
 
     -- it can't be determined which file an input is: the message is that it can't be opened
-    abbrev pub IsNoFile : Input → Reading → Writing × Writing → Writing × Writing → ℕ → Type 0
-    IsNoFile input told out err status =
+    abbrev pub RefusesUnknownFile : Input → Reading → Writing × Writing → Writing × Writing → ℕ → Type 0
+    RefusesUnknownFile input told out err status =
         outside.reads_file s told None × Tells (refusal_answer (CannotOpen input)) out err status
 
     -- it is determined which file each input is, the binding first
     abbrev pub ExplainsAndSaves : Reading × Reading → Reading × Reading
         → Writing × Writing → Writing × Writing → ℕ → Type 0
     ExplainsAndSaves binding dump out err status =
-        IsNoFile Binding binding.0 out err status
+        RefusesUnknownFile Binding binding.0 out err status
         ⊎ ((b : FileId) × outside.reads_file s binding.0 (Some b)
-        × (IsNoFile Dump dump.0 out err status
+        × (RefusesUnknownFile Dump dump.0 out err status
         ⊎ ((d : FileId) × outside.reads_file s dump.0 (Some d)
         × ExplainsUnlessRefused (record { binding = b; dump = d }) binding dump out err status)))
 

@@ -6,11 +6,11 @@ ghost use Rattle.std.specs.List.{AllZip};
 ghost use Rattle.vme_audit_command.specs.SeveralDumps.{NamedReading};
 ghost use Rattle.vme_program.specs.Audits.{AreAllowed, AuditsAndSaves, AuditsFiles, AuditsNamed, AuditsOpened};
 ghost use Rattle.vme_program.specs.Audits.{AuditsThenSaves, EndsCases, IsDumpOf, IsFileOf, IsFirstUnopened};
-ghost use Rattle.vme_program.specs.Audits.{IsOfWordsIfAny, IsOther, LeadsToInput, LeadsToNoInput, RefusesFile};
+ghost use Rattle.vme_program.specs.Audits.{IsOfWordsIfFaulty, IsOther, LeadsToInput, LeadsToNoInput, RefusesFile};
 ghost use Rattle.vme_program.specs.Audits.{SavesCases, dump_words, file_line, input_name};
 ghost use Rattle.vme_program.specs.Openings.{WithInput};
-ghost use Rattle.vme_program.specs.declared.audit.NoDumps.TheVariants.{Memory as LackedMemory, Unopened};
-ghost use Rattle.vme_program.specs.declared.audit.NoWords.TheVariants.{Memory};
+ghost use Rattle.vme_program.specs.declared.audit.AllowancesError.TheVariants.{Memory};
+ghost use Rattle.vme_program.specs.declared.audit.OpenDumpsError.TheVariants.{Memory as LackedMemory, Unopened};
 ghost use Rattle.vme_words.specs.OrderFaults.{IsOfWords};
 
 use crate::environment::{Environment, WriteResult};
@@ -32,35 +32,35 @@ const STANDARD_INPUT: &str = "-";
 
 /// Why the words, i.e. the arguments, don't say how to audit.
 #[derive(Drop)]
-enum NoWords {
+enum AllowancesError {
     /// They are wrong.
     Faulty(OrderFault),
     /// Memory ran out.
     Memory,
 }
 
-impl From<AllocError> for NoWords {
+impl From<AllocError> for AllowancesError {
     ghost from_gives = { λ _ none. none ≡ Memory };
 
-    fn from(_: AllocError) -> NoWords {
-        NoWords::Memory
+    fn from(_: AllocError) -> AllowancesError {
+        AllowancesError::Memory
     }
 }
 
 /// Why there are no dumps to audit.
 #[derive(Drop)]
-enum NoDumps<'a> {
+enum OpenDumpsError<'a> {
     /// The dump with this name can't be opened.
     Unopened(&'a str),
     /// Memory ran out.
     Memory,
 }
 
-impl<'a, T: Drop> From<AllocFailed<T>> for NoDumps<'a> {
+impl<'a, T: Drop> From<AllocFailed<T>> for OpenDumpsError<'a> {
     ghost from_gives = { λ _ none. none ≡ LackedMemory };
 
-    fn from(_: AllocFailed<T>) -> NoDumps<'a> {
-        NoDumps::Memory
+    fn from(_: AllocFailed<T>) -> OpenDumpsError<'a> {
+        OpenDumpsError::Memory
     }
 }
 
@@ -85,16 +85,16 @@ pub fn audit_files<S: Environment, O: Sink, E: Sink>(
             let allowed = allowances.as_slice();
             Ok(audit_binding(alloc, environment, order, allowed, out, err))
         }
-        Err(NoWords::Faulty(fault)) => Err(fault),
-        Err(NoWords::Memory) => Ok(refuse(&Refusal::Memory, err)),
+        Err(AllowancesError::Faulty(fault)) => Err(fault),
+        Err(AllowancesError::Memory) => Ok(refuse(&Refusal::Memory, err)),
     }
 }
 
 /// The allowances of an order, for breaks, i.e. violations of a rule; or what is wrong with the words. Standard input
 /// may be one dump at most.
-fn allowances_in(alloc: Global, order: &AuditOrder) -> Result<Vec<Allowance>, NoWords>
+fn allowances_in(alloc: Global, order: &AuditOrder) -> Result<Vec<Allowance>, AllowancesError>
     ensures allowed { IfOk result (λ allowances. AreAllowed order.now allowances.items) }
-    ensures of_words { IfErr result IsOfWordsIfAny }
+    ensures of_words { IfErr result IsOfWordsIfFaulty }
 {
     let Some(allowances) = allowances_of(alloc, order.allowed.as_slice())? else {
         return Err(wrong_words(alloc, "--allow takes a rule, or a rule and a line"));
@@ -108,10 +108,10 @@ fn allowances_in(alloc: Global, order: &AuditOrder) -> Result<Vec<Allowance>, No
     Ok(allowances)
 }
 
-fn wrong_words(alloc: Global, message: &str) -> NoWords
-    ensures { IsOfWordsIfAny result }
+fn wrong_words(alloc: Global, message: &str) -> AllowancesError
+    ensures { IsOfWordsIfFaulty result }
 {
-    NoWords::Faulty(task_fault(alloc, Task::Audit, message))
+    AllowancesError::Faulty(task_fault(alloc, Task::Audit, message))
 }
 
 /// The names of the dumps.
@@ -175,8 +175,8 @@ fn audit_named<S: Environment, O: Sink, E: Sink>(
             out,
             err,
         ),
-        Err(NoDumps::Unopened(name)) => refuse_file(alloc, name, b"cannot open", 3, err),
-        Err(NoDumps::Memory) => refuse(&Refusal::Memory, err),
+        Err(OpenDumpsError::Unopened(name)) => refuse_file(alloc, name, b"cannot open", 3, err),
+        Err(OpenDumpsError::Memory) => refuse(&Refusal::Memory, err),
     }
 }
 
@@ -185,7 +185,7 @@ fn open_dumps<'a, S: Environment>(
     alloc: Global,
     environment: &S,
     names: &'a [String],
-) -> Result<Vec<NamedDump<'a, S::Reader>>, NoDumps<'a>>
+) -> Result<Vec<NamedDump<'a, S::Reader>>, OpenDumpsError<'a>>
     ensures opened { IfOk result (λ dumps. AllZip (IsDumpOf S.Environment environment.now)
         (map string_bytes names.now)
         (map (λ d. record { name = d.name.now; dump = S.Reader.reading d.dump }) dumps.items)) }
@@ -197,7 +197,7 @@ fn open_dumps<'a, S: Environment>(
         let name = name.as_str();
         match open_dump(environment, name) {
             Some(named) => dumps.push(named)?,
-            None => return Err(NoDumps::Unopened(name)),
+            None => return Err(OpenDumpsError::Unopened(name)),
         }
     }
     Ok(dumps)

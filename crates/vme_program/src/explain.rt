@@ -153,14 +153,14 @@ fn refused_place<'a, S: Environment>(
     ensures { MatchOption result (AreAllowed S.Environment environment.now order.now inputs)
         (λ place. IsRefused S.Environment environment.now order.now inputs) }
 {
-    match refused_by_itself(environment, order, inputs) {
+    match refused_at_either(environment, order, inputs) {
         Some(place) => Some(place),
         None => shared_place(environment, viewer_path(order), picture_path(order)),
     }
 }
 
 /// The first place at which a file is wanted and may not be written, if there is one.
-fn refused_by_itself<'a, S: Environment>(
+fn refused_at_either<'a, S: Environment>(
     environment: &S,
     order: &'a ExplainOrder,
     inputs: InputIds,
@@ -187,13 +187,13 @@ fn shared_place<'a, S: Environment>(
         (option_map (λ path. path.now) viewer.entry) (option_map (λ path. path.now) picture.entry)) }
 {
     match viewer {
-        Some(viewer) => shared_with(environment, viewer, picture),
+        Some(viewer) => shared_with_viewer(environment, viewer, picture),
         None => None,
     }
 }
 
 /// The place of the picture, if the viewer's file, which is wanted at `viewer`, is wanted there too.
-fn shared_with<'a, S: Environment>(
+fn shared_with_viewer<'a, S: Environment>(
     environment: &S,
     viewer: &str,
     picture: Option<&'a str>,
@@ -204,13 +204,13 @@ fn shared_with<'a, S: Environment>(
         (option_map (λ path. path.now) picture.entry)) }
 {
     match picture {
-        Some(picture) => shared_by(environment, viewer, picture),
+        Some(picture) => shared_picture_place(environment, viewer, picture),
         None => None,
     }
 }
 
 /// The place at `picture`, if the path `viewer` leads there too.
-fn shared_by<'a, S: Environment>(
+fn shared_picture_place<'a, S: Environment>(
     environment: &S,
     viewer: &str,
     picture: &'a str,

@@ -3,7 +3,7 @@
 ghost use Rattle.std.specs.Prelude.{◌≡◌, Err, IfOk, IfSome, map, option_map, string_bytes};
 ghost use Rattle.vme_program.specs.Parts.{AreOpened, IsFirstUnopenedPart, JoinsFiles, TellsOfFiles, TellsParts};
 ghost use Rattle.vme_program.specs.Parts.{WritesPartOfFiles};
-ghost use Rattle.vme_program.specs.declared.parts.NoParts.TheVariants.{Memory as LackedMemory, Unopened};
+ghost use Rattle.vme_program.specs.declared.parts.OpenPartsError.TheVariants.{Memory as LackedMemory, Unopened};
 
 use crate::audit::refuse_file;
 use crate::environment::Environment;
@@ -18,18 +18,18 @@ use vme_words::{JoinOrder, PartOrder, TellOrder};
 
 /// Why parts aren't opened.
 #[derive(Drop)]
-enum NoParts<'a> {
+enum OpenPartsError<'a> {
     /// The part with this name can't be opened.
     Unopened(&'a str),
     /// Memory ran out.
     Memory,
 }
 
-impl<'a, T: Drop> From<AllocFailed<T>> for NoParts<'a> {
+impl<'a, T: Drop> From<AllocFailed<T>> for OpenPartsError<'a> {
     ghost from_gives = { λ _ none. none ≡ LackedMemory };
 
-    fn from(_: AllocFailed<T>) -> NoParts<'a> {
-        NoParts::Memory
+    fn from(_: AllocFailed<T>) -> OpenPartsError<'a> {
+        OpenPartsError::Memory
     }
 }
 
@@ -63,7 +63,7 @@ fn open_parts<'a, S: Environment>(
     alloc: Global,
     environment: &S,
     names: &'a [String],
-) -> Result<Vec<NamedPart<'a, S::Reader>>, NoParts<'a>>
+) -> Result<Vec<NamedPart<'a, S::Reader>>, OpenPartsError<'a>>
     ensures named { IfOk result (λ parts. map (λ p. p.name.now) parts.items ≡ map string_bytes names.now) }
     ensures opened { IfOk result (λ parts. AreOpened (S.opens environment.now) (map string_bytes names.now)
         (map (λ p. S.Reader.reading p.part) parts.items)) }
@@ -75,7 +75,7 @@ fn open_parts<'a, S: Environment>(
         let name = name.as_str();
         match open_part(environment, name) {
             Some(named) => parts.push(named)?,
-            None => return Err(NoParts::Unopened(name)),
+            None => return Err(OpenPartsError::Unopened(name)),
         }
     }
     Ok(parts)
@@ -110,8 +110,8 @@ pub fn join_files<S: Environment, O: Sink, E: Sink>(
 {
     match open_parts(alloc, environment, order.parts.as_slice()) {
         Ok(mut parts) => write_joined(alloc, parts.as_mut_slice(), out, err),
-        Err(NoParts::Unopened(name)) => refuse_file(alloc, name, b"cannot open", 3, err),
-        Err(NoParts::Memory) => refuse(&Refusal::Memory, err),
+        Err(OpenPartsError::Unopened(name)) => refuse_file(alloc, name, b"cannot open", 3, err),
+        Err(OpenPartsError::Memory) => refuse(&Refusal::Memory, err),
     }
 }
 
@@ -130,8 +130,8 @@ pub fn tell_files<S: Environment, O: Sink, E: Sink>(
 {
     match open_parts(alloc, environment, order.parts.as_slice()) {
         Ok(mut parts) => tell_opened(alloc, order, parts.as_mut_slice(), out, err),
-        Err(NoParts::Unopened(name)) => refuse_file(alloc, name, b"cannot open", 3, err),
-        Err(NoParts::Memory) => refuse(&Refusal::Memory, err),
+        Err(OpenPartsError::Unopened(name)) => refuse_file(alloc, name, b"cannot open", 3, err),
+        Err(OpenPartsError::Memory) => refuse(&Refusal::Memory, err),
     }
 }
 

@@ -5,8 +5,8 @@
 //! - `fitting`: the constants for the lines that weren't found, which fit those that were.
 //! - `paths`: how a binding can name bits of the variables of a scope.
 //! - `proposal`: the text of the binding.
-//! - `told`: the report of what was found, as one line for people; [`told_constants`], the report
-//!   where that makes no recording.
+//! - `report`: the report of what was found, as one line for people; [`constants_report`], the
+//!   report where that makes no recording.
 //! - `proposing`: [`propose_binding`], the text with its report.
 //!
 //! # What is proved
@@ -20,14 +20,14 @@
 //!
 //! # In which order to read
 //!
-//! `fitting`, `paths`, `proposal`, `told`.
+//! `fitting`, `paths`, `proposal`, `report`.
 #![tactic(auto)]
 
 mod fitting;
 mod paths;
 mod proposal;
 mod proposing;
-mod told;
+mod report;
 
 pub use proposing::{ProposedBinding, propose_binding};
-pub use told::told_constants;
+pub use report::constants_report;

@@ -1,7 +1,7 @@
 //! How a binding can name bits of the variables of a scope, and of those around it.
 
 use std::alloc::{AllocError, Global};
-use vme_declarations::{DeclaredNames, DeclaredVariable, NOWHERE, front_of, scopes_begun};
+use vme_declarations::{DeclaredNames, DeclaredVariable, NOWHERE, front_of, offsets_after_scopes};
 use vme_text::Text;
 
 /// How a binding can name some bits of a variable.
@@ -24,7 +24,7 @@ pub(crate) struct Paths<'a> {
     /// The path of the scope, with a dot at its end.
     path: Vec<u8>,
     /// For each scope of the dump, the offset in `path` after the scope's own path and a dot, or `NOWHERE`.
-    begun: Vec<usize>,
+    offsets: Vec<usize>,
     /// The places of those variables.
     near: Vec<usize>,
 }
@@ -37,17 +37,17 @@ impl<'a> Paths<'a> {
         path: &[u8],
     ) -> Result<Paths<'a>, AllocError> {
         let dotted = front_of(alloc, path)?;
-        let begun = scopes_begun(alloc, declared, &dotted)?;
+        let offsets = offsets_after_scopes(alloc, declared, &dotted)?;
         let mut near = Vec::new(alloc);
         for (place, variable) in declared.variables().iter().enumerate() {
-            if begun.get(variable.scope).copied().unwrap_or(NOWHERE) != NOWHERE {
+            if offsets.get(variable.scope).copied().unwrap_or(NOWHERE) != NOWHERE {
                 near.push(place)?;
             }
         }
         Ok(Paths {
             declared,
             path: dotted,
-            begun,
+            offsets,
             near,
         })
     }
@@ -59,7 +59,7 @@ impl<'a> Paths<'a> {
 
     /// The path of the scope of a variable, with a dot at its end.
     fn around(&self, variable: &DeclaredVariable) -> &[u8] {
-        match self.begun.get(variable.scope) {
+        match self.offsets.get(variable.scope) {
             Some(count) => self.path.get(..*count).unwrap_or(b""),
             None => b"",
         }

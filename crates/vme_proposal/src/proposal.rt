@@ -160,15 +160,15 @@ impl<'a> Proposal<'a> {
     }
 
     /// Whether nothing is said of `name`, which isn't bound, since a comment on several names says it.
-    fn is_said(&self, name: &[u8]) -> bool {
+    fn has_shared_comment(&self, name: &[u8]) -> bool {
         let rests = self.fitted.arbitration != AtRest::Judged;
         (rests
             && (name == b"BBSY".as_slice() || name.starts_with(b"BR") || name.starts_with(b"BG")))
-            || (name == b"IA".as_slice() && self.is_chain_told())
+            || (name == b"IA".as_slice() && self.has_chain_comment())
     }
 
     /// Whether a comment says that the acknowledge chain isn't judged.
-    fn is_chain_told(&self) -> bool {
+    fn has_chain_comment(&self) -> bool {
         !self.fitted.has_chain && self.fitted.found.moves(Line::IACK)
     }
 
@@ -198,7 +198,7 @@ impl<'a> Proposal<'a> {
             let name = names[usize::from(level)];
             self.write_group(name, Line::grant(level, slots).number(), slots + 1)?;
         }
-        if self.is_chain_told() {
+        if self.has_chain_comment() {
             self.text.push(NO_CHAIN.as_bytes())?;
         }
         self.write_group(b"IA", Line::iack(slots).number(), slots)
@@ -254,7 +254,7 @@ impl<'a> Proposal<'a> {
     fn write_unfound(&mut self, name: &[u8], first: u8, count: u8) -> Result<(), AllocError> {
         let lows = self.count_low(first, count);
         let is_mixed = 0 < lows && lows < count;
-        if !self.is_said(name) {
+        if !self.has_shared_comment(name) {
             self.write_hint(
                 name,
                 if is_mixed || lows > 0 {

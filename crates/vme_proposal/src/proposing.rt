@@ -6,7 +6,7 @@ ghost use Rattle.vme_text.specs.Escaping.{IsVisible};
 use crate::fitting::Fitted;
 use crate::paths::Paths;
 use crate::proposal::Proposal;
-use crate::told::{is_bus, told};
+use crate::report::{is_bus, report};
 use std::alloc::{AllocError, Global};
 use vme_declarations::{DeclaredNames, FoundLines};
 use vme_text::Text;
@@ -17,7 +17,7 @@ pub struct ProposedBinding {
     /// The text of the binding.
     pub text: Text,
     /// A line for people: how many groups of lines are bound to variables, in which scope, and which aren't.
-    pub told: Text,
+    pub report: Text,
     /// Whether a check by the binding judges cycles, transfers and answers.
     pub is_bus: bool,
 }
@@ -31,7 +31,7 @@ pub fn propose_binding(
     found: FoundLines,
     slots: Option<u8>,
 ) -> Result<ProposedBinding, AllocError>
-    ensures visible { IfOk result (λ proposed. IsVisible proposed.told) }
+    ensures visible { IfOk result (λ proposed. IsVisible proposed.report) }
 {
     let paths = Paths::new(alloc, declared, &found.scope)?;
     let slots = match slots {
@@ -41,11 +41,11 @@ pub fn propose_binding(
     let fitted = Fitted::new(found);
     let mut proposal = Proposal::new(alloc, &paths, &fitted);
     proposal.write(slots)?;
-    let told = told(alloc, &proposal, slots)?;
+    let report = report(alloc, &proposal, slots)?;
     let is_bus = is_bus(&proposal);
     Ok(ProposedBinding {
         text: proposal.into_text(),
-        told,
+        report,
         is_bus,
     })
 }

@@ -102,11 +102,11 @@ use Rattle.vme_chains_eval.proofs.AcknowledgesAgree.{acknowledge_write_agrees}
 use Rattle.vme_chains_eval.proofs.AcknowledgesAgree.{acknowledge_is_a_read_from_its_start_agrees}
 use Rattle.vme_chains_eval.proofs.AcknowledgesAgree.{acknowledged_twice_agrees}
 
-before : (t : Trace) (ts : List Trace) → Conforms t → All Conforms ts → All Conforms (t ∷ ts)
-before t ts = All-cons Conforms t ts
+cons : (t : Trace) (ts : List Trace) → Conforms t → All Conforms ts → All Conforms (t ∷ ts)
+cons t ts = All-cons Conforms t ts
 
-alone : (t : Trace) → Conforms t → All Conforms (t ∷ [])
-alone t conforms = before t [] conforms (All-nil Conforms)
+single : (t : Trace) → Conforms t → All Conforms (t ∷ [])
+single t conforms = cons t [] conforms (All-nil Conforms)
 
 U1_is_shown : IsShown U1
 unfolding strobe_lost_at_once address_lost_between_cycles answer_low_before_judging strobe_lost_with_the_reset
@@ -115,10 +115,10 @@ U1_is_shown = record {
   unreadable = ap says_unreadable strobe_lost_at_once_agrees.verdict;
   some = omega arith;
   spared =
-      before address_lost_between_cycles.trace (answer_low_before_judging.trace ∷ strobe_lost_with_the_reset.trace ∷ [])
+      cons address_lost_between_cycles.trace (answer_low_before_judging.trace ∷ strobe_lost_with_the_reset.trace ∷ [])
       address_lost_between_cycles_agrees.verdict
-      (before answer_low_before_judging.trace (strobe_lost_with_the_reset.trace ∷ [])
-      answer_low_before_judging_agrees.verdict (alone strobe_lost_with_the_reset.trace
+      (cons answer_low_before_judging.trace (strobe_lost_with_the_reset.trace ∷ [])
+      answer_low_before_judging_agrees.verdict (single strobe_lost_with_the_reset.trace
       strobe_lost_with_the_reset_agrees.verdict));
 }
 
@@ -128,8 +128,8 @@ U2_is_shown = record {
   rule = ap named_rule address_lost_as_the_cycle_starts_agrees.verdict;
   unreadable = ap says_unreadable address_lost_as_the_cycle_starts_agrees.verdict;
   some = omega arith;
-  spared = before address_known_as_the_cycle_starts.trace (read_cycle.trace ∷ [])
-      address_known_as_the_cycle_starts_agrees.verdict (alone read_cycle.trace read_cycle_agrees.verdict);
+  spared = cons address_known_as_the_cycle_starts.trace (read_cycle.trace ∷ [])
+      address_known_as_the_cycle_starts_agrees.verdict (single read_cycle.trace read_cycle_agrees.verdict);
 }
 
 U3_is_shown : IsShown U3
@@ -138,7 +138,7 @@ U3_is_shown = record {
   rule = ap named_rule direction_unknown_agrees.verdict;
   unreadable = ap says_unreadable direction_unknown_agrees.verdict;
   some = omega arith;
-  spared = alone direction_known_as_the_transfer_starts.trace direction_known_as_the_transfer_starts_agrees.verdict;
+  spared = single direction_known_as_the_transfer_starts.trace direction_known_as_the_transfer_starts_agrees.verdict;
 }
 
 U4_is_shown : IsShown U4
@@ -147,8 +147,8 @@ U4_is_shown = record {
   rule = ap named_rule data_unknown_agrees.verdict;
   unreadable = ap says_unreadable data_unknown_agrees.verdict;
   some = omega arith;
-  spared = before unmoved_data_unknown.trace (data_of_a_read.trace ∷ []) unmoved_data_unknown_agrees.verdict
-      (alone data_of_a_read.trace data_of_a_read_agrees.verdict);
+  spared = cons unmoved_data_unknown.trace (data_of_a_read.trace ∷ []) unmoved_data_unknown_agrees.verdict
+      (single data_of_a_read.trace data_of_a_read_agrees.verdict);
 }
 
 H1_is_shown : IsShown H1
@@ -157,7 +157,8 @@ H1_is_shown = record {
   rule = ap named_rule starts_before_the_answer_rose_agrees.verdict;
   unreadable = ap says_unreadable starts_before_the_answer_rose_agrees.verdict;
   some = omega arith;
-  spared = alone answer_rises_as_the_next_transfer_starts.trace answer_rises_as_the_next_transfer_starts_agrees.verdict;
+  spared = single answer_rises_as_the_next_transfer_starts.trace
+      answer_rises_as_the_next_transfer_starts_agrees.verdict;
 }
 
 H2_is_shown : IsShown H2
@@ -166,7 +167,7 @@ H2_is_shown = record {
   rule = ap named_rule strobes_rise_early_agrees.verdict;
   unreadable = ap says_unreadable strobes_rise_early_agrees.verdict;
   some = omega arith;
-  spared = alone strobes_rise_with_answer.trace strobes_rise_with_answer_agrees.verdict;
+  spared = single strobes_rise_with_answer.trace strobes_rise_with_answer_agrees.verdict;
 }
 
 H3_is_shown : IsShown H3
@@ -175,8 +176,8 @@ H3_is_shown = record {
   rule = ap named_rule strobe_falls_after_the_answer_agrees.verdict;
   unreadable = ap says_unreadable strobe_falls_after_the_answer_agrees.verdict;
   some = omega arith;
-  spared = before strobe_falls_with_the_answer.trace (second_strobe_falls_before_the_answer.trace ∷ [])
-      strobe_falls_with_the_answer_agrees.verdict (alone second_strobe_falls_before_the_answer.trace
+  spared = cons strobe_falls_with_the_answer.trace (second_strobe_falls_before_the_answer.trace ∷ [])
+      strobe_falls_with_the_answer_agrees.verdict (single second_strobe_falls_before_the_answer.trace
       second_strobe_falls_before_the_answer_agrees.verdict);
 }
 
@@ -186,8 +187,8 @@ H4_is_shown = record {
   rule = ap named_rule stray_answer_agrees.verdict;
   unreadable = ap says_unreadable stray_answer_agrees.verdict;
   some = omega arith;
-  spared = before answered_at_its_first_instant.trace (strobes_rise_with_answer.trace ∷ [])
-      answered_at_its_first_instant_agrees.verdict (alone strobes_rise_with_answer.trace
+  spared = cons answered_at_its_first_instant.trace (strobes_rise_with_answer.trace ∷ [])
+      answered_at_its_first_instant_agrees.verdict (single strobes_rise_with_answer.trace
       strobes_rise_with_answer_agrees.verdict);
 }
 
@@ -197,8 +198,8 @@ H5_is_shown = record {
   rule = ap named_rule answered_again_by_the_same_line_agrees.verdict;
   unreadable = ap says_unreadable answered_again_by_the_same_line_agrees.verdict;
   some = omega arith;
-  spared = before answer_rises_as_the_next_transfer_starts.trace (bus_error.trace ∷ [])
-      answer_rises_as_the_next_transfer_starts_agrees.verdict (alone bus_error.trace bus_error_agrees.verdict);
+  spared = cons answer_rises_as_the_next_transfer_starts.trace (bus_error.trace ∷ [])
+      answer_rises_as_the_next_transfer_starts_agrees.verdict (single bus_error.trace bus_error_agrees.verdict);
 }
 
 H6_is_shown : IsShown H6
@@ -207,7 +208,7 @@ H6_is_shown = record {
   rule = ap named_rule answer_withdrawn_early_agrees.verdict;
   unreadable = ap says_unreadable answer_withdrawn_early_agrees.verdict;
   some = omega arith;
-  spared = alone answer_rises_with_the_strobes.trace answer_rises_with_the_strobes_agrees.verdict;
+  spared = single answer_rises_with_the_strobes.trace answer_rises_with_the_strobes_agrees.verdict;
 }
 
 H7_is_shown : IsShown H7
@@ -216,8 +217,8 @@ H7_is_shown = record {
   rule = ap named_rule cycle_ends_unanswered_agrees.verdict;
   unreadable = ap says_unreadable cycle_ends_unanswered_agrees.verdict;
   some = omega arith;
-  spared = before cycle_ends_with_the_answer.trace (transfer_as_the_cycle_ends.trace ∷ [])
-      cycle_ends_with_the_answer_agrees.verdict (alone transfer_as_the_cycle_ends.trace
+  spared = cons cycle_ends_with_the_answer.trace (transfer_as_the_cycle_ends.trace ∷ [])
+      cycle_ends_with_the_answer_agrees.verdict (single transfer_as_the_cycle_ends.trace
       transfer_as_the_cycle_ends_agrees.verdict);
 }
 
@@ -227,8 +228,8 @@ H8_is_shown = record {
   rule = ap named_rule answer_without_a_cycle_agrees.verdict;
   unreadable = ap says_unreadable answer_without_a_cycle_agrees.verdict;
   some = omega arith;
-  spared = before address_changes_after_an_answer_at_the_start.trace (transfer_as_the_cycle_ends.trace ∷ [])
-      address_changes_after_an_answer_at_the_start_agrees.verdict (alone transfer_as_the_cycle_ends.trace
+  spared = cons address_changes_after_an_answer_at_the_start.trace (transfer_as_the_cycle_ends.trace ∷ [])
+      address_changes_after_an_answer_at_the_start_agrees.verdict (single transfer_as_the_cycle_ends.trace
       transfer_as_the_cycle_ends_agrees.verdict);
 }
 
@@ -239,13 +240,13 @@ S1_is_shown = record {
   rule = ap named_rule address_changes_early_agrees.verdict;
   unreadable = ap says_unreadable address_changes_early_agrees.verdict;
   some = omega arith;
-  spared = before address_changes_with_answer.trace (address_changes_as_the_cycle_ends.trace
+  spared = cons address_changes_with_answer.trace (address_changes_as_the_cycle_ends.trace
       ∷ address_changes_after_an_answer_at_the_start.trace ∷ unneeded_line_changes.trace ∷ [])
-      address_changes_with_answer_agrees.verdict (before address_changes_as_the_cycle_ends.trace
+      address_changes_with_answer_agrees.verdict (cons address_changes_as_the_cycle_ends.trace
       (address_changes_after_an_answer_at_the_start.trace ∷ unneeded_line_changes.trace ∷ [])
-      address_changes_as_the_cycle_ends_agrees.verdict (before address_changes_after_an_answer_at_the_start.trace
+      address_changes_as_the_cycle_ends_agrees.verdict (cons address_changes_after_an_answer_at_the_start.trace
       (unneeded_line_changes.trace ∷ []) address_changes_after_an_answer_at_the_start_agrees.verdict
-      (alone unneeded_line_changes.trace unneeded_line_changes_agrees.verdict)));
+      (single unneeded_line_changes.trace unneeded_line_changes_agrees.verdict)));
 }
 
 S2_is_shown : IsShown S2
@@ -254,8 +255,8 @@ S2_is_shown = record {
   rule = ap named_rule direction_changes_agrees.verdict;
   unreadable = ap says_unreadable direction_changes_agrees.verdict;
   some = omega arith;
-  spared = before direction_changes_as_a_strobe_rises.trace (direction_settles_as_the_transfer_starts.trace ∷ [])
-      direction_changes_as_a_strobe_rises_agrees.verdict (alone direction_settles_as_the_transfer_starts.trace
+  spared = cons direction_changes_as_a_strobe_rises.trace (direction_settles_as_the_transfer_starts.trace ∷ [])
+      direction_changes_as_a_strobe_rises_agrees.verdict (single direction_settles_as_the_transfer_starts.trace
       direction_settles_as_the_transfer_starts_agrees.verdict);
 }
 
@@ -265,9 +266,9 @@ S3_is_shown = record {
   rule = ap named_rule data_change_agrees.verdict;
   unreadable = ap says_unreadable data_change_agrees.verdict;
   some = omega arith;
-  spared = before data_change_with_the_answer.trace (second_byte_settles.trace ∷ unmoved_data_change.trace ∷ [])
-      data_change_with_the_answer_agrees.verdict (before second_byte_settles.trace (unmoved_data_change.trace ∷ [])
-      second_byte_settles_agrees.verdict (alone unmoved_data_change.trace unmoved_data_change_agrees.verdict));
+  spared = cons data_change_with_the_answer.trace (second_byte_settles.trace ∷ unmoved_data_change.trace ∷ [])
+      data_change_with_the_answer_agrees.verdict (cons second_byte_settles.trace (unmoved_data_change.trace ∷ [])
+      second_byte_settles_agrees.verdict (single unmoved_data_change.trace unmoved_data_change_agrees.verdict));
 }
 
 C1_is_shown : IsShown C1
@@ -276,8 +277,8 @@ C1_is_shown = record {
   rule = ap named_rule write_then_read_agrees.verdict;
   unreadable = ap says_unreadable write_then_read_agrees.verdict;
   some = omega arith;
-  spared = before read_modify_write.trace (free_cycle_reads_writes_and_reads.trace ∷ [])
-      read_modify_write_agrees.verdict (alone free_cycle_reads_writes_and_reads.trace
+  spared = cons read_modify_write.trace (free_cycle_reads_writes_and_reads.trace ∷ [])
+      read_modify_write_agrees.verdict (single free_cycle_reads_writes_and_reads.trace
       free_cycle_reads_writes_and_reads_agrees.verdict);
 }
 
@@ -287,8 +288,8 @@ C2_is_shown = record {
   rule = ap named_rule block_turns_agrees.verdict;
   unreadable = ap says_unreadable block_turns_agrees.verdict;
   some = omega arith;
-  spared = before block_read.trace (free_cycle_reads_writes_and_reads.trace ∷ []) block_read_agrees.verdict
-      (alone free_cycle_reads_writes_and_reads.trace free_cycle_reads_writes_and_reads_agrees.verdict);
+  spared = cons block_read.trace (free_cycle_reads_writes_and_reads.trace ∷ []) block_read_agrees.verdict
+      (single free_cycle_reads_writes_and_reads.trace free_cycle_reads_writes_and_reads_agrees.verdict);
 }
 
 G1_is_shown : IsShown G1
@@ -297,8 +298,8 @@ G1_is_shown = record {
   rule = ap named_rule slot_grants_ungranted_agrees.verdict;
   unreadable = ap says_unreadable slot_grants_ungranted_agrees.verdict;
   some = omega arith;
-  spared = before slot_grants_with_its_input.trace (slot_grants_as_its_input_rises.trace ∷ [])
-      slot_grants_with_its_input_agrees.verdict (alone slot_grants_as_its_input_rises.trace
+  spared = cons slot_grants_with_its_input.trace (slot_grants_as_its_input_rises.trace ∷ [])
+      slot_grants_with_its_input_agrees.verdict (single slot_grants_as_its_input_rises.trace
       slot_grants_as_its_input_rises_agrees.verdict);
 }
 
@@ -308,7 +309,7 @@ G2_is_shown = record {
   rule = ap named_rule slot_ends_its_grant_early_agrees.verdict;
   unreadable = ap says_unreadable slot_ends_its_grant_early_agrees.verdict;
   some = omega arith;
-  spared = alone slot_ends_its_grant_as_its_input_falls.trace slot_ends_its_grant_as_its_input_falls_agrees.verdict;
+  spared = single slot_ends_its_grant_as_its_input_falls.trace slot_ends_its_grant_as_its_input_falls_agrees.verdict;
 }
 
 G3_is_shown : IsShown G3
@@ -317,8 +318,8 @@ G3_is_shown = record {
   rule = ap named_rule second_level_granted_agrees.verdict;
   unreadable = ap says_unreadable second_level_granted_agrees.verdict;
   some = omega arith;
-  spared = before another_level_granted_as_the_first_ends.trace (another_levels_grant_taken.trace ∷ [])
-      another_level_granted_as_the_first_ends_agrees.verdict (alone another_levels_grant_taken.trace
+  spared = cons another_level_granted_as_the_first_ends.trace (another_levels_grant_taken.trace ∷ [])
+      another_level_granted_as_the_first_ends_agrees.verdict (single another_levels_grant_taken.trace
       another_levels_grant_taken_agrees.verdict);
 }
 
@@ -328,8 +329,8 @@ G4_is_shown = record {
   rule = ap named_rule grant_while_busy_agrees.verdict;
   unreadable = ap says_unreadable grant_while_busy_agrees.verdict;
   some = omega arith;
-  spared = before grant_falls_as_the_bus_is_let_go.trace (slot_read_as_the_bus_is_taken.trace ∷ [])
-      grant_falls_as_the_bus_is_let_go_agrees.verdict (alone slot_read_as_the_bus_is_taken.trace
+  spared = cons grant_falls_as_the_bus_is_let_go.trace (slot_read_as_the_bus_is_taken.trace ∷ [])
+      grant_falls_as_the_bus_is_let_go_agrees.verdict (single slot_read_as_the_bus_is_taken.trace
       slot_read_as_the_bus_is_taken_agrees.verdict);
 }
 
@@ -339,10 +340,10 @@ G5_is_shown = record {
   rule = ap named_rule grant_unasked_agrees.verdict;
   unreadable = ap says_unreadable grant_unasked_agrees.verdict;
   some = omega arith;
-  spared = before request_with_the_grant.trace (request_low_at_the_start.trace
+  spared = cons request_with_the_grant.trace (request_low_at_the_start.trace
       ∷ request_of_the_grant_before_serves_again.trace ∷ []) request_with_the_grant_agrees.verdict
-      (before request_low_at_the_start.trace (request_of_the_grant_before_serves_again.trace ∷ [])
-      request_low_at_the_start_agrees.verdict (alone request_of_the_grant_before_serves_again.trace
+      (cons request_low_at_the_start.trace (request_of_the_grant_before_serves_again.trace ∷ [])
+      request_low_at_the_start_agrees.verdict (single request_of_the_grant_before_serves_again.trace
       request_of_the_grant_before_serves_again_agrees.verdict));
 }
 
@@ -352,8 +353,8 @@ B1_is_shown = record {
   rule = ap named_rule bus_taken_ungranted_agrees.verdict;
   unreadable = ap says_unreadable bus_taken_ungranted_agrees.verdict;
   some = omega arith;
-  spared = before grant_read_at_the_instant_before.trace (another_levels_grant_taken.trace ∷ [])
-      grant_read_at_the_instant_before_agrees.verdict (alone another_levels_grant_taken.trace
+  spared = cons grant_read_at_the_instant_before.trace (another_levels_grant_taken.trace ∷ [])
+      grant_read_at_the_instant_before_agrees.verdict (single another_levels_grant_taken.trace
       another_levels_grant_taken_agrees.verdict);
 }
 
@@ -363,8 +364,8 @@ B2_is_shown = record {
   rule = ap named_rule grant_taken_twice_agrees.verdict;
   unreadable = ap says_unreadable grant_taken_twice_agrees.verdict;
   some = omega arith;
-  spared = before grant_falls_as_the_bus_is_let_go.trace (another_level_granted_as_the_first_ends.trace ∷ [])
-      grant_falls_as_the_bus_is_let_go_agrees.verdict (alone another_level_granted_as_the_first_ends.trace
+  spared = cons grant_falls_as_the_bus_is_let_go.trace (another_level_granted_as_the_first_ends.trace ∷ [])
+      grant_falls_as_the_bus_is_let_go_agrees.verdict (single another_level_granted_as_the_first_ends.trace
       another_level_granted_as_the_first_ends_agrees.verdict);
 }
 
@@ -374,8 +375,8 @@ B3_is_shown = record {
   rule = ap named_rule cycle_without_the_bus_agrees.verdict;
   unreadable = ap says_unreadable cycle_without_the_bus_agrees.verdict;
   some = omega arith;
-  spared = before cycle_starts_as_the_bus_is_taken.trace (cycle_starts_as_the_bus_is_let_go.trace ∷ [])
-      cycle_starts_as_the_bus_is_taken_agrees.verdict (alone cycle_starts_as_the_bus_is_let_go.trace
+  spared = cons cycle_starts_as_the_bus_is_taken.trace (cycle_starts_as_the_bus_is_let_go.trace ∷ [])
+      cycle_starts_as_the_bus_is_taken_agrees.verdict (single cycle_starts_as_the_bus_is_let_go.trace
       cycle_starts_as_the_bus_is_let_go_agrees.verdict);
 }
 
@@ -385,8 +386,8 @@ B4_is_shown = record {
   rule = ap named_rule grant_past_last_slot_agrees.verdict;
   unreadable = ap says_unreadable grant_past_last_slot_agrees.verdict;
   some = omega arith;
-  spared = before taken_by_the_last_slot.trace (grant_withdrawn.trace ∷ []) taken_by_the_last_slot_agrees.verdict
-      (alone grant_withdrawn.trace grant_withdrawn_agrees.verdict);
+  spared = cons taken_by_the_last_slot.trace (grant_withdrawn.trace ∷ []) taken_by_the_last_slot_agrees.verdict
+      (single grant_withdrawn.trace grant_withdrawn_agrees.verdict);
 }
 
 I1_is_shown : IsShown I1
@@ -395,8 +396,8 @@ I1_is_shown = record {
   rule = ap named_rule acknowledge_skips_slot_agrees.verdict;
   unreadable = ap says_unreadable acknowledge_skips_slot_agrees.verdict;
   some = omega arith;
-  spared = before acknowledge_with_its_input.trace (acknowledge_as_its_input_rises.trace ∷ [])
-      acknowledge_with_its_input_agrees.verdict (alone acknowledge_as_its_input_rises.trace
+  spared = cons acknowledge_with_its_input.trace (acknowledge_as_its_input_rises.trace ∷ [])
+      acknowledge_with_its_input_agrees.verdict (single acknowledge_as_its_input_rises.trace
       acknowledge_as_its_input_rises_agrees.verdict);
 }
 
@@ -407,10 +408,10 @@ I2_is_shown = record {
   rule = ap named_rule acknowledge_before_strobe_agrees.verdict;
   unreadable = ap says_unreadable acknowledge_before_strobe_agrees.verdict;
   some = omega arith;
-  spared = before acknowledge_as_the_strobe_rises.trace (acknowledge_near_a_strobe_and_near_the_cycle.trace
+  spared = cons acknowledge_as_the_strobe_rises.trace (acknowledge_near_a_strobe_and_near_the_cycle.trace
       ∷ acknowledge_by_the_second_strobe.trace ∷ []) acknowledge_as_the_strobe_rises_agrees.verdict
-      (before acknowledge_near_a_strobe_and_near_the_cycle.trace (acknowledge_by_the_second_strobe.trace ∷ [])
-      acknowledge_near_a_strobe_and_near_the_cycle_agrees.verdict (alone acknowledge_by_the_second_strobe.trace
+      (cons acknowledge_near_a_strobe_and_near_the_cycle.trace (acknowledge_by_the_second_strobe.trace ∷ [])
+      acknowledge_near_a_strobe_and_near_the_cycle_agrees.verdict (single acknowledge_by_the_second_strobe.trace
       acknowledge_by_the_second_strobe_agrees.verdict));
 }
 
@@ -421,10 +422,10 @@ I3_is_shown = record {
   rule = ap named_rule acknowledge_after_answer_agrees.verdict;
   unreadable = ap says_unreadable acknowledge_after_answer_agrees.verdict;
   some = omega arith;
-  spared = before acknowledge_with_the_answer.trace (acknowledge_after_a_bus_error.trace
+  spared = cons acknowledge_with_the_answer.trace (acknowledge_after_a_bus_error.trace
       ∷ acknowledge_as_the_next_cycle_starts.trace ∷ []) acknowledge_with_the_answer_agrees.verdict
-      (before acknowledge_after_a_bus_error.trace (acknowledge_as_the_next_cycle_starts.trace ∷ [])
-      acknowledge_after_a_bus_error_agrees.verdict (alone acknowledge_as_the_next_cycle_starts.trace
+      (cons acknowledge_after_a_bus_error.trace (acknowledge_as_the_next_cycle_starts.trace ∷ [])
+      acknowledge_after_a_bus_error_agrees.verdict (single acknowledge_as_the_next_cycle_starts.trace
       acknowledge_as_the_next_cycle_starts_agrees.verdict));
 }
 
@@ -434,7 +435,7 @@ I4_is_shown = record {
   rule = ap named_rule acknowledge_write_agrees.verdict;
   unreadable = ap says_unreadable acknowledge_write_agrees.verdict;
   some = omega arith;
-  spared = alone acknowledge_is_a_read_from_its_start.trace acknowledge_is_a_read_from_its_start_agrees.verdict;
+  spared = single acknowledge_is_a_read_from_its_start.trace acknowledge_is_a_read_from_its_start_agrees.verdict;
 }
 
 I5_is_shown : IsShown I5
@@ -443,7 +444,7 @@ I5_is_shown = record {
   rule = ap named_rule acknowledged_twice_agrees.verdict;
   unreadable = ap says_unreadable acknowledged_twice_agrees.verdict;
   some = omega arith;
-  spared = alone acknowledge_near_a_strobe_and_near_the_cycle.trace
+  spared = single acknowledge_near_a_strobe_and_near_the_cycle.trace
       acknowledge_near_a_strobe_and_near_the_cycle_agrees.verdict;
 }
 

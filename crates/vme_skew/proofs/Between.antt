@@ -17,14 +17,15 @@ use Rattle.vme_trace.specs.declared.step.Step.{Step}
 use Rattle.vme_trace.proofs.Changing.{slots-kept, level-kept}
 use Rattle.vme_trace.proofs.Ranges.{any-fails, fails-any, those-next, those-none, those-split}
 use Rattle.vme_bind.specs.Recording.{differs, change_to, changes_between, step_between}
-use Rattle.vme_bind.proofs.RecorderLemmas.{alike, alike_differs, same_levels, set_same, set_other, set_all}
+use Rattle.vme_bind.proofs.RecorderLemmas.{no_difference_at, same_levels, same_unless_differs, set_same, set_other}
+use Rattle.vme_bind.proofs.RecorderLemmas.{set_all}
 use Rattle.vme_bind.proofs.CaptureLemmas.{changed-those, length-changed, is_below}
 use Rattle.vme_bind.proofs.StepsLemmas.{some_of}
 
 -- ---- from levels to the same levels
 
 same_not : (v : Levels) (l : ℕ) → differs v v l ≡ false
-same_not v l = alike_differs v v l refl
+same_not v l = no_difference_at v v l refl
 
 abbrev made_step : ℕ → List Change → List Step
 made_step time changes = record { time = time; changes = changes } ∷ []
@@ -50,7 +51,7 @@ pub record AreOfOne (v w : Levels) : Type 0 where
 pub all_alike : (v w : Levels) → AreOfOne v w → any (differs v w) 0 line_count ≡ false → v ≡ w
 all_alike v w one none =
     same_levels v w one.slots one.first one.second
-    (λ l lt. alike v w l (any-fails (differs v w) 0 line_count l none (omega arith) lt))
+    (λ l lt. same_unless_differs v w l (any-fails (differs v w) 0 line_count l none (omega arith) lt))
 
 -- the changes between `v` and `w` lead from `v` to `w`
 pub changes-lead : (v w : Levels) → AreOfOne v w → changed v (changes_between v w) ≡ w
@@ -64,7 +65,7 @@ changes-lead v w one =
     by_test : (a b : Bool) (l : ℕ) → a ≡ true → differs v w l ≡ b → cond (a && b) (level_at w l) (level_at v l)
         ≡ level_at w l
     by_test true true l e h = refl
-    by_test true false l e h = alike v w l h
+    by_test true false l e h = same_unless_differs v w l h
     by_test false b l e h = absurd (false≢true e)
 
 pub step-leads : (time : ℕ) (v w : Levels) → AreOfOne v w → levels_after v (step_between time v w) ≡ w
@@ -173,7 +174,7 @@ changes_again : (u v : Levels) (k : ℕ) (cs : List Change) → length u.levels 
 unfolding changed
 changes_again u v k [] whole same h =
     ap (map (change_to u)) (those-none (differs v u) k line_count (fails-any (differs v u) k line_count
-    (λ l low lt. alike_differs v u l (sym (same l low)))))
+    (λ l low lt. no_difference_at v u l (sym (same l low)))))
 changes_again u v k (c ∷ cs) whole same h =
     let is = first_is v k c cs h in
     let next : Levels = set_level u c.line c.level in
@@ -184,7 +185,7 @@ changes_again u v k (c ∷ cs) whole same h =
     (omega (arith, below, whole)) in
     let kept = λ (l : ℕ) (low : k ≤ l) (lt : l < c.line).
     let ne : l ≢ c.line = omega (arith, lt) in
-    alike_differs v end l (sym (level-kept next cs l (lines_below v (c.line + 1) cs l is.rest (omega (arith, lt)))
+    no_difference_at v end l (sym (level-kept next cs l (lines_below v (c.line + 1) cs l is.rest (omega (arith, lt)))
     ∙ set_other u c.line l c.level ne ∙ same l low)) in
     let differs_here : differs v end c.line ≡ true = ap (λ (x : Level). not (same_level (level_at v c.line) x)) here
     ∙ ap not is.other in

@@ -16,7 +16,7 @@ use Rattle.vme_trace.specs.WellFormed.{malformed_step}
 use Rattle.vme_trace.specs.declared.step.Change.{Change}
 use Rattle.vme_trace.specs.declared.step.Step.{Step}
 use Rattle.vme_bind.specs.Recording.{changes_between, differs, step_between}
-use Rattle.vme_skew.specs.Settled.{IsRecording, begins_behind, group_start, is_complete, settled, settled_until}
+use Rattle.vme_skew.specs.Settled.{IsRecording, begins_after, group_start, is_complete, settled, settled_until}
 use Rattle.vme_skew.specs.Settled.{step_to, steps_before}
 use Rattle.vme_skew.proofs.Laws.{begins_is, by_zero, few, step-stands}
 
@@ -67,9 +67,9 @@ module _ (skew : ℕ) (t : Trace) where
   before-earlier : (n : ℕ) → All (λ (s : Step). s.time + skew < start_time n) (steps_before skew t n)
   unfolding group_start steps_before
   before-earlier zero = All-nil (λ (s : Step). s.time + skew < start_time zero)
-  before-earlier (suc i) = by_test (begins_behind skew t (group_start skew t i) i) refl (before-earlier i)
+  before-earlier (suc i) = by_test (begins_after skew t (group_start skew t i) i) refl (before-earlier i)
     where
-      by_test : (b : Bool) → begins_behind skew t (group_start skew t i) i ≡ b
+      by_test : (b : Bool) → begins_after skew t (group_start skew t i) i ≡ b
           → All (λ (s : Step). s.time + skew < start_time i) (steps_before skew t i)
           → All (λ (s : Step). s.time + skew < time_at t (cond b (suc i) (group_start skew t i)))
           (cond b (steps_before skew t i ++ step_to skew t i) (steps_before skew t i))
@@ -130,7 +130,7 @@ module _ (skew : ℕ) (t : Trace) where
   unfolding group_start
   start-no_later formed zero le = omega arith
   start-no_later formed (suc i) le =
-      by_test (begins_behind skew t (group_start skew t i) i) (start-no_later formed i (omega (arith, le)))
+      by_test (begins_after skew t (group_start skew t i) i) (start-no_later formed i (omega (arith, le)))
       (times-grow formed i (omega (arith, le)))
     where
       by_test : (b : Bool) → start_time i ≤ time_at t i → time_at t i ≤ time_at t (suc i)
@@ -194,7 +194,7 @@ module _ (skew time : ℕ) (t : Trace) where
   before_group : (n : ℕ) → IsPrefix (complete (steps_before skew t n)) (steps_before skew t n)
   unfolding steps_before
   before_group zero = ([], refl)
-  before_group (suc i) = by_test (begins_behind skew t (group_start skew t i) i) (before_group i)
+  before_group (suc i) = by_test (begins_after skew t (group_start skew t i) i) (before_group i)
     where
       by_test : (b : Bool) → IsPrefix (complete (steps_before skew t i)) (steps_before skew t i)
           → IsPrefix (complete (cond b (steps_before skew t i ++ step_to skew t i) (steps_before skew t i)))

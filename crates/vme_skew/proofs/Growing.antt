@@ -7,7 +7,7 @@ use Rattle.vme_trace.specs.Levels.{Levels}
 use Rattle.vme_trace.specs.Trace.{Trace, after, changed, levels_at, time_at, time_of}
 use Rattle.vme_trace.specs.declared.step.Step.{Step}
 use Rattle.vme_bind.specs.Recording.{step_between}
-use Rattle.vme_skew.specs.Settled.{begins_behind, group_start, step_to, steps_before}
+use Rattle.vme_skew.specs.Settled.{begins_after, group_start, step_to, steps_before}
 
 get_left : (xs : List Step) (step : Step) (i : ℕ) → i < length xs → slice_get (xs ++ step ∷ []) i ≡ slice_get xs i
 get_left [] step i lt = absurd (omega (arith, lt))
@@ -22,7 +22,7 @@ get_last (x ∷ xs) step = get_last xs step
 pub start-le : (skew : ℕ) (t : Trace) (i : ℕ) → group_start skew t i ≤ i
 unfolding group_start
 start-le skew t zero = omega arith
-start-le skew t (suc i) = by_test (begins_behind skew t (group_start skew t i) i) (start-le skew t i)
+start-le skew t (suc i) = by_test (begins_after skew t (group_start skew t i) i) (start-le skew t i)
   where
     by_test : (b : Bool) → group_start skew t i ≤ i → cond b (suc i) (group_start skew t i) ≤ suc i
     by_test true le = omega arith
@@ -56,7 +56,7 @@ module _ (skew : ℕ) (t : Trace) (step : Step) where
   abbrev longer : Trace
   longer = with_steps t (step ∷ [])
 
-  begins-kept : (start i : ℕ) → start ≤ i → i < length t.steps → begins_behind skew longer start i ≡ begins_behind skew
+  begins-kept : (start i : ℕ) → start ≤ i → i < length t.steps → begins_after skew longer start i ≡ begins_after skew
       t start i
   begins-kept start i le lt =
       ap (λ (time : ℕ). (i == 0) || nat_lt (time + skew) (time_at longer (suc i)))
@@ -69,7 +69,7 @@ module _ (skew : ℕ) (t : Trace) (step : Step) where
   start-kept zero le = refl
   start-kept (suc i) le =
       let so_far = start-kept i (omega (arith, le)) in
-      ap (λ (start : ℕ). cond (begins_behind skew longer start i) (suc i) start) so_far
+      ap (λ (start : ℕ). cond (begins_after skew longer start i) (suc i) start) so_far
       ∙ ap (λ (b : Bool). cond b (suc i) (group_start skew t i)) (begins-kept (group_start skew t i) i
       (start-le skew t i) (omega (arith, le)))
 
@@ -89,22 +89,22 @@ module _ (skew : ℕ) (t : Trace) (step : Step) where
   unfolding steps_before
   before-kept zero le = refl
   before-kept (suc i) le =
-      ap (λ (start : ℕ). cond (begins_behind skew longer start i) (steps_before skew longer i ++ step_to skew longer i)
+      ap (λ (start : ℕ). cond (begins_after skew longer start i) (steps_before skew longer i ++ step_to skew longer i)
       (steps_before skew longer i)) (start-kept i (omega (arith, le)))
       ∙ ap (λ (b : Bool). cond b (steps_before skew longer i ++ step_to skew longer i) (steps_before skew longer i))
       (begins-kept (group_start skew t i) i (start-le skew t i) (omega (arith, le)))
-      ∙ ap (λ (xs : List Step). cond (begins_behind skew t (group_start skew t i) i) (steps_before skew longer i ++ xs)
+      ∙ ap (λ (xs : List Step). cond (begins_after skew t (group_start skew t i) i) (steps_before skew longer i ++ xs)
       (steps_before skew longer i)) (step_to-kept i (omega (arith, le)))
-      ∙ ap (λ (xs : List Step). cond (begins_behind skew t (group_start skew t i) i) (xs ++ step_to skew t i) xs)
+      ∙ ap (λ (xs : List Step). cond (begins_after skew t (group_start skew t i) i) (xs ++ step_to skew t i) xs)
       (before-kept i (omega (arith, le)))
 
   -- the step begins a group
   abbrev pub begins : Bool
   begins = (length t.steps == 0) || nat_lt (time_at t (group_start skew t (length t.steps)) + skew) step.time
 
-  begins_is : begins_behind skew longer (group_start skew longer (length t.steps)) (length t.steps) ≡ begins
+  begins_is : begins_after skew longer (group_start skew longer (length t.steps)) (length t.steps) ≡ begins
   begins_is =
-      ap (λ (start : ℕ). begins_behind skew longer start (length t.steps)) (start-kept (length t.steps) (omega arith))
+      ap (λ (start : ℕ). begins_after skew longer start (length t.steps)) (start-kept (length t.steps) (omega arith))
       ∙ ap (λ (time : ℕ). (length t.steps == 0) || nat_lt (time + skew) (time_at longer (suc (length t.steps))))
       (time-kept t step (group_start skew t (length t.steps)) (start-le skew t (length t.steps)))
       ∙ ap (λ (time : ℕ). (length t.steps == 0) || nat_lt (time_at t (group_start skew t (length t.steps)) + skew) time)

@@ -19,9 +19,9 @@ use Rattle.vme_trace.proofs.CutBlocks.{levels_after-append, taken_more}
 use Rattle.vme_trace.proofs.Ranges.{any-fails, fails-any, least-none, least-none-any}
 use Rattle.vme_trace.proofs.WellFormedSteps.{fits-at}
 use Rattle.vme_bind.specs.Recording.{differs, changes_between, step_between}
-use Rattle.vme_bind.proofs.RecorderLemmas.{alike_differs, bool_cases}
+use Rattle.vme_bind.proofs.RecorderLemmas.{bool_cases, no_difference_at}
 use Rattle.vme_bind.proofs.CaptureLemmas.{length-changed}
-use Rattle.vme_skew.specs.Settled.{IsRecording, begins_behind, group_start, settled, step_to, steps_before}
+use Rattle.vme_skew.specs.Settled.{IsRecording, begins_after, group_start, settled, step_to, steps_before}
 use Rattle.vme_skew.proofs.Between.{AreOfOne, Leads, all_alike, between-may, changed_exists, changes-lead}
 use Rattle.vme_skew.proofs.Between.{nothing-between, step-between, step-leads}
 use Rattle.vme_skew.proofs.Growing.{levels-kept, levels-last, start-le, time-kept, time-last}
@@ -121,7 +121,7 @@ leads t is i j = record {
     | inr none ↦
         let out : has_line t.opening.slots l ≡ false = ap (λ (s : ℕ). has_line s l) (sym (slots-at t i)) ∙ none in
         absurd (false≢true
-        (sym (alike_differs (levels_at t i) (levels_at t j) l (absent t is.formed l out i
+        (sym (no_difference_at (levels_at t i) (levels_at t j) l (absent t is.formed l out i
         ∙ sym (absent t is.formed l out j))) ∙ d))
   ];
 }
@@ -137,7 +137,7 @@ before-leads : (skew : ℕ) (t : Trace) → length t.opening.levels ≡ line_cou
     (steps_before skew t n) ≡ levels_at t (group_start skew t n - 1)
 unfolding group_start steps_before levels_at
 before-leads skew t whole zero = refl
-before-leads skew t whole (suc i) = by_test (begins_behind skew t (group_start skew t i) i)
+before-leads skew t whole (suc i) = by_test (begins_after skew t (group_start skew t i) i)
     (before-leads skew t whole i)
   where
     by_test : (b : Bool) → levels_after t.opening (steps_before skew t i) ≡ levels_at t (group_start skew t i - 1)
@@ -177,7 +177,7 @@ pub few : (skew : ℕ) (t : Trace) (n : ℕ) → (length (steps_before skew t n)
     × (length (steps_before skew t n ++ step_to skew t n) ≤ n)
 unfolding steps_before
 few skew t zero = (omega arith, omega (arith, ap length (step_to-first skew t)))
-few skew t (suc i) = by_test (begins_behind skew t (group_start skew t i) i) (few skew t i)
+few skew t (suc i) = by_test (begins_after skew t (group_start skew t i) i) (few skew t i)
   where
     last : length (step_to skew t (suc i)) ≤ 1
     last = step-one (time_at t (group_start skew t (suc i))) (levels_at t (group_start skew t (suc i) - 1))
@@ -227,27 +227,27 @@ first_or n b c h more = by_test (n == 0) h
     by_test false e = more e
 
 -- with a skew of 0 each instant begins its own group
-alone : (t : Trace) → malformed_step t ≡ None → (n : ℕ) → n ≤ length t.steps → group_start 0 t n ≡ n
+own_group : (t : Trace) → malformed_step t ≡ None → (n : ℕ) → n ≤ length t.steps → group_start 0 t n ≡ n
 unfolding group_start
-alone t formed zero le = refl
-alone t formed (suc i) le =
+own_group t formed zero le = refl
+own_group t formed (suc i) le =
     elim (slice_get_cases t.steps i).1 [
       | inl here ↦
-          let so_far = alone t formed i (omega (arith, le)) in
+          let so_far = own_group t formed i (omega (arith, le)) in
           let later = (step-stands t formed i here.0 here.1 here.2).later in
-          let begins : begins_behind 0 t i i ≡ true =
+          let begins : begins_after 0 t i i ≡ true =
           first_or i (nat_lt (time_at t i) here.0.time) (nat_lt (time_at t i + 0) (time_of (slice_get t.steps i))) later
           (λ h. later_than (time_at t i) (time_of (slice_get t.steps i))
           (ap (λ (o : Option Step). nat_lt (time_at t i) (time_of o)) here.2 ∙ h)) in
-          ap (λ (start : ℕ). cond (begins_behind 0 t start i) (suc i) start) so_far
+          ap (λ (start : ℕ). cond (begins_after 0 t start i) (suc i) start) so_far
           ∙ ap (λ (b : Bool). cond b (suc i) i) begins
       | inr past ↦ absurd (omega (arith, past.0, le))
     ]
 
-begins-alone : (t : Trace) → malformed_step t ≡ None → (i : ℕ) → suc i ≤ length t.steps → begins_behind 0 t
+begins-own_group : (t : Trace) → malformed_step t ≡ None → (i : ℕ) → suc i ≤ length t.steps → begins_after 0 t
     (group_start 0 t i) i ≡ true
 unfolding group_start
-begins-alone t formed i le = by_test (begins_behind 0 t (group_start 0 t i) i) (alone t formed (suc i) le)
+begins-own_group t formed i le = by_test (begins_after 0 t (group_start 0 t i) i) (own_group t formed (suc i) le)
   where
     by_test : (b : Bool) → cond b (suc i) (group_start 0 t i) ≡ suc i → b ≡ true
     by_test true e = refl
@@ -261,22 +261,22 @@ own-step t is i step lt found =
     let stand = step-stands t is.formed i step lt found in
     let one_less : suc i - 1 ≡ i = omega arith in
     ap (λ (start : ℕ). step_between (time_at t start) (levels_at t (start - 1)) (levels_at t (suc i)))
-    (alone t is.formed (suc i) (omega (arith, lt)))
+    (own_group t is.formed (suc i) (omega (arith, lt)))
     ∙ ap (λ (j : ℕ). step_between (time_at t (suc i)) (levels_at t j) (levels_at t (suc i))) one_less
     ∙ ap (λ (o : Option Step). step_between (time_of o) (levels_at t i) (after (levels_at t i) o)) found
     ∙ step-between step.time (levels_at t i) step.changes (length-at t i ∙ is.whole) stand.changes stand.some
 
-all-alone : (t : Trace) → IsRecording t → (n : ℕ) → n ≤ length t.steps → steps_before 0 t n ++ step_to 0 t n
+all-own_group : (t : Trace) → IsRecording t → (n : ℕ) → n ≤ length t.steps → steps_before 0 t n ++ step_to 0 t n
     ≡ take n t.steps
 unfolding steps_before
-all-alone t is zero le = step_to-first 0 t
-all-alone t is (suc i) le =
+all-own_group t is zero le = step_to-first 0 t
+all-own_group t is (suc i) le =
     elim (slice_get_cases t.steps i).1 [
       | inl here ↦
           let one_more : i + 1 ≡ suc i = omega arith in
           ap (λ (b : Bool). cond b (steps_before 0 t i ++ step_to 0 t i) (steps_before 0 t i) ++ step_to 0 t (suc i))
-          (begins-alone t is.formed i le)
-          ∙ ap (λ (xs : List Step). xs ++ step_to 0 t (suc i)) (all-alone t is i (omega (arith, le)))
+          (begins-own_group t is.formed i le)
+          ∙ ap (λ (xs : List Step). xs ++ step_to 0 t (suc i)) (all-own_group t is i (omega (arith, le)))
           ∙ ap (λ (xs : List Step). take i t.steps ++ xs) (own-step t is i here.0 here.1 here.2)
           ∙ sym (taken_more t.steps i here.0 here.2) ∙ ap (λ (n : ℕ). take n t.steps) one_more
       | inr past ↦ absurd (omega (arith, past.0, le))
@@ -284,7 +284,7 @@ all-alone t is (suc i) le =
 
 pub by_zero : (t : Trace) → IsRecording t → settled 0 t ≡ t
 unfolding settled
-by_zero t is = ap of_these (all-alone t is (length t.steps) (omega arith) ∙ take_all (length t.steps) t.steps
+by_zero t is = ap of_these (all-own_group t is (length t.steps) (omega arith) ∙ take_all (length t.steps) t.steps
     (omega arith))
   where
     of_these : List Step → Trace
@@ -434,9 +434,9 @@ module _ (skew : ℕ) (t : Trace) (is : IsRecording t) where
   before_group : (n : ℕ) → BeforeGroup n
   unfolding group_start steps_before levels_at
   before_group zero = record { clock = 0; formed = formed-first t.opening; earlier = inl refl }
-  before_group (suc i) = by_test (begins_behind skew t (group_start skew t i) i) refl (before_group i)
+  before_group (suc i) = by_test (begins_after skew t (group_start skew t i) i) refl (before_group i)
     where
-      by_test : (b : Bool) → begins_behind skew t (group_start skew t i) i ≡ b → BeforeGroup i
+      by_test : (b : Bool) → begins_after skew t (group_start skew t i) i ≡ b → BeforeGroup i
           → AreSettled t.opening (cond b (steps_before skew t i ++ step_to skew t i) (steps_before skew t i))
           (levels_at t (cond b (suc i) (group_start skew t i) - 1))
           (λ clock. clock < time_at t (cond b (suc i) (group_start skew t i)))

@@ -1,10 +1,10 @@
 pub mod Between
 pub mod Complete
-pub mod GivenOnLemmas
 pub mod Grouping
 pub mod Growing
 pub mod Grown
 pub mod Laws
+pub mod PassedOnLemmas
 pub mod SettlerSteps
 pub mod StepByStep
 pub mod TouchedLines

@@ -12,7 +12,7 @@ use Rattle.vme_trace.specs.declared.step.Change.{Change}
 use Rattle.vme_trace.specs.declared.step.Step.{Step}
 use Rattle.vme_bind.specs.Recording.{IsLine, step_between}
 use Rattle.vme_skew.specs.Group.{ChangeLines, GroupLevels, begun}
-use Rattle.vme_skew.specs.Settled.{begins_behind, group_start, settled, steps_before}
+use Rattle.vme_skew.specs.Settled.{begins_after, group_start, settled, steps_before}
 use Rattle.vme_skew.proofs.Between.{exists_below, first_is}
 use Rattle.vme_skew.proofs.Laws.{is_recording, step-stands}
 
@@ -100,7 +100,7 @@ module _ (skew : ℕ) (t : Trace) where
 
   -- the step belongs to the current group
   ready-same : (i : ℕ) (group : GroupLevels) (steps : List Step) → AreSettledTo i group steps
-      → begins_behind skew t (group_start skew t i) i ≡ false → AreReadyFor i group steps
+      → begins_after skew t (group_start skew t i) i ≡ false → AreReadyFor i group steps
   unfolding group_start steps_before
   ready-same i group steps h b = record {
     start = h.start ∙ ap (λ (c : Bool). time_at t (cond c (suc i) (group_start skew t i))) (sym b);
@@ -113,7 +113,7 @@ module _ (skew : ℕ) (t : Trace) where
 
   -- the step begins another group
   ready-next : (i : ℕ) (group : GroupLevels) (steps : List Step) (step : Step) → AreSettledTo i group steps
-      → slice_get t.steps i ≡ Some step → begins_behind skew t (group_start skew t i) i ≡ true
+      → slice_get t.steps i ≡ Some step → begins_after skew t (group_start skew t i) i ≡ true
       → AreReadyFor i (begun step.time group.now) (steps ++ step_between group.start group.before group.now)
   unfolding group_start steps_before
   ready-next i group steps step h found b =
@@ -130,7 +130,7 @@ module _ (skew : ℕ) (t : Trace) where
       }
 
   begins_is : (i : ℕ) (group : GroupLevels) (steps : List Step) (step : Step) → AreSettledTo i group steps
-      → slice_get t.steps i ≡ Some step → begins_behind skew t (group_start skew t i) i
+      → slice_get t.steps i ≡ Some step → begins_after skew t (group_start skew t i) i
       ≡ ((i == 0) || nat_lt (group.start + skew) step.time)
   begins_is i group steps step h found =
       ap (λ (time : ℕ). (i == 0) || nat_lt (time + skew) (time_at t (suc i))) (sym h.start)

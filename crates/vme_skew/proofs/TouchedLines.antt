@@ -13,8 +13,8 @@ use Rattle.vme_trace.specs.LineNumbers.{line_count}
 use Rattle.vme_trace.specs.declared.level.Level.{Level}
 use Rattle.vme_trace.specs.declared.step.Change.{Change}
 use Rattle.vme_bind.specs.Recording.{IsLine, differs, change_to, changes_between}
-use Rattle.vme_bind.proofs.RecorderLemmas.{same_self, same-is, bool_cases, alike, alike_differs, set_same, set_other}
-use Rattle.vme_bind.proofs.RecorderLemmas.{set_all, same_levels, those-yes, those-skip, map-more}
+use Rattle.vme_bind.proofs.RecorderLemmas.{same_self, same-is, bool_cases, no_difference_at, same_unless_differs}
+use Rattle.vme_bind.proofs.RecorderLemmas.{set_same, set_other, set_all, same_levels, those-yes, those-skip, map-more}
 use Rattle.vme_skew.specs.Group.{ListsTouchedLines}
 
 -- ---- the lines that were touched
@@ -53,7 +53,7 @@ touched-none before now e all = record {
   before_all = ap (λ (v : Levels). length v.levels) e ∙ all;
   now_all = all;
   lines = All-nil (IsLine before.slots);
-  listed = λ l d. absurd (false≢true (sym (alike_differs before now l (ap (λ (v : Levels). level_at v l) e)) ∙ d));
+  listed = λ l d. absurd (false≢true (sym (no_difference_at before now l (ap (λ (v : Levels). level_at v l) e)) ∙ d));
 }
 
 -- ---- showing the touched lines in the order of their numbers
@@ -155,7 +155,7 @@ shown-same touched i before now shown changes sorted t here same h =
       | inl less ↦ quiet_before before now touched i l sorted t here le less
       | inr more ↦
           let e : l ≡ get_or touched i 0 = omega (arith, lt, more) in
-          alike_differs before now l (sym (h.above l le) ∙ ap (level_at shown) e ∙ is ∙ ap (level_at now) (sym e))
+          no_difference_at before now l (sym (h.above l le) ∙ ap (level_at shown) e ∙ is ∙ ap (level_at now) (sym e))
     ] in
     record {
       slots = h.slots;
@@ -165,7 +165,7 @@ shown-same touched i before now shown changes sorted t here same h =
           ∙ ap (those (differs before now) 0) (sym next));
       below = λ l lt. elim (cases_lt l (bound touched i)) [
         | inl less ↦ h.below l less
-        | inr more ↦ h.above l more ∙ alike before now l (quiet l more (omega (arith, lt, next)))
+        | inr more ↦ h.above l more ∙ same_unless_differs before now l (quiet l more (omega (arith, lt, next)))
       ];
       above = λ l le. h.above l (omega (arith, le, next, low));
     }
@@ -209,7 +209,7 @@ shown-more touched i before now shown changes sorted t here other h =
             ∙ set_same shown (get_or touched i 0) _ (omega (arith, line.below, h.shown_all)) ∙ ap (level_at now) (sym e)
         | inr ne ↦ set_other shown (get_or touched i 0) l _ ne ∙ elim (cases_lt l (bound touched i)) [
           | inl less ↦ h.below l less
-          | inr more ↦ h.above l more ∙ alike before now l (quiet l more (omega (arith, lt, next, ne)))
+          | inr more ↦ h.above l more ∙ same_unless_differs before now l (quiet l more (omega (arith, lt, next, ne)))
         ]
       ];
       above = λ l le. let ne : l ≢ get_or touched i 0 = omega (arith, le, next) in
@@ -226,7 +226,7 @@ shown-touched touched i before now shown changes t h = record {
   lines = let e : before.slots ≡ shown.slots = sym t.slots ∙ h.slots in subst (λ (s : ℕ). All (IsLine s) touched) e
       t.lines;
   listed = λ l d. elim (cases_lt l (bound touched i)) [
-    | inl less ↦ absurd (false≢true (sym (alike_differs shown now l (h.below l less)) ∙ d))
+    | inl less ↦ absurd (false≢true (sym (no_difference_at shown now l (h.below l less)) ∙ d))
     | inr more ↦ t.listed l (ap (λ (y : Level). not (same_level y (level_at now l))) (sym (h.above l more)) ∙ d)
   ];
 }
@@ -251,7 +251,8 @@ pub shown-all : (touched : List ℕ) (i : ℕ) (before now shown : Levels) (chan
 shown-all touched i before now shown changes sorted t past le h =
     same_levels shown now (sym h.slots) h.shown_all t.now_all (λ l lt. elim (cases_lt l (bound touched i)) [
       | inl less ↦ h.below l less
-      | inr more ↦ h.above l more ∙ alike before now l (quiet_after before now touched i l sorted t past le more)
+      | inr more ↦ h.above l more ∙ same_unless_differs before now l
+          (quiet_after before now touched i l sorted t past le more)
     ])
 
 -- the line at place `i`, whatever default it is read with

@@ -6,7 +6,7 @@ use Rattle.vme_skew.specs.Settled.{group_start, settled, settled_until, steps_be
 use Rattle.vme_skew.specs.Worked.{AllSettle, worked, just_within, just_past, by_nothing, over_all, greatest, glitch}
 use Rattle.vme_skew.specs.Worked.{ends_as_it_began, reset_and_loss_within, reset_and_loss_last, nothing}
 use Rattle.vme_skew.specs.Worked.{AllComplete, worked_times, later_by_the_skew, later_by_more, first_by_the_skew}
-use Rattle.vme_skew.specs.Worked.{first_by_more, reaches_none, never_over, by_nothing_at_last, by_nothing_behind}
+use Rattle.vme_skew.specs.Worked.{by_nothing_after_last, by_nothing_at_last, first_by_more, never_over, reaches_none}
 use Rattle.vme_skew.specs.Worked.{over_without_step}
 
 pub worked_settle : AllSettle worked
@@ -16,5 +16,5 @@ worked_settle = (refl, (refl, (refl, (refl, (refl, (refl, (refl, (refl, (refl, (
 
 pub worked_complete : AllComplete worked_times
 unfolding settled_until settled steps_before group_start levels_at changed any those later_by_the_skew later_by_more
-    first_by_the_skew first_by_more reaches_none never_over by_nothing_at_last by_nothing_behind over_without_step
+    first_by_the_skew first_by_more reaches_none never_over by_nothing_at_last by_nothing_after_last over_without_step
 worked_complete = (refl, (refl, (refl, (refl, (refl, (refl, (refl, (refl, (refl, tt)))))))))

@@ -2,4 +2,4 @@ pub mod Settled
 pub mod Worked
 pub mod Group
 pub mod Settling
-pub mod GivenOn
+pub mod PassedOn

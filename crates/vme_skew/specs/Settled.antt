@@ -17,13 +17,13 @@ pub record IsRecording (t : Trace) : Type 0 where
 module _ (skew : ℕ) (t : Trace) where
   -- A group begins with the instant after instant `i`, whose own group begins with `start`: if `i` is the opening, or
   -- if the time of the instant after it is more than the skew later than that of `start`.
-  abbrev pub begins_behind : ℕ → ℕ → Bool
-  begins_behind start i = (i == 0) || nat_lt (time_at t start + skew) (time_at t (suc i))
+  abbrev pub begins_after : ℕ → ℕ → Bool
+  begins_after start i = (i == 0) || nat_lt (time_at t start + skew) (time_at t (suc i))
 
   -- the instant with which the group of an instant begins
   unfoldable pub group_start : ℕ → ℕ
   group_start zero = zero
-  group_start (suc i) = if begins_behind (group_start i) i then suc i else group_start i
+  group_start (suc i) = if begins_after (group_start i) i then suc i else group_start i
 
   -- the step of the group of an instant, as far as that instant: at the time of the group's beginning, the lines whose
   -- levels differ from those before the group
@@ -34,7 +34,7 @@ module _ (skew : ℕ) (t : Trace) where
   unfoldable pub steps_before : ℕ → List Step
   steps_before zero = []
   steps_before (suc i) =
-      if begins_behind (group_start i) i then steps_before i ++ step_to i else steps_before i
+      if begins_after (group_start i) i then steps_before i ++ step_to i else steps_before i
 
 -- a recording settled by a skew: the steps of all its groups
 unfoldable pub settled : ℕ → Trace → Trace
@@ -60,5 +60,5 @@ abbrev pub AreFrom : ℕ → List Step → Type 0
 AreFrom time steps = All (λ (step : Step). time ≤ step.time) steps
 
 -- `longer` is the recording `t` with some steps after it
-abbrev pub GoesOnTo : Trace → Trace → Type 0
-GoesOnTo t longer = (rest : List Step) × (longer ≡ with_steps t rest)
+abbrev pub IsPrefixOf : Trace → Trace → Type 0
+IsPrefixOf t longer = (rest : List Step) × (longer ≡ with_steps t rest)

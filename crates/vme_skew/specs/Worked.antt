@@ -173,8 +173,8 @@ by_nothing_at_last = record {
   complete = at 10 (low DTACK ∷ []) ∷ at 13 (low AS ∷ []) ∷ [];
 }
 
-unfoldable pub by_nothing_behind : WorkedTime
-by_nothing_behind = record { steps = three_falls; skew = 0; time = 16; complete = three_falls }
+unfoldable pub by_nothing_after_last : WorkedTime
+by_nothing_after_last = record { steps = three_falls; skew = 0; time = 16; complete = three_falls }
 
 -- a group that ends as it began is over without a step
 unfoldable pub over_without_step : WorkedTime
@@ -188,4 +188,4 @@ over_without_step = record {
 abbrev pub worked_times : List WorkedTime
 worked_times =
     later_by_the_skew ∷ later_by_more ∷ first_by_the_skew ∷ first_by_more ∷ reaches_none ∷ never_over
-    ∷ by_nothing_at_last ∷ by_nothing_behind ∷ over_without_step ∷ []
+    ∷ by_nothing_at_last ∷ by_nothing_after_last ∷ over_without_step ∷ []

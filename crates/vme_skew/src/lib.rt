@@ -12,7 +12,7 @@
 //! - `specs/Settled`: the definition.
 //! - `step_settler`, `group`: [`StepSettler`], which settles steps as they come and keeps none of
 //!   them, and the current group; `specs/Settling` has its state.
-//! - `settling_visitor`: [`SettlingVisitor`], which does so for another visitor; `specs/GivenOn`
+//! - `settling_visitor`: [`SettlingVisitor`], which does so for another visitor; `specs/PassedOn`
 //!   says what it has passed on. Its skew is a parameter of its type, [`GhostSkew`].
 //! - The functions of this file: laws of the definition. Their contracts state them.
 //!
@@ -48,7 +48,8 @@ ghost use Rattle.std.specs.Prelude.{◌≡◌, ◌≤◌, ◌<◌, ◌++◌, ℕ
 ghost use Rattle.vme_trace.specs.Followed.{with_steps};
 ghost use Rattle.vme_trace.specs.Trace.{Trace, levels_after, levels_at};
 ghost use Rattle.vme_trace.specs.declared.step.Step.{Step};
-ghost use Rattle.vme_skew.specs.Settled.{AreFrom, GoesOnTo, IsRecording, settled, settled_until, step_to, steps_before};
+ghost use Rattle.vme_skew.specs.Settled.{AreFrom, IsPrefixOf, IsRecording, settled, settled_until, step_to};
+ghost use Rattle.vme_skew.specs.Settled.{steps_before};
 ghost use Rattle.vme_skew.specs.Worked.{AllComplete, AllSettle, worked, worked_times};
 
 mod group;
@@ -78,7 +79,7 @@ pub fn levels_are_kept()
 
 /// What is complete once a time is read is a prefix of the settled recording.
 pub fn settled_until_is_prefix()
-    ensures { (skew time : ℕ) (t : Trace) → GoesOnTo (settled_until skew time t) (settled skew t) }
+    ensures { (skew time : ℕ) (t : Trace) → IsPrefixOf (settled_until skew time t) (settled skew t) }
 {}
 
 /// What is complete once a time is read is a recording.
@@ -92,9 +93,9 @@ pub fn settled_until_grows()
     ensures kept { (skew time : ℕ) (t : Trace) (more : List Step) → AreFrom time more
         → settled_until skew time (with_steps t more) ≡ settled_until skew time t }
     ensures later { (skew time later : ℕ) (t : Trace) (more : List Step) → time ≤ later → AreFrom time more
-        → GoesOnTo (settled_until skew time t) (settled_until skew later (with_steps t more)) }
+        → IsPrefixOf (settled_until skew time t) (settled_until skew later (with_steps t more)) }
     ensures whole { (skew time : ℕ) (t : Trace) (more : List Step) → AreFrom time more
-        → GoesOnTo (settled_until skew time t) (settled skew (with_steps t more)) }
+        → IsPrefixOf (settled_until skew time t) (settled skew (with_steps t more)) }
 {}
 
 /// With a skew of 0 a recording is complete, and stays as it is, if all its steps are earlier than the time.

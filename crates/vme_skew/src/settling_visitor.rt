@@ -41,7 +41,7 @@ pub struct SettlingVisitor<K: GhostSkew, F: StepVisitor> {
 
 impl<K: GhostSkew, F: StepVisitor> Model for SettlingVisitor<K, F> {
     ghost use Rattle.vme_trace.specs.Trace.{Trace};
-    ghost use Rattle.vme_skew.specs.GivenOn.{KeepsSettled};
+    ghost use Rattle.vme_skew.specs.PassedOn.{KeepsSettled};
 
     ghost Value = { Trace };
 
@@ -62,7 +62,7 @@ fn with_one(count: u32) -> u32
 }
 
 /// Passes on a step, if there is one.
-fn give_on<F: StepVisitor>(
+fn pass_on<F: StepVisitor>(
     taker: &mut F,
     alloc: Global,
     settled: Option<Step>,
@@ -123,7 +123,7 @@ impl<K: GhostSkew, F: StepVisitor> SettlingVisitor<K, F> {
         }
         let mut taker = taker;
         let last = settler.end(alloc)?;
-        give_on(&mut taker, alloc, last)?;
+        pass_on(&mut taker, alloc, last)?;
         Ok(taker)
     }
 }
@@ -143,7 +143,7 @@ impl<K: GhostSkew, F: StepVisitor> StepVisitor for SettlingVisitor<K, F> {
         self.is_whole = false;
         let settled = self.settler.take(alloc, &step)?;
         self.count = with_one(self.count);
-        give_on(&mut self.taker, alloc, settled)?;
+        pass_on(&mut self.taker, alloc, settled)?;
         self.is_whole = was_whole;
         Ok(())
     }

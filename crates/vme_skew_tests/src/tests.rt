@@ -296,7 +296,7 @@ fn complete_at(
 
 /// What a visitor passes on of these steps, by a skew that is a type's parameter, and whether there are too many. A
 /// step of another recording comes first, which the opening ends.
-fn given_on_by<K: GhostSkew>(
+fn passed_on_by<K: GhostSkew>(
     alloc: Global,
     opening: &Lines,
     rows: &[Row],
@@ -325,14 +325,14 @@ fn given_on_by<K: GhostSkew>(
     Ok((visitor.finish(alloc)?, is_too_long))
 }
 
-/// As `given_on_by`, by any skew.
-fn given_on(
+/// As `passed_on_by`, by any skew.
+fn passed_on(
     alloc: Global,
     opening: &Lines,
     rows: &[Row],
     skew: u64,
 ) -> Result<(StepCollector, bool), AllocError> {
-    given_on_by::<Brand>(alloc, opening, rows, skew)
+    passed_on_by::<Brand>(alloc, opening, rows, skew)
 }
 
 /// Whether these steps settle to `settled` as they come.
@@ -352,12 +352,12 @@ fn steps_settle_as_they_come(rt: HostRuntime) {
 /// Whether a visitor passes on `settled` of these steps, and they aren't too many.
 fn gives_on(alloc: Global, rows: &[Row], skew: u64, settled: &[Row]) -> Option<bool> {
     let opening = high_lines()?;
-    let (taken, is_too_long) = given_on(alloc, &opening, rows, skew).ok()?;
+    let (taken, is_too_long) = passed_on(alloc, &opening, rows, skew).ok()?;
     Some(taken.opening == opening && are_steps(&taken.steps, settled) && !is_too_long)
 }
 
 #[test]
-fn settled_steps_are_given_on(rt: HostRuntime) {
+fn settled_steps_are_passed_on(rt: HostRuntime) {
     for (rows, skew, settled) in WORKED.iter() {
         let is_so = gives_on(rt.alloc(), rows, *skew, settled).unwrap_or(false);
         assert!(rt; is_so, "{skew} {}", rows.len());
@@ -398,7 +398,7 @@ fn comes_if_at_all(alloc: Global, rows: &[Row], settled: &[Row]) -> bool {
         Err(_) => true,
     };
     comes
-        && match given_on(alloc, &opening, rows, 4) {
+        && match passed_on(alloc, &opening, rows, 4) {
             Ok((taken, _)) => are_steps(&taken.steps, settled),
             Err(_) => true,
         }

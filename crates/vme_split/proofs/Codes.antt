@@ -25,7 +25,7 @@ use Rattle.vme_trace.proofs.Ranges.{fails-any}
 use Rattle.vme_listing.specs.Recorded.{address_to, cycle_row, transfer_row, answered_row, rows_before}
 use Rattle.vme_listing.specs.declared.row.Row.{Row}
 use Rattle.vme_listing.specs.declared.row.Row.TheVariants.{OpenTenure, Tenure}
-use Rattle.vme_split.specs.Split.{bit_of, ShowNumber, address_line, TellsModifier, TellsAddress, IsOfItsCode}
+use Rattle.vme_split.specs.Split.{bit_of, ShowNumber, address_line, ShowsModifier, ShowsAddress, IsOfItsCode}
 use Rattle.vme_split.proofs.Unbroken.{IsUnbroken, held}
 use Rattle.vme_split.proofs.EachRow.{all_before, all_tenure, all_cycle_of, all_transfer}
 
@@ -273,13 +273,13 @@ module _ (t : Trace) (span : Stretch) (end : ℕ) (most : end ≤ span.end) (unb
       half_shown count k,
     )
 
-    modifier_of_cycle : (c : Class) → class_of (levels_at t i) ≡ c → TellsModifier t (cycle_row i (levels_at t i) e c)
+    modifier_of_cycle : (c : Class) → class_of (levels_at t i) ≡ c → ShowsModifier t (cycle_row i (levels_at t i) e c)
     modifier_of_cycle class.S of = code_shown class.S of (λ h. absurd (cc))
     modifier_of_cycle class.K of = code_shown class.K of (λ h. absurd (cc))
     modifier_of_cycle class.F of = code_shown class.F of (λ h. absurd (cc))
     modifier_of_cycle class.I of = tt
 
-    address_of_cycle : (c : Class) → class_of (levels_at t i) ≡ c → TellsAddress t (cycle_row i (levels_at t i) e c)
+    address_of_cycle : (c : Class) → class_of (levels_at t i) ≡ c → ShowsAddress t (cycle_row i (levels_at t i) e c)
     address_of_cycle class.S of = address_shown (highest_address (modifier_of (levels_at t i)))
         (address_known class.S of (λ h. absurd (cc)) (λ h. absurd (cc)))
     address_of_cycle class.K of = address_shown (highest_address (modifier_of (levels_at t i)))
@@ -310,33 +310,33 @@ module _ (t : Trace) (span : Stretch) (end : ℕ) (most : end ≤ span.end) (unb
       (λ i before. all_transfer P t span end i (λ starts. transfers i (least (answers t span i) i end)))
       end (omega arith)
 
-  pub modifiers_told : All (TellsModifier t) (rows_before t span end end)
-  modifiers_told = of_cycles (TellsModifier t) (λ i before starts. modifier_of_cycle i before starts
+  pub modifiers_shown : All (ShowsModifier t) (rows_before t span end end)
+  modifiers_shown = of_cycles (ShowsModifier t) (λ i before starts. modifier_of_cycle i before starts
       (least (rises t AS) (i + 1) end) (class_of (levels_at t i)) refl) (λ i e. tt) (λ i l s e. tt) in_transfer
     where
-      in_answered : (i r : ℕ) (o : Option ℕ) → TellsModifier t (answered_row t span end i r o)
+      in_answered : (i r : ℕ) (o : Option ℕ) → ShowsModifier t (answered_row t span end i r o)
       in_answered i r None = tt
       in_answered i r (Some c) = tt
 
-      in_transfer : (i : ℕ) (o : Option ℕ) → TellsModifier t (transfer_row t span end i o)
+      in_transfer : (i : ℕ) (o : Option ℕ) → ShowsModifier t (transfer_row t span end i o)
       in_transfer i None = tt
       in_transfer i (Some r) = in_answered i r (cycle_of t span r)
 
-  pub addresses_told : All (TellsAddress t) (rows_before t span end end)
-  addresses_told = of_cycles (TellsAddress t) (λ i before starts. address_of_cycle i before starts
+  pub addresses_shown : All (ShowsAddress t) (rows_before t span end end)
+  addresses_shown = of_cycles (ShowsAddress t) (λ i before starts. address_of_cycle i before starts
       (least (rises t AS) (i + 1) end) (class_of (levels_at t i)) refl) (λ i e. tt) (λ i l s e. tt) in_transfer
     where
-      in_answered : (i r : ℕ) (o : Option ℕ) → TellsAddress t (answered_row t span end i r o)
+      in_answered : (i r : ℕ) (o : Option ℕ) → ShowsAddress t (answered_row t span end i r o)
       in_answered i r None = tt
       in_answered i r (Some c) = tt
 
-      in_transfer : (i : ℕ) (o : Option ℕ) → TellsAddress t (transfer_row t span end i o)
+      in_transfer : (i : ℕ) (o : Option ℕ) → ShowsAddress t (transfer_row t span end i o)
       in_transfer i None = tt
       in_transfer i (Some r) = in_answered i r (cycle_of t span r)
 
-  pub codes_told : All IsOfItsCode (rows_before t span end end)
-  codes_told = of_cycles IsOfItsCode (λ i before starts. code_of_cycle i before starts (least (rises t AS) (i + 1) end)
-      (class_of (levels_at t i)) refl) (λ i e. tt) (λ i l s e. tt) in_transfer
+  pub classes_of_codes : All IsOfItsCode (rows_before t span end end)
+  classes_of_codes = of_cycles IsOfItsCode (λ i before starts. code_of_cycle i before starts
+      (least (rises t AS) (i + 1) end) (class_of (levels_at t i)) refl) (λ i e. tt) (λ i l s e. tt) in_transfer
     where
       in_answered : (i r : ℕ) (o : Option ℕ) → IsOfItsCode (answered_row t span end i r o)
       in_answered i r None = tt

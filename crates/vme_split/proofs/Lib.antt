@@ -11,7 +11,7 @@ pub mod Windows
 pub mod Answers
 pub mod EachRow
 pub mod Classes
-pub mod Telling
+pub mod Directions
 pub mod WrittenData
 pub mod Codes
 pub mod Nesting

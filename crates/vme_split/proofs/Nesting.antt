@@ -25,7 +25,7 @@ use Rattle.vme_listing.specs.Recorded.{cycle_row, transfer_row, answered_row, ro
 use Rattle.vme_listing.specs.declared.row.Row.{Row}
 use Rattle.vme_listing.specs.declared.row.Row.TheVariants as row
 use Rattle.vme_listing.specs.declared.row.Row.TheVariants.{OpenTenure, Tenure}
-use Rattle.vme_split.specs.Split.{TellsGrant, IsOpenAtStart, Interval, interval, Covers, StartsInOne, IsOfASlot}
+use Rattle.vme_split.specs.Split.{ShowsGrant, IsOpenAtStart, Interval, interval, Covers, StartsInOne, IsOfASlot}
 use Rattle.vme_split.specs.Split.{IsAnsweredInCycle, AwaitsAnswer, is_traffic, tenure_in, cycle_in, KeepsRules}
 use Rattle.vme_split.proofs.Lists.{past_or_below, greatest-is, greatest-found}
 use Rattle.vme_split.proofs.Intervals.{Covering, covering, goes_on}
@@ -35,10 +35,10 @@ use Rattle.vme_split.proofs.Tenures as tenures
 use Rattle.vme_split.proofs.Answering.{unclosed, lasts_on, reply_at, answered_is, first_reply, addressed}
 use Rattle.vme_split.proofs.Transfers.{after_start, CycleCovers, cycle_there, cycle_begun, low_near}
 use Rattle.vme_split.proofs.Classes.{cycles_of_classes}
-use Rattle.vme_split.proofs.Telling.{acknowledges_told, directions_told}
-use Rattle.vme_split.proofs.WrittenData.{data_told}
-use Rattle.vme_split.proofs.Codes.{codes_told, modifiers_told, addresses_told}
-use Rattle.vme_split.proofs.EachRow.{contains_told, all_told, all_before, all_tenure, all_tenure_at, all_cycle}
+use Rattle.vme_split.proofs.Directions.{acknowledges_shown, directions_shown}
+use Rattle.vme_split.proofs.WrittenData.{data_shown}
+use Rattle.vme_split.proofs.Codes.{classes_of_codes, modifiers_shown, addresses_shown}
+use Rattle.vme_split.proofs.EachRow.{contains_those, all_those, all_before, all_tenure, all_tenure_at, all_cycle}
 use Rattle.vme_split.proofs.EachRow.{all_transfer}
 
 greatest-below : (p : ℕ → Bool) (first n i : ℕ) → greatest p first n ≡ Some i → i < n
@@ -138,7 +138,7 @@ module _ (t : Trace) (span : Stretch) (is : IsSpanOf t span) (end : ℕ) (within
 
   -- the nets of a tenure's level are low up to its slot, at the instant whose grant it takes
   grant_there : (i : ℕ) → i < end → tenure_starts t span i ≡ true → (level slot : ℕ) (e : Option ℕ) → tenure_level t i
-      ≡ Some level → tenure_slot t i ≡ Some slot → TellsGrant t (row.Tenure i level slot e)
+      ≡ Some level → tenure_slot t i ≡ Some slot → ShowsGrant t (row.Tenure i level slot e)
   unfolding tenure_slot has_reached taken_grant
   grant_there i before starts level slot e l s = by (greatest (has_reached t (taken_grant t i) level) 0
       (t.opening.slots + 1)) refl
@@ -166,7 +166,7 @@ module _ (t : Trace) (span : Stretch) (is : IsSpanOf t span) (end : ℕ) (within
       off false h = refl
 
       by : (o : Option ℕ) → greatest (has_reached t (taken_grant t i) level) 0 (t.opening.slots + 1) ≡ o
-          → option_map (λ k. 1 + k) o ≡ Some slot → TellsGrant t (row.Tenure i level slot e)
+          → option_map (λ k. 1 + k) o ≡ Some slot → ShowsGrant t (row.Tenure i level slot e)
       by None f g = absurd (cc)
       by (Some k) f g =
           let same : 1 + k ≡ slot = cc in
@@ -188,26 +188,26 @@ module _ (t : Trace) (span : Stretch) (is : IsSpanOf t span) (end : ℕ) (within
             ),
           )
 
-  grants_told : All (TellsGrant t) (rows_before t span end end)
-  grants_told = all_before (TellsGrant t) t span end
-      (λ i before. all_tenure (TellsGrant t) t span end i (λ e. tt) (λ starts level slot e l s. grant_there i before
+  grants_shown : All (ShowsGrant t) (rows_before t span end end)
+  grants_shown = all_before (ShowsGrant t) t span end
+      (λ i before. all_tenure (ShowsGrant t) t span end i (λ e. tt) (λ starts level slot e l s. grant_there i before
       starts level slot e l s))
-      (λ i before. all_cycle (TellsGrant t) t span end i (in_cycle i))
-      (λ i before. all_transfer (TellsGrant t) t span end i
+      (λ i before. all_cycle (ShowsGrant t) t span end i (in_cycle i))
+      (λ i before. all_transfer (ShowsGrant t) t span end i
       (λ starts. in_transfer_row i (least (answers t span i) i end)))
       end (omega arith)
     where
-      in_cycle : (i : ℕ) (c : Class) → TellsGrant t (cycle_row i (levels_at t i) (least (rises t AS) (i + 1) end) c)
+      in_cycle : (i : ℕ) (c : Class) → ShowsGrant t (cycle_row i (levels_at t i) (least (rises t AS) (i + 1) end) c)
       in_cycle i class.S = tt
       in_cycle i class.K = tt
       in_cycle i class.I = tt
       in_cycle i class.F = tt
 
-      in_answered : (i r : ℕ) (o : Option ℕ) → TellsGrant t (answered_row t span end i r o)
+      in_answered : (i r : ℕ) (o : Option ℕ) → ShowsGrant t (answered_row t span end i r o)
       in_answered i r None = tt
       in_answered i r (Some c) = tt
 
-      in_transfer_row : (i : ℕ) (o : Option ℕ) → TellsGrant t (transfer_row t span end i o)
+      in_transfer_row : (i : ℕ) (o : Option ℕ) → ShowsGrant t (transfer_row t span end i o)
       in_transfer_row i None = tt
       in_transfer_row i (Some r) = in_answered i r (cycle_of t span r)
 
@@ -273,8 +273,8 @@ module _ (t : Trace) (span : Stretch) (is : IsSpanOf t span) (end : ℕ) (within
   unfolding cycle_starts
   cycle_judged i e = (grind (arith, nat_tests), grind (arith, nat_tests))
 
-  abbrev tenure_told : ℕ → Interval
-  tenure_told = tenures.tenure_at t span is end within most unbroken
+  abbrev tenure_from : ℕ → Interval
+  tenure_from = tenures.tenure_at t span is end within most unbroken
 
   TenureCovers : ℕ → Type 0
   TenureCovers k = Covering (low t BBSY) (tenure_starts t span) (rises t BBSY) (rises t BBSY) span.start end
@@ -291,10 +291,10 @@ module _ (t : Trace) (span : Stretch) (is : IsSpanOf t span) (end : ℕ) (within
       span.start end
       (tenures.starts_is t span is end within most unbroken) (tenures.ends_is t span is end within most unbroken)
       (tenures.stop_is t span is end within most unbroken) there.0 there.1 (omega (arith, there.2, before)) there.4 in (
-        tenure_told cover.first,
-        subst (λ xs. Contains xs (tenure_told cover.first))
-            (sym (tenures.tenures_told t span is end within most unbroken)) (by there.0 (omega (arith, there.2, before))
-            cover cover.begun),
+        tenure_from cover.first,
+        subst (λ xs. Contains xs (tenure_from cover.first))
+            (sym (tenures.tenures_of_rows t span is end within most unbroken)) (by there.0
+            (omega (arith, there.2, before)) cover cover.begun),
         (
           omega (arith, cover.to, there.2),
           if_some (least (rises t BBSY) (cover.first + 1) end) (λ e. i ≤ e) (λ e f. let later = goes_on (low t BBSY)
@@ -311,26 +311,26 @@ module _ (t : Trace) (span : Stretch) (is : IsSpanOf t span) (end : ℕ) (within
 
       by : (k : ℕ) → k < end → (c : TenureCovers k) → (c.first ≡ span.start) ⊎ ((span.start < c.first)
           × (tenure_starts t span c.first ≡ true))
-          → Contains (cond (low t BBSY span.start) (tenure_told span.start ∷ []) [] ++ map tenure_told
-          (those (tenure_starts t span) (span.start + 1) end)) (tenure_told c.first)
+          → Contains (cond (low t BBSY span.start) (tenure_from span.start ∷ []) [] ++ map tenure_from
+          (those (tenure_starts t span) (span.start + 1) end)) (tenure_from c.first)
       by k below c (inl same) =
-          subst (λ n. Contains (cond (low t BBSY span.start) (tenure_told span.start ∷ []) [] ++ map tenure_told
-          (those (tenure_starts t span) (span.start + 1) end)) (tenure_told n)) (sym same)
-          (Contains-append_left (cond (low t BBSY span.start) (tenure_told span.start ∷ []) []) _
-          (tenure_told span.start)
+          subst (λ n. Contains (cond (low t BBSY span.start) (tenure_from span.start ∷ []) [] ++ map tenure_from
+          (those (tenure_starts t span) (span.start + 1) end)) (tenure_from n)) (sym same)
+          (Contains-append_left (cond (low t BBSY span.start) (tenure_from span.start ∷ []) []) _
+          (tenure_from span.start)
           (at_first (low t BBSY span.start) (ap (low t BBSY) (sym same) ∙ c.held c.first (omega arith) c.to)
-          (tenure_told span.start)))
+          (tenure_from span.start)))
       by k below c (inr begun) =
-          Contains-append_right (cond (low t BBSY span.start) (tenure_told span.start ∷ []) []) _ (tenure_told c.first)
-          (contains_told tenure_told (tenure_starts t span) (span.start + 1) end c.first (omega (arith, begun.0))
+          Contains-append_right (cond (low t BBSY span.start) (tenure_from span.start ∷ []) []) _ (tenure_from c.first)
+          (contains_those tenure_from (tenure_starts t span) (span.start + 1) end c.first (omega (arith, begun.0))
           (omega (arith, c.to, below)) begun.1)
 
   cycles_held : All (StartsInOne (flat_map tenure_in (rows_before t span end end)))
       (flat_map cycle_in (rows_before t span end end))
   cycles_held =
       subst (All (StartsInOne (flat_map tenure_in (rows_before t span end end))))
-      (sym (cycles.cycles_told t span end within))
-      (all_told (StartsInOne (flat_map tenure_in (rows_before t span end end))) (cycles.cycle_at t span end)
+      (sym (cycles.cycles_of_rows t span end within))
+      (all_those (StartsInOne (flat_map tenure_in (rows_before t span end end))) (cycles.cycle_at t span end)
       (cycle_starts t span) end end (span.start + 1) (omega arith) (λ i from before starts. in_tenure i before
       starts))
 
@@ -408,8 +408,8 @@ module _ (t : Trace) (span : Stretch) (is : IsSpanOf t span) (end : ℕ) (within
         let begun = cycle_begun t span is end within most there.0 cover in (
           least (rises t AS) (cover.first + 1) end,
           subst (λ xs. Contains xs (cycles.cycle_at t span end cover.first))
-              (sym (cycles.cycles_told t span end within))
-              (contains_told (cycles.cycle_at t span end) (cycle_starts t span) (span.start + 1) end cover.first
+              (sym (cycles.cycles_of_rows t span end within))
+              (contains_those (cycles.cycle_at t span end) (cycle_starts t span) (span.start + 1) end cover.first
               (omega (arith, begun.0)) (omega (arith, cover.to, there.2, found.below)) begun.1),
           (
             omega (arith, cover.to, there.2),
@@ -507,17 +507,17 @@ module _ (t : Trace) (span : Stretch) (is : IsSpanOf t span) (end : ℕ) (within
   nested = record {
     tenures_of_slots = slots_held;
     open_at_start = open_first;
-    grants = grants_told;
+    grants = grants_shown;
     cycles_in_tenures = cycles_held;
     answers_in_cycles = by_transfers (IsAnsweredInCycle cycles_listed) (λ i e. tt) (λ i level slot e. tt) no_answer
         answered_in_cycle;
     cycles_of_classes = cycles_of_classes t span is end within most unbroken;
-    acknowledges = acknowledges_told t span is end within most unbroken;
-    codes_of_classes = codes_told t span end most unbroken;
-    modifiers = modifiers_told t span end most unbroken;
-    addresses = addresses_told t span end most unbroken;
-    directions = directions_told t span is end within most unbroken;
-    written_data = data_told t span is end within most unbroken;
+    acknowledges = acknowledges_shown t span is end within most unbroken;
+    codes_of_classes = classes_of_codes t span end most unbroken;
+    modifiers = modifiers_shown t span end most unbroken;
+    addresses = addresses_shown t span end most unbroken;
+    directions = directions_shown t span is end within most unbroken;
+    written_data = data_shown t span is end within most unbroken;
     strobe_awaits = by_transfers (AwaitsAnswer t end) (λ i e. tt) (λ i level slot e. tt) no_wait awaits_answer;
     nothing_else = traffic_alone;
   }

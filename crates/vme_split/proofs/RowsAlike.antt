@@ -20,8 +20,8 @@ use Rattle.vme_listing.specs.declared.row.Row.TheVariants.{Start, Reset, OpenTen
 use Rattle.vme_listing.specs.declared.row.Row.TheVariants.{FreeCycle, InterruptCycle, Transfer, PendingTransfer}
 use Rattle.vme_listing.specs.declared.row.Row.TheVariants as row
 use Rattle.vme_split.specs.Split.{bit_of, ShowsBit, ShowNumber, address_line, data_instant, HaveSameData}
-use Rattle.vme_split.specs.Split.{TellsAcknowledge, TellsModifier, TellsAddress, TellsDirection, TellsData, IsOfItsCode}
-use Rattle.vme_split.specs.Split.{TellCycleAlike, TellTransferAlike}
+use Rattle.vme_split.specs.Split.{ShowsAcknowledge, ShowsModifier, ShowsAddress, ShowsDirection, ShowsData, IsOfItsCode}
+use Rattle.vme_split.specs.Split.{AgreeOnCycle, AgreeOnTransfer}
 
 one_level : (x : Level) → is_high x ≡ true → is_low x ≡ true → ⊥
 one_level Low h l = cc
@@ -45,18 +45,19 @@ shifted x n =
     ap (λ (y : ℕ). x / y % 2) twice ∙ ap (λ (y : ℕ). y % 2) (sym (div-div-eq-div-mul x 2 (2 ^ n)))
 
 -- numbers below 2 to the power `count` with the same bits are equal
-told_by_bits : (count x y : ℕ) → x < 2 ^ count → y < 2 ^ count → ((n : ℕ) → n < count → bit_of x n ≡ bit_of y n) → x ≡ y
-told_by_bits zero x y a b bits = let a' : x < 1 = a in let b' : y < 1 = b in omega (arith, a', b')
-told_by_bits (suc count) x y a b bits =
+equal_by_bits : (count x y : ℕ) → x < 2 ^ count → y < 2 ^ count → ((n : ℕ) → n < count → bit_of x n ≡ bit_of y n)
+    → x ≡ y
+equal_by_bits zero x y a b bits = let a' : x < 1 = a in let b' : y < 1 = b in omega (arith, a', b')
+equal_by_bits (suc count) x y a b bits =
     let p = pow-suc 2 count in let a' : x / 2 < 2 ^ count = omega (arith, a, p) in
     let b' : y / 2 < 2 ^ count = omega (arith, b, p) in
-    let half : x / 2 ≡ y / 2 = told_by_bits count (x / 2) (y / 2) a' b'
+    let half : x / 2 ≡ y / 2 = equal_by_bits count (x / 2) (y / 2) a' b'
     (λ n small. sym (shifted x n) ∙ (bits (suc n) (omega (arith, small)) ∙ shifted y n)) in
     let least : x / 1 % 2 ≡ y / 1 % 2 = bits 0 (omega arith) in omega (arith, half, least)
 
 same_number : (t : Trace) (line : ℕ → ℕ) (count i x y : ℕ) → ShowNumber t line count i x → ShowNumber t line count i y
     → x ≡ y
-same_number t line count i x y a b = told_by_bits count x y a.0 b.0
+same_number t line count i x y a b = equal_by_bits count x y a.0 b.0
     (λ n small. same_bit t (line n) i (bit_of x n) (bit_of y n) (a.1 n small) (b.1 n small))
 
 same_number_at : (t : Trace) (line : ℕ → ℕ) (count i j x y : ℕ) → i ≡ j → ShowNumber t line count i x
@@ -75,9 +76,9 @@ same_place t i j m n a b q p x y =
     (subst (λ (k : ℕ). ShowNumber t (λ k. address_line k) (highest_address k) j (b / 2)) (sym p) y.1) in
     omega (arith, half, x.0, y.0)
 
-pub cycles_alike : (t : Trace) (told other : Row) → TellsAcknowledge t told → TellsAcknowledge t other
-    → IsOfItsCode told → IsOfItsCode other → TellsModifier t told → TellsModifier t other
-    → TellsAddress t told → TellsAddress t other → TellCycleAlike told other
+pub cycles_alike : (t : Trace) (told other : Row) → ShowsAcknowledge t told → ShowsAcknowledge t other
+    → IsOfItsCode told → IsOfItsCode other → ShowsModifier t told → ShowsModifier t other
+    → ShowsAddress t told → ShowsAddress t other → AgreeOnCycle told other
 cycles_alike t (Start i) other ack ack' of of' code code' place place' = tt
 cycles_alike t (Reset i) other ack ack' of of' code code' place place' = tt
 cycles_alike t (OpenTenure i e) other ack ack' of of' code code' place place' = tt
@@ -158,8 +159,8 @@ cycles_alike t (Transfer d l i c r k x) other ack ack' of of' code code' place p
 cycles_alike t (PendingTransfer i d) other ack ack' of of' code code' place place' = tt
 cycles_alike t (row.Verdict o) other ack ack' of of' code code' place place' = tt
 
-pub transfers_alike : (t : Trace) (told other : Row) → TellsDirection t told → TellsDirection t other
-    → TellsData t told → TellsData t other → TellTransferAlike told other
+pub transfers_alike : (t : Trace) (told other : Row) → ShowsDirection t told → ShowsDirection t other
+    → ShowsData t told → ShowsData t other → AgreeOnTransfer told other
 transfers_alike t (Start i) other way way' lanes lanes' = tt
 transfers_alike t (Reset i) other way way' lanes lanes' = tt
 transfers_alike t (OpenTenure i e) other way way' lanes lanes' = tt

@@ -4,8 +4,8 @@ use Rattle.std.specs.Prelude.{Option, None, Some, MatchOption, option_to_list}
 use Rattle.std.proofs.lemmas.List.Elements.{All-contains}
 use Rattle.vme_trace.specs.Trace.{Trace}
 use Rattle.vme_listing.specs.declared.row.Row.{Row}
-use Rattle.vme_split.specs.Split.{Interval, interval, starts_of, ends_of, AreInTurn, SplitsStretch, TellAlike}
-use Rattle.vme_split.specs.Split.{TellsAcknowledge, TellsModifier, TellsAddress, TellsDirection, TellsData, IsOfItsCode}
+use Rattle.vme_split.specs.Split.{Interval, interval, starts_of, ends_of, AreInTurn, SplitsStretch, HaveSameTraffic}
+use Rattle.vme_split.specs.Split.{ShowsAcknowledge, ShowsModifier, ShowsAddress, ShowsDirection, ShowsData, IsOfItsCode}
 use Rattle.vme_split.proofs.RowsAlike.{cycles_alike, transfers_alike}
 use Rattle.vme_split.specs.Split.{cycle_in, transfer_in, answered_by_dtack, answered_by_berr, IsAnsweredInCycle}
 use Rattle.vme_split.proofs.Placing.{IsPlaced, all_alike, placed_dtack, placed_berr, dtack_answers, berr_answers}
@@ -23,11 +23,11 @@ none_left : (xs : List Interval) → [] ≡ starts_of xs → xs ≡ []
 none_left [] h = refl
 none_left (x ∷ xs) h = absurd (unlike h)
 
-pub told_by_edges : (n : ℕ) (xs ys : List Interval) → AreInTurn n xs → AreInTurn n ys → starts_of xs ≡ starts_of ys
+pub equal_by_edges : (n : ℕ) (xs ys : List Interval) → AreInTurn n xs → AreInTurn n ys → starts_of xs ≡ starts_of ys
     → ends_of xs ≡ ends_of ys → xs ≡ ys
-told_by_edges n [] ys a b s e = sym (none_left ys s)
-told_by_edges n (x ∷ xs) [] a b s e = absurd (unlike (sym s))
-told_by_edges n (x ∷ xs) (y ∷ ys) a b s e = by x.end y.end refl refl a.1 b.1 e (λ m p q r. told_by_edges m xs ys p q
+equal_by_edges n [] ys a b s e = sym (none_left ys s)
+equal_by_edges n (x ∷ xs) [] a b s e = absurd (unlike (sym s))
+equal_by_edges n (x ∷ xs) (y ∷ ys) a b s e = by x.end y.end refl refl a.1 b.1 e (λ m p q r. equal_by_edges m xs ys p q
     (tail_same s) r)
   where
     by : (o p : Option ℕ) → x.end ≡ o → y.end ≡ p → MatchOption o (xs ≡ []) (λ k. (x.start < k) × AreInTurn (k + 1) xs)
@@ -46,11 +46,11 @@ told_by_edges n (x ∷ xs) (y ∷ ys) a b s e = by x.end y.end refl refl a.1 b.1
 module _ (t : Trace) (first end : ℕ) (rows others : List Row) (a : SplitsStretch t first end rows)
     (b : SplitsStretch t first end others) where
   same_cycles : flat_map cycle_in rows ≡ flat_map cycle_in others
-  same_cycles = told_by_edges (first + 1) _ _ a.cycles.in_turn b.cycles.in_turn (a.cycles.start ∙ sym b.cycles.start)
+  same_cycles = equal_by_edges (first + 1) _ _ a.cycles.in_turn b.cycles.in_turn (a.cycles.start ∙ sym b.cycles.start)
       (a.cycles.stop ∙ sym b.cycles.stop)
 
   same_transfers : flat_map transfer_in rows ≡ flat_map transfer_in others
-  same_transfers = told_by_edges (first + 1) _ _ a.transfers.in_turn b.transfers.in_turn (a.transfers.start
+  same_transfers = equal_by_edges (first + 1) _ _ a.transfers.in_turn b.transfers.in_turn (a.transfers.start
       ∙ sym b.transfers.start) (a.transfers.close ∙ sym b.transfers.close)
 
   -- each answered transfer of `rows`, and below of `others`, is answered in a cycle of `rows`
@@ -61,9 +61,9 @@ module _ (t : Trace) (first end : ℕ) (rows others : List Row) (a : SplitsStret
   kept_others r c = subst (λ (cycles : List Interval). IsAnsweredInCycle cycles r) (sym same_cycles)
       (All-contains (IsAnsweredInCycle (flat_map cycle_in others)) others r b.keeps.answers_in_cycles c)
 
-  pub unique : TellAlike rows others
+  pub unique : HaveSameTraffic rows others
   unique = record {
-    tenures = told_by_edges first _ _ a.tenures.in_turn b.tenures.in_turn (a.tenures.start ∙ sym b.tenures.start)
+    tenures = equal_by_edges first _ _ a.tenures.in_turn b.tenures.in_turn (a.tenures.start ∙ sym b.tenures.start)
         (a.tenures.stop ∙ sym b.tenures.stop);
     cycles = same_cycles;
     transfers = same_transfers;
@@ -80,17 +80,17 @@ module _ (t : Trace) (first end : ℕ) (rows others : List Row) (a : SplitsStret
         (sym same_transfers) (placed_berr others (flat_map cycle_in rows) kept_others x c))
         (berr_answers rows ∙ (a.answers.berr ∙ (sym b.answers.berr ∙ sym (berr_answers others))));
     each_cycle = λ r s c d. cycles_alike t r s
-        (All-contains (TellsAcknowledge t) rows r a.keeps.acknowledges c)
-        (All-contains (TellsAcknowledge t) others s b.keeps.acknowledges d)
+        (All-contains (ShowsAcknowledge t) rows r a.keeps.acknowledges c)
+        (All-contains (ShowsAcknowledge t) others s b.keeps.acknowledges d)
         (All-contains IsOfItsCode rows r a.keeps.codes_of_classes c)
         (All-contains IsOfItsCode others s b.keeps.codes_of_classes d)
-        (All-contains (TellsModifier t) rows r a.keeps.modifiers c)
-        (All-contains (TellsModifier t) others s b.keeps.modifiers d)
-        (All-contains (TellsAddress t) rows r a.keeps.addresses c)
-        (All-contains (TellsAddress t) others s b.keeps.addresses d);
+        (All-contains (ShowsModifier t) rows r a.keeps.modifiers c)
+        (All-contains (ShowsModifier t) others s b.keeps.modifiers d)
+        (All-contains (ShowsAddress t) rows r a.keeps.addresses c)
+        (All-contains (ShowsAddress t) others s b.keeps.addresses d);
     each_transfer = λ r s c d. transfers_alike t r s
-        (All-contains (TellsDirection t) rows r a.keeps.directions c)
-        (All-contains (TellsDirection t) others s b.keeps.directions d)
-        (All-contains (TellsData t) rows r a.keeps.written_data c)
-        (All-contains (TellsData t) others s b.keeps.written_data d);
+        (All-contains (ShowsDirection t) rows r a.keeps.directions c)
+        (All-contains (ShowsDirection t) others s b.keeps.directions d)
+        (All-contains (ShowsData t) rows r a.keeps.written_data c)
+        (All-contains (ShowsData t) others s b.keeps.written_data d);
   }

@@ -11,7 +11,7 @@ use Rattle.vme_trace.specs.declared.data.Lanes.{Lanes}
 use Rattle.vme_trace.specs.declared.class.Class.TheVariants as class
 use Rattle.vme_trace.specs.declared.verdict.Verdict.{Verdict}
 use Rattle.vme_trace.specs.declared.verdict.Verdict.TheVariants as said
-use Rattle.vme_listing.specs.Listed.{tells_data}
+use Rattle.vme_listing.specs.Listed.{includes_data}
 use Rattle.vme_listing.specs.Recorded.{recorded_rows, rows_in, without_data}
 use Rattle.vme_listing.specs.declared.row.AnswerLine.{AnswerLine}
 use Rattle.vme_listing.specs.declared.row.AnswerLine.TheVariants.{Dtack, Berr}
@@ -27,7 +27,7 @@ use Rattle.vme_split.specs.Split.{Interval, starts_of, ends_of, AreInTurn, tenur
 use Rattle.vme_split.specs.Split.{berr_in, direction_in, is_traffic}
 use Rattle.vme_split.specs.Split.{StartsInOne, IsOfASlot, IsOpenAtStart, IsAnsweredInCycle, IsOfItsClass, IsSingle}
 use Rattle.vme_split.specs.Split.{IsOneWay, IsVectorRead, IsOfItsCode, AwaitsAnswer}
-use Rattle.vme_split.specs.Split.{TellsAcknowledge, TellsAddress, TellsData, TellsDirection, TellsGrant, TellsModifier}
+use Rattle.vme_split.specs.Split.{ShowsAcknowledge, ShowsAddress, ShowsData, ShowsDirection, ShowsGrant, ShowsModifier}
 use Rattle.vme_split.specs.Split.{KeepsRules, SplitsStretch, SplitsRecording, Splits, reset_row}
 use Rattle.vme_split.proofs.Listings.{listing_splits}
 
@@ -119,13 +119,13 @@ of_class rows (PendingTransfer i d) h = tt
 of_class rows (row.Verdict o) h = tt
 
 module _ (t : Trace) (first end : ℕ) (rows : List Row) where
-  direction_kept : (d : Direction) (l : AnswerLine) (s c a : ℕ) (k : Option ℕ) (x : Option Lanes) → TellsDirection t
-      (Transfer d l s c a k x) → TellsDirection t (Transfer d l s c a k None)
+  direction_kept : (d : Direction) (l : AnswerLine) (s c a : ℕ) (k : Option ℕ) (x : Option Lanes) → ShowsDirection t
+      (Transfer d l s c a k x) → ShowsDirection t (Transfer d l s c a k None)
   direction_kept Read l s c a k x h = h
   direction_kept Write l s c a k x h = h
 
   data_kept : (d : Direction) (l : AnswerLine) (s c a : ℕ) (k : Option ℕ) (x : Option Lanes)
-      → TellsData t (Transfer d l s c a k x) → TellsData t (Transfer d l s c a k None)
+      → ShowsData t (Transfer d l s c a k x) → ShowsData t (Transfer d l s c a k None)
   data_kept Read l s c a k x h = refl
   data_kept Write l s c a k x h = tt
 
@@ -137,7 +137,7 @@ module _ (t : Trace) (first end : ℕ) (rows : List Row) where
   rules_kept k = record {
     tenures_of_slots = kept (IsOfASlot t.opening.slots) (λ d l s c a e x h. tt) k.tenures_of_slots;
     open_at_start = kept (IsOpenAtStart first) (λ d l s c a e x h. tt) k.open_at_start;
-    grants = kept (TellsGrant t) (λ d l s c a e x h. tt) k.grants;
+    grants = kept (ShowsGrant t) (λ d l s c a e x h. tt) k.grants;
     cycles_in_tenures =
         subst (λ (tenures : List Interval). All (StartsInOne tenures) (flat_map cycle_in (bare rows)))
         (sym (same_tenures rows))
@@ -148,12 +148,12 @@ module _ (t : Trace) (first end : ℕ) (rows : List Row) where
         (kept (IsAnsweredInCycle (flat_map cycle_in rows)) (λ d l s c a e x h. h) k.answers_in_cycles);
     cycles_of_classes = all_bare (IsOfItsClass rows) (IsOfItsClass (bare rows)) (λ r h. keep (IsOfItsClass (bare rows))
         (λ d l s c a e x h. tt) r (of_class rows r h)) rows k.cycles_of_classes;
-    acknowledges = kept (TellsAcknowledge t) (λ d l s c a e x h. tt) k.acknowledges;
+    acknowledges = kept (ShowsAcknowledge t) (λ d l s c a e x h. tt) k.acknowledges;
     codes_of_classes = kept IsOfItsCode (λ d l s c a e x h. tt) k.codes_of_classes;
-    modifiers = kept (TellsModifier t) (λ d l s c a e x h. tt) k.modifiers;
-    addresses = kept (TellsAddress t) (λ d l s c a e x h. tt) k.addresses;
-    directions = kept (TellsDirection t) direction_kept k.directions;
-    written_data = kept (TellsData t) data_kept k.written_data;
+    modifiers = kept (ShowsModifier t) (λ d l s c a e x h. tt) k.modifiers;
+    addresses = kept (ShowsAddress t) (λ d l s c a e x h. tt) k.addresses;
+    directions = kept (ShowsDirection t) direction_kept k.directions;
+    written_data = kept (ShowsData t) data_kept k.written_data;
     strobe_awaits = kept (AwaitsAnswer t end) (λ d l s c a e x h. h) k.strobe_awaits;
     nothing_else = kept (λ told. is_traffic told ≡ true) (λ d l s c a e x h. refl) k.nothing_else;
   }
@@ -209,7 +209,7 @@ splits_kept t said.NeverIdle rows h = (h.0, ap (λ (xs : List Row). bare xs) h.1
 -- the rows of the listing in each version split the judged edges
 pub version_splits : (version : Version) (t : Trace) → Splits t (verdict t) (rows_in version (recorded_rows t))
 unfolding rows_in
-version_splits version t = by (tells_data version)
+version_splits version t = by (includes_data version)
   where
     by : (b : Bool) → Splits t (verdict t) (if b then recorded_rows t else bare (recorded_rows t))
     by true = listing_splits t

@@ -18,7 +18,7 @@ use Rattle.vme_trace.proofs.Ranges.{any-fails, least-found, clash}
 use Rattle.vme_listing.specs.Recorded.{answer_line, answered_row, cycle_row, rows_before, transfer_row}
 use Rattle.vme_listing.specs.declared.row.Direction.TheVariants.{Read, Write}
 use Rattle.vme_listing.specs.declared.row.Row.TheVariants.{Transfer}
-use Rattle.vme_split.specs.Split.{TellsData}
+use Rattle.vme_split.specs.Split.{ShowsData}
 use Rattle.vme_split.proofs.Lists.{same_or_after}
 use Rattle.vme_split.proofs.Unbroken.{IsUnbroken}
 use Rattle.vme_split.proofs.Transfers.{after_start}
@@ -87,16 +87,16 @@ module _ (t : Trace) (span : Stretch) (is : IsSpanOf t span) (end : ℕ) (within
           by (inl same) = ap (transfer_starts t span) (sym same) ∙ (starts ∙ sym (is_same i r same))
           by (inr later) = off_if (transfer_starts t span r) (none_later later) ∙ sym (is_later i r later)
 
-      answered : (c : ℕ) → TellsData t (answered_row t span end i r (Some c))
+      answered : (c : ℕ) → ShowsData t (answered_row t span end i r (Some c))
       unfolding data_at
       answered c = by (is_write t span i)
         where
-          by : (b : Bool) → TellsData t (Transfer (if b then Write else Read) (answer_line t span end r) i c r
+          by : (b : Bool) → ShowsData t (Transfer (if b then Write else Read) (answer_line t span end r) i c r
               (least (strobes_high t) (i + 1) end) (if b then Some (data_at t span r) else None))
           by true = ap (λ (b : Bool). lanes_at (levels_at t (if b then r else r - 1))) starts_alike
           by false = refl
 
-      of_answer : (o : Option ℕ) → TellsData t (answered_row t span end i r o)
+      of_answer : (o : Option ℕ) → ShowsData t (answered_row t span end i r o)
       of_answer None = tt
       of_answer (Some c) = answered c
 
@@ -106,20 +106,20 @@ module _ (t : Trace) (span : Stretch) (is : IsSpanOf t span) (end : ℕ) (within
 
   of_transfer : (i : ℕ) → i < end → transfer_starts t span i ≡ true → (o : Option ℕ) → least (answers t span i) i end
       ≡ o
-      → TellsData t (transfer_row t span end i o)
+      → ShowsData t (transfer_row t span end i o)
   of_transfer i before starts None e = tt
   of_transfer i before starts (Some r) e =
       of_answer i r before starts (lasting i r (least-found (answers t span i) i end r e).holds) (cycle_of t span r)
 
-  pub data_told : All (TellsData t) (rows_before t span end end)
-  data_told = all_before (TellsData t) t span end
-      (λ i before. all_tenure (TellsData t) t span end i (λ e. tt) (λ starts level slot e l s. tt))
-      (λ i before. all_cycle (TellsData t) t span end i (in_cycle i))
-      (λ i before. all_transfer (TellsData t) t span end i
+  pub data_shown : All (ShowsData t) (rows_before t span end end)
+  data_shown = all_before (ShowsData t) t span end
+      (λ i before. all_tenure (ShowsData t) t span end i (λ e. tt) (λ starts level slot e l s. tt))
+      (λ i before. all_cycle (ShowsData t) t span end i (in_cycle i))
+      (λ i before. all_transfer (ShowsData t) t span end i
       (λ starts. of_transfer i before starts (least (answers t span i) i end) refl))
       end (omega arith)
     where
-      in_cycle : (i : ℕ) (c : Class) → TellsData t (cycle_row i (levels_at t i) (least (rises t AS) (i + 1) end) c)
+      in_cycle : (i : ℕ) (c : Class) → ShowsData t (cycle_row i (levels_at t i) (least (rises t AS) (i + 1) end) c)
       in_cycle i class.S = tt
       in_cycle i class.K = tt
       in_cycle i class.I = tt

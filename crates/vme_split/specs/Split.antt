@@ -115,12 +115,12 @@ AwaitsAnswer t end (PendingTransfer start direction) = StaysDown t start end
 AwaitsAnswer t end other = Unit {0}
 
 -- a transfer is a write where WRITE is low as it starts, and a read where it is high
-abbrev pub TellsDirection : Trace → Row → Type 0
-TellsDirection t (Transfer Read line start cycle answer close lanes) = high t WRITE start ≡ true
-TellsDirection t (Transfer Write line start cycle answer close lanes) = low t WRITE start ≡ true
-TellsDirection t (PendingTransfer start Read) = high t WRITE start ≡ true
-TellsDirection t (PendingTransfer start Write) = low t WRITE start ≡ true
-TellsDirection t other = Unit {0}
+abbrev pub ShowsDirection : Trace → Row → Type 0
+ShowsDirection t (Transfer Read line start cycle answer close lanes) = high t WRITE start ≡ true
+ShowsDirection t (Transfer Write line start cycle answer close lanes) = low t WRITE start ≡ true
+ShowsDirection t (PendingTransfer start Read) = high t WRITE start ≡ true
+ShowsDirection t (PendingTransfer start Write) = low t WRITE start ≡ true
+ShowsDirection t other = Unit {0}
 
 -- the instant at which the lines show the data of a transfer: the one before its answer, or that of its answer where
 -- the transfer starts there
@@ -128,19 +128,19 @@ abbrev pub data_instant : ℕ → ℕ → ℕ
 data_instant start answer = if start == answer then answer else answer - 1
 
 -- the data of a write, where the row has them, are the levels of the lines that the transfer moves; a read has none
-abbrev pub TellsData : Trace → Row → Type 0
-TellsData t (Transfer Read line start cycle answer close lanes) = lanes ≡ None
-TellsData t (Transfer Write line start cycle answer close None) = Unit {0}
-TellsData t (Transfer Write line start cycle answer close (Some lanes)) =
+abbrev pub ShowsData : Trace → Row → Type 0
+ShowsData t (Transfer Read line start cycle answer close lanes) = lanes ≡ None
+ShowsData t (Transfer Write line start cycle answer close None) = Unit {0}
+ShowsData t (Transfer Write line start cycle answer close (Some lanes)) =
     lanes ≡ lanes_at (levels_at t (data_instant start answer))
-TellsData t other = Unit {0}
+ShowsData t other = Unit {0}
 
 -- a cycle is an interrupt acknowledge where IACK is low as it starts, and another where it is high
-abbrev pub TellsAcknowledge : Trace → Row → Type 0
-TellsAcknowledge t (InterruptCycle start level end) = low t IACK start ≡ true
-TellsAcknowledge t (AddressedCycle start class modifier address end) = high t IACK start ≡ true
-TellsAcknowledge t (FreeCycle start modifier end) = high t IACK start ≡ true
-TellsAcknowledge t other = Unit {0}
+abbrev pub ShowsAcknowledge : Trace → Row → Type 0
+ShowsAcknowledge t (InterruptCycle start level end) = low t IACK start ≡ true
+ShowsAcknowledge t (AddressedCycle start class modifier address end) = high t IACK start ≡ true
+ShowsAcknowledge t (FreeCycle start modifier end) = high t IACK start ≡ true
+ShowsAcknowledge t other = Unit {0}
 
 -- bit n of a number
 abbrev pub bit_of : ℕ → ℕ → ℕ
@@ -159,18 +159,18 @@ abbrev pub address_line : ℕ → ℕ
 address_line n = A (suc n)
 
 -- the modifier code of a cycle is what its six lines show as it starts
-abbrev pub TellsModifier : Trace → Row → Type 0
-TellsModifier t (AddressedCycle start class modifier address end) = ShowNumber t (λ n. AM n) 6 start modifier
-TellsModifier t (FreeCycle start modifier end) = ShowNumber t (λ n. AM n) 6 start modifier
-TellsModifier t other = Unit {0}
+abbrev pub ShowsModifier : Trace → Row → Type 0
+ShowsModifier t (AddressedCycle start class modifier address end) = ShowNumber t (λ n. AM n) 6 start modifier
+ShowsModifier t (FreeCycle start modifier end) = ShowNumber t (λ n. AM n) 6 start modifier
+ShowsModifier t other = Unit {0}
 
 -- the address is what the lines show that are meaningful with the modifier code, and its bit 0, which has no line, is
 -- 0; the level of an acknowledge is what A01 to A03 show
-abbrev pub TellsAddress : Trace → Row → Type 0
-TellsAddress t (AddressedCycle start class modifier address end) =
+abbrev pub ShowsAddress : Trace → Row → Type 0
+ShowsAddress t (AddressedCycle start class modifier address end) =
     (address % 2 ≡ 0) × ShowNumber t (λ n. address_line n) (highest_address modifier) start (address / 2)
-TellsAddress t (InterruptCycle start level end) = ShowNumber t (λ n. address_line n) 3 start level
-TellsAddress t other = Unit {0}
+ShowsAddress t (InterruptCycle start level end) = ShowNumber t (λ n. address_line n) 3 start level
+ShowsAddress t other = Unit {0}
 
 -- the class is that of the modifier code: K of a block, S of another with an address, and F of one without
 abbrev pub IsOfItsCode : Row → Type 0
@@ -188,10 +188,10 @@ IsGrantedTo t level slot q =
     ((k : ℕ) → k < slot → low t (grant level k) q ≡ true) × (low t (grant level slot) q ≡ false)
 
 -- a tenure takes a grant: its level is granted to its slot as it starts, or at the instant before
-abbrev pub TellsGrant : Trace → Row → Type 0
-TellsGrant t (Tenure start level slot end) =
+abbrev pub ShowsGrant : Trace → Row → Type 0
+ShowsGrant t (Tenure start level slot end) =
     (q : ℕ) × (q ≤ start) × (start ≤ q + 1) × IsGrantedTo t level slot q
-TellsGrant t other = Unit {0}
+ShowsGrant t other = Unit {0}
 
 -- the row of a tenure says `open` where it starts with the stretch, and in no other case
 abbrev pub IsOpenAtStart : ℕ → Row → Type 0
@@ -284,16 +284,16 @@ module _ (t : Trace) (first end : ℕ) where
   pub record KeepsRules (rows : List Row) : Type 0 where
     pub tenures_of_slots : All (IsOfASlot t.opening.slots) rows
     pub open_at_start : All (IsOpenAtStart first) rows
-    pub grants : All (TellsGrant t) rows
+    pub grants : All (ShowsGrant t) rows
     pub cycles_in_tenures : All (StartsInOne (flat_map tenure_in rows)) (flat_map cycle_in rows)
     pub answers_in_cycles : All (IsAnsweredInCycle (flat_map cycle_in rows)) rows
     pub cycles_of_classes : All (IsOfItsClass rows) rows
-    pub acknowledges : All (TellsAcknowledge t) rows
+    pub acknowledges : All (ShowsAcknowledge t) rows
     pub codes_of_classes : All IsOfItsCode rows
-    pub modifiers : All (TellsModifier t) rows
-    pub addresses : All (TellsAddress t) rows
-    pub directions : All (TellsDirection t) rows
-    pub written_data : All (TellsData t) rows
+    pub modifiers : All (ShowsModifier t) rows
+    pub addresses : All (ShowsAddress t) rows
+    pub directions : All (ShowsDirection t) rows
+    pub written_data : All (ShowsData t) rows
     pub strobe_awaits : All (AwaitsAnswer t end) rows
     pub nothing_else : All (λ told. is_traffic told ≡ true) rows
 
@@ -352,15 +352,15 @@ answered_by_berr (Transfer direction Berr start cycle answer close lanes) = answ
 answered_by_berr other = []
 
 -- rows of cycles with the same start are of the same kind, with the same class, modifier and address, or level
-abbrev pub TellCycleAlike : Row → Row → Type 0
-TellCycleAlike (AddressedCycle start class modifier address end) (AddressedCycle began kind code place stop) =
+abbrev pub AgreeOnCycle : Row → Row → Type 0
+AgreeOnCycle (AddressedCycle start class modifier address end) (AddressedCycle began kind code place stop) =
     start ≡ began → (class ≡ kind) × (modifier ≡ code) × (address ≡ place)
-TellCycleAlike (AddressedCycle start class modifier address end) (FreeCycle began code stop) = start ≢ began
-TellCycleAlike (AddressedCycle start class modifier address end) (InterruptCycle began line stop) = start ≢ began
-TellCycleAlike (FreeCycle start modifier end) (FreeCycle began code stop) = start ≡ began → modifier ≡ code
-TellCycleAlike (FreeCycle start modifier end) (InterruptCycle began line stop) = start ≢ began
-TellCycleAlike (InterruptCycle start level end) (InterruptCycle began line stop) = start ≡ began → level ≡ line
-TellCycleAlike told other = Unit {0}
+AgreeOnCycle (AddressedCycle start class modifier address end) (FreeCycle began code stop) = start ≢ began
+AgreeOnCycle (AddressedCycle start class modifier address end) (InterruptCycle began line stop) = start ≢ began
+AgreeOnCycle (FreeCycle start modifier end) (FreeCycle began code stop) = start ≡ began → modifier ≡ code
+AgreeOnCycle (FreeCycle start modifier end) (InterruptCycle began line stop) = start ≢ began
+AgreeOnCycle (InterruptCycle start level end) (InterruptCycle began line stop) = start ≡ began → level ≡ line
+AgreeOnCycle told other = Unit {0}
 
 -- where both rows have data, these are the same
 abbrev pub HaveSameData : Option Lanes → Option Lanes → Type 0
@@ -370,20 +370,20 @@ HaveSameData (Some lanes) (Some other) = lanes ≡ other
 
 -- rows of transfers with the same start, both answered or both pending, have the same direction; with the same answer,
 -- too, they have the same data, where both have data
-abbrev pub TellTransferAlike : Row → Row → Type 0
-TellTransferAlike (Transfer direction line start cycle answer close lanes)
+abbrev pub AgreeOnTransfer : Row → Row → Type 0
+AgreeOnTransfer (Transfer direction line start cycle answer close lanes)
     (Transfer way from began named reply stop others) =
     start ≡ began → (direction ≡ way) × (answer ≡ reply → HaveSameData lanes others)
-TellTransferAlike (PendingTransfer start direction) (PendingTransfer began way) = start ≡ began → direction ≡ way
-TellTransferAlike told other = Unit {0}
+AgreeOnTransfer (PendingTransfer start direction) (PendingTransfer began way) = start ≡ began → direction ≡ way
+AgreeOnTransfer told other = Unit {0}
 
 -- `rows` and `others` have the same tenures, cycles and transfers, and the same answers, each of the same transfer in
 -- the same cycle; rows of the same cycle or transfer agree
-pub record TellAlike (rows others : List Row) : Type 0 where
+pub record HaveSameTraffic (rows others : List Row) : Type 0 where
   pub tenures : flat_map tenure_in rows ≡ flat_map tenure_in others
   pub cycles : flat_map cycle_in rows ≡ flat_map cycle_in others
   pub transfers : flat_map transfer_in rows ≡ flat_map transfer_in others
   pub dtack : flat_map answered_by_dtack rows ≡ flat_map answered_by_dtack others
   pub berr : flat_map answered_by_berr rows ≡ flat_map answered_by_berr others
-  pub each_cycle : (told other : Row) → Contains rows told → Contains others other → TellCycleAlike told other
-  pub each_transfer : (told other : Row) → Contains rows told → Contains others other → TellTransferAlike told other
+  pub each_cycle : (told other : Row) → Contains rows told → Contains others other → AgreeOnCycle told other
+  pub each_transfer : (told other : Row) → Contains rows told → Contains others other → AgreeOnTransfer told other

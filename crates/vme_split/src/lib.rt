@@ -71,7 +71,7 @@ ghost use Rattle.vme_trace.specs.Verdict.{verdict};
 ghost use Rattle.vme_listing.specs.Recorded.{recorded_rows, rows_in};
 ghost use Rattle.vme_listing.specs.declared.row.Row.{Row};
 ghost use Rattle.vme_listing.specs.declared.row.Version.{Version};
-ghost use Rattle.vme_split.specs.Split.{Ascends, Splits, SplitsStretch, TellAlike};
+ghost use Rattle.vme_split.specs.Split.{Ascends, HaveSameTraffic, Splits, SplitsStretch};
 
 /// The judged edges of every recording, well formed or not, split into exactly what its listing has: all of them
 /// where it conforms, and those before the break where it doesn't. Where the verdict is that the bus is never idle, no
@@ -90,7 +90,7 @@ pub fn older_listings_split()
 /// transfer they have the same direction and, where both have data, the same data.
 pub fn split_is_unique()
     ensures { (t : Trace) (first end : ℕ) (rows others : List Row)
-        → SplitsStretch t first end rows → SplitsStretch t first end others → TellAlike rows others }
+        → SplitsStretch t first end rows → SplitsStretch t first end others → HaveSameTraffic rows others }
 {}
 
 /// `those p first end`, by which the laws above list instants, has each instant of the range at which `p` holds, once

@@ -15,7 +15,7 @@ use Rattle.vme_trace.specs.WellFormed.{malformed_step}
 use Rattle.vme_trace.specs.declared.step.Step.{Step}
 use Rattle.vme_trace.specs.declared.verdict.Break.{Break}
 use Rattle.vme_audit.specs.Allowances.{cut_at, faults, is_fault, stopped_at}
-use Rattle.vme_audit.specs.Parts.{breaks, cut_behind}
+use Rattle.vme_audit.specs.Parts.{breaks, cut_after}
 use Rattle.vme_audit.specs.declared.allowance.Allowance.{Allowance}
 use Rattle.vme_summary.proofs.Sound.{sound_apart}
 use Rattle.vme_auditor.specs.Growth.{StepBreaks}
@@ -32,19 +32,19 @@ pub is_below : (i j : ℕ) → i < j → nat_lt i j ≡ true
 is_below i j h = grind (arith, nat_tests)
 
 -- an element of the first, or of the second, of two joined lists
-get_front : {X : Type 0} (xs ys : List X) (i : ℕ) → i < length xs → slice_get (xs ++ ys) i ≡ slice_get xs i
-get_front [] ys i h = absurd (omega arith)
-get_front (x ∷ xs) ys zero h = refl
-get_front (x ∷ xs) ys (suc i) h = get_front xs ys i (omega arith)
+get_in_first : {X : Type 0} (xs ys : List X) (i : ℕ) → i < length xs → slice_get (xs ++ ys) i ≡ slice_get xs i
+get_in_first [] ys i h = absurd (omega arith)
+get_in_first (x ∷ xs) ys zero h = refl
+get_in_first (x ∷ xs) ys (suc i) h = get_in_first xs ys i (omega arith)
 
-get_behind : {X : Type 0} (xs ys : List X) (i : ℕ) → slice_get (xs ++ ys) (length xs + i) ≡ slice_get ys i
-get_behind [] ys i = ap (slice_get ys) (plain i)
+get_in_second : {X : Type 0} (xs ys : List X) (i : ℕ) → slice_get (xs ++ ys) (length xs + i) ≡ slice_get ys i
+get_in_second [] ys i = ap (slice_get ys) (plain i)
   where
     plain : (i : ℕ) → 0 + i ≡ i
     plain i = omega arith
-get_behind (x ∷ xs) ys i =
+get_in_second (x ∷ xs) ys i =
     let onward : suc (length xs) + i ≡ suc (length xs + i) = omega arith in
-    ap (slice_get (x ∷ xs ++ ys)) onward ∙ get_behind xs ys i
+    ap (slice_get (x ∷ xs ++ ys)) onward ∙ get_in_second xs ys i
 
 -- the laws of breaks that these proofs use
 abbrev pub StepsBreak : Type 0
@@ -57,7 +57,7 @@ BreaksWithin = (t : Trace) → malformed_step t ≡ None → t.opening.slots ≤
     → All (λ (b : Break). b.instant ≤ length t.steps) (breaks t)
 
 -- a recording cut at or after its end is the whole one
-cut_whole : (t : Trace) (j : ℕ) → length t.steps ≤ j → cut_behind t j ≡ t
+cut_whole : (t : Trace) (j : ℕ) → length t.steps ≤ j → cut_after t j ≡ t
 cut_whole t j le = ap (λ (x : List Step). record { opening = t.opening; steps = x }) (take_all j t.steps le)
 
 pub steps_apart : (t : Trace) (s : Step) (steps : List Step) → with_steps (with_steps t (s ∷ [])) steps
@@ -146,7 +146,7 @@ module _ (allowances : List Allowance) where
       ∙ ap (λ (bs : List Break). cut_at allowances next (slice_get bs (n - 1)))
       (filter-append (is_fault allowances) (breaks t) (option_to_list step.found))
       ∙ ap (λ i. cut_at allowances next (slice_get (so_far ++ own) i)) at
-      ∙ ap (cut_at allowances next) (get_behind so_far own (n - 1 - length so_far))
+      ∙ ap (cut_at allowances next) (get_in_second so_far own (n - 1 - length so_far))
       ∙ cut_last next own (n - 1 - length so_far)
       (All-filter (is_fault allowances) (λ (b : Break). b.instant ≡ length next.steps) (option_to_list step.found)
       (own_break (length t.steps) (length next.steps) step.found last step.own))
@@ -188,7 +188,7 @@ module _ (allowances : List Allowance) where
             ∙ ap (λ (bs : List Break). cut_at allowances (with_steps t steps) (slice_get bs (n - 1)))
             (filter-append (is_fault allowances) (breaks t) on.more)
             ∙ ap (cut_at allowances (with_steps t steps))
-            (get_front so_far (faults allowances on.more) (n - 1) enough)
+            (get_in_first so_far (faults allowances on.more) (n - 1) enough)
             ∙ cut_before t steps so_far (n - 1)
             (All-filter (is_fault allowances) (λ (b : Break). b.instant ≤ length t.steps) (breaks t)
             (within t (front_sound t steps ok) few)) enough
@@ -243,12 +243,12 @@ module _ (allowances : List Allowance) where
       ap (λ (bs : List Break). cut_at allowances t (slice_get (faults allowances bs) (n - 1))) e
 
 -- what is read of a well-formed recording is well formed
-cut_sound : (t : Trace) (j : ℕ) → malformed_step t ≡ None → malformed_step (cut_behind t j) ≡ None
+cut_sound : (t : Trace) (j : ℕ) → malformed_step t ≡ None → malformed_step (cut_after t j) ≡ None
 cut_sound t j ok =
-    let whole : malformed_step (with_steps (cut_behind t j) (drop j t.steps)) ≡ None =
+    let whole : malformed_step (with_steps (cut_after t j) (drop j t.steps)) ≡ None =
     subst (λ (x : List Step). malformed_step (record { opening = t.opening; steps = x }) ≡ None)
     (sym (take-append-drop j t.steps)) ok in
-    front_sound (cut_behind t j) (drop j t.steps) whole
+    front_sound (cut_after t j) (drop j t.steps) whole
 
 pub read_sound : (allowances : List Allowance) (stop : Option ℕ) (t : Trace) → malformed_step t ≡ None
     → malformed_step (read_by allowances stop t) ≡ None

@@ -32,7 +32,7 @@ takes_none allowances stop o audited c none same broken unreadable allowed =
     record {
       few = omega (arith, broken, unreadable, allowed);
       fits = omega (arith, length_is);
-      going = λ h. same;
+      all_read = λ h. same;
       read = λ ok. same ∙ sym (reads_unbroken allowances stop given none);
       counted = λ ok. subst (AreBreakCountsOf c allowances) (sym same) counted;
       stopped = λ ok. ap (stops_by stop) (faults_are allowances c given counted);
@@ -55,7 +55,7 @@ module _ (grow : StepsBreak) (within : BreaksWithin) (allowances : List Allowanc
         record {
           few = taken.few;
           fits = taken.fits;
-          going = λ e. absurd (cc);
+          all_read = λ e. absurd (cc);
           read =
               λ ok.
               taken.read (front_sound given (s ∷ []) ok)
@@ -65,23 +65,23 @@ module _ (grow : StepsBreak) (within : BreaksWithin) (allowances : List Allowanc
               λ ok. h ∙ sym (stays_stopped allowances grow within stop given (s ∷ []) ok slots (is_over ok));
         }
 
-    pub tells_none : malformed_step next ≡ None → breaks (read_by allowances stop next)
+    pub no_break_added : malformed_step next ≡ None → breaks (read_by allowances stop next)
         ≡ breaks (read_by allowances stop given) ++ []
-    tells_none ok =
+    no_break_added ok =
         ap (λ (t : Trace). breaks t) (reads_no_more allowances grow within stop given (s ∷ []) ok slots (is_over ok))
         ∙ sym (append-nil (breaks (read_by allowances stop given)))
 
   -- as long as the audit hasn't stopped
   module _ (h : stops_by stop (faults_counted c) ≡ false) (later : Trace) (on : later ≡ with_steps audited (s ∷ []))
     where
-      goes : malformed_step next ≡ None → is_stopped allowances stop given ≡ false
-      goes ok = sym (taken.stopped (front_sound given (s ∷ []) ok)) ∙ h
+      is_unstopped : malformed_step next ≡ None → is_stopped allowances stop given ≡ false
+      is_unstopped ok = sym (taken.stopped (front_sound given (s ∷ []) ok)) ∙ h
 
       pub same_later : later ≡ next
-      same_later = on ∙ ap (λ (t : Trace). with_steps t (s ∷ [])) (taken.going h)
+      same_later = on ∙ ap (λ (t : Trace). with_steps t (s ∷ [])) (taken.all_read h)
 
       reads_next : malformed_step next ≡ None → read_by allowances stop next ≡ next
-      reads_next ok = reads_step allowances stop given s (grow given s ok slots) (goes ok)
+      reads_next ok = reads_step allowances stop given s (grow given s ok slots) (is_unstopped ok)
 
       takes_step : (d : BreakCounts) → all_counted d ≤ all_counted c + 1
           → (length audited.steps ≡ 2 ^ 64 - 1 → ⊥) → (malformed_step next ≡ None → AreBreakCountsOf d allowances later)
@@ -94,7 +94,7 @@ module _ (grow : StepsBreak) (within : BreaksWithin) (allowances : List Allowanc
           record {
             few = omega (arith, longer, taken.few, one_more);
             fits = below_limit (length audited.steps) (length later.steps) longer taken.fits room;
-            going = λ e. same_later;
+            all_read = λ e. same_later;
             read = λ ok. same_later ∙ sym (reads_next ok);
             counted = counted;
             stopped = λ ok. ap (stops_by stop) (faults_are allowances d next (at_next ok));
@@ -106,14 +106,14 @@ module _ (grow : StepsBreak) (within : BreaksWithin) (allowances : List Allowanc
       sound_later : malformed_step next ≡ None → malformed_step later ≡ None
       sound_later ok = subst (λ (t : Trace). malformed_step t ≡ None) (sym same_later) ok
 
-      pub tells_found : (found : Option Break)
+      pub found_is_added : (found : Option Break)
           → (malformed_step later ≡ None → breaks later ≡ breaks audited ++ option_to_list found)
           → malformed_step next ≡ None → breaks (read_by allowances stop next)
           ≡ breaks (read_by allowances stop given) ++ option_to_list found
-      tells_found found told ok =
+      found_is_added found told ok =
           ap (λ (t : Trace). breaks t) (reads_next ok ∙ sym same_later) ∙ told (sound_later ok)
           ∙ ap (λ (t : Trace). breaks t ++ option_to_list found)
-          (taken.going h ∙ sym (reads_all allowances stop given (goes ok)))
+          (taken.all_read h ∙ sym (reads_all allowances stop given (is_unstopped ok)))
 
       module _ (room : length audited.steps ≡ 2 ^ 64 - 1 → ⊥) where
         -- a step that breaks a rule, and one that doesn't

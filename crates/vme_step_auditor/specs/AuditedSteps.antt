@@ -15,7 +15,7 @@ pub record HasAuditedSteps (allowances : List Allowance) (stop : Option ℕ) (gi
     : Type 0 where
   pub few : all_counted c ≤ length audited.steps
   pub fits : length audited.steps ≤ 2 ^ 64 - 1
-  pub going : stops_by stop (faults_counted c) ≡ false → audited ≡ given
+  pub all_read : stops_by stop (faults_counted c) ≡ false → audited ≡ given
   pub read : malformed_step given ≡ None → audited ≡ read_by allowances stop given
   pub counted : malformed_step given ≡ None → AreBreakCountsOf c allowances audited
   pub stopped : malformed_step given ≡ None → stops_by stop (faults_counted c) ≡ is_stopped allowances stop given

@@ -8,8 +8,8 @@ use Rattle.vme_audit_lines.specs.declared.category.BreakCategory.TheVariants as 
 use Rattle.vme_step_auditor.specs.declared.categorized_break.CategorizedBreak.{CategorizedBreak}
 
 -- a break without its category
-abbrev pub told_break : CategorizedBreak → Break
-told_break s = as_break s.found
+abbrev pub found_break : CategorizedBreak → Break
+found_break s = as_break s.found
 
 -- what one more break adds to each count, by its category
 abbrev pub as_broken : BreakCategory → ℕ

@@ -11,7 +11,7 @@ ghost use Rattle.vme_auditor.specs.Breaks.{as_break};
 ghost use Rattle.vme_auditor.specs.Findings.{AreBreakCountsOf, AreFindingsOf};
 ghost use Rattle.vme_audit_lines.specs.AuditLines.{category_of};
 ghost use Rattle.vme_step_auditor.specs.ReadBy.{has_stopped, read_of, stops_by};
-ghost use Rattle.vme_step_auditor.specs.Counting.{faults_counted, told_break};
+ghost use Rattle.vme_step_auditor.specs.Counting.{faults_counted, found_break};
 
 use crate::categorized_break::{CategorizedBreak, count};
 use std::marker::Model;
@@ -95,9 +95,9 @@ impl<'a> StepAuditor<'a> {
         ensures given { OnOk result (self.new
             ≡ record self.old { recording = with_steps self.old.recording (step.now ∷ []) }) }
         ensures told { malformed_step self.new.recording ≡ None
-            → IfOk result (λ told. breaks (read_of self.new)
-            ≡ breaks (read_of self.old) ++ option_to_list (option_map told_break told)) }
-        ensures category { IfOk result (λ told. IfSome told (λ s.
+            → IfOk result (λ found. breaks (read_of self.new)
+            ≡ breaks (read_of self.old) ++ option_to_list (option_map found_break found)) }
+        ensures category { IfOk result (λ found. IfSome found (λ s.
             s.category ≡ category_of self.old.allowances (as_break s.found))) }
         ensures too_many { OnErr result (length self.old.recording.steps ≡ 2 ^ 64 - 1) }
         ensures stays { OnErr result (self.new ≡ self.old) }

@@ -18,7 +18,7 @@ use Rattle.vme_bind.specs.TextCapture.{BindingFails, CaptureFailsBy, DumpFails, 
 use Rattle.vme_bind.specs.TextCapture.{recording_read}
 use Rattle.vme_bind.specs.SpeculativeReading.{with_recording}
 use Rattle.vme_bind.specs.TextPieces.{TextReached}
-use Rattle.vme_bind.specs.TextReading.{TextReading, body_reading, reading_ahead, reading_behind, reading_of_text}
+use Rattle.vme_bind.specs.TextReading.{TextReading, body_reading, reading_ahead, reading_after, reading_of_text}
 use Rattle.vme_step_reader.specs.StepReading.{StepReading, whole_reading}
 use Rattle.vme_step_reader.proofs.PieceSteps.{pieces-joined}
 use Rattle.vme_bind.specs.declared.fault.BindFault.{BindFault}
@@ -46,7 +46,7 @@ definitions-fail b text fault is = ap (recording_read b) (dump_of-header text) �
     by_bound_groups reading (Ok x) e = cc
     by_bound_groups reading (Err own) e = cc
 
-    by_header : (r : Result (Defined (List Variable)) VcdFault) → (or_dump r >>= reading_behind b) ≡ Err (Dump fault)
+    by_header : (r : Result (Defined (List Variable)) VcdFault) → (or_dump r >>= reading_after b) ≡ Err (Dump fault)
         → recording_read b (r >>= contents_behind) ≡ Err (Dump fault)
     by_header (Ok d) e = absurd (by_bound_groups (λ bound_groups. body_reading b.slots bound_groups d.head)
         (bound_groups_in d.variables b.assignments) e)
@@ -80,11 +80,11 @@ IsApart front k = (line : ℕ) (rest : List ℕ) → tokens_from line (take k fr
     ≡ tokens_from line (take k front) ++ tokens_from (line_behind line (take k front)) rest
 
 -- the bytes end with a space, if there are any
-abbrev pub EndsBehindSpace : List ℕ → Type 0
-EndsBehindSpace cut = 0 < length cut → is_space (get_or cut (length cut - 1) 0) ≡ true
+abbrev pub EndsAfterSpace : List ℕ → Type 0
+EndsAfterSpace cut = 0 < length cut → is_space (get_or cut (length cut - 1) 0) ≡ true
 
 pub cut-space : (front : List ℕ) (k : ℕ) → k ≤ length front
-    → (0 < k → is_space (get_or front (k - 1) 0) ≡ true) → EndsBehindSpace (take k front)
+    → (0 < k → is_space (get_or front (k - 1) 0) ≡ true) → EndsAfterSpace (take k front)
 cut-space front k within space some =
     let e : length (take k front) ≡ k = length-take-le k front within in
     ap (λ (n : ℕ). is_space (get_or (take k front) (n - 1) 0)) e
@@ -115,7 +115,7 @@ module _ (b : BoundLines) (front : List ℕ) (k : ℕ) (apart : IsApart front k)
       ∙ ap (λ (bytes : List ℕ). bytes ++ rest) (sym (drop-append-le n cut (drop k front) long)
       ∙ ap (drop n) (take-append-drop k front))
 
-  begins-cut : (r : StepReading) (n : ℕ) → EndsBehindSpace cut → n ≤ length cut
+  begins-cut : (r : StepReading) (n : ℕ) → EndsAfterSpace cut → n ≤ length cut
       → line_behind r.speculative.body.line (drop n cut) ≡ line_behind 1 cut → BeginsAt r n → (rest : List ℕ)
       → reading_of_text b (front ++ rest) ≡ Ok (whole_reading r (drop n front ++ rest))
   begins-cut r n space long line begins rest =
@@ -128,7 +128,7 @@ module _ (b : BoundLines) (front : List ℕ) (k : ℕ) (apart : IsApart front k)
       ∙ ap (whole_reading r) (goes_on n rest long))
 
   -- a beginning of each text that begins with the tokens of `cut` is one of `front` with any bytes after it
-  pub begins-each : (result : Result (Option (StepReading × ℕ)) CaptureFault) → EndsBehindSpace cut
+  pub begins-each : (result : Result (Option (StepReading × ℕ)) CaptureFault) → EndsAfterSpace cut
       → IfOk result (λ found. IfSome found (λ begun. begun.1 ≤ length cut))
       → IfOk result (λ found. IfSome found (λ begun.
       line_behind begun.0.speculative.body.line (drop begun.1 cut) ≡ line_behind 1 cut))

@@ -26,8 +26,8 @@ use Rattle.vme_summary.proofs.Sound.{sound_apart}
 use Rattle.vme_step_reader.specs.StepReading.{StepReading, whole_reading}
 
 -- the recording `t` that was made before is only a prefix of the reading, and changes nothing else of it
-abbrev pub IsPrefix : Type 0
-IsPrefix = (w : SpeculativeReached) (t : Trace) (opening : Levels) (ts more : List Token)
+abbrev pub IsIndependentOfRecorded : Type 0
+IsIndependentOfRecorded = (w : SpeculativeReached) (t : Trace) (opening : Levels) (ts more : List Token)
     → reading_ahead (with_recording t w) ts more
     ≡ following t (reading_ahead (with_recording (record { opening = opening; steps = [] }) w) ts more)
 
@@ -38,11 +38,11 @@ following-twice given r x = ap (λ (steps : List Step). record x { recorded = re
 
 -- ---- a piece that is read for its steps alone
 
-module _ (is_front : IsPrefix) (w : SpeculativeReached) (none : Trace) (empty : none.steps ≡ []) where
+module _ (is_front : IsIndependentOfRecorded) (w : SpeculativeReached) (none : Trace) (empty : none.steps ≡ []) where
   -- reading after a recording `given` is reading after none, with `given` before the result
-  alone : (given : Trace) (ts more : List Token) → reading_ahead (with_recording given w) ts more
+  after_none : (given : Trace) (ts more : List Token) → reading_ahead (with_recording given w) ts more
       ≡ following given (reading_ahead (with_recording none w) ts more)
-  alone given ts more =
+  after_none given ts more =
       is_front w given none.opening ts more
       ∙ ap (λ (steps : List Step). following given (reading_ahead
       (with_recording (record { opening = none.opening; steps = steps }) w) ts more)) (sym empty)
@@ -54,7 +54,7 @@ module _ (is_front : IsPrefix) (w : SpeculativeReached) (none : Trace) (empty : 
       → (given : Trace) (more : List Token) → reading_ahead (with_recording given w) ts more
       ≡ reading_ahead (with_recording (with_steps given r.steps) w2) [] more
   piece-leaves w2 r ts leaves given more =
-      alone given ts more
+      after_none given ts more
       ∙ ap (following given) (leaves more ∙ is_front w2 r none.opening [] more)
       ∙ following-twice given r (reading_ahead (with_recording (record { opening = none.opening; steps = [] }) w2) []
       more)
@@ -65,14 +65,14 @@ module _ (is_front : IsPrefix) (w : SpeculativeReached) (none : Trace) (empty : 
       (more : List Token) → StopsAs line kind r time (reading_ahead (with_recording none w) ts more)
       → StopsAs line kind (with_steps given r.steps) time (reading_ahead (with_recording given w) ts more)
   piece-stops line Memory r time ts given more stops = stops
-  piece-stops line kind r time ts given more stops = alone given ts more ∙ ap (following given) stops
+  piece-stops line kind r time ts given more stops = after_none given ts more ∙ ap (following given) stops
 
   -- a piece that ends the text ends it so after any recording `given`
   pub piece-ends : (r : Trace) (time : ℕ) (ts more : List Token) → reading_ahead (with_recording none w) ts more
       ≡ record { recorded = r; fault = None; time = time }
       → (given : Trace) → reading_ahead (with_recording given w) ts more
       ≡ record { recorded = with_steps given r.steps; fault = None; time = time }
-  piece-ends r time ts more ends given = alone given ts more ∙ ap (following given) ends
+  piece-ends r time ts more ends given = after_none given ts more ∙ ap (following given) ends
 
 -- ---- bytes as tokens
 
@@ -166,8 +166,8 @@ time-here r =
     r.speculative.body.place)
 
 -- what was given is a prefix of what is recorded, so it is well formed if that is
-pub given-formed : IsPrefix → (r : StepReading) (rest : List ℕ) → malformed_step (whole_reading r rest).recorded ≡ None
-    → malformed_step r.given ≡ None
+pub given-formed : IsIndependentOfRecorded → (r : StepReading) (rest : List ℕ)
+    → malformed_step (whole_reading r rest).recorded ≡ None → malformed_step r.given ≡ None
 given-formed is_front r rest formed =
     let ts : List Token = tokens_from r.speculative.body.line rest in
     let more : TextReading =
@@ -211,7 +211,7 @@ begun-sound t w opening made steps is none empty formed rest =
     (sym is) (formed (tokens_from w.body.line rest) []))
 
 -- what was given is a prefix of what is recorded
-pub given-front : IsPrefix → (r : StepReading) (rest : List ℕ) → (steps : List Step)
+pub given-front : IsIndependentOfRecorded → (r : StepReading) (rest : List ℕ) → (steps : List Step)
     × ((whole_reading r rest).recorded ≡ with_steps r.given steps)
 given-front is_front r rest =
     let ts : List Token = tokens_from r.speculative.body.line rest in

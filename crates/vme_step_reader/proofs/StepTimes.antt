@@ -23,7 +23,7 @@ use Rattle.vme_bind.specs.Recording.{step_between}
 use Rattle.vme_bind.specs.SpeculativeReading.{with_recording}
 use Rattle.vme_bind.specs.TextReading.{TextReading, following, reading_ahead, reading_made, reading_until_fault}
 use Rattle.vme_step_reader.specs.StepReading.{StepReading, whole_reading}
-use Rattle.vme_step_reader.proofs.PieceSteps.{IsPrefix, time-here}
+use Rattle.vme_step_reader.proofs.PieceSteps.{IsIndependentOfRecorded, time-here}
 
 -- ---- the time after an item
 
@@ -284,12 +284,12 @@ module _ (from : ℕ) where
 -- ---- the steps that follow what was given
 
 -- what is recorded after what was given
-abbrev behind : StepReading → List ℕ → TextReading
-behind r rest = reading_ahead (with_recording (record { opening = r.given.opening; steps = [] }) r.speculative)
+abbrev after_given : StepReading → List ℕ → TextReading
+after_given r rest = reading_ahead (with_recording (record { opening = r.given.opening; steps = [] }) r.speculative)
     (tokens_from r.speculative.body.line rest) []
 
-behind-times : (r : StepReading) (rest : List ℕ) → TimesOf r.speculative.body.progress.time (behind r rest)
-behind-times r rest =
+after_given-times : (r : StepReading) (rest : List ℕ) → TimesOf r.speculative.body.progress.time (after_given r rest)
+after_given-times r rest =
     let none : Trace = record { opening = r.given.opening; steps = [] } in
     let time = r.speculative.body.progress.time in
     items-times time r.speculative.body.nets
@@ -302,41 +302,41 @@ behind-times r rest =
       };
     })
 
-module _ (is_front : IsPrefix) (r : StepReading) (rest : List ℕ) (more : List Step)
+module _ (is_front : IsIndependentOfRecorded) (r : StepReading) (rest : List ℕ) (more : List Step)
     (is : (whole_reading r rest).recorded ≡ with_steps r.given more) where
-  reads : whole_reading r rest ≡ following r.given (behind r rest)
+  reads : whole_reading r rest ≡ following r.given (after_given r rest)
   reads = is_front r.speculative r.given r.given.opening (tokens_from r.speculative.body.line rest) []
 
-  these : (behind r rest).recorded.steps ≡ more
+  these : (after_given r rest).recorded.steps ≡ more
   these =
-      append_cancel_left r.given.steps (behind r rest).recorded.steps more
+      append_cancel_left r.given.steps (after_given r rest).recorded.steps more
       (sym (ap (λ (x : TextReading). x.recorded.steps) reads) ∙ ap (λ (t : Trace). t.steps) is)
 
-  end_is : (whole_reading r rest).time ≡ (behind r rest).time
+  end_is : (whole_reading r rest).time ≡ (after_given r rest).time
   end_is = ap (λ (x : TextReading). x.time) reads
 
   pub time-goes-on : (whole_reading r []).time ≤ (whole_reading r rest).time
-  time-goes-on = omega (arith, (behind-times r rest).late, time-here r, end_is)
+  time-goes-on = omega (arith, (after_given-times r rest).late, time-here r, end_is)
 
   pub steps-follow : All (λ (step : Step). (whole_reading r []).time ≤ step.time) more
   steps-follow =
       subst (λ (ss : List Step). All (λ (step : Step). (whole_reading r []).time ≤ step.time) ss) these
-      (All-weaker (λ (s : Step). (r.speculative.body.progress.time ≤ s.time) × (s.time ≤ (behind r rest).time))
+      (All-weaker (λ (s : Step). (r.speculative.body.progress.time ≤ s.time) × (s.time ≤ (after_given r rest).time))
       (λ (s : Step). (whole_reading r []).time ≤ s.time) (λ s p. omega (arith, p.0, time-here r))
-      (behind r rest).recorded.steps (behind-times r rest).up_to)
+      (after_given r rest).recorded.steps (after_given-times r rest).up_to)
 
   pub steps-within : All (λ (step : Step). step.time ≤ (whole_reading r rest).time) more
   steps-within =
       subst (λ (ss : List Step). All (λ (step : Step). step.time ≤ (whole_reading r rest).time) ss) these
-      (All-weaker (λ (s : Step). (r.speculative.body.progress.time ≤ s.time) × (s.time ≤ (behind r rest).time))
+      (All-weaker (λ (s : Step). (r.speculative.body.progress.time ≤ s.time) × (s.time ≤ (after_given r rest).time))
       (λ (s : Step). s.time ≤ (whole_reading r rest).time) (λ s p. omega (arith, p.1, end_is))
-      (behind r rest).recorded.steps (behind-times r rest).up_to)
+      (after_given r rest).recorded.steps (after_given-times r rest).up_to)
 
   pub steps-before : (fault : VcdFault) → (whole_reading r rest).fault ≡ Some fault
       → All (λ (step : Step). step.time < (whole_reading r rest).time) more
   steps-before fault faulty =
       subst (λ (ss : List Step). All (λ (step : Step). step.time < (whole_reading r rest).time) ss) these
-      (All-weaker (λ (s : Step). (r.speculative.body.progress.time ≤ s.time) × (s.time < (behind r rest).time))
+      (All-weaker (λ (s : Step). (r.speculative.body.progress.time ≤ s.time) × (s.time < (after_given r rest).time))
       (λ (s : Step). s.time < (whole_reading r rest).time) (λ s p. omega (arith, p.1, end_is))
-      (behind r rest).recorded.steps
-      ((behind-times r rest).before fault (sym (ap (λ (x : TextReading). x.fault) reads) ∙ faulty)))
+      (after_given r rest).recorded.steps
+      ((after_given-times r rest).before fault (sym (ap (λ (x : TextReading). x.fault) reads) ∙ faulty)))

@@ -42,7 +42,7 @@ const BODY: &str =
 const STEPS: &str = "#0 AS=1 DTACK=1\n#10 AS=0\n#30 DTACK=0\n#40 AS=1\n#50 DTACK=1\n";
 
 /// The definitions, and a body after them.
-fn behind_definitions(alloc: Global, body: &str) -> Result<Vec<u8>, AllocError> {
+fn after_definitions(alloc: Global, body: &str) -> Result<Vec<u8>, AllocError> {
     let mut text = Vec::from_slice(alloc, DEFINITIONS.as_bytes())?;
     text.extend_from_slice(body.as_bytes())?;
     Ok(text)
@@ -187,7 +187,7 @@ fn read_up_to(
 }
 
 /// Whether reading a dump up to each of `ends` gives the steps `wanted`, and this fault.
-fn tells_up_to(
+fn has_steps_up_to(
     alloc: Global,
     binding: &Binding,
     dump: &[u8],
@@ -203,8 +203,8 @@ fn tells_up_to(
     is_end && text.as_slice() == wanted.as_bytes()
 }
 
-/// As `tells_up_to`, where `size` bytes more come at once.
-fn tells(
+/// As `has_steps_up_to`, where `size` bytes more come at once.
+fn has_steps(
     alloc: Global,
     binding: &Binding,
     dump: &[u8],
@@ -213,13 +213,13 @@ fn tells(
     fault: StopFault,
 ) -> bool {
     match ends_of(alloc, dump.len(), size) {
-        Ok(ends) => tells_up_to(alloc, binding, dump, &ends, wanted, fault),
+        Ok(ends) => has_steps_up_to(alloc, binding, dump, &ends, wanted, fault),
         Err(_) => false,
     }
 }
 
-/// As `tells`, for each of `SIZES`.
-fn tells_by_each_size(
+/// As `has_steps`, for each of `SIZES`.
+fn has_steps_by_each_size(
     alloc: Global,
     binding: &Binding,
     dump: &[u8],
@@ -228,23 +228,23 @@ fn tells_by_each_size(
 ) -> bool {
     let mut same = true;
     for size in SIZES.iter() {
-        same &= tells(alloc, binding, dump, *size, wanted, fault);
+        same &= has_steps(alloc, binding, dump, *size, wanted, fault);
     }
     same
 }
 
-/// As `tells_by_each_size`, by the binding `LINES`.
-fn tells_always(alloc: Global, dump: &[u8], wanted: &str, fault: StopFault) -> bool {
+/// As `has_steps_by_each_size`, by the binding `LINES`.
+fn has_steps_always(alloc: Global, dump: &[u8], wanted: &str, fault: StopFault) -> bool {
     match bound(alloc) {
-        Some(binding) => tells_by_each_size(alloc, &binding, dump, wanted, fault),
+        Some(binding) => has_steps_by_each_size(alloc, &binding, dump, wanted, fault),
         None => false,
     }
 }
 
-/// As `tells_always`, of a body after the definitions.
-fn body_tells(alloc: Global, body: &str, wanted: &str, fault: StopFault) -> bool {
-    match behind_definitions(alloc, body) {
-        Ok(dump) => tells_always(alloc, &dump, wanted, fault),
+/// As `has_steps_always`, of a body after the definitions.
+fn body_has_steps(alloc: Global, body: &str, wanted: &str, fault: StopFault) -> bool {
+    match after_definitions(alloc, body) {
+        Ok(dump) => has_steps_always(alloc, &dump, wanted, fault),
         Err(_) => false,
     }
 }
@@ -264,7 +264,7 @@ static SIZES: [usize; 7] = [1, 2, 3, 7, 19, 100, 1000];
 
 #[test]
 fn the_steps_of_pieces_are_those_of_the_text(rt: HostRuntime) {
-    assert!(rt; body_tells(rt.alloc(), BODY, STEPS, None));
+    assert!(rt; body_has_steps(rt.alloc(), BODY, STEPS, None));
 }
 
 /// A body, its first fault, the steps of the instants that end before it, and the last time before it.
@@ -301,11 +301,11 @@ static STOPS: [(&str, u64, FaultKind, &str, u64); 5] = [
 ];
 
 #[test]
-fn a_fault_comes_behind_the_steps_before_it(rt: HostRuntime) {
+fn a_fault_comes_after_the_steps_before_it(rt: HostRuntime) {
     for (body, line, kind, steps, last) in STOPS.iter() {
         let (line, kind) = (*line, *kind);
         let fault = Some((VcdFault { line, kind }, *last));
-        assert!(rt; body_tells(rt.alloc(), body, steps, fault), "{body}");
+        assert!(rt; body_has_steps(rt.alloc(), body, steps, fault), "{body}");
     }
 }
 
@@ -419,7 +419,7 @@ fn is_unknown(alloc: Global, dump: &[u8]) -> bool {
 fn definitions_may_end_as_the_text_does(rt: HostRuntime) {
     let dump = DEFINITIONS.as_bytes().strip_suffix(b"\n").unwrap_or(&[]);
     assert!(rt; is_unknown(rt.alloc(), dump));
-    assert!(rt; tells_always(rt.alloc(), dump, "", None));
+    assert!(rt; has_steps_always(rt.alloc(), dump, "", None));
 }
 
 /// Pieces of a body, and the last time after each.
@@ -431,7 +431,7 @@ static TIMES: [(&str, u64); 3] = [
 
 /// A reader that has read the definitions.
 fn begun(alloc: Global) -> Option<StepReader> {
-    let front = behind_definitions(alloc, "#0 1p").ok()?;
+    let front = after_definitions(alloc, "#0 1p").ok()?;
     let (reader, count) = begin_steps(alloc, &bound(alloc)?, front.as_slice()).ok()??;
     if count == DEFINITIONS.len() && reader.time() == 0 {
         Some(reader)
@@ -441,7 +441,7 @@ fn begun(alloc: Global) -> Option<StepReader> {
 }
 
 /// The reader after a piece, if it takes all of the piece.
-fn behind(alloc: Global, reader: StepReader, piece: &str) -> Option<StepReader> {
+fn after_piece(alloc: Global, reader: StepReader, piece: &str) -> Option<StepReader> {
     let (next, _, count) = reader.take(alloc, piece.as_bytes()).ok()?;
     if count == piece.len() {
         Some(next)
@@ -455,7 +455,7 @@ fn behind(alloc: Global, reader: StepReader, piece: &str) -> Option<StepReader> 
 fn first_wrong_time(alloc: Global) -> Option<&'static str> {
     let mut reader = begun(alloc)?;
     for (piece, time) in TIMES.iter() {
-        reader = behind(alloc, reader, piece)?;
+        reader = after_piece(alloc, reader, piece)?;
         if reader.time() != *time {
             return Some(*piece);
         }
@@ -498,7 +498,7 @@ fn is_refusal(fault: CaptureFault) -> bool {
 }
 
 /// Whether a dump has five steps, or memory is refused.
-fn is_told_or_refused(alloc: Global, binding: &Binding, dump: &[u8]) -> bool {
+fn has_steps_or_is_refused(alloc: Global, binding: &Binding, dump: &[u8]) -> bool {
     match begin_last_steps(alloc, binding, dump) {
         Ok((reader, count)) => {
             is_taken_or_refused(alloc, reader, dump.get(count..).unwrap_or(&[]))
@@ -507,17 +507,17 @@ fn is_told_or_refused(alloc: Global, binding: &Binding, dump: &[u8]) -> bool {
     }
 }
 
-/// As `is_told_or_refused`, by the binding `LINES`, if there is memory for it.
+/// As `has_steps_or_is_refused`, by the binding `LINES`, if there is memory for it.
 fn is_bound_or_refused(alloc: Global, dump: &[u8]) -> bool {
     match read_binding(alloc, LINES.as_bytes()) {
-        Ok(binding) => is_told_or_refused(alloc, &binding, dump),
+        Ok(binding) => has_steps_or_is_refused(alloc, &binding, dump),
         Err(fault) => fault.kind == BindFaultKind::Memory,
     }
 }
 
 /// As `is_bound_or_refused`, of `BODY`, if there is memory for the text.
 fn is_want_told(alloc: Global) -> bool {
-    match behind_definitions(alloc, BODY) {
+    match after_definitions(alloc, BODY) {
         Ok(dump) => is_bound_or_refused(alloc, &dump),
         Err(_) => true,
     }

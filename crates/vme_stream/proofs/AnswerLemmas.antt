@@ -27,9 +27,9 @@ use Rattle.vme_stream.specs.declared.refusal.Input.{Input}
 use Rattle.vme_stream.specs.declared.refusal.Input.TheVariants.{Binding, Dump}
 use Rattle.vme_stream.specs.declared.refusal.Refusal.{Refusal}
 use Rattle.vme_stream.specs.declared.refusal.Refusal.TheVariants.{TooLong, BadBinding, BadDump, Memory}
-use Rattle.vme_stream.specs.Answers.{AnswerGives, whole, or_bad_binding, or_bad_dump, binding_read, dump_read}
-use Rattle.vme_stream.specs.Answers.{capture_by, capture_read, judgement_of, recorded_by, recording_by, recording_read}
-use Rattle.vme_stream.specs.Answers.{verdict_in_blocks}
+use Rattle.vme_stream.specs.Answers.{AnswerGives, binding_read, bytes_within_limit, dump_read, or_bad_binding}
+use Rattle.vme_stream.specs.Answers.{capture_by, capture_read, judgement_of, or_bad_dump, recorded_by, recording_by}
+use Rattle.vme_stream.specs.Answers.{recording_read, verdict_in_blocks}
 use Rattle.vme_stream.specs.Inputs.{IsInTime, IsReading, longest_input}
 use Rattle.vme_stream.specs.Refusals.{refused, binding_refusal, dump_refusal, capture_refusal}
 use Rattle.vme_stream.proofs.InputLemmas.{in_time}
@@ -37,10 +37,11 @@ use Rattle.vme_trace.specs.Streams.{Reading}
 
 -- ---- an input
 
-pub whole_is : (input : Input) (text : List ℕ) → length text ≤ longest_input → whole input (Some text) ≡ Ok text
-whole_is input text short = rw (le-leb (length text) longest_input short) refl
+pub within_limit_is : (input : Input) (text : List ℕ) → length text ≤ longest_input
+    → bytes_within_limit input (Some text) ≡ Ok text
+within_limit_is input text short = rw (le-leb (length text) longest_input short) refl
 
-pub too_long_is : (input : Input) (text : List ℕ) → longest_input < length text → whole input (Some text)
+pub too_long_is : (input : Input) (text : List ℕ) → longest_input < length text → bytes_within_limit input (Some text)
     ≡ Err (TooLong input)
 too_long_is input text long = rw (lt-leb (length text) longest_input long) refl
 
@@ -159,7 +160,8 @@ binding_refused old new result read.Memory is cannot long memory =
 pub binding_read-whole : (text : List ℕ) → length text ≤ longest_input → binding_read (Some text)
     ≡ or_bad_binding (binding_of text)
 unfolding binding_read
-binding_read-whole text short = ap (λ (w : Result (List ℕ) Refusal). w >>= bound_in) (whole_is Binding text short)
+binding_read-whole text short =
+    ap (λ (w : Result (List ℕ) Refusal). w >>= bound_in) (within_limit_is Binding text short)
 
 -- ---- the dump
 
@@ -183,7 +185,7 @@ dump_refused old new result read.Memory is cannot long memory =
 
 pub dump_read-whole : (text : List ℕ) → length text ≤ longest_input → dump_read (Some text) ≡ or_bad_dump (dump_of text)
 unfolding dump_read
-dump_read-whole text short = ap (λ (w : Result (List ℕ) Refusal). w >>= dumped_in) (whole_is Dump text short)
+dump_read-whole text short = ap (λ (w : Result (List ℕ) Refusal). w >>= dumped_in) (within_limit_is Dump text short)
 
 -- ---- the recording
 

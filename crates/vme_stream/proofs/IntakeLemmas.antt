@@ -137,10 +137,10 @@ moved_in xs from le =
     (take-paste xs 0 (drop from xs) k (omega arith) (omega (arith, length-drop from xs)) ∙ take_rest xs from)
 
 -- of the first `filled` bytes of a buffer `count` were taken, and those after them are then at the front
-pub left_behind : (before moved after : List ℕ) (len filled count : ℕ) → filled ≤ len → count ≤ filled
+pub left_after : (before moved after : List ℕ) (len filled count : ℕ) → filled ≤ len → count ≤ filled
     → take (len - count) moved ≡ drop count before → take (filled - count) after ≡ take (filled - count) moved
     → take (filled - count) after ≡ drop count (take filled before)
-left_behind before moved after len filled count within some left front =
+left_after before moved after len filled count within some left front =
     let less : filled - count ≤ len - count = omega (arith, within) in
     let all : count + (filled - count) ≡ filled = omega (arith, some) in
     front ∙ sym (take-take (filled - count) (len - count) moved less) ∙ ap (take (filled - count)) left

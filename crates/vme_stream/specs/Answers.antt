@@ -23,9 +23,9 @@ use Rattle.vme_stream.specs.Texts.{line_of, verdict_text, verdict_status, refusa
 -- ---- the verdict
 
 -- the bytes of an input, where it can be read and isn't too long
-abbrev pub whole : Input → Option (List ℕ) → Result (List ℕ) Refusal
-whole input None = Err (CannotRead input)
-whole input (Some bytes) = if nat_le (length bytes) longest_input then Ok bytes else Err (TooLong input)
+abbrev pub bytes_within_limit : Input → Option (List ℕ) → Result (List ℕ) Refusal
+bytes_within_limit input None = Err (CannotRead input)
+bytes_within_limit input (Some bytes) = if nat_le (length bytes) longest_input then Ok bytes else Err (TooLong input)
 
 abbrev pub or_bad_binding : {A : Type 0} → Result A BindFault → Result A Refusal
 or_bad_binding (Ok x) = Ok x
@@ -38,13 +38,13 @@ or_bad_dump (Err fault) = Err (BadDump fault)
 -- the binding in an input, or why there is none
 unfoldable pub binding_read : Option (List ℕ) → Result BoundLines Refusal
 binding_read input = do
-  text ← whole Binding input
+  text ← bytes_within_limit Binding input
   or_bad_binding (binding_of text)
 
 -- the dump in an input, or why there is none
 unfoldable pub dump_read : Option (List ℕ) → Result Contents Refusal
 dump_read input = do
-  text ← whole Dump input
+  text ← bytes_within_limit Dump input
   or_bad_dump (dump_of text)
 
 -- the recording, of any length, that `bound` makes of a dump, or why there is none

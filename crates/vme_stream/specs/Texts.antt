@@ -69,20 +69,20 @@ abbrev pub dump_fault_text : ℕ → FaultKind → List ℕ
 dump_fault_text line kind = codes "vmecheck: dump line " ++ decimal line ++ codes ": " ++ dump_fault_name kind
 
 -- the name of a fault of the binding, after the text `head`
-abbrev pub binding_fault_behind : List ℕ → BindFaultKind → List ℕ
-binding_fault_behind head bind.BadLine = head ++ codes "BadLine"
-binding_fault_behind head bind.SlotsFirst = head ++ codes "SlotsFirst"
-binding_fault_behind head bind.UnknownName = head ++ codes "UnknownName"
-binding_fault_behind head bind.NamedTwice = head ++ codes "NamedTwice"
-binding_fault_behind head (bind.Unbound l) = head ++ codes "Unbound " ++ line_name l
-binding_fault_behind head bind.Memory = head ++ codes "Memory"
-binding_fault_behind head bind.NoSuchPath = head ++ codes "NoSuchPath"
-binding_fault_behind head bind.AmbiguousPath = head ++ codes "AmbiguousPath"
-binding_fault_behind head bind.WrongWidth = head ++ codes "WrongWidth"
-binding_fault_behind head bind.TooManySteps = head ++ codes "TooManySteps"
+abbrev pub binding_fault_after : List ℕ → BindFaultKind → List ℕ
+binding_fault_after head bind.BadLine = head ++ codes "BadLine"
+binding_fault_after head bind.SlotsFirst = head ++ codes "SlotsFirst"
+binding_fault_after head bind.UnknownName = head ++ codes "UnknownName"
+binding_fault_after head bind.NamedTwice = head ++ codes "NamedTwice"
+binding_fault_after head (bind.Unbound l) = head ++ codes "Unbound " ++ line_name l
+binding_fault_after head bind.Memory = head ++ codes "Memory"
+binding_fault_after head bind.NoSuchPath = head ++ codes "NoSuchPath"
+binding_fault_after head bind.AmbiguousPath = head ++ codes "AmbiguousPath"
+binding_fault_after head bind.WrongWidth = head ++ codes "WrongWidth"
+binding_fault_after head bind.TooManySteps = head ++ codes "TooManySteps"
 
 abbrev pub binding_fault_text : ℕ → BindFaultKind → List ℕ
-binding_fault_text line kind = binding_fault_behind (codes "vmecheck: binding line " ++ decimal line ++ codes ": ") kind
+binding_fault_text line kind = binding_fault_after (codes "vmecheck: binding line " ++ decimal line ++ codes ": ") kind
 
 abbrev pub listing_fault_text : ListFault → List ℕ
 listing_fault_text list.BadHeader = codes "vmecheck: listing header"

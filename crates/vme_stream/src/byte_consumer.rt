@@ -5,7 +5,7 @@ ghost use Rattle.std.specs.Prelude.{IfOk, vec_len};
 ghost use Rattle.vme_stream.specs.Inputs.{HasFewFullReads, IsInTime, IsReading, least_room, longest_input, most_reads};
 ghost use Rattle.vcd_read.specs.ByteConsumers.{ContinuesAs};
 
-use crate::input::{InFault, LEAST_ROOM, LONGEST, MOST_READS, lengthen, read_behind};
+use crate::input::{InFault, LEAST_ROOM, LONGEST, MOST_READS, lengthen, read_after};
 use std::alloc::{AllocError, Global};
 use vcd_read::ByteConsumer;
 use vme_trace::Source;
@@ -53,7 +53,7 @@ pub fn read_by<R: Source, T: ByteConsumer, M: Fn(T, &[u8]) -> Result<(T, usize),
         consumer = next;
         taken += count;
         filled -= count;
-        let count = match read_behind(source, &mut bytes, filled) {
+        let count = match read_after(source, &mut bytes, filled) {
             Ok(count) => count,
             Err(fault) => return Err(fault),
         };

@@ -102,11 +102,11 @@ fn read_chunk<R: Source>(
     ensures err { IfErr result (InputFailsBy (R.reading source.old) (R.reading source.new)) }
 {
     lengthen(bytes, filled, CHUNK)?;
-    read_behind(source, bytes, filled)
+    read_after(source, bytes, filled)
 }
 
 /// Reads the next bytes over those after the first `filled` ones, and returns how many: 0 only at the source's end.
-pub(crate) fn read_behind<R: Source>(
+pub(crate) fn read_after<R: Source>(
     source: &mut R,
     bytes: &mut Vec<u8>,
     filled: usize,

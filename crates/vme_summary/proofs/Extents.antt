@@ -20,7 +20,7 @@ use Rattle.vme_summary.specs.declared.extent.Extent.{Extent}
 use Rattle.vme_summary.specs.declared.span.Span.{Span}
 use Rattle.vme_summary.specs.declared.summary.MonitorSummaries.{MonitorSummaries}
 use Rattle.vme_summary.proofs.Times.{first_time-append, last_or-append, last_time-append}
-use Rattle.vme_summary.proofs.Chains.{Boundary, chain_joins, chain_of, joins_apart, joins_together, last_left}
+use Rattle.vme_summary.proofs.Chains.{Boundary, chain_joins, chain_of, joins_split, joins_together, last_left}
 use Rattle.vme_summary.proofs.Chains.{last_number, left_after, left_by_all, number_after, steps-append}
 
 -- what an extent e says of its first block a and of those after it
@@ -53,7 +53,7 @@ pub join_meets : (e f : Extent) (x y : List Block) → IsExtent e x → IsExtent
 join_meets e f [] y p q j = let none : None ≡ Some e.first = p.first in absurd (cc)
 join_meets e f (a ∷ rest) [] p q j = let none : None ≡ Some f.first = q.first in absurd (cc)
 join_meets e f (a ∷ rest) (b ∷ bs) p q j =
-    let m = (joins_apart a rest b bs j).2 in
+    let m = (joins_split a rest b bs j).2 in
     let r = reads e a rest p in
     let s = reads f b bs q in
     record {

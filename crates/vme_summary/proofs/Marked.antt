@@ -9,7 +9,8 @@ use Rattle.vme_summary.specs.declared.chunk_summary.ChunkSummary.{ChunkSummary}
 use Rattle.vme_summary.specs.declared.summary.MonitorSummaries.{MonitorSummaries}
 
 -- after further steps, the state of judging with marks has the lines that they leave
-pub marked_on : (j : ChunkSummary) (s : Option MonitorSummaries) (o : Levels) (x y : List Step)
+pub marked_after_chunk : (j : ChunkSummary) (s : Option MonitorSummaries) (o : Levels) (x y : List Step)
     → StandsSoFar s o (x ++ y) → IsMarkedOf j (levels_after o x) y → HasMarked (record { left = j.left; summary = s }) o
     (x ++ y)
-marked_on j s o x y stands made = record { left = made.left ∙ sym (levels_after-append x y o); stands = stands }
+marked_after_chunk j s o x y stands made =
+    record { left = made.left ∙ sym (levels_after-append x y o); stands = stands }

@@ -25,7 +25,7 @@ use Rattle.vme_summary.proofs.InstantMarks.{all_put, all_put_is, after_cycle, af
 use Rattle.vme_summary.proofs.InstantMarks.{asked_row, moved_row, open_row, rows_put, start_row, taken_row}
 use Rattle.vme_summary.proofs.Forward.{marks_from}
 use Rattle.vme_summary.proofs.MarkedCuts.{on_early, until_alike}
-use Rattle.vme_summary.proofs.MarkedKinds.{no_cycle, no_tenure, no_transfer, plainly, plainly_is, plainly_unjudged}
+use Rattle.vme_summary.proofs.MarkedKinds.{no_cycle, no_tenure, no_transfer, shown_as_defined, shown_at, shown_unjudged}
 use Rattle.vme_summary.proofs.MarkedRowsFound.{cycles_are, latest, latest_more, not_judged, tenures_are, transfers_are}
 
 not_equal : (i j : ℕ) → i < j → (i == j) ≡ false
@@ -71,55 +71,55 @@ module _ (t : Trace) (span : Stretch) where
   opening_by true false = refl
   opening_by false c = refl
 
-  pub opening_is : is_idle t.opening ≡ (0 == span.start) → opening_marks t.opening ≡ pieces (plainly t span) 0
+  pub opening_is : is_idle t.opening ≡ (0 == span.start) → opening_marks t.opening ≡ pieces (shown_at t span) 0
   unfolding low levels_at
   opening_is e =
       ap (λ b. cond b (mark_at 0 kind.Start ∷ cond (is_low (level_at t.opening BBSY)) (mark_at 0 kind.Open ∷ []) []) [])
       e
       ∙ (opening_by (0 == span.start) (is_low (level_at t.opening BBSY))
-      ∙ sym (ap (λ k. map (mark_at 0) (kinds_of k)) (plainly_unjudged t span 0 (not_judged t span 0 (omega arith)))))
+      ∙ sym (ap (λ k. map (mark_at 0) (kinds_of k)) (shown_unjudged t span 0 (not_judged t span 0 (omega arith)))))
 
   -- before the start of the span nothing is shown
-  pub nothing_early : (j : ℕ) → j < span.start → pieces (plainly t span) j ≡ []
+  pub nothing_early : (j : ℕ) → j < span.start → pieces (shown_at t span) j ≡ []
   nothing_early j early = ap (λ k. map (mark_at j) (kinds_of k))
-      (plainly_unjudged t span j (not_judged t span j (omega arith))) ∙ rw (not_equal j span.start early) refl
+      (shown_unjudged t span j (not_judged t span j (omega arith))) ∙ rw (not_equal j span.start early) refl
 
   tested : (a b c : Bool) → a ≡ true → b ≡ true → c ≡ true → (a && b && c) ≡ true
   tested a b c e f g = rw (e, f, g) refl
 
   -- at any instant before the end but the opening, the marks are those of what is shown
-  on_is : (j : ℕ) → 0 < j → j < span.end → marks_on span (plainly t span) j ≡ pieces (plainly t span) j
+  on_is : (j : ℕ) → 0 < j → j < span.end → marks_on span (shown_at t span) j ≡ pieces (shown_at t span) j
   on_is j later below =
       elim (before_or_from j span.start) [
-        | inl early ↦ on_early span (plainly t span) j early ∙ sym (nothing_early j early)
-        | inr from ↦ ap (λ c. cond c (pieces (plainly t span) j) []) (tested (nat_lt 0 j) (nat_le span.start j)
+        | inl early ↦ on_early span (shown_at t span) j early ∙ sym (nothing_early j early)
+        | inr from ↦ ap (λ c. cond c (pieces (shown_at t span) j) []) (tested (nat_lt 0 j) (nat_le span.start j)
             (nat_le j span.end) (lt_holds 0 j later) (le_holds span.start j from) (le_holds j span.end (omega arith)))
       ]
 
   -- with the marks of the opening, the marks of the span up to n are those of the instants from 0 to n
-  until_is : (n : ℕ) → suc n ≤ span.end → pieces (plainly t span) 0 ++ marks_until span (plainly t span) (suc n)
-      ≡ marks_from (plainly t span) 0 (suc n)
-  until_is zero below = all_put_is 0 (plainly t span 0) [] refl
+  until_is : (n : ℕ) → suc n ≤ span.end → pieces (shown_at t span) 0 ++ marks_until span (shown_at t span) (suc n)
+      ≡ marks_from (shown_at t span) 0 (suc n)
+  until_is zero below = all_put_is 0 (shown_at t span 0) [] refl
   until_is (suc n) below =
-      sym (append_assoc (pieces (plainly t span) 0) (marks_until span (plainly t span) (suc n))
-      (marks_on span (plainly t span) (suc n)))
-      ∙ (ap (λ x. x ++ marks_on span (plainly t span) (suc n)) (until_is n (omega arith))
-      ∙ (ap (λ x. marks_from (plainly t span) 0 (suc n) ++ x) (on_is (suc n) (omega arith) (omega arith)
-      ∙ ap (pieces (plainly t span)) same)
-      ∙ sym (from_last (plainly t span) (λ j. refl) (suc n) 0)))
+      sym (append_assoc (pieces (shown_at t span) 0) (marks_until span (shown_at t span) (suc n))
+      (marks_on span (shown_at t span) (suc n)))
+      ∙ (ap (λ x. x ++ marks_on span (shown_at t span) (suc n)) (until_is n (omega arith))
+      ∙ (ap (λ x. marks_from (shown_at t span) 0 (suc n) ++ x) (on_is (suc n) (omega arith) (omega arith)
+      ∙ ap (pieces (shown_at t span)) same)
+      ∙ sym (from_last (shown_at t span) (λ j. refl) (suc n) 0)))
     where
       same : suc n ≡ 0 + suc n
       same = omega arith
 
-  from_opening : (end : ℕ) → 0 < end → end ≤ span.end → pieces (plainly t span) 0 ++ marks_until span (plainly t span)
-      end ≡ marks_from (plainly t span) 0 end
+  from_opening : (end : ℕ) → 0 < end → end ≤ span.end → pieces (shown_at t span) 0 ++ marks_until span (shown_at t span)
+      end ≡ marks_from (shown_at t span) 0 end
   from_opening zero some below = absurd (omega arith)
   from_opening (suc n) some below = until_is n below
 
-  -- before the end of the span, all monitors show what `plainly` has
-  over_is : (j : ℕ) → j < span.end → all_over t span j ≡ plainly t span j
+  -- before the end of the span, all monitors show what `shown_at` has
+  over_is : (j : ℕ) → j < span.end → all_over t span j ≡ shown_at t span j
   over_is j h = ap (λ b. cond b (all_shown t span j) (cond (is_reset_at t j) known_reset_marks no_step_marks))
-      (lt_holds j span.end h) ∙ plainly_is t span j
+      (lt_holds j span.end h) ∙ shown_as_defined t span j
 
   module _ (end : ℕ) (within : end ≤ span.end) where
     -- the rows of n instants from i on
@@ -144,22 +144,22 @@ module _ (t : Trace) (span : Stretch) where
 
     -- the marks of n instants after i; below, the rows of the marks of i before them
     abbrev later : ℕ → ℕ → List Mark
-    later i n = marks_from (plainly t span) (suc i) n
+    later i n = marks_from (shown_at t span) (suc i) n
 
     abbrev open_part : ℕ → ℕ → List Row
-    open_part i n = open_row i (plainly t span i).opened
-        (first_instant is_tenure_end (after_open i (plainly t span i) (later i n)))
+    open_part i n = open_row i (shown_at t span i).opened
+        (first_instant is_tenure_end (after_open i (shown_at t span i) (later i n)))
 
     abbrev taken_part : ℕ → ℕ → List Row
-    taken_part i n = taken_row i (plainly t span i).tenure
-        (first_instant is_tenure_end (after_tenure i (plainly t span i) (later i n)))
+    taken_part i n = taken_row i (shown_at t span i).tenure
+        (first_instant is_tenure_end (after_tenure i (shown_at t span i) (later i n)))
 
     abbrev asked_part : ℕ → ℕ → List Row
-    asked_part i n = asked_row i (plainly t span i).cycle
-        (first_instant is_cycle_end (after_cycle i (plainly t span i) (later i n)))
+    asked_part i n = asked_row i (shown_at t span i).cycle
+        (first_instant is_cycle_end (after_cycle i (shown_at t span i) (later i n)))
 
     abbrev moved_part : Option ℕ → ℕ → ℕ → List Row
-    moved_part cycle i n = moved_row i (plainly t span i).transfer cycle (after_transfer i (plainly t span i)
+    moved_part cycle i n = moved_row i (shown_at t span i).transfer cycle (after_transfer i (shown_at t span i)
         (later i n))
 
     tenures_at : (i n : ℕ) → suc i + n ≡ end → open_part i n ++ taken_part i n ≡ tenure_rows t span end i
@@ -182,9 +182,9 @@ module _ (t : Trace) (span : Stretch) where
     gathered s o k a m r x y z e f g = ap (λ l. s ++ l) (sym (append_assoc o k (a ++ (m ++ r))) ∙ rw (e, f, g) refl)
 
     instant_found : (i n : ℕ) → suc i + n ≡ end → rows_of (latest t span (suc i)) (later i n) ≡ rows_from (suc i) n
-        → rows_of (latest t span i) (marks_from (plainly t span) i (suc n)) ≡ rows_from i (suc n)
+        → rows_of (latest t span i) (marks_from (shown_at t span) i (suc n)) ≡ rows_from i (suc n)
     instant_found i n whole after =
-        rows_put i (plainly t span i) (later i n) (latest t span i)
+        rows_put i (shown_at t span i) (later i n) (latest t span i)
         ∙ (ap (λ c. start_row i (i == span.start)
         ++ (open_part i n ++ (taken_part i n ++ (asked_part i n ++ (moved_part c i n ++ rows_of c (later i n))))))
         (latest_more t span i)
@@ -197,7 +197,7 @@ module _ (t : Trace) (span : Stretch) where
         ++ (tenure_rows t span end i ++ (cycle_rows t span end i ++ (transfer_rows t span end i ++ r)))) after))
 
     -- the rows of the marks of n instants from i on are the rows of these instants
-    rows_found : (n i : ℕ) → i + n ≡ end → rows_of (latest t span i) (marks_from (plainly t span) i n) ≡ rows_from i n
+    rows_found : (n i : ℕ) → i + n ≡ end → rows_of (latest t span i) (marks_from (shown_at t span) i n) ≡ rows_from i n
     rows_found zero i e = refl
     rows_found (suc n) i e =
         let whole : suc i + n ≡ end = omega arith in
@@ -279,10 +279,10 @@ module _ (t : Trace) (span : Stretch) where
               ∙ ap (λ k. row.Start span.start ∷ rows_before t span end k) (omega arith))
         ]
 
-    rows_are : span.start < end → rows_of None (marks_from (plainly t span) 0 end) ≡ row.Start span.start
+    rows_are : span.start < end → rows_of None (marks_from (shown_at t span) 0 end) ≡ row.Start span.start
         ∷ rows_before t span end end
     rows_are after =
-        ap (λ l. rows_of l (marks_from (plainly t span) 0 end))
+        ap (λ l. rows_of l (marks_from (shown_at t span) 0 end))
         (sym (greatest_before (cycle_starts t span) (span.start + 1) 0 (omega arith)))
         ∙ (rows_found end 0 whole
         ∙ (from_start end 0 (omega arith) (omega arith)
@@ -293,10 +293,10 @@ module _ (t : Trace) (span : Stretch) where
 
   -- the rows of the marks before `end`, with those of the opening
   pub rows_until : (end : ℕ) → span.start < end → end ≤ span.end
-      → rows_of None (pieces (plainly t span) 0 ++ marks_until span (all_over t span) end) ≡ row.Start span.start
+      → rows_of None (pieces (shown_at t span) 0 ++ marks_until span (all_over t span) end) ≡ row.Start span.start
       ∷ rows_before t span end end
   rows_until end after within =
-      ap (λ ms. rows_of None (pieces (plainly t span) 0 ++ ms)) (until_alike span (all_over t span) (plainly t span) end
-      (λ j h. over_is j (omega arith)))
+      ap (λ ms. rows_of None (pieces (shown_at t span) 0 ++ ms)) (until_alike span (all_over t span) (shown_at t span)
+      end (λ j h. over_is j (omega arith)))
       ∙ (ap (rows_of None) (from_opening end (omega arith) within)
       ∙ rows_are end within after)

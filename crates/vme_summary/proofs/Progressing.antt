@@ -111,11 +111,11 @@ pub come_join : (p : RunningVerdict) (blocks : List Block) → HasCome p blocks 
 come_join p blocks c = c.extent.join
 
 -- the state of judging after further steps, by their summary
-pub judged_on : (j : VerdictState) (m : ChunkSummary) (n : ℕ) (f : MonitorStates) → n ≡ j.steps + summary_steps
+pub judged_after_chunk : (j : VerdictState) (m : ChunkSummary) (n : ℕ) (f : MonitorStates) → n ≡ j.steps + summary_steps
     m.summary → FoundAfter j.found j.steps m.summary f
     → (o : Levels) (x y : List Step) → HasJudged j o x → IsFoundOf m (levels_after o x) y
     → HasJudged (record { left = m.left; steps = n; found = f }) o (x ++ y)
-judged_on j m n f count found o x y h made =
+judged_after_chunk j m n f count found o x y h made =
     let long : summary_steps m.summary ≡ length y = made.finds.known.counted in
     record {
       left = made.left ∙ sym (levels_after-append x y o);

@@ -39,15 +39,15 @@ judged-bound skew b d bound is = ap (λ (r : Result Trace Refusal). settled_or s
     (capture_read-bound b d bound is)
 
 -- a refusal that is given instead of a verdict may be given instead of an explanation
-pub untold : (r : Refusal) (said : Result Verdict Refusal) → AnswerGives (λ (v : Verdict). v) (Err r) said
+pub refusal_explained : (r : Refusal) (said : Result Verdict Refusal) → AnswerGives (λ (v : Verdict). v) (Err r) said
     → AnswerGives (λ (e : Explained). e.verdict) (Err r) said
-untold Memory said gives = gives
-untold r said gives = gives
+refusal_explained Memory said gives = gives
+refusal_explained r said gives = gives
 
 pub judged-refused : (skew : ℕ) (b d : Option (List ℕ)) (r : Refusal) → AnswerGives (λ (x : BoundLines). x) (Err r)
     (binding_read b) → AnswerGives (λ (e : Explained). e.verdict) (Err r) (settled_judgement skew b d 16384)
 judged-refused skew b d r gives =
-    untold r (settled_judgement skew b d 16384)
+    refusal_explained r (settled_judgement skew b d 16384)
     (judgement-refused skew b d 16384 r (read-refused skew b d r (capture_read-refused b d r gives)))
 
 -- ---- a recording that is judged as the dump is read
@@ -154,11 +154,11 @@ account-settled skew t made a within is gives =
     subst (GivesAccount a) (fits-captured made short ∙ sym fits) gives
 
 -- an explanation by an account has the verdict on the captured recording
-pub told-by : (told : Result Explained Refusal) (a : Account) (captured : Result Trace Refusal)
+pub explained-by : (told : Result Explained Refusal) (a : Account) (captured : Result Trace Refusal)
     → GivesAccount (Ok a) captured
     → ((t : Trace) → IsAccountOf a t → AnswerGives (λ (e : Explained). e.verdict) told (Ok (verdict t)))
     → AnswerGives (λ (e : Explained). e.verdict) told (captured >>= verdict_in_blocks 16384)
-told-by told a captured given tells =
+explained-by told a captured given tells =
     let (t, is, short, of) = given in
     subst (AnswerGives (λ (e : Explained). e.verdict) told)
     (sym (ap (λ (r : Result Trace Refusal). r >>= verdict_in_blocks 16384) is ∙ fits-blocks t short)) (tells t of)

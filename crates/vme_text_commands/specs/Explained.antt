@@ -15,7 +15,7 @@ use Rattle.vme_stream.specs.Inputs.{IsReading}
 use Rattle.vme_stream.specs.Texts.{line_of, verdict_status, verdict_text}
 use Rattle.vme_commands.specs.Settled.{settled_judgement}
 use Rattle.vme_skew.specs.Settled.{settled_or}
-use Rattle.vme_text_commands.specs.Refused.{MayHaveMore, refusal_with}
+use Rattle.vme_text_commands.specs.Refused.{HasRefusalPage, refusal_with}
 use Rattle.vme_text_commands.specs.TextAnswers.{text_answer}
 
 -- the verdict on the recording that a binding makes of what reading the dump gave, deskewed by `skew`
@@ -50,5 +50,5 @@ Explains skew binding dump out err status =
     × IsReading dump.0 dump.1 dump_bytes
     × AnswerGives (λ (e : Explained). e.verdict) told (settled_judgement skew binding_bytes dump_bytes 16384)
     × IsExplained told
-    × MayHaveMore told more
+    × HasRefusalPage told more
     × Ends (explained_answer_by more told) out err status

@@ -14,7 +14,7 @@ use Rattle.vme_stream.specs.declared.refusal.Refusal.{Refusal}
 use Rattle.vme_stream.specs.declared.refusal.Refusal.TheVariants.{Memory}
 use Rattle.vme_text_commands.specs.declared.bind.NoBinding.{NoBinding}
 use Rattle.vme_text_commands.specs.declared.bind.NoBinding.TheVariants.{Refused, NoSuchScope}
-use Rattle.vme_text_commands.specs.Refused.{IsMore, MayHaveMore, refusal_with}
+use Rattle.vme_text_commands.specs.Refused.{HasRefusalPage, IsRefusalPage, refusal_with}
 use Rattle.vme_stream.specs.Inputs.{IsReading}
 use Rattle.vme_faults.specs.Pages.{pages_of}
 use Rattle.vme_faults.specs.declared.refusal_kind.RefusalKind.{RefusalKind}
@@ -56,7 +56,7 @@ no_scope_text =
 
 -- a binding is written, and the line about it, with status 7 if a check by the binding judges nothing
 abbrev pub found_answer : FoundBinding → CommandAnswer
-found_answer found = record { out = found.text; error = found.told; status = if found.is_bus then 0 else 7 }
+found_answer found = record { out = found.text; error = found.report; status = if found.is_bus then 0 else 7 }
 
 -- why there is no binding, with `more` after the line of a refusal
 abbrev pub missing_text : List ℕ → NoBinding → List ℕ
@@ -74,12 +74,12 @@ binding_answer more (Err missing) =
     record { out = []; error = missing_text more missing; status = missing_status missing }
 
 -- `more`, which is written after the line of a refusal
-abbrev pub IsMoreOfMissing : NoBinding → List ℕ → Type 0
-IsMoreOfMissing (Refused refusal) more = IsMore refusal more
-IsMoreOfMissing NoSuchScope more = Unit {0}
+abbrev pub IsPageOfMissing : NoBinding → List ℕ → Type 0
+IsPageOfMissing (Refused refusal) more = IsRefusalPage refusal more
+IsPageOfMissing NoSuchScope more = Unit {0}
 
-abbrev pub TellsMore : Result FoundBinding NoBinding → List ℕ → Type 0
-TellsMore made more = IfErr made (λ missing. IsMoreOfMissing missing more)
+abbrev pub HasPageOfMissing : Result FoundBinding NoBinding → List ℕ → Type 0
+HasPageOfMissing made more = IfErr made (λ missing. IsPageOfMissing missing more)
 
 -- the dump was read, and `there` says whether it has a variable in the scope `path` or in one within it
 abbrev pub ScopeIs : Bool → Result Contents Refusal → List ℕ → Type 0
@@ -113,7 +113,7 @@ TellsBinding slots scope dump out err status =
     (bytes : Option (List ℕ)) × (made : Result FoundBinding NoBinding) × (more : List ℕ)
     × IsReading dump.0 dump.1 bytes
     × IsBindingFor (dump_read bytes) slots scope made
-    × TellsMore made more
+    × HasPageOfMissing made more
     × Ends (binding_answer more made) out err status
 
 -- the variables of a dump are written, or why it can't be read
@@ -122,5 +122,5 @@ TellsVariables dump out err status =
     (bytes : Option (List ℕ)) × (made : Result (List ℕ) Refusal) × (more : List ℕ)
     × IsReading dump.0 dump.1 bytes
     × IsTextOf (dump_read bytes) made
-    × MayHaveMore made more
+    × HasRefusalPage made more
     × Ends (text_answer_with more made) out err status

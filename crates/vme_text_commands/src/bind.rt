@@ -7,7 +7,7 @@ ghost use Rattle.vme_stream.specs.Ends.{Ends};
 ghost use Rattle.vme_stream.specs.Texts.{line_of};
 ghost use Rattle.vme_stream.specs.Inputs.{IsReading};
 ghost use Rattle.vme_stream.specs.Outputs.{TriesToWrite};
-ghost use Rattle.vme_text_commands.specs.TextAnswers.{IsBindingFor, IsMoreOfMissing, TellsBinding, TellsMore};
+ghost use Rattle.vme_text_commands.specs.TextAnswers.{HasPageOfMissing, IsBindingFor, IsPageOfMissing, TellsBinding};
 ghost use Rattle.vme_text_commands.specs.TextAnswers.{binding_answer, found_answer, missing_status, missing_text};
 ghost use Rattle.vme_text_commands.specs.TextAnswers.{no_scope_text};
 ghost use Rattle.vme_stream.specs.Refusals.{dump_refusal};
@@ -86,7 +86,7 @@ fn tell_binding<O: Sink, E: Sink>(
     out: &mut O,
     err: &mut E,
 ) -> u8
-    ensures { (more : List ℕ) × TellsMore made.now more × Ends (binding_answer more made.now)
+    ensures { (more : List ℕ) × HasPageOfMissing made.now more × Ends (binding_answer more made.now)
         (O.writing out.old, O.writing out.new) (E.writing err.old, E.writing err.new) result }
 {
     match made {
@@ -97,7 +97,7 @@ fn tell_binding<O: Sink, E: Sink>(
 
 /// Writes to `err` why there is no binding, with the excerpt `shown` of the dump. Returns the exit status.
 fn tell_missing<E: Sink>(alloc: Global, missing: &NoBinding, shown: &Text, err: &mut E) -> u8
-    ensures { (more : List ℕ) × IsMoreOfMissing missing.now more
+    ensures { (more : List ℕ) × IsPageOfMissing missing.now more
         × TriesToWrite (E.writing err.old) (E.writing err.new) (missing_text more missing.now)
         × (result ≡ missing_status missing.now) }
 {
@@ -120,7 +120,7 @@ fn tell_found<O: Sink, E: Sink>(found: &FoundBinding, out: &mut O, err: &mut E) 
 {
     match write_all(out, found.text.as_bytes()) {
         Ok(()) => {
-            say(err, found.told.as_bytes());
+            say(err, found.report.as_bytes());
             if found.is_bus { 0 } else { 7 }
         }
         Err(_) => {
@@ -199,7 +199,7 @@ fn refused(
 {
     let refusal = Refusal::of_dump(fault);
     let mut context = context;
-    if let Ok(()) = context.stop(fault, rest) {
+    if let Ok(()) = context.record_fault(fault, rest) {
         show_fault_context(shown, alloc, &refusal, name, &context);
     }
     NoBinding::Refused(refusal)

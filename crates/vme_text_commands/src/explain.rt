@@ -9,7 +9,7 @@ ghost use Rattle.vme_stream.specs.declared.refusal.Refusal.{Refusal as Refused};
 ghost use Rattle.vme_text_commands.specs.Explained.{Explains, IsExplained, IsExplainedWhole, explained_answer_by};
 ghost use Rattle.vme_text_commands.specs.Explained.{judged_by};
 ghost use Rattle.vme_text_commands.specs.ExplainedDumps.{GivesAccount, judged_whole, or_too_long, short_read};
-ghost use Rattle.vme_text_commands.specs.Refused.{MayHaveMore};
+ghost use Rattle.vme_text_commands.specs.Refused.{HasRefusalPage};
 ghost use Rattle.vme_commands.specs.Settled.{settled_judgement};
 ghost use Rattle.vme_picture.specs.Pictures.{IsPicture};
 ghost use Rattle.vme_skew.specs.Settled.{settled_or};
@@ -95,7 +95,7 @@ fn tell_explained<O: Sink, E: Sink>(
     out: &mut O,
     err: &mut E,
 ) -> (u8, Option<ExplainedFiles>)
-    ensures told { (more : List ℕ) × MayHaveMore made more × Ends (explained_answer_by more made)
+    ensures told { (more : List ℕ) × HasRefusalPage made more × Ends (explained_answer_by more made)
         (O.writing out.old, O.writing out.new) (E.writing err.old, E.writing err.new) result.0 }
     ensures drawn { IsExplained made → IfSome result.1 (λ files. IsPicture files.picture) }
 {

@@ -71,7 +71,7 @@ impl KeptDump {
         let mut kept = self;
         let mut context = context;
         if let CaptureFault::Dump(fault) = fault {
-            if let Ok(()) = context.stop(*fault, rest) {
+            if let Ok(()) = context.record_fault(*fault, rest) {
                 kept.context = Some(context);
             }
         }
@@ -164,20 +164,20 @@ impl<F: StepVisitor> ByteConsumer for ExplainedInput<'_, F> {
     ghost ahead = { λ u. dump_ahead u.reader };
 }
 
-/// The visitor `taker`, after it took the recording that the binding makes of the dump, or the first reason that there
-/// is none; and what is kept of the dump. The dump is read piece by piece.
+/// `visitor`, after it took the recording that the binding makes of the dump, or the first reason that there is none;
+/// and what is kept of the dump. The dump is read piece by piece.
 pub(crate) fn taken_dump<F: StepVisitor, D: Source>(
     alloc: Global,
     bound: &Binding,
     dump: &mut D,
-    taker: F,
+    visitor: F,
 ) -> (Result<F, Refusal>, KeptDump)
     ensures gives { (bytes : Option (List ℕ))
         × IsReading (D.reading dump.old) (D.reading dump.new) bytes
         × AnswerGives (λ w. F.recorded w) result.0 (recording_by bound.now (dump_read bytes)) }
     ensures formed { IfOk result.0 (λ w. malformed_step (F.recorded w) ≡ None) }
 {
-    let input = ExplainedInput::new(alloc, bound, taker);
+    let input = ExplainedInput::new(alloc, bound, visitor);
     match read_by(
         alloc,
         dump,
@@ -215,7 +215,7 @@ fn taken_input<F: StepVisitor>(
         return (Err(Refusal::Memory), KeptDump::nothing(alloc));
     };
     match reader.finish(alloc, rest) {
-        Ok(taker) => (Ok(taker), kept),
+        Ok(visitor) => (Ok(visitor), kept),
         Err(fault) => {
             let kept = kept.with_fault(context, &fault, rest);
             (Err(Refusal::of_capture(fault)), kept)

@@ -10,7 +10,7 @@ pub(crate) struct FaultContext {
     lines: KeptLines,
     /// What kind of file it is, by the first bytes, once some were seen.
     kind: Option<Option<FileKind>>,
-    is_stopped: bool,
+    has_fault: bool,
 }
 
 impl FaultContext {
@@ -19,7 +19,7 @@ impl FaultContext {
         FaultContext {
             lines: KeptLines::new(alloc),
             kind: None,
-            is_stopped: false,
+            has_fault: false,
         }
     }
 
@@ -34,7 +34,7 @@ impl FaultContext {
             return Ok(());
         }
         match fault {
-            Some(fault) => self.stop(fault, bytes),
+            Some(fault) => self.record_fault(fault, bytes),
             None => {
                 self.detect_kind(bytes);
                 self.lines.pass(alloc, bytes)
@@ -44,13 +44,13 @@ impl FaultContext {
 
     /// Records the first fault of the dump, which is in `bytes` or at their end. If a fault is recorded already, adds
     /// the rest of its line. The only error is want of memory.
-    pub fn stop(&mut self, fault: VcdFault, bytes: &[u8]) -> Result<(), AllocError> {
+    pub fn record_fault(&mut self, fault: VcdFault, bytes: &[u8]) -> Result<(), AllocError> {
         self.detect_kind(bytes);
-        if self.is_stopped {
-            return self.lines.go_on(bytes);
+        if self.has_fault {
+            return self.lines.extend_fault(bytes);
         }
-        self.is_stopped = true;
-        self.lines.stop(fault.line, bytes)
+        self.has_fault = true;
+        self.lines.record_fault(fault.line, bytes)
     }
 
     /// Determines the kind of file from the first bytes.
@@ -62,7 +62,7 @@ impl FaultContext {
 
     /// The line of the fault.
     pub fn line(&self) -> &[u8] {
-        self.lines.faulty()
+        self.lines.fault_line()
     }
 
     /// What kind of file the dump is, if its first bytes show it.

@@ -20,7 +20,7 @@
 //! - `bind` writes only a binding that makes a recording of that dump (`IsBindingFor`).
 //! - `faults` writes exactly the page of a kind, or the pages of all (`ArePages`).
 //! - After the line of a refusal `explain`, `bind` and `variables` write exactly the page of its
-//!   kind, below an excerpt of the input, unless memory runs out (`IsMore`).
+//!   kind, below an excerpt of the input, unless memory runs out (`IsRefusalPage`).
 //!
 //! # What isn't proved
 //!

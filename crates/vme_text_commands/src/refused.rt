@@ -3,7 +3,7 @@
 
 ghost use Rattle.std.specs.Prelude.{◌++◌, IfOk, List, ℕ};
 ghost use Rattle.vme_stream.specs.Texts.{line_of, refusal_text};
-ghost use Rattle.vme_text_commands.specs.Refused.{IsMore, IsRefusedText};
+ghost use Rattle.vme_text_commands.specs.Refused.{IsRefusalPage, IsRefusedText};
 ghost use Rattle.vme_stream.specs.Outputs.{TriesToWrite};
 
 use crate::fault_context::FaultContext;
@@ -46,7 +46,7 @@ struct WordRange {
 /// Writes the line of a refusal, then the excerpt `shown` of the inputs, and the page of the refusal's kind. If memory
 /// runs out, it writes the line alone.
 pub(crate) fn complain_with<E: Sink>(alloc: Global, err: &mut E, refusal: &Refusal, shown: &Text)
-    ensures { (more : List ℕ) × IsMore refusal.now more
+    ensures { (more : List ℕ) × IsRefusalPage refusal.now more
         × TriesToWrite (E.writing err.old) (E.writing err.new) (line_of (refusal_text refusal.now) ++ more) }
 {
     match refused_text(alloc, refusal, shown) {

@@ -5,7 +5,7 @@ ghost use Rattle.vcd_read.specs.Meaning.{dump_of};
 ghost use Rattle.vme_stream.specs.Answers.{dump_read, or_bad_dump};
 ghost use Rattle.vme_stream.specs.Ends.{Ends};
 ghost use Rattle.vme_stream.specs.Inputs.{IsReading};
-ghost use Rattle.vme_text_commands.specs.Refused.{MayHaveMore};
+ghost use Rattle.vme_text_commands.specs.Refused.{HasRefusalPage};
 ghost use Rattle.vme_text_commands.specs.TextAnswers.{IsTextOf, TellsVariables, text_answer_with};
 ghost use Rattle.vme_stream.specs.declared.refusal.Refusal.{Refusal};
 
@@ -43,7 +43,7 @@ fn tell_or_complain<O: Sink, E: Sink>(
     out: &mut O,
     err: &mut E,
 ) -> u8
-    ensures { (more : List ℕ) × MayHaveMore made.now more × Ends (text_answer_with more made.now)
+    ensures { (more : List ℕ) × HasRefusalPage made.now more × Ends (text_answer_with more made.now)
         (O.writing out.old, O.writing out.new) (E.writing err.old, E.writing err.new) result }
 {
     match made {

@@ -2,27 +2,30 @@
 use Rattle.std.proofs.Common.{◌≡◌, ℕ, List, [], ◌∷◌, ◌++◌, refl, sym, ap, ◌∙◌, append_assoc, append-nil}
 use Rattle.vcd_read.specs.Reading.{line_behind}
 use Rattle.vcd_read.specs.Tokens.{Token, tokens_from}
-use Rattle.vme_text_workers.specs.Cuts.{ArePiecesOf, IsCutIn, lines_behind, tokens_of}
+use Rattle.vme_text_workers.specs.Cuts.{ArePiecesOf, IsCutIn, line_after_pieces, tokens_of}
 use Rattle.vme_text_workers.specs.declared.cut.DumpPiece.{DumpPiece}
 
 -- the pieces so far, and what is left of the text
 pub record IsCutSoFar (text : List ℕ) (pieces : List DumpPiece) (left : List ℕ) : Type 0 where
-  pub tokens : (line : ℕ) → tokens_from line text ≡ tokens_of line pieces ++ tokens_from (lines_behind line pieces) left
-  pub lines : (line : ℕ) → line_behind line text ≡ line_behind (lines_behind line pieces) left
+  pub tokens : (line : ℕ) → tokens_from line text
+      ≡ tokens_of line pieces ++ tokens_from (line_after_pieces line pieces) left
+  pub lines : (line : ℕ) → line_behind line text ≡ line_behind (line_after_pieces line pieces) left
 
 tokens_of-push : (line : ℕ) (pieces : List DumpPiece) (piece : DumpPiece) → tokens_of line (pieces ++ piece ∷ [])
-    ≡ tokens_of line pieces ++ tokens_from (lines_behind line pieces) piece.bytes.now
+    ≡ tokens_of line pieces ++ tokens_from (line_after_pieces line pieces) piece.bytes.now
 tokens_of-push line [] piece = append-nil (tokens_from line piece.bytes.now)
 tokens_of-push line (first ∷ pieces) piece =
     let front = tokens_from line first.bytes.now in
     let line2 = line_behind line first.bytes.now in
     ap (λ (ts : List Token). front ++ ts) (tokens_of-push line2 pieces piece)
-    ∙ sym (append_assoc front (tokens_of line2 pieces) (tokens_from (lines_behind line2 pieces) piece.bytes.now))
+    ∙ sym (append_assoc front (tokens_of line2 pieces) (tokens_from (line_after_pieces line2 pieces) piece.bytes.now))
 
-lines_behind-push : (line : ℕ) (pieces : List DumpPiece) (piece : DumpPiece) → lines_behind line (pieces ++ piece ∷ [])
-    ≡ line_behind (lines_behind line pieces) piece.bytes.now
-lines_behind-push line [] piece = refl
-lines_behind-push line (first ∷ pieces) piece = lines_behind-push (line_behind line first.bytes.now) pieces piece
+line_after_pieces-push : (line : ℕ) (pieces : List DumpPiece) (piece : DumpPiece)
+    → line_after_pieces line (pieces ++ piece ∷ [])
+    ≡ line_behind (line_after_pieces line pieces) piece.bytes.now
+line_after_pieces-push line [] piece = refl
+line_after_pieces-push line (first ∷ pieces) piece =
+    line_after_pieces-push (line_behind line first.bytes.now) pieces piece
 
 pub cut-none : (text : List ℕ) → IsCutSoFar text [] text
 cut-none text = record { tokens = λ line. refl; lines = λ line. refl }
@@ -33,22 +36,22 @@ module _ (text : List ℕ) (pieces : List DumpPiece) (piece : DumpPiece) where
       → IsCutSoFar text (pieces ++ piece ∷ []) rest
   cut-more left rest so cut = record {
     tokens = λ line.
-        let at : ℕ = lines_behind line pieces in
+        let at : ℕ = line_after_pieces line pieces in
         so.tokens line ∙ ap (λ (ts : List Token). tokens_of line pieces ++ ts) (cut.tokens at)
         ∙ sym (append_assoc (tokens_of line pieces) (tokens_from at piece.bytes.now)
         (tokens_from (line_behind at piece.bytes.now) rest))
         ∙ ap (λ (ts : List Token). ts ++ tokens_from (line_behind at piece.bytes.now) rest)
         (sym (tokens_of-push line pieces piece))
         ∙ ap (λ (l : ℕ). tokens_of line (pieces ++ piece ∷ []) ++ tokens_from l rest)
-        (sym (lines_behind-push line pieces piece));
+        (sym (line_after_pieces-push line pieces piece));
     lines = λ line.
-        so.lines line ∙ cut.lines (lines_behind line pieces) ∙ ap (λ (l : ℕ). line_behind l rest)
-        (sym (lines_behind-push line pieces piece));
+        so.lines line ∙ cut.lines (line_after_pieces line pieces) ∙ ap (λ (l : ℕ). line_behind l rest)
+        (sym (line_after_pieces-push line pieces piece));
   }
 
   -- the rest of the text is the last piece
   pub cut-last : IsCutSoFar text pieces piece.bytes.now → ArePiecesOf text (pieces ++ piece ∷ [])
   cut-last so = record {
     tokens = λ line. so.tokens line ∙ sym (tokens_of-push line pieces piece);
-    lines = λ line. so.lines line ∙ sym (lines_behind-push line pieces piece);
+    lines = λ line. so.lines line ∙ sym (line_after_pieces-push line pieces piece);
   }

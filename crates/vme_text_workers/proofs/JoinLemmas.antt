@@ -19,7 +19,7 @@ use Rattle.vme_bind.specs.TextPieces.{TextReached, outcome, outcome_ahead}
 use Rattle.vme_bind.specs.SpeculativeReading.{IsJoined, ReadSpeculatively, SpeculativeReached, with_recording}
 use Rattle.vme_bind.specs.declared.fault.CaptureFault.{CaptureFault}
 use Rattle.vme_bind.specs.declared.net_lines.NetLines.{NetLines}
-use Rattle.vme_text_workers.specs.Cuts.{lines_behind, tokens_of}
+use Rattle.vme_text_workers.specs.Cuts.{line_after_pieces, tokens_of}
 use Rattle.vme_text_workers.specs.SpeculativeChunks.{AreAhead, AreTaken, IsAheadAt, IsJudgedAhead, IsNextOf}
 use Rattle.vme_text_workers.specs.declared.cut.DumpPiece.{DumpPiece}
 
@@ -58,7 +58,7 @@ module _ (pieces : List DumpPiece) (t u : TextReached) (piece : DumpPiece) (left
       → ((more : List Token) → outcome_ahead u (tokens_from u.body.line piece.bytes.now) more ≡ outcome_ahead v [] more)
       → AreTaken pieces t v left
   taken-more v line read = record {
-    lines = so.lines ∙ ap (λ (l : ℕ). lines_behind l left) (sym line);
+    lines = so.lines ∙ ap (λ (l : ℕ). line_after_pieces l left) (sym line);
     leads = λ more.
         next-first more ∙ read (tokens_of (line_behind u.body.line piece.bytes.now) left ++ more)
         ∙ ap (λ (l : ℕ). outcome_ahead v (tokens_of l left) more) (sym line);

@@ -1,5 +1,5 @@
+pub mod ChunkLemmas
 pub mod CutLemmas
 pub mod JoinLemmas
 pub mod PlaceLemmas
 pub mod ReadLemmas
-pub mod RunLemmas

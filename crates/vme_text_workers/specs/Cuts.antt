@@ -16,11 +16,11 @@ tokens_of line (piece ∷ pieces) =
     tokens_from line piece.bytes.now ++ tokens_of (line_behind line piece.bytes.now) pieces
 
 -- the line after the pieces, where the first begins on line `line`
-abbrev pub lines_behind : ℕ → List DumpPiece → ℕ
-lines_behind line [] = line
-lines_behind line (piece ∷ pieces) = lines_behind (line_behind line piece.bytes.now) pieces
+abbrev pub line_after_pieces : ℕ → List DumpPiece → ℕ
+line_after_pieces line [] = line
+line_after_pieces line (piece ∷ pieces) = line_after_pieces (line_behind line piece.bytes.now) pieces
 
 -- the text is cut into the pieces at token boundaries
 pub record ArePiecesOf (text : List ℕ) (pieces : List DumpPiece) : Type 0 where
   pub tokens : (line : ℕ) → tokens_from line text ≡ tokens_of line pieces
-  pub lines : (line : ℕ) → line_behind line text ≡ lines_behind line pieces
+  pub lines : (line : ℕ) → line_behind line text ≡ line_after_pieces line pieces

@@ -8,7 +8,7 @@ use Rattle.vcd_read.specs.Tokens.{Token}
 use Rattle.vme_bind.specs.TextPieces.{TextReached, outcome_ahead}
 use Rattle.vme_bind.specs.SpeculativeReading.{IsReadSpeculatively, ReadSpeculatively, SpeculativeReached}
 use Rattle.vme_bind.specs.declared.net_lines.NetLines.{NetLines}
-use Rattle.vme_text_workers.specs.Cuts.{lines_behind, tokens_of}
+use Rattle.vme_text_workers.specs.Cuts.{line_after_pieces, tokens_of}
 use Rattle.vme_text_workers.specs.declared.cut.DumpPiece.{DumpPiece}
 
 -- `bytes` were read ahead, and their steps were judged: `recorded` has these steps, and opens with the levels that they
@@ -35,7 +35,7 @@ IsAheadAt speculative pieces place one =
 -- the pieces before `left` were taken: from `after`, those in `left` have the outcome that all pieces have from
 -- `before`
 pub record AreTaken (pieces : List DumpPiece) (before after : TextReached) (left : List DumpPiece) : Type 0 where
-  pub lines : lines_behind before.body.line pieces ≡ lines_behind after.body.line left
+  pub lines : line_after_pieces before.body.line pieces ≡ line_after_pieces after.body.line left
   pub leads : (more : List Token)
       → outcome_ahead before (tokens_of before.body.line pieces) more
       ≡ outcome_ahead after (tokens_of after.body.line left) more

@@ -3,7 +3,7 @@
 ghost use Rattle.std.specs.Prelude.{◌≡◌, ◌<◌, ℕ, All, length, IfOk, IfSome, vec_len};
 ghost use Rattle.std.specs.Fork.{GivesEach};
 ghost use Rattle.std.specs.Thread.{IsSync, IsSend};
-ghost use Rattle.vme_text_workers.specs.Calls.{AreOfPlaces, StandAsGiven};
+ghost use Rattle.vme_text_workers.specs.Calls.{ArePairedResults, AreResultsByPlace};
 
 use std::alloc::{AllocError, Global};
 use std::sync::atomic::{AtomicUsize, Ordering};
@@ -88,8 +88,8 @@ fn map_threads<R: Threads + Sync, X: Send + Drop, F: Fn(usize) -> Option<X> + Sy
 /// kept.
 fn take_place<X: Drop, F: Fn(usize) -> Option<X>>(f: &F, place: usize, taken: &mut Vec<(usize, X)>)
     requires place { F.pre f.now place }
-    requires taken { AreOfPlaces (F.post f.now) taken.old.items }
-    ensures { AreOfPlaces (F.post f.now) taken.new.items }
+    requires taken { ArePairedResults (F.post f.now) taken.old.items }
+    ensures { ArePairedResults (F.post f.now) taken.new.items }
 {
     let Some(given) = f(place) else {
         return;
@@ -106,7 +106,7 @@ fn take_places<X: Drop, F: Fn(usize) -> Option<X>>(
     f: &F,
 ) -> Vec<(usize, X)>
     requires { (i : ℕ) → i < count → F.pre f.now i }
-    ensures { AreOfPlaces (F.post f.now) result.items }
+    ensures { ArePairedResults (F.post f.now) result.items }
 {
     let mut taken = Vec::new(alloc);
     for _ in 0..count {
@@ -133,8 +133,8 @@ fn empty_places<X: Drop>(alloc: Global, count: usize) -> Result<Vec<Option<X>>, 
 /// Puts `given`, which the call with `place` returned, at that place of `all`, if there is such a place.
 fn put<X: Drop, F: Fn(usize) -> Option<X>>(_f: &F, all: &mut [Option<X>], place: usize, given: X)
     requires given { F.post _f.now place (Some given) }
-    requires all { StandAsGiven (F.post _f.now) all.old }
-    ensures { StandAsGiven (F.post _f.now) all.new }
+    requires all { AreResultsByPlace (F.post _f.now) all.old }
+    ensures { AreResultsByPlace (F.post _f.now) all.new }
 {
     if place >= all.len() {
         return;
@@ -148,9 +148,9 @@ fn put_taken<X: Drop, F: Fn(usize) -> Option<X>>(
     all: &mut [Option<X>],
     taken: Vec<(usize, X)>,
 )
-    requires taken { AreOfPlaces (F.post _f.now) taken.items }
-    requires all { StandAsGiven (F.post _f.now) all.old }
-    ensures { StandAsGiven (F.post _f.now) all.new }
+    requires taken { ArePairedResults (F.post _f.now) taken.items }
+    requires all { AreResultsByPlace (F.post _f.now) all.old }
+    ensures { AreResultsByPlace (F.post _f.now) all.new }
 {
     let mut left = taken;
     while let Some((place, given)) = left.pop() {
@@ -164,9 +164,9 @@ fn put_if_taken<X: Drop, F: Fn(usize) -> Option<X>>(
     all: &mut [Option<X>],
     taken: Option<Vec<(usize, X)>>,
 )
-    requires taken { IfSome taken (λ ones. AreOfPlaces (F.post _f.now) ones.items) }
-    requires all { StandAsGiven (F.post _f.now) all.old }
-    ensures { StandAsGiven (F.post _f.now) all.new }
+    requires taken { IfSome taken (λ ones. ArePairedResults (F.post _f.now) ones.items) }
+    requires all { AreResultsByPlace (F.post _f.now) all.old }
+    ensures { AreResultsByPlace (F.post _f.now) all.new }
 {
     let Some(ones) = taken else {
         return;
@@ -180,9 +180,9 @@ fn put_each<X: Drop, F: Fn(usize) -> Option<X>>(
     all: &mut [Option<X>],
     takers: Vec<Option<Vec<(usize, X)>>>,
 )
-    requires takers { All (λ taken. IfSome taken (λ ones. AreOfPlaces (F.post _f.now) ones.items)) takers.items }
-    requires all { StandAsGiven (F.post _f.now) all.old }
-    ensures { StandAsGiven (F.post _f.now) all.new }
+    requires takers { All (λ taken. IfSome taken (λ ones. ArePairedResults (F.post _f.now) ones.items)) takers.items }
+    requires all { AreResultsByPlace (F.post _f.now) all.old }
+    ensures { AreResultsByPlace (F.post _f.now) all.new }
 {
     let mut left = takers;
     while let Some(taken) = left.pop() {
@@ -199,8 +199,8 @@ fn in_places<X: Drop, F: Fn(usize) -> Option<X>>(
     _f: &F,
     takers: Vec<Option<Vec<(usize, X)>>>,
 ) -> Result<Vec<Option<X>>, AllocError>
-    requires { All (λ taken. IfSome taken (λ ones. AreOfPlaces (F.post _f.now) ones.items)) takers.items }
-    ensures { IfOk result (λ all. StandAsGiven (F.post _f.now) all.items) }
+    requires { All (λ taken. IfSome taken (λ ones. ArePairedResults (F.post _f.now) ones.items)) takers.items }
+    ensures { IfOk result (λ all. AreResultsByPlace (F.post _f.now) all.items) }
 {
     let mut all = empty_places(alloc, count)?;
     put_each(_f, all.as_mut_slice(), takers);
@@ -218,7 +218,7 @@ pub(crate) fn map_places<R: Threads + Sync, X: Send + Drop, F: Fn(usize) -> Opti
     f: &F,
 ) -> Result<Vec<Option<X>>, AllocError>
     requires { (i : ℕ) → i < count → F.pre f.now i }
-    ensures { IfOk result (λ all. StandAsGiven (F.post f.now) all.items) }
+    ensures { IfOk result (λ all. AreResultsByPlace (F.post f.now) all.items) }
 {
     let next = AtomicUsize::new(0);
     let takers = map_threads(
@@ -227,7 +227,7 @@ pub(crate) fn map_places<R: Threads + Sync, X: Send + Drop, F: Fn(usize) -> Opti
         threads.min(count),
         &|_: usize| -> Option<Vec<(usize, X)>>
             requires { (i : ℕ) → i < count → F.pre f.now i }
-            ensures { IfSome result (λ taken. AreOfPlaces (F.post f.entry.now) taken.items) }
+            ensures { IfSome result (λ taken. ArePairedResults (F.post f.entry.now) taken.items) }
         { Some(take_places(alloc, &next, count, f)) },
     )?;
     in_places(alloc, count, f, takers)

@@ -2,7 +2,7 @@
 
 ghost use Rattle.std.specs.Prelude.{◌≡◌, [], IfOk};
 ghost use Rattle.vme_bind.specs.TextPieces.{TextContinuesAs, outcome_ahead, text_reached};
-ghost use Rattle.vme_text_workers.specs.Cuts.{lines_behind, tokens_of};
+ghost use Rattle.vme_text_workers.specs.Cuts.{line_after_pieces, tokens_of};
 
 use crate::cut::DumpPiece;
 use std::alloc::Global;
@@ -18,7 +18,7 @@ pub(crate) fn read_in_order<F: StepVisitor>(
     pieces: &[DumpPiece<'_>],
 ) -> Result<TextPieces<F>, CaptureFault>
     ensures line { IfOk result (λ text'. (text_reached text').body.line
-        ≡ lines_behind (text_reached text).body.line pieces.now) }
+        ≡ line_after_pieces (text_reached text).body.line pieces.now) }
     ensures rest { TextContinuesAs (λ text'. outcome_ahead (text_reached text') []) result
         (outcome_ahead (text_reached text) (tokens_of (text_reached text).body.line pieces.now)) }
 {

@@ -42,7 +42,7 @@ fn read_levels(
 
 /// The levels that likely hold after a piece: those to which its last lines of text lead, from the levels before all
 /// pieces. A bus line that doesn't change in that text is assumed to have its level before all pieces.
-fn likely_behind(alloc: Global, speculative: &SpeculativeReader, piece: DumpPiece<'_>) -> Lines
+fn likely_after(alloc: Global, speculative: &SpeculativeReader, piece: DumpPiece<'_>) -> Lines
     ensures { length result.levels ≡ line_count }
 {
     let now = *speculative.now();
@@ -97,7 +97,7 @@ pub(crate) fn read_each_speculatively<R: Threads + Sync, J: ChunkJudge + Send>(
             let levels = if place == 0 {
                 *speculative.now()
             } else {
-                likely_behind(alloc, speculative, pieces[place - 1])
+                likely_after(alloc, speculative, pieces[place - 1])
             };
             read_ahead(alloc, speculative, pieces[place], &levels)
         },
@@ -107,14 +107,14 @@ pub(crate) fn read_each_speculatively<R: Threads + Sync, J: ChunkJudge + Send>(
 
 /// The levels after a piece that was read ahead, if `before` are the levels before it. `None` if they are of a
 /// backplane with another number of slots.
-fn behind(ahead: &SpeculativeChunk, before: &Lines) -> Option<Lines>
+fn levels_after_piece(ahead: &SpeculativeChunk, before: &Lines) -> Option<Lines>
     requires { length before.now.levels ≡ line_count }
     ensures { IfSome result (λ levels. length levels.levels ≡ line_count) }
 {
     if ahead.from().slots() != before.slots() {
         return None;
     }
-    Some(ahead.levels_behind(before))
+    Some(ahead.levels_at_end(before))
 }
 
 /// The levels before each piece, by a first pass of `threads` threads, which reads what the pieces do to the lines.
@@ -140,7 +140,7 @@ pub(crate) fn levels_before_each<R: Threads + Sync>(
         {
             let piece = pieces[place];
             let ahead = read_levels(alloc, speculative, piece.bytes, piece.line)?;
-            Some((ahead, likely_behind(alloc, speculative, piece)))
+            Some((ahead, likely_after(alloc, speculative, piece)))
         },
     )?;
     let mut levels = Vec::new(alloc);
@@ -151,7 +151,7 @@ pub(crate) fn levels_before_each<R: Threads + Sync>(
         let Some((ahead, likely)) = one else {
             break;
         };
-        let Some(next) = behind(ahead, &before) else {
+        let Some(next) = levels_after_piece(ahead, &before) else {
             break;
         };
         levels.push(Some(next))?;
@@ -177,7 +177,7 @@ pub(crate) fn levels_to_read_again<J: ChunkJudge>(
         let Some((ahead, _)) = one else {
             break;
         };
-        let Some(next) = behind(ahead, &before) else {
+        let Some(next) = levels_after_piece(ahead, &before) else {
             break;
         };
         again.push(if *ahead.from() == before {

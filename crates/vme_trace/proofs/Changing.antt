@@ -57,9 +57,9 @@ idle_known true true reset Unknown h = absurd (cc)
 idle_known true false reset Unknown h = absurd (cc)
 
 -- an idle bus has no lost line
-pub idle-holds : (v : Levels) → is_idle v ≡ true → loses_control v ≡ false
+pub idle-unlost : (v : Levels) → is_idle v ≡ true → loses_control v ≡ false
 unfolding loses_control
-idle-holds v idle = fails-any (is_lost v) 0 line_count (λ l a b. idle_known (is_control v.slots l) (rests_high l)
+idle-unlost v idle = fails-any (is_lost v) 0 line_count (λ l a b. idle_known (is_control v.slots l) (rests_high l)
     (is_reset v) (level_at v l) (each_idle v l idle b))
 
 high_not_low : (x : Level) → is_high x ≡ true → is_low x ≡ false
@@ -68,17 +68,17 @@ high_not_low High h = refl
 high_not_low Unknown h = refl
 
 -- an idle bus isn't reset
-pub idle-runs : (v : Levels) → is_idle v ≡ true → is_reset v ≡ false
-idle-runs v idle = high_not_low (level_at v SYSRESET) (each_idle v SYSRESET idle (omega arith))
+pub idle-unreset : (v : Levels) → is_idle v ≡ true → is_reset v ≡ false
+idle-unreset v idle = high_not_low (level_at v SYSRESET) (each_idle v SYSRESET idle (omega arith))
 
 kept_unless : (a b : Bool) → b ≡ true → (a && not b) ≡ false
 kept_unless true b h = rw h refl
 kept_unless false b h = refl
 
 -- a bus that is reset has no lost line
-pub reset-holds : (v : Levels) → is_reset v ≡ true → loses_control v ≡ false
+pub reset-unlost : (v : Levels) → is_reset v ≡ true → loses_control v ≡ false
 unfolding loses_control
-reset-holds v reset = fails-any (is_lost v) 0 line_count (λ l a b. kept_unless _ (is_reset v) reset)
+reset-unlost v reset = fails-any (is_lost v) 0 line_count (λ l a b. kept_unless _ (is_reset v) reset)
 
 pub slots-kept : (v : Levels) (cs : List Change) → (changed v cs).slots ≡ v.slots
 unfolding changed

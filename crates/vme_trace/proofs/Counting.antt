@@ -10,8 +10,8 @@ use Rattle.vme_trace.proofs.Ranges.{any-fails, any-step, clash, every-empty, fai
 abbrev pub AreCounted : (ℕ → Bool) → ℕ → ℕ → ℕ → Type 0
 AreCounted p first number count = (count + first ≤ number) × ((count + first == number) ≡ every p first number)
 
-from : (f n : ℕ) → f ≤ n → nat_le f n ≡ true
-from f n h = grind (arith, nat_tests)
+le_holds : (f n : ℕ) → f ≤ n → nat_le f n ≡ true
+le_holds f n h = grind (arith, nat_tests)
 
 none-more : (a b : Bool) → not (a || (true && not b)) ≡ (not a && b)
 none-more true b = refl
@@ -21,7 +21,7 @@ none-more false false = refl
 module _ (p : ℕ → Bool) (first number count : ℕ) where
   every-step : first ≤ number → every p first (number + 1) ≡ (every p first number && p number)
   every-step h =
-      ap not (any-step (λ k. not (p k)) first number) ∙ rw (from first number h)
+      ap not (any-step (λ k. not (p k)) first number) ∙ rw (le_holds first number h)
       (none-more (any (λ k. not (p k)) first number) (p number))
 
   pub none-counted : number ≡ first → AreCounted p first number 0
@@ -79,8 +79,8 @@ module _ (p : ℕ → Bool) (first number count : ℕ) where
           by_test true e = grind (arith, nat_tests)
           by_test false e = grind (arith, nat_tests)
 
-at : (p : ℕ → Bool) (f n i : ℕ) → every p f n ≡ true → f ≤ i → i < n → p i ≡ true
-at p f n i h a b = unfailed (p i) (any-fails (λ k. not (p k)) f n i (unmet (any (λ k. not (p k)) f n) h) a b)
+holds_at : (p : ℕ → Bool) (f n i : ℕ) → every p f n ≡ true → f ≤ i → i < n → p i ≡ true
+holds_at p f n i h a b = unfailed (p i) (any-fails (λ k. not (p k)) f n i (unmet (any (λ k. not (p k)) f n) h) a b)
   where
     unmet : (b : Bool) → not b ≡ true → b ≡ false
     unmet true h = absurd (cc)
@@ -96,5 +96,5 @@ pub least-outside : (p q : ℕ → Bool) (first end n : ℕ) → every p first e
 least-outside p q first end n all there = least-none q 0 n (fails-any q 0 n (λ i a b. by_test i b (q i) refl))
   where
     by_test : (i : ℕ) → i < n → (b : Bool) → q i ≡ b → q i ≡ false
-    by_test i below true e = let w = there i below e in absurd (clash (p i) (at p first end i all w.0 w.1) w.2)
+    by_test i below true e = let w = there i below e in absurd (clash (p i) (holds_at p first end i all w.0 w.1) w.2)
     by_test i below false e = e

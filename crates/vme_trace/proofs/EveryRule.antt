@@ -23,11 +23,12 @@ others : (a b : Bool) → (a && b) ≡ true → b ≡ true
 others true b h = h
 others false b h = absurd (cc)
 
-at : (p : Rule → Bool) (rs : List Rule) (n : ℕ) (r : Rule) → list_all p rs ≡ true → slice_get rs n ≡ Some r → p r ≡ true
-at p [] n r h e = absurd (cc)
-at p (q ∷ rs) zero r h e = let same : q ≡ r = cc in ap p (sym same) ∙ first (p q) (list_all p rs) h
-at p (q ∷ rs) (suc n) r h e = at p rs n r (others (p q) (list_all p rs) h) e
+holds_at : (p : Rule → Bool) (rs : List Rule) (n : ℕ) (r : Rule) → list_all p rs ≡ true → slice_get rs n ≡ Some r
+    → p r ≡ true
+holds_at p [] n r h e = absurd (cc)
+holds_at p (q ∷ rs) zero r h e = let same : q ≡ r = cc in ap p (sym same) ∙ first (p q) (list_all p rs) h
+holds_at p (q ∷ rs) (suc n) r h e = holds_at p rs n r (others (p q) (list_all p rs) h) e
 
 -- a test that all rules of the list pass is passed by each rule
 pub every-rule : (p : Rule → Bool) → list_all p all_rules ≡ true → (r : Rule) → p r ≡ true
-every-rule p h r = at p all_rules (rule_number r) r h (listed r)
+every-rule p h r = holds_at p all_rules (rule_number r) r h (listed r)

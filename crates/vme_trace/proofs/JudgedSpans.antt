@@ -10,7 +10,7 @@ use Rattle.vme_trace.specs.Trace.{Trace, levels_at, last_instant}
 use Rattle.vme_trace.specs.Judged.{Awaits, Stretch, IsSpanOf, span_from, span_end, is_idle_at, is_reset_at}
 use Rattle.vme_trace.specs.Judged.{loses_control_at, stops_at, last_reset, was_idle, is_cut_off, span_starts}
 use Rattle.vme_trace.specs.Judged.{judged_spans, spans_after}
-use Rattle.vme_trace.proofs.Changing.{idle-holds, idle-runs, reset-holds}
+use Rattle.vme_trace.proofs.Changing.{idle-unlost, idle-unreset, reset-unlost}
 use Rattle.vme_trace.proofs.OpenTransfers.{ReadsStrobes, bool_cases}
 use Rattle.vme_trace.proofs.Ranges.{any-fails, fails-any, any-least, least-found, those-none, those-more, those-same}
 use Rattle.vme_trace.proofs.Ranges.{those-next, those-split, clash}
@@ -55,8 +55,8 @@ last_or_before j n h = grind arith
 same_or_after : (s n : ℕ) → s ≤ n → (s ≡ n) ⊎ (s < n)
 same_or_after s n h = grind arith
 
-three : (n w : ℕ) → (n < w) ⊎ ((w ≡ n) ⊎ (w < n))
-three n w = grind arith
+trichotomy : (n w : ℕ) → (n < w) ⊎ ((w ≡ n) ⊎ (w < n))
+trichotomy n w = grind arith
 
 module _ (t : Trace) where
   -- instant n is in the stretch that starts at s, its start included
@@ -67,28 +67,28 @@ module _ (t : Trace) where
 
   -- after instant n the next idle instant starts a stretch (`awaiting`), or n is in the stretch that starts at s
   -- (`judging`), or a stretch was cut off, and none comes any more (`over`)
-  pub data Standing (n : ℕ) : Type 0 where
-    awaiting : Awaits t (suc n) → Standing n
-    judging : (s : ℕ) → IsIn s n → Standing n
-    over : any (is_cut_off t) 0 (suc n) ≡ true → Standing n
+  pub data InstantCase (n : ℕ) : Type 0 where
+    awaiting : Awaits t (suc n) → InstantCase n
+    judging : (s : ℕ) → IsIn s n → InstantCase n
+    over : any (is_cut_off t) 0 (suc n) ≡ true → InstantCase n
 
   -- what the levels at one instant imply
-  pub idle-holds_at : (n : ℕ) → is_idle_at t n ≡ true → loses_control_at t n ≡ false
+  pub idle-unlost_at : (n : ℕ) → is_idle_at t n ≡ true → loses_control_at t n ≡ false
   unfolding is_idle_at loses_control_at
-  idle-holds_at n h = idle-holds (levels_at t n) h
+  idle-unlost_at n h = idle-unlost (levels_at t n) h
 
-  pub idle-runs_at : (n : ℕ) → is_idle_at t n ≡ true → is_reset_at t n ≡ false
+  pub idle-unreset_at : (n : ℕ) → is_idle_at t n ≡ true → is_reset_at t n ≡ false
   unfolding is_idle_at is_reset_at
-  idle-runs_at n h = idle-runs (levels_at t n) h
+  idle-unreset_at n h = idle-unreset (levels_at t n) h
 
-  pub reset-holds_at : (n : ℕ) → is_reset_at t n ≡ true → loses_control_at t n ≡ false
+  pub reset-unlost_at : (n : ℕ) → is_reset_at t n ≡ true → loses_control_at t n ≡ false
   unfolding is_reset_at loses_control_at
-  reset-holds_at n h = reset-holds (levels_at t n) h
+  reset-unlost_at n h = reset-unlost (levels_at t n) h
 
   pub reset-busy_at : (n : ℕ) → is_reset_at t n ≡ true → is_idle_at t n ≡ false
   reset-busy_at n h =
       elim (bool_cases (is_idle_at t n)) [
-        | inl idle ↦ absurd (clash (is_reset_at t n) h (idle-runs_at n idle))
+        | inl idle ↦ absurd (clash (is_reset_at t n) h (idle-unreset_at n idle))
         | inr busy ↦ busy
       ]
 
@@ -96,7 +96,7 @@ module _ (t : Trace) where
   pub stops-busy_at : (n : ℕ) → stops_at t n ≡ true → is_idle_at t n ≡ false
   stops-busy_at n h =
       elim (bool_cases (is_idle_at t n)) [
-        | inl idle ↦ absurd (clash (stops_at t n) h (both_false _ _ (idle-runs_at n idle) (idle-holds_at n idle)))
+        | inl idle ↦ absurd (clash (stops_at t n) h (both_false _ _ (idle-unreset_at n idle) (idle-unlost_at n idle)))
         | inr busy ↦ busy
       ]
 
@@ -256,17 +256,17 @@ module _ (t : Trace) where
   pub in-next : (s n : ℕ) → IsIn s n → suc n < span_end t s → IsIn s (suc n)
   in-next s n h before = record { starts = h.starts; from = omega (arith, h.from); before = before }
 
-  pub in-held : (s n : ℕ) → IsIn s n → loses_control_at t n ≡ false
-  in-held s n h =
+  pub in-unlost : (s n : ℕ) → IsIn s n → loses_control_at t n ≡ false
+  in-unlost s n h =
       elim (same_or_after s n h.from) [
-        | inl e ↦ ap (loses_control_at t) (sym e) ∙ idle-holds_at s (starts-idle s h.starts)
+        | inl e ↦ ap (loses_control_at t) (sym e) ∙ idle-unlost_at s (starts-idle s h.starts)
         | inr after ↦ not_lost t s n after h.before
       ]
 
   pub in-unreset : (s n : ℕ) → IsIn s n → is_reset_at t n ≡ false
   in-unreset s n h =
       elim (same_or_after s n h.from) [
-        | inl e ↦ ap (is_reset_at t) (sym e) ∙ idle-runs_at s (starts-idle s h.starts)
+        | inl e ↦ ap (is_reset_at t) (sym e) ∙ idle-unreset_at s (starts-idle s h.starts)
         | inr after ↦ not_reset t s n after h.before
       ]
 
@@ -275,7 +275,7 @@ module _ (t : Trace) where
       let e : s ≡ 0 = omega (arith, h.from) in
       let starts = subst (λ i. span_starts t i ≡ true) e h.starts in (
         was_idle-next 0 (in-unreset s 0 h) ∙ or_second _ _ (starts-idle 0 starts),
-        cut-next 0 ∙ both_false _ _ cut-first (ap (λ b. b && was_idle t 0) (in-held s 0 h)),
+        cut-next 0 ∙ both_false _ _ cut-first (ap (λ b. b && was_idle t 0) (in-unlost s 0 h)),
       )
   in_started s (suc n) h =
       elim (last_or_before s n h.from) [
@@ -283,13 +283,13 @@ module _ (t : Trace) where
             let starts = subst (λ i. span_starts t i ≡ true) e h.starts in (
               was_idle-next (suc n) (in-unreset s (suc n) h) ∙ or_second _ _ (starts-idle (suc n) starts),
               cut-next (suc n) ∙ both_false _ _ (starts_awaited (suc n) starts).uncut (ap (λ b. b && was_idle t (suc n))
-                  (in-held s (suc n) h)),
+                  (in-unlost s (suc n) h)),
             )
         | inr before ↦
             let earlier = in_started s n (record { starts = h.starts; from = before; before = omega (arith, h.before) })
             in (
               was_idle-next (suc n) (in-unreset s (suc n) h) ∙ or_first _ _ earlier.0,
-              cut-next (suc n) ∙ both_false _ _ earlier.1 (ap (λ b. b && was_idle t (suc n)) (in-held s (suc n) h)),
+              cut-next (suc n) ∙ both_false _ _ earlier.1 (ap (λ b. b && was_idle t (suc n)) (in-unlost s (suc n) h)),
             )
       ]
 
@@ -302,7 +302,7 @@ module _ (t : Trace) where
   in-reset s n h reset = record {
     unjudged = was_idle-reset (suc n) reset;
     uncut = cut-next (suc n) ∙ both_false _ _ (in_started s n h).1 (ap (λ b. b && was_idle t (suc n))
-        (reset-holds_at (suc n) reset));
+        (reset-unlost_at (suc n) reset));
   }
 
   -- where a stretch ends by a lost control line, it is cut off
@@ -314,21 +314,21 @@ module _ (t : Trace) where
   second_of true b h k = absurd (cc)
   second_of false b h k = k
 
-  standing_awaited : (n : ℕ) → n ≤ last_instant t → Awaits t n → Standing n
-  standing_awaited n within w =
+  case_of_awaited : (n : ℕ) → n ≤ last_instant t → Awaits t n → InstantCase n
+  case_of_awaited n within w =
       elim (bool_cases (is_idle_at t n)) [
         | inl idle ↦ judging n (in-first n (awaits-starts n w ∙ idle) within)
         | inr busy ↦ awaiting (awaits-next n w busy)
       ]
 
-  -- each instant has its case of `Standing`
-  pub standing : (n : ℕ) → n ≤ last_instant t → Standing n
-  standing zero within = standing_awaited zero within awaits-first
-  standing (suc n) within =
-      elim (standing n (omega arith)) [
-        | awaiting w ↦ standing_awaited (suc n) within w
+  -- each instant has its case of `InstantCase`
+  pub case_of_instant : (n : ℕ) → n ≤ last_instant t → InstantCase n
+  case_of_instant zero within = case_of_awaited zero within awaits-first
+  case_of_instant (suc n) within =
+      elim (case_of_instant n (omega arith)) [
+        | awaiting w ↦ case_of_awaited (suc n) within w
         | judging s h ↦
-            elim (three (suc n) (span_end t s)) [
+            elim (trichotomy (suc n) (span_end t s)) [
               | inl before ↦ judging s (in-next s n h before)
               | inr not_before ↦
                   elim not_before [
@@ -364,12 +364,13 @@ module _ (t : Trace) where
   ends_within span is = omega (arith, is.ends, end-within span.start)
 
   -- from its start on and before its end no control line is lost, and the bus isn't reset
-  pub span_holds : (span : Stretch) (n : ℕ) → IsSpanOf t span → span.start ≤ n → n < span.end → loses_control_at t n
+  pub span_unlost : (span : Stretch) (n : ℕ) → IsSpanOf t span → span.start ≤ n → n < span.end → loses_control_at t n
       ≡ false
-  span_holds span n is from before = in-held span.start n (in_span span n is from before)
+  span_unlost span n is from before = in-unlost span.start n (in_span span n is from before)
 
-  pub span_runs : (span : Stretch) (n : ℕ) → IsSpanOf t span → span.start ≤ n → n < span.end → is_reset_at t n ≡ false
-  span_runs span n is from before = in-unreset span.start n (in_span span n is from before)
+  pub span_unreset : (span : Stretch) (n : ℕ) → IsSpanOf t span → span.start ≤ n → n < span.end
+      → is_reset_at t n ≡ false
+  span_unreset span n is from before = in-unreset span.start n (in_span span n is from before)
 
   pub span_reads : (span : Stretch) → IsSpanOf t span → ReadsStrobes t span
   span_reads span is = subst (ReadsStrobes t) (sym (span-is span is)) (reads_strobes t span.start (starts_idle span is))
@@ -439,7 +440,7 @@ module _ (t : Trace) where
   pub spans_one : (span other : Stretch) (n : ℕ) → IsSpanOf t span → IsSpanOf t other → span.start ≤ n → n < span.end
       → other.start ≤ n → n < other.end → span ≡ other
   spans_one span other n is is_other from before from_other before_other =
-      elim (three span.start other.start) [
+      elim (trichotomy span.start other.start) [
         | inl order ↦ absurd (omega (arith, (spans_apart span other is is_other order).1))
         | inr not_before ↦
             elim not_before [

@@ -195,7 +195,7 @@ any-split p f m (suc n) a b =
       | inl e ↦ subst (λ k. any p f (suc n) ≡ (any p f k || any p k (suc n))) (sym e)
           (or_false (any p f (suc n)) (any p (suc n) (suc n)) (any_after p (suc n)))
       | inr c ↦ rw (any-split p f m n a c) (regroup (any p f m) (any p m n) (nat_le f n) (nat_le m n) (p n)
-          (from f n (omega arith)) (from m n c))
+          (le_holds f n (omega arith)) (le_holds m n c))
     ]
   where
     same_or_below : (m n : ℕ) → m ≤ suc n → (m ≡ suc n) ⊎ (m ≤ n)
@@ -208,8 +208,8 @@ any-split p f m (suc n) a b =
     or_false true b h = refl
     or_false false b h = sym h
 
-    from : (f n : ℕ) → f ≤ n → nat_le f n ≡ true
-    from f n h = grind (arith, nat_tests)
+    le_holds : (f n : ℕ) → f ≤ n → nat_le f n ≡ true
+    le_holds f n h = grind (arith, nat_tests)
 
     regroup : (a b x y z : Bool) → x ≡ true → y ≡ true → (a || b || (x && z)) ≡ (a || (b || (y && z)))
     regroup true b x y z h k = refl

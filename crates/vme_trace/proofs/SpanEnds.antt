@@ -67,10 +67,10 @@ all_but_last a b c false e f g h k m = rw h refl
 
 module _ (t : Trace) (s n : ℕ) where
   -- where no control line is lost at n + 1, U1 isn't broken there
-  pub u1-held : loses_control_at t (suc n) ≡ false → (l : ℕ) → l < line_count → breaks t (span_from t s) U1 (suc n) l
+  pub u1-unlost : loses_control_at t (suc n) ≡ false → (l : ℕ) → l < line_count → breaks t (span_from t s) U1 (suc n) l
       ≡ false
   unfolding breaks is_broken loses_control_at loses_control
-  u1-held held l below = ends_in_false (has_line t.opening.slots l) (suc n == span_end t s)
+  u1-unlost held l below = ends_in_false (has_line t.opening.slots l) (suc n == span_end t s)
       (nat_le (suc n) (last_instant t)) (is_lost (levels_at t (suc n)) l) (any-fails (is_lost (levels_at t (suc n))) 0
       line_count l held (omega arith) below)
 

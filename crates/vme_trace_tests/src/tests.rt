@@ -220,7 +220,7 @@ fn rule_names(rt: HostRuntime) {
 }
 
 /// Lines by their numbers, whether they are on a backplane of three slots, and whether they are control lines there.
-static THERE: [(u8, bool, bool); 9] = [
+static LINES_OF_THREE_SLOTS: [(u8, bool, bool); 9] = [
     (AS, true, true),
     // LWORD*
     (12, true, false),
@@ -239,7 +239,7 @@ static THERE: [(u8, bool, bool); 9] = [
 ];
 
 /// Whether a line of a backplane of three slots exists, and whether it is a control line there.
-fn there(number: u8) -> Option<(bool, bool)> {
+fn line_of_three_slots(number: u8) -> Option<(bool, bool)> {
     let lines = Lines::new(3)?;
     let line = Line::from_number(number)?;
     Some((lines.has(line), lines.is_control(line)))
@@ -247,8 +247,8 @@ fn there(number: u8) -> Option<(bool, bool)> {
 
 #[test]
 fn backplanes(rt: HostRuntime) {
-    for (number, exists, control) in THERE.iter() {
-        assert!(rt; there(*number) == Some((*exists, *control)));
+    for (number, exists, control) in LINES_OF_THREE_SLOTS.iter() {
+        assert!(rt; line_of_three_slots(*number) == Some((*exists, *control)));
     }
 }
 

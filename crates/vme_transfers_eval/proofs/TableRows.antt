@@ -3,8 +3,9 @@ use Rattle.std.proofs.Common.{◌≡◌, refl}
 use Rattle.std.specs.Prelude.{◌∷◌, []}
 use Rattle.vme_trace.specs.declared.level.Level.TheVariants.{Low, Unknown}
 use Rattle.vme_trace.specs.LineNumbers.{IACK}
-use Rattle.vme_eval.specs.Tables.{asks_up_to, codes_that, is_block_transfer, is_single_transfer, control_lines}
-use Rattle.vme_eval.specs.Tables.{high_but, high_lines, lines_of_code, lost_lines, modifier_lines, needed_lines}
+use Rattle.vme_eval.specs.Tables.{codes_that, control_lines, is_block_transfer, is_single_transfer, needs_up_to}
+use Rattle.vme_eval.specs.Tables.{high_but, high_lines, lines_losing_control, lines_of_code, modifier_lines}
+use Rattle.vme_eval.specs.Tables.{needed_lines}
 use Rattle.vme_eval.specs.Tables.{not_idle_with, standard_lines}
 use Rattle.vme_eval.proofs.Everything.{everything}
 
@@ -16,15 +17,15 @@ pub rows_single_codes : codes_that is_single_transfer ≡ 9 ∷ 10 ∷ 13 ∷ 14
 unfolding everything
 rows_single_codes = refl
 
-pub rows_extended_codes : codes_that (asks_up_to 31) ≡ 9 ∷ 10 ∷ 11 ∷ 13 ∷ 14 ∷ 15 ∷ []
+pub rows_extended_codes : codes_that (needs_up_to 31) ≡ 9 ∷ 10 ∷ 11 ∷ 13 ∷ 14 ∷ 15 ∷ []
 unfolding everything
 rows_extended_codes = refl
 
-pub rows_standard_codes : codes_that (asks_up_to 23) ≡ 57 ∷ 58 ∷ 59 ∷ 61 ∷ 62 ∷ 63 ∷ []
+pub rows_standard_codes : codes_that (needs_up_to 23) ≡ 57 ∷ 58 ∷ 59 ∷ 61 ∷ 62 ∷ 63 ∷ []
 unfolding everything
 rows_standard_codes = refl
 
-pub rows_short_codes : codes_that (asks_up_to 15) ≡ 41 ∷ 45 ∷ []
+pub rows_short_codes : codes_that (needs_up_to 15) ≡ 41 ∷ 45 ∷ []
 unfolding everything
 rows_short_codes = refl
 
@@ -36,7 +37,7 @@ pub rows_known_lines : not_idle_with Unknown ≡ control_lines
 unfolding everything
 rows_known_lines = refl
 
-pub rows_control_lines : lost_lines ≡ control_lines
+pub rows_control_lines : lines_losing_control ≡ control_lines
 unfolding everything
 rows_control_lines = refl
 

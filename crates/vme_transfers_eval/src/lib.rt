@@ -17,8 +17,9 @@ ghost use Rattle.vme_trace.specs.declared.level.Level.TheVariants.{Low, Unknown}
 ghost use Rattle.vme_eval.specs.Recording.{AllAgree};
 ghost use Rattle.vme_eval.specs.Transfers.{transfers};
 ghost use Rattle.vme_eval.specs.Cycles.{cycles};
-ghost use Rattle.vme_eval.specs.Tables.{asks_up_to, codes_that, control_lines, high_but, high_lines, is_block_transfer};
-ghost use Rattle.vme_eval.specs.Tables.{is_single_transfer, lines_of_code, lost_lines, modifier_lines, needed_lines};
+ghost use Rattle.vme_eval.specs.Tables.{codes_that, control_lines, high_but, high_lines, is_block_transfer};
+ghost use Rattle.vme_eval.specs.Tables.{is_single_transfer, lines_losing_control, lines_of_code, modifier_lines};
+ghost use Rattle.vme_eval.specs.Tables.{needed_lines, needs_up_to};
 ghost use Rattle.vme_eval.specs.Tables.{not_idle_with, standard_lines};
 
 /// The modifier codes of each class, the lines that have to be high or known on an idle bus, the control lines, and the
@@ -26,12 +27,12 @@ ghost use Rattle.vme_eval.specs.Tables.{not_idle_with, standard_lines};
 pub fn tables()
     ensures block_codes { codes_that is_block_transfer ≡ 11 ∷ 15 ∷ 59 ∷ 63 ∷ [] }
     ensures single_codes { codes_that is_single_transfer ≡ 9 ∷ 10 ∷ 13 ∷ 14 ∷ 41 ∷ 45 ∷ 57 ∷ 58 ∷ 61 ∷ 62 ∷ [] }
-    ensures extended_codes { codes_that (asks_up_to 31) ≡ 9 ∷ 10 ∷ 11 ∷ 13 ∷ 14 ∷ 15 ∷ [] }
-    ensures standard_codes { codes_that (asks_up_to 23) ≡ 57 ∷ 58 ∷ 59 ∷ 61 ∷ 62 ∷ 63 ∷ [] }
-    ensures short_codes { codes_that (asks_up_to 15) ≡ 41 ∷ 45 ∷ [] }
+    ensures extended_codes { codes_that (needs_up_to 31) ≡ 9 ∷ 10 ∷ 11 ∷ 13 ∷ 14 ∷ 15 ∷ [] }
+    ensures standard_codes { codes_that (needs_up_to 23) ≡ 57 ∷ 58 ∷ 59 ∷ 61 ∷ 62 ∷ 63 ∷ [] }
+    ensures short_codes { codes_that (needs_up_to 15) ≡ 41 ∷ 45 ∷ [] }
     ensures high_lines { not_idle_with Low ≡ high_lines }
     ensures known_lines { not_idle_with Unknown ≡ control_lines }
-    ensures control_lines { lost_lines ≡ control_lines }
+    ensures control_lines { lines_losing_control ≡ control_lines }
     ensures standard_needs { needed_lines (lines_of_code 61) ≡ standard_lines }
     ensures acknowledge_needs { needed_lines (high_but IACK Low) ≡ 5 ∷ 14 ∷ 15 ∷ 16 ∷ [] }
     ensures modifier_lines { modifier_lines ≡ 6 ∷ 7 ∷ 8 ∷ 9 ∷ 10 ∷ 11 ∷ [] }

@@ -5,21 +5,21 @@ use Rattle.std.proofs.Common.{length-drop}
 use Rattle.std.specs.Prelude.{nat_eq, if◌then◌else◌, slice_range}
 use Rattle.std.proofs.lemmas.List.{append-nil, drop_all, get_or-drop, take_more}
 use Rattle.vcd_read.specs.Tokens.{is_space}
-use Rattle.vme_variables.specs.Timescale.{scale_from, section_behind, shown_token}
+use Rattle.vme_variables.specs.Timescale.{scale_from, section_after, shown_token}
 use Rattle.vme_variables.specs.declared.timescale.TimescaleSection.{TimescaleSection}
-use Rattle.vme_variables.specs.declared.timescale.TimescaleSection.TheVariants.{Behind}
+use Rattle.vme_variables.specs.declared.timescale.TimescaleSection.TheVariants.{After}
 
 step : (s : TimescaleSection) (t : List ℕ) (b : ℕ) (bytes : List ℕ) (space : Bool) → is_space b ≡ space
     → scale_from s t (b ∷ bytes)
-    ≡ (if space then shown_token s t ++ scale_from (section_behind s t) [] bytes else scale_from s (t ++ b ∷ []) bytes)
+    ≡ (if space then shown_token s t ++ scale_from (section_after s t) [] bytes else scale_from s (t ++ b ∷ []) bytes)
 unfolding scale_from
 step s t b bytes space e =
-    ap (λ (x : Bool). if x then shown_token s t ++ scale_from (section_behind s t) [] bytes
+    ap (λ (x : Bool). if x then shown_token s t ++ scale_from (section_after s t) [] bytes
     else scale_from s (t ++ b ∷ []) bytes) e
 
 step_at : (s : TimescaleSection) (t dump : List ℕ) (at : ℕ) (space : Bool) → at < length dump
     → is_space (get_or dump at 0) ≡ space → scale_from s t (drop at dump)
-    ≡ (if space then shown_token s t ++ scale_from (section_behind s t) [] (drop (at + 1) dump)
+    ≡ (if space then shown_token s t ++ scale_from (section_after s t) [] (drop (at + 1) dump)
     else scale_from s (t ++ get_or dump at 0 ∷ []) (drop (at + 1) dump))
 step_at s t dump at space lt e =
     ap (scale_from s t) (drop-cons dump at 0 lt
@@ -42,58 +42,58 @@ range_none : (xs : List ℕ) (k : ℕ) → slice_range xs k k ≡ []
 range_none xs k = let none : k - k ≡ 0 = omega arith in ap (λ (n : ℕ). take n (drop k xs)) none
 
 -- one byte more of a token leaves the whole time scale as it is
-pub scale-goes-on : (s : TimescaleSection) (text whole dump : List ℕ) (start at : ℕ) → start ≤ at → at < length dump
+pub scale-byte : (s : TimescaleSection) (text whole dump : List ℕ) (start at : ℕ) → start ≤ at → at < length dump
     → is_space (get_or dump at 0) ≡ false
     → text ++ scale_from s (slice_range dump start at) (drop at dump) ≡ whole
     → text ++ scale_from s (slice_range dump start (at + 1)) (drop (at + 1) dump) ≡ whole
-scale-goes-on s text whole dump start at le lt e is =
+scale-byte s text whole dump start at le lt e is =
     ap (λ (t : List ℕ). text ++ scale_from s t (drop (at + 1) dump)) (range_more dump start at le lt)
     ∙ ap (λ (scale : List ℕ). text ++ scale) (sym (step_at s (slice_range dump start at) dump at false lt e))
     ∙ is
 
 -- a space after a token leaves the whole time scale as it is
-pub scale-steps : (s behind : TimescaleSection) (text after whole dump : List ℕ) (start at : ℕ) → at < length dump
+pub scale-space : (s behind : TimescaleSection) (text after whole dump : List ℕ) (start at : ℕ) → at < length dump
     → is_space (get_or dump at 0) ≡ true → after ≡ text ++ shown_token s (slice_range dump start at) → behind
-    ≡ section_behind s (slice_range dump start at)
+    ≡ section_after s (slice_range dump start at)
     → text ++ scale_from s (slice_range dump start at) (drop at dump) ≡ whole
     → after ++ scale_from behind (slice_range dump (at + 1) (at + 1)) (drop (at + 1) dump) ≡ whole
-scale-steps s behind text after whole dump start at lt e pushed is_behind is =
+scale-space s behind text after whole dump start at lt e pushed is_behind is =
     let t = slice_range dump start at in
     let rest = drop (at + 1) dump in
     ap (λ (none : List ℕ). after ++ scale_from behind none rest) (range_none dump (at + 1))
     ∙ ap (λ (x : TimescaleSection). after ++ scale_from x [] rest) is_behind
-    ∙ ap (λ (front : List ℕ). front ++ scale_from (section_behind s t) [] rest) pushed
-    ∙ append_assoc text (shown_token s t) (scale_from (section_behind s t) [] rest)
+    ∙ ap (λ (front : List ℕ). front ++ scale_from (section_after s t) [] rest) pushed
+    ∙ append_assoc text (shown_token s t) (scale_from (section_after s t) [] rest)
     ∙ ap (λ (scale : List ℕ). text ++ scale) (sym (step_at s t dump at true lt e))
     ∙ is
 
 -- after the time scale nothing is added to it
-behind-on : (bytes : List ℕ) (n : Bool) → scale_from Behind [] bytes ≡ []
-    → scale_from (if n then Behind else Behind) [] bytes ≡ []
-behind-on bytes true none = none
-behind-on bytes false none = none
+after-on : (bytes : List ℕ) (n : Bool) → scale_from After [] bytes ≡ []
+    → scale_from (if n then After else After) [] bytes ≡ []
+after-on bytes true none = none
+after-on bytes false none = none
 
-behind-step : (token bytes : List ℕ) (b : ℕ) (space : Bool) → scale_from Behind [] bytes ≡ []
-    → scale_from Behind (token ++ b ∷ []) bytes ≡ []
-    → (if space then shown_token Behind token ++ scale_from (section_behind Behind token) [] bytes
-    else scale_from Behind (token ++ b ∷ []) bytes) ≡ []
-behind-step token bytes b true none more = behind-on bytes (nat_eq (length token) 0) none
-behind-step token bytes b false none more = more
+after-step : (token bytes : List ℕ) (b : ℕ) (space : Bool) → scale_from After [] bytes ≡ []
+    → scale_from After (token ++ b ∷ []) bytes ≡ []
+    → (if space then shown_token After token ++ scale_from (section_after After token) [] bytes
+    else scale_from After (token ++ b ∷ []) bytes) ≡ []
+after-step token bytes b true none more = after-on bytes (nat_eq (length token) 0) none
+after-step token bytes b false none more = more
 
 -- whatever follows the time scale adds nothing to it
-behind_all : (token bytes : List ℕ) → scale_from Behind token bytes ≡ []
+nothing_after : (token bytes : List ℕ) → scale_from After token bytes ≡ []
 unfolding scale_from
-behind_all token [] = refl
-behind_all token (b ∷ bytes) =
-    behind-step token bytes b (is_space b) (behind_all [] bytes) (behind_all (token ++ b ∷ []) bytes)
+nothing_after token [] = refl
+nothing_after token (b ∷ bytes) =
+    after-step token bytes b (is_space b) (nothing_after [] bytes) (nothing_after (token ++ b ∷ []) bytes)
 
 -- after the time scale, `text` is the whole
-pub scale-behind : (s : TimescaleSection) (text whole token bytes : List ℕ) → s ≡ Behind
+pub scale-after : (s : TimescaleSection) (text whole token bytes : List ℕ) → s ≡ After
     → text ++ scale_from s token bytes ≡ whole → text ≡ whole
-scale-behind s text whole token bytes behind is =
+scale-after s text whole token bytes behind is =
     sym (append-nil text)
     ∙ ap (λ (scale : List ℕ). text ++ scale) (sym (ap (λ (x : TimescaleSection). scale_from x token bytes) behind
-    ∙ behind_all token bytes))
+    ∙ nothing_after token bytes))
     ∙ is
 
 -- the last token completes the time scale

@@ -7,9 +7,9 @@ pub record Counts : Type 0 where
   pub last : ℕ
 
 -- one change more of a net; no count goes past the greatest number of 64 bits
-abbrev pub counted : Counts → ℕ → Counts
-counted c net = record c { counts = slice_set c.counts net (min (get_or c.counts net 0 + 1) (2 ^ 64 - 1)) }
+abbrev pub count_change : Counts → ℕ → Counts
+count_change c net = record c { counts = slice_set c.counts net (min (get_or c.counts net 0 + 1) (2 ^ 64 - 1)) }
 
 -- the end of an instant
-abbrev pub ended : Counts → ℕ → Counts
-ended c time = record c { last = time }
+abbrev pub with_last_instant : Counts → ℕ → Counts
+with_last_instant c time = record c { last = time }

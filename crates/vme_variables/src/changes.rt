@@ -1,7 +1,7 @@
 //! How often each net of a dump changes.
 
 ghost use Rattle.std.specs.Prelude.{◌≡◌, OnOk};
-ghost use Rattle.vme_variables.specs.Counts.{counted, ended};
+ghost use Rattle.vme_variables.specs.Counts.{count_change, with_last_instant};
 
 use std::alloc::{AllocError, Global};
 use std::marker::Model;
@@ -48,9 +48,9 @@ impl ChangeVisitor for ChangeCounts {
 
     ghost taken = { λ c. c };
 
-    ghost with_change = { λ c net bits. counted c net };
+    ghost with_change = { λ c net bits. count_change c net };
 
-    ghost with_instant = { λ c time. ended c time };
+    ghost with_instant = { λ c time. with_last_instant c time };
 
     fn change(
         &mut self,

@@ -2,7 +2,7 @@
 
 ghost use Rattle.std.specs.Prelude.{◌≡◌, ◌≤◌, ◌++◌, IfOk, OnOk};
 ghost use Rattle.vcd_read.specs.Tokens.{is_space};
-ghost use Rattle.vme_variables.specs.Timescale.{section_behind, shown_token, time_scale};
+ghost use Rattle.vme_variables.specs.Timescale.{section_after, shown_token, time_scale};
 
 use std::alloc::{AllocError, Global};
 use vme_text::Text;
@@ -15,7 +15,7 @@ enum TimescaleSection {
     Timescale,
     Other,
     /// The first time scale has ended, or the definitions have.
-    Behind,
+    After,
 }
 
 /// Whether a byte separates tokens.
@@ -32,7 +32,7 @@ fn push_token(
     token: &[u8],
 ) -> Result<TimescaleSection, AllocError>
     ensures text { OnOk result (text.new ≡ text.old ++ shown_token section token.now) }
-    ensures section { IfOk result (λ behind. behind ≡ section_behind section token.now) }
+    ensures section { IfOk result (λ behind. behind ≡ section_after section token.now) }
 {
     if token.is_empty() {
         return Ok(section);
@@ -40,7 +40,7 @@ fn push_token(
     match section {
         TimescaleSection::Outside => {
             if token == b"$enddefinitions".as_slice() {
-                return Ok(TimescaleSection::Behind);
+                return Ok(TimescaleSection::After);
             }
             if token == b"$timescale".as_slice() {
                 return Ok(TimescaleSection::Timescale);
@@ -49,7 +49,7 @@ fn push_token(
         }
         TimescaleSection::Timescale => {
             if token == b"$end".as_slice() {
-                return Ok(TimescaleSection::Behind);
+                return Ok(TimescaleSection::After);
             }
             text.push(token)?;
             Ok(TimescaleSection::Timescale)
@@ -60,7 +60,7 @@ fn push_token(
             }
             Ok(TimescaleSection::Other)
         }
-        TimescaleSection::Behind => Ok(TimescaleSection::Behind),
+        TimescaleSection::After => Ok(TimescaleSection::After),
     }
 }
 
@@ -75,7 +75,7 @@ pub(crate) fn push_timescale(text: &mut Text, dump: &[u8]) -> Result<(), AllocEr
             continue;
         }
         section = push_token(text, section, &dump[start..at])?;
-        if let TimescaleSection::Behind = section {
+        if let TimescaleSection::After = section {
             return Ok(());
         }
         start = at + 1;

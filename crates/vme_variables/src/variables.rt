@@ -24,13 +24,13 @@ pub fn variables_text(alloc: Global, dump: &[u8]) -> Result<Text, VcdFault>
     ensures err { IfErr result (λ fault. ReadFails fault (dump_of dump.now)) }
 {
     match read_definitions(alloc, dump, Variables::new(alloc)) {
-        Ok((head, variables)) => variables_behind(alloc, dump, &head, variables.as_slice()),
+        Ok((head, variables)) => variables_after(alloc, dump, &head, variables.as_slice()),
         Err(fault) => Err(fault),
     }
 }
 
 /// The text of the variables of a dump, after its definitions `head` are read.
-fn variables_behind(
+fn variables_after(
     alloc: Global,
     dump: &[u8],
     head: &Head<'_>,

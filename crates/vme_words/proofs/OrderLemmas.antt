@@ -15,7 +15,7 @@ use Rattle.clap.specs.declared.parser.matches.ArgMatches.{ArgMatches}
 use Rattle.clap.proofs.WalkLemmas.{first_value-rows, one_text-rows}
 use Rattle.clap.specs.Words.{subcommand_name_of, subcommand_rows_of}
 use Rattle.clap.specs.declared.parser.matches.ArgMatches.TheViews.{out-ArgMatches}
-use Rattle.vme_words.specs.Orders.{HasAll, HasNumber, HasOrder, HasUnsigned, IsOrder, Says, number_in, number_of}
+use Rattle.vme_words.specs.Orders.{HasAll, HasOrder, HasSignedIn, HasUnsignedFrom, IsOrder, Says, number_in, number_of}
 use Rattle.vme_words.specs.Orders.{task_name, task_of}
 use Rattle.vme_words.specs.Commands.{greatest_number, vmecheck_app}
 use Rattle.vme_words.specs.OrderFaults.{ComesOf, IsFaultOf}
@@ -43,7 +43,7 @@ number_read E G m id n r none value reads is = go (one_text (found_of m) id) ref
 -- if the option `id` has a number from `least` to `greatest`, below 2^32, the getter reads one in that range
 pub number_there : (E : Type 0) (G : List ℕ → Result ℕ E → Type 0) (m : ArgMatches) (id : Text) (least greatest : ℕ)
     (r : Option ℕ)
-    → HasNumber id least greatest (rows_of (found_of m)) → greatest < 2 ^ 32
+    → HasSignedIn id least greatest (rows_of (found_of m)) → greatest < 2 ^ 32
     → ((t : List ℕ) → one_text (found_of m) id ≡ Some t → ReadsOne G t r)
     → ((t : List ℕ) (x : Result ℕ E) → G t x → ParsesUnsigned 32 10 t x)
     → (n : ℕ) × (r ≡ Some n) × (least ≤ n) × (n ≤ greatest)
@@ -62,7 +62,7 @@ unsigned_reads E G least t None read only says = absurd (only t (Err read.0) rea
 
 -- if the option `id` has a number of 64 bits from `least` on, the getter reads one in that range
 pub unsigned_there : (E : Type 0) (G : List ℕ → Result ℕ E → Type 0) (m : ArgMatches) (id : Text) (least : ℕ)
-    (r : Option ℕ) → HasUnsigned id least (rows_of (found_of m))
+    (r : Option ℕ) → HasUnsignedFrom id least (rows_of (found_of m))
     → ((t : List ℕ) → one_text (found_of m) id ≡ Some t → ReadsOne G t r)
     → ((t : List ℕ) (x : Result ℕ E) → G t x → ParsesUnsigned 64 10 t x) → (n : ℕ) × (r ≡ Some n) × (least ≤ n)
 unsigned_there E G m id least r has value only =

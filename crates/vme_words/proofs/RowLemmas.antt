@@ -48,7 +48,7 @@ both_free (k ∷ ks) b e = cc
 
 -- row `r` of the argument `a` has a text, and its texts pass `a`'s parser and are read as `a` says
 pub record IsGood (a : Rule) (r : Row) : Type 0 where
-  pub some : 0 < length r.values
+  pub nonempty : 0 < length r.values
   pub passes : values_pass a r.values ≡ true
   pub reading : r.reading ≡ reading_by a
 
@@ -100,7 +100,7 @@ new_good : (c : List Rule) (a : Rule) (s : ValueSource) (values : List Text) →
     → 0 < length values → values_pass a values ≡ true
     → Good c (row_with a s values)
 new_good c a s values own some passes b found =
-    let good : IsGood a (row_with a s values) = record { some = some; passes = passes; reading = refl } in
+    let good : IsGood a (row_with a s values) = record { nonempty = some; passes = passes; reading = refl } in
     subst (λ (x : Rule). IsGood x (row_with a s values)) (same_rule a b (sym own ∙ found)) good
 
 more_good : (c : List Rule) (a : Rule) (s : ValueSource) (values : List Text) (r changed : Row) → changed.id ≡ r.id
@@ -115,7 +115,7 @@ more_good c a s values r changed id texts reading own some passes e g b found =
     let all : values_pass b (r.values ++ values) ≡ true = more_pass _ r.values values old.passes
     (subst (λ (x : Rule). values_pass x values ≡ true) is passes) in
     record {
-      some = subst (λ (xs : List Text). 0 < length xs) (sym texts) (more_texts r.values values some);
+      nonempty = subst (λ (xs : List Text). 0 < length xs) (sym texts) (more_texts r.values values some);
       passes = subst (λ (xs : List Text). values_pass b xs ≡ true) (sym texts) all;
       reading = reading ∙ old.reading;
     }
@@ -182,26 +182,26 @@ missing_some a [] (v ∷ vs) is e = rw is (omega arith)
 missing_some a (v ∷ vs) missing is e = omega arith
 
 -- one use of an argument without a fault leaves good rows
-acted : (c : List Rule) (again : Bool) (x : ArgAction) (a : Rule) (values : List Text) (rows : List Row) → Acts x a
-    → arg_by_id c a.id ≡ Some a
+action_good : (c : List Rule) (again : Bool) (x : ArgAction) (a : Rule) (values : List Text) (rows : List Row)
+    → Acts x a → arg_by_id c a.id ≡ Some a
     → range_kinds (unwrap_or_range a.range).start_inclusive (most_values a) (length values) ≡ []
     → action_fault x again a (values_or_missing a values) rows ≡ [] → AllGood c rows
     → AllGood c (used_as x a.id (reading_by a) (values_or_missing a values) rows)
-acted c again action.Set a values rows acts own range free h =
+action_good c again action.Set a values rows acts own range free h =
     good_with c a CommandLine (values_or_missing a values) (without a.id rows) own (has_some a values _ (most_values a)
     acts range)
     (free_passes a.ignore_case (parser_of_value a.parser) (values_or_missing a values) (both_free _ _ free).1)
     (good_without c a.id rows h)
-acted c again action.Append a values rows acts own range free h =
+action_good c again action.Append a values rows acts own range free h =
     good_with c a CommandLine (values_or_missing a values) rows own (has_some a values _ (most_values a) acts range)
     (free_passes a.ignore_case (parser_of_value a.parser) (values_or_missing a values) free) h
-acted c again action.SetTrue a values rows acts own range free h =
+action_good c again action.SetTrue a values rows acts own range free h =
     good_with c a CommandLine (values_or_missing a values) (without a.id rows) own
     (missing_some a values a.missing refl acts)
     (free_passes a.ignore_case (parser_of_value a.parser) (values_or_missing a values) (both_free _ _ free).1)
     (good_without c a.id rows h)
-acted c again action.Help a values rows acts own range free h = cc
-acted c again _ a values rows acts own range free h = absurd acts
+action_good c again action.Help a values rows acts own range free h = cc
+action_good c again _ a values rows acts own range free h = absurd acts
 
 module _ (c : List Rule) (again : Bool) (known : EachKnown c c) where
   used_good : (a : Rule) (values : List Text) (rows : List Row) → Known c a → use_fault again a values rows ≡ []
@@ -209,7 +209,7 @@ module _ (c : List Rule) (again : Bool) (known : EachKnown c c) where
   used_good a values rows k e h =
       let f = both_free (range_kinds (unwrap_or_range a.range).start_inclusive (most_values a) (length values))
       (action_fault (action_of a) again a (values_or_missing a values) rows) e in
-      acted c again (action_of a) a values rows k.acts k.own f.0 f.1 h
+      action_good c again (action_of a) a values rows k.acts k.own f.0 f.1 h
 
   settled_good : (pending : Option (Text × List Text)) (rows : List Row)
       → option_map_or (λ p. option_map_or (λ a. use_fault again a p.1 rows) (arg_by_id c p.0) []) pending [] ≡ []
@@ -446,11 +446,11 @@ given_text c rows a g own given = go (find (λ r. bytes_eq r.id a.id) rows) refl
   where
     go : (o : Option Row) → find (λ r. bytes_eq r.id a.id) rows ≡ o → is_some (first_of a.id rows) ≡ true
     go None e = let bad = rw e at given in cc
-    go (Some r) e = rw e (first_text r.values (row_good c rows a r g own e).some)
+    go (Some r) e = rw e (first_text r.values (row_good c rows a r g own e).nonempty)
 
 row_passes : (a : Rule) (r : Row) (p : ValueParser) (vs : List Text) → r.values ≡ vs → IsGood a r → a.parser ≡ Some p
     → (text : Text) × (row_text r ≡ Some (read_as (reading_of p) text)) × Accepts a.ignore_case p text
-row_passes a r p [] is g parser = let bad = rw is at g.some in absurd (omega arith)
+row_passes a r p [] is g parser = let bad = rw is at g.nonempty in absurd (omega arith)
 row_passes a r p (v ∷ vs) is g parser =
     let passes = rw (is, parser) at g.passes in
     (v, rw (is, g.reading, parser) refl, accepts-Accepts a.ignore_case p v (both _ _ passes).0)

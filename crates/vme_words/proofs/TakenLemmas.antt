@@ -20,8 +20,8 @@ use Rattle.vme_words.specs.Commands.{explain_app, faults_app, file_count_rule, f
 use Rattle.vme_words.specs.Commands.{flag_rule, greatest_file_number, greatest_number, join_app, list_app, part_app}
 use Rattle.vme_words.specs.Commands.{recording_app, rules_app, skew_rule, slots_rule, stop_rule, tell_app}
 use Rattle.vme_words.specs.Commands.{transfers_rule, variables_app, vmecheck_app, word_rule, workers_rule}
-use Rattle.vme_words.specs.Orders.{HasAudit, HasBind, HasConfirmation, HasSkewAndNames, HasName, HasOrder, HasPart}
-use Rattle.vme_words.specs.Orders.{HasRecording, MayHaveNumber, MayHaveUnsigned}
+use Rattle.vme_words.specs.Orders.{HasAudit, HasBind, HasConfirmation, HasName, HasOptionsAndNames, HasOrder, HasPart}
+use Rattle.vme_words.specs.Orders.{HasSkewAndNames, MayHaveSignedIn, MayHaveUnsignedFrom}
 use Rattle.vme_words.specs.declared.limits.TheConstants.{MOST_SLOTS, MOST_STEPS, MOST_WORKERS}
 use Rattle.vme_words.specs.declared.order.Task.TheVariants.{Annotate, Audit, Bind, Check, Confirm, Explain, Faults}
 use Rattle.vme_words.specs.declared.order.Task.TheVariants.{Join, List as Listing, Part, Rules, Tell, Variables}
@@ -377,7 +377,7 @@ three_given true false l e = cc
 three_given false d l e = cc
 
 recording_has : (name : Text) (words : List Text) → level_fault (recording name) [] nothing_held words false [] ≡ []
-    → HasRecording (rows_after recording_rules [] words)
+    → HasOptionsAndNames (rows_after recording_rules [] words)
 recording_has name words e =
     let level = level_good (recording name) words recording_known e in
     let rows = rows_after recording_rules [] words in
@@ -409,7 +409,7 @@ recording_has name words e =
     }
 
 listing_has : (words : List Text) → level_fault of_list [] nothing_held words false [] ≡ []
-    → HasRecording (rows_after listing_rules [] words)
+    → HasOptionsAndNames (rows_after listing_rules [] words)
 listing_has words e =
     let level = level_good of_list words listing_known e in
     let rows = rows_after listing_rules [] words in
@@ -482,7 +482,7 @@ audit_has words e =
     audit_known.1.1.1.1.0.own refl
     (defaults_keep (codes "workers") (quiet ∷ junit ∷ binding ∷ dumps ∷ help ∷ []) (with_default behind_skew workers)
     (default_adds behind_skew workers (codes "4") [] refl)) in
-    let may_stop : MayHaveUnsigned (codes "stop") 1 rows = elim
+    let may_stop : MayHaveUnsignedFrom (codes "stop") 1 rows = elim
     (row_may_say audit_rules rows stop (Unsigned 1 greatest_number) level.0 audit_known.1.1.0.own refl) [
       | inl none ↦ inl none
       | inr n ↦ inr (record { text = n.0; read = n.1; says = n.2 })
@@ -508,7 +508,7 @@ bind_has : (words : List Text) → level_fault of_bind [] nothing_held words fal
 bind_has words e =
     let level = level_good of_bind words bind_known e in
     let rows = rows_after bind_rules [] words in
-    let may_have_slots : MayHaveNumber (codes "slots") 1 MOST_SLOTS rows = elim
+    let may_have_slots : MayHaveSignedIn (codes "slots") 1 MOST_SLOTS rows = elim
     (row_may_say bind_rules rows slots (Signed (pos 1) (pos MOST_SLOTS)) level.0 bind_known.0.own refl) [
       | inl none ↦ inl none
       | inr n ↦ inr (record { text = n.0; read = n.1; says = n.2 })
@@ -577,7 +577,7 @@ part_has words e =
     }
 
 tell_has : (words : List Text) → level_fault of_tell [] nothing_held words false [] ≡ []
-    → MayHaveUnsigned (codes "files") 1 (rows_after tell_rules [] words)
+    → MayHaveUnsignedFrom (codes "files") 1 (rows_after tell_rules [] words)
 tell_has words e =
     let level = level_good of_tell words tell_known e in
     let rows = rows_after tell_rules [] words in

@@ -179,29 +179,29 @@ pub record IsOrder (order : Order) (met : Option (Text × List Row)) : Type 0 wh
 
 -- The option's value is a number from `least` to `greatest`. clap's signed parser gives it without a minus sign (of
 -- `-0`).
-pub record HasNumber (name : Text) (least greatest : ℕ) (rows : List Row) : Type 0 where
+pub record HasSignedIn (name : Text) (least greatest : ℕ) (rows : List Row) : Type 0 where
   pub text : Text
   pub read : one_of name rows ≡ Some (without_minus text)
   pub says : IsSignedIn (pos least) (pos greatest) text
 
 -- the option's value is a number of 64 bits from `least` on
-pub record HasUnsigned (name : Text) (least : ℕ) (rows : List Row) : Type 0 where
+pub record HasUnsignedFrom (name : Text) (least : ℕ) (rows : List Row) : Type 0 where
   pub text : Text
   pub read : one_of name rows ≡ Some text
   pub says : IsUnsignedIn least greatest_number text
 
 -- the option isn't given, or its value is a number from `least` to `greatest`
-abbrev pub MayHaveNumber : Text → ℕ → ℕ → List Row → Type 0
-MayHaveNumber name least greatest rows = (first_of name rows ≡ None) ⊎ HasNumber name least greatest rows
+abbrev pub MayHaveSignedIn : Text → ℕ → ℕ → List Row → Type 0
+MayHaveSignedIn name least greatest rows = (first_of name rows ≡ None) ⊎ HasSignedIn name least greatest rows
 
-abbrev pub MayHaveUnsigned : Text → ℕ → List Row → Type 0
-MayHaveUnsigned name least rows = (first_of name rows ≡ None) ⊎ HasUnsigned name least rows
+abbrev pub MayHaveUnsignedFrom : Text → ℕ → List Row → Type 0
+MayHaveUnsignedFrom name least rows = (first_of name rows ≡ None) ⊎ HasUnsignedFrom name least rows
 
 abbrev pub HasWorkers : List Row → Type 0
-HasWorkers rows = HasNumber (codes "workers") 1 MOST_WORKERS rows
+HasWorkers rows = HasSignedIn (codes "workers") 1 MOST_WORKERS rows
 
 abbrev pub HasSkew : List Row → Type 0
-HasSkew rows = HasUnsigned (codes "skew") 0 rows
+HasSkew rows = HasUnsignedFrom (codes "skew") 0 rows
 
 -- the argument is given
 abbrev pub HasName : Text → List Row → Type 0
@@ -213,11 +213,11 @@ pub record HasNames (rows : List Row) : Type 0 where
   pub dump : HasName (codes "DUMP") rows
 
 pub record HasOptions (rows : List Row) : Type 0 where
-  pub block : HasNumber (codes "block") 1 MOST_STEPS rows
+  pub block : HasSignedIn (codes "block") 1 MOST_STEPS rows
   pub workers : HasWorkers rows
   pub skew : HasSkew rows
 
-pub record HasRecording (rows : List Row) : Type 0 where
+pub record HasOptionsAndNames (rows : List Row) : Type 0 where
   pub options : HasOptions rows
   pub names : HasNames rows
 
@@ -232,23 +232,23 @@ pub record HasSkewAndNames (rows : List Row) : Type 0 where
   pub names : HasNames rows
 
 pub record HasAudit (rows : List Row) : Type 0 where
-  pub transfers : HasUnsigned (codes "transfers") 0 rows
-  pub stop : MayHaveUnsigned (codes "stop") 1 rows
+  pub transfers : HasUnsignedFrom (codes "transfers") 0 rows
+  pub stop : MayHaveUnsignedFrom (codes "stop") 1 rows
   pub skew : HasSkew rows
   pub workers : HasWorkers rows
   pub binding : HasName (codes "BINDING") rows
 
 pub record HasBind (rows : List Row) : Type 0 where
-  pub slots : MayHaveNumber (codes "slots") 1 MOST_SLOTS rows
+  pub slots : MayHaveSignedIn (codes "slots") 1 MOST_SLOTS rows
   pub dump : HasName (codes "DUMP") rows
 
 pub record HasPart (rows : List Row) : Type 0 where
-  pub number : HasNumber (codes "number") 0 greatest_file_number rows
+  pub number : HasSignedIn (codes "number") 0 greatest_file_number rows
   pub names : HasNames rows
 
 abbrev pub HasAll : Task → List Row → Type 0
-HasAll tasks.Check rows = HasRecording rows
-HasAll tasks.List rows = HasRecording rows
+HasAll tasks.Check rows = HasOptionsAndNames rows
+HasAll tasks.List rows = HasOptionsAndNames rows
 HasAll tasks.Confirm rows = HasConfirmation rows
 HasAll tasks.Rules rows = Unit {0}
 HasAll tasks.Faults rows = Unit {0}
@@ -259,7 +259,7 @@ HasAll tasks.Audit rows = HasAudit rows
 HasAll tasks.Annotate rows = HasSkewAndNames rows
 HasAll tasks.Part rows = HasPart rows
 HasAll tasks.Join rows = Unit {0}
-HasAll tasks.Tell rows = MayHaveUnsigned (codes "files") 1 rows
+HasAll tasks.Tell rows = MayHaveUnsignedFrom (codes "files") 1 rows
 
 -- a task is given, and its matches have all that its order needs
 pub record HasOrder (met : Option (Text × List Row)) : Type 0 where

@@ -7,10 +7,10 @@ ghost use Rattle.vme_words.specs.Commands.{vmecheck_app};
 ghost use Rattle.vme_words.specs.OrderFaults.{HasUsageKind, IsFaultOf, IsOfWords};
 ghost use Rattle.vme_words.specs.declared.limits.TheConstants.{MOST_SLOTS};
 ghost use Rattle.vme_words.specs.declared.order.Task.{Task};
-ghost use Rattle.vme_words.specs.Orders.{HasAll, HasAudit, HasBind, HasConfirmation, HasName, HasNames, HasNumber};
-ghost use Rattle.vme_words.specs.Orders.{HasOptions, HasOrder, HasPart, HasRecording, HasSkewAndNames, HasUnsigned};
-ghost use Rattle.vme_words.specs.Orders.{IsOrder, MayHaveNumber, MayHaveUnsigned, SaysFiles, SaysOptions, has_flag};
-ghost use Rattle.vme_words.specs.Orders.{number_in, task_name, texts_in};
+ghost use Rattle.vme_words.specs.Orders.{HasAll, HasAudit, HasBind, HasConfirmation, HasName, HasNames, HasOptions};
+ghost use Rattle.vme_words.specs.Orders.{HasOptionsAndNames, HasOrder, HasPart, HasSignedIn, HasSkewAndNames};
+ghost use Rattle.vme_words.specs.Orders.{HasUnsignedFrom, IsOrder, MayHaveSignedIn, MayHaveUnsignedFrom, SaysFiles};
+ghost use Rattle.vme_words.specs.Orders.{SaysOptions, has_flag, number_in, task_name, texts_in};
 
 use crate::command::{
     annotate_command, audit_command, bind_command, check_command, confirm_command, explain_command,
@@ -124,7 +124,7 @@ fn order_to(alloc: Global, task: Task, found: &ArgMatches<'_>) -> Result<Option<
 fn check_order(alloc: Global, found: &ArgMatches<'_>) -> Result<Option<Order>, AllocError>
     ensures said { IfOk result (λ o. IfSome o (λ order. IsOrder order
         (Some (codes "check", rows_of (found_of found.now))))) }
-    ensures found { HasRecording (rows_of (found_of found.now)) → IfOk result (λ o. is_some o ≡ true) }
+    ensures found { HasOptionsAndNames (rows_of (found_of found.now)) → IfOk result (λ o. is_some o ≡ true) }
 {
     let Some(options) = judge_options(found) else {
         return Ok(None);
@@ -140,7 +140,7 @@ fn check_order(alloc: Global, found: &ArgMatches<'_>) -> Result<Option<Order>, A
 fn list_order(alloc: Global, found: &ArgMatches<'_>) -> Result<Option<Order>, AllocError>
     ensures said { IfOk result (λ o. IfSome o (λ order. IsOrder order
         (Some (codes "list", rows_of (found_of found.now))))) }
-    ensures found { HasRecording (rows_of (found_of found.now)) → IfOk result (λ o. is_some o ≡ true) }
+    ensures found { HasOptionsAndNames (rows_of (found_of found.now)) → IfOk result (λ o. is_some o ≡ true) }
 {
     let Some(options) = judge_options(found) else {
         return Ok(None);
@@ -168,7 +168,7 @@ fn confirm_order(alloc: Global, found: &ArgMatches<'_>) -> Result<Option<Order>,
     let Some(recording) = recording_files(alloc, found)? else {
         return Ok(None);
     };
-    let Some(listing) = word_of(alloc, found, "LISTING")? else {
+    let Some(listing) = value_of(alloc, found, "LISTING")? else {
         return Ok(None);
     };
     Ok(Some(Order::Confirm(ConfirmOrder {
@@ -197,11 +197,11 @@ fn audit_order(alloc: Global, found: &ArgMatches<'_>) -> Result<Option<Order>, A
     let Some(workers) = number(found, "workers", 1, MOST_WORKERS) else {
         return Ok(None);
     };
-    let Some(binding) = word_of(alloc, found, "BINDING")? else {
+    let Some(binding) = value_of(alloc, found, "BINDING")? else {
         return Ok(None);
     };
     let allowed = texts_of(alloc, found, "allow")?;
-    let junit = word_of(alloc, found, "junit")?;
+    let junit = value_of(alloc, found, "junit")?;
     let dumps = texts_of(alloc, found, "DUMP")?;
     Ok(Some(Order::Audit(AuditOrder {
         transfers,
@@ -223,7 +223,7 @@ fn rules_order(alloc: Global, found: &ArgMatches<'_>) -> Result<Option<Order>, A
         (Some (codes "rules", rows_of (found_of found.now))))) }
     ensures found { IfOk result (λ o. is_some o ≡ true) }
 {
-    let rule = word_of(alloc, found, "RULE")?;
+    let rule = value_of(alloc, found, "RULE")?;
     Ok(Some(Order::Rules(RulesOrder { rule })))
 }
 
@@ -234,7 +234,7 @@ fn faults_order(alloc: Global, found: &ArgMatches<'_>) -> Result<Option<Order>, 
         (Some (codes "faults", rows_of (found_of found.now))))) }
     ensures found { IfOk result (λ o. is_some o ≡ true) }
 {
-    let kind = word_of(alloc, found, "KIND")?;
+    let kind = value_of(alloc, found, "KIND")?;
     Ok(Some(Order::Faults(FaultsOrder { kind })))
 }
 
@@ -245,7 +245,7 @@ fn variables_order(alloc: Global, found: &ArgMatches<'_>) -> Result<Option<Order
         (Some (codes "variables", rows_of (found_of found.now))))) }
     ensures found { HasName (codes "DUMP") (rows_of (found_of found.now)) → IfOk result (λ o. is_some o ≡ true) }
 {
-    let Some(dump) = word_of(alloc, found, "DUMP")? else {
+    let Some(dump) = value_of(alloc, found, "DUMP")? else {
         return Ok(None);
     };
     Ok(Some(Order::Variables(VariablesOrder { dump })))
@@ -261,10 +261,10 @@ fn bind_order(alloc: Global, found: &ArgMatches<'_>) -> Result<Option<Order>, Al
     let Some(slots) = slots_of(found) else {
         return Ok(None);
     };
-    let Some(dump) = word_of(alloc, found, "DUMP")? else {
+    let Some(dump) = value_of(alloc, found, "DUMP")? else {
         return Ok(None);
     };
-    let scope = word_of(alloc, found, "scope")?;
+    let scope = value_of(alloc, found, "scope")?;
     Ok(Some(Order::Bind(BindOrder { slots, scope, dump })))
 }
 
@@ -281,8 +281,8 @@ fn explain_order(alloc: Global, found: &ArgMatches<'_>) -> Result<Option<Order>,
     let Some(recording) = recording_files(alloc, found)? else {
         return Ok(None);
     };
-    let viewer = word_of(alloc, found, "gtkw")?;
-    let picture = word_of(alloc, found, "svg")?;
+    let viewer = value_of(alloc, found, "gtkw")?;
+    let picture = value_of(alloc, found, "svg")?;
     Ok(Some(Order::Explain(ExplainOrder {
         viewer,
         picture,
@@ -343,7 +343,7 @@ fn join_order(alloc: Global, found: &ArgMatches<'_>) -> Result<Option<Order>, Al
 fn tell_order(alloc: Global, found: &ArgMatches<'_>) -> Result<Option<Order>, AllocError>
     ensures said { IfOk result (λ o. IfSome o (λ order. IsOrder order
         (Some (codes "tell", rows_of (found_of found.now))))) }
-    ensures found { MayHaveUnsigned (codes "files") 1 (rows_of (found_of found.now))
+    ensures found { MayHaveUnsignedFrom (codes "files") 1 (rows_of (found_of found.now))
         → IfOk result (λ o. is_some o ≡ true) }
 {
     let Some(file_count) = unsigned_if_given(found, "files", 1) else {
@@ -386,10 +386,10 @@ fn recording_files(
     ensures said { IfOk result (λ o. IfSome o (λ files. SaysFiles files (rows_of (found_of found.now)))) }
     ensures found { HasNames (rows_of (found_of found.now)) → IfOk result (λ o. is_some o ≡ true) }
 {
-    let Some(binding) = word_of(alloc, found, "BINDING")? else {
+    let Some(binding) = value_of(alloc, found, "BINDING")? else {
         return Ok(None);
     };
-    let Some(dump) = word_of(alloc, found, "DUMP")? else {
+    let Some(dump) = value_of(alloc, found, "DUMP")? else {
         return Ok(None);
     };
     Ok(Some(RecordingFiles { binding, dump }))
@@ -399,7 +399,8 @@ fn recording_files(
 fn slots_of(found: &ArgMatches<'_>) -> Option<Option<u8>>
     ensures value { IfSome result (λ slots. slots ≡ number_in (codes "slots") (rows_of (found_of found.now))) }
     ensures range { IfSome result (λ slots. IfSome slots (λ n. (1 ≤ n) × (n ≤ MOST_SLOTS))) }
-    ensures found { MayHaveNumber (codes "slots") 1 MOST_SLOTS (rows_of (found_of found.now)) → is_some result ≡ true }
+    ensures found { MayHaveSignedIn (codes "slots") 1 MOST_SLOTS (rows_of (found_of found.now))
+        → is_some result ≡ true }
 {
     if found.get_str("slots").is_none() {
         return Some(None);
@@ -445,7 +446,7 @@ fn owned_texts(alloc: Global, texts: &[&str]) -> Result<Vec<String>, AllocError>
 fn number(found: &ArgMatches<'_>, name: &str, least: u32, greatest: u32) -> Option<u32>
     ensures value { IfSome result (λ n. number_in name.now (rows_of (found_of found.now)) ≡ Some n) }
     ensures range { IfSome result (λ n. (least ≤ n) × (n ≤ greatest)) }
-    ensures found { HasNumber name.now least greatest (rows_of (found_of found.now)) → is_some result ≡ true }
+    ensures found { HasSignedIn name.now least greatest (rows_of (found_of found.now)) → is_some result ≡ true }
 {
     match found.get_one::<u32>(name) {
         Some(number) if least <= number && number <= greatest => Some(number),
@@ -457,7 +458,7 @@ fn number(found: &ArgMatches<'_>, name: &str, least: u32, greatest: u32) -> Opti
 fn unsigned(found: &ArgMatches<'_>, name: &str, least: u64) -> Option<u64>
     ensures value { IfSome result (λ n. number_in name.now (rows_of (found_of found.now)) ≡ Some n) }
     ensures range { IfSome result (λ n. least ≤ n) }
-    ensures found { HasUnsigned name.now least (rows_of (found_of found.now)) → is_some result ≡ true }
+    ensures found { HasUnsignedFrom name.now least (rows_of (found_of found.now)) → is_some result ≡ true }
 {
     match found.get_one::<u64>(name) {
         Some(number) if least <= number => Some(number),
@@ -469,7 +470,7 @@ fn unsigned(found: &ArgMatches<'_>, name: &str, least: u64) -> Option<u64>
 fn unsigned_if_given(found: &ArgMatches<'_>, name: &str, least: u64) -> Option<Option<u64>>
     ensures value { IfSome result (λ o. o ≡ number_in name.now (rows_of (found_of found.now))) }
     ensures range { IfSome result (λ o. IfSome o (λ n. least ≤ n)) }
-    ensures found { MayHaveUnsigned name.now least (rows_of (found_of found.now)) → is_some result ≡ true }
+    ensures found { MayHaveUnsignedFrom name.now least (rows_of (found_of found.now)) → is_some result ≡ true }
 {
     if found.get_str(name).is_none() {
         return Some(None);
@@ -481,7 +482,7 @@ fn unsigned_if_given(found: &ArgMatches<'_>, name: &str, least: u64) -> Option<O
 }
 
 /// The first value of the option or file argument `name`, if it has one.
-fn word_of(alloc: Global, found: &ArgMatches<'_>, name: &str) -> Result<Option<String>, AllocError>
+fn value_of(alloc: Global, found: &ArgMatches<'_>, name: &str) -> Result<Option<String>, AllocError>
     ensures { IfOk result (λ word. option_map string_bytes word ≡ first_of name.now (rows_of (found_of found.now))) }
 {
     match found.get_str(name) {

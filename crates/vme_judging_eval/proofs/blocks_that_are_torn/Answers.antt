@@ -5,7 +5,7 @@ use Rattle.vme_trace.specs.Levels.{level_at}
 use Rattle.vme_trace.specs.Trace.{changed}
 use Rattle.vme_trace.specs.declared.level.Level.TheVariants.{High, Unknown}
 use Rattle.vme_summary.proofs.Chains.{chain_joins}
-use Rattle.vme_judging_eval.specs.WorkedBlocks.{first, next, empty, after_empty, on_slots, on_other_lines}
+use Rattle.vme_judging_eval.specs.WorkedBlocks.{after_empty, empty, first, next, on_other_lines, on_slots}
 use Rattle.vme_judging_eval.proofs.blocks_that_are_torn.Goals as goal
 
 pub returns-clause-by_number : goal.returns-clause-by_number
@@ -33,8 +33,8 @@ returns-clause-by_time c j = let later : false ≡ true = (j.follow [] [] first 
 pub returns-clause-before_empty : goal.returns-clause-before_empty
 returns-clause-before_empty c = chain_joins first (empty ∷ []) (refl, refl, refl, tt)
 
-pub returns-clause-behind_empty : goal.returns-clause-behind_empty
-returns-clause-behind_empty c = chain_joins empty (after_empty 10 ∷ []) (refl, refl, refl, tt)
+pub returns-clause-after_empty : goal.returns-clause-after_empty
+returns-clause-after_empty c = chain_joins empty (after_empty 10 ∷ []) (refl, refl, refl, tt)
 
 pub returns-clause-across_empty : goal.returns-clause-across_empty
 returns-clause-across_empty c j =

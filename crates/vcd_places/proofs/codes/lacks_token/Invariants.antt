@@ -2,13 +2,13 @@ use Rattle.std.proofs.Common.{◌≡◌, ◌-◌, length, take, true, false}
 use Rattle.std.specs.List.{list_any}
 use Rattle.vcd_read.specs.Tokens.{tokens}
 use Rattle.vcd_places.specs.Codes.{is_token}
-use Rattle.vcd_places.specs.NextTokens.{is_seam}
+use Rattle.vcd_places.specs.NextTokens.{is_token_boundary}
 use Rattle.vcd_places.proofs.codes.lacks_token.Given as goal
 
 abbrev pub invariant-loop-token : goal.invariant-loop-token
 invariant-loop-token l = record {
   same : l.reader.text.now ≡ l.text;
-  seam : is_seam l.text l.reader.at ≡ true;
+  boundary : is_token_boundary l.text l.reader.at ≡ true;
   lacks : list_any (is_token l.word) (tokens (take l.reader.at l.text)) ≡ false;
 }
 

@@ -1,15 +1,16 @@
 use Rattle.std.proofs.Common.{◌≡◌, true, false, refl, rules, sym, ◌∙◌, arith}
 use Rattle.std.specs.Prelude.{bytes_eq, codes}
-use Rattle.vcd_places.proofs.SectionLemmas.{between_at, ended_at, goes_at_start, none_behind, none_left, stray_goes}
-use Rattle.vcd_places.proofs.SectionLemmas.{times_at, whole_goes}
-use Rattle.vcd_places.proofs.NextTokenLemmas.{seam_at_start, seam_from}
+use Rattle.vcd_places.proofs.SectionLemmas.{all_times_left, at_time_0, between_items, between_sections_after_stray}
+use Rattle.vcd_places.proofs.SectionLemmas.{between_sections_after_whole, between_sections_at_start}
+use Rattle.vcd_places.proofs.SectionLemmas.{no_body_at_text_end, unended_has_no_body}
+use Rattle.vcd_places.proofs.NextTokenLemmas.{boundary_at_start, boundary_from}
 use Rattle.vcd_places.proofs.section.definitions_end.Goals as goal
 
 pub loop-first-init : goal.loop-first-init
 loop-first-init c = record {
   same = c.new-reader.ensures.text;
-  goes = rw c.new-reader.ensures.at (goes_at_start c.args.text.now);
-  seam = rw c.new-reader.ensures.at (seam_at_start c.args.text.now);
+  between_sections = rw c.new-reader.ensures.at (between_sections_at_start c.args.text.now);
+  boundary = rw c.new-reader.ensures.at (boundary_at_start c.args.text.now);
 }
 
 pub loop-first-preserved-then-not-opens_section : goal.loop-first-preserved-then-not-opens_section
@@ -18,52 +19,53 @@ loop-first-preserved-then-not-opens_section c =
     let one = rw c.loop-first.invariant.same at c.in-Some.ensures.token in
     record {
       same = c.in-Some.ensures.text ∙ c.loop-first.invariant.same;
-      goes = stray_goes text c.loop-first.reader.at c.next.new.self.at c.in-Some.first.bytes.now
-          c.loop-first.invariant.goes one (sym c.if-not-opens_section.ensures);
-      seam = seam_from text c.next.new.self.at one.within one.detached;
+      between_sections = between_sections_after_stray text c.loop-first.reader.at c.next.new.self.at
+          c.in-Some.first.bytes.now
+          c.loop-first.invariant.between_sections one (sym c.if-not-opens_section.ensures);
+      boundary = boundary_from text c.next.new.self.at one.within one.detached;
     }
 
-pub returns-then-not-behind_end-clause-none : goal.returns-then-not-behind_end-clause-none
-returns-then-not-behind_end-clause-none c =
+pub returns-then-not-skip_past_end-clause-none : goal.returns-then-not-skip_past_end-clause-none
+returns-then-not-skip_past_end-clause-none c =
     let one = rw c.loop-first.invariant.same at c.in-Some.ensures.token in
     let same = c.in-Some.ensures.text ∙ c.loop-first.invariant.same in
-    none_behind c.args.text.now c.loop-first.reader.at c.next.new.self.at c.in-Some.first.bytes.now
-    c.loop-first.invariant.goes one c.loop-first.invariant.seam (sym c.if-not-opens_section.ensures)
-    (rw same at (c.if-not-behind_end.ensures.none refl))
+    unended_has_no_body c.args.text.now c.loop-first.reader.at c.next.new.self.at c.in-Some.first.bytes.now
+    c.loop-first.invariant.between_sections one c.loop-first.invariant.boundary (sym c.if-not-opens_section.ensures)
+    (rw same at (c.if-not-skip_past_end.ensures.none refl))
 
 pub new-requires : goal.new-requires
 new-requires c =
     let one = rw c.loop-first.invariant.same at c.in-Some.ensures.token in
     let same = c.in-Some.ensures.text ∙ c.loop-first.invariant.same in
     let word : bytes_eq c.in-Some.first.bytes.now (codes "$enddefinitions") ≡ true = search rules in
-    between_at c.args.text.now c.loop-first.reader.at c.next.new.self.at c.in-Some.first.bytes.now
-    c.loop-first.invariant.goes one c.behind_end.new.reader.at (sym c.if-not-opens_section.ensures)
-    (rw same at (c.if-not-behind_end.ensures.end refl)) word
+    between_items c.args.text.now c.loop-first.reader.at c.next.new.self.at c.in-Some.first.bytes.now
+    c.loop-first.invariant.between_sections one c.skip_past_end.new.reader.at (sym c.if-not-opens_section.ensures)
+    (rw same at (c.if-not-skip_past_end.ensures.end refl)) word
 
 pub returns-then-eq-clause-end : goal.returns-then-eq-clause-end
 returns-then-eq-clause-end c =
     let one = rw c.loop-first.invariant.same at c.in-Some.ensures.token in
     let same = c.in-Some.ensures.text ∙ c.loop-first.invariant.same in
     let word : bytes_eq c.in-Some.first.bytes.now (codes "$enddefinitions") ≡ true = search rules in
-    ended_at c.args.text.now c.loop-first.reader.at c.next.new.self.at c.in-Some.first.bytes.now
-    c.loop-first.invariant.goes one c.behind_end.new.reader.at (sym c.if-not-opens_section.ensures)
-    (rw same at (c.if-not-behind_end.ensures.end refl)) word
+    at_time_0 c.args.text.now c.loop-first.reader.at c.next.new.self.at c.in-Some.first.bytes.now
+    c.loop-first.invariant.between_sections one c.skip_past_end.new.reader.at (sym c.if-not-opens_section.ensures)
+    (rw same at (c.if-not-skip_past_end.ensures.end refl)) word
 
 pub returns-then-eq-clause-order : goal.returns-then-eq-clause-order
 returns-then-eq-clause-order c =
     let same = c.in-Some.ensures.text ∙ c.loop-first.invariant.same in
     let stands = c.in-Some.ensures.place in
-    let end = rw same at (c.if-not-behind_end.ensures.end refl) in
-    (omega (arith, stands.ends, stands.some, end.moves), end.within)
+    let end = rw same at (c.if-not-skip_past_end.ensures.end refl) in
+    (omega (arith, stands.ends, stands.nonempty, end.moves), end.within)
 
 pub returns-then-eq-clause-times : goal.returns-then-eq-clause-times
 returns-then-eq-clause-times c =
     let one = rw c.loop-first.invariant.same at c.in-Some.ensures.token in
     let same = c.in-Some.ensures.text ∙ c.loop-first.invariant.same in
     let word : bytes_eq c.in-Some.first.bytes.now (codes "$enddefinitions") ≡ true = search rules in
-    rw c.new.ensures (times_at c.args.text.now c.loop-first.reader.at c.next.new.self.at c.in-Some.first.bytes.now
-    c.loop-first.invariant.goes one c.behind_end.new.reader.at (sym c.if-not-opens_section.ensures)
-    (rw same at (c.if-not-behind_end.ensures.end refl)) word)
+    rw c.new.ensures (all_times_left c.args.text.now c.loop-first.reader.at c.next.new.self.at c.in-Some.first.bytes.now
+    c.loop-first.invariant.between_sections one c.skip_past_end.new.reader.at (sym c.if-not-opens_section.ensures)
+    (rw same at (c.if-not-skip_past_end.ensures.end refl)) word)
 
 pub loop-first-preserved : goal.loop-first-preserved
 loop-first-preserved c =
@@ -71,15 +73,17 @@ loop-first-preserved c =
     let one = rw c.loop-first.invariant.same at c.in-Some.ensures.token in
     let same = c.in-Some.ensures.text ∙ c.loop-first.invariant.same in
     let word : bytes_eq c.in-Some.first.bytes.now (codes "$enddefinitions") ≡ false = search rules in
-    let end = rw same at (c.if-not-behind_end.ensures.end refl) in
+    let end = rw same at (c.if-not-skip_past_end.ensures.end refl) in
     record {
-      same = c.if-not-behind_end.ensures.text ∙ same;
-      goes = whole_goes text c.loop-first.reader.at c.next.new.self.at c.in-Some.first.bytes.now
-          c.loop-first.invariant.goes one c.behind_end.new.reader.at (sym c.if-not-opens_section.ensures) end word;
-      seam = seam_from text c.behind_end.new.reader.at end.within end.detached;
+      same = c.if-not-skip_past_end.ensures.text ∙ same;
+      between_sections = between_sections_after_whole text c.loop-first.reader.at c.next.new.self.at
+          c.in-Some.first.bytes.now c.loop-first.invariant.between_sections one c.skip_past_end.new.reader.at
+          (sym c.if-not-opens_section.ensures) end word;
+      boundary = boundary_from text c.skip_past_end.new.reader.at end.within end.detached;
     }
 
 pub returns-clause-none : goal.returns-clause-none
 returns-clause-none c =
-    none_left c.args.text.now c.loop-first.reader.at c.loop-first.invariant.goes c.loop-first.invariant.seam
+    no_body_at_text_end c.args.text.now c.loop-first.reader.at c.loop-first.invariant.between_sections
+    c.loop-first.invariant.boundary
     (rw c.loop-first.invariant.same at c.in_default.ensures.none)

@@ -1,6 +1,6 @@
 use Rattle.std.proofs.Common.{sym, ◌∙◌, arith}
 use Rattle.vcd_read.specs.Reading.{line_at, left_at, token_at}
-use Rattle.vcd_read.proofs.SectionLemmas.{behind_end, behind_word, behind_unfinished}
+use Rattle.vcd_read.proofs.SectionLemmas.{skip_end, skip_word, skip_unfinished}
 use Rattle.vcd_read.proofs.header.skip_section.Goals as goal
 
 pub returns-then-is_end-clause-rest : goal.returns-then-is_end-clause-rest
@@ -8,7 +8,7 @@ returns-then-is_end-clause-rest c =
     let text = c.args.reader.now.text in
     let t = token_at text c.in-Some.token.at c.in-Some.token.bytes.now in
     c.loop-token.invariant.so_far
-    ∙ behind_end (line_at text c.args.first) t (left_at text c.loop-token.reader.at) (left_at text c.next.new.self.at)
+    ∙ skip_end (line_at text c.args.first) t (left_at text c.loop-token.reader.at) (left_at text c.next.new.self.at)
     (rw c.loop-token.invariant.same at c.in-Some.ensures.token) (sym c.if-is_end.ensures)
 
 pub loop-token-preserved : goal.loop-token-preserved
@@ -20,7 +20,7 @@ loop-token-preserved c =
       moves = omega (arith, c.in-Some.ensures.moves, c.loop-token.invariant.moves);
       so_far =
           c.loop-token.invariant.so_far
-          ∙ behind_word (line_at text c.args.first) t (left_at text c.loop-token.reader.at)
+          ∙ skip_word (line_at text c.args.first) t (left_at text c.loop-token.reader.at)
           (left_at text c.next.new.self.at) (rw c.loop-token.invariant.same at c.in-Some.ensures.token)
           (sym c.if-is_end.ensures);
     }
@@ -30,5 +30,5 @@ returns-clause-rest c =
     let text = c.args.reader.now.text in
     rw (c.fault.ensures, c.in_default.ensures.text, c.loop-token.invariant.same) (
     c.loop-token.invariant.so_far
-    ∙ behind_unfinished (line_at text c.args.first) (left_at text c.loop-token.reader.at)
+    ∙ skip_unfinished (line_at text c.args.first) (left_at text c.loop-token.reader.at)
     (rw c.loop-token.invariant.same at c.in_default.ensures.token))

@@ -1,6 +1,6 @@
 use Rattle.std.proofs.Common.{◌≡◌, ◌≤◌, ◌-◌, length}
 use Rattle.vcd_read.specs.Reading.{line_at, left_at}
-use Rattle.vcd_read.specs.Sections.{behind_section}
+use Rattle.vcd_read.specs.Sections.{after_section}
 use Rattle.vcd_read.proofs.header.skip_section.Given as goal
 
 abbrev pub invariant-loop-token : goal.invariant-loop-token
@@ -10,7 +10,7 @@ invariant-loop-token l =
     record {
       same : l.reader.text ≡ l.fn.reader.text;
       moves : l.fn.reader.at ≤ l.reader.at;
-      so_far : behind_section line (left_at text l.fn.reader.at) ≡ behind_section line (left_at text l.reader.at);
+      so_far : after_section line (left_at text l.fn.reader.at) ≡ after_section line (left_at text l.reader.at);
     }
 
 abbrev pub decreases-loop-token : goal.decreases-loop-token

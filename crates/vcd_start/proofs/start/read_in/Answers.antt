@@ -3,7 +3,7 @@ use Rattle.std.proofs.Common.{List, refl, subst, [], ◌≡◌}
 use Rattle.vcd_read.specs.Meaning.{ReadFails}
 use Rattle.vcd_read.specs.Reached.{reached, rest_of}
 use Rattle.vcd_read.specs.Tokens.{Token, tokens}
-use Rattle.vcd_start.specs.StartReading.{or_time, unchanged}
+use Rattle.vcd_start.specs.StartReading.{first_time_kept, first_time_or}
 use Rattle.vcd_start.proofs.StartLemmas.{fails-start, header-fails, no-dump, reads-start}
 use Rattle.vcd_start.proofs.start.read_in.Goals as goal
 
@@ -15,7 +15,8 @@ returns-in-Ok-clause-read c text more dump same whole =
     let header = rw c.in-Ok-Some.field-0-is at c.in-Ok-Some.ensures.header in
     reads-start r c.in-Ok-Some.found.head begun.nets begun.progress begun.dump_section begun.place text
     (tokens c.args.front.now) more same (header text more) next
-    (subst (λ (b : List Token). rest_of unchanged or_time r b more ≡ rest_of unchanged or_time next [] more) begun.body
+    (subst (λ (b : List Token). rest_of first_time_kept first_time_or r b more
+    ≡ rest_of first_time_kept first_time_or next [] more) begun.body
     (c.in-Ok.ensures.rest more)) dump whole
 
 pub returns-in-Ok-Some-clause-fails : goal.returns-in-Ok-Some-clause-fails
@@ -26,7 +27,7 @@ returns-in-Ok-Some-clause-fails c text more same =
     let header = rw c.in-Ok-Some.field-0-is at c.in-Ok-Some.ensures.header in
     fails-start r c.in-Ok-Some.found.head begun.nets begun.progress begun.dump_section begun.place text
     (tokens c.args.front.now) more same (header text more) fault
-    (subst (λ (b : List Token). ReadFails fault (rest_of unchanged or_time r b more)) begun.body
+    (subst (λ (b : List Token). ReadFails fault (rest_of first_time_kept first_time_or r b more)) begun.body
     (c.in-Err-read.ensures.rest more))
 
 pub returns-in-Ok-None-clause-none : goal.returns-in-Ok-None-clause-none

@@ -3,7 +3,7 @@ use Rattle.vcd_read.specs.Meaning.{dump_of}
 use Rattle.vcd_read.specs.Reached.{outcome_of, reached}
 use Rattle.vcd_read.specs.Tokens.{tokens}
 use Rattle.vcd_start.specs.Starts.{start_of}
-use Rattle.vcd_start.specs.StartReading.{or_time, unchanged}
+use Rattle.vcd_start.specs.StartReading.{first_time_kept, first_time_or}
 use Rattle.vcd_start.proofs.StartLemmas.{never-gives, same-start}
 use Rattle.vcd_start.proofs.start.start_of_text.Goals as goal
 
@@ -22,7 +22,7 @@ returns-in_ok-unless_memory-in-Err-finish c dump whole =
     let read = rw c.in-Ok-Some.field-0-is at c.in-Ok-Some.ensures.read in
     let fault = c.in-Err-finish.fault in
     let other = c.in_ok-unless_memory-in-Err-finish.ensures in
-    absurd (never-gives (outcome_of unchanged or_time r) fault.line fault.kind other
+    absurd (never-gives (outcome_of first_time_kept first_time_or r) fault.line fault.kind other
     c.in-Err-finish.ensures (start_of dump) (read text [] dump (sym (append-nil (tokens text))) whole))
 
 pub returns-in_ok-unless_memory-in-Err : goal.returns-in_ok-unless_memory-in-Err

@@ -9,7 +9,7 @@ use Rattle.vme_stream.proofs.AnswerLemmas.{dump_read-whole, dump_refused}
 use Rattle.vme_stream.proofs.InputLemmas.{unread}
 use Rattle.vme_commands.specs.declared.built_in.TheConstants.{BLOCK}
 use Rattle.vme_annotate.specs.Prepared.{GivesPrepared}
-use Rattle.vme_annotate.specs.TimedListings.{listed_in}
+use Rattle.vme_annotate.specs.TimedListings.{recording_to_list}
 use Rattle.vme_annotate.proofs.EndsLemmas.{refused_prepared, timed_refusal}
 use Rattle.vme_annotate.proofs.ListedLemmas.{recording_is, unbound, unread_dump}
 use Rattle.vme_annotate.proofs.annotating.annotated_from.Goals as goal
@@ -36,7 +36,8 @@ returns-in-Ok g c =
     let text = c.in-Ok.text.items in
     let short : length text ≤ longest_input = search (rules, places) in
     let read = recording_is c.args.skew BLOCK binding (Some text) bound bound_is
-    ∙ ap (λ (dump : Result Contents Refusal). listed_in c.args.skew bound dump BLOCK) (dump_read-whole text short) in (
+    ∙ ap (λ (dump : Result Contents Refusal). recording_to_list c.args.skew bound dump BLOCK)
+    (dump_read-whole text short) in (
       binding,
       Some text,
       binding_reading,

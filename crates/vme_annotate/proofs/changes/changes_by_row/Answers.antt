@@ -1,10 +1,10 @@
 use Rattle.std.proofs.Common.{refl}
-use Rattle.vme_annotate.proofs.PlannedLemmas.{more_rows, opened, row_at}
+use Rattle.vme_annotate.proofs.PlannedLemmas.{more_rows, opening_planned, row_at}
 use Rattle.vme_annotate.proofs.changes.changes_by_row.Goals as goal
 
 pub loop-place-init : goal.loop-place-init
 loop-place-init c =
-    opened c.args.rows.now c.push_ends.new.self c.push.new.self _
+    opening_planned c.args.rows.now c.push_ends.new.self c.push.new.self _
     (rw c.new.ensures.items at (c.in_ok-push_ends.ensures c.args.rows.now)) refl c.in_ok-push.ensures
 
 pub loop-place-preserved : goal.loop-place-preserved

@@ -7,7 +7,7 @@ use Rattle.vme_stream.specs.declared.refusal.Refusal.{Refusal}
 use Rattle.vme_stream.proofs.AnswerLemmas.{dump_read-whole, dump_refused}
 use Rattle.vme_stream.specs.Inputs.{longest_input}
 use Rattle.vme_stream.proofs.InputLemmas.{unread}
-use Rattle.vme_annotate.specs.TimedListings.{GivesTimed, listed_in}
+use Rattle.vme_annotate.specs.TimedListings.{GivesTimedListing, recording_to_list}
 use Rattle.vme_annotate.proofs.ListedLemmas.{recording_is, unbound, unread_dump}
 use Rattle.vme_annotate.proofs.listing_times.listing_from.Goals as goal
 
@@ -26,13 +26,13 @@ returns-in-Ok g c =
     let text = c.in-Ok.text.items in
     let short : length text ≤ longest_input = search (rules, places) in
     let read = recording_is c.args.skew c.args.block binding (Some text) c.in_ok-bound.bound bound_is
-    ∙ ap (λ (dump : Result Contents Refusal). listed_in c.args.skew c.in_ok-bound.bound dump c.args.block)
+    ∙ ap (λ (dump : Result Contents Refusal). recording_to_list c.args.skew c.in_ok-bound.bound dump c.args.block)
     (dump_read-whole text short) in (
       binding,
       Some text,
       binding_reading,
       c.in-Ok.ensures.bytes,
-      subst (GivesTimed c.listed_in.result)
+      subst (GivesTimedListing c.listed_in.result)
           (sym read) (rw c.deref.ensures.value at c.listed_in.ensures),
     )
 

@@ -1,6 +1,6 @@
 use Rattle.std.proofs.Common.{◌++◌, Err, Ok, ap, subst}
-use Rattle.vme_audit_command.specs.declared.told.NoOutcome.TheVariants.{CannotRead}
-use Rattle.vme_audit_command.specs.Bodies.{EndsBehind}
+use Rattle.vme_audit_command.specs.declared.written_lines.NoOutcome.TheVariants.{CannotRead}
+use Rattle.vme_audit_command.specs.Bodies.{WritesRest}
 use Rattle.vme_audit_command.specs.DumpAudits.{lines_of}
 use Rattle.vme_dump_input.specs.SettledReadings.{settled_by}
 use Rattle.vme_step_reader.specs.StepReading.{whole_reading}
@@ -67,7 +67,7 @@ returns-in-Ok-false-clause-audits g c = λ skew first.
     c.read.new.self
     held c.audit_last.new.auditor (g.O.Sink.writing c.audit_last.new.out) c.audit_last.result
     (c.in-Ok-false.ensures.end (ap Ok c.in-Ok-false.field-0-test))
-    (subst (λ l. EndsBehind head later (lines_of head later) (settled_by skew (whole_reading next l))
+    (subst (λ l. WritesRest head later (lines_of head later) (settled_by skew (whole_reading next l))
     c.audit_last.new.auditor.recording
     then (g.O.Sink.writing c.audit_last.new.out) c.audit_last.result) c.bytes-held-in-Ok-false.ensures
     (c.audit_last.ensures.ends skew given))

@@ -4,8 +4,8 @@ use Rattle.vme_trace.specs.WellFormed.{malformed_step}
 use Rattle.vme_stream.specs.declared.refusal.Refusal.TheVariants.{BadDump}
 use Rattle.vme_step_auditor.specs.ReadBy.{is_stopped}
 use Rattle.vme_step_reader.specs.StepReading.{whole_reading}
-use Rattle.vme_audit_command.specs.declared.told.NoOutcome.TheVariants.{Refused}
-use Rattle.vme_audit_command.specs.Bodies.{EndsBehind, IsLater}
+use Rattle.vme_audit_command.specs.declared.written_lines.NoOutcome.TheVariants.{Refused}
+use Rattle.vme_audit_command.specs.Bodies.{IsLater, WritesRest}
 use Rattle.vme_audit_command.specs.DumpAudits.{lines_of}
 use Rattle.vme_dump_input.specs.SettledReadings.{settled_by, settled_so_far}
 use Rattle.vme_audit_command.proofs.Later.{later-by, on-any}
@@ -28,7 +28,7 @@ returns-in-Ok-clause-ends g c = λ skew r rest h stops.
     let given = c.in-Ok.ensures.given skew r.given from h.comes to in
     let on = to-next skew settler r.given from audit.recording h.comes steps stopped.time to in
     let now : malformed_step later.recording ≡ None = ap (λ a. malformed_step a.recording) given ∙ on.formed in
-    subst (λ x. EndsBehind {A = Unit {0}} c.args.head.now audit (lines_of c.args.head.now audit)
+    subst (λ x. WritesRest {A = Unit {0}} c.args.head.now audit (lines_of c.args.head.now audit)
     (settled_by skew (whole_reading r rest)) x (g.O.Sink.writing c.args.out.now)
     (g.O.Sink.writing c.audit_settled.new.out) c.at_fault.result) (sym (ap (λ a. a.recording) given))
     (fault-ends c.args.head.now audit (settled_by skew (whole_reading r rest)) (g.O.Sink.writing c.args.out.now)
@@ -39,7 +39,7 @@ returns-in-Ok-clause-ends g c = λ skew r rest h stops.
     (c.at_fault.ensures.stopped now))
     (subst (λ a. IfErr c.at_fault.result (λ why. (why ≡ Refused (BadDump fault))
     × (is_stopped a.allowances a.stop a.recording ≡ false))) given (c.at_fault.ensures.refused now))
-    (c.in-Ok.ensures.told skew r.given from h.comes to))
+    (c.in-Ok.ensures.writes skew r.given from h.comes to))
 
 pub returns-in-Err-clause-ends : goal.returns-in-Err-clause-ends
 returns-in-Err-clause-ends g c = λ skew r rest h stops.
@@ -53,7 +53,7 @@ returns-in-Err-clause-ends g c = λ skew r rest h stops.
     (settled_by skew (whole_reading r rest)) t (g.O.Sink.writing c.args.out.now)
     (g.O.Sink.writing c.audit_settled.new.out) c.in-Err.fault c.audit_settled.new.auditor.recording
     (stopped-on law.follows law.within law.on skew settler audit r h stopped rest stops c.requires)
-    (c.in-Err.ensures.told skew r.given (whole_reading r []).time h.comes to)
+    (c.in-Err.ensures.writes skew r.given (whole_reading r []).time h.comes to)
 
 pub returns-in-Ok-clause-kept : goal.returns-in-Ok-clause-kept
 returns-in-Ok-clause-kept g c = λ skew r rest h stops.

@@ -1,7 +1,7 @@
 use Rattle.std.proofs.Common.{[], Ok, ap, subst, sym}
 use Rattle.vme_trace.specs.Followed.{with_steps}
 use Rattle.vme_step_reader.specs.StepReading.{whole_reading}
-use Rattle.vme_audit_command.specs.Bodies.{EndsBehind}
+use Rattle.vme_audit_command.specs.Bodies.{WritesRest}
 use Rattle.vme_audit_command.specs.DumpAudits.{lines_of}
 use Rattle.vme_dump_input.specs.SettledReadings.{settled_by, settled_whole}
 use Rattle.vme_audit_command.proofs.Later.{later-by}
@@ -44,13 +44,13 @@ returns-in-Ok-audit_ended-clause-ends g c = λ skew h.
     let last = last-from law.follows law.within law.on skew settler audit r h bytes steps c.in-Ok.ensures.recorded in
     let is = last-is law.follows law.within law.on skew settler audit r h bytes steps c.in-Ok.ensures.recorded
     c.in-Ok.ensures.whole in
-    subst (λ x. EndsBehind {A = Unit {0}} c.args.head.now audit (lines_of c.args.head.now audit)
+    subst (λ x. WritesRest {A = Unit {0}} c.args.head.now audit (lines_of c.args.head.now audit)
     (settled_by skew (whole_reading r bytes)) x (g.O.Sink.writing c.args.out.now)
     (g.O.Sink.writing c.audit_ended.new.out) (Ok tt))
     (sym (ap (λ a. a.recording) (c.in-Ok-audit_ended.ensures.given skew r.given from h.comes last)))
     (whole-ends c.args.head.now audit (settled_by skew (whole_reading r bytes)) t (g.O.Sink.writing c.args.out.now)
     (g.O.Sink.writing c.audit_ended.new.out) is c.in-Ok.ensures.whole
-    (c.in-Ok-audit_ended.ensures.told skew r.given from h.comes last))
+    (c.in-Ok-audit_ended.ensures.writes skew r.given from h.comes last))
 
 pub returns-in-Err-audit_ended-clause-ends : goal.returns-in-Err-audit_ended-clause-ends
 returns-in-Err-audit_ended-clause-ends g c = λ skew h.
@@ -68,4 +68,4 @@ returns-in-Err-audit_ended-clause-ends g c = λ skew h.
     (g.O.Sink.writing c.audit_ended.new.out) c.in-Err-audit_ended.fault c.audit_ended.new.auditor.recording
     (last-on law.follows law.within law.on skew settler audit r h bytes steps c.in-Ok.ensures.recorded
     c.in-Ok.ensures.whole)
-    (c.in-Err-audit_ended.ensures.told skew r.given from h.comes last)
+    (c.in-Err-audit_ended.ensures.writes skew r.given from h.comes last)

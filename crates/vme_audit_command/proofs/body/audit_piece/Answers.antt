@@ -27,7 +27,7 @@ returns-in-Ok-audit_settled-clause-takes g c = λ skew h.
     c.time-time.ensures made.formed c.args.head.now c.audit_settled.new.auditor c.audit_settled.new.settler
     (g.O.Sink.writing c.args.out.now) (g.O.Sink.writing c.audit_settled.new.out)
     (c.in-Ok-audit_settled.ensures.given skew r.given from h.comes to)
-    (c.in-Ok-audit_settled.ensures.told skew r.given from h.comes to)
+    (c.in-Ok-audit_settled.ensures.writes skew r.given from h.comes to)
     c.stop_is_final.ensures.stays c.stop_is_final.ensures.read c.going_on.result made.within
     (c.in-Ok-audit_settled.ensures.comes skew r.given from h.comes to)
     c.going_on.ensures.goes c.going_on.ensures.stopped
@@ -50,7 +50,7 @@ returns-in-Err-audit_settled-clause-takes g c = λ skew h rest.
     piece-cut front law.follows law.within law.on skew settler audit r h next steps n bytes made.taken made.given time
     c.time-time.ensures c.reading_goes_on.ensures.breaks c.args.head.now (g.O.Sink.writing c.args.out.now)
     (g.O.Sink.writing c.audit_settled.new.out) c.in-Err-audit_settled.fault c.audit_settled.new.auditor.recording rest
-    (c.in-Err-audit_settled.ensures.told skew r.given (whole_reading r []).time h.comes to)
+    (c.in-Err-audit_settled.ensures.writes skew r.given (whole_reading r []).time h.comes to)
 
 pub returns-in-Ok-audit_stopped-clause-takes : goal.returns-in-Ok-audit_stopped-clause-takes
 returns-in-Ok-audit_stopped-clause-takes g c = λ skew h rest.

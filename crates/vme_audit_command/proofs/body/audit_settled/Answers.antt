@@ -1,7 +1,7 @@
 use Rattle.std.proofs.Common.{◌≡◌, OnOk, ap, subst, sym, ◌∙◌}
 use Rattle.vme_trace.specs.Followed.{with_steps}
 use Rattle.vme_trace.specs.WellFormed.{malformed_step}
-use Rattle.vme_audit_command.specs.DumpAudits.{given_all}
+use Rattle.vme_audit_command.specs.DumpAudits.{given_recording}
 use Rattle.vme_dump_input.specs.SettledReadings.{settled_so_far}
 use Rattle.vme_dump_input.specs.SettledSteps.{ComesOut}
 use Rattle.vme_audit_command.proofs.Later.{on-given}
@@ -20,22 +20,22 @@ returns-in-Ok-clause-comes g c = λ skew given from h go.
 pub returns-in-Ok-clause-given : goal.returns-in-Ok-clause-given
 returns-in-Ok-clause-given g c = λ skew given from h go.
     let t = c.args.auditor.now.recording in
-    subst (λ x. OnOk c.audit_steps.result (c.audit_steps.new.auditor ≡ given_all c.args.auditor.now x))
+    subst (λ x. OnOk c.audit_steps.result (c.audit_steps.new.auditor ≡ given_recording c.args.auditor.now x))
     (ap (with_steps t) c.as_slice.ensures.value ∙ c.in-Ok.ensures.settled skew given t from h go)
     c.audit_steps.ensures.given
 
-pub returns-in-Ok-clause-told : goal.returns-in-Ok-clause-told
-returns-in-Ok-clause-told g c = λ skew given from h go.
+pub returns-in-Ok-clause-writes : goal.returns-in-Ok-clause-writes
+returns-in-Ok-clause-writes g c = λ skew given from h go.
     let t = c.args.auditor.now.recording in
     let on = to-next skew c.args.settler.now given from t h c.args.steps.items c.args.time go in
     let is = ap (with_steps t) c.as_slice.ensures.value ∙ c.in-Ok.ensures.settled skew given t from h go in
     goes-to c.args.head.now c.args.auditor.now
     (settled_so_far skew c.args.time (with_steps given c.args.steps.items)) c.as_slice.result.now
     (g.O.Sink.writing c.args.out.now) (g.O.Sink.writing c.audit_steps.new.out) c.audit_steps.result is
-    (c.audit_steps.ensures.told (ap malformed_step is ∙ on.formed) on.few)
+    (c.audit_steps.ensures.writes (ap malformed_step is ∙ on.formed) on.few)
 
-pub returns-in-Err-clause-told : goal.returns-in-Err-clause-told
-returns-in-Err-clause-told g c = λ skew given from h go.
+pub returns-in-Err-clause-writes : goal.returns-in-Err-clause-writes
+returns-in-Err-clause-writes g c = λ skew given from h go.
     memory-goes (Unit {0}) c.reading_goes_on.ensures.breaks c.args.head.now c.args.auditor.now
     (settled_so_far skew c.args.time (with_steps given c.args.steps.items)) (g.O.Sink.writing c.args.out.now)
     (to-next skew c.args.settler.now given from c.args.auditor.now.recording h c.args.steps.items c.args.time go)

@@ -1,15 +1,15 @@
 use Rattle.std.proofs.Common.{rules}
 use Rattle.vme_bind.proofs.PathSearchLemmas.{stepped_rest}
 use Rattle.vme_audit_command.proofs.AnswerLemmas.{options_by}
-use Rattle.vme_audit_command.proofs.SeveralLemmas.{cannot-on, tells-all, tells-on}
+use Rattle.vme_audit_command.proofs.SeveralLemmas.{cannot-write-next, writes-all-dumps, writes-next-dump}
 use Rattle.vme_audit_command.proofs.command.audit_all.Goals as goal
 
 pub loop-named-preserved : goal.loop-named-preserved
 loop-named-preserved g c = record {
   rest = stepped_rest c.loop-named.dumps c.args.dumps.now c.loop-named.named-index c.audit_named-ended.new.named
       c.loop-named.invariant.rest;
-  told = rw c.worse-status.ensures
-      (tells-on (options_by c.args.options.allowances.now c.args.options.stop c.args.options.skew
+  writes = rw c.worse-status.ensures
+      (writes-next-dump (options_by c.args.options.allowances.now c.args.options.stop c.args.options.skew
       c.args.options.transfers c.args.options.is_quiet) c.args.bound.now
       (λ d. record { name = d.name.now; dump = g.D.Source.reading d.dump }) c.loop-named.dumps
       c.args.dumps.now c.loop-named.named-index c.named-item.result (search rules) (search rules) c.named-item.is
@@ -18,13 +18,13 @@ loop-named-preserved g c = record {
       (g.O.Sink.writing c.audit_named-ended.new.out)
       (g.E.Sink.writing c.args.err.now) (g.E.Sink.writing c.loop-named.err)
       (g.E.Sink.writing c.audit_named-ended.new.err) c.loop-named.status c.audit_named-ended.result
-      c.loop-named.invariant.told
+      c.loop-named.invariant.writes
       c.if-ended-eq5.false c.audit_named-ended.ensures);
 }
 
 pub returns-then-ended-eq5 : goal.returns-then-ended-eq5
 returns-then-ended-eq5 g c =
-    cannot-on (options_by c.args.options.allowances.now c.args.options.stop c.args.options.skew
+    cannot-write-next (options_by c.args.options.allowances.now c.args.options.stop c.args.options.skew
     c.args.options.transfers c.args.options.is_quiet) c.args.bound.now
     (λ d. record { name = d.name.now; dump = g.D.Source.reading d.dump }) c.loop-named.dumps
     c.args.dumps.now c.loop-named.named-index c.named-item.result (search rules) (search rules) c.named-item.is
@@ -33,15 +33,15 @@ returns-then-ended-eq5 g c =
     (g.O.Sink.writing c.audit_named-ended.new.out)
     (g.E.Sink.writing c.args.err.now) (g.E.Sink.writing c.loop-named.err)
     (g.E.Sink.writing c.audit_named-ended.new.err) c.loop-named.status c.audit_named-ended.result
-    c.loop-named.invariant.told
+    c.loop-named.invariant.writes
     c.if-ended-eq5.true c.audit_named-ended.ensures
 
 pub returns : goal.returns
 returns g c =
-    tells-all (options_by c.args.options.allowances.now c.args.options.stop c.args.options.skew
+    writes-all-dumps (options_by c.args.options.allowances.now c.args.options.stop c.args.options.skew
     c.args.options.transfers c.args.options.is_quiet) c.args.bound.now
     (λ d. record { name = d.name.now; dump = g.D.Source.reading d.dump })
     c.args.dumps.now
     c.loop-named.named-index (search rules) c.loop-named.status
     (g.O.Sink.writing c.args.out.now) (g.O.Sink.writing c.loop-named.out)
-    (g.E.Sink.writing c.args.err.now) (g.E.Sink.writing c.loop-named.err) c.loop-named.invariant.told
+    (g.E.Sink.writing c.args.err.now) (g.E.Sink.writing c.loop-named.err) c.loop-named.invariant.writes

@@ -8,5 +8,5 @@ returns g c =
     c.args.options.transfers c.args.options.is_quiet) c.args.bound.now
     (record { name = c.args.named.now.name.now; dump = g.D.Source.reading c.args.named.now.dump })
     (g.O.Sink.writing c.args.out.now) (g.O.Sink.writing c.audit_dump-ended.new.out)
-    (g.E.Sink.writing c.args.err.now) (g.E.Sink.writing c.tell_end.new.err) c.tell_end.result
-    c.audit_dump-ended.result c.audit_dump-ended.ensures c.tell_end.ensures
+    (g.E.Sink.writing c.args.err.now) (g.E.Sink.writing c.write_end.new.err) c.write_end.result
+    c.audit_dump-ended.result c.audit_dump-ended.ensures c.write_end.ensures

@@ -1,7 +1,7 @@
 use Rattle.std.proofs.Common.{◌∙◌, subst}
 use Rattle.vme_audit_lines.specs.AuditLines.{head_of}
 use Rattle.vme_audit_command.specs.Definitions.{IsBodyBegun}
-use Rattle.vme_audit_command.specs.DumpAnswers.{AuditsBehind}
+use Rattle.vme_audit_command.specs.DumpAnswers.{AnswersBody}
 use Rattle.vme_audit_command.proofs.AnswerLemmas.{dump-answers, options_by, unbegun-answers, unread-answers}
 use Rattle.vme_audit_command.proofs.dump_audit.audit_dump.Goals as goal
 
@@ -16,13 +16,13 @@ returns-in-Ok g c =
     let options = (options_by c.args.options.allowances.now c.args.options.stop c.args.options.skew
     c.args.options.transfers c.args.options.is_quiet) in
     let u = g.O.Sink.writing c.args.out.now in
-    let w = g.O.Sink.writing c.audit_behind.new.out in
+    let w = g.O.Sink.writing c.audit_after_definitions.new.out in
     let new = g.D.Source.reading c.read_definitions.new.dump in
     dump-answers options (head_of c.args.name.now) c.args.bound.now (g.D.Source.reading c.args.dump.now) u new
-    c.read_definitions.new.input c.in-Ok.reader c.in-Ok.is_more w c.audit_behind.result c.in-Ok.ensures
-    (subst (λ head. IsBodyBegun c.in-Ok.reader → AuditsBehind options head c.in-Ok.reader c.read_definitions.new.input
-    c.in-Ok.is_more new u w c.audit_behind.result) (c.as_bytes.ensures ∙ c.in-Ok-Ok.ensures)
-    c.audit_behind.ensures)
+    c.read_definitions.new.input c.in-Ok.reader c.in-Ok.is_more w c.audit_after_definitions.result c.in-Ok.ensures
+    (subst (λ head. IsBodyBegun c.in-Ok.reader → AnswersBody options head c.in-Ok.reader c.read_definitions.new.input
+    c.in-Ok.is_more new u w c.audit_after_definitions.result) (c.as_bytes.ensures ∙ c.in-Ok-Ok.ensures)
+    c.audit_after_definitions.ensures)
 
 pub returns : goal.returns
 returns g c =

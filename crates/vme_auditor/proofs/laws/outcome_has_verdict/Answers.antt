@@ -1,5 +1,5 @@
 -- Where nothing is broken, the verdict depends on whether anything is judged.
-use Rattle.vme_auditor.proofs.SaidVerdicts.{conforming_is, never_idle_is, never_idle_told}
+use Rattle.vme_auditor.proofs.OutcomeVerdicts.{conforming_is, never_idle_is, never_idle_outcome}
 use Rattle.vme_auditor.proofs.laws.outcome_has_verdict.Goals as goal
 
 pub returns-clause-conforming : goal.returns-clause-conforming
@@ -8,5 +8,5 @@ returns-clause-conforming c = λ allowances wanted t e. conforming_is allowances
 pub returns-clause-never_idle : goal.returns-clause-never_idle
 returns-clause-never_idle c = λ allowances wanted t. (
   never_idle_is allowances wanted t,
-  never_idle_told allowances wanted t,
+  never_idle_outcome allowances wanted t,
 )

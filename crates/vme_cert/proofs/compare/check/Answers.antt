@@ -1,6 +1,6 @@
 -- The checker follows each step of the capture, as the step makes the levels of the next instant.
 use Rattle.std.proofs.Common.{length, ap, subst, arith}
-use Rattle.vme_cert.specs.Words.{Trace}
+use Rattle.vme_cert.specs.Vocabulary.{Trace}
 use Rattle.vme_cert.specs.Checking.{HasCompared, HasFollowed, at_opening}
 use Rattle.vme_cert.proofs.Checking.{step_at, goes_on-to, may-go_on, recorded_to, whole-to}
 use Rattle.vme_cert.proofs.compare.check.Goals as goal

@@ -1,6 +1,6 @@
 -- The rows that the source gives are all rows of the listing.
 use Rattle.std.proofs.Common.{List, subst}
-use Rattle.vme_cert.specs.Words.{Row, Version, recorded_rows, rows_in}
+use Rattle.vme_cert.specs.Vocabulary.{Row, Version, recorded_rows, rows_in}
 use Rattle.vme_cert.specs.Agreement.{DecidesListing}
 use Rattle.vme_cert.specs.contracts.source.ListedRowsRowSource.TheImpl.{ghosts}
 use Rattle.vme_cert.proofs.Comparing.{decides-all}

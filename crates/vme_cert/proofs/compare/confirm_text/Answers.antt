@@ -1,7 +1,7 @@
 -- The rows of the text are those that the check asked for, and those that `fault` reads after them.
 use Rattle.std.proofs.Common.{◌≡◌, ◌++◌, inl, inr, sym, subst}
 use Rattle.std.specs.Prelude.{IsSome, None, Option, Some}
-use Rattle.vme_cert.specs.Words.{IsTextOfListing, ListFault, Version, listed, recorded_rows, rows_in}
+use Rattle.vme_cert.specs.Vocabulary.{IsTextOfListing, ListFault, Version, listed, recorded_rows, rows_in}
 use Rattle.vme_cert.specs.contracts.source.TextRowsRowSource.TheImpl.{ghosts}
 use Rattle.vme_cert.proofs.Comparing.{decides-all}
 use Rattle.vme_cert.proofs.compare.confirm_text.Goals as goal

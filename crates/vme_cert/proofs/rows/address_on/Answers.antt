@@ -1,6 +1,6 @@
 -- The address so far is that on the lines before the current one.
 use Rattle.std.proofs.Common.{◌≡◌, ◌+◌, ◌*◌, ◌^◌, ◌%◌, ◌<◌, ◌≤◌, ℕ, sym, ◌∙◌, ap, arith}
-use Rattle.vme_cert.specs.Words.{Needs, address_to, is_high, is_within, level_at}
+use Rattle.vme_cert.specs.Vocabulary.{Needs, address_to, is_high, is_within, level_at}
 use Rattle.vme_cert.proofs.Placing.{weight_below, weight-is, next-weight, address-below, address_line, no_address_line}
 use Rattle.vme_cert.proofs.Placing.{with_high, without_high}
 use Rattle.vme_cert.proofs.Breaks.{needs_31}

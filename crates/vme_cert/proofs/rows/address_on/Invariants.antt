@@ -1,5 +1,5 @@
 use Rattle.std.proofs.Common.{◌≡◌, ◌≤◌}
-use Rattle.vme_cert.specs.Words.{address_to}
+use Rattle.vme_cert.specs.Vocabulary.{address_to}
 use Rattle.vme_cert.proofs.rows.address_on.Given as goal
 
 abbrev pub invariant-loop-bit : goal.invariant-loop-bit

@@ -1,6 +1,6 @@
 use Rattle.std.proofs.Common.{◌∙◌, ap}
 use Rattle.std.specs.Prelude.{Some}
-use Rattle.vme_cert.specs.Words.{Lanes, Levels, lanes_at}
+use Rattle.vme_cert.specs.Vocabulary.{Lanes, Levels, lanes_at}
 use Rattle.vme_cert.proofs.Following.{data-before, data-here}
 use Rattle.vme_cert.proofs.rows.answer_data.Goals as goal
 

@@ -1,6 +1,6 @@
 use Rattle.std.proofs.Common.{ap, arith, sym, ◌∙◌}
 use Rattle.std.specs.Prelude.{◌/◌, None}
-use Rattle.vme_cert.specs.Words.{AddressedCycle, InterruptCycle, address_to, cycle_row, modifier_of}
+use Rattle.vme_cert.specs.Vocabulary.{AddressedCycle, InterruptCycle, address_to, cycle_row, modifier_of}
 use Rattle.vme_cert.proofs.Placing.{address-below, addressed-row, interrupt-highest}
 use Rattle.vme_cert.proofs.rows.cycle_row.Goals as goal
 

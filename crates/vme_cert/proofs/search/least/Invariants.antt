@@ -1,5 +1,5 @@
 use Rattle.std.proofs.Common.{◌≡◌, ℕ, Bool, false}
-use Rattle.vme_cert.specs.Words.{any}
+use Rattle.vme_cert.specs.Vocabulary.{any}
 use Rattle.vme_cert.specs.Tests.{Tests}
 use Rattle.vme_cert.proofs.search.least.Given as goal
 

@@ -11,7 +11,7 @@ use Rattle.vme_commands.proofs.judged_settled.taken_in_order.Goals as goal
 pub returns-in-Ok-finish : goal.returns-in-Ok-finish
 returns-in-Ok-finish g c =
     let bound = c.args.bound.now in
-    let t = g.F.StepVisitor.recorded c.in-Ok-finish.taker in
+    let t = g.F.StepVisitor.recorded c.in-Ok-finish.visitor in
     let (bytes, short, reading, same) = c.in-Ok.ensures.bytes in
     let rest = rw c.as_slice.ensures.value at c.in-Ok-finish.ensures in
     let is : recording_of_text bound bytes ≡ Ok t = sym (c.new-reader.ensures bytes) ∙ same ∙ rest in

@@ -5,7 +5,7 @@ use Rattle.vme_trace.specs.Trace.{Trace}
 use Rattle.vme_step_reader.specs.StepReading.{whole_reading}
 use Rattle.vme_cert.specs.Checking.{HasCompared, at_opening}
 use Rattle.vme_dump_input.specs.SettledReadings.{skew_of}
-use Rattle.vme_confirm_command.specs.StepChecks.{HasStepped}
+use Rattle.vme_confirm_command.specs.StepChecks.{HasCheckedSteps}
 use Rattle.vme_dump_input.proofs.DefinitionLemmas.{unread-given, unread-sound}
 use Rattle.vme_confirm_command.proofs.body.first_check.Goals as goal
 
@@ -17,7 +17,7 @@ returns-clause-checked g c =
     record {
       sound = unread-sound r c.requires c.opening_of.ensures.few
           (ap (λ (l : Levels). length l.levels) (sym c.opening_of.ensures.is) ∙ c.new.ensures.whole);
-      stepped = subst (λ (t : Trace). HasStepped (skew_of c.args.skew) t (whole_reading r []).time t check.settler
+      stepped = subst (λ (t : Trace). HasCheckedSteps (skew_of c.args.skew) t (whole_reading r []).time t check.settler
           check.checker check.count check.is_too_long) same (c.new.ensures.stepped (whole_reading r []).time);
     }
 

@@ -1,5 +1,5 @@
 use Rattle.std.proofs.Common.{◌∙◌, sym}
-use Rattle.vme_dtb.proofs.PassedData.{passed_more}
+use Rattle.vme_dtb.proofs.NonDataChanges.{passed_more}
 use Rattle.vme_dtb.proofs.observation.touches_data.Goals as goal
 
 pub loop-change-preserved : goal.loop-change-preserved

@@ -1,13 +1,13 @@
 use Rattle.std.proofs.Common.{arith}
-use Rattle.vme_dtb.proofs.PassedData as passed_data
-use Rattle.vme_dtb.proofs.PassedNeeds as passed_needs
+use Rattle.vme_dtb.proofs.NonDataChanges as non_data
+use Rattle.vme_dtb.proofs.UnneededChanges as unneeded
 use Rattle.vme_dtb.proofs.observation.touches_others.Goals as goal
 
 pub loop-change-preserved : goal.loop-change-preserved
 loop-change-preserved c = (
-  λ needs. passed_needs.passed_more needs c.args.changes.now c.loop-change.change-index c.change-item.result
+  λ needs. unneeded.passed_more needs c.args.changes.now c.loop-change.change-index c.change-item.result
       c.loop-change-test.true c.change-item.is (omega arith) (c.loop-change.invariant.0 needs),
-  λ v w. passed_data.passed_more v w c.args.changes.now c.loop-change.change-index c.change-item.result
-      c.loop-change-test.true c.change-item.is (passed_data.not_data c.change-item.result.line (omega arith))
+  λ v w. non_data.passed_more v w c.args.changes.now c.loop-change.change-index c.change-item.result
+      c.loop-change-test.true c.change-item.is (non_data.not_data c.change-item.result.line (omega arith))
       (c.loop-change.invariant.1 v w),
 )

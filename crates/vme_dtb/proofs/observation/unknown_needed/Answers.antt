@@ -2,8 +2,8 @@
 use Rattle.std.proofs.Common.{ℕ, ◌+◌, ◌∙◌, ap, sym, arith, Some}
 use Rattle.vme_trace.specs.Instants.{every}
 use Rattle.vme_trace.specs.Levels.{is_known, is_known_on}
-use Rattle.vme_dtb.proofs.LackedLines.{lacks_first, lacks_here, lacks_known, lacks_more, lacks_none, lacks_there}
-use Rattle.vme_dtb.proofs.LackedLines.{not_lacked, not_needed}
+use Rattle.vme_dtb.proofs.UnknownNeeds.{lacks_first, lacks_here, lacks_known, lacks_more, lacks_none, lacks_there}
+use Rattle.vme_dtb.proofs.UnknownNeeds.{not_lacked, not_needed}
 use Rattle.vme_dtb.proofs.observation.unknown_needed.Goals as goal
 use Rattle.vme_dtb.proofs.observation.unknown_needed.Goals.{in-Some+else-not-is_known}
 use Rattle.vme_dtb.proofs.observation.unknown_needed.Goals.{else-not-is_known-via-then-not-is_known+else-has}

@@ -19,7 +19,7 @@ within-held found one bytes held is same within =
 pub returns-in-Ok-Some-clause-held : goal.returns-in-Ok-Some-clause-held
 returns-in-Ok-Some-clause-held g c =
     let found = c.in-Ok-Some.found in
-    let body_is : c.body_behind.result ≡ Body found.0 found.1 = rw c.in-Ok-Some.field-0-is at c.body_behind.ensures in
+    let body_is : c.body_after.result ≡ Body found.0 found.1 = rw c.in-Ok-Some.field-0-is at c.body_after.ensures in
     subst (HoldsDefinitions c.args.input.now) (sym body_is)
     (within-held c.in-Ok-Some.field-0 found c.bytes.result.now c.args.input.now.held c.in-Ok-Some.field-0-is
     c.bytes.ensures.held c.in-Ok-Some.ensures.within)
@@ -41,7 +41,7 @@ returns-in-Ok-Some-clause-read g c old h limit =
     → reading_of_text bound (c.bytes.result.now ++ rest)
     ≡ Ok (whole_reading begun.0 (drop begun.1 c.bytes.result.now ++ rest)))) c.in-Ok-Some.field-0-is
     c.in-Ok-Some.ensures.begins in
-    let body_is : c.body_behind.result ≡ Body found.0 found.1 = rw c.in-Ok-Some.field-0-is at c.body_behind.ensures in
+    let body_is : c.body_after.result ≡ Body found.0 found.1 = rw c.in-Ok-Some.field-0-is at c.body_after.ensures in
     subst (λ (b : Begun). BeginsDump bound old now input (Ok b)) (sym body_is)
     (begun-body bound old now input h found.1 within found.0
     (λ rest ends. subst (λ (l : List ℕ). reading_of_text bound (l ++ rest)

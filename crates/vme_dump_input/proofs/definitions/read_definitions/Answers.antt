@@ -1,7 +1,7 @@
 -- The definitions are read on until they end.
 use Rattle.std.proofs.Common.{◌<◌, [], Option, ap, subst, sym, ◌∙◌}
 use Rattle.std.specs.Prelude.{Ok}
-use Rattle.vme_dump_input.specs.DumpBeginnings.{HoldsDefinitionsIf, MayBegin}
+use Rattle.vme_dump_input.specs.DumpBeginnings.{HoldsDefinitionsIfSome, MayBegin}
 use Rattle.vme_dump_input.specs.BufferedInputs.{FailsAs, InputSoFar, reads_left}
 use Rattle.vme_dump_input.specs.declared.definitions.Begun.{Begun}
 use Rattle.vme_dump_input.proofs.DumpRefusals.{unread-is}
@@ -43,7 +43,7 @@ returns-in-Err-clause-read g c old h limit =
 
 pub returns-in-Ok-Some-clause-held : goal.returns-in-Ok-Some-clause-held
 returns-in-Ok-Some-clause-held g c =
-    subst (HoldsDefinitionsIf c.begin.new.input) c.in-Ok-Some.field-0-is c.in-Ok-Some.ensures.held
+    subst (HoldsDefinitionsIfSome c.begin.new.input) c.in-Ok-Some.field-0-is c.in-Ok-Some.ensures.held
 
 pub returns-in-Ok-Some-clause-read : goal.returns-in-Ok-Some-clause-read
 returns-in-Ok-Some-clause-read g c old h limit =

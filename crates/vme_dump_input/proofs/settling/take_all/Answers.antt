@@ -11,5 +11,5 @@ loop-step-init c =
 pub loop-step-preserved : goal.loop-step-preserved
 loop-step-preserved c =
     all-next c.args.settler.now c.loop-step.settler c.take.new.self c.args.steps.now c.loop-step.settled.items
-    c.keep.new.settled.items c.loop-step.step-index c.step-item.result c.in_ok-made.made c.loop-step.invariant
-    c.in_ok-made.ensures.taken c.in_ok-keep.ensures c.loop-step-test.true c.step-item.is
+    c.push_if_some.new.settled.items c.loop-step.step-index c.step-item.result c.in_ok-made.made c.loop-step.invariant
+    c.in_ok-made.ensures.taken c.in_ok-push_if_some.ensures c.loop-step-test.true c.step-item.is

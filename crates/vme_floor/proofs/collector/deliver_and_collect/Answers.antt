@@ -5,7 +5,7 @@ use Rattle.vme_core.specs.declared.view.View.{View}
 use Rattle.vme_board.specs.Benches.{total_of, view_of}
 use Rattle.vme_floor.specs.declared.answer.Reply.{Reply}
 use Rattle.vme_floor.specs.Works.{number_at, number_in, IsDelivered, IsNext}
-use Rattle.vme_floor.proofs.Collecting.{own_next}
+use Rattle.vme_floor.proofs.Collecting.{own_stay_taken}
 use Rattle.vme_floor.proofs.Working.{works_same}
 use Rattle.vme_floor.proofs.collector.deliver_and_collect.Goals as goal
 
@@ -29,6 +29,6 @@ draws-preserved g c =
             c.deliver_next.new.work.replies.items after.rest.list after.rest.draws after.rest.sees done.did;
       };
       collected = after.collected;
-      own = own_next board ds u v w reply b.number next after.rest n_is after.gone c.draws.invariant.own;
+      own = own_stay_taken board ds u v w reply b.number next after.rest n_is after.gone c.draws.invariant.own;
       share = after.rest.share ∙ (c.in_ok-reply.ensures.share ∙ c.draws.invariant.share);
     }

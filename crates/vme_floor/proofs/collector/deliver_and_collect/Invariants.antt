@@ -1,16 +1,16 @@
 use Rattle.std.proofs.Common.{◌≡◌}
 use Rattle.vme_board.specs.Benches.{draws_of, total_of, view_of}
-use Rattle.vme_floor.specs.Collecting.{HasTakenOwn, IsCollected}
-use Rattle.vme_floor.specs.Works.{IsWorkOf, left}
+use Rattle.vme_floor.specs.Collecting.{IsCollected, OwnAreTaken}
+use Rattle.vme_floor.specs.Works.{IsWorkOf, unfound_below}
 use Rattle.vme_floor.proofs.collector.deliver_and_collect.Given as goal
 
 abbrev pub invariant-draws : goal.invariant-draws
 invariant-draws g l = record {
   work : IsWorkOf l.board l.deliveries l.work;
   collected : IsCollected (total_of l.board) (view_of l.work.bench) l.collection;
-  own : HasTakenOwn (view_of l.work.bench);
+  own : OwnAreTaken (view_of l.work.bench);
   share : (view_of l.work.bench).share ≡ (view_of l.fn.bench).share;
 }
 
 abbrev pub decreases-draws : goal.decreases-draws
-decreases-draws g l = left (draws_of l.board) (view_of l.work.bench).found
+decreases-draws g l = unfound_below (draws_of l.board) (view_of l.work.bench).found

@@ -1,7 +1,7 @@
 use Rattle.std.proofs.Common.{◌≡◌, ℕ, ◌+◌, ◌<◌, [], ◌∷◌, vec_len, vec_items, get_or, None, IfOk}
 use Rattle.std.specs.Vec.Iter.{into_iter_items, into_iter_len}
 use Rattle.vme_board.specs.Benches.{total_of, view_of}
-use Rattle.vme_floor.specs.Collecting.{HasTakenOwn, IsCollected, IsCollectedOf}
+use Rattle.vme_floor.specs.Collecting.{IsCollected, IsCollectedOf, OwnAreTaken}
 use Rattle.vme_floor.specs.Works.{IsNew}
 use Rattle.vme_floor.proofs.Sharing.{upto}
 use Rattle.vme_floor.proofs.threads.work_in_scope.Given as goal
@@ -31,5 +31,5 @@ invariant-loop-handle g l = record {
       × ((k : ℕ) (d : _) → k < into_iter_len l.handle-iterator
       → (get_or (into_iter_items l.handle-iterator) k d).promise.worker ≡ t + k + 1)
       × IfOk l.all (λ c. (view_of c.work.bench).share ≡ m ∷ upto t);
-  own : l.workers ≡ 1 → (into_iter_len l.handle-iterator ≡ 0) × IfOk l.all (λ c. HasTakenOwn (view_of c.work.bench));
+  own : l.workers ≡ 1 → (into_iter_len l.handle-iterator ≡ 0) × IfOk l.all (λ c. OwnAreTaken (view_of c.work.bench));
 }

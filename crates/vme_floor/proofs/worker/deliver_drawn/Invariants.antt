@@ -1,6 +1,6 @@
 use Rattle.std.proofs.Common.{◌≡◌}
 use Rattle.vme_board.specs.Benches.{draws_of, view_of}
-use Rattle.vme_floor.specs.Works.{IsOtherWorkOf, left}
+use Rattle.vme_floor.specs.Works.{IsOtherWorkOf, unfound_below}
 use Rattle.vme_floor.proofs.worker.deliver_drawn.Given as goal
 
 abbrev pub invariant-draws : goal.invariant-draws
@@ -10,4 +10,4 @@ invariant-draws g l = record {
 }
 
 abbrev pub decreases-draws : goal.decreases-draws
-decreases-draws g l = left (draws_of l.board) (view_of l.work.bench).found
+decreases-draws g l = unfound_below (draws_of l.board) (view_of l.work.bench).found

@@ -4,13 +4,13 @@ use Rattle.vme_trace.specs.declared.block.Block.{Block}
 use Rattle.vme_core.specs.Counting.{occurrences}
 use Rattle.vme_core.specs.declared.view.View.{View}
 use Rattle.vme_board.specs.Benches.{draws_of, total_of, view_of}
-use Rattle.vme_floor.specs.Answering.{Suits}
+use Rattle.vme_floor.specs.Answering.{IsRightAnswer}
 use Rattle.vme_floor.specs.declared.answer.Answer.{Answer}
 use Rattle.vme_floor.specs.declared.answer.Reply.{Reply}
 use Rattle.vme_floor.specs.Accounts.{reply_of}
-use Rattle.vme_floor.specs.Works.{number_at, number_in, IsKnownFiled, IsWork, Lists}
+use Rattle.vme_floor.specs.Works.{number_at, number_in, IsKnownFiled, IsWork, IsListAfter}
 use Rattle.vme_floor.proofs.Collecting.{sees_on}
-use Rattle.vme_floor.proofs.Working.{left_less, old_or_filed, unrefused, works_on}
+use Rattle.vme_floor.proofs.Working.{old_or_filed, unfound_below_less, unrefused, works_on}
 use Rattle.vme_floor.proofs.worker.deliver_next.Goals as goal
 
 pub returns-clause-work : goal.returns-clause-work
@@ -49,16 +49,18 @@ returns-clause-next g c =
     let same_at : (e : ℕ) → occurrences e w.found ≡ occurrences e v.found = λ e. ap (occurrences e)
     delivered.ensures.draws.found in
     let found = draw.found d (omega arith) in
-    let lists : Lists u.list w.list b a = subst (λ xs. Lists xs w.list b a) draw.rest.list delivered.ensures.lists in
+    let lists : IsListAfter u.list w.list b a = subst (λ xs. IsListAfter xs w.list b a) draw.rest.list
+    delivered.ensures.lists in
     record {
       within = near;
-      less = left_less (draws_of board) u.found w.found (λ e. omega (arith, same_at e, draw.grows.found e)) d draw.some
+      less = unfound_below_less (draws_of board) u.found w.found (λ e. omega (arith, same_at e, draw.grows.found e)) d
+          draw.some
           draw.fresh.1 (omega (arith, same_at d, found));
       takes = delivered.ensures.takes ∙ draw.rest.takes;
       sees = sees_on u v w draw.grows delivered.ensures.sees;
       filed = λ is. subst (λ (m : ℕ). IsKnownFiled (total_of board) w m) (sym n_is)
           (record {
-            within = unrefused (total_of board) b (subst (λ (x : Answer). Suits (total_of board) b x) is
+            within = unrefused (total_of board) b (subst (λ (x : Answer). IsRightAnswer (total_of board) b x) is
                 delivered.ensures.suits);
             sees = delivered.ensures.filed is;
           });

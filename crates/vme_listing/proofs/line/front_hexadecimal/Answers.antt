@@ -1,7 +1,7 @@
 use Rattle.std.proofs.Common.{sym, ap, ◌∙◌, arith, rules}
 use Rattle.std.specs.Prelude.{Some}
 use Rattle.std.proofs.lemmas.List.{take_rest}
-use Rattle.vme_listing.proofs.FrontHexadecimals.{behind-hexadecimal, hexadecimal_in-front, hexadecimal_in-not}
+use Rattle.vme_listing.proofs.FrontHexadecimals.{after_word-hexadecimal, hexadecimal_in-front, hexadecimal_in-not}
 use Rattle.vme_listing.proofs.FrontHexadecimals.{hexadecimal_in-short}
 use Rattle.vme_listing.proofs.line.front_hexadecimal.Goals as goal
 
@@ -13,9 +13,9 @@ returns-in-Some-clause-number c =
     hexadecimal_in-front c.args.digits c.args.text.now c.in-Some.number c.requires (omega arith)
     c.in-Some.ensures.number c.in-Some.ensures.below
 
-pub returns-in-Some-clause-behind : goal.returns-in-Some-clause-behind
-returns-in-Some-clause-behind c =
-    behind-hexadecimal c.args.digits c.args.text.now c.in-Some.number c.requires (omega arith)
+pub returns-in-Some-clause-rest : goal.returns-in-Some-clause-rest
+returns-in-Some-clause-rest c =
+    after_word-hexadecimal c.args.digits c.args.text.now c.in-Some.number c.requires (omega arith)
     c.in-Some.ensures.number c.in-Some.ensures.below
     ∙ ap Some (sym (take_rest c.args.text.now c.args.digits))
 

@@ -1,7 +1,7 @@
 use Rattle.std.proofs.Common.{sym, ap, ◌∙◌, arith}
 use Rattle.std.specs.Prelude.{Some}
 use Rattle.std.proofs.lemmas.List.{take_rest}
-use Rattle.vme_listing.proofs.FrontDigits.{behind-front, number_in-empty, number_in-front, number_in-large}
+use Rattle.vme_listing.proofs.FrontDigits.{after_word-front, number_in-empty, number_in-front, number_in-large}
 use Rattle.vme_listing.proofs.FrontDigits.{number_in-zero}
 use Rattle.vme_listing.proofs.line.front_number.Goals as goal
 
@@ -30,9 +30,9 @@ returns-clause-number c =
     d.result.number d.ensures.number (omega arith) (sym c.has_leading_zero.ensures ∙ c.if-has_leading_zero.false)
     (omega arith)
 
-pub returns-clause-behind : goal.returns-clause-behind
-returns-clause-behind c =
+pub returns-clause-rest : goal.returns-clause-rest
+returns-clause-rest c =
     let d = c.front_digits-front in
-    behind-front c.args.text.now d.result.count d.ensures.few d.ensures.within d.ensures.digits d.ensures.end
+    after_word-front c.args.text.now d.result.count d.ensures.few d.ensures.within d.ensures.digits d.ensures.end
     d.result.number d.ensures.number (omega arith) (sym c.has_leading_zero.ensures ∙ c.if-has_leading_zero.false)
     ∙ ap Some (sym (take_rest c.args.text.now d.result.count))

@@ -3,7 +3,7 @@ use Rattle.std.proofs.lemmas.List.{take_all, take_more}
 use Rattle.std.proofs.lemmas.Option.{slice_get-get_or}
 use Rattle.vme_monitor.specs.Meeting.{memories_in}
 use Rattle.vme_monitor.specs.Walk.{outcome_of}
-use Rattle.vme_monitor.proofs.LastSeen.{apart_more, memories_pushed, stamped_more}
+use Rattle.vme_monitor.proofs.LastSeen.{distinct_appended, memories_pushed, stamped_appended}
 use Rattle.vme_monitor.proofs.merge.have_merged.Goals as goal
 
 pub loop-row-preserved : goal.loop-row-preserved
@@ -19,9 +19,9 @@ loop-row-preserved g c =
     ++ row.memory ∷ [] = ap (λ x. memories_in (map outcome_of x)) more ∙ memories_pushed done row in
     let below : c.place-place.result < length c.loop-row.last_seen = omega arith in
     record {
-      stamped = rw all (stamped_more place c.args.stamp (memories_in (map outcome_of done)) c.loop-row.last_seen
+      stamped = rw all (stamped_appended place c.args.stamp (memories_in (map outcome_of done)) c.loop-row.last_seen
           row.memory c.place-place.result c.place-place.ensures below c.loop-row.invariant.stamped);
-      apart = rw all (apart_more place c.args.stamp _ (memories_in (map outcome_of done)) c.loop-row.last_seen
+      apart = rw all (distinct_appended place c.args.stamp _ (memories_in (map outcome_of done)) c.loop-row.last_seen
           row.memory c.place-place.result c.place-place.ensures (slice_get-get_or c.loop-row.last_seen
           c.place-place.result 0 below) (λ e. absurd (search rules)) c.loop-row.invariant.stamped
           c.loop-row.invariant.apart);

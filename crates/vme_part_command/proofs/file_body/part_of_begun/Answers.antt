@@ -6,12 +6,12 @@ use Rattle.vme_dump_input.specs.declared.definitions.Begun.{Begun}
 use Rattle.vme_part_command.proofs.FoundLemmas.{unusable-part}
 use Rattle.vme_part_command.proofs.file_body.part_of_begun.Goals as goal
 
-pub part_behind-requires-clause-held : goal.part_behind-requires-clause-held
-part_behind-requires-clause-held g c = subst (HoldsDefinitions c.args.input.now) c.in-Body.is c.requires.held
+pub part_after_definitions-requires-clause-held : goal.part_after_definitions-requires-clause-held
+part_after_definitions-requires-clause-held g c = subst (HoldsDefinitions c.args.input.now) c.in-Body.is c.requires.held
 
 pub returns-in-Body : goal.returns-in-Body
 returns-in-Body g c bound old begun limit =
-    c.part_behind.ensures bound old
+    c.part_after_definitions.ensures bound old
     (subst (λ (b : Begun). BeginsDump bound old (g.D.Source.reading c.args.dump.now) c.args.input.now (Ok b))
     c.in-Body.is begun) limit
 

@@ -22,8 +22,8 @@ judge_batches-requires c =
       may,
     )
 
-pub gone_on-requires : goal.gone_on-requires
-gone_on-requires c =
+pub judge_more-requires : goal.judge_more-requires
+judge_more-requires c =
     let (number, listing, start, t, h, may) = c.requires in
     let steps = c.args.steps.items in
     let made = c.in_ok-file.ensures number listing start (with_steps t steps)
@@ -46,9 +46,9 @@ returns c number listing start t h may =
     (subst (λ (l : List Step). IsPending number listing start c.args.file l (with_steps t steps))
     (sym c.in_ok-append.ensures.items)
     (pending-more number listing start c.args.file c.args.pending.items t h steps)) may in
-    IfOk-weaker c.gone_on.result _ _
+    IfOk-weaker c.judge_more.result _ _
     (λ file found. found-all number listing start c.in_ok-file.file file c.in_ok-file.rest.items (with_steps t steps)
     made (rw (sym c.as_slice.ensures.value) found))
-    (c.gone_on.ensures number listing start made.judged made.found
+    (c.judge_more.ensures number listing start made.judged made.found
     (subst (FileMayGoOn made.judged) (sym c.as_slice.ensures.value)
     (all-may number listing start c.in_ok-file.file c.in_ok-file.rest.items (with_steps t steps) made may)))

@@ -10,8 +10,8 @@ use Rattle.vme_part_command.proofs.file_check.judge_batches.Goals as goal
 pub loop-alloc-init : goal.loop-alloc-init
 loop-alloc-init c = record { pending = λ number listing start t h may. h }
 
-pub gone_on-requires : goal.gone_on-requires
-gone_on-requires c =
+pub judge_more-requires : goal.judge_more-requires
+judge_more-requires c =
     let (number, listing, start, t, first, may) = c.requires in
     let h = c.loop-alloc.invariant.pending number listing start t first may in (
       number,

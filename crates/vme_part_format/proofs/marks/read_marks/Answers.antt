@@ -1,7 +1,7 @@
 use Rattle.std.proofs.Common.{◌-◌, ◌+◌}
 use Rattle.std.proofs.lemmas.Result.{err_from_is_err_and}
 use Rattle.vme_part_format.specs.Reading.{marks_at}
-use Rattle.vme_part_format.proofs.Loops.{done, ends, marks_fail, marks_none, marks_step, more}
+use Rattle.vme_part_format.proofs.Loops.{loop_end, loop_fault, loop_step, marks_fail, marks_none, marks_step}
 use Rattle.vme_part_format.proofs.marks.read_marks.Goals as goal
 
 pub returns-in_err-instant : goal.returns-in_err-instant
@@ -9,7 +9,8 @@ returns-in_err-instant c =
     let l = c.loop in
     let p = err_from_is_err_and c.from_residual.result c.from_residual.ensures.1 in
     rw (p.1, p.2)
-    (ends c.in_err-instant.field-0.0 l.marks.items (marks_at c.args.steps l.before (c.args.count - l.counter) l.fields)
+    (loop_fault c.in_err-instant.field-0.0 l.marks.items
+    (marks_at c.args.steps l.before (c.args.count - l.counter) l.fields)
     (marks_at c.args.steps 0 c.args.count c.args.fields.now)
     (marks_fail c.args.steps c.in_err-instant.field-0.0 l.before c.args.count l.counter l.fields c.loop-test.true
     c.in_err-instant.ensures) l.invariant)
@@ -19,7 +20,7 @@ loop-preserved c =
     let l = c.loop in
     let m = c.in_ok-instant.field-0 in
     rw c.in_ok-push.ensures.items
-    (more l.marks.items m (marks_at c.args.steps l.before (c.args.count - l.counter) l.fields)
+    (loop_step l.marks.items m (marks_at c.args.steps l.before (c.args.count - l.counter) l.fields)
     (marks_at c.args.steps m.instant (c.args.count - (l.counter + 1)) c.read_mark.new.fields)
     (marks_at c.args.steps 0 c.args.count c.args.fields.now)
     (marks_step c.args.steps l.before c.args.count l.counter l.fields m c.read_mark.new.fields c.loop-test.true
@@ -28,6 +29,6 @@ loop-preserved c =
 pub returns : goal.returns
 returns c =
     let l = c.loop in
-    done l.marks.items l.fields (marks_at c.args.steps l.before (c.args.count - l.counter) l.fields)
+    loop_end l.marks.items l.fields (marks_at c.args.steps l.before (c.args.count - l.counter) l.fields)
     (marks_at c.args.steps 0 c.args.count c.args.fields.now)
     (marks_none c.args.steps l.before c.args.count l.counter l.fields c.loop-test.false) l.invariant

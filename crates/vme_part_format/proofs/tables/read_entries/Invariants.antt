@@ -1,8 +1,8 @@
 use Rattle.std.proofs.Common.{◌≡◌, ◌-◌}
-use Rattle.vme_part_format.specs.Reading.{behind, entries_at}
+use Rattle.vme_part_format.specs.Reading.{after_items, entries_at}
 use Rattle.vme_part_format.proofs.tables.read_entries.Given as goal
 
 abbrev pub invariant-loop : goal.invariant-loop
 invariant-loop l =
-    behind l.entries.items (entries_at l.listing l.steps l.ways (l.count - l.counter) l.fields)
+    after_items l.entries.items (entries_at l.listing l.steps l.ways (l.count - l.counter) l.fields)
     ≡ entries_at l.listing l.steps l.ways l.count l.fn.fields

@@ -2,7 +2,7 @@ use Rattle.std.proofs.Common.{subst}
 use Rattle.std.proofs.lemmas.Result.{IfOk-weaker}
 use Rattle.vme_part_format.specs.Tables.{TableValue, table_value}
 use Rattle.vme_part_tables.specs.Pruned.{IsPruned}
-use Rattle.vme_part_tables.specs.Runs.{SaysBoth}
+use Rattle.vme_part_tables.specs.Runs.{IsComposition}
 use Rattle.vme_part_tables.proofs.Composing.{composed_ways}
 use Rattle.vme_part_tables.proofs.ComposingAll.{both_pruned}
 use Rattle.vme_part_tables.proofs.Shortening.{pruned_again}
@@ -19,7 +19,8 @@ returns c =
     let b = table_value c.args.second in
     let on = table_value c.in_ok-table.table in
     let short = table_value c.in_ok-table-2.table in
-    IfOk-weaker c.pruned.result (λ t. IsPruned short (table_value t)) (λ t. SaysBoth c.args.steps a b (table_value t))
+    IfOk-weaker c.pruned.result (λ t. IsPruned short (table_value t))
+    (λ t. IsComposition c.args.steps a b (table_value t))
     (λ t p. both_pruned a b c.args.steps c.requires (table_value t)
     (subst (λ (v : TableValue). IsPruned v (table_value t)) c.in_ok-table.ensures
     (pruned_again on short (table_value t) c.in_ok-table-2.ensures p)))

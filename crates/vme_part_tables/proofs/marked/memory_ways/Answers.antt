@@ -1,6 +1,6 @@
 use Rattle.std.proofs.Common.{◌≡◌, ◌<◌, None, ap, subst, ◌∙◌, arith, map, rules}
 use Rattle.vme_part_format.specs.Tables.{node_value}
-use Rattle.vme_part_tables.specs.Marked.{SaysBehind, if_needed, is_needed, made_says, marks_if, says_at}
+use Rattle.vme_part_tables.specs.Marked.{AddsBefore, if_needed, is_needed, made_outcome, marks_if, onward_outcome}
 use Rattle.vme_part_tables.proofs.MarkedLemmas.{made_step, memory_step, row_tells}
 use Rattle.vme_part_tables.proofs.marked.memory_ways.Goals as goal
 
@@ -30,8 +30,8 @@ loop-place-preserved g c =
     let made = rw same at c.in_ok-way.ensures.made in
     let says = rw (c.widened.ensures, c.as_slice.ensures.value, found, shown, at) at c.in_ok-way.ensures.says in
     let says =
-    subst (λ m. SaysBehind run.first_break run.marks
-    (made_says m old None (place run.leaving)) (says_at m new c.in_ok-way.way)) same says in
+    subst (λ m. AddsBefore run.first_break run.marks
+    (made_outcome m old None (place run.leaving)) (onward_outcome m new c.in_ok-way.way)) same says in
     record {
       memories = c.in_ok-way.ensures.memories ∙ same;
       count = omega (arith, c.in_ok-way.ensures.one, c.loop-place.invariant.count);
@@ -45,6 +45,6 @@ loop-place-preserved g c =
           (λ k. if_needed (is_needed c.args.needs.now k) (g.M.Monitor.outcome c.args.summary.now (nth k)))
           c.loop-place.place c.in_ok-push.ensures.items
           (search rules) c.loop-place.invariant.ways kept
-          (row_tells place m old run.leaving run.first_break run.marks (says_at m new c.in_ok-way.way) low says)
+          (row_tells place m old run.leaving run.first_break run.marks (onward_outcome m new c.in_ok-way.way) low says)
           c.loop-place.invariant.says;
     }

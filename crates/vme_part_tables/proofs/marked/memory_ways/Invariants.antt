@@ -1,6 +1,6 @@
 use Rattle.std.proofs.Common.{◌≡◌, ◌≤◌, length, map, vec_len}
 use Rattle.vme_part_format.specs.Tables.{node_value}
-use Rattle.vme_part_tables.specs.Marked.{AreMade, MadeGoOn, SayBelow, if_needed, is_needed}
+use Rattle.vme_part_tables.specs.Marked.{AgreeBelow, AreMade, MadeGoOn, if_needed, is_needed}
 use Rattle.vme_part_tables.proofs.marked.memory_ways.Given as goal
 
 abbrev pub invariant-loop-place : goal.invariant-loop-place
@@ -11,6 +11,7 @@ invariant-loop-place g l =
       made : MadeGoOn l.fn.made.memories (map node_value l.made.nodes.items);
       ways : AreMade l.fn.made.memories (map node_value l.made.nodes.items) l.onward.items;
       as_many : vec_len l.onward ≡ l.place;
-      says : SayBelow g.M.Finite.place_of l.fn.made.memories (map node_value l.made.nodes.items) l.onward.items l.place
+      says : AgreeBelow g.M.Finite.place_of l.fn.made.memories (map node_value l.made.nodes.items) l.onward.items
+          l.place
           (λ k. if_needed (is_needed l.needs k) (g.M.Monitor.outcome l.summary (g.M.Finite.nth_of k)));
     }

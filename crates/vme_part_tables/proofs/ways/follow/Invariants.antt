@@ -1,18 +1,18 @@
 use Rattle.std.proofs.Common.{◌≡◌, drop, length, map}
 use Rattle.std.specs.Option.{option_or}
 use Rattle.vme_part_format.specs.Tables.{node_value, table_value}
-use Rattle.vme_part_tables.specs.Ways.{outcome_in, walked}
+use Rattle.vme_part_tables.specs.Ways.{outcome_in, run_from}
 use Rattle.vme_part_tables.proofs.ways.follow.Given as goal
 
 abbrev pub invariant-loop-node : goal.invariant-loop-node
 invariant-loop-node l =
     record {
       memories : l.memories ≡ length l.table.entries.items;
-      leaving : (walked (length l.table.entries.items) (map node_value (drop l.node-index l.table.nodes.items))
+      leaving : (run_from (length l.table.entries.items) (map node_value (drop l.node-index l.table.nodes.items))
           l.way).leaving
           ≡ (outcome_in (table_value l.fn.table) l.fn.memory).leaving;
       first_break : option_or l.first_break
-          (walked (length l.table.entries.items) (map node_value (drop l.node-index l.table.nodes.items))
+          (run_from (length l.table.entries.items) (map node_value (drop l.node-index l.table.nodes.items))
           l.way).first_break
           ≡ (outcome_in (table_value l.fn.table) l.fn.memory).first_break;
     }

@@ -1,7 +1,7 @@
 use Rattle.std.proofs.Common.{rules, ◌≡◌, ◌+◌, false, List, [], map, ap, sym, subst, arith}
 use Rattle.vme_part_format.specs.Tables.{NodeValue, node_value}
 use Rattle.vme_part_format.specs.declared.table.TableEntry.{TableEntry}
-use Rattle.vme_part_tables.specs.Runs.{TellsRuns}
+use Rattle.vme_part_tables.specs.Runs.{AgreesWithRuns}
 use Rattle.vme_parts.proofs.Bare.{AreRows, bare_tells, rows_more}
 use Rattle.vme_parts.proofs.made.bare_table.Goals as goal
 
@@ -36,6 +36,7 @@ returns g c =
     let es = c.loop-place.entries.items in
     let whole : c.loop-place.place ≡ count = search rules in
     let none : map node_value c.new-nodes.result.items ≡ [] = ap (map node_value) c.new-nodes.ensures.items in
-    subst (λ (ns : List NodeValue). TellsRuns false count place (record { entries = es; nodes = ns }) says) (sym none)
+    subst (λ (ns : List NodeValue). AgreesWithRuns false count place (record { entries = es; nodes = ns }) says)
+    (sym none)
     (bare_tells place nth says count es (omega (arith, g.met.M.Finite.few)) (search rules)
     (subst (AreRows place nth says es) whole c.loop-place.invariant.rows) g.met.M.Finite.placed g.met.M.Finite.found)

@@ -10,5 +10,5 @@ returns c =
       stability = c.in_ok-stability.ensures;
       grant = c.in_ok-grant.ensures;
       acknowledge = c.in_ok-acknowledge.ensures;
-      left = c.lines_behind-left.ensures;
+      left = c.lines_after-left.ensures;
     }

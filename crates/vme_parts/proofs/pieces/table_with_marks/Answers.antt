@@ -6,7 +6,7 @@ use Rattle.vme_trace.specs.Trace.{levels_after}
 use Rattle.vme_trace.specs.WellFormed.{malformed_step}
 use Rattle.vme_trace.specs.declared.step.Step.{Step}
 use Rattle.vme_part_format.specs.Tables.{table_value}
-use Rattle.vme_part_tables.specs.Runs.{TellsRuns}
+use Rattle.vme_part_tables.specs.Runs.{AgreesWithRuns}
 use Rattle.vme_parts.proofs.PieceLemmas.{none_needed, none_sound, piece_lines, piece_more, piece_sound}
 use Rattle.vme_parts.proofs.pieces.table_with_marks.Goals as goal
 
@@ -27,7 +27,7 @@ loop-done-init g c =
     record {
       within = omega arith;
       lines = refl;
-      tells = none_needed g.M.Finite.place_of g.M.Finite.COUNT (table_value c.in_ok-table.table) []
+      agrees = none_needed g.M.Finite.place_of g.M.Finite.COUNT (table_value c.in_ok-table.table) []
           (λ p. g.M.Monitor.run p o []) (λ p. g.met.M.Monitor.nothing p o) c.in_ok-table.ensures;
     }
 
@@ -42,11 +42,12 @@ loop-done-preserved g c =
     let many : length (take n xs) ≡ n = length-take-le n xs c.loop-done.invariant.within in
     record {
       within = within;
-      lines = c.lines_behind-lines.ensures
+      lines = c.lines_after-lines.ensures
           ∙ (ap (λ (v : Levels). levels_after v (take k (drop n xs))) c.loop-done.invariant.lines
           ∙ piece_lines o xs n k c.min-end.result up);
-      tells = subst
-          (λ (ys : List Step). TellsRuns true g.M.Finite.COUNT g.M.Finite.place_of (table_value c.in_ok-table-2.table)
+      agrees = subst
+          (λ (ys : List Step). AgreesWithRuns true g.M.Finite.COUNT g.M.Finite.place_of
+          (table_value c.in_ok-table-2.table)
           (λ p. g.M.Monitor.run p o ys)) (piece_more xs n k c.min-end.result up)
-          (c.in_ok-table-2.ensures o (take n xs) c.loop-done.invariant.lines (sym many) c.loop-done.invariant.tells);
+          (c.in_ok-table-2.ensures o (take n xs) c.loop-done.invariant.lines (sym many) c.loop-done.invariant.agrees);
     }

@@ -1,7 +1,7 @@
 use Rattle.std.proofs.Common.{◌≡◌, ◌-◌, ◌≤◌, length, take, true}
 use Rattle.vme_trace.specs.Trace.{levels_after}
 use Rattle.vme_part_format.specs.Tables.{table_value}
-use Rattle.vme_part_tables.specs.Runs.{TellsRuns}
+use Rattle.vme_part_tables.specs.Runs.{AgreesWithRuns}
 use Rattle.vme_parts.proofs.pieces.table_with_marks.Given as goal
 
 abbrev pub invariant-loop-done : goal.invariant-loop-done
@@ -9,7 +9,7 @@ invariant-loop-done g l =
     record {
       within : l.done ≤ length l.steps;
       lines : l.lines ≡ levels_after l.opening (take l.done l.steps);
-      tells : TellsRuns true g.M.Finite.COUNT g.M.Finite.place_of (table_value l.table)
+      agrees : AgreesWithRuns true g.M.Finite.COUNT g.M.Finite.place_of (table_value l.table)
           (λ p. g.M.Monitor.run p l.opening (take l.done l.steps));
     }
 

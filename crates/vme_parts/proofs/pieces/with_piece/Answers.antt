@@ -1,6 +1,6 @@
 use Rattle.std.proofs.Common.{subst, arith}
 use Rattle.vme_part_format.specs.Tables.{table_value}
-use Rattle.vme_part_tables.specs.Runs.{SaysBoth}
+use Rattle.vme_part_tables.specs.Runs.{IsComposition}
 use Rattle.vme_parts.proofs.Halves.{can_compose}
 use Rattle.vme_parts.proofs.PieceLemmas.{needed_of_both}
 use Rattle.vme_parts.proofs.pieces.with_piece.Goals as goal
@@ -15,12 +15,12 @@ pub left_memories-requires : goal.left_memories-requires
 left_memories-requires g c = c.requires.table.ways
 
 pub returns : goal.returns
-returns g c = λ o x opens count tells.
+returns g c = λ o x opens count agrees.
     needed_of_both g.M.Monitor.run
     (record { joined = g.met.M.Monitor.joined; within = g.met.M.Monitor.within }) g.M.Finite.place_of
     g.M.Finite.COUNT c.in_ok-needs.needs.items o c.args.opening.now x c.args.piece.now (table_value c.args.table)
     (table_value c.in_ok-next.next) (table_value c.in_ok-table.table) g.met.M.Finite.placed opens
     (omega (arith, c.requires.fits))
-    (subst (λ n. SaysBoth n (table_value c.args.table) (table_value c.in_ok-next.next)
-    (table_value c.in_ok-table.table)) count c.in_ok-table.ensures) c.in_ok-needs.ensures tells
+    (subst (λ n. IsComposition n (table_value c.args.table) (table_value c.in_ok-next.next)
+    (table_value c.in_ok-table.table)) count c.in_ok-table.ensures) c.in_ok-needs.ensures agrees
     (rw c.as_slice.ensures.value at c.in_ok-next.ensures)

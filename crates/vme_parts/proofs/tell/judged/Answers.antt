@@ -56,7 +56,7 @@ returns-in-Err-judge_all-clause-judges c =
     let judges : JudgesAll p.segments (Err why) =
     subst (λ (xs : List Segment). JudgesAll (map segment_value xs) (Err why)) c.as_slice-segments.ensures.value
     c.in-Err-judge_all.ensures.judges in
-    subst (λ (what : RecordingAnswer). JudgesFiles p c.args.files (Err what)) (sym c.told_of.ensures)
+    subst (λ (what : RecordingAnswer). JudgesFiles p c.args.files (Err what)) (sym c.answer_of.ensures)
     (stop_told p c.args.files c.in-Ok.end
     (rw c.as_slice-segments.ensures.value at (c.beyond.ensures.within c.in_default.is))
     (rw c.as_slice-segments.ensures.value at c.in-Ok.ensures.next) (c.lacks.ensures.whole c.if-lacks.false) why

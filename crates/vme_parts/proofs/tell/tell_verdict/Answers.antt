@@ -8,4 +8,4 @@ returns-in-Ok c =
     c.verdict.ensures
 
 pub returns-in-Err : goal.returns-in-Err
-returns-in-Err c = refusal_told (part_value c.args.part.now) c.args.files c.in-Err.told c.in-Err.ensures.judges
+returns-in-Err c = refusal_told (part_value c.args.part.now) c.args.files c.in-Err.answer c.in-Err.ensures.judges

@@ -24,13 +24,13 @@ pub returns-then-count-eq0-clause-bytes : goal.returns-then-count-eq0-clause-byt
 returns-then-count-eq0-clause-bytes g c =
     let old = g.R.Source.reading c.args.source.now in
     let mid = g.R.Source.reading c.loop.source in
-    let new = g.R.Source.reading c.read_behind.new.source in
+    let new = g.R.Source.reading c.read_after.new.source in
     let first = g.T.ByteConsumer.ahead c.args.consumer in
     let here = g.T.ByteConsumer.ahead c.loop.consumer in
     let next = g.T.ByteConsumer.ahead c.in_ok-next.next in
     let buffer = c.loop.bytes.items in
     let room = c.make_room.new.bytes.items in
-    let after = c.read_behind.new.bytes.items in
+    let after = c.read_after.new.bytes.items in
     let count = c.in_ok-next.count in
     let held : ℕ = c.loop.filled - count in
     let (done, u) = c.loop.invariant in
@@ -60,13 +60,13 @@ pub loop-preserved : goal.loop-preserved
 loop-preserved g c =
     let old = g.R.Source.reading c.args.source.now in
     let mid = g.R.Source.reading c.loop.source in
-    let new = g.R.Source.reading c.read_behind.new.source in
+    let new = g.R.Source.reading c.read_after.new.source in
     let first = g.T.ByteConsumer.ahead c.args.consumer in
     let here = g.T.ByteConsumer.ahead c.loop.consumer in
     let next = g.T.ByteConsumer.ahead c.in_ok-next.next in
     let buffer = c.loop.bytes.items in
     let room = c.make_room.new.bytes.items in
-    let after = c.read_behind.new.bytes.items in
+    let after = c.read_after.new.bytes.items in
     let count = c.in_ok-next.count in
     let held : ℕ = c.loop.filled - count in
     let (done, u) = c.loop.invariant in
@@ -78,9 +78,9 @@ loop-preserved g c =
     count m.within roomy m.left m.taken in
     let some : 0 < c.in-Ok.count = omega (arith, c.if-count-eq0.false) in
     let fits : held + c.in-Ok.count ≤ length after = subst (λ (n : ℕ). held + c.in-Ok.count ≤ n)
-    c.read_behind.new.bytes.ok.0 c.in-Ok.ensures.fits in
+    c.read_after.new.bytes.ok.0 c.in-Ok.ensures.fits in
     let wide : held + least_room ≤ length after = subst (λ (n : ℕ). held + least_room ≤ n)
-    c.read_behind.new.bytes.ok.0 c.in-Ok.ensures.room in
+    c.read_after.new.bytes.ok.0 c.in-Ok.ensures.room in
     let more : new.reads ≡ mid.reads + 1 = omega (arith, c.in-Ok.ensures.reads.1 some) in (
       done ++ take count buffer,
       read-on old mid first next room (done ++ take count buffer) (c.loop.taken + count) held c.loop.counter given new

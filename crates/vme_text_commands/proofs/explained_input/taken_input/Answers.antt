@@ -8,7 +8,7 @@ use Rattle.vme_text_commands.proofs.explained_input.taken_input.Goals as goal
 
 pub returns-in-Ok-finish : goal.returns-in-Ok-finish
 returns-in-Ok-finish g c =
-    let t : Trace = g.F.StepVisitor.recorded c.in-Ok-finish.taker in
+    let t : Trace = g.F.StepVisitor.recorded c.in-Ok-finish.visitor in
     record {
       gives = λ bound bytes ahead.
           recording_by-text bound bytes t (ahead ∙ c.in-Ok-finish.ensures);

@@ -1,11 +1,11 @@
 use Rattle.std.proofs.Common.{vec_len}
-use Rattle.vme_text_workers.specs.Calls.{AreOfPlaces, StandAsGiven}
+use Rattle.vme_text_workers.specs.Calls.{ArePairedResults, AreResultsByPlace}
 use Rattle.vme_text_workers.proofs.detached.put_taken.Given as goal
 
 abbrev pub invariant-loop-place : goal.invariant-loop-place
 invariant-loop-place g l = record {
-  left : AreOfPlaces (goal.F-post g l._f) l.left.items;
-  all : StandAsGiven (goal.F-post g l._f) l.all;
+  left : ArePairedResults (goal.F-post g l._f) l.left.items;
+  all : AreResultsByPlace (goal.F-post g l._f) l.all;
 }
 
 abbrev pub decreases-loop-place : goal.decreases-loop-place

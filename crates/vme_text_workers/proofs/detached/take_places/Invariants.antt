@@ -1,5 +1,5 @@
-use Rattle.vme_text_workers.specs.Calls.{AreOfPlaces}
+use Rattle.vme_text_workers.specs.Calls.{ArePairedResults}
 use Rattle.vme_text_workers.proofs.detached.take_places.Given as goal
 
 abbrev pub invariant-loop : goal.invariant-loop
-invariant-loop g l = AreOfPlaces (goal.F-post g l.f) l.taken.items
+invariant-loop g l = ArePairedResults (goal.F-post g l.f) l.taken.items

@@ -1,11 +1,13 @@
-use Rattle.vme_variables.specs.Counts.{counted, ended}
+use Rattle.vme_variables.specs.Counts.{count_change, with_last_instant}
 use Rattle.vme_variables.proofs.BodyLemmas.{taken-err, taken-ok}
 use Rattle.vme_variables.proofs.variables.changes_in.Goals as goal
 
 pub returns-in-Ok-clause-ok : goal.returns-in-Ok-clause-ok
 returns-in-Ok-clause-ok c =
-    taken-ok (λ c net bits. counted c net) ended _ c.args.head.now c.in-Ok.none c.read_body.result c.read_body.ensures
+    taken-ok (λ c net bits. count_change c net) with_last_instant _ c.args.head.now c.in-Ok.none c.read_body.result
+    c.read_body.ensures
 
 pub returns-in-Ok-clause-err : goal.returns-in-Ok-clause-err
 returns-in-Ok-clause-err c =
-    taken-err (λ c net bits. counted c net) ended _ c.args.head.now c.in-Ok.none c.read_body.result c.read_body.ensures
+    taken-err (λ c net bits. count_change c net) with_last_instant _ c.args.head.now c.in-Ok.none c.read_body.result
+    c.read_body.ensures

@@ -1,7 +1,7 @@
 use Rattle.std.proofs.Common.{◌≡◌, ℕ, ◌∷◌, [], ◌++◌, List, refl, sym, ap, subst, ◌∙◌, arith}
 use Rattle.vcd_places.specs.Times.{IsBetweenItems, times_left}
-use Rattle.vcd_places.proofs.ItemLemmas.{at_time, between_next, comment_is_item, comment_last, if_none, named_is_item}
-use Rattle.vcd_places.proofs.ItemLemmas.{named_last, nothing_told, one_taken, passed, section_taken, single_is_item}
+use Rattle.vcd_places.proofs.ItemLemmas.{at_time, between_next, code_is_item, comment_is_item, comment_last, if_none}
+use Rattle.vcd_places.proofs.ItemLemmas.{code_last, no_times_left, one_taken, passed, section_taken, single_is_item}
 use Rattle.vcd_places.proofs.ItemLemmas.{timed}
 use Rattle.vcd_places.proofs.ItemLemmas.{times_next, token, two_taken, untimed}
 use Rattle.vcd_places.proofs.times.TimePlaces.next.Goals as goal
@@ -79,7 +79,7 @@ loop-token-preserved-in_ok-next-in-Code c =
     let code = c.in_ok-next-in-Code.field-0.bytes.now in
     let u = token text next end code two in
     let step = passed text at end (t ∷ u ∷ []) c.loop-token.invariant.between
-    (two_taken text at next bytes one end code two) (named_is_item t u (sym c.in-Code.ensures)) in
+    (two_taken text at next bytes one end code two) (code_is_item t u (sym c.in-Code.ensures)) in
     record {
       same = c.in_ok-next-in-Code.ensures.text ∙ same;
       text = c.loop-token.invariant.text;
@@ -98,11 +98,11 @@ returns-in_err-next-in-Code-clause-none c =
     let one = rw c.loop-token.invariant.same at c.in-Some.ensures.token in
     let same = c.in-Some.ensures.text ∙ c.loop-token.invariant.same in
     if_none c.from_residual.result (times_left c.args.self.now ≡ [])
-    (sym c.loop-token.invariant.left ∙ named_last text at next bytes one (sym c.in-Code.ensures)
+    (sym c.loop-token.invariant.left ∙ code_last text at next bytes one (sym c.in-Code.ensures)
     (rw same at c.in_err-next-in-Code.ensures.none))
 
-pub returns-then-not-behind_end-clause-none : goal.returns-then-not-behind_end-clause-none
-returns-then-not-behind_end-clause-none c =
+pub returns-then-not-skip_past_end-clause-none : goal.returns-then-not-skip_past_end-clause-none
+returns-then-not-skip_past_end-clause-none c =
     let text = c.args.self.now.text in
     let at = c.loop-token.reader.at in
     let next = c.next.new.self.at in
@@ -110,10 +110,10 @@ returns-then-not-behind_end-clause-none c =
     let one = rw c.loop-token.invariant.same at c.in-Some.ensures.token in
     let same = c.in-Some.ensures.text ∙ c.loop-token.invariant.same in
     sym c.loop-token.invariant.left ∙ comment_last text at next bytes one (sym c.in-Comment.ensures)
-    (rw same at (c.if-not-behind_end.ensures.none refl))
+    (rw same at (c.if-not-skip_past_end.ensures.none refl))
 
-pub loop-token-preserved-else-not-behind_end : goal.loop-token-preserved-else-not-behind_end
-loop-token-preserved-else-not-behind_end c =
+pub loop-token-preserved-else-not-skip_past_end : goal.loop-token-preserved-else-not-skip_past_end
+loop-token-preserved-else-not-skip_past_end c =
     let text = c.args.self.now.text in
     let at = c.loop-token.reader.at in
     let next = c.next.new.self.at in
@@ -121,13 +121,13 @@ loop-token-preserved-else-not-behind_end c =
     let one = rw c.loop-token.invariant.same at c.in-Some.ensures.token in
     let t = token text at next bytes one in
     let same = c.in-Some.ensures.text ∙ c.loop-token.invariant.same in
-    let e = rw same at (c.if-not-behind_end.ensures.end refl) in
-    let end = c.behind_end.new.reader.at in
+    let e = rw same at (c.if-not-skip_past_end.ensures.end refl) in
+    let end = c.skip_past_end.new.reader.at in
     let step = passed text at end (t ∷ (e.words ++ e.last ∷ [])) c.loop-token.invariant.between
     (section_taken text at next bytes one end e)
     (comment_is_item t e.words e.last (sym c.in-Comment.ensures) e.none e.ends) in
     record {
-      same = c.if-not-behind_end.ensures.text ∙ same;
+      same = c.if-not-skip_past_end.ensures.text ∙ same;
       text = c.loop-token.invariant.text;
       at = c.loop-token.invariant.at;
       between = step.0;
@@ -156,5 +156,5 @@ loop-token-preserved c =
 
 pub returns-clause-none : goal.returns-clause-none
 returns-clause-none c =
-    sym c.loop-token.invariant.left ∙ nothing_told c.args.self.now.text c.loop-token.reader.at
+    sym c.loop-token.invariant.left ∙ no_times_left c.args.self.now.text c.loop-token.reader.at
     (rw c.loop-token.invariant.same at c.in_default.ensures.none)

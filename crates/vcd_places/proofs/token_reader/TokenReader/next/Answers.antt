@@ -1,5 +1,5 @@
 use Rattle.std.proofs.Common.{◌<◌, length, arith}
-use Rattle.vcd_places.proofs.NextTokenLemmas.{detached, is_taken, nothing_left, seam_from, stands_at, word_some}
+use Rattle.vcd_places.proofs.NextTokenLemmas.{boundary_from, detached, is_taken, is_token_at, nothing_left, word_some}
 use Rattle.vcd_places.proofs.token_reader.TokenReader.next.Goals as goal
 
 pub returns-then-start-self-clause-none : goal.returns-then-start-self-clause-none
@@ -16,8 +16,8 @@ invariant_of-self c =
     let some = word_some text start end lt c.word_end-end.ensures.low (c.word_start-start.ensures.word lt)
     c.word_end-end.ensures.end in
     record {
-      seam = seam_from text end c.word_end-end.ensures.high
-          (detached text c.args.self.now.at start end c.args.self.now.seam c.word_start-start.ensures.low some
+      boundary = boundary_from text end c.word_end-end.ensures.high
+          (detached text c.args.self.now.at start end c.args.self.now.boundary c.word_start-start.ensures.low some
           c.word_end-end.ensures.high c.word_start-start.ensures.spaces c.word_end-end.ensures.word
           c.word_end-end.ensures.end);
     }
@@ -30,7 +30,7 @@ returns-clause-token c =
     let lt : start < length text = omega (arith, c.if-start-self.false, c.word_start-start.ensures.high) in
     let some = word_some text start end lt c.word_end-end.ensures.low (c.word_start-start.ensures.word lt)
     c.word_end-end.ensures.end in
-    is_taken text c.args.self.now.at start end c.args.self.now.seam c.word_start-start.ensures.low some
+    is_taken text c.args.self.now.at start end c.args.self.now.boundary c.word_start-start.ensures.low some
     c.word_end-end.ensures.high c.word_start-start.ensures.spaces c.word_end-end.ensures.word c.word_end-end.ensures.end
 
 pub returns-clause-place : goal.returns-clause-place
@@ -41,5 +41,5 @@ returns-clause-place c =
     let lt : start < length text = omega (arith, c.if-start-self.false, c.word_start-start.ensures.high) in
     let some = word_some text start end lt c.word_end-end.ensures.low (c.word_start-start.ensures.word lt)
     c.word_end-end.ensures.end in
-    stands_at text c.args.self.now.at start end c.args.self.now.seam c.word_start-start.ensures.low some
+    is_token_at text c.args.self.now.at start end c.args.self.now.boundary c.word_start-start.ensures.low some
     c.word_end-end.ensures.high c.word_start-start.ensures.spaces c.word_end-end.ensures.word c.word_end-end.ensures.end

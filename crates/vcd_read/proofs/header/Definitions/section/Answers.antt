@@ -4,9 +4,9 @@ use Rattle.std.proofs.lemmas.Result.{err_from_is_err_and}
 use Rattle.vcd_read.specs.Reading.{left_at, token_at}
 use Rattle.vcd_read.specs.Scopes.{texts}
 use Rattle.vcd_read.specs.Sections.{declared_in, header_of}
-use Rattle.vcd_read.proofs.HeaderLemmas.{var_stops, var_refused, var_goes, scope_stops, scope_goes, upscope_stops}
-use Rattle.vcd_read.proofs.HeaderLemmas.{upscope_refused, upscope_goes, end_stops, end_goes, skipped_stops}
-use Rattle.vcd_read.proofs.HeaderLemmas.{skipped_goes, read_nothing}
+use Rattle.vcd_read.proofs.HeaderLemmas.{var_stops, var_refused, var_continues, scope_stops, scope_continues}
+use Rattle.vcd_read.proofs.HeaderLemmas.{upscope_stops, upscope_refused, upscope_continues, end_stops, end_continues}
+use Rattle.vcd_read.proofs.HeaderLemmas.{skipped_stops, skipped_continues, read_nothing}
 use Rattle.vcd_read.proofs.header.Definitions.section.Goals as goal
 
 pub returns-in-Nothing-clause-rest : goal.returns-in-Nothing-clause-rest
@@ -107,7 +107,7 @@ returns-in-EndDefinitions-clause-rest g c =
     (g.D.DeclarationVisitor.taken c.args.self.now.declarations) in
     let t = token_at piece c.args.first.at c.args.first.bytes.now in
     let ts = left_at piece c.args.reader.now.at in
-    end_goes g.D.DeclarationVisitor.with_variable text d t ts _ c.in-EndDefinitions.ensures
+    end_continues g.D.DeclarationVisitor.with_variable text d t ts _ c.in-EndDefinitions.ensures
     c.in_ok-skip_section-in-EndDefinitions.ensures.rest
 
 pub returns-in_err-skip_section-in-Skipped-clause-rest : goal.returns-in_err-skip_section-in-Skipped-clause-rest
@@ -131,7 +131,7 @@ returns-in_ok-declare-in-Var-clause-rest g c =
     (g.D.DeclarationVisitor.taken c.args.self.now.declarations) in
     let t = token_at piece c.args.first.at c.args.first.bytes.now in
     let ts = left_at piece c.args.reader.now.at in
-    var_goes g.D.DeclarationVisitor.with_variable text d t ts (texts c.in_ok-words-in-Var.words.items)
+    var_continues g.D.DeclarationVisitor.with_variable text d t ts (texts c.in_ok-words-in-Var.words.items)
     (left_at piece c.words_of.new.reader.at)
     (declared_in (g.D.DeclarationVisitor.scopes c.declare.new.self.declarations) c.declare.new.self.codes
     (g.D.DeclarationVisitor.taken c.declare.new.self.declarations)) c.in-Var.ensures
@@ -151,7 +151,7 @@ returns-in_ok-open-in-Scope-clause-rest g c =
     let name = c.deref-in-Scope-2.ensures.value ∙ c.in_ok-name-in-Scope.ensures ∙ ap (λ ws. concat (drop 1 (texts ws)))
     c.deref-in-Scope.ensures.value in
     let scopes = c.in_ok-open-in-Scope.ensures.scopes ∙ ap (λ (n : List ℕ). n ∷ d.scopes) name in
-    scope_goes g.D.DeclarationVisitor.with_variable text d t ts (texts words) rest c.in-Scope.ensures
+    scope_continues g.D.DeclarationVisitor.with_variable text d t ts (texts words) rest c.in-Scope.ensures
     c.in_ok-words-in-Scope.ensures.words
     ∙ ap (λ (scopes : List (List ℕ)). header_of g.D.DeclarationVisitor.with_variable text (record d { scopes = scopes })
     rest) (sym scopes)
@@ -168,7 +168,7 @@ returns-else-not-close-clause-rest g c =
     let t = token_at piece c.args.first.at c.args.first.bytes.now in
     let ts = left_at piece c.args.reader.now.at in
     let rest = left_at piece c.skip_section.new.reader.at in
-    upscope_goes g.D.DeclarationVisitor.with_variable text d t ts rest c.if-not-close.ensures.scopes.0
+    upscope_continues g.D.DeclarationVisitor.with_variable text d t ts rest c.if-not-close.ensures.scopes.0
     (g.D.DeclarationVisitor.scopes c.close.new.self) c.in-Upscope.ensures c.in_ok-skip_section-in-Upscope.ensures.rest
     c.if-not-close.ensures.scopes.1
     ∙ ap (λ taken. header_of g.D.DeclarationVisitor.with_variable text
@@ -183,5 +183,5 @@ returns-in_ok-skip_section-in-Skipped-clause-rest g c =
     (g.D.DeclarationVisitor.taken c.args.self.now.declarations) in
     let t = token_at piece c.args.first.at c.args.first.bytes.now in
     let ts = left_at piece c.args.reader.now.at in
-    skipped_goes g.D.DeclarationVisitor.with_variable text d t ts _ c.in-Skipped.ensures
+    skipped_continues g.D.DeclarationVisitor.with_variable text d t ts _ c.in-Skipped.ensures
     c.in_ok-skip_section-in-Skipped.ensures.rest

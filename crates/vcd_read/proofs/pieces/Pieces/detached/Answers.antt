@@ -1,7 +1,7 @@
 use Rattle.std.proofs.Common.{◌∙◌, [], sym, ap}
 use Rattle.std.proofs.Math.Seq.{take-length}
 use Rattle.vcd_read.specs.Tokens.{tokens_from}
-use Rattle.vcd_read.specs.Reading.{left_from, line_behind}
+use Rattle.vcd_read.specs.Reading.{line_behind, tokens_after}
 use Rattle.vcd_read.specs.Body.{body_from, ready}
 use Rattle.vcd_read.specs.BodyFold.{state_at, body_fold}
 use Rattle.vcd_read.specs.DetachedPieces.{before_piece, time_first}
@@ -18,7 +18,7 @@ returns-in-Ready-clause-read g c =
           read-whole g.N.ChangeVisitor.with_change g.N.ChangeVisitor.with_instant c.args.self.now.codes
           (before_piece (g.N.ChangeVisitor.taken c.args.visitor) c.in_ok-time.time)
           (state_at (body_fold (g.N.ChangeVisitor.taken c.in-Ok.field-0.timed.visitor) c.in-Ok.field-0.timed.clock)
-          c.in-Ok.field-0.dump_section) c.in-Ok.field-0.place (left_from line piece 0) (tokens_from line piece)
+          c.in-Ok.field-0.dump_section) c.in-Ok.field-0.place (tokens_after line piece 0) (tokens_from line piece)
           (left-whole line piece) c.in-Ready.is (c.in-Ok.ensures []);
       line = c.line-behind.ensures ∙ ap (line_behind line) (take-length piece);
     }

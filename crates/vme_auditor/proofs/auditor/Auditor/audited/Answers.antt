@@ -7,7 +7,7 @@ use Rattle.vme_summary.specs.Runs.{known_run}
 use Rattle.vme_auditor.specs.Findings.{AreFindingsOf}
 use Rattle.vme_auditor.specs.declared.findings.AuditFindings.{AuditFindings}
 use Rattle.vme_auditor.specs.declared.tally.StartedTransfer.{StartedTransfer}
-use Rattle.vme_auditor.proofs.Found.{finds_asked, finds_behind, finds_counts, finds_hang, finds_judged}
+use Rattle.vme_auditor.proofs.Found.{finds_asked, finds_counts, finds_hang, finds_judged, finds_last_break}
 use Rattle.vme_auditor.proofs.auditor.Auditor.audited.Goals as goal
 
 pub returns : goal.returns
@@ -36,7 +36,7 @@ returns c =
           c.have_started.ensures
           ∙ finds_judged finds i.opening i.taken.items i.steps i.view i.audit c.self.invariant ok few
           (λ t ok few. c.known_over_recordings.ensures.started t ok few);
-      behind = finds_behind finds i.opening i.taken.items i.steps i.view i.audit c.self.invariant ok few;
+      last_break = finds_last_break finds i.opening i.taken.items i.steps i.view i.audit c.self.invariant ok few;
       hang =
           c.start_of.ensures
           ∙ ap (option_map {U = ℕ × ℕ} (λ (s : StartedTransfer). (s.instant, s.time))) c.hang.ensures

@@ -1,8 +1,8 @@
 use Rattle.std.proofs.Common.{ℕ, Bool, true, List, ◌∷◌, [], ◌++◌, ◌∙◌, ap, sym, slice_set, take}
 use Rattle.std.proofs.lemmas.List.{take_more}
-use Rattle.vme_bind.specs.AssignedLines.{assigned_too}
+use Rattle.vme_bind.specs.AssignedLines.{with_assigned}
 use Rattle.vme_bind.specs.declared.net_lines.LineBit.{LineBit}
-use Rattle.vme_bind.proofs.AssignedLineLemmas.{assigned_too-more}
+use Rattle.vme_bind.proofs.AssignedLineLemmas.{with_assigned-more}
 use Rattle.vme_bind.proofs.assigned_lines.AssignedLines.assign_each.Goals as goal
 
 pub loop-line_bit-preserved : goal.loop-line_bit-preserved
@@ -12,7 +12,7 @@ loop-line_bit-preserved c =
     let i = c.loop-line_bit.line_bit-index in
     let line_bit = c.line_bit-item.result in
     ap (λ (assigned : List Bool). slice_set assigned c.number.result true) c.loop-line_bit.invariant
-    ∙ ap (λ (n : ℕ). slice_set (assigned_too (take i line_bits) first) n true) c.number.ensures.number
-    ∙ sym (assigned_too-more (take i line_bits) first line_bit)
-    ∙ ap (λ (ts : List LineBit). assigned_too ts first) (ap (λ (t : LineBit). take i line_bits ++ t ∷ [])
+    ∙ ap (λ (n : ℕ). slice_set (with_assigned (take i line_bits) first) n true) c.number.ensures.number
+    ∙ sym (with_assigned-more (take i line_bits) first line_bit)
+    ∙ ap (λ (ts : List LineBit). with_assigned ts first) (ap (λ (t : LineBit). take i line_bits ++ t ∷ [])
     c.line_bit-item.is ∙ sym (take_more line_bits i line_bit c.loop-line_bit-test.true))

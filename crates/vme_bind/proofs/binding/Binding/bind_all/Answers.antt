@@ -1,7 +1,7 @@
 use Rattle.std.proofs.Common.{sym, ◌∙◌, ap}
 use Rattle.vme_bind.specs.Answers.{at_line}
 use Rattle.vme_bind.specs.Binding.{bound, bound_all}
-use Rattle.vme_bind.specs.Reading.{left, as_text}
+use Rattle.vme_bind.specs.Reading.{rest_statements, as_text}
 use Rattle.vme_bind.proofs.BindingLemmas.{bound_more, bound_step, bound_end, fails_first}
 use Rattle.vme_bind.proofs.binding.Binding.bind_all.Goals as goal
 
@@ -9,7 +9,7 @@ pub returns-in-Err-clause-bound : goal.returns-in-Err-clause-bound
 returns-in-Err-clause-bound c =
     let b = c.loop-statement.self in
     let s = as_text c.in-Some.statement in
-    let rest = left c.next.new.self in
+    let rest = rest_statements c.next.new.self in
     fails_first c.in-Err.field-0 (at_line s.line (bound b s)) (λ next. bound_all next rest) _
     (sym c.loop-statement.invariant.bound ∙ ap (bound_all b) c.in-Some.ensures.left ∙ bound_more b s rest)
     c.in-Err.ensures
@@ -18,7 +18,7 @@ pub loop-statement-preserved : goal.loop-statement-preserved
 loop-statement-preserved c =
     let b = c.loop-statement.self in
     let s = as_text c.in-Some.statement in
-    let rest = left c.next.new.self in
+    let rest = rest_statements c.next.new.self in
     record {
       bound = sym (bound_step b c.bind.new.self s rest c.in_default-bind.ensures) ∙ ap (bound_all b)
           (sym c.in-Some.ensures.left) ∙ c.loop-statement.invariant.bound;

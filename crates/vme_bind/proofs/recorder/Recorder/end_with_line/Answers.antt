@@ -2,7 +2,7 @@ use Rattle.std.proofs.Common.{◌≡◌, ◌∷◌, [], refl, sym, ap, ◌∙◌
 use Rattle.vme_trace.specs.Levels.{level_at, same_level, set_level}
 use Rattle.vme_bind.specs.Recording.{change_to}
 use Rattle.vme_bind.proofs.RecorderLemmas.{reset_exists, within-none}
-use Rattle.vme_bind.proofs.EndLemmas.{line-shown, line-ended, line-step, line-none}
+use Rattle.vme_bind.proofs.EndLemmas.{line-shown, line-ended, line-step, line-no_step}
 use Rattle.vme_bind.proofs.recorder.Recorder.end_with_line.Goals as goal
 
 pub returns-then-is_shown-clause-shown : goal.returns-then-is_shown-clause-shown
@@ -18,7 +18,7 @@ returns-then-is_shown-clause-step c =
     let inside = c.self.inside in
     let same : same_level (level_at inside.shown c.args.line) (level_at inside.now c.args.line)
     ≡ true = rw (← c.level.ensures, ← c.level-level.ensures) (sym c.is_same-is_shown.ensures ∙ c.if-is_shown.true) in
-    line-none c.args.self.now inside.shown inside.now inside.first inside.last c.args.line
+    line-no_step c.args.self.now inside.shown inside.now inside.first inside.last c.args.line
     (search rules) c.self.invariant
     c.requires.exists c.requires.alone c.args.time same
 

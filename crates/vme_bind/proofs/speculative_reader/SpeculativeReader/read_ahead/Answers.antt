@@ -5,7 +5,7 @@ use Rattle.vme_trace.specs.Trace.{Trace}
 use Rattle.vme_bind.specs.BuilderState.{BuilderState, builder_change, builder_instant}
 use Rattle.vme_bind.specs.Recording.{AreLines, RecorderLevels}
 use Rattle.vme_bind.specs.NetLines.{line_bits_of}
-use Rattle.vme_bind.specs.SpeculativeReading.{IsReadSpeculatively, SpeculativeReached, builder_behind}
+use Rattle.vme_bind.specs.SpeculativeReading.{IsReadSpeculatively, SpeculativeReached, builder_after}
 use Rattle.vme_bind.specs.AssignedLines.{SpeculativeBuilderState, speculative_change, speculative_instant, is_assigned}
 use Rattle.vme_bind.specs.declared.net_lines.NetLines.{NetLines}
 use Rattle.vme_bind.proofs.AssignedLineLemmas.{made-read, assigned-leads, assigned-lines}
@@ -67,7 +67,7 @@ returns-clause-read g c =
     let assigned = c.into_parts-recorder.result.2 in
     let first = g.F.StepVisitor.recorded c.args.visitor in
     let u : ReadDetached (Unit {0}) = read_detached (λ p. tt {0}) c.with_visitor-builder.result.0 in
-    let begun : c.new-builder.result.made ≡ builder_behind inside.line_bits from first =
+    let begun : c.new-builder.result.made ≡ builder_after inside.line_bits from first =
     c.new-builder.ensures.made
     ∙ ap (λ (p : RecorderLevels). record { line_bits = inside.line_bits; progress = p; recorded = first })
     c.new.ensures in

@@ -1,10 +1,10 @@
 use Rattle.std.proofs.Common.{◌≡◌, length}
-use Rattle.vme_bind.specs.Reading.{left, last_line}
+use Rattle.vme_bind.specs.Reading.{rest_statements, last_line}
 use Rattle.vme_bind.proofs.statements.Statements.next.Given as goal
 
 abbrev pub invariant-loop-line : goal.invariant-loop-line
 invariant-loop-line l = record {
-  left : left l.self ≡ left l.fn.self;
+  left : rest_statements l.self ≡ rest_statements l.fn.self;
   last : last_line l.self ≡ last_line l.fn.self;
 }
 

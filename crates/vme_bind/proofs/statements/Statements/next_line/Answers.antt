@@ -1,10 +1,10 @@
 use Rattle.std.proofs.Common.{arith}
-use Rattle.vme_bind.proofs.TextLemmas.{said_at, said_last, feeds_at, feeds_nowhere}
+use Rattle.vme_bind.proofs.TextLemmas.{statements-at, statements-nowhere, feeds_at, feeds_nowhere}
 use Rattle.vme_bind.proofs.statements.Statements.next_line.Goals as goal
 
 pub returns-in-Some-clause-left : goal.returns-in-Some-clause-left
 returns-in-Some-clause-left c =
-    said_at c.args.self.now.line c.args.self.now.rest.now c.in-Some.feed c.without_return.result.now
+    statements-at c.args.self.now.line c.args.self.now.rest.now c.in-Some.feed c.without_return.result.now
     c.without_return.ensures c.in-Some.ensures.0 c.in-Some.ensures.1
 
 pub returns-in-Some-clause-last : goal.returns-in-Some-clause-last
@@ -13,7 +13,7 @@ returns-in-Some-clause-last c =
     omega (arith, more)
 
 pub returns-in-None-clause-left : goal.returns-in-None-clause-left
-returns-in-None-clause-left c = said_last c.args.self.now.line c.args.self.now.rest.now c.in-None.ensures
+returns-in-None-clause-left c = statements-nowhere c.args.self.now.line c.args.self.now.rest.now c.in-None.ensures
 
 pub returns-in-None-clause-last : goal.returns-in-None-clause-last
 returns-in-None-clause-last c =

@@ -1,5 +1,5 @@
 use Rattle.std.proofs.Common.{◌+◌, ◌*◌, ◌/◌, arith}
-use Rattle.vme_board.specs.Tells.{DrawTells}
+use Rattle.vme_board.specs.Postconditions.{DrawPost}
 use Rattle.vme_board.specs.Words.{mask_of}
 use Rattle.vme_board.proofs.bench.Bench.draw.Goals as goal
 use Rattle.vme_board.proofs.Bits.{word_within}
@@ -12,7 +12,7 @@ fetch_or-found-requires c =
     board.draws_fit.1 (omega arith) in (
       c.loop-self.invariant.0,
       omega (arith, near, board.sized.0, is),
-      at_word DrawTells board.table.shared.key board.table.shared.table_id.slots bench.seat.id bench.seat.me
+      at_word DrawPost board.table.shared.key board.table.shared.table_id.slots bench.seat.id bench.seat.me
           c.word_of.result (4 * (bench.next / 64) + 3) c.mask_of.result (mask_of bench.next) is c.mask_of.ensures
           (draws_allowed board.table.shared.key board.table.shared.table_id.slots bench.seat.id bench.seat.me
           bench.shares bench.next near),

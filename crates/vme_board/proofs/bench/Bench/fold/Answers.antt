@@ -5,7 +5,7 @@ use Rattle.vme_core.proofs.Sums.{occurrences-append, numbers-append}
 use Rattle.vme_core.specs.declared.view.View.{View}
 use Rattle.vme_core.specs.Stages.{rank, seen}
 use Rattle.vme_core.proofs.StageRanks.{seen-joint_view}
-use Rattle.vme_board.specs.Tells.{SeatState}
+use Rattle.vme_board.specs.Postconditions.{SeatState}
 use Rattle.vme_board.specs.Views.{SameBlocks}
 use Rattle.vme_board.proofs.bench.Bench.fold.Goals as goal
 use Rattle.vme_board.proofs.bench.Bench.fold.Goals.{then-next-other_next, else-next-other_next}

@@ -2,7 +2,7 @@ use Rattle.std.proofs.Common.{ℕ, ◌+◌, ◌*◌, ◌/◌, ◌%◌, ◌<◌, 
 use Rattle.vme_core.specs.Counting.{occurrences, numbers}
 use Rattle.vme_core.proofs.Sums.{occurrences_here}
 use Rattle.vme_board.specs.Words.{mask_of}
-use Rattle.vme_board.specs.Tells.{SeatState, TakeTells}
+use Rattle.vme_board.specs.Postconditions.{SeatState, TakePost}
 use Rattle.vme_board.proofs.bench.Bench.take.Goals as goal
 use Rattle.vme_board.proofs.Bits.{word_within, bit_0}
 use Rattle.vme_board.proofs.Steps.{at_word, takes_allowed, gives_allowed}
@@ -16,7 +16,7 @@ fetch_or-taken-requires c =
     let is = c.word_of.ensures in (
       c.sees_filed.ensures.board,
       omega (arith, near, board.sized.0, is),
-      at_word TakeTells width slots bench.seat.id bench.seat.me c.word_of.result (4 * (n / 64) + 2) c.mask_of.result
+      at_word TakePost width slots bench.seat.id bench.seat.me c.word_of.result (4 * (n / 64) + 2) c.mask_of.result
           (mask_of n) is c.mask_of.ensures
           (takes_allowed width slots bench.seat.id bench.seat.me bench.shares n (omega (arith, low, board.sized.1)) near
           c.if-not-sees_filed.ensures.yes),

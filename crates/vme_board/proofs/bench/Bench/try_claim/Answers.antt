@@ -8,7 +8,7 @@ use Rattle.vme_core.specs.Views.{after_claim, after_filing}
 use Rattle.vme_core.proofs.Sums.{occurrences_here}
 use Rattle.vme_core.proofs.StageRanks.{seen_filed_or_more}
 use Rattle.vme_board.specs.Words.{mask_of}
-use Rattle.vme_board.specs.Tells.{SeatState, ClaimTells, FileTells}
+use Rattle.vme_board.specs.Postconditions.{SeatState, ClaimPost, FilePost}
 use Rattle.vme_board.proofs.bench.Bench.try_claim.Goals as goal
 use Rattle.vme_board.proofs.Bits.{word_within, bit_0}
 use Rattle.vme_board.proofs.Steps.{at_word, claims_allowed, files_allowed}
@@ -24,7 +24,7 @@ fetch_or-claimed-requires c =
     let near = word_within width board.total n 0 low board.numbers_fit.0 board.numbers_fit.1 (omega arith) in (
       c.requires.bench,
       omega (arith, near, board.sized.0, is),
-      at_word ClaimTells width slots bench.seat.id bench.seat.me c.word_of.result (4 * (n / 64) + 0) c.mask_of.result
+      at_word ClaimPost width slots bench.seat.id bench.seat.me c.word_of.result (4 * (n / 64) + 0) c.mask_of.result
           (mask_of n) is c.mask_of.ensures
           (claims_allowed width slots bench.seat.id bench.seat.me bench.shares n (omega (arith, low, board.sized.1))
           near bench.not_pending),
@@ -57,7 +57,7 @@ fetch_or-requires c =
     c.block.result.now.number n c.word_of-2.ensures c.mask_of-2.ensures own in let is = at_file.word in (
       c.exchange.ensures.0 ∙ c.fetch_or-claimed.ensures.0 ∙ c.requires.bench,
       omega (arith, near, board.sized.0, is),
-      at_word FileTells width slots seat.id seat.me c.word_of-2.result (4 * (n / 64) + 1) c.mask_of-2.result (mask_of n)
+      at_word FilePost width slots seat.id seat.me c.word_of-2.result (4 * (n / 64) + 1) c.mask_of-2.result (mask_of n)
           is at_file.mask
           (files_allowed width slots seat.id seat.me n c.args.judged refl (omega (arith, low, board.sized.1)) near
           (ap (λ (m : SeatState). m.0.pending) put) (ap (λ (m : SeatState). m.1) put)),

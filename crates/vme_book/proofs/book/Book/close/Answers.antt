@@ -26,15 +26,15 @@ returns-clause-whole c =
     let blocks = c.book.inside.places.blocks.items in
     let bs = c.book.invariant.0 in
     let kept = c.book.invariant.2 in
-    let joined = c.go_on.ensures.joined in
-    let count : c.go_on.new.self.count ≡ c.book.inside.reached = settled c.go_on.result (sym c.is_err.ensures.value
-    ∙ c.if-is_err.false) c.go_on.ensures.all in
+    let joined = c.join_up_to.ensures.joined in
+    let count : c.join_up_to.new.self.count ≡ c.book.inside.reached = settled c.join_up_to.result
+    (sym c.is_err.ensures.value ∙ c.if-is_err.false) c.join_up_to.ensures.all in
     let reached = kept.past.count in
     let most = no_longer blocks bs kept.past.prefix.there in
     let full : blocks ≡ map Some bs = there_all blocks bs kept.past.prefix.there (omega arith) in
     let as_long : length joined.0 ≡ length bs = joined.1.count ∙ count ∙ sym reached in
     let same : joined.0 ≡ bs = same_front blocks joined.0 bs joined.1.there kept.past.prefix.there as_long in
-    let held : c.go_on.new.self.span ≡ Some c.in-Some-take.span = sym c.take.ensures.value ∙ c.in-Some-take.is in
+    let held : c.join_up_to.new.self.span ≡ Some c.in-Some-take.span = sym c.take.ensures.value ∙ c.in-Some-take.is in
     let stands : SpanStandsFor c.in-Some-take.span bs = subst (λ (l : List Block). SpanStandsFor c.in-Some-take.span l)
     same (subst (λ o. StandsForSome o joined.0) held joined.1.stands) in (
       bs,
@@ -42,6 +42,6 @@ returns-clause-whole c =
         all = sym c.book.view_is ∙ full;
         starts = starts_at_zero blocks c.in-Some-take.span bs kept.placed full kept.some stands;
         stands = stands;
-        capture = c.recording.ensures bs (ap (λ (v : Vec (Option Block)). v.items) c.go_on.ensures.blocks ∙ full);
+        capture = c.recording.ensures bs (ap (λ (v : Vec (Option Block)). v.items) c.join_up_to.ensures.blocks ∙ full);
       },
     )

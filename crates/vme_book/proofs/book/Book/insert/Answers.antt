@@ -4,7 +4,7 @@ use Rattle.std.proofs.Common.{Some}
 use Rattle.vme_trace.specs.declared.block.Block.{Block}
 use Rattle.vme_summary.specs.Stands.{SpanStandsFor}
 use Rattle.vme_book.specs.Inserted.{stored}
-use Rattle.vme_book.specs.BookState.{IsPast}
+use Rattle.vme_book.specs.BookState.{IsJudgedPrefix}
 use Rattle.vme_book.proofs.Prefixes.{found_at, free_at, keeps_after, none_of, ready_after, some_of, spans_later}
 use Rattle.vme_book.proofs.book.Book.insert.Goals as goal
 
@@ -20,12 +20,12 @@ returns-then-is_some-clause-why c =
           ∙ sym (ap (λ (l : List (Option Block)). stored l number) c.self.view_is) ∙ there,
     )
 
-pub judged_on-progress-requires-clause-placed : goal.judged_on-progress-requires-clause-placed
-judged_on-progress-requires-clause-placed c =
+pub judge_from-progress-requires-clause-placed : goal.judge_from-progress-requires-clause-placed
+judge_from-progress-requires-clause-placed c =
     let blocks = c.self.inside.places.blocks.items in
     let number = c.block.result.now.number in
     let kept = c.self.invariant.2 in
-    let joined = c.go_on.ensures.joined in
+    let joined = c.join_up_to.ensures.joined in
     let below : number < length blocks = omega arith in
     let free = free_at blocks number c.index.result.now below c.index.ensures
     (none_of c.index.result.now (sym c.if-is_some.ensures)) in
@@ -35,19 +35,19 @@ judged_on-progress-requires-clause-placed c =
     let b = c.into_parts-block.result.0 in
     let s = c.into_parts-block.result.1 in
     let ready = ready_after c.self.inside.places c.self.inside.progress c.self.inside.reached c.self.inside.joined
-    c.go_on.new.self c.self.invariant.0 c.self.invariant.1 joined.0 c.go_on.new.places.blocks
-    c.go_on.new.places.spans.items number b s kept
-    c.go_on.ensures.blocks c.go_on.ensures.waiting joined.1 c.go_on.ensures.within below free named
+    c.join_up_to.new.self c.self.invariant.0 c.self.invariant.1 joined.0 c.join_up_to.new.places.blocks
+    c.join_up_to.new.places.spans.items number b s kept
+    c.join_up_to.ensures.blocks c.join_up_to.ensures.waiting joined.1 c.join_up_to.ensures.within below free named
     (subst (λ (v : Block). length v.steps ≤ 65536) (sym parts.block) short) (subst (λ v. SpanStandsFor s (v ∷ []))
     (sym parts.block) parts.span) in
     ready.placed
 
-pub judged_on-progress-requires-clause-waiting : goal.judged_on-progress-requires-clause-waiting
-judged_on-progress-requires-clause-waiting c =
+pub judge_from-progress-requires-clause-waiting : goal.judge_from-progress-requires-clause-waiting
+judge_from-progress-requires-clause-waiting c =
     let blocks = c.self.inside.places.blocks.items in
     let number = c.block.result.now.number in
     let kept = c.self.invariant.2 in
-    let joined = c.go_on.ensures.joined in
+    let joined = c.join_up_to.ensures.joined in
     let below : number < length blocks = omega arith in
     let free = free_at blocks number c.index.result.now below c.index.ensures
     (none_of c.index.result.now (sym c.if-is_some.ensures)) in
@@ -57,19 +57,19 @@ judged_on-progress-requires-clause-waiting c =
     let b = c.into_parts-block.result.0 in
     let s = c.into_parts-block.result.1 in
     let ready = ready_after c.self.inside.places c.self.inside.progress c.self.inside.reached c.self.inside.joined
-    c.go_on.new.self c.self.invariant.0 c.self.invariant.1 joined.0 c.go_on.new.places.blocks
-    c.go_on.new.places.spans.items number b s kept
-    c.go_on.ensures.blocks c.go_on.ensures.waiting joined.1 c.go_on.ensures.within below free named
+    c.join_up_to.new.self c.self.invariant.0 c.self.invariant.1 joined.0 c.join_up_to.new.places.blocks
+    c.join_up_to.new.places.spans.items number b s kept
+    c.join_up_to.ensures.blocks c.join_up_to.ensures.waiting joined.1 c.join_up_to.ensures.within below free named
     (subst (λ (v : Block). length v.steps ≤ 65536) (sym parts.block) short) (subst (λ v. SpanStandsFor s (v ∷ []))
     (sym parts.block) parts.span) in
-    spans_later _ _ c.go_on.new.self.count c.self.inside.reached ready.waiting ready.within
+    spans_later _ _ c.join_up_to.new.self.count c.self.inside.reached ready.waiting ready.within
 
-pub judged_on-progress-requires-clause-past : goal.judged_on-progress-requires-clause-past
-judged_on-progress-requires-clause-past c =
+pub judge_from-progress-requires-clause-past : goal.judge_from-progress-requires-clause-past
+judge_from-progress-requires-clause-past c =
     let blocks = c.self.inside.places.blocks.items in
     let number = c.block.result.now.number in
     let kept = c.self.invariant.2 in
-    let joined = c.go_on.ensures.joined in
+    let joined = c.join_up_to.ensures.joined in
     let below : number < length blocks = omega arith in
     let free = free_at blocks number c.index.result.now below c.index.ensures
     (none_of c.index.result.now (sym c.if-is_some.ensures)) in
@@ -79,13 +79,13 @@ judged_on-progress-requires-clause-past c =
     let b = c.into_parts-block.result.0 in
     let s = c.into_parts-block.result.1 in
     let ready = ready_after c.self.inside.places c.self.inside.progress c.self.inside.reached c.self.inside.joined
-    c.go_on.new.self c.self.invariant.0 c.self.invariant.1 joined.0 c.go_on.new.places.blocks
-    c.go_on.new.places.spans.items number b s kept
-    c.go_on.ensures.blocks c.go_on.ensures.waiting joined.1 c.go_on.ensures.within below free named
+    c.join_up_to.new.self c.self.invariant.0 c.self.invariant.1 joined.0 c.join_up_to.new.places.blocks
+    c.join_up_to.new.places.spans.items number b s kept
+    c.join_up_to.ensures.blocks c.join_up_to.ensures.waiting joined.1 c.join_up_to.ensures.within below free named
     (subst (λ (v : Block). length v.steps ≤ 65536) (sym parts.block) short) (subst (λ v. SpanStandsFor s (v ∷ []))
     (sym parts.block) parts.span) in (
       c.self.invariant.0,
-      subst (λ o. IsPast (set c.go_on.new.places.blocks.items number (Some b)) o
+      subst (λ o. IsJudgedPrefix (set c.join_up_to.new.places.blocks.items number (Some b)) o
           c.self.inside.reached c.self.invariant.0) (sym c.take.ensures.value) ready.past,
     )
 
@@ -94,7 +94,7 @@ invariant_of-self-2 c =
     let blocks = c.self.inside.places.blocks.items in
     let number = c.block.result.now.number in
     let kept = c.self.invariant.2 in
-    let joined = c.go_on.ensures.joined in
+    let joined = c.join_up_to.ensures.joined in
     let below : number < length blocks = omega arith in
     let free = free_at blocks number c.index.result.now below c.index.ensures
     (none_of c.index.result.now (sym c.if-is_some.ensures)) in
@@ -104,15 +104,15 @@ invariant_of-self-2 c =
     let b = c.into_parts-block.result.0 in
     let s = c.into_parts-block.result.1 in
     let ready = ready_after c.self.inside.places c.self.inside.progress c.self.inside.reached c.self.inside.joined
-    c.go_on.new.self c.self.invariant.0 c.self.invariant.1 joined.0 c.go_on.new.places.blocks
-    c.go_on.new.places.spans.items number b s kept
-    c.go_on.ensures.blocks c.go_on.ensures.waiting joined.1 c.go_on.ensures.within below free named
+    c.join_up_to.new.self c.self.invariant.0 c.self.invariant.1 joined.0 c.join_up_to.new.places.blocks
+    c.join_up_to.new.places.spans.items number b s kept
+    c.join_up_to.ensures.blocks c.join_up_to.ensures.waiting joined.1 c.join_up_to.ensures.within below free named
     (subst (λ (v : Block). length v.steps ≤ 65536) (sym parts.block) short) (subst (λ v. SpanStandsFor s (v ∷ []))
     (sym parts.block) parts.span) in
-    let past = c.judged_on-progress.ensures.past in (
+    let past = c.judge_from-progress.ensures.past in (
       past.0,
       joined.0,
-      keeps_after _ c.self.inside.progress c.judged_on-progress.result.0 c.self.inside.reached
-          c.judged_on-progress.result.1 c.go_on.new.self c.self.invariant.0 past.0 joined.0 ready
-          c.judged_on-progress.ensures.within past.1 past.2,
+      keeps_after _ c.self.inside.progress c.judge_from-progress.result.0 c.self.inside.reached
+          c.judge_from-progress.result.1 c.join_up_to.new.self c.self.invariant.0 past.0 joined.0 ready
+          c.judge_from-progress.ensures.within past.1 past.2,
     )

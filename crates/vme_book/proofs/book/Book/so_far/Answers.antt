@@ -5,7 +5,7 @@ use Rattle.vme_trace.specs.Verdict.{rules_in_force, verdict_by}
 use Rattle.vme_summary.specs.Joins.{joined_trace}
 use Rattle.vme_summary.specs.Progressed.{HasCome}
 use Rattle.vme_book.specs.Inserted.{IsLongestPrefix}
-use Rattle.vme_book.specs.BookState.{ComeTo}
+use Rattle.vme_book.specs.BookState.{IsStateAfter}
 use Rattle.vme_book.proofs.Prefixes.{longest_at}
 use Rattle.vme_book.proofs.book.Book.so_far.Goals as goal
 
@@ -13,7 +13,7 @@ pub returns-in-None : goal.returns-in-None
 returns-in-None c =
     let bs = c.self.invariant.0 in
     let kept = c.self.invariant.2 in
-    let none : bs ≡ [] = subst (λ o. ComeTo o bs) c.in-None.is kept.past.come in (
+    let none : bs ≡ [] = subst (λ o. IsStateAfter o bs) c.in-None.is kept.past.come in (
       bs,
       subst (λ l. IsLongestPrefix l bs) c.self.view_is (longest_at _ _ _ bs kept.past kept.ended),
       sym (ap (λ l. option_map (verdict_by rules_in_force) (joined_trace l)) none),
@@ -23,7 +23,7 @@ pub returns-in-Some : goal.returns-in-Some
 returns-in-Some c =
     let bs = c.self.invariant.0 in
     let kept = c.self.invariant.2 in
-    let come : HasCome c.in-Some.progress bs = subst (λ o. ComeTo o bs) c.in-Some.is kept.past.come in (
+    let come : HasCome c.in-Some.progress bs = subst (λ o. IsStateAfter o bs) c.in-Some.is kept.past.come in (
       bs,
       subst (λ l. IsLongestPrefix l bs) c.self.view_is (longest_at _ _ _ bs kept.past kept.ended),
       sym (c.verdict.ensures bs come),

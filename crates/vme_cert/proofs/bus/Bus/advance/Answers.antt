@@ -1,6 +1,6 @@
 use Rattle.std.proofs.Common.{◌∙◌, ap, arith, sym}
 use Rattle.vme_trace.proofs.Changing.{slots-kept}
-use Rattle.vme_cert.specs.Words.{Levels}
+use Rattle.vme_cert.specs.Vocabulary.{Levels}
 use Rattle.vme_cert.proofs.bus.Bus.advance.Goals as goal
 
 pub invariant_of-self : goal.invariant_of-self

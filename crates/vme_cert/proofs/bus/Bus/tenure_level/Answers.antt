@@ -1,5 +1,5 @@
 use Rattle.std.proofs.Common.{◌∙◌, ap}
-use Rattle.vme_cert.specs.Words.{Levels, grant, is_low, least, level_at, low, tenure_level}
+use Rattle.vme_cert.specs.Vocabulary.{Levels, grant, is_low, least, level_at, low, tenure_level}
 use Rattle.vme_cert.proofs.bus.Bus.tenure_level.Goals as goal
 
 pub returns-clause-level : goal.returns-clause-level

@@ -1,5 +1,5 @@
 use Rattle.std.proofs.Common.{◌+◌, ◌∙◌, refl, sym, subst}
-use Rattle.vme_cert.specs.Words.{span_from}
+use Rattle.vme_cert.specs.Vocabulary.{span_from}
 use Rattle.vme_cert.specs.Checking.{IsPhase}
 use Rattle.vme_cert.specs.declared.checker.CheckPhase.{CheckPhase}
 use Rattle.vme_cert.proofs.Checking.{idle-is, starts, waits-on}

@@ -1,5 +1,5 @@
 use Rattle.std.proofs.Common.{◌∙◌, false, List, length, refl, sym, ap, subst, arith}
-use Rattle.vme_cert.specs.Words.{Row, recorded_rows, rows_in}
+use Rattle.vme_cert.specs.Vocabulary.{Row, recorded_rows, rows_in}
 use Rattle.vme_cert.specs.Comparing.{IsCompared, is_at}
 use Rattle.vme_cert.proofs.Checking.{ended-all}
 use Rattle.vme_cert.proofs.Comparing.{compared-fewer}

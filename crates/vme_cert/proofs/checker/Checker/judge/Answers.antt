@@ -1,5 +1,5 @@
 use Rattle.std.proofs.Common.{◌≤◌, ◌∙◌, ◌++◌, refl, sym, arith}
-use Rattle.vme_cert.specs.Words.{span_from}
+use Rattle.vme_cert.specs.Vocabulary.{span_from}
 use Rattle.vme_cert.specs.Following.{rows_to}
 use Rattle.vme_cert.proofs.Checking.{checks-ended, follows-close, goes-later, judge-breaks, judge-loses, judge-resets}
 use Rattle.vme_cert.proofs.Checking.{judge-state, judge-within, named-none}

@@ -1,5 +1,5 @@
 use Rattle.std.proofs.Common.{◌∙◌, refl, sym, ap, subst, arith}
-use Rattle.vme_cert.specs.Words.{NeverIdle, Trace, levels_at, with_steps}
+use Rattle.vme_cert.specs.Vocabulary.{NeverIdle, Trace, levels_at, with_steps}
 use Rattle.vme_cert.specs.Checking.{IsWaiting, at_opening}
 use Rattle.vme_cert.specs.declared.bus.Bus.{Bus}
 use Rattle.vme_cert.proofs.Checking.{waits-first}

@@ -1,6 +1,6 @@
 -- The step makes the levels of the next instant, and there holds what the phase says of that instant.
 use Rattle.std.proofs.Common.{◌∙◌, refl, sym, ap, arith}
-use Rattle.vme_cert.specs.Words.{Levels, are_changes, changed}
+use Rattle.vme_cert.specs.Vocabulary.{Levels, are_changes, changed}
 use Rattle.vme_cert.specs.Checking.{last_levels}
 use Rattle.vme_cert.proofs.Checking.{arrives, has-taken}
 use Rattle.vme_cert.proofs.checker.Checker.take.Goals as goal

@@ -1,9 +1,9 @@
 -- The place of the row is compared with the least row that differs so far.
 use Rattle.std.proofs.Common.{◌≡◌, ℕ, List, refl, sym, ◌∙◌, ap, subst, arith}
 use Rattle.std.specs.Prelude.{None, Option, Some}
-use Rattle.vme_cert.specs.Words.{Row}
-use Rattle.vme_cert.specs.Comparing.{IsCompared, IsDue, IsSame, spares}
-use Rattle.vme_cert.specs.Ended.{ended}
+use Rattle.vme_cert.specs.Vocabulary.{Row}
+use Rattle.vme_cert.specs.Comparing.{IsCompared, IsDue, IsSame, without}
+use Rattle.vme_cert.specs.WithEdge.{with_edge}
 use Rattle.vme_cert.specs.declared.comparison.OpenRow.{OpenRow}
 use Rattle.vme_cert.proofs.Comparing.{compare_row-later, compare_row-other}
 use Rattle.vme_cert.proofs.comparison.Comparison.compare_row.Goals.{in-Some-wrong, in_default-wrong}
@@ -13,7 +13,7 @@ use Rattle.vme_cert.proofs.comparison.Comparison.compare_row.Goals as goal
 
 -- the given row differs from the right one, if it isn't the open row with its last edge
 differs : (given right : List Row) (taken : ℕ) (edge : Option ℕ) (row : OpenRow) (shown : Row)
-    → IsDue given right taken edge (Some row) → shown ≡ ended row.right edge → (row.given ≡ Some shown → ⊥)
+    → IsDue given right taken edge (Some row) → shown ≡ with_edge row.right edge → (row.given ≡ Some shown → ⊥)
     → IsSame given right row.place → ⊥
 differs given right taken edge row shown (below, given_is, right_is) is other same =
     other (given_is ∙ (same ∙ (right_is ∙ ap (λ (r : Row). Some r) (sym is))))
@@ -23,25 +23,26 @@ returns g c = record {
   source = refl;
   version = refl;
   taken = refl;
-  wrong = λ given right still h due_any.
+  wrong = λ given right open_at h due_any.
       let row = c.in-Some.row in
       let taken = c.args.self.now.taken in
       let due = subst (IsDue given right taken c.args.edge) c.in-Some.is due_any in
-      let other = differs given right taken c.args.edge row c.ended.result due c.ended.ensures
+      let other = differs given right taken c.args.edge row c.with_edge.result due c.with_edge.ensures
       (c.is_given.ensures.other c.if-is_given.false) in
-      subst (λ (o : Option OpenRow). IsCompared given right taken (spares still o) c.match-self.self) (sym c.in-Some.is)
+      subst (λ (o : Option OpenRow). IsCompared given right taken (without open_at o) c.match-self.self)
+      (sym c.in-Some.is)
       (elim c.match-self.branch [
         | in-Some-wrong w ↦
-            rw w.self-is (compare_row-later given right taken still row (Some w.in-Some-wrong.wrong)
+            rw w.self-is (compare_row-later given right taken open_at row (Some w.in-Some-wrong.wrong)
             (rw w.in-Some-wrong.is at h) (omega (arith, w.if-wrong-row.true)))
         | in_default-wrong w ↦
             elim w.in_default-wrong.branch [
               | in_default-wrong-via-in-Some-wrong+else-wrong-row v ↦
-                  rw w.self-is (compare_row-other given right taken still row (Some v.in-Some-wrong.wrong)
+                  rw w.self-is (compare_row-other given right taken open_at row (Some v.in-Some-wrong.wrong)
                   (rw v.in-Some-wrong.is at h) due.0 (omega (arith, v.if-wrong-row.false)) other)
               | in_default-wrong-via-in_default-wrong v ↦
-                  rw w.self-is (compare_row-other given right taken still row None (rw v.in_default-wrong.is at h) due.0
-                  (omega (arith, due.0)) other)
+                  rw w.self-is (compare_row-other given right taken open_at row None
+                  (rw v.in_default-wrong.is at h) due.0 (omega (arith, due.0)) other)
             ]
       ]);
 }

@@ -1,10 +1,10 @@
 use Rattle.std.proofs.Common.{◌+◌, ◌∙◌, refl, sym, ap, subst}
 use Rattle.std.specs.Prelude.{Option, Some}
-use Rattle.vme_cert.specs.Words.{Row, Version, row_in, transfer_row}
-use Rattle.vme_cert.specs.Ended.{ended}
+use Rattle.vme_cert.specs.Vocabulary.{Row, Version, row_in, transfer_row}
+use Rattle.vme_cert.specs.WithEdge.{with_edge}
 use Rattle.vme_cert.specs.Following.{IsTransferAt}
 use Rattle.vme_cert.specs.declared.comparison.OpenRow.{OpenRow}
-use Rattle.vme_cert.proofs.Following.{ended-in, is-opened, transfer-answered, transfer-outside, transfer-unanswered}
+use Rattle.vme_cert.proofs.Following.{with_edge-in, is-opened, transfer-answered, transfer-outside, transfer-unanswered}
 use Rattle.vme_cert.proofs.Following.{transfer-replies, transfer-rests}
 use Rattle.vme_cert.proofs.open_rows.OpenRows.answer_transfer.Goals as goal
 
@@ -32,7 +32,8 @@ returns-clause-rows g c whole v done t span h rows =
     (transfer-answered t span v done j h.judged c.in-Some.open transfer here opened
     (subst (λ (o : Option OpenRow). IsTransferAt v done t span (j + 1) j j o) c.in-Some.is rows.transfer) _ refl
     (λ end edge.
-    ap (λ (r : Row). ended r edge) (c.in_version.ensures ∙ ap (λ (w : Version). row_in w row) rows.are_taken.version_is)
-    ∙ (ended-in v row edge ∙ (ap (row_in v) (c.answered_row-row.ensures t span end edge h.at opened
+    ap (λ (r : Row). with_edge r edge)
+    (c.in_version.ensures ∙ ap (λ (w : Version). row_in w row) rows.are_taken.version_is)
+    ∙ (with_edge-in v row edge ∙ (ap (row_in v) (c.answered_row-row.ensures t span end edge h.at opened
     (h.holds.cycle.here c.if-not-started.false))
-    ∙ sym (ended-in v (transfer_row t span end transfer.start (Some j)) edge)))))
+    ∙ sym (with_edge-in v (transfer_row t span end transfer.start (Some j)) edge)))))

@@ -1,6 +1,6 @@
 use Rattle.std.proofs.Common.{◌∙◌, ap, sym}
 use Rattle.std.specs.Prelude.{if◌then◌else◌}
-use Rattle.vme_cert.specs.Words.{Direction, PendingTransfer, Read, Write}
+use Rattle.vme_cert.specs.Vocabulary.{Direction, PendingTransfer, Read, Write}
 use Rattle.vme_cert.proofs.Following.{transfer-begins, transfer-idle}
 use Rattle.vme_cert.proofs.open_rows.OpenRows.begin_transfer.Goals as goal
 

@@ -1,6 +1,6 @@
 use Rattle.std.proofs.Common.{◌∙◌, refl, sym, ap, subst}
 use Rattle.std.specs.Prelude.{None, ◌++◌, ◌∷◌, []}
-use Rattle.vme_cert.specs.Words.{BBSY, OpenTenure, Start, low}
+use Rattle.vme_cert.specs.Vocabulary.{BBSY, OpenTenure, Start, low}
 use Rattle.vme_cert.specs.Comparing.{IsBegun}
 use Rattle.vme_cert.specs.Following.{CanClose}
 use Rattle.vme_cert.proofs.Following.{starts-busy, starts-free}

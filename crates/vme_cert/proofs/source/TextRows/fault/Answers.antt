@@ -1,7 +1,7 @@
 -- The rest of the text is read, row by row.
 use Rattle.std.proofs.Common.{◌≡◌, ◌∙◌, ◌++◌, ◌∷◌, ℕ, true, List, [], append_assoc, sym, ap, subst}
 use Rattle.std.specs.Prelude.{IfSome, None, Ok, Option, Result, Some}
-use Rattle.vme_cert.specs.Words.{HasRead, IsTextOfListing, ListFault, Row, Unread, Version, ends_listing, listed}
+use Rattle.vme_cert.specs.Vocabulary.{HasRead, IsTextOfListing, ListFault, Row, Unread, Version, ends_listing, listed}
 use Rattle.vme_cert.proofs.source.TextRows.fault.Goals as goal
 
 reads : (text : List ℕ) (rows more : List Row) (new : Unread) (o : Option Row) (row : Row) → o ≡ Some row

@@ -1,6 +1,6 @@
 -- Rows after those of the start were read, unless the listing was complete at the start.
 use Rattle.std.proofs.Common.{◌≡◌, ◌++◌, ℕ, List, true, [], length}
-use Rattle.vme_cert.specs.Words.{HasRead, Row, ends_listing}
+use Rattle.vme_cert.specs.Vocabulary.{HasRead, Row, ends_listing}
 use Rattle.vme_cert.proofs.source.TextRows.fault.Given as goal
 
 abbrev pub invariant-loop-fault : goal.invariant-loop-fault

@@ -1,7 +1,7 @@
 -- A row was read, the listing is complete, or there is a fault.
 use Rattle.std.proofs.Common.{◌≡◌, ℕ, ◌∙◌, List, [], ◌∷◌, ◌++◌, refl, sym, ap, subst}
 use Rattle.std.specs.Prelude.{IfSome, MatchOption, None, Ok, Option, Some}
-use Rattle.vme_cert.specs.Words.{HasRead, IsFaultOfText, ListFault, Row, Unread, Version}
+use Rattle.vme_cert.specs.Vocabulary.{HasRead, IsFaultOfText, ListFault, Row, Unread, Version}
 use Rattle.vme_cert.proofs.source.TextRowsRowSource.next.Goals as goal
 
 gives : (text : List ℕ) (version : Version) (rows : List Row) (old new : Unread) (fault : Option ListFault)

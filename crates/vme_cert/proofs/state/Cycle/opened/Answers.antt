@@ -1,5 +1,5 @@
 use Rattle.std.proofs.Common.{◌∙◌, ap, refl, sym}
-use Rattle.vme_cert.specs.Words.{class_of, needs_of}
+use Rattle.vme_cert.specs.Vocabulary.{class_of, needs_of}
 use Rattle.vme_cert.proofs.Fields.{cycle-here}
 use Rattle.vme_cert.proofs.state.Cycle.opened.Goals as goal
 

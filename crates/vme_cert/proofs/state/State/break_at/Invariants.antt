@@ -1,6 +1,6 @@
 -- None of the rules before the current one is broken.
 use Rattle.std.proofs.Common.{◌≡◌, drop}
-use Rattle.vme_cert.specs.Words.{Stretch, Trace, all_rules, break_at}
+use Rattle.vme_cert.specs.Vocabulary.{Stretch, Trace, all_rules, break_at}
 use Rattle.vme_cert.specs.State.{IsStateOf}
 use Rattle.vme_cert.proofs.state.State.break_at.Given as goal
 

@@ -1,21 +1,21 @@
 use Rattle.std.proofs.Common.{◌≡◌, ℕ, ◌+◌, ◌∙◌, ap, not, subst, sym, true}
 use Rattle.std.specs.Prelude.{is_some}
-use Rattle.vme_cert.specs.Words.{BR, Rule, grant_falls, is_broken, last_before, low, none}
-use Rattle.vme_cert.specs.RulesByLine.{speaks_of}
+use Rattle.vme_cert.specs.Vocabulary.{BR, Rule, grant_falls, is_broken, last_before, low, none}
+use Rattle.vme_cert.specs.RulesByLine.{may_be_broken_on}
 use Rattle.vme_cert.proofs.Fields as arms
 use Rattle.vme_cert.proofs.Instant.{granted-near}
 use Rattle.vme_cert.proofs.Fields.{direction-is, since-asks}
 use Rattle.vme_cert.proofs.state.State.is_broken.Goals as goal
 
-spoken : {q r : Rule} (l : ℕ) → q ≡ r → speaks_of q l ≡ true → speaks_of r l ≡ true
-spoken l e h = subst (λ (r : Rule). speaks_of r l ≡ true) e h
+its_line : {q r : Rule} (l : ℕ) → q ≡ r → may_be_broken_on q l ≡ true → may_be_broken_on r l ≡ true
+its_line l e h = subst (λ (r : Rule). may_be_broken_on r l ≡ true) e h
 
 pub returns-in-G5 : goal.returns-in-G5
 unfolding is_broken
 returns-in-G5 c t span h =
     let j = c.args.bus.now.instant in
     let level = c.level_of-level.result in
-    rw c.in-G5.is (arms.net (spoken c.args.line c.in-G5.is c.requires.speaks) c.is_first-in-G5.ensures
+    rw c.in-G5.is (arms.net (its_line c.args.line c.in-G5.is c.requires.its_line) c.is_first-in-G5.ensures
     (c.falls-in-G5.ensures t h.at)
     (ap not (arms.either (c.was_requested.ensures ∙ h.holds.requested level c.level_of-level.ensures.below)
     (c.requests.ensures t h.at) ∙ sym (since-asks t span (grant_falls t) (low t (BR level)) j h.judged))
@@ -24,7 +24,7 @@ returns-in-G5 c t span h =
 pub returns-in-B1 : goal.returns-in-B1
 unfolding is_broken
 returns-in-B1 c t span h =
-    rw c.in-B1.is (arms.two (spoken c.args.line c.in-B1.is c.requires.speaks) (c.falls-in-B1.ensures t h.at)
+    rw c.in-B1.is (arms.two (its_line c.args.line c.in-B1.is c.requires.its_line) (c.falls-in-B1.ensures t h.at)
     (arms.turned _ _ c.is_none.ensures ∙ (ap (λ o. not (is_some o)) (c.tenure_level.ensures.level t h.at)
     ∙ ap not (granted-near t c.args.bus.now.instant))))
 
@@ -33,6 +33,6 @@ unfolding is_broken
 returns-in-S2 c t span h =
     let j = c.args.bus.now.instant in
     let transfer = c.args.self.now.transfer in
-    rw c.in-S2.is (arms.two (spoken c.args.line c.in-S2.is c.requires.speaks) (c.has_edge-in-S2.ensures t h.at)
+    rw c.in-S2.is (arms.two (its_line c.args.line c.in-S2.is c.requires.its_line) (c.has_edge-in-S2.ensures t h.at)
     (direction-is t span h.is j h.judged transfer h.holds.transfer c.rose_by.result
     (λ w. c.rose_by.ensures t span h.at h.judged w)))

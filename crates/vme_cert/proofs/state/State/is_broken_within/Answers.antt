@@ -2,7 +2,7 @@
 use Rattle.std.proofs.Common.{◌≡◌, ◌+◌, ◌&&◌, ◌∙◌, ap, false, sym}
 use Rattle.std.specs.Prelude.{is_some, nat_le}
 use Rattle.vme_trace.proofs.Ranges.{any-fails}
-use Rattle.vme_cert.specs.Words.{any, breaks, least}
+use Rattle.vme_cert.specs.Vocabulary.{any, breaks, least}
 use Rattle.vme_cert.proofs.Ranges.{any-first, decide, within_of}
 use Rattle.vme_cert.proofs.state.State.is_broken_within.Goals as goal
 

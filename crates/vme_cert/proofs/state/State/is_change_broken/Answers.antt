@@ -6,8 +6,9 @@ use Rattle.std.proofs.lemmas.List.{take_all, take_more}
 use Rattle.std.proofs.lemmas.List.Folds.{list_all_at}
 use Rattle.std.proofs.lemmas.Bool.{eqb-true, and_parts}
 use Rattle.vme_trace.proofs.Ranges.{clash}
-use Rattle.vme_cert.specs.Words.{Change, Levels, are_changes, has_line, is_broken, is_changed, level_at, same_level}
-use Rattle.vme_cert.specs.RulesByLine.{speaks_of}
+use Rattle.vme_cert.specs.Vocabulary.{Change, Levels, are_changes, has_line, is_broken, is_changed, level_at}
+use Rattle.vme_cert.specs.Vocabulary.{same_level}
+use Rattle.vme_cert.specs.RulesByLine.{may_be_broken_on}
 use Rattle.vme_cert.proofs.Ranges.{decide, or_on}
 use Rattle.vme_cert.proofs.state.State.is_change_broken.Goals as goal
 
@@ -52,10 +53,10 @@ is_line_broken-requires c =
     (list_all_at has changes c.loop-change.change-index change (omega arith) (ap has (sym c.change-item.is) ∙ e)))))
 
 pub loop-change-init : goal.loop-change-init
-loop-change-init c t span r n h changed spoken = absurd (cc)
+loop-change-init c t span r n h changed its_line = absurd (cc)
 
 pub loop-change-preserved : goal.loop-change-preserved
-loop-change-preserved c t span r n h changed spoken =
+loop-change-preserved c t span r n h changed its_line =
     let changes = c.args.changes.now in
     let i = c.loop-change.change-index in
     let j = c.args.bus.now.instant in
@@ -63,13 +64,13 @@ loop-change-preserved c t span r n h changed spoken =
     let more = take_more changes i change (omega arith)
     ∙ ap (λ (d : Change). take i changes ++ d ∷ []) (sym c.change-item.is) in
     elim (changed-last (take i changes) change n (subst (λ (cs : List Change). is_changed cs n ≡ true) more changed)) [
-      | inl before ↦ c.loop-change.invariant t span r n h before spoken
+      | inl before ↦ c.loop-change.invariant t span r n h before its_line
       | inr here ↦ subst (λ l. is_broken t span r j l ≡ false) here (c.is_line_broken.ensures t span r h
-          c.if-is_line_broken.false (subst (λ l. speaks_of r l ≡ true) (sym here) spoken))
+          c.if-is_line_broken.false (subst (λ l. may_be_broken_on r l ≡ true) (sym here) its_line))
     ]
 
 pub returns : goal.returns
-returns c t span r l h e changed spoken =
+returns c t span r l h e changed its_line =
     let changes = c.args.changes.now in
     c.loop-change.invariant t span r l h (subst (λ (cs : List Change). is_changed cs l ≡ true)
-    (sym (take_all c.loop-change.change-index changes (omega arith))) changed) spoken
+    (sym (take_all c.loop-change.change-index changes (omega arith))) changed) its_line

@@ -1,17 +1,17 @@
 use Rattle.std.proofs.Common.{◌≡◌, ◌∙◌, ap, arith, below_more, false, get_or, List, length, subst, sym, true}
-use Rattle.vme_cert.specs.Words.{Rule, Stretch, Trace, U1, is_broken}
-use Rattle.vme_cert.specs.RulesByLine.{speaks_of}
+use Rattle.vme_cert.specs.Vocabulary.{Rule, Stretch, Trace, U1, is_broken}
+use Rattle.vme_cert.specs.RulesByLine.{may_be_broken_on}
 use Rattle.vme_cert.specs.State.{IsStateOf}
-use Rattle.vme_cert.proofs.Breaks.{listed-speaks, speaks-listed}
+use Rattle.vme_cert.proofs.Breaks.{listed-may_be_broken, may_be_broken-listed}
 use Rattle.vme_cert.proofs.state.State.is_line_broken.Goals as goal
 
-pub is_broken-requires-clause-speaks : goal.is_broken-requires-clause-speaks
-is_broken-requires-clause-speaks c =
+pub is_broken-requires-clause-its_line : goal.is_broken-requires-clause-its_line
+is_broken-requires-clause-its_line c =
     let i = c.loop-rule.rule-index in
     let rules = c.rules_on-rule-items.ensures.rules in
     let within = ap (λ (rs : List Rule). length rs) rules in
-    subst (λ (rs : List Rule). speaks_of (get_or rs i U1) c.args.line ≡ true) (sym rules)
-    (listed-speaks c.args.line i c.rules_on-rule-items.ensures.exists (omega arith))
+    subst (λ (rs : List Rule). may_be_broken_on (get_or rs i U1) c.args.line ≡ true) (sym rules)
+    (listed-may_be_broken c.args.line i c.rules_on-rule-items.ensures.exists (omega arith))
 
 pub loop-rule-preserved : goal.loop-rule-preserved
 loop-rule-preserved c = record {
@@ -23,8 +23,8 @@ loop-rule-preserved c = record {
 }
 
 pub returns : goal.returns
-returns c t span r h e spoken =
-    let (k, below, at) = speaks-listed c.args.line r c.rules_on-rule-items.ensures.exists spoken in
+returns c t span r h e its_line =
+    let (k, below, at) = may_be_broken-listed c.args.line r c.rules_on-rule-items.ensures.exists its_line in
     let rules = c.loop-rule.invariant.rules in
     let within = ap (λ (rs : List Rule). length rs) rules in
     subst (λ (q : Rule). is_broken t span q c.args.bus.now.instant c.args.line ≡ false)

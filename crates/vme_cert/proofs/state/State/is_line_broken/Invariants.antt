@@ -1,6 +1,6 @@
 -- None of the rules before the current one is broken.
 use Rattle.std.proofs.Common.{◌≡◌, ℕ, ◌<◌, false, get_or}
-use Rattle.vme_cert.specs.Words.{Stretch, Trace, U1, is_broken}
+use Rattle.vme_cert.specs.Vocabulary.{Stretch, Trace, U1, is_broken}
 use Rattle.vme_cert.specs.RulesByLine.{rules_on}
 use Rattle.vme_cert.specs.State.{IsStateOf}
 use Rattle.vme_cert.proofs.state.State.is_line_broken.Given as goal

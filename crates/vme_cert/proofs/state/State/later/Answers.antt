@@ -1,5 +1,5 @@
 use Rattle.std.proofs.Common.{refl}
-use Rattle.vme_cert.specs.Words.{BBSY, BERR, DTACK, falls, grant_falls, strobe_rises}
+use Rattle.vme_cert.specs.Vocabulary.{BBSY, BERR, DTACK, falls, grant_falls, strobe_rises}
 use Rattle.vme_cert.proofs.Fields.{since-later-step, since-step}
 use Rattle.vme_cert.proofs.state.State.later.Goals as goal
 

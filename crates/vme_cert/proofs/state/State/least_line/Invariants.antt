@@ -1,6 +1,6 @@
 -- The rule isn't broken on the lines before the current one.
 use Rattle.std.proofs.Common.{◌≡◌, false}
-use Rattle.vme_cert.specs.Words.{Stretch, Trace, any, breaks}
+use Rattle.vme_cert.specs.Vocabulary.{Stretch, Trace, any, breaks}
 use Rattle.vme_cert.specs.State.{IsStateOf}
 use Rattle.vme_cert.proofs.state.State.least_line.Given as goal
 

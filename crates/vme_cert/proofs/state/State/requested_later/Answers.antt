@@ -1,5 +1,5 @@
 use Rattle.std.proofs.Common.{◌+◌, arith}
-use Rattle.vme_cert.specs.Words.{BR, grant_falls, low}
+use Rattle.vme_cert.specs.Vocabulary.{BR, grant_falls, low}
 use Rattle.vme_cert.specs.State.{is_requested}
 use Rattle.vme_cert.proofs.Fields.{since-step}
 use Rattle.vme_cert.proofs.Ranges.{each-of}

@@ -1,5 +1,5 @@
 use Rattle.std.proofs.Common.{ℕ, ◌+◌, ◌∙◌, ap, arith, sym}
-use Rattle.vme_cert.specs.Words.{BBSY, BERR, BR, DTACK, cycle_starts, falls, grant_falls, low, strobe_rises}
+use Rattle.vme_cert.specs.Vocabulary.{BBSY, BERR, BR, DTACK, cycle_starts, falls, grant_falls, low, strobe_rises}
 use Rattle.vme_cert.specs.State.{is_requested}
 use Rattle.vme_cert.proofs.Ranges.{each-of, greatest-none}
 use Rattle.vme_cert.proofs.Fields.{none-started, since-later-start, since-start}

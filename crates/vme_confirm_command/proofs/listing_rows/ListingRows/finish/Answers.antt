@@ -1,7 +1,7 @@
 -- The rest is read.
 use Rattle.std.proofs.Common.{[], ◌∷◌, ◌++◌, append_assoc, append-nil, refl, subst, sym, ◌∙◌}
 use Rattle.vme_confirm_command.specs.RowsOfListing.{GaveRows, IsOver}
-use Rattle.vme_confirm_command.proofs.ListingLemmas.{ends-behind, fault-gave, never-some, no-more, one-more, whole-ends}
+use Rattle.vme_confirm_command.proofs.ListingLemmas.{fault-gave, more-after, never-some, no-more, one-more, whole-ends}
 use Rattle.vme_confirm_command.proofs.listing_rows.ListingRows.finish.Goals as goal
 
 pub loop-init : goal.loop-init
@@ -51,7 +51,7 @@ returns-in-Some g c old version rows gave =
     let (more, here, none) = c.loop.invariant.gave old version rows gave in
     let ends = no-more old version now next.input next.pieces next.fault (rows ++ more) c.give.result
     (sym c.is_some.ensures ∙ c.loop-test.false) (c.give.ensures.gave old version (rows ++ more) here) in
-    ends-behind old version (g.L.Source.reading c.read_on.result.1) rows more
-    (IsOver c.args.self.pieces c.args.self.fault) none c.read_on.result.0
-    (c.read_on.ensures old version (rows ++ more) next.pieces
+    more-after old version (g.L.Source.reading c.read_to_end.result.1) rows more
+    (IsOver c.args.self.pieces c.args.self.fault) none c.read_to_end.result.0
+    (c.read_to_end.ensures old version (rows ++ more) next.pieces
     (fault-gave old version now next.input next.pieces next.fault c.in-Some.fault c.in-Some.is (rows ++ more) ends))

@@ -3,7 +3,7 @@ use Rattle.std.proofs.Common.{◌≡◌, List, [], ◌++◌}
 use Rattle.vme_trace.specs.Streams.{Reading}
 use Rattle.vme_listing.specs.declared.row.Row.{Row}
 use Rattle.vme_listing.specs.declared.row.Version.{Version}
-use Rattle.vme_confirm_command.specs.RowsOfListing.{GaveRows, IsOver, rows_left}
+use Rattle.vme_confirm_command.specs.RowsOfListing.{GaveRows, IsOver, bytes_left}
 use Rattle.vme_confirm_command.proofs.listing_rows.ListingRows.finish.Given as goal
 
 abbrev pub invariant-loop : goal.invariant-loop
@@ -19,4 +19,4 @@ invariant-loop g l =
     }
 
 abbrev pub decreases-loop : goal.decreases-loop
-decreases-loop g l = rows_left l.rows.input
+decreases-loop g l = bytes_left l.rows.input

@@ -9,50 +9,50 @@ use Rattle.vme_dump_input.proofs.ReadSteps.{whole-formed}
 use Rattle.vme_confirm_command.proofs.StepLemmas.{limited-fits, limited-long, many-came, may-whole, not-many}
 use Rattle.vme_confirm_command.proofs.step_check.StepCheck.finish.Goals as goal
 
-pub returns-then-not-counts-clause-finds : goal.returns-then-not-counts-clause-finds
-returns-then-not-counts-clause-finds g c whole version skew given from t h compared go =
+pub returns-then-not-count_more-clause-finds : goal.returns-then-not-count_more-clause-finds
+returns-then-not-count_more-clause-finds g c whole version skew given from t h compared go =
     let self = c.args.self in
     let steps = c.args.steps.items in
-    let counts = c.counts.ensures in
-    let none = c.if-not-counts.true in
+    let counted = c.count_more.ensures in
+    let none = c.if-not-count_more.true in
     let many = many-came skew given from self.settler self.count self.is_too_long t steps h.comes
-    (λ short. omega (arith, counts.many none short, c.len.ensures)) in (
+    (λ short. omega (arith, counted.many none short, c.len.ensures)) in (
       limited-long (with_steps given steps) many,
       c.into_source.ensures whole version (record {
         t = t;
-        taken = rw counts.left.1 h.taken;
-        compared = rw counts.left.1 compared;
+        taken = rw counted.left.1 h.taken;
+        compared = rw counted.left.1 compared;
       }),
     )
 
-pub returns-then-not-counts-clause-left : goal.returns-then-not-counts-clause-left
-returns-then-not-counts-clause-left g c whole version h =
-    c.into_source.ensures whole version (rw c.counts.ensures.left.1 h)
+pub returns-then-not-count_more-clause-left : goal.returns-then-not-count_more-clause-left
+returns-then-not-count_more-clause-left g c whole version h =
+    c.into_source.ensures whole version (rw c.count_more.ensures.left.1 h)
 
 pub returns-in-Err-clause-left : goal.returns-in-Err-clause-left
 returns-in-Err-clause-left g c whole version h =
-    c.into_source-in-Err.ensures whole version (rw c.counts.ensures.left.1 h)
+    c.into_source-in-Err.ensures whole version (rw c.count_more.ensures.left.1 h)
 
 pub check_all-requires : goal.check_all-requires
 check_all-requires g c =
     let self = c.args.self in
     let steps = c.args.steps.items in
-    let counts = c.counts.ensures in
-    let some = c.if-not-counts.false in
+    let counted = c.count_more.ensures in
+    let some = c.if-not-count_more.false in
     let (skew, given, from, t, h, go) = c.requires in
     let (same, few, comes) = not-many skew given from self.settler self.count self.is_too_long t h.comes
-    (counts.few some).2 in
+    (counted.few some).2 in
     let long : length (given.steps ++ steps) ≤ capture_limit = omega (
       arith,
-      counts.within some few,
-      (counts.few some).0,
+      counted.within some few,
+      (counted.few some).0,
       same,
       c.len.ensures,
       length-append given.steps steps,
     ) in
-    let settled = c.in-Ok.ensures skew given t from (rw counts.left.0 comes) go in (
+    let settled = c.in-Ok.ensures skew given t from (rw counted.left.0 comes) go in (
       t,
-      rw counts.left.1 h.taken,
+      rw counted.left.1 h.taken,
       may-whole skew t (with_steps given steps) c.as_slice.result.now long
           (ap (with_steps t) c.as_slice.ensures.value ∙ settled)
           (whole-formed skew (with_steps given steps) go.whole go.formed),
@@ -61,41 +61,41 @@ check_all-requires g c =
 pub finish-answer-requires : goal.finish-answer-requires
 finish-answer-requires g c =
     let (skew, given, from, t, h, go) = c.requires in
-    (with_steps t c.as_slice.result.now, c.check_all.ensures.taken t (rw c.counts.ensures.left.1 h.taken))
+    (with_steps t c.as_slice.result.now, c.check_all.ensures.taken t (rw c.count_more.ensures.left.1 h.taken))
 
 pub returns-in-Ok-clause-finds : goal.returns-in-Ok-clause-finds
 returns-in-Ok-clause-finds g c whole version skew given from t h compared go =
     let self = c.args.self in
     let steps = c.args.steps.items in
-    let counts = c.counts.ensures in
-    let some = c.if-not-counts.false in
+    let counted = c.count_more.ensures in
+    let some = c.if-not-count_more.false in
     let (same, few, comes) = not-many skew given from self.settler self.count self.is_too_long t h.comes
-    (counts.few some).2 in
+    (counted.few some).2 in
     let long : length (given.steps ++ steps) ≤ capture_limit = omega (
       arith,
-      counts.within some few,
-      (counts.few some).0,
+      counted.within some few,
+      (counted.few some).0,
       same,
       c.len.ensures,
       length-append given.steps steps,
     ) in
-    let settled = c.in-Ok.ensures skew given t from (rw counts.left.0 comes) go in
+    let settled = c.in-Ok.ensures skew given t from (rw counted.left.0 comes) go in
     let is : with_steps t c.as_slice.result.now ≡ settled_whole skew (with_steps given steps) =
     ap (with_steps t) c.as_slice.ensures.value ∙ settled in
-    let taken : HasFollowed t c.counts.new.self.checker = rw counts.left.1 h.taken in
+    let taken : HasFollowed t c.count_more.new.self.checker = rw counted.left.1 h.taken in
     let checker = c.check_all.new.checker in (
       limited-fits (with_steps given steps) long,
       c.finish-answer.ensures whole version (settled_whole skew (with_steps given steps))
           (subst (λ (u : Trace). HasFollowed u checker) is (c.check_all.ensures.taken t taken))
           (subst (λ (u : Trace). HasCompared g.S.RowSource.gave g.S.RowSource.is_over whole version u checker) is
-          (c.check_all.ensures.compared whole version t taken (rw counts.left.1 compared))),
+          (c.check_all.ensures.compared whole version t taken (rw counted.left.1 compared))),
     )
 
 pub returns-in-Ok-clause-left : goal.returns-in-Ok-clause-left
 returns-in-Ok-clause-left g c whole version h =
-    let taken : HasFollowed h.t c.counts.new.self.checker = rw c.counts.ensures.left.1 h.taken in
+    let taken : HasFollowed h.t c.count_more.new.self.checker = rw c.count_more.ensures.left.1 h.taken in
     let checker = c.check_all.new.checker in
     let found = c.finish-answer.ensures whole version (with_steps h.t c.as_slice.result.now)
     (c.check_all.ensures.taken h.t taken)
-    (c.check_all.ensures.compared whole version h.t taken (rw c.counts.ensures.left.1 h.compared)) in
+    (c.check_all.ensures.compared whole version h.t taken (rw c.count_more.ensures.left.1 h.compared)) in
     (found.0, found.1)

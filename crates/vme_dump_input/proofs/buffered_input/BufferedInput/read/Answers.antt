@@ -23,7 +23,7 @@ pub returns-in-Err-clause-fails : goal.returns-in-Err-clause-fails
 returns-in-Err-clause-fails g c old done h =
     let reads = ap (λ (i : InputSoFar). i.reads) c.self.view_is in
     fails-by old (g.R.Source.reading c.args.source.now) done c.args.self.now h
-    (g.R.Source.reading c.read_behind.new.source) c.args.self.now.limit c.in-Err.fault
+    (g.R.Source.reading c.read_after.new.source) c.args.self.now.limit c.in-Err.fault
     (omega (arith, c.self.invariant.3, c.if-self-eq-MOST_READS.false, reads)) c.in-Err.ensures.reads
     c.in-Err.ensures.err
 
@@ -31,7 +31,7 @@ pub returns-then-count-eq0-clause-read : goal.returns-then-count-eq0-clause-read
 returns-then-count-eq0-clause-read g c old done h =
     let self = c.self.inside in
     let now = g.R.Source.reading c.args.source.now in
-    let later = g.R.Source.reading c.read_behind.new.source in
+    let later = g.R.Source.reading c.read_after.new.source in
     let before : InputSoFar = record {
       held = drop self.start self.held.items;
       limit = self.limit;
@@ -41,9 +41,9 @@ returns-then-count-eq0-clause-read g c old done h =
       is_whole = self.is_whole;
     } in
     let after : InputSoFar = record {
-      held = c.read_behind.new.held.items;
+      held = c.read_after.new.held.items;
       limit = self.limit;
-      room = vec_len c.read_behind.new.room;
+      room = vec_len c.read_after.new.room;
       read = self.read;
       reads = self.reads;
       is_whole = true;
@@ -51,7 +51,7 @@ returns-then-count-eq0-clause-read g c old done h =
     let (more, long, held, consumed) = c.in-Ok.ensures.bytes in
     let none = c.if-count-eq0.true in
     read-none old now later done before after (subst (IsReadTo old now done) (sym c.self.view_is) h) more c.in-Ok.count
-    long (held ∙ ap (λ l. l ++ more) c.forget_first.ensures) refl c.read_behind.ensures.room none refl refl refl
+    long (held ∙ ap (λ l. l ++ more) c.forget_first.ensures) refl c.read_after.ensures.room none refl refl refl
     consumed (c.in-Ok.ensures.end none) c.in-Ok.ensures.ok (c.in-Ok.ensures.reads.0 none)
     (c.in-Ok.ensures.short_reads.0 none)
     (omega (arith, c.self.invariant.3, c.if-self-eq-MOST_READS.false)) (omega (arith, c.if-self.false))
@@ -60,7 +60,7 @@ pub returns-clause-read : goal.returns-clause-read
 returns-clause-read g c old done h =
     let self = c.self.inside in
     let now = g.R.Source.reading c.args.source.now in
-    let later = g.R.Source.reading c.read_behind.new.source in
+    let later = g.R.Source.reading c.read_after.new.source in
     let before : InputSoFar = record {
       held = drop self.start self.held.items;
       limit = self.limit;
@@ -70,9 +70,9 @@ returns-clause-read g c old done h =
       is_whole = self.is_whole;
     } in
     let after : InputSoFar = record {
-      held = c.read_behind.new.held.items;
+      held = c.read_after.new.held.items;
       limit = self.limit;
-      room = vec_len c.read_behind.new.room;
+      room = vec_len c.read_after.new.room;
       read = self.read + c.in-Ok.count;
       reads = self.reads + 1;
       is_whole = self.is_whole;
@@ -80,7 +80,7 @@ returns-clause-read g c old done h =
     let (more, long, held, consumed) = c.in-Ok.ensures.bytes in
     let some : 0 < c.in-Ok.count = omega (arith, c.if-count-eq0.false) in
     read-some old now later done before after (subst (IsReadTo old now done) (sym c.self.view_is) h) more c.in-Ok.count
-    long (held ∙ ap (λ l. l ++ more) c.forget_first.ensures) refl c.read_behind.ensures.room some refl refl refl
+    long (held ∙ ap (λ l. l ++ more) c.forget_first.ensures) refl c.read_after.ensures.room some refl refl refl
     consumed c.in-Ok.ensures.ok (c.in-Ok.ensures.reads.1 some) (c.in-Ok.ensures.short_reads.1 some)
     c.in-Ok.ensures.short_reads.2
     (omega (arith, c.self.invariant.3, c.if-self-eq-MOST_READS.false))

@@ -1,6 +1,6 @@
 use Rattle.std.proofs.Common.{◌≡◌}
 use Rattle.vme_board.specs.Benches.{IsOf, total_of, view_of}
-use Rattle.vme_floor.specs.Collecting.{IsCollected, IsGone, TakesOnly}
+use Rattle.vme_floor.specs.Collecting.{IsCollected, IsKnownTaken, TakesOnly}
 use Rattle.vme_floor.specs.declared.answer.Answer.TheVariants.{Filed}
 use Rattle.vme_floor.proofs.collector.Collection.collect_after.Given as goal
 
@@ -9,5 +9,5 @@ invariant-loop-next l = record {
   of : IsOf l.bench l.board;
   rest : TakesOnly (view_of l.initial.bench) (view_of l.bench);
   collected : IsCollected (total_of l.board) (view_of l.bench) l.self;
-  gone : l.fn.answer ≡ Filed → IsGone (view_of l.bench) l.number;
+  gone : l.fn.answer ≡ Filed → IsKnownTaken (view_of l.bench) l.number;
 }

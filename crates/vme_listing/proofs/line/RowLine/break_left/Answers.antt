@@ -6,14 +6,14 @@ use Rattle.vme_trace.specs.Names.{line_named, rule_named}
 use Rattle.vme_trace.specs.declared.rule.Rule.{Rule}
 use Rattle.vme_listing.specs.declared.row.ListedVerdict.{ListedVerdict}
 use Rattle.vme_listing.specs.declared.row.ListedVerdict.TheVariants.{Broken, Unreadable}
-use Rattle.vme_listing.specs.Lines.{Left, break_by, break_in, line_in, named_break, number_at, past, past_number}
+use Rattle.vme_listing.specs.Lines.{Rest, break_by, break_in, line_in, named_break, number_at, past, past_number}
 use Rattle.vme_listing.proofs.line.RowLine.break_left.Goals as goal
 
 two : (text : List ℕ) → 2 ≤ length text → nat_le 2 (length text) ≡ true
 two text h = grind (arith, nat_tests)
 
-made : (kind : Rule → ℕ → ℕ → ListedVerdict) (left : Left) (text rest last : List ℕ) (r : Rule) (instant line : ℕ)
-    (first second third : Left) → left ≡ Some text → 2 ≤ length text → Some r ≡ rule_named (take 2 text)
+made : (kind : Rule → ℕ → ℕ → ListedVerdict) (left : Rest) (text rest last : List ℕ) (r : Rule) (instant line : ℕ)
+    (first second third : Rest) → left ≡ Some text → 2 ≤ length text → Some r ≡ rule_named (take 2 text)
     → rest ≡ drop 2 text → first ≡ past (codes " ") (Some rest) → instant ≡ number_at first
     → second ≡ past_number first → third ≡ past (codes " ") second → third ≡ Some last → Some line ≡ line_named last
     → Some (kind r instant line) ≡ break_in kind left

@@ -56,26 +56,26 @@ returns-clause-fit c =
 
 pub returns-clause-shows : goal.returns-clause-shows
 returns-clause-shows c =
-    λ o v x y opens counted fits was tells.
+    λ o v x y opens counted fits was agrees.
     record {
       known = past_way known_run known_is_run (start_in known_begin) (phase_place nil_place) 4
           (table_value c.args.segment.now.known) c.args.self.now.known c.go_past.new.self o v x y c.args.steps
-          c.in_ok-go_past.ensures.memory c.in_ok-go_past.ensures.marks opens counted fits was.known tells.known;
+          c.in_ok-go_past.ensures.memory c.in_ok-go_past.ensures.marks opens counted fits was.known agrees.known;
       handshake = past_way handshake_run handshake_is_run (start_in dtb_begin) (phase_place memory_place) 147
           (table_value c.args.segment.now.handshake) c.args.self.now.handshake c.go_past-2.new.self o v x y c.args.steps
           c.in_ok-go_past-2.ensures.memory c.in_ok-go_past-2.ensures.marks opens counted fits was.handshake
-          tells.handshake;
+          agrees.handshake;
       stability = past_way stability_run stability_is_run (start_in stability_begin) (phase_place holding_place) 13
           (table_value c.args.segment.now.stability) c.args.self.now.stability c.go_past-3.new.self o v x y c.args.steps
           c.in_ok-go_past-3.ensures.memory c.in_ok-go_past-3.ensures.marks opens counted fits was.stability
-          tells.stability;
+          agrees.stability;
       grant = past_way grant_run grant_is_run (start_in grant_begin) (phase_place arbitration_place) 35
           (table_value c.args.segment.now.grant) c.args.self.now.grant c.go_past-4.new.self o v x y c.args.steps
-          c.in_ok-go_past-4.ensures.memory c.in_ok-go_past-4.ensures.marks opens counted fits was.grant tells.grant;
+          c.in_ok-go_past-4.ensures.memory c.in_ok-go_past-4.ensures.marks opens counted fits was.grant agrees.grant;
       acknowledge = past_way acknowledge_run acknowledge_is_run (start_in acknowledge_begin)
           (phase_place acknowledgement_place) 11
           (table_value c.args.segment.now.acknowledge) c.args.self.now.acknowledge c.go_past-5.new.self o v x y
           c.args.steps
           c.in_ok-go_past-5.ensures.memory c.in_ok-go_past-5.ensures.marks opens counted fits was.acknowledge
-          tells.acknowledge;
+          agrees.acknowledge;
     }

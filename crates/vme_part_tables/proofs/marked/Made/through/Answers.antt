@@ -1,9 +1,9 @@
 use Rattle.std.proofs.Common.{◌≡◌, ◌+◌, ◌<◌, [], ap, sym, ◌∙◌, length, map, rules}
 use Rattle.vme_part_format.specs.Tables.{node_value}
 use Rattle.vme_part_format.specs.declared.table.TableNode.{TableNode}
-use Rattle.vme_part_tables.specs.Marked.{turned}
-use Rattle.vme_part_tables.proofs.MarkedLemmas.{no_marks, pushed_go_on, pushed_kept, pushed_says, through_nothing}
-use Rattle.vme_part_tables.proofs.MarkedLemmas.{turned_below}
+use Rattle.vme_part_tables.specs.Marked.{reversed_way}
+use Rattle.vme_part_tables.proofs.MarkedLemmas.{no_marks, pushed_go_on, pushed_kept, pushed_says, reversed_way_below}
+use Rattle.vme_part_tables.proofs.MarkedLemmas.{through_nothing}
 use Rattle.vme_part_tables.proofs.marked.Made.through.Goals as goal
 
 pub returns-then-is_empty-clause-says : goal.returns-then-is_empty-clause-says
@@ -18,7 +18,7 @@ returns-clause-says c =
     let m = c.args.self.now.memories in
     let old = c.args.self.now.nodes.items in
     let n : TableNode = record {
-      next = c.turned-next.result;
+      next = c.reversed_way-next.result;
       first_break = c.or-first_break.result;
       marks =
           c.in_ok-marks.marks;
@@ -26,12 +26,12 @@ returns-clause-says c =
     let len : c.len-made.result ≡ length old = search rules in
     pushed_says m old c.push.new.self.items n c.in_ok-push.ensures.items c.args.first_break c.args.onward.first_break
     c.args.onward.way (m + c.len-made.result) c.args.marks.now (ap (λ k. m + k) len) c.or-first_break.ensures
-    (c.turned-next.ensures ∙ ap (λ k. turned m k c.args.onward.way) len) c.in_ok-marks.ensures
+    (c.reversed_way-next.ensures ∙ ap (λ k. reversed_way m k c.args.onward.way) len) c.in_ok-marks.ensures
 
 pub returns-clause-kept : goal.returns-clause-kept
 returns-clause-kept c =
     let n : TableNode = record {
-      next = c.turned-next.result;
+      next = c.reversed_way-next.result;
       first_break = c.or-first_break.result;
       marks =
           c.in_ok-marks.marks;
@@ -43,14 +43,14 @@ returns-clause-made c =
     let m = c.args.self.now.memories in
     let old = c.args.self.now.nodes.items in
     let n : TableNode = record {
-      next = c.turned-next.result;
+      next = c.reversed_way-next.result;
       first_break = c.or-first_break.result;
       marks =
           c.in_ok-marks.marks;
     } in
     let len : c.len-made.result ≡ length old = search rules in
-    let next : c.turned-next.result ≡ turned m (length old) c.args.onward.way
-    = c.turned-next.ensures ∙ ap (λ k. turned m k c.args.onward.way) len in
-    let low : c.turned-next.result < m + length old
-    = rw next (turned_below m (length old) c.args.onward.way c.requires.onward) in
+    let next : c.reversed_way-next.result ≡ reversed_way m (length old) c.args.onward.way
+    = c.reversed_way-next.ensures ∙ ap (λ k. reversed_way m k c.args.onward.way) len in
+    let low : c.reversed_way-next.result < m + length old
+    = rw next (reversed_way_below m (length old) c.args.onward.way c.requires.onward) in
     pushed_go_on m old c.push.new.self.items n c.in_ok-push.ensures.items c.requires.made low

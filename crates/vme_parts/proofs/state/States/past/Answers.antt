@@ -55,23 +55,23 @@ returns-clause-fit c =
 
 pub returns-clause-found : goal.returns-clause-found
 returns-clause-found c =
-    λ listing o v x y opens counted fits was tells.
+    λ listing o v x y opens counted fits was agrees.
     record {
       known = past_state known_run known_is_run (start_in known_begin) (phase_place nil_place) listing 4
           (table_value c.args.segment.now.known) c.args.self.now.known c.past.result o v x y c.args.steps
-          c.past.ensures.memory c.past.ensures.first_break opens counted fits was.known tells.known;
+          c.past.ensures.memory c.past.ensures.first_break opens counted fits was.known agrees.known;
       handshake = past_state handshake_run handshake_is_run (start_in dtb_begin) (phase_place memory_place) listing 147
           (table_value c.args.segment.now.handshake) c.args.self.now.handshake c.past-2.result o v x y c.args.steps
-          c.past-2.ensures.memory c.past-2.ensures.first_break opens counted fits was.handshake tells.handshake;
+          c.past-2.ensures.memory c.past-2.ensures.first_break opens counted fits was.handshake agrees.handshake;
       stability = past_state stability_run stability_is_run (start_in stability_begin)
           (phase_place holding_place) listing 13
           (table_value c.args.segment.now.stability) c.args.self.now.stability c.past-3.result o v x y c.args.steps
-          c.past-3.ensures.memory c.past-3.ensures.first_break opens counted fits was.stability tells.stability;
+          c.past-3.ensures.memory c.past-3.ensures.first_break opens counted fits was.stability agrees.stability;
       grant = past_state grant_run grant_is_run (start_in grant_begin) (phase_place arbitration_place) listing 35
           (table_value c.args.segment.now.grant) c.args.self.now.grant c.past-4.result o v x y c.args.steps
-          c.past-4.ensures.memory c.past-4.ensures.first_break opens counted fits was.grant tells.grant;
+          c.past-4.ensures.memory c.past-4.ensures.first_break opens counted fits was.grant agrees.grant;
       acknowledge = past_state acknowledge_run acknowledge_is_run (start_in acknowledge_begin)
           (phase_place acknowledgement_place) listing 11
           (table_value c.args.segment.now.acknowledge) c.args.self.now.acknowledge c.past-5.result o v x y c.args.steps
-          c.past-5.ensures.memory c.past-5.ensures.first_break opens counted fits was.acknowledge tells.acknowledge;
+          c.past-5.ensures.memory c.past-5.ensures.first_break opens counted fits was.acknowledge agrees.acknowledge;
     }

@@ -11,7 +11,7 @@ use Rattle.vme_auditor.specs.declared.findings.BreakCounts.{BreakCounts}
 use Rattle.vme_step_auditor.specs.ReadBy.{GivenSteps, read_by, read_of}
 use Rattle.vme_step_auditor.specs.Counting.{with_category}
 use Rattle.vme_step_auditor.specs.AuditedSteps.{HasAuditedSteps}
-use Rattle.vme_step_auditor.proofs.Taking.{takes_break, takes_conforming, takes_stopped, tells_found, tells_none}
+use Rattle.vme_step_auditor.proofs.Taking.{found_is_added, no_break_added, takes_break, takes_conforming, takes_stopped}
 use Rattle.vme_step_auditor.proofs.step_auditor.StepAuditor.take.Goals as goal
 
 pub invariant_of-self : goal.invariant_of-self
@@ -37,7 +37,7 @@ returns-then-stops-clause-told c =
     ≡ breaks (read_of c.args.self.now) ++ [])
     (sym c.and-given.ensures)
     (λ ok.
-    tells_none c.breaks_grow.ensures.step c.breaks_grow.ensures.within i.rules.allowances.now i.rules.stop given
+    no_break_added c.breaks_grow.ensures.step c.breaks_grow.ensures.within i.rules.allowances.now i.rules.stop given
     i.auditor i.counts c.self.invariant c.args.step.now few (sym c.stops.ensures ∙ c.if-stops.true) ok
     ∙ ap (λ (g : GivenSteps). breaks (read_of g) ++ []) c.self.view_is)
 
@@ -88,7 +88,7 @@ returns-in-Some-clause-told c =
     ≡ breaks (read_of c.args.self.now) ++ as_break c.in-Some.found ∷ [])
     (sym c.and-given.ensures)
     (λ ok.
-    tells_found c.breaks_grow.ensures.step c.breaks_grow.ensures.within i.rules.allowances.now i.rules.stop given
+    found_is_added c.breaks_grow.ensures.step c.breaks_grow.ensures.within i.rules.allowances.now i.rules.stop given
     i.auditor i.counts c.self.invariant c.args.step.now few (sym c.stops.ensures ∙ c.if-stops.false) c.step.new.self
     c.in_ok-found.ensures.recorded (Some (as_break c.in-Some.found))
     (λ ok. c.in_ok-found.ensures.told ok
@@ -106,7 +106,7 @@ returns-in-None-clause-told c =
     ≡ breaks (read_of c.args.self.now) ++ [])
     (sym c.and-given.ensures)
     (λ ok.
-    tells_found c.breaks_grow.ensures.step c.breaks_grow.ensures.within i.rules.allowances.now i.rules.stop given
+    found_is_added c.breaks_grow.ensures.step c.breaks_grow.ensures.within i.rules.allowances.now i.rules.stop given
     i.auditor i.counts c.self.invariant c.args.step.now few (sym c.stops.ensures ∙ c.if-stops.false) c.step.new.self
     c.in_ok-found.ensures.recorded None
     (λ ok. c.in_ok-found.ensures.told ok

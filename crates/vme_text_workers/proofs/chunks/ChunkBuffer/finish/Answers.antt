@@ -1,7 +1,7 @@
 use Rattle.std.proofs.Common.{◌++◌, ◌∙◌, List, ap}
 use Rattle.vme_trace.specs.declared.step.Step.{Step}
 use Rattle.vme_text_workers.specs.Chunks.{steps_in}
-use Rattle.vme_text_workers.proofs.RunLemmas.{chunk-more, steps-more}
+use Rattle.vme_text_workers.proofs.ChunkLemmas.{chunk-more, steps-more}
 use Rattle.vme_text_workers.proofs.chunks.ChunkBuffer.finish.Goals as goal
 
 pub invariant_of-result : goal.invariant_of-result

@@ -2,7 +2,7 @@ use Rattle.std.proofs.Common.{◌++◌, ◌∙◌, List, ap, append-nil}
 use Rattle.vme_trace.specs.Trace.{Trace, levels_after}
 use Rattle.vme_trace.specs.declared.step.Step.{Step}
 use Rattle.vme_text_workers.specs.Chunks.{steps_in}
-use Rattle.vme_text_workers.proofs.RunLemmas.{steps-more, underway-more}
+use Rattle.vme_text_workers.proofs.ChunkLemmas.{steps-more, underway-more}
 use Rattle.vme_text_workers.proofs.chunks.ChunkBuffer.judge.Goals as goal
 
 pub invariant_of-self-2 : goal.invariant_of-self-2

@@ -1,7 +1,7 @@
 use Rattle.std.proofs.Common.{◌≡◌, ◌∷◌, ◌∙◌, List, ap, arith, length}
 use Rattle.std.specs.Vec.Iter.{into_iter_items}
 use Rattle.vme_trace.specs.Trace.{Trace}
-use Rattle.vme_text_workers.proofs.RunLemmas.{rest-follow, chunk-passed}
+use Rattle.vme_text_workers.proofs.ChunkLemmas.{rest-follow, chunk-passed}
 use Rattle.vme_text_workers.proofs.chunks.JudgedChunks.pass.Goals as goal
 
 pub loop-chunk-preserved : goal.loop-chunk-preserved

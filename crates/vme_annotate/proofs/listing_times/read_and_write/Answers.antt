@@ -1,0 +1,27 @@
+use Rattle.std.proofs.Common.{inl, refl}
+use Rattle.std.specs.Prelude.{Err, Ok}
+use Rattle.std.proofs.KnownBytes.{Appends-nil}
+use Rattle.vme_annotate.proofs.EndsLemmas.{timed_refusal}
+use Rattle.vme_annotate.proofs.listing_times.read_and_write.Goals as goal
+
+pub returns-in-Ok : goal.returns-in-Ok
+returns-in-Ok g c =
+    let (binding, dump, binding_reading, dump_reading, given) = c.in-Ok.ensures in
+    let (t, recorded, timed) = given in
+    (binding, dump, Ok t, binding_reading, dump_reading, recorded, c.write_or_complain.ensures t timed)
+
+pub returns-in-Err : goal.returns-in-Err
+returns-in-Err g c =
+    let (binding, dump, binding_reading, dump_reading, given) = c.in-Err.ensures in (
+      binding,
+      dump,
+      Err c.in-Err.refusal,
+      binding_reading,
+      dump_reading,
+      timed_refusal c.in-Err.refusal _ given,
+      inl (record {
+        out_is = (Appends-nil _, refl);
+        err_is = rw c.refusal_line.ensures at c.complain.ensures;
+        status_is = c.status.ensures;
+      }),
+    )

@@ -1,0 +1,6 @@
+use Rattle.std.proofs.Common.{◌≡◌, map, take}
+use Rattle.vme_audit_lines.specs.AuditLines.{shown}
+use Rattle.vme_audit_lines.proofs.dump_lines.dump_head.Given as goal
+
+abbrev pub invariant-loop-byte : goal.invariant-loop-byte
+invariant-loop-byte l = l.text ≡ map shown (take l.byte-index l.name)

@@ -1,0 +1,155 @@
+-- What the outcome of a recording determines of its verdict.
+use Rattle.std.proofs.Common.{◌≡◌, ℕ, suc, Bool, true, false, not, List, [], ◌∷◌, length, filter, refl, sym, ◌∙◌, ap}
+use Rattle.std.proofs.Common.{cond, Option, None, Some}
+use Rattle.std.specs.Prelude.{nat_lt}
+use Rattle.std.specs.Option.{option_map, option_map_or}
+use Rattle.vme_trace.specs.Rules.{is_unreadable}
+use Rattle.vme_trace.specs.Trace.{Trace}
+use Rattle.vme_trace.specs.Verdict.{verdict}
+use Rattle.vme_trace.specs.declared.verdict.Break.{Break}
+use Rattle.vme_trace.specs.declared.verdict.Verdict.TheVariants as verdict_is
+use Rattle.vme_monitor.proofs.LastSeen.{same_value}
+use Rattle.vme_audit.specs.Allowances.{faults, is_allowed, unreadables, wrongs}
+use Rattle.vme_audit.specs.Counted.{counts}
+use Rattle.vme_audit.specs.Covered.{answered, any_of, gap, hang, hang_from, is_judged_part, never_idle, outcome}
+use Rattle.vme_audit.specs.Parts.{Part, breaks, last_part, named_break}
+use Rattle.vme_audit.specs.declared.allowance.Allowance.{Allowance}
+use Rattle.vme_audit.specs.declared.outcome.CoverageGap.{CoverageGap}
+use Rattle.vme_audit.specs.declared.outcome.CoverageGap.TheVariants.{FewAnswers, NeverIdle}
+use Rattle.vme_audit.specs.declared.outcome.Outcome.{Outcome}
+use Rattle.vme_audit.specs.declared.outcome.Outcome.TheVariants.{Broken, Conforming, NotCovered, Unreadable}
+use Rattle.vme_auditor.proofs.WholeRecordings.{no_breaks, none_named, unbroken_verdict}
+
+-- an outcome, by whether breaks are wrong, whether they are unreadable, the gap and how many breaks are allowed
+abbrev chosen : Bool → Bool → Option CoverageGap → ℕ → Outcome
+chosen wrong unreadable gap allowed =
+    cond wrong Broken (cond unreadable Unreadable (option_map_or NotCovered gap (Conforming allowed)))
+
+conforms_none : (wrong unreadable : Bool) (gap : Option CoverageGap) (n : ℕ)
+    → chosen wrong unreadable gap (suc n) ≡ Conforming 0 → ⊥
+conforms_none true unreadable gap n e = absurd (cc)
+conforms_none false true gap n e = absurd (cc)
+conforms_none false false None n e = absurd (cc)
+conforms_none false false (Some g) n e = absurd (cc)
+
+conforms_wrong : (unreadable : Bool) (gap : Option CoverageGap) (n : ℕ) → chosen true unreadable gap n ≡ Conforming 0
+    → ⊥
+conforms_wrong unreadable gap n e = absurd (cc)
+
+conforms_unreadable : (wrong : Bool) (gap : Option CoverageGap) (n : ℕ) → chosen wrong true gap n ≡ Conforming 0 → ⊥
+conforms_unreadable true gap n e = absurd (cc)
+conforms_unreadable false gap n e = absurd (cc)
+
+conforms_gap : (wrong unreadable : Bool) (gap : Option CoverageGap) (n m : ℕ)
+    → chosen wrong unreadable gap n ≡ Conforming m → gap ≡ None
+conforms_gap true unreadable gap n m e = absurd (cc)
+conforms_gap false true gap n m e = absurd (cc)
+conforms_gap false false None n m e = refl
+conforms_gap false false (Some g) n m e = absurd (cc)
+
+uncovered_gap : (wrong unreadable : Bool) (gap : Option CoverageGap) (n : ℕ) (g : CoverageGap)
+    → chosen wrong unreadable gap n ≡ NotCovered g → gap ≡ Some g
+uncovered_gap true unreadable gap n g e = absurd (cc)
+uncovered_gap false true gap n g e = absurd (cc)
+uncovered_gap false false None n g e = absurd (cc)
+uncovered_gap false false (Some h) n g e = ap named e
+  where
+    named : Outcome → Option CoverageGap
+    named (Conforming allowed) = None
+    named (NotCovered gap) = Some gap
+    named Broken = None
+    named Unreadable = None
+
+-- each break is wrong, unreadable or allowed
+module _ (allowances : List Allowance) (gap : Option CoverageGap) where
+  abbrev of_breaks : List Break → Outcome
+  of_breaks bs =
+      chosen (any_of (wrongs allowances bs)) (any_of (unreadables allowances bs)) gap
+      (length (filter (is_allowed allowances) bs))
+
+  module _ (b : Break) (bs : List Break) where
+    abbrev by_tests : Bool → Bool → Outcome
+    by_tests allowed unreadable =
+        let kept = cond (not allowed) (b ∷ faults allowances bs) (faults allowances bs) in
+        chosen (any_of (filter (λ b. not (is_unreadable b.rule)) kept))
+        (any_of (filter (λ b. is_unreadable b.rule) kept))
+        gap (length (cond allowed (b ∷ filter (is_allowed allowances) bs) (filter (is_allowed allowances) bs)))
+
+    none_conforms : (allowed unreadable : Bool) → is_unreadable b.rule ≡ unreadable
+        → by_tests allowed unreadable ≡ Conforming 0 → ⊥
+    none_conforms true unreadable e same =
+        conforms_none _ _ gap (length (filter (is_allowed allowances) bs)) same
+    none_conforms false true e same =
+        conforms_unreadable (any_of (filter (λ b. not (is_unreadable b.rule)) (b ∷ faults allowances bs))) gap
+        (length (filter (is_allowed allowances) bs)) (sym (unreadable_first e) ∙ same)
+      where
+        unreadable_first : is_unreadable b.rule ≡ true → by_tests false true
+            ≡ chosen (any_of (filter (λ b. not (is_unreadable b.rule)) (b ∷ faults allowances bs))) true gap
+            (length (filter (is_allowed allowances) bs))
+        unreadable_first e = rw e refl
+    none_conforms false false e same =
+        conforms_wrong (any_of (filter (λ b. is_unreadable b.rule) (b ∷ faults allowances bs))) gap
+        (length (filter (is_allowed allowances) bs)) (sym (wrong_first e) ∙ same)
+      where
+        wrong_first : is_unreadable b.rule ≡ false → by_tests false false
+            ≡ chosen true (any_of (filter (λ b. is_unreadable b.rule) (b ∷ faults allowances bs))) gap
+            (length (filter (is_allowed allowances) bs))
+        wrong_first e = rw e refl
+
+  unbroken : (bs : List Break) → of_breaks bs ≡ Conforming 0 → bs ≡ []
+  unbroken [] e = refl
+  unbroken (b ∷ bs) e = absurd (none_conforms b bs (is_allowed allowances b) (is_unreadable b.rule) refl e)
+
+-- where there is no gap, something is judged
+judged_by : (judged few : Bool) (first second : CoverageGap) (third : Option CoverageGap)
+    → cond (not judged) (Some first) (cond few (Some second) third) ≡ None → judged ≡ true
+judged_by true few first second third e = refl
+judged_by false few first second third e = absurd (cc)
+
+-- if the gap is "never idle", there is no break
+never_idle_has_no_breaks : (bs : List Break) → never_idle bs ≡ NeverIdle → bs ≡ []
+never_idle_has_no_breaks [] e = refl
+never_idle_has_no_breaks (b ∷ bs) e = absurd (is_other_gap bs b e)
+  where
+    is_other_gap : (bs : List Break) (b : Break) → never_idle (b ∷ bs) ≡ NeverIdle → ⊥
+    is_other_gap [] b e = absurd (cc)
+    is_other_gap (c ∷ cs) b e = is_other_gap cs c e
+
+module _ (p : Part) where
+  idle_by : (judged few : Bool) (bs : List Break) (answers wanted : ℕ) (h : Option ℕ)
+      → cond (not judged) (Some (never_idle bs))
+      (cond few (Some (FewAnswers answers wanted)) (option_map (hang_from p) h))
+      ≡ Some NeverIdle → (judged ≡ false) × (bs ≡ [])
+  idle_by false few bs answers wanted h e = (refl, never_idle_has_no_breaks bs (same_value (never_idle bs) NeverIdle e))
+  idle_by true true bs answers wanted h e = absurd (cc)
+  idle_by true false bs answers wanted None e = absurd (cc)
+  idle_by true false bs answers wanted (Some start) e = absurd (cc)
+
+module _ (allowances : List Allowance) (wanted : ℕ) (t : Trace) where
+  pub conforming_is : outcome allowances wanted t ≡ Conforming 0 → verdict t ≡ verdict_is.Conforming
+  unfolding outcome gap
+  conforming_is e =
+      let none = unbroken allowances (gap wanted t) (breaks t) e in
+      let whole = conforms_gap _ _ (gap wanted t) _ 0 e in
+      unbroken_verdict t (none_named t none)
+      ∙ ap (λ b. cond b verdict_is.Conforming verdict_is.NeverIdle)
+      (judged_by (is_judged_part (last_part t)) (nat_lt (answered (counts t)) wanted) (never_idle (breaks t))
+      (FewAnswers (answered (counts t)) wanted) (option_map (hang_from (last_part t)) (hang t)) whole)
+
+  pub never_idle_is : outcome allowances wanted t ≡ NotCovered NeverIdle → verdict t ≡ verdict_is.NeverIdle
+  unfolding outcome gap
+  never_idle_is e =
+      let idle = idle_by (last_part t) (is_judged_part (last_part t)) _ (breaks t) (answered (counts t)) wanted (hang t)
+      (uncovered_gap _ _ (gap wanted t) _ NeverIdle e) in
+      unbroken_verdict t (none_named t idle.1)
+      ∙ ap (λ b. cond b verdict_is.Conforming verdict_is.NeverIdle) idle.0
+
+  pub never_idle_outcome : verdict t ≡ verdict_is.NeverIdle → outcome allowances wanted t ≡ NotCovered NeverIdle
+  unfolding outcome gap
+  never_idle_outcome e =
+      let none = ap named_break e in
+      rw (no_breaks t none, unjudged (is_judged_part (last_part t)) (sym (unbroken_verdict t none) ∙ e)) refl
+    where
+      unjudged : (b : Bool) → cond b verdict_is.Conforming verdict_is.NeverIdle ≡ verdict_is.NeverIdle → b ≡ false
+      unjudged true e = absurd (cc)
+      unjudged false e = refl

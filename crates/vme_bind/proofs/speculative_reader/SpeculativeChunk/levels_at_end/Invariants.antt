@@ -1,0 +1,5 @@
+use Rattle.vme_bind.proofs.AssignedLineLemmas.{AreLevelsAfterBelow}
+use Rattle.vme_bind.proofs.speculative_reader.SpeculativeChunk.levels_at_end.Given as goal
+
+abbrev pub invariant-loop-number : goal.invariant-loop-number
+invariant-loop-number l = AreLevelsAfterBelow l.self l.levels l.number l.behind

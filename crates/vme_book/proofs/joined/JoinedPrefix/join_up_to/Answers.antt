@@ -1,0 +1,118 @@
+-- The next block has its span, and it joins the blocks before it.
+use Rattle.std.proofs.Common.{arith, ◌≡◌, ℕ, ◌+◌, [], ◌∷◌, ◌++◌, length, length-append}
+use Rattle.std.proofs.Common.{Some, sym, ◌∙◌, ap, subst, set, Option}
+use Rattle.vme_summary.specs.Stands.{SpanStandsFor}
+use Rattle.vme_summary.specs.declared.span.Span.{Span}
+use Rattle.vme_summary.proofs.Progressing.{span_steps}
+use Rattle.vme_book.specs.Inserted.{stored}
+use Rattle.vme_book.specs.BookState.{HaveSpans, StandsForSome}
+use Rattle.vme_book.proofs.Prefixes.{joined_after, next_of, no_span, one_more, own_span, found_at, put_back}
+use Rattle.vme_book.proofs.Prefixes.{shorter_joins, spans_after, steps_fit, within_places}
+use Rattle.vme_book.proofs.joined.JoinedPrefix.join_up_to.Goals as goal
+
+pub unreachable-requires : goal.unreachable-requires
+unreachable-requires c =
+    let blocks = c.args.places.now.blocks.items in
+    let spans = c.loop-number.places.spans.items in
+    let n = c.loop-number.number in
+    let inv = c.loop-number.invariant in
+    let at = inv.at in
+    let prefix = c.requires.prefix in
+    let long = prefix.2 in
+    let b = next_of blocks prefix.0 n prefix.1.there (omega arith) in
+    no_span blocks spans c.loop-number.self.count n b.0 c.index_mut.result.now inv.waiting (omega arith) b.1
+    c.index_mut.ensures.value (sym c.take.ensures.value ∙ c.in_default.is)
+
+pub push-requires-clause-few : goal.push-requires-clause-few
+push-requires-clause-few c =
+    let blocks = c.args.places.now.blocks.items in
+    let spans = c.loop-number.places.spans.items in
+    let n = c.loop-number.number in
+    let inv = c.loop-number.invariant in
+    let at = inv.at in
+    let prefix = c.requires.prefix in
+    let long = prefix.2 in
+    let b = next_of blocks prefix.0 n prefix.1.there (omega arith) in
+    let stands = own_span blocks spans c.loop-number.self.count n b.0 c.index_mut.result.now c.in-Some.span inv.waiting
+    (omega arith) b.1 c.index_mut.ensures.value (sym c.take.ensures.value ∙ c.in-Some.is) in
+    let xs = inv.joined.0 in
+    let joined = inv.joined.1 in
+    let there : stored blocks (length xs) ≡ Some b.0 = ap (λ (k : ℕ). stored blocks k) (joined.count ∙ at) ∙ b.1 in
+    λ t e.
+    let before : SpanStandsFor t xs = subst (λ (o : Option Span). StandsForSome o xs) e joined.stands in
+    steps_fit blocks xs b.0 _ _ c.requires.placed joined.there there (span_steps t xs before)
+    (span_steps c.in-Some.span (b.0 ∷ []) stands)
+
+pub push-requires-clause-joins : goal.push-requires-clause-joins
+push-requires-clause-joins c =
+    let blocks = c.args.places.now.blocks.items in
+    let spans = c.loop-number.places.spans.items in
+    let n = c.loop-number.number in
+    let inv = c.loop-number.invariant in
+    let at = inv.at in
+    let prefix = c.requires.prefix in
+    let long = prefix.2 in
+    let b = next_of blocks prefix.0 n prefix.1.there (omega arith) in
+    let stands = own_span blocks spans c.loop-number.self.count n b.0 c.index_mut.result.now c.in-Some.span inv.waiting
+    (omega arith) b.1 c.index_mut.ensures.value (sym c.take.ensures.value ∙ c.in-Some.is) in
+    let xs = inv.joined.0 in
+    let joined = inv.joined.1 in
+    let there : stored blocks (length xs) ≡ Some b.0 = ap (λ (k : ℕ). stored blocks k) (joined.count ∙ at) ∙ b.1 in
+    let more = one_more blocks xs b.0 joined.there there in
+    let count = joined.count in (
+      xs,
+      b.0,
+      joined.stands,
+      stands,
+      shorter_joins blocks (xs ++ b.0 ∷ []) prefix.0 more prefix.1
+          (omega (arith, length-append xs (b.0 ∷ []))),
+    )
+
+pub returns-in-Err-clause-waiting : goal.returns-in-Err-clause-waiting
+returns-in-Err-clause-waiting c =
+    let blocks = c.args.places.now.blocks.items in
+    let spans = c.loop-number.places.spans.items in
+    let n = c.loop-number.number in
+    let inv = c.loop-number.invariant in
+    let at = inv.at in
+    let prefix = c.requires.prefix in
+    let long = prefix.2 in
+    let b = next_of blocks prefix.0 n prefix.1.there (omega arith) in
+    let own = inv.waiting.each n b.0 (omega arith) b.1 in
+    let many = inv.waiting.as_many in
+    let below = within_places blocks n b.0 b.1 in
+    let back : c.in-Err.span ≡ c.in-Some.span = c.in-Err.ensures.handed_back in
+    let there = found_at spans n c.index_mut.result.now c.in-Err.span (omega arith) c.index_mut.ensures.value
+    (sym c.take.ensures.value ∙ c.in-Some.is ∙ sym (ap Some back)) in
+    let kept : c.push.new.self.count ≡ c.loop-number.self.count = c.in-Err.ensures.same in
+    subst (λ (k : ℕ). HaveSpans blocks (set (set spans n c.take.new.self) n (Some c.in-Err.span)) k) (sym kept)
+    (put_back blocks spans n c.loop-number.self.count c.take.new.self c.in-Err.span inv.waiting there)
+
+pub loop-number-preserved : goal.loop-number-preserved
+loop-number-preserved c =
+    let blocks = c.args.places.now.blocks.items in
+    let spans = c.loop-number.places.spans.items in
+    let n = c.loop-number.number in
+    let inv = c.loop-number.invariant in
+    let at = inv.at in
+    let prefix = c.requires.prefix in
+    let long = prefix.2 in
+    let b = next_of blocks prefix.0 n prefix.1.there (omega arith) in
+    let stands = own_span blocks spans c.loop-number.self.count n b.0 c.index_mut.result.now c.in-Some.span inv.waiting
+    (omega arith) b.1 c.index_mut.ensures.value (sym c.take.ensures.value ∙ c.in-Some.is) in
+    let xs = inv.joined.0 in
+    let joined = inv.joined.1 in
+    let there : stored blocks (length xs) ≡ Some b.0 = ap (λ (k : ℕ). stored blocks k) (joined.count ∙ at) ∙ b.1 in
+    let more : c.push.new.self.count ≡ c.loop-number.self.count + 1 = c.in_default-push.ensures.more in
+    let next : c.push.new.self.count ≡ n + 1 = more ∙ ap (λ (k : ℕ). k + 1) at in
+    let waiting : HaveSpans blocks spans n = subst (λ (k : ℕ). HaveSpans blocks spans k) at inv.waiting in
+    record {
+      at = next;
+      blocks = inv.blocks;
+      waiting = spans_after blocks spans n c.push.new.self.count c.take.new.self waiting next;
+      joined = (
+        xs ++ b.0 ∷ [],
+        joined_after blocks c.loop-number.self c.push.new.self xs b.0 joined (ap (λ (k : ℕ). stored blocks k) at ∙ b.1)
+            more (c.in_default-push.ensures.pushed xs b.0 joined.stands stands),
+      );
+    }

@@ -1,7 +1,0 @@
-use Rattle.std.proofs.Common.{List}
-use Rattle.vme_trace.specs.declared.block.Block.{Block}
-use Rattle.vme_book.specs.BookState.{IsPast}
-use Rattle.vme_book.proofs.places.BookSlots.judged_on.Given as goal
-
-abbrev pub invariant-loop-number : goal.invariant-loop-number
-invariant-loop-number l = (bs : List Block) × IsPast l.self.blocks.items l.progress l.number bs

@@ -1,0 +1,30 @@
+-- The first time is read, and then the definitions are taken.
+use Rattle.std.proofs.Common.{List, ℕ, ap, arith, length, length-append, subst, sym, ◌∙◌}
+use Rattle.vme_dump_input.specs.BufferedInputs.{InputSoFar, IsReadOn}
+use Rattle.vme_part_command.specs.FileReadings.{IsAtFile}
+use Rattle.vme_part_command.proofs.FileLemmas.{file-behind}
+use Rattle.vme_part_command.proofs.FoundLemmas.{dump-refused}
+use Rattle.vme_part_command.proofs.file_body.part_after_definitions.Goals as goal
+
+pub take_first-requires : goal.take_first-requires
+take_first-requires g c =
+    let on : IsReadOn c.args.input.now c.read_start.new.input = c.in-Ok.ensures.on in
+    omega (arith, c.requires.held, ap (λ (l : List ℕ). length l) on.held, length-append c.args.input.now.held on.more)
+
+pub returns-in-Ok : goal.returns-in-Ok
+returns-in-Ok g c bound old at limit =
+    let number = c.args.options.number in
+    let start = c.in-Ok.start in
+    let now = g.D.Source.reading c.read_start.new.dump in
+    let input = c.read_start.new.input in
+    let (read, starts) = c.in-Ok.ensures.told old at.read limit in
+    c.part_of_body.ensures bound old
+    (subst (λ (i : InputSoFar). IsAtFile bound number start old now i c.args.reader) (sym c.take_first.ensures)
+    (file-behind bound number start old (g.D.Source.reading c.args.dump.now) now c.args.input.now input c.args.reader
+    c.args.count at c.in-Ok.ensures.on read starts))
+    (ap (λ (i : InputSoFar). i.limit) c.take_first.ensures ∙ c.read_start.ensures.limit ∙ limit)
+
+pub returns-in-Err : goal.returns-in-Err
+returns-in-Err g c bound old at limit =
+    dump-refused c.args.options bound old (g.D.Source.reading c.read_start.new.dump) c.in-Err.refusal
+    (c.in-Err.ensures.told old at.read limit)
