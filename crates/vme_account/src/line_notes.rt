@@ -5,9 +5,9 @@ ghost use Rattle.vme_account.specs.Idle.{rests_high};
 
 use vme_trace::{Change, LINE_COUNT, Level, Line, Lines};
 
-/// A set of lines: for each, by its number, whether it is in the set.
+/// A set of lines: a flag for each, by its number, says whether it is in the set.
 #[derive(Clone, Copy, Debug, PartialEq, Eq)]
-pub(crate) struct LineSet {
+pub(crate) struct LineFlags {
     lines: [bool; LINE_COUNT as usize],
 }
 
@@ -31,17 +31,17 @@ pub(crate) fn is_idle_level(line: Line, level: Level) -> bool {
 #[derive(Clone, Copy, Debug, PartialEq, Eq)]
 pub(crate) struct LineNotes {
     /// The lines that moved since judging started first.
-    pub moved: LineSet,
+    pub moved: LineFlags,
     /// The lines that were at some time as an idle bus has them, before judging started.
-    pub idle_levels: LineSet,
+    pub idle_levels: LineFlags,
 }
 
 impl LineNotes {
     /// The notes before the first step.
     pub fn at_opening(opening: &Lines) -> LineNotes {
         LineNotes {
-            moved: LineSet::none(),
-            idle_levels: LineSet::idle_in(opening),
+            moved: LineFlags::none(),
+            idle_levels: LineFlags::idle_in(opening),
         }
     }
 
@@ -55,17 +55,17 @@ impl LineNotes {
     }
 }
 
-impl LineSet {
+impl LineFlags {
     /// No line.
-    fn none() -> LineSet {
-        LineSet {
+    fn none() -> LineFlags {
+        LineFlags {
             lines: [false; LINE_COUNT as usize],
         }
     }
 
     /// The lines that are as an idle bus has them.
-    fn idle_in(lines: &Lines) -> LineSet {
-        let mut idle = LineSet::none();
+    fn idle_in(lines: &Lines) -> LineFlags {
+        let mut idle = LineFlags::none();
         for number in 0..LINE_COUNT {
             if let Some(line) = Line::from_number(number) {
                 if lines.has(line) && is_idle_level(line, lines.level(line)) {

@@ -15,11 +15,11 @@ use crate::open_rows::OpenRows;
 use crate::source::RowSource;
 use crate::state::{Cycle, State, Transfer};
 use vme_listing::{AnswerLine, Direction, Row};
-use vme_trace::{Class, Lanes, Line, Lines, NeededLines, am_class, am_code, moved_data, needed};
+use vme_trace::{Class, Lanes, Line, LineSet, Lines, am_class, am_code, moved_data, needed};
 
 /// The address on the address lines in `needs`, those of a cycle that starts with the levels `lines`. A high line is 1,
 /// any other is 0.
-fn address_on(lines: &Lines, needs: NeededLines) -> u32
+fn address_on(lines: &Lines, needs: LineSet) -> u32
     requires { needs ≡ needs_of lines.now }
     ensures { result ≡ address_to lines.now (needs_of lines.now).highest }
 {

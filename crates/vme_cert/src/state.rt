@@ -11,7 +11,7 @@ ghost use Rattle.vme_cert.specs.declared.bus.Bus.{Bus};
 ghost use Rattle.vme_cert.specs.declared.state.State.{State};
 
 use crate::bus::Bus;
-use vme_trace::{Class, Line, NeededLines, am_class, needed};
+use vme_trace::{Class, Line, LineSet, am_class, needed};
 
 /// The last cycle to start, if `has_started`.
 #[derive(Clone, Copy)]
@@ -19,7 +19,7 @@ pub(crate) struct Cycle {
     pub(crate) has_started: bool,
     pub(crate) start: u32,
     pub(crate) class: Class,
-    pub(crate) needs: NeededLines,
+    pub(crate) needs: LineSet,
     /// AS* hasn't risen since its start.
     pub(crate) runs: bool,
     /// It was answered.

@@ -17,7 +17,7 @@ use vme_monitor::mark::Fault;
 use vme_trace::edges::{
     answer_falls, falls, has_strobes_high, rises, starts_transfer, strobe_falls, strobe_rises,
 };
-use vme_trace::{Change, Line, Lines, NeededLines, Rule, is_selected, needed};
+use vme_trace::{Change, Line, LineSet, Lines, Rule, is_selected, needed};
 
 /// The observation of one step.
 #[derive(Clone, Copy, Debug)]
@@ -91,7 +91,7 @@ fn fault_of_unknown(before: &Lines, after: &Lines) -> Option<Fault>
 }
 
 /// The first changed line of a set.
-fn first_needed(needed: &NeededLines, changes: &[Change]) -> Option<Line>
+fn first_needed(needed: &LineSet, changes: &[Change]) -> Option<Line>
     ensures { result ≡ first_needed_of needed.now changes.now }
 {
     for change in changes {

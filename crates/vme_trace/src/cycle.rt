@@ -9,12 +9,12 @@ use std::marker::Model;
 
 /// The lines that a cycle needs: IACK*, the address lines up to a highest one, and perhaps AM0 to AM5 and LWORD*.
 #[derive(Clone, Copy, Debug, PartialEq, Eq)]
-pub struct NeededLines {
+pub struct LineSet {
     has_modifier: bool,
     highest_address: u8,
 }
 
-impl Model for NeededLines {
+impl Model for LineSet {
     ghost use Rattle.vme_trace.specs.Cycle.{Needs};
 
     ghost Value = { Needs };
@@ -28,7 +28,7 @@ impl Model for NeededLines {
     ghost inverse = { λ v. record { has_modifier = v.modifier; highest_address = v.highest } };
 }
 
-impl NeededLines {
+impl LineSet {
     ghost use Rattle.vme_trace.specs.Cycle.{is_within};
 
     /// Whether the line is in the set.
@@ -158,19 +158,19 @@ pub fn am_class(lines: &Lines) -> Class
 /// The lines that a cycle whose address strobe falls at these levels needs: they are known then, and stay
 /// as they are to the cycle's first answer.
 #[tactic(auto, unfolding(crate::specs::Cycle::needs_of))]
-pub fn needed(lines: &Lines) -> NeededLines
+pub fn needed(lines: &Lines) -> LineSet
     ensures { result ≡ needs_of lines.now }
 {
     match am_class(lines) {
-        Class::I => NeededLines {
+        Class::I => LineSet {
             has_modifier: false,
             highest_address: 3,
         },
-        Class::F => NeededLines {
+        Class::F => LineSet {
             has_modifier: true,
             highest_address: 0,
         },
-        Class::S | Class::K => NeededLines {
+        Class::S | Class::K => LineSet {
             has_modifier: true,
             highest_address: highest_address(am_code(lines)),
         },

@@ -72,7 +72,7 @@ pub mod verdict;
 pub use block::{Block, Malformed};
 pub use capture::{Capture, CutFault};
 pub use class::Class;
-pub use cycle::{NeededLines, Space, am_class, am_code, is_block, needed};
+pub use cycle::{LineSet, Space, am_class, am_code, is_block, needed};
 pub use data::{Lanes, MovedBytes, is_selected, moved_data};
 pub use level::Level;
 pub use line::{CHAIN_NETS, LINE_COUNT, Line, MOST_SLOTS};

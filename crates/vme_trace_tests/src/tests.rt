@@ -1,7 +1,7 @@
 use smallvec::SmallVec;
 use std::alloc::{AllocError, Global};
 use vme_trace::{
-    Block, Capture, Change, Changes, Class, CutFault, LINE_COUNT, Level, Line, Lines, NeededLines,
+    Block, Capture, Change, Changes, Class, CutFault, LINE_COUNT, Level, Line, LineSet, Lines,
     Rule, Step, Steps, am_class, am_code, is_selected, needed,
 };
 
@@ -369,7 +369,7 @@ fn lines_of_code(code: u8) -> Option<Lines> {
 }
 
 /// The highest address line of a set, or 0.
-fn highest_address_of(set: &NeededLines) -> u8 {
+fn highest_address_of(set: &LineSet) -> u8 {
     let mut highest = 0;
     for bit in 1..32 {
         if set.has(Line::address(bit)) {
