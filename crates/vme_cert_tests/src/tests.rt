@@ -360,7 +360,7 @@ fn listing_text(alloc: Global, lines: &str) -> Result<Vec<u8>, Fail> {
 
 fn rows_of(alloc: Global, text: &[u8]) -> Result<Vec<Row>, Fail> {
     let listing = read_listing(alloc, text);
-    Ok(Vec::from_slice(alloc, listing.ok().ok_or("no listing")?.rows())?)
+    Ok(listing.ok().ok_or("no listing")?.into_rows())
 }
 
 /// The answer to a text. If memory is short once, the text is compared again.

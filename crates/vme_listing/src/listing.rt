@@ -45,6 +45,14 @@ impl Listing {
     {
         self.rows.as_slice()
     }
+
+    /// The vector of the rows.
+    pub fn into_rows(self) -> Vec<Row>
+        ensures { result.items ≡ self.rows }
+    {
+        let Listing { version: _, rows } = self;
+        rows
+    }
 }
 
 /// The listing of every recording, in each version that can have its rows, is well placed, so that

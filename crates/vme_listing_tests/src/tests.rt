@@ -466,6 +466,30 @@ fn has_row(alloc: Global, text: &[u8], place: usize, row: &Row) -> bool {
     }
 }
 
+/// Whether a text is a listing whose vector, taken out of it, has the rows `rows`.
+fn gives_rows_back(alloc: Global, text: &[u8], rows: &[Row]) -> bool {
+    match read(alloc, text) {
+        Ok(listing) => {
+            let given = listing.into_rows();
+            given.as_slice() == rows
+        }
+        Err(_) => false,
+    }
+}
+
+/// A listing gives the vector of its rows back, in their order.
+#[test]
+fn rows_given_back(rt: HostRuntime) {
+    let rows = [
+        START,
+        tenure(5, 2, Some(14)),
+        cycle(9, 0x39, 0xFFFFDE, Some(12)),
+        transfer(10, 9, Direction::Read, 11, 12),
+        CONFORMING,
+    ];
+    assert!(rt; gives_rows_back(rt.alloc(), WORKED, &rows));
+}
+
 /// The data of a write, as it is read.
 #[test]
 fn read_data(rt: HostRuntime) {
