@@ -357,6 +357,23 @@ fn gates_are_told(rt: HostRuntime) -> Result<(), Fail> {
     Ok(())
 }
 
+/// Whether each of three deliveries was filed, and they made the whole read.
+fn is_whole_read(told: &RunOutcome) -> bool {
+    told.outcome == CONFORMING
+        && told.steps == 14
+        && told.answers.as_slice() == [Answer::Filed; 3].as_slice()
+        && told.listing.as_slice() == READ_ROWS.as_bytes()
+}
+
+/// Asserts that a run on these three deliveries by three workers makes the whole read.
+fn assert_read<R: Threads + Wait + Abort + Sync>(rt: &R, alloc: Global, deliveries: &[Block]) {
+    let Some(told) = told_of(rt, alloc, deliveries, 3, 3) else {
+        panic!(rt; "not told")
+    };
+    assert!(rt; is_whole_read(&told));
+}
+
+/// Three blocks in each of their six orders, a hundred times: each run has the same answers, verdict and listing.
 #[test]
 fn every_order(rt: HostRuntime) -> Result<(), Fail> {
     for order in [
@@ -368,8 +385,8 @@ fn every_order(rt: HostRuntime) -> Result<(), Fail> {
         [2, 1, 0],
     ] {
         let deliveries = picked_of(rt.alloc(), 5, &order).ok_or("no blocks")?;
-        for _ in 0..25 {
-            assert_listed(&rt, rt.alloc(), &deliveries, 3, 3, 14, READ_ROWS);
+        for _ in 0..100 {
+            assert_read(&rt, rt.alloc(), &deliveries);
         }
     }
     Ok(())
