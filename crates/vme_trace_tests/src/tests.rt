@@ -529,6 +529,81 @@ fn blocks_of_a_read(rt: HostRuntime) {
     assert!(rt; is_read_cut(rt.alloc()) == Some(true));
 }
 
+/// A step at which AS falls at an odd time, and rises at an even one.
+fn toggle(alloc: Global, time: u64) -> Result<Step, AllocError> {
+    let mut changes = SmallVec::new(alloc);
+    let level = if time % 2 == 0 { HIGH } else { LOW };
+    changes.push(Change {
+        line: Line::AS,
+        level,
+    })?;
+    Ok(Step {
+        time,
+        changes: Changes::new(changes),
+    })
+}
+
+/// A recording of `count` steps, at which AS rises and falls in turn.
+fn toggles(alloc: Global, count: u64) -> Option<Capture> {
+    let mut steps = Vec::new(alloc);
+    for time in 0..count {
+        steps.push(toggle(alloc, time).ok()?).ok()?;
+    }
+    Capture::new(dump_lines()?, steps).ok()
+}
+
+/// How many blocks of `size` steps a recording of `count` steps is cut into, or why it isn't cut.
+fn cut_of(alloc: Global, count: u64, size: u32) -> Option<Result<usize, CutFault>> {
+    let capture = toggles(alloc, count)?;
+    match capture.cut(alloc, size) {
+        Ok(blocks) => Some(Ok(blocks.len())),
+        Err(fault) => Some(Err(fault)),
+    }
+}
+
+/// Whether a recording of `count` steps is cut into `wanted` blocks of `size` steps.
+fn is_cut_into(alloc: Global, count: u64, size: u32, wanted: usize) -> bool {
+    match cut_of(alloc, count, size) {
+        Some(Ok(blocks)) => blocks == wanted,
+        _ => false,
+    }
+}
+
+/// Whether a recording of `count` steps isn't cut into blocks of `size` steps, for the fault `wanted`.
+fn is_not_cut_for(alloc: Global, count: u64, size: u32, wanted: CutFault) -> bool {
+    match cut_of(alloc, count, size) {
+        Some(Err(fault)) => fault == wanted,
+        _ => false,
+    }
+}
+
+/// How many steps a recording has, the size of its blocks, and how many blocks there are.
+static CUT: [(u64, u32, usize); 4] = [
+    (4096, 1, 4096),
+    (4097, 2, 2049),
+    (4097, 65536, 1),
+    (0, 1, 1),
+];
+
+/// How many steps a recording has, the size of its blocks, and why it isn't cut.
+static NOT_CUT: [(u64, u32, CutFault); 4] = [
+    (4097, 1, CutFault::TooManyBlocks),
+    (4097, 0, CutFault::BadSize),
+    (4097, 65537, CutFault::BadSize),
+    (0, 0, CutFault::BadSize),
+];
+
+/// Blocks have 1 to 65,536 steps, and there are 4,096 of them at most. Without steps there is one.
+#[test]
+fn cuts(rt: HostRuntime) {
+    for (count, size, blocks) in CUT.iter() {
+        assert!(rt; is_cut_into(rt.alloc(), *count, *size, *blocks));
+    }
+    for (count, size, fault) in NOT_CUT.iter() {
+        assert!(rt; is_not_cut_for(rt.alloc(), *count, *size, *fault));
+    }
+}
+
 /// Whether a cut makes `count` blocks, or memory is refused.
 fn is_cut_or_refused(alloc: Global, capture: &Capture, size: u32, count: usize) -> bool {
     match capture.cut(alloc, size) {
