@@ -624,6 +624,80 @@ fn span_of(alloc: Global, blocks: Vec<Block>) -> Option<Span> {
     all
 }
 
+/// `span` and then the span of those after it, if any.
+fn added_before(alloc: Global, span: Span, all: Option<Span>) -> Option<Span> {
+    match all {
+        None => Some(span),
+        Some(after) => joined(alloc, &span, &after),
+    }
+}
+
+/// The spans of blocks, joined from the right.
+fn span_from_right(alloc: Global, blocks: Vec<Block>) -> Option<Span> {
+    let mut all = None;
+    for block in blocks.into_iter().rev() {
+        let span = judged(alloc, block)?.into_parts().1;
+        all = Some(added_before(alloc, span, all)?);
+    }
+    all
+}
+
+/// The spans of blocks, in their order.
+fn spans_of(alloc: Global, blocks: Vec<Block>) -> Option<Vec<Span>> {
+    let mut spans = Vec::new(alloc);
+    for block in blocks {
+        let span = judged(alloc, block)?.into_parts().1;
+        spans.push(span).ok()?;
+    }
+    Some(spans)
+}
+
+/// The first span joined with the second, the third with the fourth, and so on.
+fn paired(alloc: Global, spans: Vec<Span>) -> Option<Vec<Span>> {
+    let mut pairs = Vec::new(alloc);
+    let mut odd = None;
+    for span in spans {
+        odd = match odd {
+            None => Some(span),
+            Some(first) => {
+                let pair = joined(alloc, &first, &span)?;
+                pairs.push(pair).ok()?;
+                None
+            }
+        };
+    }
+    if let Some(last) = odd {
+        pairs.push(last).ok()?;
+    }
+    Some(pairs)
+}
+
+/// The spans of at most 32 blocks, joined by halves.
+fn span_by_halves(alloc: Global, blocks: Vec<Block>) -> Option<Span> {
+    let mut spans = spans_of(alloc, blocks)?;
+    for _ in 0..5 {
+        spans = paired(alloc, spans)?;
+    }
+    spans.pop()
+}
+
+/// How the spans of blocks are joined.
+#[derive(Clone, Copy)]
+enum Brackets {
+    FromLeft,
+    FromRight,
+    Halves,
+}
+
+/// The spans of at most 32 blocks, joined.
+fn span_in(alloc: Global, blocks: Vec<Block>, brackets: Brackets) -> Option<Span> {
+    match brackets {
+        Brackets::FromLeft => span_of(alloc, blocks),
+        Brackets::FromRight => span_from_right(alloc, blocks),
+        Brackets::Halves => span_by_halves(alloc, blocks),
+    }
+}
+
 /// Whether a span is that of a whole recording in blocks of one step, which conforms and has the listing `rows`.
 fn is_whole(alloc: Global, all: &Span, last: u32, rows: &str) -> bool {
     if all.first() != 0 {
@@ -642,17 +716,25 @@ fn is_whole(alloc: Global, all: &Span, last: u32, rows: &str) -> bool {
 }
 
 /// Whether a recording that is cut into single steps has the span of a whole recording that conforms.
-fn is_joined(alloc: Global, recording: &Worked, last: u32) -> Option<bool> {
+fn is_joined(alloc: Global, recording: &Worked, last: u32, brackets: Brackets) -> Option<bool> {
     let (start, text, _, rows) = recording;
     let blocks = capture_of(alloc, *start, text)?.cut(alloc, 1).ok()?;
-    let all = span_of(alloc, blocks)?;
+    let all = span_in(alloc, blocks, brackets)?;
     Some(is_whole(alloc, &all, last, rows))
 }
 
+/// Whether it has so in whatever brackets its steps are joined: from the left, from the right, and by halves.
+fn is_always_joined(alloc: Global, recording: &Worked, last: u32) -> bool {
+    is_joined(alloc, recording, last, Brackets::FromLeft).unwrap_or(false)
+        && is_joined(alloc, recording, last, Brackets::FromRight).unwrap_or(false)
+        && is_joined(alloc, recording, last, Brackets::Halves).unwrap_or(false)
+}
+
+/// A read of 14 steps, and a read that a reset leaves without an answer before another one, of 27.
 #[test]
 fn joined_spans(rt: HostRuntime) {
-    assert!(rt; is_joined(rt.alloc(), &CYCLES[0], 13).unwrap_or(false));
-    assert!(rt; is_joined(rt.alloc(), &RESETS[1], 26).unwrap_or(false));
+    assert!(rt; is_always_joined(rt.alloc(), &CYCLES[0], 13));
+    assert!(rt; is_always_joined(rt.alloc(), &RESETS[1], 26));
 }
 
 /// The recording of a read. After a failed allocation it is made again.
