@@ -6,7 +6,8 @@ use vme_chains::grant::Grant;
 use vme_monitor::mark::{Mark, MarkKind};
 use vme_trace::{Line, Rule};
 
-const TENURE: Recording = Recording {
+/// A read in a tenure of slot 2: 14 steps.
+pub(crate) const TENURE: Recording = Recording {
     slots: 3,
     opening: "",
     steps: "quiet;BR3=0;BG3.0=0;BG3.1=0;BBSY=0 BR3=1;BG3.0=1;BG3.1=1;AM1=0 AM2=0 A05=0;AS=0;DS0=0 DS1=0;DTACK=0;\

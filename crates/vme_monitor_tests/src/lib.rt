@@ -15,6 +15,8 @@
 //! - `grant_tests` and `acknowledge_tests`: a tenure, a grant that is taken twice (B2), one that
 //!   goes past the last slot (B4), a tenure that is open after a reset, an acknowledge along its
 //!   chain, and one that skips a slot (I1).
+//! - `stored_tests`: how many marks the summary of a read stores, against what summaries of one step
+//!   show.
 //!
 //! Not tried here: breaks of the other rules. Each is broken in a worked recording of vme_eval.
 #![tactic(auto)]
@@ -31,3 +33,5 @@ mod known_tests;
 mod recordings;
 #[cfg(test)]
 mod stability_tests;
+#[cfg(test)]
+mod stored_tests;

@@ -112,7 +112,7 @@ pub(crate) fn capture_of(alloc: Global, recording: &Recording) -> Option<Capture
     Capture::new(opening, steps).ok()
 }
 
-fn summary_of<M: Monitor>(alloc: Global, block: &Block) -> Option<M::Summary> {
+pub(crate) fn summary_of<M: Monitor>(alloc: Global, block: &Block) -> Option<M::Summary> {
     if let Err(_) = block.check() {
         return None;
     }
