@@ -1,10 +1,13 @@
-use smallvec::SmallVec;
 use std::alloc::Global;
 use vme_audit::{Allowance, Outcome};
 use vme_audit_lines::BreakCategory;
 use vme_auditor::{AuditBreak, BreakCounts};
 use vme_step_auditor::{AuditRules, CategorizedBreak, StepAuditor};
-use vme_trace::{Change, Changes, LINE_COUNT, Level, Line, Lines, Rule, Step};
+use vme_test_recordings::{opening_of, step_of};
+use vme_trace::{Line, Lines, Rule};
+
+/// Every line is High, except BBSY*.
+const OPENING: &str = "high BBSY=0";
 
 /// A strobe that becomes unknown, a stray answer, and a read with a second answer line: the changes of each step.
 static STEPS: [&str; 12] = [
@@ -31,56 +34,6 @@ static BREAKS: [KnownBreak; 3] = [
     (BreakCategory::Allowed, 3, 20, Rule::H4, "DTACK"),
     (BreakCategory::Broken, 9, 80, Rule::H5, "DTACK"),
 ];
-
-/// Sets a line to a level, if the backplane has it.
-fn put(lines: &mut Lines, line: Line, level: Level) {
-    if lines.has(line) {
-        lines.set(line, level);
-    }
-}
-
-/// Every line is High, except BBSY*.
-fn opening() -> Option<Lines> {
-    let mut opening = Lines::new(1)?;
-    for number in 0..LINE_COUNT {
-        put(&mut opening, Line::from_number(number)?, Level::High);
-    }
-    put(&mut opening, Line::BBSY, Level::Low);
-    Some(opening)
-}
-
-/// The change of a word, as AS=0.
-fn change_of(word: &str) -> Option<Change> {
-    let (name, level) = word.split_once('=')?;
-    let level = match level.as_bytes() {
-        [b'0'] => Level::Low,
-        [b'1'] => Level::High,
-        _ => Level::Unknown,
-    };
-    Some(Change {
-        line: Line::from_name(name.as_bytes())?,
-        level,
-    })
-}
-
-/// The changes of the words of a text.
-fn changes_of(alloc: Global, text: &str) -> Option<Vec<Change>> {
-    let mut changes = Vec::new(alloc);
-    for word in text.split_whitespace() {
-        changes.push(change_of(word)?).ok()?;
-    }
-    Some(changes)
-}
-
-/// The step of index `number`, with the changes of `text`. Steps are ten time units apart.
-fn step_of(alloc: Global, number: usize, text: &str) -> Option<Step> {
-    let changes = changes_of(alloc, text)?;
-    let list = SmallVec::from_slice(alloc, changes.as_slice()).ok()?;
-    Some(Step {
-        time: (number as u64).saturating_mul(10),
-        changes: Changes::new(list),
-    })
-}
 
 /// A known break with its category.
 fn told_of(told: &KnownBreak) -> Option<CategorizedBreak> {
@@ -110,14 +63,16 @@ fn are_first_breaks(told: &[CategorizedBreak]) -> bool {
     told.len() <= BREAKS.len()
 }
 
-/// Reads the steps, and adds the breaks that are returned to `told`.
+/// Reads the steps, which are ten time units apart, and adds the breaks that are returned to `told`.
 fn read_steps(
     alloc: Global,
+    opening: &Lines,
     auditor: &mut StepAuditor<'_>,
     told: &mut Vec<CategorizedBreak>,
 ) -> Option<()> {
     for (number, text) in STEPS.iter().enumerate() {
-        let step = step_of(alloc, number, text)?;
+        let time = (number as u64).saturating_mul(10);
+        let step = step_of(alloc, opening, time, text)?;
         if let Some(found) = auditor.take(&step).ok()? {
             told.push(found).ok()?;
         }
@@ -139,9 +94,10 @@ fn ended(alloc: Global, stop: Option<u64>) -> Option<EndedAudit> {
         allowances: &allowances,
         stop,
     };
-    let mut auditor = StepAuditor::new(&opening()?, rules);
+    let opening = opening_of(alloc, 1, OPENING)?;
+    let mut auditor = StepAuditor::new(&opening, rules);
     let mut told = Vec::new(alloc);
-    read_steps(alloc, &mut auditor, &mut told)?;
+    read_steps(alloc, &opening, &mut auditor, &mut told)?;
     if !are_first_breaks(told.as_slice()) {
         return None;
     }
