@@ -1,14 +1,11 @@
 use vme_audit::{CoverageGap, Outcome};
 use vme_trace::Rule;
 
-/// A recording, and the results of the second judge for it.
+/// A recording, in the notation of vme_test_recordings, and the results of the second judge for it.
 #[derive(Clone, Copy)]
 pub(crate) struct WorkedRecording {
     pub slots: u8,
-    /// The lines of the opening whose levels are known: each with its level, or every line but A24 to A31 (`quiet`), or
-    /// every line (`high`).
     pub opening: &'static str,
-    /// The steps, ten time units apart: the lines that change, with their new levels.
     pub steps: &'static str,
     /// Each break: its instant, its time, its rule and its line.
     pub breaks: &'static [(u64, u64, Rule, &'static str)],
@@ -43,7 +40,7 @@ pub(crate) static RECORDINGS: [WorkedRecording; 22] = [
     // idle, and nothing else
     WorkedRecording {
         slots: 3,
-        opening: "quiet",
+        opening: "high_but_A24_to_A31",
         steps: "",
         breaks: &[],
         counts: [0, 0, 0, 0, 0, 0, 0, 0, 0, 0, 0],
@@ -62,7 +59,7 @@ pub(crate) static RECORDINGS: [WorkedRecording; 22] = [
     WorkedRecording {
         slots: 3,
         opening: "",
-        steps: "quiet;BR3=0;BG3.0=0;BG3.1=0;BBSY=0 BR3=1;BG3.0=1;BG3.1=1;AM1=0 AM2=0 A05=0;AS=0;\
+        steps: "high_but_A24_to_A31;BR3=0;BG3.0=0;BG3.1=0;BBSY=0 BR3=1;BG3.0=1;BG3.1=1;AM1=0 AM2=0 A05=0;AS=0;\
             DS0=0 DS1=0;DTACK=0;AS=1 DS0=1 DS1=1;DTACK=1;BBSY=1",
         breaks: &[],
         counts: [0, 1, 1, 0, 0, 0, 1, 0, 1, 0, 0],
@@ -124,7 +121,7 @@ pub(crate) static RECORDINGS: [WorkedRecording; 22] = [
     // a reset amid a write, a break, a reset that is not judged, and one that is
     WorkedRecording {
         slots: 3,
-        opening: "quiet",
+        opening: "high_but_A24_to_A31",
         steps: "BBSY=0;AM1=0 WRITE=0;AS=0;DS0=0 DS1=0;SYSRESET=0;AS=1 DS0=1 DS1=1;SYSRESET=1;\
             DTACK=0;SYSRESET=0;DTACK=1 SYSRESET=1;BERR=0;BERR=1 SYSRESET=0;SYSRESET=1;SYSRESET=0;SYSRESET=1",
         breaks: &[
@@ -285,7 +282,7 @@ pub(crate) static RECORDINGS: [WorkedRecording; 22] = [
     // grants are passed on through three slots
     WorkedRecording {
         slots: 3,
-        opening: "quiet",
+        opening: "high_but_A24_to_A31",
         steps: "BR3=0;BG3.0=0;BG3.1=0;BG3.2=0;BG3.3=0;BBSY=0 BR3=1;BG3.0=1;BG3.1=1;BG3.2=1;BG3.3=1;\
             BR0=0;BBSY=1;BG0.0=0;BG0.1=0;BBSY=0;BG0.0=1;BG0.1=1",
         breaks: &[(6, 50, Rule::B4, "BBSY")],
@@ -304,7 +301,7 @@ pub(crate) static RECORDINGS: [WorkedRecording; 22] = [
     // a slot passes a grant on without having one, and keeps one
     WorkedRecording {
         slots: 3,
-        opening: "quiet",
+        opening: "high_but_A24_to_A31",
         steps: "BG2.1=0;BG2.1=1;BR2=0;BG2.0=0;BG2.1=0;BR2=1 BG2.0=1;BG2.1=1;BBSY=0;BBSY=1",
         breaks: &[(1, 0, Rule::G1, "BG2.1"), (8, 70, Rule::B1, "BBSY")],
         counts: [0, 0, 0, 0, 0, 0, 0, 0, 0, 0, 0],
@@ -322,7 +319,7 @@ pub(crate) static RECORDINGS: [WorkedRecording; 22] = [
     // the arbiter grants twice at once, and again in a tenure
     WorkedRecording {
         slots: 3,
-        opening: "quiet",
+        opening: "high_but_A24_to_A31",
         steps: "BR1=0 BR2=0;BG2.0=0;BG1.0=0;BG1.0=1;BBSY=0;BG2.0=1;BG1.0=0;BG1.0=1;BBSY=1",
         breaks: &[(3, 20, Rule::G3, "BG1.0"), (7, 60, Rule::G4, "BG1.0")],
         counts: [0, 0, 0, 0, 0, 0, 0, 0, 0, 0, 0],

@@ -1,86 +1,9 @@
 use crate::recordings::{RECORDINGS, WorkedRecording};
-use smallvec::SmallVec;
 use std::alloc::Global;
 use vme_audit::{Counts, CoverageGap, Outcome};
 use vme_auditor::{AskedEvents, AuditBreak, AuditFindings, Auditor, BreakCounts, outcome};
-use vme_trace::{Block, Change, Changes, LINE_COUNT, Level, Line, Lines, Rule, Step, Steps};
-
-/// The change of a word, as BR3=0.
-fn change_of(word: &str) -> Option<Change> {
-    let (name, level) = word.split_once('=')?;
-    let level = match level.as_bytes() {
-        [b'0'] => Level::Low,
-        [b'1'] => Level::High,
-        _ => Level::Unknown,
-    };
-    Some(Change {
-        line: Line::from_name(name.as_bytes())?,
-        level,
-    })
-}
-
-/// Adds the change to High of each line, except those of numbers `first` to `last`.
-fn push_high(changes: &mut Vec<Change>, lines: &Lines, first: u8, last: u8) -> Option<()> {
-    for number in 0..LINE_COUNT {
-        let line = Line::from_number(number)?;
-        if lines.has(line) && (number < first || last < number) {
-            let level = Level::High;
-            changes.push(Change { line, level }).ok()?;
-        }
-    }
-    Some(())
-}
-
-/// Adds the changes of a word.
-fn push_word(changes: &mut Vec<Change>, lines: &Lines, word: &str) -> Option<()> {
-    if word == "high" {
-        return push_high(changes, lines, LINE_COUNT, LINE_COUNT);
-    }
-    if word == "quiet" {
-        return push_high(changes, lines, 37, 44);
-    }
-    changes.push(change_of(word)?).ok()
-}
-
-/// The changes of the words of a text, in their order.
-fn changes_of(alloc: Global, lines: &Lines, text: &str) -> Option<Vec<Change>> {
-    let mut changes = Vec::new(alloc);
-    for word in text.split_whitespace() {
-        push_word(&mut changes, lines, word)?;
-    }
-    Some(changes)
-}
-
-fn opening_of(alloc: Global, worked: &WorkedRecording) -> Option<Lines> {
-    let mut opening = Lines::new(worked.slots)?;
-    for change in changes_of(alloc, &opening, worked.opening)? {
-        if opening.has(change.line) {
-            opening.set(change.line, change.level);
-        }
-    }
-    Some(opening)
-}
-
-fn step_of(alloc: Global, lines: &Lines, time: u64, text: &str) -> Option<Step> {
-    let changes = changes_of(alloc, lines, text)?;
-    let list = SmallVec::from_slice(alloc, changes.as_slice()).ok()?;
-    Some(Step {
-        time,
-        changes: Changes::new(list),
-    })
-}
-
-/// The steps of a text, ten time units apart.
-fn steps_of(alloc: Global, lines: &Lines, text: &str) -> Option<Vec<Step>> {
-    let mut steps = Vec::new(alloc);
-    for part in text.split(';') {
-        if !part.is_empty() {
-            let time = (steps.len() as u64).saturating_mul(10);
-            steps.push(step_of(alloc, lines, time, part)?).ok()?;
-        }
-    }
-    Some(steps)
-}
+use vme_test_recordings::{opening_of, push_steps};
+use vme_trace::{Block, Line, Lines, Rule, Steps};
 
 /// A break of the second judge.
 fn break_of(worked: &(u64, u64, Rule, &'static str)) -> Option<AuditBreak> {
@@ -124,8 +47,9 @@ fn counts_of(counts: [u64; 11]) -> Counts {
 
 /// The opening and the steps of a recording, if they are well formed.
 fn block_of(alloc: Global, worked: &WorkedRecording) -> Option<Block> {
-    let opening = opening_of(alloc, worked)?;
-    let steps = steps_of(alloc, &opening, worked.steps)?;
+    let opening = opening_of(alloc, worked.slots, worked.opening)?;
+    let mut steps = Vec::new(alloc);
+    push_steps(alloc, &mut steps, &opening, worked.steps)?;
     let block = Block {
         number: 0,
         opening,
