@@ -1,61 +1,51 @@
-use smallvec::SmallVec;
 use std::alloc::Global;
 use std::process::Abort;
 use std::test::Fail;
 use vme_cert::{Answer, confirm, confirm_text};
 use vme_listing::{Direction, ListFault, ListedVerdict, Listing, Row, Version, read_listing};
-use vme_trace::{Capture, Change, Changes, LINE_COUNT, Level, Line, Lines, Step};
-
-/// How a recording starts: its slots, the levels of its opening, and its first steps. A step is the lines that change,
-/// with their new levels; the steps are ten units of time apart. `high` is every line high, and `quiet` every line high
-/// but A24 to A31.
-#[derive(Clone, Copy)]
-struct Start {
-    slots: u8,
-    opening: &'static str,
-    steps: &'static str,
-}
+use vme_test_recordings::{Recording, capture_of};
+use vme_trace::Capture;
 
 /// Six lines are unknown, the modifier is 3D, the bus is busy, and all other lines are high.
-const DUMPED: Start = Start {
+const DUMPED: Recording = Recording {
     slots: 1,
     opening: "high AM1=0 BBSY=0 AS=x DS0=x DS1=x DTACK=x BERR=x IACK=x",
     steps: "",
 };
 
-/// The bus gets quiet, and a requester in slot 2 takes it by level 3.
-const GRANTED: Start = Start {
+/// The bus becomes idle, and a requester in slot 2 takes it by level 3.
+const GRANTED: Recording = Recording {
     slots: 3,
     opening: "",
-    steps: "quiet;BR3=0;BG3.0=0;BG3.1=0;BBSY=0 BR3=1;BG3.0=1;BG3.1=1",
+    steps: "high_but_A24_to_A31;BR3=0;BG3.0=0;BG3.1=0;BBSY=0 BR3=1;BG3.0=1;BG3.1=1",
 };
 
-/// The bus is quiet from the opening on, and a requester in slot 2 takes it by level 3.
-const GRANTED_FROM_IDLE: Start = Start {
+/// The bus is idle from the opening on, and a requester in slot 2 takes it by level 3.
+const GRANTED_FROM_IDLE: Recording = Recording {
     slots: 3,
-    opening: "quiet",
+    opening: "high_but_A24_to_A31",
     steps: "BR3=0;BG3.0=0;BG3.1=0;BBSY=0 BR3=1;BG3.0=1;BG3.1=1",
 };
 
-/// The bus gets quiet, and a grant is passed on to slot 3.
-const PASSED_ON: Start = Start {
+/// The bus becomes idle, and a grant is passed on to slot 3.
+const PASSED_ON: Recording = Recording {
     slots: 3,
     opening: "",
-    steps: "quiet;BR3=0;BG3.0=0;BG3.1=0;BG3.2=0",
+    steps: "high_but_A24_to_A31;BR3=0;BG3.0=0;BG3.1=0;BG3.2=0",
 };
 
-/// The bus gets quiet.
-const QUIET: Start = Start {
+/// The bus becomes idle.
+const IDLE: Recording = Recording {
     slots: 3,
     opening: "",
-    steps: "quiet",
+    steps: "high_but_A24_to_A31",
 };
 
 /// A read by modifier 39.
 const READ: &str = "AM1=0 AM2=0 A05=0;AS=0;DS0=0 DS1=0;DTACK=0;AS=1 DS0=1 DS1=1;DTACK=1;BBSY=1";
 
 /// Recordings, and the rows of their listings.
-const LISTINGS: [(Start, &'static str, &'static str); 20] = [
+const LISTINGS: [(Recording, &'static str, &'static str); 20] = [
     (
         DUMPED,
         "AS=1 DS0=1 DS1=1 DTACK=1 BERR=1 IACK=1;AS=0;DS0=0;DTACK=0;AS=1 DS0=1;DTACK=1",
@@ -210,15 +200,15 @@ const DATA: [(&'static str, &'static str); 7] = [
     ),
 ];
 
-/// The bus is quiet, but for a reset that lasts.
-const HELD_IN_RESET: Start = Start {
+/// The bus is idle, but for a reset that lasts.
+const HELD_IN_RESET: Recording = Recording {
     slots: 3,
-    opening: "quiet SYSRESET=0",
+    opening: "high_but_A24_to_A31 SYSRESET=0",
     steps: "BR3=0;BG3.0=0;BG3.1=0;BBSY=0 BR3=1;BG3.0=1;BG3.1=1",
 };
 
 /// Recordings with resets, and the rows of their listings.
-const RESETS: [(Start, &'static str, &'static str); 10] = [
+const RESETS: [(Recording, &'static str, &'static str); 10] = [
     // a reset in a read, after which the bus is free, or busy
     (
         GRANTED,
@@ -254,15 +244,11 @@ const RESETS: [(Start, &'static str, &'static str); 10] = [
     ),
     // a request from before a reset isn't granted after it
     (
-        QUIET,
+        IDLE,
         "BR3=0;BR3=1 SYSRESET=0;SYSRESET=1;BG3.0=0",
         "start 1\nreset 3\nstart 4\nverdict broken G5 5 BG3.0\n",
     ),
-    (
-        QUIET,
-        "BR3=0;BR3=1;BG3.0=0",
-        "start 1\nverdict conforming\n",
-    ),
+    (IDLE, "BR3=0;BR3=1;BG3.0=0", "start 1\nverdict conforming\n"),
     (HELD_IN_RESET, READ, "verdict never-idle\n"),
     // three stretches, the last of which is broken, and one after it
     (
@@ -281,75 +267,6 @@ const RESETS: [(Start, &'static str, &'static str); 10] = [
         "start 0\ntenure 4 level 3 slot 2 end -\nreset 7\nstart 8\nreset 9\nverdict conforming\n",
     ),
 ];
-
-/// The change that a word says, as BR3=0.
-fn change_of(word: &str) -> Option<Change> {
-    let (name, level) = word.split_once('=')?;
-    let level = match level.as_bytes() {
-        [b'0'] => Level::Low,
-        [b'1'] => Level::High,
-        _ => Level::Unknown,
-    };
-    Some(Change {
-        line: Line::from_name(name.as_bytes())?,
-        level,
-    })
-}
-
-/// Adds a change to high for each line of the backplane, but for those with the numbers `first` to `last`.
-fn push_high(changes: &mut Vec<Change>, lines: &Lines, first: u8, last: u8) -> Result<(), Fail> {
-    for number in 0..LINE_COUNT {
-        let line = Line::from_number(number).ok_or("no such line")?;
-        if lines.has(line) && (number < first || last < number) {
-            changes.push(Change {
-                line,
-                level: Level::High,
-            })?;
-        }
-    }
-    Ok(())
-}
-
-/// The changes that a text says.
-fn changes_of(alloc: Global, lines: &Lines, text: &str) -> Result<Vec<Change>, Fail> {
-    let mut changes = Vec::new(alloc);
-    for word in text.split_whitespace() {
-        if word == "high" {
-            push_high(&mut changes, lines, LINE_COUNT, LINE_COUNT)?;
-        } else if word == "quiet" {
-            push_high(&mut changes, lines, 37, 44)?;
-        } else {
-            changes.push(change_of(word).ok_or("no change")?)?;
-        }
-    }
-    Ok(changes)
-}
-
-/// Adds the steps of a text.
-fn push_steps(alloc: Global, steps: &mut Vec<Step>, lines: &Lines, text: &str) -> Result<(), Fail> {
-    for part in text.split(';') {
-        if !part.is_empty() {
-            let time = (steps.len() as u64).saturating_mul(10);
-            let changes = changes_of(alloc, lines, part)?;
-            let changes = Changes::new(SmallVec::from_slice(alloc, changes.as_slice())?);
-            steps.push(Step { time, changes })?;
-        }
-    }
-    Ok(())
-}
-
-fn capture_of(alloc: Global, start: Start, text: &str) -> Result<Capture, Fail> {
-    let mut opening = Lines::new(start.slots).ok_or("no such backplane")?;
-    for change in changes_of(alloc, &opening, start.opening)? {
-        if opening.has(change.line) {
-            opening.set(change.line, change.level);
-        }
-    }
-    let mut steps = Vec::new(alloc);
-    push_steps(alloc, &mut steps, &opening, start.steps)?;
-    push_steps(alloc, &mut steps, &opening, text)?;
-    Ok(Capture::new(opening, steps).ok().ok_or("malformed")?)
-}
 
 /// The text of a listing of version 3 with these lines.
 fn listing_text(alloc: Global, lines: &str) -> Result<Vec<u8>, Fail> {
@@ -522,11 +439,11 @@ fn assert_each_row_counts(
 fn assert_listed(
     rt: &impl Abort,
     alloc: Global,
-    start: Start,
+    start: Recording,
     steps: &str,
     text: &str,
 ) -> Result<(), Fail> {
-    let capture = capture_of(alloc, start, steps)?;
+    let capture = capture_of(alloc, start, steps).ok_or("no recording")?;
     let whole = listing_text(alloc, text)?;
     let rows = rows_of(alloc, whole.as_slice())?;
     let rows = rows.as_slice();
@@ -578,7 +495,7 @@ fn resets(rt: HostRuntime) -> Result<(), Fail> {
 fn older_listings_lack_resets(rt: HostRuntime) -> Result<(), Fail> {
     let alloc = rt.alloc();
     let (start, steps, _) = RESETS[0];
-    let capture = capture_of(alloc, start, steps)?;
+    let capture = capture_of(alloc, start, steps).ok_or("no recording")?;
     let text =
         "vmecheck listing 2\nstart 1\ntenure 5 level 3 slot 2 end -\ncycle 9 S 39 FFFFDE end -\n\
          transfer 10 read pending\nverdict conforming\n";
@@ -597,7 +514,7 @@ fn older_listings_lack_resets(rt: HostRuntime) -> Result<(), Fail> {
 #[test]
 fn texts_that_are_no_listings(rt: HostRuntime) -> Result<(), Fail> {
     let (start, steps, _) = RESETS[0];
-    let capture = capture_of(rt.alloc(), start, steps)?;
+    let capture = capture_of(rt.alloc(), start, steps).ok_or("no recording")?;
     for (text, fault) in [
         (
             "vmecheck listing 4\nstart 1\nverdict conforming\n",
@@ -638,7 +555,7 @@ const READ_AND_WRITE: &'static str =
 #[test]
 fn data_count_by_the_version(rt: HostRuntime) -> Result<(), Fail> {
     let alloc = rt.alloc();
-    let capture = capture_of(alloc, GRANTED, READ_AND_WRITE)?;
+    let capture = capture_of(alloc, GRANTED, READ_AND_WRITE).ok_or("no recording")?;
     for (text, wanted) in [
         (
             "vmecheck listing 2\nstart 1\ntenure 5 level 3 slot 2 end -\ncycle 9 S 3D FFFFDE end 17\n\
