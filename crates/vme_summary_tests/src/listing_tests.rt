@@ -1,8 +1,9 @@
-use crate::tests::{CHAINS, CYCLES, DUMPS, HELD, RESETS, Worked, capture_of, followed};
+use crate::tests::{CHAINS, CYCLES, DUMPS, HELD, RESETS, Worked, followed};
 use std::alloc::Global;
 use std::process::Abort;
 use vme_listing::{ListFault, Listing, read_listing, write_listing};
 use vme_summary::{Lister, listing_by_blocks};
+use vme_test_recordings::capture_of;
 use vme_trace::{Capture, CutFault, Failed, Lines, Sink};
 
 /// A sink that keeps what is written.

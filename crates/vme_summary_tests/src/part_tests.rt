@@ -3,13 +3,14 @@
 ghost use Rattle.std.specs.Prelude.{◌≡◌};
 
 use crate::listing_tests::has_rows;
-use crate::tests::{CYCLES, RESETS, Worked, capture_of, is_verdict, verdict_of};
+use crate::tests::{CYCLES, RESETS, Worked, is_verdict, verdict_of};
 use std::alloc::Global;
 use std::process::Abort;
 use vme_listing::Listing;
 use vme_summary::chunk_judge::ChunkJudge;
 use vme_summary::stream_judge::StreamJudge;
 use vme_summary::{Judge, JudgedChunk, Lister};
+use vme_test_recordings::capture_of;
 use vme_trace::{Block, Capture, Lines, StepVisitor, Verdict};
 
 /// Which blocks of a cut are taken step by step.

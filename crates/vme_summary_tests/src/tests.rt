@@ -2,26 +2,13 @@ ghost use Rattle.std.specs.Prelude.{◌≡◌, ◌≤◌};
 ghost use Rattle.vme_summary.specs.Stands.{first_number};
 
 use crate::listing_tests::has_rows;
-use smallvec::SmallVec;
 use std::alloc::Global;
 use std::process::Abort;
 use vme_listing::Listing;
 use vme_summary::judged::{Judged, judge_block};
 use vme_summary::{JoinFault, Judge, Span, join, verdict_by_blocks};
-use vme_trace::{
-    Block, Break, Capture, Change, Changes, LINE_COUNT, Level, Line, Lines, Rule, Step,
-    StepVisitor, Verdict,
-};
-
-/// How a recording starts: its slots, the levels of its opening, and its first steps. A step is the lines that change,
-/// with their new levels. Steps are ten units apart. `high` is every line high, `quiet` every line but A24 to A31, and
-/// `others` every line but SYSRESET.
-#[derive(Clone, Copy)]
-pub(crate) struct Start {
-    slots: u8,
-    opening: &'static str,
-    steps: &'static str,
-}
+use vme_test_recordings::{Recording, capture_of};
+use vme_trace::{Block, Break, Capture, Line, Lines, Rule, StepVisitor, Verdict};
 
 /// The verdict on a recording, with the line by its name.
 #[derive(Clone, Copy)]
@@ -33,40 +20,40 @@ pub(crate) enum Expected {
 }
 
 /// A worked recording: how it starts, its further steps, its verdict, and the rows of its listing.
-pub(crate) type Worked = (Start, &'static str, Expected, &'static str);
+pub(crate) type Worked = (Recording, &'static str, Expected, &'static str);
 
 use Expected::{Broken, Conforming, NeverIdle, Unreadable};
 
 /// Six lines are unknown, and all others as in an idle bus that is busy.
-const DUMPED: Start = Start {
+const DUMPED: Recording = Recording {
     slots: 1,
     opening: "high AM1=0 BBSY=0 AS=x DS0=x DS1=x DTACK=x BERR=x IACK=x",
     steps: "",
 };
 
-/// The bus gets quiet, and a requester in slot 2 takes it by level 3.
-pub(crate) const GRANTED: Start = Start {
+/// The bus becomes idle, and a requester in slot 2 takes it by level 3.
+pub(crate) const GRANTED: Recording = Recording {
     slots: 3,
     opening: "",
-    steps: "quiet;BR3=0;BG3.0=0;BG3.1=0;BBSY=0 BR3=1;BG3.0=1;BG3.1=1",
+    steps: "high_but_A24_to_A31;BR3=0;BG3.0=0;BG3.1=0;BBSY=0 BR3=1;BG3.0=1;BG3.1=1",
 };
 
-/// A requester in slot 2 takes the bus by level 3. The bus is quiet from the opening on.
-const GRANTED_FROM_IDLE: Start = Start {
+/// A requester in slot 2 takes the bus by level 3. The bus is idle from the opening on.
+const GRANTED_FROM_IDLE: Recording = Recording {
     slots: 3,
-    opening: "quiet",
+    opening: "high_but_A24_to_A31",
     steps: "BR3=0;BG3.0=0;BG3.1=0;BBSY=0 BR3=1;BG3.0=1;BG3.1=1",
 };
 
-/// The bus gets quiet, and a grant is passed on to slot 3.
-const PASSED_ON: Start = Start {
+/// The bus becomes idle, and a grant is passed on to slot 3.
+const PASSED_ON: Recording = Recording {
     slots: 3,
     opening: "",
-    steps: "quiet;BR3=0;BG3.0=0;BG3.1=0;BG3.2=0",
+    steps: "high_but_A24_to_A31;BR3=0;BG3.0=0;BG3.1=0;BG3.2=0",
 };
 
 /// All lines are unknown.
-const UNKNOWN: Start = Start {
+const UNKNOWN: Recording = Recording {
     slots: 3,
     opening: "",
     steps: "",
@@ -337,37 +324,37 @@ pub(crate) static RESETS: [Worked; 15] = [
     ),
     (
         UNKNOWN,
-        "quiet;BR3=0;BR3=1 SYSRESET=0;SYSRESET=1;BG3.0=0",
+        "high_but_A24_to_A31;BR3=0;BR3=1 SYSRESET=0;SYSRESET=1;BG3.0=0",
         Broken(5, Rule::G5, "BG3.0"),
         "start 1\nreset 3\nstart 4\nverdict broken G5 5 BG3.0\n",
     ),
     (
         UNKNOWN,
-        "quiet;BR3=0;BR3=1;BG3.0=0",
+        "high_but_A24_to_A31;BR3=0;BR3=1;BG3.0=0",
         Conforming,
         "start 1\nverdict conforming\n",
     ),
     (
         UNKNOWN,
-        "others SYSRESET=0;BR3=0;BR3=1",
+        "high_but_SYSRESET SYSRESET=0;BR3=0;BR3=1",
         NeverIdle,
         "verdict never-idle\n",
     ),
     (
         UNKNOWN,
-        "quiet;AS=0 SYSRESET=0;SYSRESET=1;SYSRESET=0;AS=1 SYSRESET=1;SYSRESET=0",
+        "high_but_A24_to_A31;AS=0 SYSRESET=0;SYSRESET=1;SYSRESET=0;AS=1 SYSRESET=1;SYSRESET=0",
         Conforming,
         "start 1\nreset 2\nstart 5\nreset 6\nverdict conforming\n",
     ),
     (
         UNKNOWN,
-        "quiet;AS=x SYSRESET=0;SYSRESET=1;AS=1;AS=x;AS=1 SYSRESET=0;SYSRESET=1",
+        "high_but_A24_to_A31;AS=x SYSRESET=0;SYSRESET=1;AS=1;AS=x;AS=1 SYSRESET=0;SYSRESET=1",
         Unreadable(5, Rule::U1, "AS"),
         "start 1\nreset 2\nstart 4\nverdict unreadable U1 5 AS\n",
     ),
     (
         UNKNOWN,
-        "quiet;DTACK=0;DTACK=1 SYSRESET=0;SYSRESET=1",
+        "high_but_A24_to_A31;DTACK=0;DTACK=1 SYSRESET=0;SYSRESET=1",
         Broken(2, Rule::H4, "DTACK"),
         "start 1\nverdict broken H4 2 DTACK\n",
     ),
@@ -405,95 +392,6 @@ pub(crate) fn verdict_of(expected: Expected) -> Option<Verdict> {
             Some(Verdict::Unreadable(break_of(instant, rule, name)?))
         }
     }
-}
-
-/// The change that `word` denotes, e.g. BR3=0.
-fn change_of(word: &str) -> Option<Change> {
-    let (name, level) = word.split_once('=')?;
-    let level = match level.as_bytes() {
-        [b'0'] => Level::Low,
-        [b'1'] => Level::High,
-        _ => Level::Unknown,
-    };
-    Some(Change {
-        line: Line::from_name(name.as_bytes())?,
-        level,
-    })
-}
-
-/// Appends a change to high for each line but those of the numbers from `first` to `last`.
-fn push_high(changes: &mut Vec<Change>, lines: &Lines, first: u8, last: u8) -> Option<()> {
-    for number in 0..LINE_COUNT {
-        let line = Line::from_number(number)?;
-        if lines.has(line) && (number < first || last < number) {
-            let level = Level::High;
-            changes.push(Change { line, level }).ok()?;
-        }
-    }
-    Some(())
-}
-
-/// Appends the changes that `word` denotes.
-fn push_word(changes: &mut Vec<Change>, lines: &Lines, word: &str) -> Option<()> {
-    if word == "high" {
-        return push_high(changes, lines, LINE_COUNT, LINE_COUNT);
-    }
-    if word == "quiet" {
-        return push_high(changes, lines, 37, 44);
-    }
-    if word == "others" {
-        return push_high(changes, lines, LINE_COUNT - 1, LINE_COUNT - 1);
-    }
-    changes.push(change_of(word)?).ok()
-}
-
-/// The changes that `text` denotes.
-fn changes_of(alloc: Global, lines: &Lines, text: &str) -> Option<Vec<Change>> {
-    let mut changes = Vec::new(alloc);
-    for word in text.split_whitespace() {
-        push_word(&mut changes, lines, word)?;
-    }
-    Some(changes)
-}
-
-fn step_of(alloc: Global, lines: &Lines, time: u64, text: &str) -> Option<Step> {
-    let changes = changes_of(alloc, lines, text)?;
-    let list = SmallVec::from_slice(alloc, changes.as_slice()).ok()?;
-    Some(Step {
-        time,
-        changes: Changes::new(list),
-    })
-}
-
-/// Appends the steps that `text` denotes.
-fn push_steps(alloc: Global, steps: &mut Vec<Step>, lines: &Lines, text: &str) -> Option<()> {
-    for part in text.split(';') {
-        if !part.is_empty() {
-            let time = (steps.len() as u64).saturating_mul(10);
-            steps.push(step_of(alloc, lines, time, part)?).ok()?;
-        }
-    }
-    Some(())
-}
-
-/// The lines at the opening of a start.
-fn opening_of(alloc: Global, start: Start) -> Option<Lines> {
-    let mut opening = Lines::new(start.slots)?;
-    for change in changes_of(alloc, &opening, start.opening)? {
-        if opening.has(change.line) {
-            opening.set(change.line, change.level);
-        }
-    }
-    Some(opening)
-}
-
-/// The recording that begins with `start`, and continues with the steps that `text` denotes.
-pub(crate) fn capture_of(alloc: Global, start: Start, text: &str) -> Option<Capture> {
-    let opening = opening_of(alloc, start)?;
-    let mut steps = Vec::new(alloc);
-    push_steps(alloc, &mut steps, &opening, start.steps)?;
-    push_steps(alloc, &mut steps, &opening, text)?;
-    Capture::new(opening, steps).ok()
 }
 
 /// The verdict, in blocks of `size` steps. After a failed allocation the capture is judged again.
