@@ -1,17 +1,19 @@
 //! The handshake: pipelined cycles, an answer without a transfer (H4), and the data of a write, known and unknown.
 
-use crate::recordings::{Recording, break_of, capture_of, finds, has_places, mark, whole};
+use crate::recordings::{break_of, capture_of, enumerates_memories, finds, mark, whole};
 use std::alloc::Global;
 use vme_dtb::handshake::Dtb;
 use vme_monitor::mark::{Mark, MarkKind};
 use vme_monitor::monitor::Monitor;
+use vme_test_recordings::Recording;
 use vme_trace::{Class, Lanes, Line, MovedBytes, Rule};
 
 /// Two reads in two cycles, the second of which starts while the first transfer is still open.
 const PIPELINED: Recording = Recording {
     slots: 3,
     opening: "",
-    steps: "quiet;BR3=0;BG3.0=0;BG3.1=0;BBSY=0 BR3=1;BG3.0=1;BG3.1=1;AM1=0 AM2=0 A05=0;AS=0;DS0=0 DS1=0;DTACK=0;AS=1;\
+    steps: "high_but_A24_to_A31_D00_to_D31;\
+        BR3=0;BG3.0=0;BG3.1=0;BBSY=0 BR3=1;BG3.0=1;BG3.1=1;AM1=0 AM2=0 A05=0;AS=0;DS0=0 DS1=0;DTACK=0;AS=1;\
         A05=1;AS=0;DS0=1 DS1=1;DTACK=1;DS0=0 DS1=0;DTACK=0;AS=1 DS0=1 DS1=1;DTACK=1 BBSY=1",
 };
 
@@ -63,7 +65,8 @@ fn cycles_and_transfers_are_marked(rt: HostRuntime) {
 const STRAY: Recording = Recording {
     slots: 3,
     opening: "",
-    steps: "quiet;BR3=0;BG3.0=0;BG3.1=0;BBSY=0 BR3=1;BG3.0=1;BG3.1=1;AM1=0 AM2=0 A05=0;AS=0;DTACK=0",
+    steps: "high_but_A24_to_A31_D00_to_D31;\
+        BR3=0;BG3.0=0;BG3.1=0;BBSY=0 BR3=1;BG3.0=1;BG3.1=1;AM1=0 AM2=0 A05=0;AS=0;DTACK=0",
 };
 
 #[test]
@@ -97,7 +100,8 @@ fn has_answers(alloc: Global, recording: &Recording, want: &[Mark]) -> bool {
 const READ_AND_WRITE: Recording = Recording {
     slots: 3,
     opening: "",
-    steps: "quiet;BR3=0;BG3.0=0;BG3.1=0;BBSY=0 BR3=1;BG3.0=1;BG3.1=1;AM1=0 A05=0 D00=1 D01=0 D02=0 D03=1;\
+    steps: "high_but_A24_to_A31_D00_to_D31;\
+        BR3=0;BG3.0=0;BG3.1=0;BBSY=0 BR3=1;BG3.0=1;BG3.1=1;AM1=0 A05=0 D00=1 D01=0 D02=0 D03=1;\
         AS=0 D04=0 D05=1 D06=0 D07=1;DS0=0;DTACK=0;DS0=1;DTACK=1;WRITE=0;DS0=0;DTACK=0 D01=1;AS=1 DS0=1 D00=0;DTACK=1",
 };
 
@@ -117,7 +121,8 @@ fn the_answer_of_a_write_has_its_data(rt: HostRuntime) {
 const AT_ONCE: Recording = Recording {
     slots: 3,
     opening: "",
-    steps: "quiet;BR3=0;BG3.0=0;BG3.1=0;BBSY=0 BR3=1;BG3.0=1;BG3.1=1;AM1=0 WRITE=0 A05=0 D00=0 D01=0 D02=0 D03=0;\
+    steps: "high_but_A24_to_A31_D00_to_D31;\
+        BR3=0;BG3.0=0;BG3.1=0;BBSY=0 BR3=1;BG3.0=1;BG3.1=1;AM1=0 WRITE=0 A05=0 D00=0 D01=0 D02=0 D03=0;\
         AS=0 D04=0 D05=0 D06=0;DS0=0 DS1=0 DTACK=0 D00=1;BBSY=1",
 };
 
@@ -134,6 +139,6 @@ fn the_data_of_a_write_may_be_unknown(rt: HostRuntime) {
 }
 
 #[test]
-fn each_memory_stands_at_its_place(rt: HostRuntime) {
-    assert!(rt; has_places::<Dtb>(147));
+fn memories_are_enumerated(rt: HostRuntime) {
+    assert!(rt; enumerates_memories::<Dtb>(147));
 }

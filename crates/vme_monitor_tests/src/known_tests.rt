@@ -1,10 +1,11 @@
-use crate::recordings::{Recording, break_of, capture_of, finds, has_places, mark, whole};
+use crate::recordings::{break_of, capture_of, enumerates_memories, finds, mark, whole};
 use std::alloc::Global;
 use vme_monitor::both::Both;
 use vme_monitor::known::{Known, KnownRules};
 use vme_monitor::mark::{Mark, MarkKind};
 use vme_monitor::monitor::Monitor;
 use vme_monitor::without_marks::BreakMonitor;
+use vme_test_recordings::Recording;
 use vme_trace::{Line, Rule};
 
 /// Six lines are unknown, and all others as in an idle bus that is busy.
@@ -109,6 +110,6 @@ fn tells_whether_judging_started(rt: HostRuntime) {
 }
 
 #[test]
-fn memories_have_places(rt: HostRuntime) {
-    assert!(rt; has_places::<Known>(4));
+fn memories_are_enumerated(rt: HostRuntime) {
+    assert!(rt; enumerates_memories::<Known>(4));
 }

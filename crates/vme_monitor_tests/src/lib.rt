@@ -2,10 +2,10 @@
 //!
 //! The breaks (violations of rules) and marks (events of the bus with their instants) that are
 //! found are compared with those that are written with the recordings, for blocks of several sizes.
-//! Each memory (state of a monitor's automaton) is at its place.
+//! The memories (states of a monitor's automaton) are enumerated.
 //!
-//! - `recordings`: how recordings are written, and whether a monitor finds the wanted breaks and
-//!   marks in them.
+//! - `recordings`: whether a monitor finds the wanted breaks and marks in recordings, which are
+//!   written in the notation of vme_test_recordings.
 //! - `known_tests`: where judging starts, again after a reset, of two monitors at once, and without
 //!   marks. The only rules here are those of `Known`.
 //! - `handshake_tests`: pipelined cycles and an answer without a transfer (H4); the data of a write,

@@ -1,115 +1,14 @@
-//! Worked recordings, and whether a monitor finds and shows in them what is written with them.
+//! Whether a monitor finds and shows in recordings what is written with them.
 
-use smallvec::SmallVec;
 use std::alloc::Global;
 use vme_monitor::finite::Finite;
 use vme_monitor::mark::{Mark, MarkKind};
 use vme_monitor::monitor::{Monitor, join, none};
-use vme_trace::{
-    Block, Break, Capture, Change, Changes, LINE_COUNT, Level, Line, Lines, Rule, Step,
-};
-
-/// A recording: its slots, the levels of its opening, and its steps, ten units apart. A step is the lines that change,
-/// with their new levels. `high` is every line high, `quiet` every line but A24 to A31 and D00 to D31, and `written`
-/// every line but A24 to A31 and D16 to D31.
-#[derive(Clone, Copy)]
-pub(crate) struct Recording {
-    pub slots: u8,
-    pub opening: &'static str,
-    pub steps: &'static str,
-}
-
-/// The change that `word` denotes, e.g. BR3=0.
-fn change_of(word: &str) -> Option<Change> {
-    let (name, level) = word.split_once('=')?;
-    let level = match level.as_bytes() {
-        [b'0'] => Level::Low,
-        [b'1'] => Level::High,
-        _ => Level::Unknown,
-    };
-    Some(Change {
-        line: Line::from_name(name.as_bytes())?,
-        level,
-    })
-}
-
-/// Appends a change to high for each line of the bus; if `is_quiet`, not for A24 to A31 and the data lines from number
-/// `first_data` on.
-fn push_high(
-    changes: &mut Vec<Change>,
-    lines: &Lines,
-    is_quiet: bool,
-    first_data: u8,
-) -> Option<()> {
-    for number in 0..LINE_COUNT {
-        let line = Line::from_number(number)?;
-        let is_left = (37 <= number && number <= 44) || (first_data <= number && number <= 190);
-        if lines.has(line) && !(is_quiet && is_left) {
-            let level = Level::High;
-            changes.push(Change { line, level }).ok()?;
-        }
-    }
-    Some(())
-}
-
-/// Appends the changes that `word` denotes.
-fn push_word(changes: &mut Vec<Change>, lines: &Lines, word: &str) -> Option<()> {
-    if word == "high" {
-        return push_high(changes, lines, false, LINE_COUNT);
-    }
-    if word == "quiet" {
-        return push_high(changes, lines, true, 159);
-    }
-    if word == "written" {
-        return push_high(changes, lines, true, 175);
-    }
-    changes.push(change_of(word)?).ok()
-}
-
-/// The changes that `text` denotes.
-fn changes_of(alloc: Global, lines: &Lines, text: &str) -> Option<Vec<Change>> {
-    let mut changes = Vec::new(alloc);
-    for word in text.split_whitespace() {
-        push_word(&mut changes, lines, word)?;
-    }
-    Some(changes)
-}
-
-/// Appends the step that `text` denotes, if it has changes.
-fn push_step(alloc: Global, steps: &mut Vec<Step>, lines: &Lines, text: &str) -> Option<()> {
-    let changes = changes_of(alloc, lines, text)?;
-    if changes.is_empty() {
-        return Some(());
-    }
-    let time = (steps.len() as u64).saturating_mul(10);
-    let changes = Changes::new(SmallVec::from_slice(alloc, changes.as_slice()).ok()?);
-    steps.push(Step { time, changes }).ok()
-}
-
-/// The steps that `text` denotes.
-fn steps_of(alloc: Global, lines: &Lines, text: &str) -> Option<Vec<Step>> {
-    let mut steps = Vec::new(alloc);
-    for part in text.split(';') {
-        push_step(alloc, &mut steps, lines, part)?;
-    }
-    Some(steps)
-}
-
-/// The lines at the opening of a recording.
-fn opening_of(alloc: Global, recording: &Recording) -> Option<Lines> {
-    let mut opening = Lines::new(recording.slots)?;
-    for change in changes_of(alloc, &opening, recording.opening)? {
-        if opening.has(change.line) {
-            opening.set(change.line, change.level);
-        }
-    }
-    Some(opening)
-}
+use vme_test_recordings::Recording;
+use vme_trace::{Block, Break, Capture, Line, Rule};
 
 pub(crate) fn capture_of(alloc: Global, recording: &Recording) -> Option<Capture> {
-    let opening = opening_of(alloc, recording)?;
-    let steps = steps_of(alloc, &opening, recording.steps)?;
-    Capture::new(opening, steps).ok()
+    vme_test_recordings::capture_of(alloc, *recording, "")
 }
 
 pub(crate) fn summary_of<M: Monitor>(alloc: Global, block: &Block) -> Option<M::Summary> {
@@ -184,8 +83,8 @@ pub(crate) fn finds<M: Monitor>(
     true
 }
 
-/// Whether a monitor has `count` memories (states of its automaton), each at its place.
-pub(crate) fn has_places<M: Finite>(count: usize) -> bool {
+/// Whether a monitor has `count` memories (states of its automaton), and each place is that of the memory at it.
+pub(crate) fn enumerates_memories<M: Finite>(count: usize) -> bool {
     for k in 0..M::COUNT {
         if M::place(M::nth(k)) != k {
             return false;
