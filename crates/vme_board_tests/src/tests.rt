@@ -6,39 +6,20 @@ use std::alloc::Global;
 use std::process::Abort;
 use vme_board::{Bench, Board, BoardFault, Closed, DeliveryRefusal, Filed, Refused, Stage};
 use vme_summary::{Judged, Span, join};
-use vme_trace::{
-    Block, Capture, Change, Changes, LINE_COUNT, Level, Line, Lines, Step, Steps, Verdict,
+use vme_test_recordings::{Recording, capture_of};
+use vme_trace::{Block, Change, Changes, Level, Line, Lines, Step, Steps, Verdict};
+
+/// Every line but A24 to A31 goes high, the bus is granted to slot 2, and its master reads with modifier 39.
+const READ: Recording = Recording {
+    slots: 3,
+    opening: "",
+    steps: "high_but_A24_to_A31;BR3=0;BG3.0=0;BG3.1=0;BBSY=0 BR3=1;BG3.0=1;BG3.1=1;AM1=0 AM2=0 A05=0;AS=0;\
+        DS0=0 DS1=0;DTACK=0;AS=1 DS0=1 DS1=1;DTACK=1;BBSY=1",
 };
 
-/// A read by modifier 39 after a grant to slot 2, after the step in which every line except A24 to A31 goes high.
-/// The steps are ten units apart.
-static READ: [&str; 13] = [
-    "BR3=0",
-    "BG3.0=0",
-    "BG3.1=0",
-    "BBSY=0 BR3=1",
-    "BG3.0=1",
-    "BG3.1=1",
-    "AM1=0 AM2=0 A05=0",
-    "AS=0",
-    "DS0=0 DS1=0",
-    "DTACK=0",
-    "AS=1 DS0=1 DS1=1",
-    "DTACK=1",
-    "BBSY=1",
-];
-
-/// The change in a word, for example `BR3=0`.
-fn change_of(word: &str) -> Option<Change> {
-    let (name, level) = word.split_once('=')?;
-    Some(Change {
-        line: Line::from_name(name.as_bytes())?,
-        level: if level == "0" {
-            Level::Low
-        } else {
-            Level::High
-        },
-    })
+/// The worked recording, in blocks of one step.
+pub(crate) fn blocks_of_read(alloc: Global) -> Option<Vec<Block>> {
+    capture_of(alloc, READ, "")?.cut(alloc, 1).ok()
 }
 
 fn step_of(alloc: Global, time: u64, changes: &[Change]) -> Option<Step> {
@@ -49,50 +30,9 @@ fn step_of(alloc: Global, time: u64, changes: &[Change]) -> Option<Step> {
     })
 }
 
-/// The changes by which every line of three slots except A24 to A31 goes high.
-fn all_high(alloc: Global, lines: &Lines) -> Option<Vec<Change>> {
-    let mut changes = Vec::new(alloc);
-    for number in 0..LINE_COUNT {
-        let line = Line::from_number(number)?;
-        if lines.has(line) && (number < 37 || 44 < number) {
-            let level = Level::High;
-            changes.push(Change { line, level }).ok()?;
-        }
-    }
-    Some(changes)
-}
-
-/// The changes in `text`.
-fn changes_of(alloc: Global, text: &str) -> Option<Vec<Change>> {
-    let mut changes = Vec::new(alloc);
-    for word in text.split_whitespace() {
-        changes.push(change_of(word)?).ok()?;
-    }
-    Some(changes)
-}
-
 /// Adds a step.
 fn push_step(alloc: Global, steps: &mut Vec<Step>, time: u64, changes: &[Change]) -> Option<()> {
     steps.push(step_of(alloc, time, changes)?).ok()
-}
-
-/// The steps of the worked recording.
-fn steps_of_read(alloc: Global, opening: &Lines) -> Option<Vec<Step>> {
-    let mut steps = Vec::new(alloc);
-    push_step(alloc, &mut steps, 0, &all_high(alloc, opening)?)?;
-    let mut time = 0u64;
-    for text in READ.iter() {
-        time = time.saturating_add(10);
-        push_step(alloc, &mut steps, time, &changes_of(alloc, text)?)?;
-    }
-    Some(steps)
-}
-
-/// The worked recording, in blocks of one step.
-pub(crate) fn blocks_of_read(alloc: Global) -> Option<Vec<Block>> {
-    let opening = Lines::new(3)?;
-    let steps = steps_of_read(alloc, &opening)?;
-    Capture::new(opening, steps).ok()?.cut(alloc, 1).ok()
 }
 
 /// A block of `count` steps, in each of which AS changes. None is want of memory.
@@ -153,8 +93,9 @@ pub(crate) fn is_refused(
     }
 }
 
-/// `span` joined to the span of the blocks before it, if there is one.
-fn added(alloc: Global, all: Option<Span>, span: Span) -> Option<Span> {
+/// `span` joined to the span of the blocks before it, if there is one. `None` if they don't join, or if one of them has
+/// 1,000 steps or more.
+fn joined_after(alloc: Global, all: Option<Span>, span: Span) -> Option<Span> {
     match all {
         None => Some(span),
         Some(before) => {
@@ -172,7 +113,7 @@ fn whole_of(alloc: Global, contents: Vec<Option<Judged>>) -> Option<Span> {
     let mut all = None;
     for place in contents {
         let span = place?.into_parts().1;
-        all = Some(added(alloc, all, span)?);
+        all = Some(joined_after(alloc, all, span)?);
     }
     all
 }
@@ -290,8 +231,8 @@ fn totals_and_draws(rt: HostRuntime) {
     assert!(rt; draws_three(&board, &mut bench));
 }
 
-/// Whether two benches draw in turn, and each wins the draws that the other doesn't.
-fn draw_in_turn(board: &Board, first: &mut Bench, second: &mut Bench) -> bool
+/// Whether two benches win the draws 0 to 3: the first bench 0, the second 1 and 2, and the first 3.
+fn win_different_draws(board: &Board, first: &mut Bench, second: &mut Bench) -> bool
     requires { IsOf first.old board.now × IsOf second.old board.now }
     ensures { IsOf first.new board.now × IsOf second.new board.now }
 {
@@ -306,7 +247,7 @@ fn draws_of_two_benches(rt: HostRuntime) {
         panic!(rt; "no board")
     };
     let mut second = first.split(&board);
-    assert!(rt; draw_in_turn(&board, &mut first, &mut second));
+    assert!(rt; win_different_draws(&board, &mut first, &mut second));
     let mut bench = first.fold(second, &board);
     assert!(rt; bench.draw(&board) == Some(4));
 }
