@@ -1,34 +1,21 @@
 ghost use Rattle.std.specs.Prelude.{◌≡◌, IfOk};
 ghost use Rattle.vme_summary.specs.Stands.{first_number};
 
-use smallvec::SmallVec;
 use std::alloc::Global;
 use std::process::Abort;
 use vme_book::{Book, BookFault, CloseFault, InsertFault, Whole};
 use vme_listing::{Listing, read_listing};
 use vme_summary::{Judged, Span, judge_block};
-use vme_trace::{
-    Block, Break, Capture, Change, Changes, LINE_COUNT, Level, Line, Lines, Rule, Step, Steps,
-    Verdict,
-};
+use vme_test_recordings::{Recording, capture_of, push_steps, step_of};
+use vme_trace::{Block, Break, Capture, Line, Lines, Rule, Steps, Verdict};
 
-/// A read by modifier 39 of a requester in slot 2, in steps ten units apart. `quiet` is every line high but A24 to A31.
-static READ: [&str; 14] = [
-    "quiet",
-    "BR3=0",
-    "BG3.0=0",
-    "BG3.1=0",
-    "BBSY=0 BR3=1",
-    "BG3.0=1",
-    "BG3.1=1",
-    "AM1=0 AM2=0 A05=0",
-    "AS=0",
-    "DS0=0 DS1=0",
-    "DTACK=0",
-    "AS=1 DS0=1 DS1=1",
-    "DTACK=1",
-    "BBSY=1",
-];
+/// A read by modifier 39 of a requester in slot 2.
+const READ: Recording = Recording {
+    slots: 3,
+    opening: "",
+    steps: "high_but_A24_to_A31;BR3=0;BG3.0=0;BG3.1=0;BBSY=0 BR3=1;BG3.0=1;BG3.1=1;AM1=0 AM2=0 A05=0;AS=0;\
+        DS0=0 DS1=0;DTACK=0;AS=1 DS0=1 DS1=1;DTACK=1;BBSY=1",
+};
 
 /// The listing of the read.
 const READ_ROWS: &str = "vmecheck listing 3
@@ -39,91 +26,14 @@ transfer 10 of 9 read DTACK 11 close 12
 verdict conforming
 ";
 
-/// The change that a word gives, such as BR3=0.
-fn change_of(word: &str) -> Option<Change> {
-    let (name, level) = word.split_once('=')?;
-    let level = match level.as_bytes() {
-        [b'0'] => Level::Low,
-        _ => Level::High,
-    };
-    Some(Change {
-        line: Line::from_name(name.as_bytes())?,
-        level,
-    })
-}
-
-/// The changes of every line to high but A24 to A31.
-fn quiet(alloc: Global, lines: &Lines) -> Option<Vec<Change>> {
-    let mut changes = Vec::new(alloc);
-    for number in 0..LINE_COUNT {
-        let line = Line::from_number(number)?;
-        if lines.has(line) && (number < 37 || 44 < number) {
-            let level = Level::High;
-            changes.push(Change { line, level }).ok()?;
-        }
-    }
-    Some(changes)
-}
-
-/// The changes that a text gives.
-fn changes_of(alloc: Global, lines: &Lines, text: &str) -> Option<Vec<Change>> {
-    if text == "quiet" {
-        return quiet(alloc, lines);
-    }
-    let mut changes = Vec::new(alloc);
-    for word in text.split_whitespace() {
-        changes.push(change_of(word)?).ok()?;
-    }
-    Some(changes)
-}
-
-/// A step at `time`, of the changes that a text gives.
-fn step_of(alloc: Global, lines: &Lines, time: u64, text: &str) -> Option<Step> {
-    let changes = changes_of(alloc, lines, text)?;
-    let list = SmallVec::from_slice(alloc, changes.as_slice()).ok()?;
-    Some(Step {
-        time,
-        changes: Changes::new(list),
-    })
-}
-
-/// Adds a step.
-fn push_step(
-    alloc: Global,
-    steps: &mut Vec<Step>,
-    lines: &Lines,
-    time: u64,
-    text: &str,
-) -> Option<()> {
-    steps.push(step_of(alloc, lines, time, text)?).ok()
-}
-
-/// The steps of the read.
-fn read_steps(alloc: Global, opening: &Lines) -> Option<Vec<Step>> {
-    let mut steps = Vec::new(alloc);
-    for text in READ.iter() {
-        let time = (steps.len() as u64).saturating_mul(10);
-        push_step(alloc, &mut steps, opening, time, text)?;
-    }
-    Some(steps)
-}
-
-/// The blocks of the steps after `opening`, of `size` steps each.
-fn cut(alloc: Global, opening: Lines, steps: Option<Vec<Step>>, size: u32) -> Option<Vec<Block>> {
-    let capture = Capture::new(opening, steps?).ok()?;
-    capture.cut(alloc, size).ok()
-}
-
 /// The read in single steps.
 fn single_steps(alloc: Global) -> Option<Vec<Block>> {
-    let opening = Lines::new(3)?;
-    cut(alloc, opening, read_steps(alloc, &opening), 1)
+    capture_of(alloc, READ, "")?.cut(alloc, 1).ok()
 }
 
 /// The read in blocks of five steps.
 fn read_by_fives(alloc: Global) -> Option<Vec<Block>> {
-    let opening = Lines::new(3)?;
-    cut(alloc, opening, read_steps(alloc, &opening), 5)
+    capture_of(alloc, READ, "")?.cut(alloc, 5).ok()
 }
 
 /// Block 0, 1 or 2 of the read in blocks of five steps.
@@ -256,7 +166,7 @@ fn strobe_last(alloc: Global, block: Block) -> Option<Block> {
     } = block;
     let mut steps = steps.into_inner();
     let time = steps.pop()?.time;
-    push_step(alloc, &mut steps, &opening, time, "DS0=0")?;
+    steps.push(step_of(alloc, &opening, time, "DS0=0")?).ok()?;
     Some(Block {
         number,
         opening,
@@ -528,23 +438,25 @@ impl Order {
     }
 }
 
-/// The bus gets quiet, an address line changes in turn, and at last an answer falls with no transfer underway.
-fn many_steps(alloc: Global, opening: &Lines) -> Option<Vec<Step>> {
+/// A recording of 4,096 steps: the bus becomes idle, an address line changes in turn, and at last an answer falls with
+/// no transfer underway.
+fn long_recording(alloc: Global) -> Option<Capture> {
+    let opening = Lines::new(3)?;
     let mut steps = Vec::new(alloc);
-    push_step(alloc, &mut steps, opening, 0, "quiet")?;
+    push_steps(alloc, &mut steps, &opening, "high_but_A24_to_A31")?;
     for place in 1..4095u64 {
         let text = if place % 2 == 1 { "A05=0" } else { "A05=1" };
-        push_step(alloc, &mut steps, opening, place * 10, text)?;
+        push_steps(alloc, &mut steps, &opening, text)?;
     }
-    push_step(alloc, &mut steps, opening, 40950, "DTACK=0")?;
-    Some(steps)
+    push_steps(alloc, &mut steps, &opening, "DTACK=0")?;
+    Capture::new(opening, steps).ok()
 }
 
-/// The blocks of the many steps, each of which can be taken once.
+/// The single steps of the long recording, each of which can be taken once.
 fn many_blocks(alloc: Global) -> Option<Vec<Option<Block>>> {
-    let opening = Lines::new(3)?;
+    let recording = long_recording(alloc)?;
     let mut blocks = Vec::new(alloc);
-    for block in cut(alloc, opening, many_steps(alloc, &opening), 1)? {
+    for block in recording.cut(alloc, 1).ok()? {
         blocks.push(Some(block)).ok()?;
     }
     Some(blocks)
@@ -567,7 +479,7 @@ fn takes_all(alloc: Global, book: &mut Book, order: Order) -> bool {
     blocks.len() == MANY
 }
 
-/// Whether the book closes to the recording of the many steps, with its break.
+/// Whether the book closes to the long recording, with its break.
 fn closes_to_many(alloc: Global, book: Book) -> bool {
     let broken = Verdict::Broken(Break {
         instant: 4096,
