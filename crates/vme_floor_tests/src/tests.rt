@@ -11,8 +11,8 @@ mod short;
 
 use gates::{Gathers, Listens, Waits};
 use recordings::{
-    READ_ROWS, RESET_ROWS, no_changes, picked, picked_of, read_blocks, read_by_fives, reset_blocks,
-    shuffled, wrong_blocks, wrong_rows, wrong_twice,
+    READ_ROWS, RESET_ROWS, broken_blocks, broken_rows, broken_twice, no_changes, picked, picked_of,
+    read_blocks, read_by_fives, reset_blocks, shuffled,
 };
 use std::alloc::Global;
 use std::process::Abort;
@@ -309,7 +309,7 @@ fn workers_overlap(rt: HostRuntime) -> Result<(), Fail> {
 /// The break of the block that is judged last is the least one.
 #[test]
 fn the_least_break_is_named(rt: HostRuntime) -> Result<(), Fail> {
-    let blocks = wrong_twice(rt.alloc()).ok_or("no blocks")?;
+    let blocks = broken_twice(rt.alloc()).ok_or("no blocks")?;
     let outcome = Outcome::Judged(Verdict::Broken(Break {
         instant: 10,
         time: 90,
@@ -340,7 +340,7 @@ fn assert_meeting<R: Threads + Wait + Abort + Sync>(
 
 #[test]
 fn workers_meet_at_the_gate(rt: HostRuntime) -> Result<(), Fail> {
-    let blocks = wrong_blocks(rt.alloc(), 3).ok_or("no blocks")?;
+    let blocks = broken_blocks(rt.alloc(), 3).ok_or("no blocks")?;
     for (workers, numbers) in [(2, 3), (3, 7), (64, u64::MAX)] {
         assert_meeting(&rt, rt.alloc(), &blocks, workers, numbers);
     }
@@ -397,9 +397,9 @@ fn every_order(rt: HostRuntime) -> Result<(), Fail> {
 #[test]
 fn cuts(rt: HostRuntime) -> Result<(), Fail> {
     let alloc = rt.alloc();
-    let rows = wrong_rows(alloc).ok_or("no rows")?;
+    let rows = broken_rows(alloc).ok_or("no rows")?;
     for (size, total) in [(3, 67), (7, 29), (64, 4), (199, 2), (200, 1)] {
-        let blocks = wrong_blocks(alloc, size).ok_or("no blocks")?;
+        let blocks = broken_blocks(alloc, size).ok_or("no blocks")?;
         let deliveries = shuffled(alloc, &blocks, size).ok_or("no blocks")?;
         for workers in [1, 3, 64] {
             assert_listed(&rt, alloc, &deliveries, total, workers, 200, rows.as_str());

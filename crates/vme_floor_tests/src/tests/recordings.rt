@@ -1,12 +1,13 @@
-//! The blocks of recordings from texts: a step is the lines that change, with their new levels, and steps are ten units
-//! apart. A function answers None if memory runs out.
+//! The blocks of recordings, which are written in the notation of vme_test_recordings. A function answers None if memory
+//! runs out.
 
 use smallvec::SmallVec;
 use std::alloc::Global;
-use vme_trace::{Block, Capture, Change, Changes, LINE_COUNT, Level, Line, Lines, Step};
+use vme_test_recordings::push_steps;
+use vme_trace::{Block, Capture, Changes, Lines};
 
 /// Every line except A24 to A31 goes high, and a requester in slot 2 takes the bus by level 3.
-const GRANTED: &str = "quiet;BR3=0;BG3.0=0;BG3.1=0;BBSY=0 BR3=1;BG3.0=1;BG3.1=1";
+const GRANTED: &str = "high_but_A24_to_A31;BR3=0;BG3.0=0;BG3.1=0;BBSY=0 BR3=1;BG3.0=1;BG3.1=1";
 
 /// A standard address.
 const ADDRESSED: &str = "AM1=0 AM2=0 A05=0";
@@ -15,7 +16,7 @@ const ADDRESSED: &str = "AM1=0 AM2=0 A05=0";
 const READ: &str = "AS=0;DS0=0 DS1=0;DTACK=0;AS=1 DS0=1 DS1=1;DTACK=1";
 
 /// An answer that no strobe asks for.
-const WRONG: &str = "AS=0;DTACK=0;AS=1;DTACK=1";
+const UNASKED_ANSWER: &str = "AS=0;DTACK=0;AS=1;DTACK=1";
 
 /// The listing of the read.
 pub(super) const READ_ROWS: &str =
@@ -29,57 +30,6 @@ pub(super) const RESET_ROWS: &str =
 
 pub(super) fn no_changes(alloc: Global) -> Changes {
     Changes::new(SmallVec::new(alloc))
-}
-
-/// The change in a word, for example `BR3=0`.
-fn change_of(word: &str) -> Option<Change> {
-    let (name, level) = word.split_once('=')?;
-    let level = match level.as_bytes() {
-        [b'0'] => Level::Low,
-        _ => Level::High,
-    };
-    Some(Change {
-        line: Line::from_name(name.as_bytes())?,
-        level,
-    })
-}
-
-/// Adds the changes by which each line except A24 to A31 goes high.
-fn push_quiet(changes: &mut Vec<Change>, lines: &Lines) -> Option<()> {
-    for number in 0..LINE_COUNT {
-        let line = Line::from_number(number)?;
-        if lines.has(line) && !(37..=44).contains(&number) {
-            let level = Level::High;
-            changes.push(Change { line, level }).ok()?;
-        }
-    }
-    Some(())
-}
-
-/// The step in `text`.
-fn step_of(alloc: Global, lines: &Lines, time: u64, text: &str) -> Option<Step> {
-    let mut changes = Vec::new(alloc);
-    for word in text.split_whitespace() {
-        if word == "quiet" {
-            push_quiet(&mut changes, lines)?;
-        } else {
-            changes.push(change_of(word)?).ok()?;
-        }
-    }
-    let list = SmallVec::from_slice(alloc, changes.as_slice()).ok()?;
-    Some(Step {
-        time,
-        changes: Changes::new(list),
-    })
-}
-
-/// Adds the steps of a text.
-fn push_steps(alloc: Global, steps: &mut Vec<Step>, lines: &Lines, text: &str) -> Option<()> {
-    for part in text.split(';') {
-        let time = (steps.len() as u64).saturating_mul(10);
-        steps.push(step_of(alloc, lines, time, part)?).ok()?;
-    }
-    Some(())
 }
 
 /// The recording of the texts, one after the other, on a backplane of three slots whose lines are unknown before, cut
@@ -124,26 +74,33 @@ pub(super) fn reset_blocks(alloc: Global) -> Option<Vec<Block>> {
 }
 
 /// The halves of a recording of 22 steps with an answer and no strobe at instant 10, and again at instant 14.
-pub(super) fn wrong_twice(alloc: Global) -> Option<Vec<Block>> {
+pub(super) fn broken_twice(alloc: Global) -> Option<Vec<Block>> {
     blocks_of(
         alloc,
-        &[GRANTED, ADDRESSED, WRONG, WRONG, READ, "BBSY=1"],
+        &[
+            GRANTED,
+            ADDRESSED,
+            UNASKED_ANSWER,
+            UNASKED_ANSWER,
+            READ,
+            "BBSY=1",
+        ],
         11,
     )
 }
 
 /// A recording of 200 steps: 18 reads, an answer without a strobe at instant 100, and 19 more reads and a part of one.
-pub(super) fn wrong_blocks(alloc: Global, size: u32) -> Option<Vec<Block>> {
+pub(super) fn broken_blocks(alloc: Global, size: u32) -> Option<Vec<Block>> {
     let mut texts = [READ; 41];
     texts[0] = GRANTED;
     texts[1] = ADDRESSED;
-    texts[20] = WRONG;
+    texts[20] = UNASKED_ANSWER;
     texts[40] = "AS=0;DS0=0 DS1=0;DTACK=0";
     blocks_of(alloc, &texts, size)
 }
 
-/// The listing of the recording of `wrong_blocks`.
-pub(super) fn wrong_rows(alloc: Global) -> Option<String> {
+/// The listing of the recording of `broken_blocks`.
+pub(super) fn broken_rows(alloc: Global) -> Option<String> {
     let start = "vmecheck listing 3\nstart 1\ntenure 5 level 3 slot 2 end -\n";
     let mut rows = String::from_str(alloc, start).ok()?;
     for read in 0..18u32 {
