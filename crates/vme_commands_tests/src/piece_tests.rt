@@ -1,6 +1,6 @@
 //! A dump that is judged in pieces: the verdict and the listing are those of the whole text, wherever it is cut.
 
-use crate::tests::{LISTING, Page, has_told};
+use crate::tests::{HEAD, LISTING, Page, WantedTexts, has_told};
 use std::alloc::Global;
 use std::io::{self, Read};
 use std::process::Abort;
@@ -10,11 +10,6 @@ use vme_commands::check::check_by;
 use vme_commands::list::list_by;
 use vme_commands::{BLOCK, BUILT_IN, Workers};
 use vme_stream::{Bytes, Io};
-
-const HEAD: &str = "$timescale 1 ns $end\n$scope module bus $end\n\
-$var wire 1 p AS $end\n$var wire 1 q DS0 $end\n$var wire 1 r DS1 $end\n\
-$var wire 1 s DTACK $end\n$var wire 1 t BERR $end\n$var wire 1 u IACK $end\n\
-$upscope $end\n$enddefinitions $end\n";
 
 /// How long the pieces are that a dump is cut into. The longest is longer than each dump here.
 const PIECES: [usize; 10] = [1, 2, 3, 5, 8, 13, 21, 34, 64, 4096];
@@ -73,7 +68,7 @@ const NEVER_IDLE: Wanted = Wanted {
 };
 
 /// The expected answers to a dump with this fault, or to one that conforms if the fault is empty.
-fn told_of(fault: &'static str) -> Wanted {
+fn wanted_of(fault: &'static str) -> Wanted {
     if fault.is_empty() {
         return CONFORMING;
     }
@@ -134,12 +129,12 @@ fn checks_by<R: Threads + Sync>(
         &mut out,
         &mut err,
     );
-    has_told(
-        &out,
-        &err,
-        status,
-        (wanted.line, wanted.fault, wanted.status),
-    )
+    let texts = WantedTexts {
+        out: wanted.line,
+        err: wanted.fault,
+        status: wanted.status,
+    };
+    has_told(&out, &err, status, texts)
 }
 
 /// Whether the listing is written, or else the fault is reported.
@@ -162,12 +157,12 @@ fn lists_by<R: Threads + Sync>(
         &mut out,
         &mut err,
     );
-    has_told(
-        &out,
-        &err,
-        status,
-        (wanted.listing, wanted.fault, wanted.status),
-    )
+    let texts = WantedTexts {
+        out: wanted.listing,
+        err: wanted.fault,
+        status: wanted.status,
+    };
+    has_told(&out, &err, status, texts)
 }
 
 /// Bodies of dumps, and the fault of each, or none where it conforms.
@@ -216,7 +211,7 @@ fn dumps_in_pieces(rt: HostRuntime) -> Result<(), Fail> {
     for (body, fault) in BODIES.iter() {
         let mut dump = String::from_str(rt.alloc(), HEAD)?;
         dump.push_str(body)?;
-        expect_pieces(&rt, dump.as_str(), told_of(fault));
+        expect_pieces(&rt, dump.as_str(), wanted_of(fault));
     }
     expect_pieces(&rt, HEAD, NEVER_IDLE);
     Ok(())
@@ -227,17 +222,17 @@ fn definitions_in_pieces(rt: HostRuntime) {
     expect_pieces(
         &rt,
         "",
-        told_of("vmecheck: dump line 1: NoEndDefinitions\n"),
+        wanted_of("vmecheck: dump line 1: NoEndDefinitions\n"),
     );
     expect_pieces(
         &rt,
         "$scope module\nbus",
-        told_of("vmecheck: dump line 1: UnfinishedSection\n"),
+        wanted_of("vmecheck: dump line 1: UnfinishedSection\n"),
     );
     expect_pieces(
         &rt,
         "$upscope\n$end\n",
-        told_of("vmecheck: dump line 1: ScopeUnderflow\n"),
+        wanted_of("vmecheck: dump line 1: ScopeUnderflow\n"),
     );
 }
 

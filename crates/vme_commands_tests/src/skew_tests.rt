@@ -2,7 +2,10 @@
 
 ghost use Rattle.std.specs.Prelude.{◌≤◌};
 
-use crate::tests::{HEAD, Page, checks, explains, has_told, lists, many_steps};
+use crate::tests::{
+    HEAD, NEVER_IDLE, Page, SINGLE_STEPS, Settings, TOO_MANY_BLOCKS, WantedTexts, checks, dump_of,
+    explains, has_told, lists, many_steps,
+};
 use std::process::Abort;
 use std::test::Fail;
 use std::thread::Threads;
@@ -10,24 +13,8 @@ use vme_commands::list::list;
 use vme_commands::{BLOCK, BUILT_IN, unsettled};
 use vme_stream::Bytes;
 
-/// A read whose strobe is recorded 3 time units after its answer.
-const DUMP: &str = "$timescale 1 ns $end
-$scope module bus $end
-$var wire 1 p AS $end
-$var wire 1 q DS0 $end
-$var wire 1 r DS1 $end
-$var wire 1 s DTACK $end
-$var wire 1 t BERR $end
-$var wire 1 u IACK $end
-$upscope $end
-$enddefinitions $end
-#0 1p 1q 1r 1s 1t 1u
-#10 0p
-#20 0s
-#23 0q
-#40 1p 1q
-#50 1s
-";
+/// The body of a dump of a read whose strobe is recorded 3 time units after its answer.
+const EARLY_ANSWER: &str = "#0 1p 1q 1r 1s 1t 1u\n#10 0p\n#20 0s\n#23 0q\n#40 1p 1q\n#50 1s\n";
 
 /// Its listing with a skew below 3.
 const BROKEN: &str = "vmecheck listing 3
@@ -53,20 +40,20 @@ tenure 3 open end -
 verdict conforming
 ";
 
-/// Its listing with a skew that is longer than the recording: there is one instant.
+/// Its listing with a skew that is longer than the recording: all steps settle to one.
 const ONE: &str = "vmecheck listing 3
 start 1
 tenure 1 open end -
 verdict conforming
 ";
 
-/// The line of the verdict with a skew below 3.
-const HIDDEN: &str = "broken H4 at instant 3 time 20 line DTACK\n";
+/// The line of its verdict with a skew below 3.
+const BROKEN_LINE: &str = "broken H4 at instant 3 time 20 line DTACK\n";
 
 /// Skews, the line of the verdict with each, the listing, and the status.
 static WANTED: [(u64, &str, &str, u8); 6] = [
-    (0, HIDDEN, BROKEN, 1),
-    (2, HIDDEN, BROKEN, 1),
+    (0, BROKEN_LINE, BROKEN, 1),
+    (2, BROKEN_LINE, BROKEN, 1),
     (3, "conforming\n", SETTLED, 0),
     (12, "conforming\n", LATE, 0),
     (50, "conforming\n", ONE, 0),
@@ -75,49 +62,73 @@ static WANTED: [(u64, &str, &str, u8); 6] = [
 
 fn expect_verdict<R: Abort + AllocGlobal + Threads + Sync>(
     rt: &R,
+    dump: &str,
     workers: u32,
     wanted: &(u64, &str, &str, u8),
 )
     requires { (1 ≤ workers) × (workers ≤ 64) }
 {
     let (skew, line, _, status) = *wanted;
-    let (dump, told) = (DUMP.as_bytes(), (line, "", status));
+    let settings = Settings {
+        block: 1,
+        workers,
+        skew,
+    };
+    let texts = WantedTexts {
+        out: line,
+        err: "",
+        status,
+    };
     assert!(rt;
-        checks(rt, BUILT_IN, dump, 1, workers, skew, told),
+        checks(rt, BUILT_IN, dump.as_bytes(), settings, texts),
         "by {skew}"
     );
 }
 
 fn expect_listing<R: Abort + AllocGlobal + Threads + Sync>(
     rt: &R,
+    dump: &str,
     workers: u32,
     wanted: &(u64, &str, &str, u8),
 )
     requires { (1 ≤ workers) × (workers ≤ 64) }
 {
     let (skew, _, listing, status) = *wanted;
-    let (dump, told) = (DUMP.as_bytes(), (listing, "", status));
+    let settings = Settings {
+        block: BLOCK,
+        workers,
+        skew,
+    };
+    let texts = WantedTexts {
+        out: listing,
+        err: "",
+        status,
+    };
     assert!(rt;
-        lists(rt, BUILT_IN, dump, BLOCK, workers, skew, told),
+        lists(rt, BUILT_IN, dump.as_bytes(), settings, texts),
         "by {skew}"
     );
 }
 
 #[test]
-fn recordings_settle(rt: HostRuntime) {
+fn recordings_settle(rt: HostRuntime) -> Result<(), Fail> {
+    // laws of a skew of 0, which do nothing at run time: each public function is called once
     unsettled();
+    let dump = dump_of(rt.alloc(), HEAD, EARLY_ANSWER)?;
+    let dump = dump.as_str();
     for wanted in WANTED.iter() {
-        expect_verdict(&rt, 1, wanted);
-        expect_verdict(&rt, 3, wanted);
-        expect_listing(&rt, 1, wanted);
-        expect_listing(&rt, 3, wanted);
+        expect_verdict(&rt, dump, 1, wanted);
+        expect_verdict(&rt, dump, 3, wanted);
+        expect_listing(&rt, dump, 1, wanted);
+        expect_listing(&rt, dump, 3, wanted);
     }
+    Ok(())
 }
 
 /// Skews, what the explanation with each begins with, and the status.
 static EXPLAINED: [(u64, &str, u8); 4] = [
-    (0, HIDDEN, 1),
-    (2, HIDDEN, 1),
+    (0, BROKEN_LINE, 1),
+    (2, BROKEN_LINE, 1),
     (
         3,
         "conforming\n\njudged: from instant 1 time 0 to instant 5 time 50\n",
@@ -131,13 +142,14 @@ static EXPLAINED: [(u64, &str, u8); 4] = [
 ];
 
 #[test]
-fn an_explanation_is_of_what_settled(rt: HostRuntime) {
+fn an_explanation_is_of_what_settled(rt: HostRuntime) -> Result<(), Fail> {
+    let dump = dump_of(rt.alloc(), HEAD, EARLY_ANSWER)?;
     for (skew, text, status) in EXPLAINED.iter() {
         assert!(rt;
             explains(
                 rt.alloc(),
                 BUILT_IN,
-                DUMP,
+                dump.as_str(),
                 *skew,
                 (text, *status),
                 (&[], &[])
@@ -145,43 +157,75 @@ fn an_explanation_is_of_what_settled(rt: HostRuntime) {
             "by {skew}"
         );
     }
+    Ok(())
 }
 
-/// The limit on blocks counts the deskewed steps: of each two of the 4,097 steps one is left.
+/// The limit on blocks counts the steps that are left: with a skew of 1 the steps at the times 2k and 2k + 1 settle to
+/// one. So 8,192 steps make 4,096 blocks of one step, as many as there may be, and one step more makes one too many.
 #[test]
 fn blocks_are_counted_behind_settling(rt: HostRuntime) -> Result<(), Fail> {
-    let dump = many_steps(rt.alloc(), HEAD)?;
-    let too_many = ("", "vmecheck: too many blocks\n", 3);
-    let never_idle = ("never idle\n", "", 2);
-    assert!(rt; checks(&rt, BUILT_IN, dump.as_bytes(), 1, 1, 0, too_many));
-    assert!(rt; checks(&rt, BUILT_IN, dump.as_bytes(), 1, 1, 1, never_idle));
+    let most = many_steps(rt.alloc(), HEAD, 8192)?;
+    let one_more = many_steps(rt.alloc(), HEAD, 8193)?;
+    let deskewed = Settings {
+        block: 1,
+        workers: 1,
+        skew: 1,
+    };
+    assert!(rt;
+        checks(
+            &rt,
+            BUILT_IN,
+            most.as_bytes(),
+            SINGLE_STEPS,
+            TOO_MANY_BLOCKS
+        )
+    );
+    assert!(rt; checks(&rt, BUILT_IN, most.as_bytes(), deskewed, NEVER_IDLE));
+    assert!(rt;
+        checks(
+            &rt,
+            BUILT_IN,
+            one_more.as_bytes(),
+            deskewed,
+            TOO_MANY_BLOCKS
+        )
+    );
     Ok(())
 }
 
 /// Run with each allocation refused in turn, this shows that the answer is then want of memory.
 #[test]
 fn want_of_memory_by_a_skew_is_told(rt: HostRuntime) {
-    let (Ok(mut out), Ok(mut err)) = (
+    let (Ok(dump), Ok(mut out), Ok(mut err)) = (
+        dump_of(rt.alloc(), HEAD, EARLY_ANSWER),
         Page::with_room(rt.alloc(), 200),
         Page::with_room(rt.alloc(), 200),
     ) else {
         return;
     };
-    let ended = list(
+    let status = list(
         &rt,
         rt.alloc(),
         &mut Bytes::new(BUILT_IN),
-        &mut Bytes::new(DUMP.as_bytes()),
+        &mut Bytes::new(dump.as_bytes()),
         BLOCK,
         1,
         3,
         &mut out,
         &mut err,
     );
-    let wanted = if ended == 4 {
-        ("", "vmecheck: out of memory\n", 4)
+    let wanted = if status == 4 {
+        WantedTexts {
+            out: "",
+            err: "vmecheck: out of memory\n",
+            status: 4,
+        }
     } else {
-        (SETTLED, "", 0)
+        WantedTexts {
+            out: SETTLED,
+            err: "",
+            status: 0,
+        }
     };
-    assert!(rt; has_told(&out, &err, ended, wanted));
+    assert!(rt; has_told(&out, &err, status, wanted));
 }

@@ -1,5 +1,6 @@
 //! Readers that fail or never end, and writers that fail, at each place.
 
+use crate::tests::{BODY, HEAD, LISTING, dump_of};
 use std::alloc::Global;
 use std::io::{self, Error, ErrorKind, Read, Write};
 use std::process::Abort;
@@ -11,35 +12,7 @@ use vme_commands::{BLOCK, BUILT_IN};
 use vme_stream::{Bytes, Io};
 use vme_trace::Source;
 
-/// A dump of one read cycle.
-const DUMP: &str = "$timescale 1 ns $end
-$scope module bus $end
-$var wire 1 p AS $end
-$var wire 1 q DS0 $end
-$var wire 1 r DS1 $end
-$var wire 1 s DTACK $end
-$var wire 1 t BERR $end
-$var wire 1 u IACK $end
-$upscope $end
-$enddefinitions $end
-#0 1p 1q 1r 1s 1t 1u
-#10 0p
-#20 0q
-#30 0s
-#40 1p 1q
-#50 1s
-";
-
-/// Its listing.
-const LISTING: &str = "vmecheck listing 3
-start 1
-tenure 1 open end -
-cycle 2 S 3D FFFFFE end 5
-transfer 3 of 2 read DTACK 4 close 5
-verdict conforming
-";
-
-/// The listing without the strobe.
+/// The listing of the read without its strobe.
 const BROKEN: &str = "vmecheck listing 3
 start 1
 tenure 1 open end -
@@ -172,7 +145,7 @@ impl Write for Deaf {
 }
 
 /// The status with which a command ends.
-fn ended<R: AllocGlobal + Threads + Sync, B: Source, D: Source>(
+fn status_of<R: AllocGlobal + Threads + Sync, B: Source, D: Source>(
     rt: &R,
     command: Command,
     binding: &mut B,
@@ -199,7 +172,7 @@ fn refuses<R: AllocGlobal + Threads + Sync, B: Source, D: Source>(
 ) -> bool {
     let mut out = Page::new(rt.alloc(), 1000, 1000);
     let mut err = Page::new(rt.alloc(), 1000, 1000);
-    let status = ended(rt, command, binding, dump, &mut out, &mut err);
+    let status = status_of(rt, command, binding, dump, &mut out, &mut err);
     out.bytes.is_empty() && err.bytes.as_slice() == text.as_bytes() && status == 3
 }
 
@@ -211,7 +184,7 @@ fn tells_torn_binding<R: AllocGlobal + Threads + Sync>(
     place: usize,
 ) -> bool {
     let mut binding = torn_at(text, place, 1000);
-    let mut dump = Bytes::new(DUMP.as_bytes());
+    let mut dump = Bytes::new(HEAD.as_bytes());
     let wanted = "vmecheck: cannot read binding\n";
     refuses(rt, command, &mut binding, &mut dump, wanted)
 }
@@ -242,10 +215,12 @@ fn tells_of_dump<R: AllocGlobal + Threads + Sync, D: Source>(
 }
 
 #[test]
-fn torn_dumps(rt: HostRuntime) {
+fn torn_dumps(rt: HostRuntime) -> Result<(), Fail> {
+    let whole = dump_of(rt.alloc(), HEAD, BODY)?;
+    let text = whole.as_str();
     for command in COMMANDS.iter() {
-        for place in 0..=DUMP.len() {
-            let mut dump = torn_at(DUMP, place, 1);
+        for place in 0..=text.len() {
+            let mut dump = torn_at(text, place, 1);
             let wanted = "vmecheck: cannot read dump\n";
             assert!(rt;
                 tells_of_dump(&rt, *command, &mut dump, wanted),
@@ -253,6 +228,7 @@ fn torn_dumps(rt: HostRuntime) {
             );
         }
     }
+    Ok(())
 }
 
 /// How many line feeds dumps have, how many come a read, and the message about each: 17,000,000 bytes, the most that
@@ -301,37 +277,39 @@ fn a_reader_that_is_interrupted_for_good(rt: HostRuntime) {
 }
 
 #[test]
-fn a_writer_that_takes_nothing(rt: HostRuntime) {
+fn a_writer_that_takes_nothing(rt: HostRuntime) -> Result<(), Fail> {
+    let dump = dump_of(rt.alloc(), HEAD, BODY)?;
     let mut err = Page::new(rt.alloc(), 1000, 1000);
     let status = check(
         &rt,
         rt.alloc(),
         &mut Bytes::new(BUILT_IN),
-        &mut Bytes::new(DUMP.as_bytes()),
+        &mut Bytes::new(dump.as_bytes()),
         BLOCK,
         1,
         0,
         &mut Io::new(Deaf),
         &mut Io::new(&mut err),
     );
-    let told = b"vmecheck: cannot write\n".as_slice();
-    assert!(rt; err.bytes.as_slice() == told && status == 5);
+    let message = b"vmecheck: cannot write\n".as_slice();
+    assert!(rt; err.bytes.as_slice() == message && status == 5);
+    Ok(())
 }
 
-/// Whether a command writes the first `room` bytes of `text` to a page with that room, and `told` to `err`, with this
-/// status.
+/// Whether a command writes the first `room` bytes of `text` to a page with that room, and `message` to `err`, with
+/// this status.
 fn writes_front<R: AllocGlobal + Threads + Sync>(
     rt: &R,
     command: Command,
     dump: &str,
     text: &str,
     room: usize,
-    told: &str,
+    message: &str,
     status: u8,
 ) -> bool {
     let mut out = Page::new(rt.alloc(), room, 5);
     let mut err = Page::new(rt.alloc(), 1000, 1000);
-    let ended = ended(
+    let found = status_of(
         rt,
         command,
         &mut Bytes::new(BUILT_IN),
@@ -340,8 +318,8 @@ fn writes_front<R: AllocGlobal + Threads + Sync>(
         &mut err,
     );
     Some(out.bytes.as_slice()) == text.as_bytes().get(..room)
-        && err.bytes.as_slice() == told.as_bytes()
-        && ended == status
+        && err.bytes.as_slice() == message.as_bytes()
+        && found == status
 }
 
 /// Commands, whether their dump is one without the strobe, and what each writes and its status.
@@ -380,9 +358,15 @@ fn expect_fronts<R: Abort + AllocGlobal + Threads + Sync>(
 
 #[test]
 fn full_pages(rt: HostRuntime) -> Result<(), Fail> {
-    let broken = DUMP.replace(rt.alloc(), "#20 0q\n", "")?;
+    let whole = dump_of(rt.alloc(), HEAD, BODY)?;
+    let body = BODY.replace(rt.alloc(), "#20 0q\n", "")?;
+    let broken = dump_of(rt.alloc(), HEAD, body.as_str())?;
     for (command, is_broken, text, status) in WRITTEN.iter() {
-        let dump = if *is_broken { broken.as_str() } else { DUMP };
+        let dump = if *is_broken {
+            broken.as_str()
+        } else {
+            whole.as_str()
+        };
         expect_fronts(&rt, *command, dump, text, *status);
     }
     Ok(())

@@ -14,12 +14,14 @@ use vme_text_commands::explain::{InputNames, explain};
 use vme_text_commands::{tell_faults, tell_variables};
 use vme_trace::{Failed, Line, Rule, Sink};
 
+/// The head of a dump with the six variables of the built-in binding.
 pub(crate) const HEAD: &str = "$timescale 1 ns $end\n$scope module bus $end\n\
 $var wire 1 p AS $end\n$var wire 1 q DS0 $end\n$var wire 1 r DS1 $end\n\
 $var wire 1 s DTACK $end\n$var wire 1 t BERR $end\n$var wire 1 u IACK $end\n\
 $upscope $end\n$enddefinitions $end\n";
 
-const BODY: &str = "#0 1p 1q 1r 1s 1t 1u\n#10 0p\n#20 0q\n#30 0s\n#40 1p 1q\n#50 1s\n";
+/// A read that conforms.
+pub(crate) const BODY: &str = "#0 1p 1q 1r 1s 1t 1u\n#10 0p\n#20 0q\n#30 0s\n#40 1p 1q\n#50 1s\n";
 
 /// The names of the input files.
 pub(crate) const NAMES: InputNames<'static> = InputNames {
@@ -83,27 +85,52 @@ impl Sink for Page {
 }
 
 /// What a command writes to `out` and to `err`, and its status.
-pub(crate) type WantedTexts<'a> = (&'a str, &'a str, u8);
+#[derive(Clone, Copy)]
+pub(crate) struct WantedTexts<'a> {
+    pub out: &'a str,
+    pub err: &'a str,
+    pub status: u8,
+}
 
 /// Whether a command wrote this, and ended with this status.
 pub(crate) fn has_told(out: &Page, err: &Page, status: u8, wanted: WantedTexts<'_>) -> bool {
-    let (text, told, ended) = wanted;
-    out.bytes.as_slice() == text.as_bytes()
-        && err.bytes.as_slice() == told.as_bytes()
-        && status == ended
+    out.bytes.as_slice() == wanted.out.as_bytes()
+        && err.bytes.as_slice() == wanted.err.as_bytes()
+        && status == wanted.status
 }
+
+/// How a command judges: how many steps a block has, how many workers read the dump, and the skew.
+#[derive(Clone, Copy)]
+pub(crate) struct Settings {
+    pub block: u32,
+    pub workers: u32,
+    pub skew: u64,
+}
+
+/// As a command judges without options, but with one worker.
+const USUAL: Settings = Settings {
+    block: BLOCK,
+    workers: 1,
+    skew: 0,
+};
+
+/// Blocks of one step, one worker and no skew.
+pub(crate) const SINGLE_STEPS: Settings = Settings {
+    block: 1,
+    workers: 1,
+    skew: 0,
+};
 
 /// Whether the check of a dump by a binding gives this.
 pub(crate) fn checks<R: AllocGlobal + Threads + Sync>(
     rt: &R,
     binding: &[u8],
     dump: &[u8],
-    block: u32,
-    workers: u32,
-    skew: u64,
+    settings: Settings,
     wanted: WantedTexts<'_>,
 ) -> bool
-    requires { (1 ≤ block) × (block ≤ 65536) × (1 ≤ workers) × (workers ≤ 64) }
+    requires block { (1 ≤ settings.block) × (settings.block ≤ 65536) }
+    requires workers { (1 ≤ settings.workers) × (settings.workers ≤ 64) }
 {
     let mut out = Page::new(rt.alloc(), 1000);
     let mut err = Page::new(rt.alloc(), 1000);
@@ -112,9 +139,9 @@ pub(crate) fn checks<R: AllocGlobal + Threads + Sync>(
         rt.alloc(),
         &mut Bytes::new(binding),
         &mut Bytes::new(dump),
-        block,
-        workers,
-        skew,
+        settings.block,
+        settings.workers,
+        settings.skew,
         &mut out,
         &mut err,
     );
@@ -127,17 +154,26 @@ fn expect_verdict<R: Abort + AllocGlobal + Threads + Sync>(
     text: &str,
     status: u8,
 ) {
-    let wanted = (text, "", status);
+    let wanted = WantedTexts {
+        out: text,
+        err: "",
+        status,
+    };
+    let three_steps = Settings {
+        block: 3,
+        workers: 1,
+        skew: 0,
+    };
     assert!(rt;
-        checks(rt, BUILT_IN, dump.as_bytes(), 1, 1, 0, wanted),
+        checks(rt, BUILT_IN, dump.as_bytes(), SINGLE_STEPS, wanted),
         "{dump}"
     );
     assert!(rt;
-        checks(rt, BUILT_IN, dump.as_bytes(), 3, 1, 0, wanted),
+        checks(rt, BUILT_IN, dump.as_bytes(), three_steps, wanted),
         "{dump}"
     );
     assert!(rt;
-        checks(rt, BUILT_IN, dump.as_bytes(), BLOCK, 1, 0, wanted),
+        checks(rt, BUILT_IN, dump.as_bytes(), USUAL, wanted),
         "{dump}"
     );
 }
@@ -148,14 +184,19 @@ fn expect_refusal<R: Abort + AllocGlobal + Threads + Sync>(
     dump: &str,
     text: &str,
 ) {
-    let wanted = ("", text, 3);
+    let wanted = WantedTexts {
+        out: "",
+        err: text,
+        status: 3,
+    };
     assert!(rt;
-        checks(rt, binding.as_bytes(), dump.as_bytes(), BLOCK, 1, 0, wanted),
+        checks(rt, binding.as_bytes(), dump.as_bytes(), USUAL, wanted),
         "{text}"
     );
 }
 
-fn dump_of(alloc: Global, head: &str, body: &str) -> Result<String, AllocError> {
+/// The dump with this head and body.
+pub(crate) fn dump_of(alloc: Global, head: &str, body: &str) -> Result<String, AllocError> {
     let mut dump = String::from_str(alloc, head)?;
     dump.push_str(body)?;
     Ok(dump)
@@ -196,12 +237,11 @@ pub(crate) fn lists<R: AllocGlobal + Threads + Sync>(
     rt: &R,
     binding: &[u8],
     dump: &[u8],
-    block: u32,
-    workers: u32,
-    skew: u64,
+    settings: Settings,
     wanted: WantedTexts<'_>,
 ) -> bool
-    requires { (1 ≤ block) × (block ≤ 65536) × (1 ≤ workers) × (workers ≤ 64) }
+    requires block { (1 ≤ settings.block) × (settings.block ≤ 65536) }
+    requires workers { (1 ≤ settings.workers) × (settings.workers ≤ 64) }
 {
     let mut out = Page::new(rt.alloc(), 1000);
     let mut err = Page::new(rt.alloc(), 1000);
@@ -210,9 +250,9 @@ pub(crate) fn lists<R: AllocGlobal + Threads + Sync>(
         rt.alloc(),
         &mut Bytes::new(binding),
         &mut Bytes::new(dump),
-        block,
-        workers,
-        skew,
+        settings.block,
+        settings.workers,
+        settings.skew,
         &mut out,
         &mut err,
     );
@@ -225,13 +265,17 @@ fn expect_listing<R: Abort + AllocGlobal + Threads + Sync>(
     text: &str,
     status: u8,
 ) {
-    let wanted = (text, "", status);
+    let wanted = WantedTexts {
+        out: text,
+        err: "",
+        status,
+    };
     assert!(rt;
-        lists(rt, BUILT_IN, dump.as_bytes(), 1, 1, 0, wanted),
+        lists(rt, BUILT_IN, dump.as_bytes(), SINGLE_STEPS, wanted),
         "{dump}"
     );
     assert!(rt;
-        lists(rt, BUILT_IN, dump.as_bytes(), BLOCK, 1, 0, wanted),
+        lists(rt, BUILT_IN, dump.as_bytes(), USUAL, wanted),
         "{dump}"
     );
 }
@@ -285,8 +329,20 @@ fn reset_binding(alloc: Global) -> Result<String, Fail> {
 fn a_reset_ends_what_is_judged(rt: HostRuntime) -> Result<(), Fail> {
     let dump = reset_dump(rt.alloc())?;
     let binding = reset_binding(rt.alloc())?;
-    let listed = (RESET_LISTING, "", 0);
-    assert!(rt; lists(&rt, binding.as_bytes(), dump.as_bytes(), 1, 1, 0, listed));
+    let listed = WantedTexts {
+        out: RESET_LISTING,
+        err: "",
+        status: 0,
+    };
+    assert!(rt;
+        lists(
+            &rt,
+            binding.as_bytes(),
+            dump.as_bytes(),
+            SINGLE_STEPS,
+            listed
+        )
+    );
     let unbound = "broken H2 at instant 4 time 30 line DS0\n";
     expect_verdict(&rt, dump.as_str(), unbound, 1);
     Ok(())
@@ -413,23 +469,51 @@ fn paths(rt: HostRuntime) -> Result<(), Fail> {
     Ok(())
 }
 
-/// A dump of 4,097 steps, with this head.
-pub(crate) fn many_steps(alloc: Global, head: &str) -> Result<String, Fail> {
+/// A dump of `count` steps, one at each time from 0, with this head. AS and DS0 move in turn, and both go to the same
+/// level: high at the times 0 and 1, low at 2 and 3, high at 4 and 5, and so on.
+pub(crate) fn many_steps(alloc: Global, head: &str, count: u32) -> Result<String, Fail> {
     let mut dump = String::from_str(alloc, head)?;
-    for time in 0..4097u32 {
-        let level = if time % 2 == 0 { "1" } else { "0" };
-        dump.push_str(format!(in alloc; "#{time} {level}p\n")?.as_str())?;
+    for time in 0..count {
+        let level = if time % 4 < 2 { "1" } else { "0" };
+        let code = if time % 2 == 0 { "p" } else { "q" };
+        dump.push_str(format!(in alloc; "#{time} {level}{code}\n")?.as_str())?;
     }
     Ok(dump)
 }
 
+/// What is written of a dump of which too many blocks would be made.
+pub(crate) const TOO_MANY_BLOCKS: WantedTexts<'static> = WantedTexts {
+    out: "",
+    err: "vmecheck: too many blocks\n",
+    status: 3,
+};
+
+/// What is written of a dump in which the bus is never idle.
+pub(crate) const NEVER_IDLE: WantedTexts<'static> = WantedTexts {
+    out: "never idle\n",
+    err: "",
+    status: 2,
+};
+
+/// 4,097 steps are one block too many if each is a block.
 #[test]
 fn blocks(rt: HostRuntime) -> Result<(), Fail> {
-    let dump = many_steps(rt.alloc(), HEAD)?;
-    let too_many = ("", "vmecheck: too many blocks\n", 3);
-    let never_idle = ("never idle\n", "", 2);
-    assert!(rt; checks(&rt, BUILT_IN, dump.as_bytes(), 1, 1, 0, too_many));
-    assert!(rt; checks(&rt, BUILT_IN, dump.as_bytes(), 2, 1, 0, never_idle));
+    let dump = many_steps(rt.alloc(), HEAD, 4097)?;
+    let two_steps = Settings {
+        block: 2,
+        workers: 1,
+        skew: 0,
+    };
+    assert!(rt;
+        checks(
+            &rt,
+            BUILT_IN,
+            dump.as_bytes(),
+            SINGLE_STEPS,
+            TOO_MANY_BLOCKS
+        )
+    );
+    assert!(rt; checks(&rt, BUILT_IN, dump.as_bytes(), two_steps, NEVER_IDLE));
     Ok(())
 }
 
@@ -496,10 +580,10 @@ pub(crate) fn explains(
     wanted: (&str, u8),
     parts: (&[&str], &[&str]),
 ) -> bool {
-    let (text, status) = wanted;
+    let (text, wanted_status) = wanted;
     let mut out = Page::new(alloc, 5000);
     let mut err = Page::new(alloc, 100);
-    let (ended, files) = explain(
+    let (status, files) = explain(
         alloc,
         &mut Bytes::new(binding),
         &mut Bytes::new(dump.as_bytes()),
@@ -510,7 +594,7 @@ pub(crate) fn explains(
     );
     let is_so = out.bytes.as_slice().starts_with(text.as_bytes())
         && err.bytes.is_empty()
-        && ended == status;
+        && status == wanted_status;
     match files {
         Some(files) => {
             is_so
@@ -539,7 +623,7 @@ fn want_of_memory_is_told(rt: HostRuntime) {
     ) else {
         return;
     };
-    let (ended, _) = explain(
+    let (status, _) = explain(
         rt.alloc(),
         &mut Bytes::new(BUILT_IN),
         &mut Bytes::new(dump.as_bytes()),
@@ -548,7 +632,7 @@ fn want_of_memory_is_told(rt: HostRuntime) {
         &mut out,
         &mut err,
     );
-    assert!(rt; begins_or_lacks_memory(&out, &err, ended));
+    assert!(rt; begins_or_lacks_memory(&out, &err, status));
 }
 
 #[test]
@@ -576,16 +660,16 @@ fn binds(
 ) -> bool
     requires { IfSome slots (λ n. (1 ≤ n) × (n ≤ 21)) }
 {
-    let (head, told, status) = bound;
+    let (head, message, wanted_status) = bound;
     let mut out = Page::new(alloc, 5000);
     let mut err = Page::new(alloc, 200);
     let mut dump = Bytes::new(dump.as_bytes());
-    let ended = bind(
+    let status = bind(
         alloc, &mut dump, b"bus.vcd", slots, path, &mut out, &mut err,
     );
     out.bytes.as_slice().starts_with(head.as_bytes())
-        && err.bytes.as_slice().starts_with(told.as_bytes())
-        && ended == status
+        && err.bytes.as_slice().starts_with(message.as_bytes())
+        && status == wanted_status
 }
 
 #[test]
@@ -593,10 +677,10 @@ fn a_binding_is_written(rt: HostRuntime) -> Result<(), Fail> {
     let dump = dump_of(rt.alloc(), HEAD, BODY)?;
     let head =
         "# Found by the names in the scope bus: look each line over.\nslots 1\nAS = bus.AS\n";
-    let told =
+    let message =
         "vmecheck: bound 6 of 19 groups in scope bus, 1 slot; not found: LWORD WRITE BBSY AM A D SYSRESET BR \
 BG0 BG1 BG2 BG3 IA\n";
-    assert!(rt; binds(rt.alloc(), dump.as_str(), None, None, (head, told, 0)));
+    assert!(rt; binds(rt.alloc(), dump.as_str(), None, None, (head, message, 0)));
     Ok(())
 }
 
@@ -644,9 +728,9 @@ fn a_kind_of_refusal_is_told(rt: HostRuntime) {
     let mut out = Page::new(rt.alloc(), 5000);
     let mut err = Page::new(rt.alloc(), 100);
     let status = tell_faults(rt.alloc(), Some(RefusalKind::BadVar), &mut out, &mut err);
-    let told =
+    let first_lines =
         b"BadVar: a declaration that is none\n  expected: `$var`, a type, a size in digits, ";
-    let is_told = out.bytes.as_slice().starts_with(told);
+    let is_told = out.bytes.as_slice().starts_with(first_lines);
     assert!(rt; is_told && err.bytes.is_empty() && status == 0);
 }
 
