@@ -11,6 +11,9 @@ use vme_trace::{Class, Level, Line, Lines, MovedBytes, RULE_COUNT, Rule};
 /// How many memories each monitor has.
 const MEMORIES: [u8; 5] = [4, 147, 13, 35, 11];
 
+/// The memory in which judging has ended. The bytes of a table have no entry of it: a run stays in it.
+const ENDED: u8 = 2;
+
 /// The levels of two slots: every line is high, except A31, which is unknown, and BG3's last net, which is low.
 const LEVELS: [u8; 48] = [
     0x55, 0x55, 0x55, 0x55, 0x55, 0x55, 0x55, 0x55, 0x55, 0x55, 0x55, 0x56, 0x55, 0xA9, 0xAA, 0xAA,
@@ -60,20 +63,20 @@ fn put_times(out: &mut Vec<u8>, times: [u64; 3]) -> Result<(), AllocError> {
     Ok(())
 }
 
-/// Adds a table without marks, in which each run stays in its memory (state).
-fn put_idle_table(out: &mut Vec<u8>, memories: u8) -> Result<(), AllocError> {
+/// Adds a table of a part without marks, in which each run stays in its memory (state).
+fn put_unchanged_table(out: &mut Vec<u8>, memories: u8) -> Result<(), AllocError> {
     for next in 0..memories {
-        if next != 2 {
+        if next != ENDED {
             out.extend_from_slice(&[next, 0])?;
         }
     }
     Ok(())
 }
 
-/// Adds a table without marks, in which each run stays in its memory, and breaks I5 on SYSRESET*.
+/// Adds a table of a part without marks, in which each run stays in its memory, and breaks I5 on SYSRESET*.
 fn put_broken_table(out: &mut Vec<u8>, memories: u8) -> Result<(), AllocError> {
     for next in 0..memories {
-        if next != 2 {
+        if next != ENDED {
             out.extend_from_slice(&[next, 31, 191])?;
             out.extend_from_slice(&(u64::MAX - u64::from(next)).to_le_bytes())?;
             out.extend_from_slice(&u64::MAX.to_le_bytes())?;
@@ -82,11 +85,11 @@ fn put_broken_table(out: &mut Vec<u8>, memories: u8) -> Result<(), AllocError> {
     Ok(())
 }
 
-/// Adds a table of a part with marks, which has none itself, in which each run stays in its memory.
-fn put_silent_table(out: &mut Vec<u8>, memories: u8) -> Result<(), AllocError> {
+/// Adds a table of a part with marks: it has no marks, and each run stays in its memory.
+fn put_unchanged_table_with_marks(out: &mut Vec<u8>, memories: u8) -> Result<(), AllocError> {
     out.extend_from_slice(&[0, 0, 0, 0])?;
     for next in 0..memories {
-        if next != 2 {
+        if next != ENDED {
             out.extend_from_slice(&[next, 0, 0, 0, 0])?;
         }
     }
@@ -193,6 +196,7 @@ fn put_marked_table(out: &mut Vec<u8>) -> Result<(), AllocError> {
     out.extend_from_slice(&[2, 0, 0, 0])?;
     for next in 0..147 {
         match next {
+            // the memory `ENDED`
             2 => {}
             3 => out.extend_from_slice(&[148, 0, 0, 0, 0])?,
             4 => {
@@ -216,7 +220,7 @@ fn empty_part(alloc: Global) -> Result<Vec<u8>, AllocError> {
     put_head(&mut out, 258, 1, 0)?;
     out.push(0)?;
     for memories in MEMORIES {
-        put_idle_table(&mut out, memories)?;
+        put_unchanged_table(&mut out, memories)?;
     }
     Ok(out)
 }
@@ -236,11 +240,11 @@ fn greatest_part(alloc: Global) -> Result<Vec<u8>, AllocError> {
 fn put_marked_segment(out: &mut Vec<u8>, first: u64) -> Result<(), AllocError> {
     put_head(out, first, 0, u64::MAX)?;
     put_times(out, [first, 5, 5])?;
-    put_silent_table(out, 4)?;
+    put_unchanged_table_with_marks(out, 4)?;
     put_marked_table(out)?;
-    put_silent_table(out, 13)?;
-    put_silent_table(out, 35)?;
-    put_silent_table(out, 11)
+    put_unchanged_table_with_marks(out, 13)?;
+    put_unchanged_table_with_marks(out, 35)?;
+    put_unchanged_table_with_marks(out, 11)
 }
 
 /// The bytes before the sum of a part of two segments with marks.
@@ -269,7 +273,7 @@ fn changed(alloc: Global, bytes: &[u8], place: usize, byte: u8) -> Result<Vec<u8
 }
 
 /// Reads the part in `bytes`, and asserts that it is written as the same bytes.
-fn read_again(rt: &impl Abort, alloc: Global, bytes: &[u8]) -> Result<Part, Fail> {
+fn expect_part(rt: &impl Abort, alloc: Global, bytes: &[u8]) -> Result<Part, Fail> {
     let part = read_part(alloc, bytes).ok().ok_or("no part")?;
     let written = write_part(alloc, &part)?;
     assert_eq!(rt; written.as_slice(), bytes);
@@ -296,7 +300,7 @@ fn a_part_without_steps_is_read(rt: HostRuntime) -> Result<(), Fail> {
     let bytes = empty_part(rt.alloc())?;
     assert_eq!(rt; bytes.len(), 21 + 115 + 205 * 2);
     let bytes = with_sum(rt.alloc(), bytes.as_slice())?;
-    let part = read_again(&rt, rt.alloc(), bytes.as_slice())?;
+    let part = expect_part(&rt, rt.alloc(), bytes.as_slice())?;
     assert_eq!(rt; part.backplane, 0x0102_0304_0506_0708);
     assert!(rt; !part.listing);
     let segment = part.segments.first().ok_or("no segment")?;
@@ -321,7 +325,7 @@ fn the_greatest_part_without_marks_has_4063_bytes(rt: HostRuntime) -> Result<(),
     let bytes = greatest_part(rt.alloc())?;
     let bytes = with_sum(rt.alloc(), bytes.as_slice())?;
     assert_eq!(rt; bytes.len(), 4063);
-    let part = read_again(&rt, rt.alloc(), bytes.as_slice())?;
+    let part = expect_part(&rt, rt.alloc(), bytes.as_slice())?;
     let segment = part.segments.first().ok_or("no segment")?;
     let times = SegmentTimes {
         number: (1 << 62) + 1,
@@ -356,7 +360,7 @@ fn all_marks(alloc: Global) -> Result<Vec<WideMark>, AllocError> {
 fn marks_are_read(rt: HostRuntime) -> Result<(), Fail> {
     let bytes = marked_part(rt.alloc())?;
     let bytes = with_sum(rt.alloc(), bytes.as_slice())?;
-    let part = read_again(&rt, rt.alloc(), bytes.as_slice())?;
+    let part = expect_part(&rt, rt.alloc(), bytes.as_slice())?;
     assert!(rt; part.listing);
     assert_eq!(rt; part.segments.len(), 2);
     let segment = part.segments.last().ok_or("no segment")?;
@@ -397,7 +401,7 @@ fn a_changed_byte_is_damage(rt: HostRuntime) -> Result<(), Fail> {
 }
 
 /// Asserts that the bytes with their sum are read and written as the same bytes, or refused at a place before the sum.
-fn is_exact(rt: &impl Abort, alloc: Global, bytes: &[u8]) -> Result<(), Fail> {
+fn expect_exact(rt: &impl Abort, alloc: Global, bytes: &[u8]) -> Result<(), Fail> {
     let whole = with_sum(alloc, bytes)?;
     match read_part(alloc, whole.as_slice()) {
         Ok(part) => {
@@ -413,8 +417,8 @@ fn is_exact(rt: &impl Abort, alloc: Global, bytes: &[u8]) -> Result<(), Fail> {
     Ok(())
 }
 
-/// Asserts that fronts of the bytes, with their sums, are refused as cut short.
-fn is_cut_short(rt: &impl Abort, alloc: Global, front: &[u8]) -> Result<(), Fail> {
+/// Asserts that `front`, the first bytes of a part, is refused as cut short if its sum follows.
+fn expect_cut_short(rt: &impl Abort, alloc: Global, front: &[u8]) -> Result<(), Fail> {
     let whole = with_sum(alloc, front)?;
     let fault = fault_of(alloc, whole.as_slice()).ok_or("a part")?;
     assert_eq!(rt; fault.kind, PartFaultKind::CutShort);
@@ -429,11 +433,11 @@ fn changed_bytes_with_a_right_sum_are_read_exactly(rt: HostRuntime) -> Result<()
             if place < 150 || place % 23 == 0 {
                 for change in [1, 2, 0x10, 0x20, 0x40, 0x80, 0xFF] {
                     let other = changed(rt.alloc(), bytes.as_slice(), place, *byte ^ change)?;
-                    is_exact(&rt, rt.alloc(), other.as_slice())?;
+                    expect_exact(&rt, rt.alloc(), other.as_slice())?;
                 }
                 if place >= 8 {
                     let front = bytes.get(..place).ok_or("no place")?;
-                    is_cut_short(&rt, rt.alloc(), front)?;
+                    expect_cut_short(&rt, rt.alloc(), front)?;
                 }
             }
         }
