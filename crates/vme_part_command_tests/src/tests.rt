@@ -10,7 +10,8 @@ use vme_part_command::{
 use vme_stream::{Bytes, Io};
 use vme_trace::{Failed, Sink, Source};
 
-const BINDING: &[u8] = b"slots 1
+/// A binding of six lines to variables, on a backplane of one slot.
+const BINDING: &str = "slots 1
 AS = bus.AS
 DS0 = bus.DS0
 DS1 = bus.DS1
@@ -35,95 +36,7 @@ BG3 = 1
 IA = 1
 ";
 
-/// `BINDING` with a backplane of two slots.
-const OTHER_BINDING: &[u8] = b"slots 2
-AS = bus.AS
-DS0 = bus.DS0
-DS1 = bus.DS1
-DTACK = bus.DTACK
-BERR = bus.BERR
-IACK = bus.IACK
-AM0 = 1
-AM1 = 0
-AM2 = 1
-AM3 = 1
-AM4 = 1
-AM5 = 1
-LWORD = 1
-WRITE = 1
-A = 1
-BBSY = 0
-BR = 1
-BG0 = 1
-BG1 = 1
-BG2 = 1
-BG3 = 1
-IA = 1
-";
-
-/// The first file: a read cycle until the address strobe falls.
-const FIRST: &str = "$timescale 1 ns $end
-$scope module bus $end
-$var wire 1 p AS $end
-$var wire 1 q DS0 $end
-$var wire 1 r DS1 $end
-$var wire 1 s DTACK $end
-$var wire 1 t BERR $end
-$var wire 1 u IACK $end
-$upscope $end
-$enddefinitions $end
-#0 1p 1q 1r 1s 1t 1u
-#10 0p
-";
-
-/// The second file: the cycle from there until the answer.
-const SECOND: &str = "$timescale 1 ns $end
-$scope module bus $end
-$var wire 1 p AS $end
-$var wire 1 q DS0 $end
-$var wire 1 r DS1 $end
-$var wire 1 s DTACK $end
-$var wire 1 t BERR $end
-$var wire 1 u IACK $end
-$upscope $end
-$enddefinitions $end
-#10 0p 1q 1r 1s 1t 1u
-#20 0q
-#30 0s
-";
-
-/// The third file: the end of the cycle.
-const THIRD: &str = "$timescale 1 ns $end
-$scope module bus $end
-$var wire 1 p AS $end
-$var wire 1 q DS0 $end
-$var wire 1 r DS1 $end
-$var wire 1 s DTACK $end
-$var wire 1 t BERR $end
-$var wire 1 u IACK $end
-$upscope $end
-$enddefinitions $end
-#30 0p 0q 1r 0s 1t 1u
-#40 1p 1q
-#50 1s
-";
-
-/// Another third file: the end of a cycle without an answer before it.
-const OTHER_THIRD: &str = "$timescale 1 ns $end
-$scope module bus $end
-$var wire 1 p AS $end
-$var wire 1 q DS0 $end
-$var wire 1 r DS1 $end
-$var wire 1 s DTACK $end
-$var wire 1 t BERR $end
-$var wire 1 u IACK $end
-$upscope $end
-$enddefinitions $end
-#30 0p 0q 1r 1s 1t 1u
-#40 1p 1q
-";
-
-/// A dump without a time.
+/// The definitions of a dump with those variables. Each body below follows them.
 const HEADER: &str = "$timescale 1 ns $end
 $scope module bus $end
 $var wire 1 p AS $end
@@ -136,51 +49,29 @@ $upscope $end
 $enddefinitions $end
 ";
 
-/// A dump without a step, and without a level of a line.
-const NO_LEVELS: &str = "$timescale 1 ns $end
-$scope module bus $end
-$var wire 1 p AS $end
-$var wire 1 q DS0 $end
-$var wire 1 r DS1 $end
-$var wire 1 s DTACK $end
-$var wire 1 t BERR $end
-$var wire 1 u IACK $end
-$upscope $end
-$enddefinitions $end
-#0
-";
+/// The first file: a read cycle until the address strobe falls.
+const FIRST: &str = "#0 1p 1q 1r 1s 1t 1u\n#10 0p\n";
+
+/// The second file: the cycle from there until the answer.
+const SECOND: &str = "#10 0p 1q 1r 1s 1t 1u\n#20 0q\n#30 0s\n";
+
+/// The third file: the end of the cycle.
+const THIRD: &str = "#30 0p 0q 1r 0s 1t 1u\n#40 1p 1q\n#50 1s\n";
+
+/// Another third file: the end of a cycle without an answer before it.
+const OTHER_THIRD: &str = "#30 0p 0q 1r 1s 1t 1u\n#40 1p 1q\n";
+
+/// A file without a time.
+const NO_TIME: &str = "";
+
+/// A file without a step, and without a level of a line.
+const NO_LEVELS: &str = "#0\n";
 
 /// The first file, with no levels at its first time.
-const LATER_FIRST: &str = "$timescale 1 ns $end
-$scope module bus $end
-$var wire 1 p AS $end
-$var wire 1 q DS0 $end
-$var wire 1 r DS1 $end
-$var wire 1 s DTACK $end
-$var wire 1 t BERR $end
-$var wire 1 u IACK $end
-$upscope $end
-$enddefinitions $end
-#0
-#1 1p 1q 1r 1s 1t 1u
-#10 0p
-";
+const LATER_FIRST: &str = "#0\n#1 1p 1q 1r 1s 1t 1u\n#10 0p\n";
 
 /// The second file, with its levels before any time.
-const UNTIMED_SECOND: &str = "$timescale 1 ns $end
-$scope module bus $end
-$var wire 1 p AS $end
-$var wire 1 q DS0 $end
-$var wire 1 r DS1 $end
-$var wire 1 s DTACK $end
-$var wire 1 t BERR $end
-$var wire 1 u IACK $end
-$upscope $end
-$enddefinitions $end
-$dumpvars 0p 1q 1r 1s 1t 1u $end
-#20 0q
-#30 0s
-";
+const UNTIMED_SECOND: &str = "$dumpvars 0p 1q 1r 1s 1t 1u $end\n#20 0q\n#30 0s\n";
 
 /// The listing of the whole.
 const LISTING: &str = "vmecheck listing 3
@@ -237,11 +128,11 @@ impl Sink for Page {
 
 /// A reader of the bytes `left`, whose next read fails.
 #[derive(Drop)]
-struct TornReader<'a> {
+struct FailingReader<'a> {
     left: &'a [u8],
 }
 
-impl Read for TornReader<'_> {
+impl Read for FailingReader<'_> {
     fn read(&mut self, buffer: &mut [u8]) -> io::Result<usize> {
         if self.left.is_empty() {
             return Err(Error::from(ErrorKind::Other));
@@ -273,27 +164,33 @@ type WantedAnswer<'a> = (&'a str, &'a str, u8);
 
 /// Whether the outputs and the status are `wanted`.
 fn has_told(out: &Page, err: &Page, status: u8, wanted: WantedAnswer<'_>) -> bool {
-    let (text, told, ended) = wanted;
-    out.bytes.as_slice() == text.as_bytes()
-        && err.bytes.as_slice() == told.as_bytes()
-        && status == ended
+    let (stdout, stderr, wanted_status) = wanted;
+    out.bytes.as_slice() == stdout.as_bytes()
+        && err.bytes.as_slice() == stderr.as_bytes()
+        && status == wanted_status
 }
 
-/// The part of `dump` as the file `number`, by `binding`, if one is written.
-fn part_by(
+/// The dump with the body `body`.
+fn dump_of(alloc: Global, body: &str) -> Result<String, AllocError> {
+    let mut dump = String::from_str(alloc, HEADER)?;
+    dump.push_str(body)?;
+    Ok(dump)
+}
+
+/// The part of the dump that comes from `source`, by `binding`, if one is written.
+fn part_from<D: Source>(
     alloc: Global,
-    binding: &[u8],
-    number: u32,
-    listing: bool,
-    dump: &str,
+    binding: &str,
+    options: PartOptions,
+    source: &mut D,
 ) -> Option<Vec<u8>> {
     let mut out = Page::new(alloc, 1_000_000);
     let mut err = Page::new(alloc, 1000);
     let status = write_part_of(
         alloc,
-        PartOptions { number, listing },
-        &mut Bytes::new(binding),
-        &mut Bytes::new(dump.as_bytes()),
+        options,
+        &mut Bytes::new(binding.as_bytes()),
+        source,
         &mut out,
         &mut err,
     );
@@ -304,9 +201,22 @@ fn part_by(
     }
 }
 
-/// The part with marks of `dump` as the file `number`.
-fn part_of(alloc: Global, number: u32, dump: &str) -> Option<Vec<u8>> {
-    part_by(alloc, BINDING, number, true, dump)
+/// The part of the dump with the body `body` as the file `number`, by `binding`, if one is written.
+fn part_by(
+    alloc: Global,
+    binding: &str,
+    number: u32,
+    listing: bool,
+    body: &str,
+) -> Option<Vec<u8>> {
+    let dump = dump_of(alloc, body).ok()?;
+    let mut source = Bytes::new(dump.as_bytes());
+    part_from(alloc, binding, PartOptions { number, listing }, &mut source)
+}
+
+/// The part with marks of the dump with the body `body` as the file `number`.
+fn part_of(alloc: Global, number: u32, body: &str) -> Option<Vec<u8>> {
+    part_by(alloc, BINDING, number, true, body)
 }
 
 /// The name of the input with the index `place`.
@@ -384,7 +294,8 @@ fn a_part_is_short(rt: HostRuntime) {
     assert!(rt; writes_a_short_part(rt.alloc()) == Some(true));
 }
 
-/// Whether the parts of the files, in any order, give the verdict and the listing of the whole.
+/// Whether the parts of the files, in another order than that of the files, give the verdict and the listing of the
+/// whole.
 fn tells_the_whole(alloc: Global) -> Option<bool> {
     let first = part_of(alloc, 0, FIRST)?;
     let second = part_of(alloc, 1, SECOND)?;
@@ -404,7 +315,7 @@ fn the_verdict_and_the_listing_of_the_whole(rt: HostRuntime) {
     assert!(rt; tells_the_whole(rt.alloc()) == Some(true));
 }
 
-/// Whether a file opens with the levels after its first time, and with none if that has none.
+/// Whether the opening of a file has the levels at its first time, and is unknown where that time gives none.
 fn opens_at_the_first_time(alloc: Global) -> Option<bool> {
     let none = part_of(alloc, 0, NO_LEVELS)?;
     let first = part_of(alloc, 1, LATER_FIRST)?;
@@ -424,29 +335,17 @@ fn the_opening_is_that_of_the_first_time(rt: HostRuntime) {
     assert!(rt; opens_at_the_first_time(rt.alloc()) == Some(true));
 }
 
-/// The part with marks of a dump that is read a few bytes at a time.
-fn part_by_reads(alloc: Global, number: u32, dump: &str) -> Option<Vec<u8>> {
-    let mut out = Page::new(alloc, 1_000_000);
-    let mut err = Page::new(alloc, 1000);
+/// The part with marks of the dump with the body `body`, which is read a few bytes at a time.
+fn part_by_reads(alloc: Global, number: u32, body: &str) -> Option<Vec<u8>> {
+    let dump = dump_of(alloc, body).ok()?;
     let options = PartOptions {
         number,
         listing: true,
     };
-    let status = write_part_of(
-        alloc,
-        options,
-        &mut Bytes::new(BINDING),
-        &mut Io::new(ShortReader {
-            left: dump.as_bytes(),
-        }),
-        &mut out,
-        &mut err,
-    );
-    if status == 0 && err.bytes.is_empty() {
-        Some(out.bytes)
-    } else {
-        None
-    }
+    let mut source = Io::new(ShortReader {
+        left: dump.as_bytes(),
+    });
+    part_from(alloc, BINDING, options, &mut source)
 }
 
 /// Whether a dump has the same part however it is read.
@@ -464,7 +363,7 @@ fn short_reads_make_the_same_part(rt: HostRuntime) {
     assert!(rt; writes_the_same_part(rt.alloc()) == Some(true));
 }
 
-/// Whether parts that were joined with others, one of them twice, give the listing of the whole.
+/// Whether joins of joins, the third file in two of them, give the listing of the whole.
 fn tells_by_joins(alloc: Global) -> Option<bool> {
     let first = part_of(alloc, 0, FIRST)?;
     let second = part_of(alloc, 1, SECOND)?;
@@ -512,7 +411,8 @@ fn tells_torn_files(alloc: Global) -> Option<bool> {
     let another = part_of(alloc, 1, THIRD)?;
     let torn = ("", "vmecheck: part 2 torn\n", 3);
     let differs = ("", "vmecheck: part 2 differs\n", 3);
-    let buddy_differs = ("", "vmecheck: part 1 differs\n", 3);
+    // the files 0 and 1 are the two halves of one segment, which are joined first
+    let first_pair_differs = ("", "vmecheck: part 1 differs\n", 3);
     Some(
         tells(
             alloc,
@@ -537,7 +437,7 @@ fn tells_torn_files(alloc: Global) -> Option<bool> {
             &[second.as_slice(), first.as_slice(), another.as_slice()],
             None,
             false,
-            buddy_differs,
+            first_pair_differs,
         )?,
     )
 }
@@ -547,8 +447,8 @@ fn a_torn_file_is_told(rt: HostRuntime) {
     assert!(rt; tells_torn_files(rt.alloc()) == Some(true));
 }
 
-/// Whether `dump` is refused with the line `told`.
-fn is_no_file(alloc: Global, dump: &str, told: &str) -> bool {
+/// Whether `dump` is refused with the line `line`.
+fn is_refused(alloc: Global, dump: &str, line: &str) -> bool {
     let mut out = Page::new(alloc, 1000);
     let mut err = Page::new(alloc, 1000);
     let status = write_part_of(
@@ -557,35 +457,35 @@ fn is_no_file(alloc: Global, dump: &str, told: &str) -> bool {
             number: 1,
             listing: true,
         },
-        &mut Bytes::new(BINDING),
+        &mut Bytes::new(BINDING.as_bytes()),
         &mut Bytes::new(dump.as_bytes()),
         &mut out,
         &mut err,
     );
-    has_told(&out, &err, status, ("", told, 3))
+    has_told(&out, &err, status, ("", line, 3))
 }
 
-/// Whether an empty file is refused, and one with only a header has no steps and no levels, so it doesn't follow a file
-/// that leaves some.
+/// Whether an empty file is refused, and one that has only definitions is judged. Such a file has no steps and no
+/// levels, so it doesn't follow a file that leaves some.
 fn judges_short_files(alloc: Global) -> Option<bool> {
-    let header = part_of(alloc, 0, HEADER)?;
+    let untimed = part_of(alloc, 0, NO_TIME)?;
     let first = part_of(alloc, 0, FIRST)?;
-    let behind = part_of(alloc, 1, HEADER)?;
+    let next_untimed = part_of(alloc, 1, NO_TIME)?;
     let never = ("never idle\n", "", 2);
     let torn = ("", "vmecheck: part 1 torn\n", 3);
     Some(
-        is_no_file(alloc, "", "vmecheck: dump line 1: NoEndDefinitions\n")
-            && tells(alloc, &[header.as_slice()], None, false, never)?
+        is_refused(alloc, "", "vmecheck: dump line 1: NoEndDefinitions\n")
+            && tells(alloc, &[untimed.as_slice()], None, false, never)?
             && tells(
                 alloc,
-                &[header.as_slice(), behind.as_slice()],
+                &[untimed.as_slice(), next_untimed.as_slice()],
                 None,
                 false,
                 never,
             )?
             && tells(
                 alloc,
-                &[first.as_slice(), behind.as_slice()],
+                &[first.as_slice(), next_untimed.as_slice()],
                 None,
                 false,
                 torn,
@@ -601,13 +501,14 @@ fn short_files_are_judged_or_refused(rt: HostRuntime) {
 /// Whether parts of different backplanes, and with marks and without, are refused by their names.
 fn refuses_others(alloc: Global) -> Option<bool> {
     let first = part_of(alloc, 0, FIRST)?;
-    let other = part_by(alloc, OTHER_BINDING, 1, true, SECOND)?;
-    let bare = part_by(alloc, BINDING, 1, false, SECOND)?;
+    let two_slots = BINDING.replace(alloc, "slots 1", "slots 2").ok()?;
+    let other = part_by(alloc, two_slots.as_str(), 1, true, SECOND)?;
+    let without_marks = part_by(alloc, BINDING, 1, false, SECOND)?;
     let backplane = ("", "vmecheck: b.part: of another backplane\n", 3);
     let without = ("", "vmecheck: b.part: without marks\n", 3);
     let with = ("", "vmecheck: b.part: with marks\n", 3);
     let unmarked = ("", "vmecheck: parts without marks\n", 3);
-    let alone = part_by(alloc, BINDING, 0, false, FIRST)?;
+    let first_without_marks = part_by(alloc, BINDING, 0, false, FIRST)?;
     Some(
         tells(
             alloc,
@@ -617,17 +518,23 @@ fn refuses_others(alloc: Global) -> Option<bool> {
             backplane,
         )? && tells(
             alloc,
-            &[first.as_slice(), bare.as_slice()],
+            &[first.as_slice(), without_marks.as_slice()],
             None,
             false,
             without,
         )? && tells(
             alloc,
-            &[bare.as_slice(), first.as_slice()],
+            &[without_marks.as_slice(), first.as_slice()],
             None,
             false,
             with,
-        )? && tells(alloc, &[alone.as_slice()], None, true, unmarked)?,
+        )? && tells(
+            alloc,
+            &[first_without_marks.as_slice()],
+            None,
+            true,
+            unmarked,
+        )?,
     )
 }
 
@@ -661,35 +568,36 @@ fn damaged_parts_are_refused(rt: HostRuntime) {
     assert!(rt; refuses_damaged(rt.alloc()) == Some(true));
 }
 
-/// Whether it is reported that a part can't be read after its first `place` bytes.
-fn tells_torn_read(alloc: Global, part: &[u8], place: usize) -> bool {
-    let left = part.get(..place).unwrap_or_default();
+/// Whether it is reported that a part can't be read after its first `place` bytes. `None` if it is shorter.
+fn tells_failed_read(alloc: Global, part: &[u8], place: usize) -> Option<bool> {
+    let left = part.get(..place)?;
     let mut inputs = [NamedPart {
         name: b"a.part",
-        part: Io::new(TornReader { left }),
+        part: Io::new(FailingReader { left }),
     }];
     let wanted = ("", "vmecheck: a.part: cannot read\n", 3);
-    answers(alloc, &mut inputs, None, false, 1000, wanted)
+    Some(answers(alloc, &mut inputs, None, false, 1000, wanted))
 }
 
 /// After how many bytes a read fails.
 static PLACES: [usize; 5] = [0, 1, 8, 100, 1000];
 
 /// Whether it is reported that a part can't be read after each count of `PLACES`, and after its end.
-fn tells_torn_reads(alloc: Global) -> Option<bool> {
+fn tells_failed_reads(alloc: Global) -> Option<bool> {
     let part = part_of(alloc, 0, FIRST)?;
     let bytes = part.as_slice();
     for place in PLACES.iter() {
-        if !tells_torn_read(alloc, bytes, *place) {
+        let is_told = tells_failed_read(alloc, bytes, *place)?;
+        if !is_told {
             return Some(false);
         }
     }
-    Some(tells_torn_read(alloc, bytes, bytes.len()))
+    tells_failed_read(alloc, bytes, bytes.len())
 }
 
 #[test]
 fn a_read_fails_in_mid_stream(rt: HostRuntime) {
-    assert!(rt; tells_torn_reads(rt.alloc()) == Some(true));
+    assert!(rt; tells_failed_reads(rt.alloc()) == Some(true));
 }
 
 /// Whether it is reported that the verdict can't be written.
@@ -710,26 +618,29 @@ fn full_pages(rt: HostRuntime) {
 #[test]
 fn want_of_memory_is_told(rt: HostRuntime) {
     let alloc = rt.alloc();
-    let (Ok(mut out), Ok(mut err)) = (Page::with_room(alloc, 100_000), Page::with_room(alloc, 100))
-    else {
+    let (Ok(dump), Ok(mut out), Ok(mut err)) = (
+        dump_of(alloc, SECOND),
+        Page::with_room(alloc, 100_000),
+        Page::with_room(alloc, 100),
+    ) else {
         return;
     };
     let options = PartOptions {
         number: 1,
         listing: true,
     };
-    let ended = write_part_of(
+    let status = write_part_of(
         alloc,
         options,
-        &mut Bytes::new(BINDING),
-        &mut Bytes::new(SECOND.as_bytes()),
+        &mut Bytes::new(BINDING.as_bytes()),
+        &mut Bytes::new(dump.as_bytes()),
         &mut out,
         &mut err,
     );
-    let is_told = if ended == 4 {
-        has_told(&out, &err, ended, ("", "vmecheck: out of memory\n", 4))
+    let is_told = if status == 4 {
+        has_told(&out, &err, status, ("", "vmecheck: out of memory\n", 4))
     } else {
-        ended == 0 && out.bytes.as_slice().starts_with(b"vmepart1") && err.bytes.is_empty()
+        status == 0 && out.bytes.as_slice().starts_with(b"vmepart1") && err.bytes.is_empty()
     };
     assert!(rt; is_told);
 }
