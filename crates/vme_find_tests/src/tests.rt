@@ -101,6 +101,7 @@ fn are_declared(survey: &SurveyedDump) -> bool {
     match declared.variables() {
         [strobe, other] => {
             declared.name_of(strobe) == b"as_n".as_slice()
+                && declared.name_of(other) == b"other".as_slice()
                 && levels.moves(strobe.net, 0)
                 && !levels.moves(other.net, 0)
                 && other.number_of_bit(0) == 3
@@ -110,15 +111,18 @@ fn are_declared(survey: &SurveyedDump) -> bool {
     }
 }
 
+/// Whether a survey is that of `DUMP`: its scopes, its variables, and which of them moves.
+fn is_survey_of_dump(alloc: Global, survey: &SurveyedDump) -> bool {
+    are_declared(survey)
+        && survey.names().scopes().len() == 2
+        && has_path(alloc, survey.names(), 1, b"bus")
+        && has_scopes(alloc, survey.names(), b"bus", &[false, true])
+}
+
 /// Whether the dump is surveyed right, or memory is refused.
 fn is_surveyed(alloc: Global) -> bool {
     match surveyed(alloc, DUMP) {
-        Ok(survey) => {
-            are_declared(&survey)
-                && survey.names().scopes().len() == 2
-                && has_path(alloc, survey.names(), 1, b"bus")
-                && has_scopes(alloc, survey.names(), b"bus", &[false, true])
-        }
+        Ok(survey) => is_survey_of_dump(alloc, &survey),
         Err(fault) => fault.line == 0,
     }
 }
@@ -211,7 +215,7 @@ fn a_letter_has_its_published_hash(rt: HostRuntime) {
     assert!(rt; hash_of(EMPTY_HASH, b"a") == 0xaf63_dc4c_8601_ec8c);
 }
 
-/// Whether the binding of the dump begins with `head`, and isn't that of a bus.
+/// Whether the binding of the dump begins with its scope, its slots and AS, and isn't that of a bus.
 fn is_found_by_its_name(alloc: Global) -> bool {
     let head =
         b"# Found by the names in the scope bus: look each line over.\nslots 2\nAS = bus.as_n\n";
@@ -516,7 +520,7 @@ const GRANTED: &str =
     "$var wire 1 p AS $end $var wire 1 q BBSY $end $var wire 2 r BG3 [1:0] $end $var wire 23 a A [23:1] $end\n";
 
 /// Definitions in which lines aren't found, and a text that the binding of each with a cycle contains.
-static FITTING: [(&str, &str); 4] = [
+static CONSTANTS_BOUND: [(&str, &str); 4] = [
     (PROCESSOR, "\nBBSY = 0\n"),
     (
         PROCESSOR,
@@ -528,7 +532,7 @@ static FITTING: [(&str, &str); 4] = [
 
 #[test]
 fn what_is_not_found_fits_what_is(rt: HostRuntime) {
-    let unbound = first_unbound(rt.alloc(), &FITTING);
+    let unbound = first_unbound(rt.alloc(), &CONSTANTS_BOUND);
     assert!(rt; unbound.is_none(), "{}", unbound.unwrap_or(""));
 }
 
@@ -598,26 +602,18 @@ const UNDECLARED: VcdFault = VcdFault {
     kind: FaultKind::UndeclaredCode,
 };
 
-/// Whether the first variable of a survey moves.
-fn moves_first(survey: &SurveyedDump) -> bool {
-    match survey.names().variables() {
-        [strobe, ..] => survey.levels().moves(strobe.net, 0),
-        _ => false,
-    }
-}
-
-/// Whether a survey of the first bytes of a dump, and then of the others, finds that AS moves.
-fn moves_in_pieces(alloc: Global, dump: &str, cut: usize) -> Result<bool, AllocError> {
-    let bytes = dump.as_bytes();
+/// Whether a survey of the first bytes of `DUMP`, and then of the others, is that of the whole.
+fn is_surveyed_in_pieces(alloc: Global, cut: usize) -> Result<bool, AllocError> {
+    let bytes = DUMP.as_bytes();
     let (survey, count) = DumpSurvey::new().take(alloc, bytes.get(..cut).unwrap_or(b""))?;
     match survey.finish(alloc, bytes.get(count..).unwrap_or(b"")) {
-        Ok(survey) => Ok(moves_first(&survey)),
+        Ok(survey) => Ok(is_survey_of_dump(alloc, &survey)),
         Err(_) => Ok(false),
     }
 }
 
-/// Whether the undeclared code is the fault that is met in all of a dump, and the one that is met in its first bytes,
-/// if one is.
+/// Whether both the first bytes of a dump and all of it have the undeclared code as their fault. If `is_met` is false
+/// the first bytes may have none.
 fn fails_in_pieces(
     alloc: Global,
     dump: &str,
@@ -640,7 +636,7 @@ fn fails_in_pieces(
 fn pieces_are_surveyed_as_the_whole(rt: HostRuntime) {
     for cut in 0..DUMP.len() {
         assert!(rt;
-            matches!(moves_in_pieces(rt.alloc(), DUMP, cut), Ok(true)),
+            matches!(is_surveyed_in_pieces(rt.alloc(), cut), Ok(true)),
             "{cut}"
         );
     }
