@@ -12,19 +12,17 @@ const DEFINITIONS: &str = "$timescale 10 ns $end\n$scope module b $end\n$var wir
 $var wire 6 q AM $end\n$upscope $end\n$enddefinitions $end\n";
 
 #[test]
-fn the_viewer_counts_in_units_and_by_bits(rt: HostRuntime) -> Result<(), Fail> {
+fn a_save_file_has_times_in_units_and_ranges_of_bits(rt: HostRuntime) -> Result<(), Fail> {
     let definitions = read_definitions(
         rt.alloc(),
         DEFINITIONS.as_bytes(),
         Variables::new(rt.alloc()),
     );
     let (Ok((_, variables)), Some(opening)) = (definitions, Lines::new(1)) else {
-        assert!(rt; false);
-        return Ok(());
+        return Err(Fail::from("no definitions"));
     };
     let Ok(account) = AccountVisitor::new(rt.alloc(), &opening).finish() else {
-        assert!(rt; false);
-        return Ok(());
+        return Err(Fail::from("no account"));
     };
     let verdict = Verdict::Broken(Break {
         rule: Rule::B3,
@@ -59,7 +57,7 @@ fn the_viewer_counts_in_units_and_by_bits(rt: HostRuntime) -> Result<(), Fail> {
 }
 
 #[test]
-fn times_and_nets_are_named(rt: HostRuntime) -> Result<(), Fail> {
+fn times_and_drivers_are_named(rt: HostRuntime) {
     assert_eq!(rt; time_name(b"1ns"), "time (ns)");
     assert_eq!(rt; time_name(b"100ps"), "time (100 ps)");
     assert_eq!(rt; time_name(b"5ns"), "time");
@@ -69,7 +67,6 @@ fn times_and_nets_are_named(rt: HostRuntime) -> Result<(), Fail> {
     assert!(rt; driver_of(Line::iack(1)) == Some(Driver::Slot(1)));
     assert!(rt; driver_of(Line::iack(21)) == Some(Driver::Slot(21)));
     assert!(rt; driver_of(Line::AS).is_none() && driver_of(Line::data(0)).is_none());
-    Ok(())
 }
 
 const BINDING: FileId = FileId {
@@ -84,19 +81,19 @@ const DUMP: FileId = FileId {
 
 #[test]
 fn no_input_and_no_file_of_others_is_written_over(rt: HostRuntime) -> Result<(), Fail> {
-    let at = |device, number, is_ours| {
+    let refusal_for = |device, number, is_ours| {
         let id = FileId { device, number };
         save_refusal(&PathEntry::File { id, is_ours }, BINDING, DUMP)
     };
     assert!(rt; save_refusal(&PathEntry::Nothing, BINDING, DUMP).is_none());
     assert!(rt; save_refusal(&PathEntry::Other, BINDING, DUMP) == Some(SaveRefusal::Foreign));
-    assert!(rt; at(1, 7, true) == Some(SaveRefusal::Binding));
-    assert!(rt; at(1, 8, true) == Some(SaveRefusal::Dump));
-    assert!(rt; at(2, 8, true).is_none());
-    assert!(rt; at(1, 9, false) == Some(SaveRefusal::Foreign));
-    let stands = |id, is_ours| PathEntry::File { id, is_ours };
-    assert!(rt; is_one_file(&stands(DUMP, true), &stands(DUMP, false)));
-    assert!(rt; !is_one_file(&stands(DUMP, true), &stands(BINDING, true)));
+    assert!(rt; refusal_for(1, 7, true) == Some(SaveRefusal::Binding));
+    assert!(rt; refusal_for(1, 8, true) == Some(SaveRefusal::Dump));
+    assert!(rt; refusal_for(2, 8, true).is_none());
+    assert!(rt; refusal_for(1, 9, false) == Some(SaveRefusal::Foreign));
+    let file_of = |id, is_ours| PathEntry::File { id, is_ours };
+    assert!(rt; is_one_file(&file_of(DUMP, true), &file_of(DUMP, false)));
+    assert!(rt; !is_one_file(&file_of(DUMP, true), &file_of(BINDING, true)));
     assert!(rt; !is_one_file(&PathEntry::Nothing, &PathEntry::Nothing));
     let text = save_refusal_text(rt.alloc(), "a\u{202E}\u{1B}", SaveRefusal::Dump)?;
     let shown = b"vmecheck: nothing is written over a\\xE2\\x80\\xAE\\x1B: it is the dump\n";
