@@ -108,7 +108,7 @@ $enddefinitions $end
 
 /// What the binding of the bus has after its lines, what the dump declares after AS, its changes, and the steps of the
 /// recording.
-static OF_BUS: [(&str, &str, &str, &str); 5] = [
+static BUS_RECORDINGS: [(&str, &str, &str, &str); 5] = [
     ("", "", READ, READ_STEPS),
     (
         "D = bus.D\n",
@@ -141,7 +141,7 @@ static OF_BUS: [(&str, &str, &str, &str); 5] = [
 ];
 
 /// The bits of AS, those of BR, and the steps of the recording.
-static OF_VECTORS: [(&str, &str, &str); 3] = [
+static VECTOR_RECORDINGS: [(&str, &str, &str); 3] = [
     (
         "down[7]",
         "down[4:1]",
@@ -160,7 +160,7 @@ static OF_VECTORS: [(&str, &str, &str); 3] = [
 ];
 
 /// The path of AS, and the declarations of a dump in which it is p: a path may be split into scopes anywhere.
-static OF_PATHS: [(&str, &str); 12] = [
+static PATHS: [(&str, &str); 12] = [
     (
         "a.b.c",
         "$scope module a $end $scope begin b $end $var wire 1 p c $end",
@@ -286,7 +286,7 @@ fn is_written(alloc: Global, capture: Option<Capture>, wanted: &str) -> bool {
 
 #[test]
 fn recordings_of_the_bus(rt: HostRuntime) {
-    for (more, declared, changes, wanted) in OF_BUS.iter() {
+    for (more, declared, changes, wanted) in BUS_RECORDINGS.iter() {
         let dump = [BUS, *declared, DECLARED, *changes];
         let capture = captured(rt.alloc(), &[BUS_LINES, *more], &dump);
         assert!(rt; is_written(rt.alloc(), capture, wanted), "not {wanted}");
@@ -318,7 +318,7 @@ fn to_path(path: &str) -> [&str; 4] {
 
 #[test]
 fn recordings_of_vectors(rt: HostRuntime) {
-    for (strobe, requests, wanted) in OF_VECTORS.iter() {
+    for (strobe, requests, wanted) in VECTOR_RECORDINGS.iter() {
         let capture = captured(rt.alloc(), &to_vectors(strobe, requests), &[VECTORS]);
         assert!(rt; is_written(rt.alloc(), capture, wanted), "not {wanted}");
     }
@@ -326,7 +326,7 @@ fn recordings_of_vectors(rt: HostRuntime) {
 
 #[test]
 fn recordings_by_paths(rt: HostRuntime) {
-    for (path, header) in OF_PATHS.iter() {
+    for (path, header) in PATHS.iter() {
         let capture = captured(rt.alloc(), &to_path(path), &[*header, FALLS]);
         let wanted = "#1 AS=1\n#2 AS=0\n";
         assert!(rt; is_written(rt.alloc(), capture, wanted), "{header}");
@@ -628,13 +628,17 @@ fn a_fault_is_shown_with_its_line(rt: HostRuntime) -> Result<(), Fail> {
     Ok(())
 }
 
+/// A prefix of a binding that lacks more than the last line feed doesn't bind all lines.
 #[test]
-fn every_front_of_a_binding_is_one_or_has_a_fault(rt: HostRuntime) {
+fn every_prefix_of_a_binding_has_a_fault_unless_it_binds_all(rt: HostRuntime) {
     let text = BUS_LINES.as_bytes();
     for end in 0..text.len() {
-        if let Err(fault) = read_binding(rt.alloc(), &text[..end]) {
-            assert!(rt; fault.kind != BindFaultKind::Memory, "at {end}");
-        }
+        let binds_all = end + 1 == text.len();
+        let is_right = match read_binding(rt.alloc(), &text[..end]) {
+            Ok(_) => binds_all,
+            Err(fault) => !binds_all && fault.kind != BindFaultKind::Memory,
+        };
+        assert!(rt; is_right, "at {end}");
     }
 }
 
