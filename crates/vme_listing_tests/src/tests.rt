@@ -297,8 +297,8 @@ fn resets(rt: HostRuntime) {
     assert!(rt; is_reset_written(rt.alloc()));
 }
 
-/// Whether the row of a listing of version 3 is the same in versions 1, 2 and 3.
-fn is_told_with_data(row: &Row) -> (bool, bool, bool) {
+/// Whether the row of a listing of version 3 is the same in each of the versions 1, 2 and 3.
+fn same_in_versions(row: &Row) -> (bool, bool, bool) {
     (
         row.in_version(Version::One) == *row,
         row.in_version(Version::Two) == *row,
@@ -306,20 +306,20 @@ fn is_told_with_data(row: &Row) -> (bool, bool, bool) {
     )
 }
 
-/// Whether a version has data, and resets.
-fn is_told_by(version: Version) -> (bool, bool) {
+/// Whether a version has data, and whether it has resets.
+fn includes_data_and_resets(version: Version) -> (bool, bool) {
     (version.includes_data(), version.includes_resets())
 }
 
 #[test]
 fn versions(rt: HostRuntime) {
     let write = write_of(10, lanes(MovedBytes::Word, 0xFFFF, 0));
-    assert!(rt; is_told_with_data(&write) == (false, true, true));
+    assert!(rt; same_in_versions(&write) == (false, true, true));
     let reset = Row::Reset { instant: 11 };
-    assert!(rt; is_told_with_data(&reset) == (true, true, true));
-    assert!(rt; is_told_by(Version::One) == (false, false));
-    assert!(rt; is_told_by(Version::Two) == (true, false));
-    assert!(rt; is_told_by(Version::Three) == (true, true));
+    assert!(rt; same_in_versions(&reset) == (true, true, true));
+    assert!(rt; includes_data_and_resets(Version::One) == (false, false));
+    assert!(rt; includes_data_and_resets(Version::Two) == (true, false));
+    assert!(rt; includes_data_and_resets(Version::Three) == (true, true));
 }
 
 /// The digits of the data of a write: those that aren't moved, one of which a line is unknown, and the others.
