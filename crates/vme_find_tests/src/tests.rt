@@ -4,8 +4,8 @@ use memchr::memmem;
 use std::alloc::{AllocError, Global};
 use vcd_read::{FaultKind, VcdFault};
 use vme_declarations::{
-    DeclaredNames, DumpSurvey, EMPTY_HASH, SurveyedDump, VariableBit, front_of, has_scope, hash_of,
-    scopes_of,
+    DeclaredNames, DumpSurvey, EMPTY_HASH, Groups, SurveyedDump, VariableBit, front_of, group_of,
+    has_scope, hash_of, scopes_of,
 };
 use vme_find::{FindFault, FoundBinding, write_binding};
 use vme_line_names::find_lines;
@@ -495,6 +495,56 @@ $var wire 1 y bbsy $end\n",
 #[test]
 fn names_are_found_behind_a_text_and_before_another(rt: HostRuntime) {
     let unbound = first_unbound(rt.alloc(), &NAMED);
+    assert!(rt; unbound.is_none(), "{}", unbound.unwrap_or(""));
+}
+
+/// Outputs of a board, each a single net; most names have a number at the end. No line is found by two of them.
+const OUTPUTS: &str =
+    "$var wire 1 p o_as $end $var wire 1 q o_ds_0 $end $var wire 1 r o_dtack $end $var wire 1 s o_ds_1 $end\n\
+$var wire 1 t o_br_3 $end $var wire 1 u o_bg3_0 $end $var wire 1 v o_d_7 $end $var wire 1 w o_am_0 $end\n\
+$var wire 1 x o_iack_out1 $end\n";
+
+/// An output and an input of a board, by each of which DS0 is found.
+const OUTPUT_AND_INPUT: &str =
+    "$var wire 1 p as $end $var wire 1 q i_ds_0 $end $var wire 1 r dtack $end $var wire 1 s o_ds_0 $end\n";
+
+/// Definitions of outputs, and a text that the binding of each with a cycle contains.
+static OUTPUTS_BOUND: [(&str, &str); 5] = [
+    (
+        OUTPUTS,
+        "\nAS = o_as\nDS0 = o_ds_0\nDS1 = o_ds_1\nDTACK = o_dtack\n",
+    ),
+    (OUTPUTS, "\nAM0 = o_am_0\n"),
+    (OUTPUTS, "\nD07 = o_d_7\n"),
+    (
+        OUTPUT_AND_INPUT,
+        "\n# DS0 was found as an output of a board too: ",
+    ),
+    (OUTPUT_AND_INPUT, "\nDS0 = i_ds_0\n"),
+];
+
+/// Whether exactly the groups `wanted` are found as outputs of a board too, for `definitions` and a cycle after them.
+fn doubles(alloc: Global, definitions: &str, wanted: Groups) -> Result<bool, AllocError> {
+    let dump = with_cycle(alloc, definitions)?;
+    match surveyed(alloc, dump.as_str()) {
+        Ok(survey) => {
+            let found = find_lines(alloc, survey.names(), survey.levels(), None)?;
+            Ok(found.doubled == wanted)
+        }
+        Err(_) => Ok(false),
+    }
+}
+
+#[test]
+fn an_output_is_doubled_by_another_variable_alone(rt: HostRuntime) {
+    assert!(rt; matches!(doubles(rt.alloc(), OUTPUTS, 0), Ok(true)));
+    assert!(rt;
+        matches!(
+            doubles(rt.alloc(), OUTPUT_AND_INPUT, group_of(Line::DS0)),
+            Ok(true)
+        )
+    );
+    let unbound = first_unbound(rt.alloc(), &OUTPUTS_BOUND);
     assert!(rt; unbound.is_none(), "{}", unbound.unwrap_or(""));
 }
 

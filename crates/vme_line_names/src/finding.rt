@@ -38,9 +38,18 @@ fn is_bound_elsewhere(found: &FoundLines, variable: usize, group: Groups) -> boo
     })
 }
 
+/// Whether the bit of a line is of another variable than `variable`.
+fn is_of_other(bit_of_line: Option<VariableBit>, variable: usize) -> bool {
+    match bit_of_line {
+        Some(bit_of_line) => bit_of_line.variable != variable,
+        None => false,
+    }
+}
+
 /// Binds the lines of a candidate to its bits, if none of these lines but IACK has a bit yet, and the variable isn't
-/// used for other groups. An IACK that has a bit keeps it. If one of the other lines has a bit, and the candidate is a
-/// board's output, its groups are noted in `doubled`.
+/// used for other groups. An IACK that has a bit keeps it. If one of the other lines has a bit of another variable, and
+/// the candidate is a board's output, its groups are noted in `doubled`: of one variable a line may be found in two
+/// ways, as IA.1 is in `iack_out1`.
 fn take(
     found: &mut FoundLines,
     declared: &DeclaredVariable,
@@ -53,13 +62,18 @@ fn take(
     let size = declared.size.min(MOST_BITS);
     let mut groups: Groups = 0;
     let mut is_taken = false;
+    let mut is_doubled = false;
     for place in 0..size {
         if let Some(line) = candidate.named.line_at(declared, place) {
             groups |= group_of(line);
-            is_taken = is_taken || (found.bit_of_line(line).is_some() && line != Line::IACK);
+            let bit_of_line = found.bit_of_line(line);
+            if line != Line::IACK {
+                is_taken = is_taken || bit_of_line.is_some();
+                is_doubled = is_doubled || is_of_other(bit_of_line, candidate.variable);
+            }
         }
     }
-    if candidate.direction == Direction::Output && is_taken {
+    if candidate.direction == Direction::Output && is_doubled {
         found.doubled |= groups;
     }
     if is_taken || groups == 0 || is_bound_elsewhere(found, candidate.variable, groups) {

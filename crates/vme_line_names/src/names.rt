@@ -204,13 +204,19 @@ fn numbered(meaning: &Meaning, bit: u8) -> Option<Named> {
     Some(Named::Line(line))
 }
 
-/// A number of one or two digits at the end of a text, and the text before it.
+/// A number of one or two digits at the end of a text, and the text before it. It is `None` where only separators are
+/// before it: that is the number that the text begins with.
 fn ending_number(text: &[u8]) -> Option<(u8, &[u8])> {
     let last = text.iter().rposition(|byte| !is_separator(*byte))?;
     let text = &text[..last + 1];
     let before = text.iter().rposition(|byte| !byte.is_ascii_digit())?;
     let (found, _) = number(&text[before + 1..])?;
-    Some((found, &text[..before + 1]))
+    let front = &text[..before + 1];
+    if after_separators(front).is_empty() {
+        None
+    } else {
+        Some((found, front))
+    }
 }
 
 /// The direction `in` or `out` that `text` begins with after any separators, and the text after it; `None` where a
@@ -285,8 +291,8 @@ fn push_reading(
     Ok(())
 }
 
-/// Appends the readings of a word for a line or a group: without a number, with one right after it, and with one at the
-/// end.
+/// Appends the readings of a word for a line or a group: without a number, with one right after it, and with another one
+/// at the end.
 fn push_word(
     readings: &mut Vec<NameReading>,
     matched: &MatchedWord<'_>,
@@ -350,7 +356,8 @@ fn push_level(
     push_nets(readings, &way, level, after)
 }
 
-/// Appends the readings of a net of a level's chain, with its place right after the level or at the end.
+/// Appends the readings of a net of a level's chain: with the number right after the level, and with another one at the
+/// end.
 fn push_nets(
     readings: &mut Vec<NameReading>,
     matched: &MatchedWord<'_>,
