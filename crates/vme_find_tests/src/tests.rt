@@ -548,6 +548,43 @@ fn an_output_is_doubled_by_another_variable_alone(rt: HostRuntime) {
     assert!(rt; unbound.is_none(), "{}", unbound.unwrap_or(""));
 }
 
+/// Definitions with nets of the acknowledge chain, and a text that the binding of each with a cycle contains. Number 0
+/// is IACK where the word stands for the chain, and no line where it stands for the slots.
+static CHAINS: [(&str, &str); 6] = [
+    (
+        "$var wire 1 p as $end $var wire 1 q ds0 $end $var wire 1 r dtack $end $var wire 4 i ia [3:0] $end\n\
+$var wire 1 k iack $end\n",
+        "\nIACK = iack\n",
+    ),
+    (
+        "$var wire 1 p as $end $var wire 1 q ds0 $end $var wire 1 r dtack $end $var wire 4 i ia [3:0] $end\n\
+$var wire 1 k iack $end\n",
+        "\nIA = ia[3:1]\n",
+    ),
+    (
+        "$var wire 1 p as $end $var wire 1 q ds0 $end $var wire 1 r dtack $end $var wire 1 i ia_0 $end\n",
+        "\nIACK = 1\n",
+    ),
+    (
+        "$var wire 1 p as $end $var wire 1 q ds0 $end $var wire 1 r dtack $end $var wire 2 i iack [1:0] $end\n",
+        "\nIACK = iack[0]\n",
+    ),
+    (
+        "$var wire 1 p as $end $var wire 1 q ds0 $end $var wire 1 r dtack $end $var wire 1 i acknowledge_0 $end\n",
+        "\nIACK = acknowledge_0\n",
+    ),
+    (
+        "$var wire 1 p as $end $var wire 1 q ds0 $end $var wire 1 r dtack $end $var wire 1 i iackout0 $end\n",
+        "\nIACK = 1\n",
+    ),
+];
+
+#[test]
+fn the_acknowledge_chain_is_numbered_by_its_word(rt: HostRuntime) {
+    let unbound = first_unbound(rt.alloc(), &CHAINS);
+    assert!(rt; unbound.is_none(), "{}", unbound.unwrap_or(""));
+}
+
 /// A bus, and in a scope below it a processor with more bits and fewer lines.
 const PROCESSOR: &str =
     "$scope module bus $end\n$var wire 1 p AS $end\n$var wire 1 q DS0 $end\n$var wire 1 r DTACK $end\n\

@@ -156,21 +156,21 @@ fn is_sign(byte: u8) -> bool {
     matches!(byte, b'*' | b'#' | b'/' | b'~' | b'!')
 }
 
-/// The affix of a name with the texts `before` and `behind` around the name of a line.
-pub(crate) fn affix_of(before: &[u8], behind: &[u8]) -> Affix {
+/// The affix of a name with the texts `before` and `after` around the name of a line.
+pub(crate) fn affix_of(before: &[u8], after: &[u8]) -> Affix {
     let mut made = Affix::of_style(EMPTY_HASH, EMPTY_HASH, EMPTY_HASH);
     let (words, close) = split_last(before);
     for word in words.split(|byte| !byte.is_ascii_alphanumeric()) {
         made.take(word, kind_of(word), true);
     }
     made.take(close, kind_of_joined(close), true);
-    let (close, words) = split_first(behind);
+    let (close, words) = split_first(after);
     made.take(close, kind_of_joined(close), false);
     for word in words.split(|byte| !byte.is_ascii_alphanumeric()) {
         made.take(word, kind_of(word), false);
     }
     let has_sign = before.iter().any(|byte| is_sign(*byte))
-        || behind.iter().any(|byte| is_sign(*byte));
+        || after.iter().any(|byte| is_sign(*byte));
     made.is_marked = made.is_marked || has_sign;
     made
 }

@@ -3,7 +3,7 @@
 ghost use Rattle.std.specs.Prelude.{◌≡◌, ◌≤◌, IfOk, is_some, length};
 
 use crate::affix::Direction;
-use crate::names::{NameReading, Named, push_readings};
+use crate::names::{NameReading, NamedLines, push_readings};
 use crate::vote::{ScopeVote, VoteCounter};
 use std::alloc::{AllocError, Global};
 use vme_declarations::{
@@ -20,7 +20,7 @@ const MOST_OTHERS: usize = 10;
 struct Candidate {
     key: u64,
     variable: usize,
-    named: Named,
+    named: NamedLines,
     direction: Direction,
 }
 
@@ -175,7 +175,7 @@ fn rank_of(reading: &NameReading, vote: &ScopeVote, outside: u64) -> Option<u64>
         Direction::Enable => 50,
     };
     let mark = if reading.affix.is_marked { 0 } else { 2 };
-    let word = if reading.is_standard { 0 } else { 1 };
+    let word = if reading.is_line_name { 0 } else { 1 };
     let inside = style
         .saturating_mul(100)
         .saturating_add(direction)

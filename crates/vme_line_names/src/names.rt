@@ -6,9 +6,9 @@ use std::alloc::AllocError;
 use vme_declarations::DeclaredVariable;
 use vme_trace::{CHAIN_NETS, Line, MOST_SLOTS};
 
-/// The lines that a name denotes.
+/// The lines that a word or a whole name denotes.
 #[derive(Clone, Copy, Debug, PartialEq, Eq)]
-pub(crate) enum Named {
+pub(crate) enum NamedLines {
     /// One line.
     Line(Line),
     /// DS1 and DS0.
@@ -21,106 +21,102 @@ pub(crate) enum Named {
     Data,
     /// BR3 to BR0.
     Requests,
-    /// The nets of a level's grant chain.
-    Grants(u8),
-    /// A level and a net: with one bit this net of the level's grant chain, with several bits the nets of the chain.
-    Grant(u8, u8),
-    /// The net at this place of each level's grant chain.
-    GrantsAt(u8),
-    /// The nets of the acknowledge chain, which are numbered from 1.
-    Acknowledges,
-    /// IACK, and after it the nets of the acknowledge chain.
-    AcknowledgeChain,
-    /// IACK, or, of several bits, IACK and the acknowledge chain.
-    Acknowledge,
-}
-
-/// What a word denotes. The text after the word may select a line of it.
-#[derive(Clone, Copy)]
-enum Meaning {
-    One(Line),
-    Strobes,
-    Modifiers,
-    Addresses,
-    Data,
-    Requests,
+    /// A grant chain whose level is in the text after the word. No whole name denotes this.
     Grants,
-    GrantsAt(u8),
-    Acknowledges,
-    AcknowledgeChain,
-    Acknowledge,
+    /// The nets of a level's grant chain.
+    GrantChain(u8),
+    /// A level and a net: a variable of one bit is this net of the level's grant chain, and one of several bits is the
+    /// whole chain.
+    GrantNet(u8, u8),
+    /// The net with this number of each level's grant chain.
+    GrantNetOfEachLevel(u8),
+    /// IACKOUT* of the slots, from slot 1 on. The number 0 is no line, since there is no slot 0; a chain that begins
+    /// with IACK has another word.
+    SlotAcknowledges,
+    /// IACK with the number 0, and after it IACKOUT* of the slots.
+    WholeAcknowledgeChain,
+    /// A variable of one bit is IACK, and one of several bits is IACK and the whole acknowledge chain.
+    AcknowledgeLineOrChain,
 }
 
-/// The words for lines and groups, in lower case, where `_` matches any separators or none; those that aren't in the
-/// standard have `false`.
-const WORDS: [(&[u8], Meaning, bool); 58] = [
-    (b"as", Meaning::One(Line::AS), true),
-    (b"addr_strobe", Meaning::One(Line::AS), false),
-    (b"address_strobe", Meaning::One(Line::AS), false),
-    (b"ds", Meaning::Strobes, true),
-    (b"data_strobe", Meaning::Strobes, false),
-    (b"d_strobe", Meaning::Strobes, false),
-    (b"dtack", Meaning::One(Line::DTACK), true),
-    (b"data_ack", Meaning::One(Line::DTACK), false),
-    (b"berr", Meaning::One(Line::BERR), true),
-    (b"bus_err", Meaning::One(Line::BERR), false),
-    (b"bus_error", Meaning::One(Line::BERR), false),
-    (b"iack", Meaning::Acknowledge, true),
-    (b"iack_in", Meaning::One(Line::IACK), false),
-    (b"int_ack", Meaning::Acknowledge, false),
-    (b"lword", Meaning::One(Line::LWORD), true),
-    (b"long_word", Meaning::One(Line::LWORD), false),
-    (b"write", Meaning::One(Line::WRITE), true),
-    (b"bbsy", Meaning::One(Line::BBSY), true),
-    (b"bus_busy", Meaning::One(Line::BBSY), false),
-    (b"sys_reset", Meaning::One(Line::SYSRESET), true),
-    (b"sys_res", Meaning::One(Line::SYSRESET), false),
-    (b"sys_rst", Meaning::One(Line::SYSRESET), false),
-    (b"system_reset", Meaning::One(Line::SYSRESET), false),
-    (b"am", Meaning::Modifiers, true),
-    (b"am_code", Meaning::Modifiers, false),
-    (b"amod", Meaning::Modifiers, false),
-    (b"addr_mod", Meaning::Modifiers, false),
-    (b"addr_modifier", Meaning::Modifiers, false),
-    (b"address_mod", Meaning::Modifiers, false),
-    (b"address_modifier", Meaning::Modifiers, false),
-    (b"a", Meaning::Addresses, true),
-    (b"addr", Meaning::Addresses, false),
-    (b"adr", Meaning::Addresses, false),
-    (b"address", Meaning::Addresses, false),
-    (b"d", Meaning::Data, true),
-    (b"data", Meaning::Data, false),
-    (b"dat", Meaning::Data, false),
-    (b"br", Meaning::Requests, true),
-    (b"breq", Meaning::Requests, false),
-    (b"bus_req", Meaning::Requests, false),
-    (b"bus_request", Meaning::Requests, false),
-    (b"bg", Meaning::Grants, true),
-    (b"bgnt", Meaning::Grants, false),
-    (b"bgrant", Meaning::Grants, false),
-    (b"bus_gnt", Meaning::Grants, false),
-    (b"bus_grant", Meaning::Grants, false),
-    (b"bg_in", Meaning::GrantsAt(0), false),
-    (b"bg_out", Meaning::GrantsAt(1), false),
-    (b"bus_grant_in", Meaning::GrantsAt(0), false),
-    (b"bus_grant_out", Meaning::GrantsAt(1), false),
-    (b"ia", Meaning::Acknowledges, true),
-    (b"iack_out", Meaning::Acknowledges, false),
-    (b"int_ack_out", Meaning::Acknowledges, false),
-    (b"iack_chain", Meaning::AcknowledgeChain, false),
-    (b"iack_daisy", Meaning::AcknowledgeChain, false),
-    (b"iack_daisy_chain", Meaning::AcknowledgeChain, false),
-    (b"acknowledge", Meaning::AcknowledgeChain, false),
-    (b"acknowledge_chain", Meaning::AcknowledgeChain, false),
+/// The words for lines and groups, in lower case, where `_` matches any separators or none; what each denotes, alone or
+/// with the text after it; and whether the names of lines in a binding have the word, as those of AS, DS0, BG3 and IA.
+const WORDS: [(&[u8], NamedLines, bool); 58] = [
+    (b"as", NamedLines::Line(Line::AS), true),
+    (b"addr_strobe", NamedLines::Line(Line::AS), false),
+    (b"address_strobe", NamedLines::Line(Line::AS), false),
+    (b"ds", NamedLines::Strobes, true),
+    (b"data_strobe", NamedLines::Strobes, false),
+    (b"d_strobe", NamedLines::Strobes, false),
+    (b"dtack", NamedLines::Line(Line::DTACK), true),
+    (b"data_ack", NamedLines::Line(Line::DTACK), false),
+    (b"berr", NamedLines::Line(Line::BERR), true),
+    (b"bus_err", NamedLines::Line(Line::BERR), false),
+    (b"bus_error", NamedLines::Line(Line::BERR), false),
+    (b"iack", NamedLines::AcknowledgeLineOrChain, true),
+    (b"iack_in", NamedLines::Line(Line::IACK), false),
+    (b"int_ack", NamedLines::AcknowledgeLineOrChain, false),
+    (b"lword", NamedLines::Line(Line::LWORD), true),
+    (b"long_word", NamedLines::Line(Line::LWORD), false),
+    (b"write", NamedLines::Line(Line::WRITE), true),
+    (b"bbsy", NamedLines::Line(Line::BBSY), true),
+    (b"bus_busy", NamedLines::Line(Line::BBSY), false),
+    (b"sys_reset", NamedLines::Line(Line::SYSRESET), true),
+    (b"sys_res", NamedLines::Line(Line::SYSRESET), false),
+    (b"sys_rst", NamedLines::Line(Line::SYSRESET), false),
+    (b"system_reset", NamedLines::Line(Line::SYSRESET), false),
+    (b"am", NamedLines::Modifiers, true),
+    (b"am_code", NamedLines::Modifiers, false),
+    (b"amod", NamedLines::Modifiers, false),
+    (b"addr_mod", NamedLines::Modifiers, false),
+    (b"addr_modifier", NamedLines::Modifiers, false),
+    (b"address_mod", NamedLines::Modifiers, false),
+    (b"address_modifier", NamedLines::Modifiers, false),
+    (b"a", NamedLines::Addresses, true),
+    (b"addr", NamedLines::Addresses, false),
+    (b"adr", NamedLines::Addresses, false),
+    (b"address", NamedLines::Addresses, false),
+    (b"d", NamedLines::Data, true),
+    (b"data", NamedLines::Data, false),
+    (b"dat", NamedLines::Data, false),
+    (b"br", NamedLines::Requests, true),
+    (b"breq", NamedLines::Requests, false),
+    (b"bus_req", NamedLines::Requests, false),
+    (b"bus_request", NamedLines::Requests, false),
+    (b"bg", NamedLines::Grants, true),
+    (b"bgnt", NamedLines::Grants, false),
+    (b"bgrant", NamedLines::Grants, false),
+    (b"bus_gnt", NamedLines::Grants, false),
+    (b"bus_grant", NamedLines::Grants, false),
+    (b"bg_in", NamedLines::GrantNetOfEachLevel(0), false),
+    (b"bg_out", NamedLines::GrantNetOfEachLevel(1), false),
+    (b"bus_grant_in", NamedLines::GrantNetOfEachLevel(0), false),
+    (b"bus_grant_out", NamedLines::GrantNetOfEachLevel(1), false),
+    (b"ia", NamedLines::SlotAcknowledges, true),
+    (b"iack_out", NamedLines::SlotAcknowledges, false),
+    (b"int_ack_out", NamedLines::SlotAcknowledges, false),
+    (b"iack_chain", NamedLines::WholeAcknowledgeChain, false),
+    (b"iack_daisy", NamedLines::WholeAcknowledgeChain, false),
+    (
+        b"iack_daisy_chain",
+        NamedLines::WholeAcknowledgeChain,
+        false,
+    ),
+    (b"acknowledge", NamedLines::WholeAcknowledgeChain, false),
+    (
+        b"acknowledge_chain",
+        NamedLines::WholeAcknowledgeChain,
+        false,
+    ),
 ];
 
 /// One way to read a name.
 #[derive(Clone, Copy)]
 pub(crate) struct NameReading {
-    pub named: Named,
+    pub named: NamedLines,
     pub affix: Affix,
-    /// Whether the word is one of the standard.
-    pub is_standard: bool,
+    /// Whether the names of lines in a binding have the word.
+    pub is_line_name: bool,
 }
 
 /// Whether a byte only separates the words of a name.
@@ -147,7 +143,7 @@ fn after_word<'a>(text: &'a [u8], word: &[u8]) -> Option<&'a [u8]> {
             rest = after_separators(rest);
         } else {
             match rest {
-                [byte, behind @ ..] if byte.to_ascii_lowercase() == *wanted => rest = behind,
+                [byte, after @ ..] if byte.to_ascii_lowercase() == *wanted => rest = after,
                 _ => return None,
             }
         }
@@ -167,41 +163,17 @@ fn number(text: &[u8]) -> Option<(u8, &[u8])> {
     }
 }
 
-/// What a word denotes without a number.
-fn group(meaning: &Meaning) -> Option<Named> {
-    match meaning {
-        Meaning::One(line) => Some(Named::Line(*line)),
-        Meaning::Strobes => Some(Named::Strobes),
-        Meaning::Modifiers => Some(Named::Modifiers),
-        Meaning::Addresses => Some(Named::Addresses),
-        Meaning::Data => Some(Named::Data),
-        Meaning::Requests => Some(Named::Requests),
-        Meaning::Grants => None,
-        Meaning::GrantsAt(place) => Some(Named::GrantsAt(*place)),
-        Meaning::Acknowledges => Some(Named::Acknowledges),
-        Meaning::AcknowledgeChain => Some(Named::AcknowledgeChain),
-        Meaning::Acknowledge => Some(Named::Acknowledge),
-    }
-}
-
-/// What a word denotes with the number `bit`.
-fn numbered(meaning: &Meaning, bit: u8) -> Option<Named> {
-    let line = match meaning {
-        Meaning::Strobes if bit == 0 => Line::DS0,
-        Meaning::Strobes if bit == 1 => Line::DS1,
-        Meaning::Modifiers if bit < 6 => Line::address_modifier(bit),
-        Meaning::Addresses if 1 <= bit && bit <= 31 => Line::address(bit),
-        Meaning::Data if bit < 32 => Line::data(bit),
-        Meaning::Requests if bit < 4 => Line::bus_request(bit),
-        Meaning::GrantsAt(place) if bit < 4 && *place < 2 => {
-            return Some(Named::Grant(bit, *place));
+/// What a word that denotes `named` denotes with the number `bit`. For `iack` this is nothing if the number is 0, since
+/// `iackout0` is read as `iack` with that number too, and isn't IACK.
+fn numbered(named: &NamedLines, bit: u8) -> Option<NamedLines> {
+    match named {
+        NamedLines::GrantNetOfEachLevel(net) if bit < 4 => Some(NamedLines::GrantNet(bit, *net)),
+        NamedLines::AcknowledgeLineOrChain if bit == 0 => None,
+        _ => {
+            let line = named.line_of_number(bit)?;
+            Some(NamedLines::Line(line))
         }
-        Meaning::AcknowledgeChain if bit == 0 => Line::IACK,
-        Meaning::Acknowledges | Meaning::AcknowledgeChain | Meaning::Acknowledge
-            if 1 <= bit && bit <= MOST_SLOTS => Line::iack(bit),
-        _ => return None,
-    };
-    Some(Named::Line(line))
+    }
 }
 
 /// A number of one or two digits at the end of a text, and the text before it. It is `None` where only separators are
@@ -266,14 +238,14 @@ pub(crate) fn push_readings(
 struct MatchedWord<'n> {
     before: &'n [u8],
     direction: Direction,
-    is_standard: bool,
+    is_line_name: bool,
 }
 
 /// Appends a reading, if the word denotes something: what it denotes, and the affix with the text `after` it.
 fn push_reading(
     readings: &mut Vec<NameReading>,
     matched: &MatchedWord<'_>,
-    named: Option<Named>,
+    named: Option<NamedLines>,
     after: &[u8],
 ) -> Result<(), AllocError> {
     let Some(named) = named else {
@@ -286,97 +258,100 @@ fn push_reading(
     readings.push(NameReading {
         named,
         affix,
-        is_standard: matched.is_standard,
+        is_line_name: matched.is_line_name,
     })?;
     Ok(())
 }
 
-/// Appends the readings of a word for a line or a group: without a number, with one right after it, and with another one
-/// at the end.
+/// Appends the readings of a word for a line or a group, before the text `rest`: without a number, with one right after
+/// the word, and with another one at the end.
 fn push_word(
     readings: &mut Vec<NameReading>,
     matched: &MatchedWord<'_>,
-    meaning: &Meaning,
-    behind: &[u8],
+    named: &NamedLines,
+    rest: &[u8],
 ) -> Result<(), AllocError> {
-    push_reading(readings, matched, group(meaning), behind)?;
-    if let Some((bit, after)) = number(behind) {
-        push_reading(readings, matched, numbered(meaning, bit), after)?;
+    push_reading(readings, matched, Some(*named), rest)?;
+    if let Some((bit, after_number)) = number(rest) {
+        push_reading(readings, matched, numbered(named, bit), after_number)?;
     }
-    if let Some((bit, after)) = ending_number(behind) {
-        push_reading(readings, matched, numbered(meaning, bit), after)?;
+    if let Some((bit, before_number)) = ending_number(rest) {
+        push_reading(readings, matched, numbered(named, bit), before_number)?;
     }
     Ok(())
 }
 
-/// A level of arbitration that `behind` begins with after any separators, and the text after it.
-fn level_behind(behind: &[u8]) -> Option<(u8, &[u8])> {
-    match after_separators(behind) {
+/// A level of arbitration that `text` begins with after any separators, and the text after it.
+fn first_level(text: &[u8]) -> Option<(u8, &[u8])> {
+    match after_separators(text) {
         [digit @ b'0'..=b'3', rest @ ..] => Some((*digit - b'0', rest)),
         _ => None,
     }
 }
 
-/// Appends the readings of a grant.
+/// Appends the readings of a grant, whose level is in the text `rest` after the word.
 fn push_grants(
     readings: &mut Vec<NameReading>,
     matched: &MatchedWord<'_>,
-    behind: &[u8],
+    rest: &[u8],
 ) -> Result<(), AllocError> {
-    if let Some((level, rest)) = level_behind(behind) {
-        return push_level(readings, matched, level, rest);
+    if let Some((level, after_level)) = first_level(rest) {
+        return push_level(readings, matched, level, after_level);
     }
-    if let Some((level, after)) = ending_number(behind) {
+    if let Some((level, before_level)) = ending_number(rest) {
         if level < 4 {
-            push_reading(readings, matched, Some(Named::Grants(level)), after)?;
+            let chain = NamedLines::GrantChain(level);
+            push_reading(readings, matched, Some(chain), before_level)?;
         }
     }
     Ok(())
 }
 
-/// Appends the readings of a grant of a level: its whole chain, `in` for the net that the arbiter drives, `out` for the
-/// net that the first slot drives, or the place of a net.
+/// Appends the readings of a grant of a level, before the text `rest`: as the whole chain, as its first net (`in`), as
+/// its second one (`out`), or as the net with a number.
 fn push_level(
     readings: &mut Vec<NameReading>,
     matched: &MatchedWord<'_>,
     level: u8,
-    behind: &[u8],
+    rest: &[u8],
 ) -> Result<(), AllocError> {
-    push_reading(readings, matched, Some(Named::Grants(level)), behind)?;
-    let Some((direction, after)) = after_direction(behind) else {
-        return push_nets(readings, matched, level, behind);
+    let chain = NamedLines::GrantChain(level);
+    push_reading(readings, matched, Some(chain), rest)?;
+    let Some((direction, after)) = after_direction(rest) else {
+        return push_nets(readings, matched, level, rest);
     };
-    let way = MatchedWord {
+    let directed = MatchedWord {
         before: matched.before,
         direction,
-        is_standard: matched.is_standard,
+        is_line_name: matched.is_line_name,
     };
-    let place = if direction == Direction::Input { 0 } else { 1 };
-    push_reading(readings, &way, Some(Named::Grant(level, place)), after)?;
-    push_nets(readings, &way, level, after)
+    let net = if direction == Direction::Input { 0 } else { 1 };
+    let named = NamedLines::GrantNet(level, net);
+    push_reading(readings, &directed, Some(named), after)?;
+    push_nets(readings, &directed, level, after)
 }
 
-/// Appends the readings of a net of a level's chain: with the number right after the level, and with another one at the
-/// end.
+/// Appends the readings of a net of a level's chain, before the text `rest`: with the number that this begins with, and
+/// with another one at its end.
 fn push_nets(
     readings: &mut Vec<NameReading>,
     matched: &MatchedWord<'_>,
     level: u8,
-    behind: &[u8],
+    rest: &[u8],
 ) -> Result<(), AllocError> {
-    if let Some((net, after)) = number(behind) {
-        push_reading(readings, matched, net_of(level, net), after)?;
+    if let Some((net, after_number)) = number(rest) {
+        push_reading(readings, matched, net_of(level, net), after_number)?;
     }
-    if let Some((net, after)) = ending_number(behind) {
-        push_reading(readings, matched, net_of(level, net), after)?;
+    if let Some((net, before_number)) = ending_number(rest) {
+        push_reading(readings, matched, net_of(level, net), before_number)?;
     }
     Ok(())
 }
 
 /// The net `net` of the level's grant chain, if there is one.
-fn net_of(level: u8, net: u8) -> Option<Named> {
+fn net_of(level: u8, net: u8) -> Option<NamedLines> {
     if level < 4 && net < CHAIN_NETS {
-        Some(Named::Line(Line::grant(level, net)))
+        Some(NamedLines::Line(Line::grant(level, net)))
     } else {
         None
     }
@@ -389,17 +364,17 @@ fn push_readings_at(
     text: &[u8],
 ) -> Result<(), AllocError> {
     for place in 0..WORDS.len() {
-        let (word, meaning, is_standard) = WORDS[place];
-        if let Some(behind) = after_word(text, word) {
+        let (word, named, is_line_name) = WORDS[place];
+        if let Some(rest) = after_word(text, word) {
             let matched = MatchedWord {
                 before,
                 direction: direction_of(word),
-                is_standard,
+                is_line_name,
             };
-            if matches!(&meaning, Meaning::Grants) {
-                push_grants(readings, &matched, behind)?;
+            if matches!(&named, NamedLines::Grants) {
+                push_grants(readings, &matched, rest)?;
             } else {
-                push_word(readings, &matched, &meaning, behind)?;
+                push_word(readings, &matched, &named, rest)?;
             }
         }
     }
@@ -417,25 +392,32 @@ fn address_shift(variable: &DeclaredVariable) -> u32 {
     if lowest == 0 && from_one { 1 } else { 0 }
 }
 
-impl Named {
+impl NamedLines {
     /// The line of the bit at `place`, from the left, of a variable with this name. A variable of one bit without an
-    /// index is no group of lines: a `d` is the input of a flip-flop.
+    /// index is no address, data, modifier, request or strobe line by the name of their group: a `d` is the input of a
+    /// flip-flop. By that of a grant chain it is net 0, by that of a net of each level it is the net of BG0, by that of
+    /// IACKOUT* it is IA.1, and by that of the acknowledge chain IACK.
     pub(crate) fn line_at(&self, variable: &DeclaredVariable, place: u32) -> Option<Line> {
         let is_lone = variable.size == 1 && variable.index.is_none();
         let shift = match self {
-            Named::Line(line) => return if variable.size == 1 {
+            NamedLines::Line(line) => return if variable.size == 1 {
                 Some(*line)
             } else {
                 None
             },
-            Named::Acknowledge if variable.size == 1 => return Some(Line::IACK),
-            Named::Grant(level, net) if variable.size == 1 && *level < 4 && *net < CHAIN_NETS => {
+            NamedLines::AcknowledgeLineOrChain if variable.size == 1 => return Some(Line::IACK),
+            NamedLines::GrantNet(level, net)
+                if variable.size == 1 && *level < 4 && *net < CHAIN_NETS => {
                 return Some(Line::grant(*level, *net));
             }
-            Named::Data | Named::Modifiers | Named::Addresses | Named::Requests | Named::Strobes
+            NamedLines::Data
+            | NamedLines::Modifiers
+            | NamedLines::Addresses
+            | NamedLines::Requests
+            | NamedLines::Strobes
                 if is_lone => return None,
-            Named::Addresses => address_shift(variable),
-            Named::Acknowledges if variable.index.is_none() => 1,
+            NamedLines::Addresses => address_shift(variable),
+            NamedLines::SlotAcknowledges if variable.index.is_none() => 1,
             _ => 0,
         };
         let number = variable.number_of_bit(place);
@@ -446,21 +428,24 @@ impl Named {
     /// The line with the number `bit` in the group.
     fn line_of_number(&self, bit: u8) -> Option<Line> {
         match self {
-            Named::Strobes if bit == 0 => Some(Line::DS0),
-            Named::Strobes if bit == 1 => Some(Line::DS1),
-            Named::Modifiers if bit < 6 => Some(Line::address_modifier(bit)),
-            Named::Addresses if 1 <= bit && bit <= 31 => Some(Line::address(bit)),
-            Named::Data if bit < 32 => Some(Line::data(bit)),
-            Named::Requests if bit < 4 => Some(Line::bus_request(bit)),
-            Named::Grants(level) | Named::Grant(level, _) if *level < 4 && bit < CHAIN_NETS => {
-                Some(Line::grant(*level, bit))
+            NamedLines::Strobes if bit == 0 => Some(Line::DS0),
+            NamedLines::Strobes if bit == 1 => Some(Line::DS1),
+            NamedLines::Modifiers if bit < 6 => Some(Line::address_modifier(bit)),
+            NamedLines::Addresses if 1 <= bit && bit <= 31 => Some(Line::address(bit)),
+            NamedLines::Data if bit < 32 => Some(Line::data(bit)),
+            NamedLines::Requests if bit < 4 => Some(Line::bus_request(bit)),
+            NamedLines::GrantChain(level) | NamedLines::GrantNet(level, _)
+                if *level < 4 && bit < CHAIN_NETS => Some(Line::grant(*level, bit)),
+            NamedLines::GrantNetOfEachLevel(net) if bit < 4 && *net < CHAIN_NETS => {
+                Some(Line::grant(bit, *net))
             }
-            Named::GrantsAt(net) if bit < 4 && *net < CHAIN_NETS => Some(Line::grant(bit, *net)),
-            Named::Acknowledges | Named::AcknowledgeChain | Named::Acknowledge if bit == 0 => {
+            NamedLines::WholeAcknowledgeChain | NamedLines::AcknowledgeLineOrChain if bit == 0 => {
                 Some(Line::IACK)
             }
-            Named::Acknowledges | Named::AcknowledgeChain | Named::Acknowledge
-                if bit <= MOST_SLOTS => Some(Line::iack(bit)),
+            NamedLines::SlotAcknowledges
+            | NamedLines::WholeAcknowledgeChain
+            | NamedLines::AcknowledgeLineOrChain
+                if 1 <= bit && bit <= MOST_SLOTS => Some(Line::iack(bit)),
             _ => None,
         }
     }

@@ -1,7 +1,7 @@
 //! The vote of a scope: the style of names by which most lines are found among its variables.
 
 use crate::affix::Affix;
-use crate::names::{NameReading, Named, push_readings};
+use crate::names::{NameReading, NamedLines, push_readings};
 use std::alloc::{AllocError, Global};
 use vme_declarations::{
     BUS_GROUPS, DeclaredNames, DeclaredVariable, Groups, LevelsSeen, MOST_BITS, NOWHERE, count,
@@ -59,7 +59,7 @@ impl ScopeVote {
 /// The groups of the lines that `variable` has if it is `named`, and those groups of which a line moves.
 pub(crate) fn groups_named(
     variable: &DeclaredVariable,
-    named: &Named,
+    named: &NamedLines,
     levels: &LevelsSeen,
 ) -> (Groups, Groups) {
     let mut found: Groups = 0;
