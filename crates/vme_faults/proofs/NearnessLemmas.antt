@@ -1,4 +1,4 @@
--- How the letters at one place change a common prefix, and how the variable at one index begins the distances.
+-- How the bytes at one place change a common prefix, and how the variable at one index begins the distances.
 use Rattle.std.proofs.Common.{◌≡◌, ◌∙◌, ap, ℕ, ◌+◌, ◌<◌, ◌≤◌, inl, inr, List, [], ◌∷◌, Bool, cond, true, false}
 use Rattle.std.proofs.Common.{length, drop, get_or, refl}
 use Rattle.std.proofs.lemmas.Bool.{cases_lt}
@@ -17,7 +17,7 @@ front-cons : (x : ℕ) (xs : List ℕ) (y : ℕ) (ys : List ℕ)
 unfolding common_prefix
 front-cons x xs y ys = refl
 
--- the common prefix from `i` on is one longer than that from `i + 1` on if the letters at `i` are the same, and else
+-- the common prefix from `i` on is one longer than that from `i + 1` on if the bytes at `i` are the same, and else
 -- empty
 front-more : (xs ys : List ℕ) (i : ℕ) (same : Bool) → i < length xs → i < length ys
     → eq_ignore_ascii_case (get_or xs i 0) (get_or ys i 0) ≡ same
@@ -27,13 +27,13 @@ front-more xs ys i same h k e =
     (front-cons (get_or xs i 0) (drop (i + 1) xs) (get_or ys i 0) (drop (i + 1) ys)
     ∙ ap (λ (b : Bool). cond b (common_prefix (drop (i + 1) xs) (drop (i + 1) ys) + 1) 0) e)
 
--- if the letters at `i` are the same, the common prefix from there on is one longer than that from `i + 1` on
+-- if the bytes at `i` are the same, the common prefix from there on is one longer than that from `i + 1` on
 pub front-same : (xs ys : List ℕ) (i : ℕ) → i < length xs → i < length ys
     → eq_ignore_ascii_case (get_or xs i 0) (get_or ys i 0) ≡ true
     → common_prefix (drop i xs) (drop i ys) ≡ common_prefix (drop (i + 1) xs) (drop (i + 1) ys) + 1
 front-same xs ys i h k e = front-more xs ys i true h k e
 
--- if the letters at `i` differ, the common prefix from there on is empty
+-- if the bytes at `i` differ, the common prefix from there on is empty
 pub front-other : (xs ys : List ℕ) (i : ℕ) → i < length xs → i < length ys
     → eq_ignore_ascii_case (get_or xs i 0) (get_or ys i 0) ≡ false
     → common_prefix (drop i xs) (drop i ys) ≡ 0

@@ -50,6 +50,6 @@ mod refusal_kind;
 
 pub use file_kind::FileKind;
 pub use kept_lines::KeptLines;
-pub use nearness::{NearVariable, nearest};
+pub use nearness::{VariableDistance, nearest};
 pub use page::{Page, faults_text, push_page};
 pub use refusal_kind::RefusalKind;

@@ -9,7 +9,7 @@ use vcd_read::Variable;
 /// A variable, and how far its path is from the one that is sought. They are ordered by distance, and those at the same
 /// distance as they are declared.
 #[derive(Clone, Copy, Debug, PartialEq, Eq, PartialOrd, Ord)]
-pub struct NearVariable {
+pub struct VariableDistance {
     /// How far its path is from the one that is sought.
     pub distance: usize,
     /// Its index among all variables, from 0.
@@ -19,15 +19,16 @@ pub struct NearVariable {
 /// The `count` variables, or all if there are fewer, whose paths are nearest to `path`: the nearest first, and those at
 /// the same distance in the order of their declaration.
 ///
-/// The distance of two paths is the number of letters of the longer one between what both begin with and what both end
-/// with, whatever the letters' case. So one letter that is wrong, missing or too many counts 1, wherever it is, and a
-/// scope counts as many as its name and its dot have. The only error is want of memory.
+/// The distance of two paths is the number of bytes of the longer one, less those that both begin with and those that
+/// both end with, which don't overlap in the shorter one. A letter of ASCII is the same in either case. So a byte that
+/// is wrong, missing or too many counts 1, wherever it is, and a scope counts as many as its name and its dot have. A
+/// character outside of ASCII has several bytes. The only error is want of memory.
 pub fn nearest(
     alloc: Global,
     path: &[u8],
     variables: &[Variable],
     count: usize,
-) -> Result<Vec<NearVariable>, AllocError>
+) -> Result<Vec<VariableDistance>, AllocError>
     ensures { IfOk result (λ found. AreNearest path.now variables.now count found.items) }
 {
     let mut found = distances(alloc, path, variables)?;
@@ -41,12 +42,12 @@ fn distances(
     alloc: Global,
     path: &[u8],
     variables: &[Variable],
-) -> Result<Vec<NearVariable>, AllocError>
+) -> Result<Vec<VariableDistance>, AllocError>
     ensures { IfOk result (λ all. all.items ≡ distances path.now variables.now 0) }
 {
     let mut all = Vec::with_capacity(alloc, variables.len())?;
     for (place, variable) in variables.iter().enumerate() {
-        all.push(NearVariable {
+        all.push(VariableDistance {
             distance: path_distance(path, variable.path.as_bytes()),
             place,
         })?;
@@ -64,7 +65,7 @@ fn path_distance(one: &[u8], other: &[u8]) -> usize
     one.len().max(other.len()) - front.saturating_add(end).min(shorter)
 }
 
-/// The number of letters that both begin with.
+/// The number of bytes that both begin with, whatever the case of letters of ASCII.
 fn common_prefix(one: &[u8], other: &[u8]) -> usize
     ensures { result ≡ common_prefix one.now other.now }
 {
@@ -77,7 +78,7 @@ fn common_prefix(one: &[u8], other: &[u8]) -> usize
     shorter
 }
 
-/// The number of letters that both end with.
+/// The number of bytes that both end with, whatever the case of letters of ASCII.
 fn common_suffix(one: &[u8], other: &[u8]) -> usize
     ensures { result ≡ common_suffix one.now other.now }
 {

@@ -3,7 +3,7 @@ use std::process::Abort;
 use std::test::Fail;
 use vcd_read::{FaultKind, Variables, VcdFault, read_definitions};
 use vme_bind::{BindFault, BindFaultKind};
-use vme_faults::{FileKind, NearVariable, Page, RefusalKind, faults_text, nearest};
+use vme_faults::{FileKind, Page, RefusalKind, VariableDistance, faults_text, nearest};
 use vme_listing::ListFault;
 use vme_stream::Refusal;
 
@@ -134,15 +134,15 @@ const ALIKE: &str =
 $scope module slot $end\n$var wire 1 d AS $end\n$upscope $end\n$upscope $end\n$enddefinitions $end\n";
 
 /// The variables of `ALIKE` that are nearest to a path.
-fn alike(alloc: Global, path: &str, count: usize) -> Result<Vec<NearVariable>, AllocError> {
+fn alike(alloc: Global, path: &str, count: usize) -> Result<Vec<VariableDistance>, AllocError> {
     match read_definitions(alloc, ALIKE.as_bytes(), Variables::new(alloc)) {
         Ok((_, variables)) => nearest(alloc, path.as_bytes(), variables.as_slice(), count),
         Err(_) => Err(AllocError),
     }
 }
 
-fn near(distance: usize, place: usize) -> NearVariable {
-    NearVariable { distance, place }
+fn near(distance: usize, place: usize) -> VariableDistance {
+    VariableDistance { distance, place }
 }
 
 #[test]
