@@ -1,4 +1,4 @@
-//! How often each net of a dump changes.
+//! How many value changes a dump has of each net.
 
 ghost use Rattle.std.specs.Prelude.{◌≡◌, OnOk};
 ghost use Rattle.vme_variables.specs.Counts.{count_change, with_last_instant};
@@ -7,7 +7,7 @@ use std::alloc::{AllocError, Global};
 use std::marker::Model;
 use vcd_read::ChangeVisitor;
 
-/// How many changes each net has so far, and the time of the last instant.
+/// How many value changes each net has so far, its first value included, and the time of the last instant.
 #[derive(Drop)]
 pub(crate) struct ChangeCounts {
     counts: Vec<u64>,
@@ -24,13 +24,13 @@ impl Model for ChangeCounts {
 
 impl ChangeCounts {
     /// No change yet of any of `nets` nets.
-    pub(crate) fn none(alloc: Global, nets: usize) -> Result<ChangeCounts, AllocError> {
+    pub(crate) fn zeros(alloc: Global, nets: usize) -> Result<ChangeCounts, AllocError> {
         let mut counts = Vec::new(alloc);
         counts.resize(nets, 0)?;
         Ok(ChangeCounts { counts, last: 0 })
     }
 
-    /// How many changes a net has.
+    /// How many value changes a net has so far.
     pub(crate) fn count(&self, net: u32) -> u64 {
         self.counts.get(net as usize).copied().unwrap_or(0)
     }

@@ -2,7 +2,7 @@
 //!
 //! # Parts
 //!
-//! - `changes`: how often each net changes, and the last time.
+//! - `changes`: how many value changes each net has, and the last time.
 //! - `timescale`: the text of the time scale; [`time_unit`], the number of units in it.
 //! - `variables`: [`variables_text`], the variables as text.
 //!

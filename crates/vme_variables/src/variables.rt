@@ -13,9 +13,10 @@ use std::alloc::{AllocError, Global};
 use vcd_read::{FaultKind, Head, Variable, Variables, VcdFault, read_definitions};
 use vme_text::{Text, escaped_text};
 
-/// The variables of the text of a dump, one a line in the order of their declaration: how many changes the dump has of
-/// each, how many bits it has, and its path with its index, as a binding names it. Before them are the time scale and
-/// the last time. A byte of a name that isn't a visible character is written as `\xHH`.
+/// The variables of the text of a dump, one a line in the order of their declaration: for each the number of its value
+/// changes, its width in bits, and its path with its index, as a binding names it. Its first value is one of the value
+/// changes, and so is a value that it has already. Before the variables are the time scale and the last time. A byte of
+/// a name that isn't a visible character is written as `\xHH`.
 ///
 /// There is a text only for a dump without a fault. A fault is the dump's first one; at line 0 it is want of memory.
 pub fn variables_text(alloc: Global, dump: &[u8]) -> Result<Text, VcdFault>
@@ -41,7 +42,7 @@ fn variables_after(
     ensures err { IfErr result (λ fault. ReadFails fault (instants_from head.now.nets head.now.body)) }
 {
     match changes_in(alloc, head) {
-        Ok(changes) => match written(alloc, dump, variables, &changes) {
+        Ok(changes) => match escaped_lines(alloc, dump, variables, &changes) {
             Ok(text) => Ok(text),
             Err(_) => Err(no_memory()),
         },
@@ -49,13 +50,13 @@ fn variables_after(
     }
 }
 
-/// How often each net changes in the body after the definitions `head`.
+/// How many value changes of each net are in the body after the definitions `head`.
 fn changes_in(alloc: Global, head: &Head<'_>) -> Result<ChangeCounts, VcdFault>
     ensures ok { OnOk result ((instants : List Instant) × instants_from head.now.nets head.now.body ≡ Ok instants) }
     ensures err { IfErr result (λ fault. ReadFails fault (instants_from head.now.nets head.now.body)) }
 {
-    match ChangeCounts::none(alloc, head.net_count()) {
-        Ok(none) => head.read_body(alloc, none),
+    match ChangeCounts::zeros(alloc, head.net_count()) {
+        Ok(zeros) => head.read_body(alloc, zeros),
         Err(_) => Err(no_memory()),
     }
 }
@@ -69,8 +70,8 @@ fn no_memory() -> VcdFault
     }
 }
 
-/// The text as it is shown to people.
-fn written(
+/// The lines of the text, with the names escaped.
+fn escaped_lines(
     alloc: Global,
     dump: &[u8],
     variables: &[Variable],

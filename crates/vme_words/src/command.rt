@@ -207,12 +207,12 @@ pub(crate) fn faults_command<'a>(alloc: Global) -> Result<Command<'a>, AllocErro
         .arg(kind)
 }
 
-/// The command that lists the variables of a dump, and how often each changes.
+/// The command that lists the variables of a dump, and how many value changes the dump has of each.
 pub(crate) fn variables_command<'a>(alloc: Global) -> Result<Command<'a>, AllocError>
     ensures { Makes variables_app result }
 {
     Command::new(alloc, "variables")
-        .about("Lists the variables of a dump, and how often each changes")
+        .about("Lists the variables of a dump, and how many value changes it has of each")
         .arg(dump_file(alloc))
 }
 

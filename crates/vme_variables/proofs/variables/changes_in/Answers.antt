@@ -4,10 +4,10 @@ use Rattle.vme_variables.proofs.variables.changes_in.Goals as goal
 
 pub returns-in-Ok-clause-ok : goal.returns-in-Ok-clause-ok
 returns-in-Ok-clause-ok c =
-    taken-ok (λ c net bits. count_change c net) with_last_instant _ c.args.head.now c.in-Ok.none c.read_body.result
+    taken-ok (λ c net bits. count_change c net) with_last_instant _ c.args.head.now c.in-Ok.zeros c.read_body.result
     c.read_body.ensures
 
 pub returns-in-Ok-clause-err : goal.returns-in-Ok-clause-err
 returns-in-Ok-clause-err c =
-    taken-err (λ c net bits. count_change c net) with_last_instant _ c.args.head.now c.in-Ok.none c.read_body.result
+    taken-err (λ c net bits. count_change c net) with_last_instant _ c.args.head.now c.in-Ok.zeros c.read_body.result
     c.read_body.ensures
