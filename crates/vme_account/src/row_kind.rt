@@ -23,13 +23,14 @@ pub enum RowKind {
     Singles,
     /// A cycle of a block transfer.
     Blocks,
-    /// A cycle whose address modifier code is free.
+    /// A cycle that acknowledges no interrupt, and whose address modifier code is user-defined or reserved, or has an
+    /// unknown bit.
     Frees,
-    /// An interrupt acknowledge cycle.
+    /// A cycle that acknowledges an interrupt.
     Acknowledges,
-    /// An answered read.
+    /// An answered read. One without an answer is of the kind `Pending` alone; `Counts::reads` of vme_audit has both.
     Reads,
-    /// An answered write.
+    /// An answered write. One without an answer is of the kind `Pending` alone; `Counts::writes` of vme_audit has both.
     Writes,
     /// A transfer that DTACK answered.
     Done,
