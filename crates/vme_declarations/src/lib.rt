@@ -24,7 +24,7 @@
 //! - The answers of [`DeclaredNames`], [`DeclaredVariable`], [`LevelsSeen`] and [`FoundLines`] are
 //!   defined over what these keep, in `specs/Names`, `specs/Levels` and `specs/Found`: a name, a
 //!   path, the number of a bit, whether one moves, the bit of a line, the groups and the slots that
-//!   were found. [`offsets_after_scopes`] and [`scopes_of`] are those of `specs/Paths`.
+//!   were found. [`offsets_after_scopes`] and [`scopes_have_path`] are those of `specs/Paths`.
 //! - [`group_of`], [`count`], [`has_cycle`] and [`has_handshake`] by `specs/Groups`; [`hash_of`] by
 //!   `specs/Hashes`.
 //!
@@ -60,6 +60,6 @@ pub use found_lines::{FoundLines, VariableBit};
 pub use groups::{BUS_GROUPS, Groups, count, group_of, has_cycle, has_handshake};
 pub use hash::{EMPTY_HASH, hash_of};
 pub use levels_seen::{LevelsSeen, MOST_BITS};
-pub use scope_paths::{front_of, offsets_after_scopes, scopes_of};
+pub use scope_paths::{front_of, offsets_after_scopes, scopes_have_path};
 pub use scope_search::has_scope;
 pub use survey::{DumpSurvey, SurveyedDump, surveys_are_of_dumps};

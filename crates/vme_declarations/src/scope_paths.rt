@@ -2,7 +2,8 @@
 
 ghost use Rattle.std.specs.Prelude.{◌≡◌, IfOk};
 ghost use Rattle.vcd_read.specs.Scopes.{with_dot};
-ghost use Rattle.vme_declarations.specs.Paths.{offset_after_name, offset_after_scope, offsets_after_scopes, scopes_of};
+ghost use Rattle.vme_declarations.specs.Paths.{offset_after_name, offset_after_scope, offsets_after_scopes};
+ghost use Rattle.vme_declarations.specs.Paths.{scopes_have_path};
 
 use crate::declared::{DeclaredNames, NOWHERE, Scope};
 use std::alloc::{AllocError, Global};
@@ -19,21 +20,21 @@ pub fn front_of(alloc: Global, path: &[u8]) -> Result<Vec<u8>, AllocError>
     Ok(front)
 }
 
-/// The offset in `path` after `name` and a dot, if these are at the offset `before`; else `NOWHERE`.
-fn offset_after_name(path: &[u8], before: usize, name: &[u8]) -> usize
-    ensures { result ≡ offset_after_name path.now before name.now }
+/// The offset in `path` after `name` and a dot, if these begin at the offset `start`; else `NOWHERE`.
+fn offset_after_name(path: &[u8], start: usize, name: &[u8]) -> usize
+    ensures { result ≡ offset_after_name path.now start name.now }
 {
-    let Some(rest) = path.get(before..) else {
+    let Some(rest) = path.get(start..) else {
         return NOWHERE;
     };
     match rest.get(name.len()) {
-        Some(b'.') if rest.starts_with(name) => before + name.len() + 1,
+        Some(b'.') if rest.starts_with(name) => start + name.len() + 1,
         _ => NOWHERE,
     }
 }
 
-/// The offset in `path` after the path of `scope` and a dot, or `NOWHERE`; 0 for the first scope. `offsets` has the
-/// offsets of the scopes before it.
+/// The offset in `path` after the path of `scope` and a dot, or `NOWHERE`. For the first scope it is 0. `offsets` has
+/// the offsets of the scopes before it.
 fn offset_after_scope(
     declared: &DeclaredNames,
     path: &[u8],
@@ -46,7 +47,7 @@ fn offset_after_scope(
         return 0;
     }
     match offsets.get(scope.parent) {
-        Some(before) => offset_after_name(path, *before, declared.scope_name(scope)),
+        Some(start) => offset_after_name(path, *start, declared.scope_name(scope)),
         None => NOWHERE,
     }
 }
@@ -69,12 +70,12 @@ pub fn offsets_after_scopes(
 }
 
 /// For each scope, whether its path is `path`.
-pub fn scopes_of(
+pub fn scopes_have_path(
     alloc: Global,
     declared: &DeclaredNames,
     path: &[u8],
 ) -> Result<Vec<bool>, AllocError>
-    ensures { IfOk result (λ named. named.items ≡ scopes_of declared.now path.now) }
+    ensures { IfOk result (λ found. found.items ≡ scopes_have_path declared.now path.now) }
 {
     let dotted = front_of(alloc, path)?;
     let offsets = offsets_after_scopes(alloc, declared, &dotted)?;

@@ -5,7 +5,7 @@ use std::alloc::{AllocError, Global};
 use vcd_read::{FaultKind, VcdFault};
 use vme_declarations::{
     DeclaredNames, DumpSurvey, EMPTY_HASH, Groups, SurveyedDump, VariableBit, front_of, group_of,
-    has_scope, hash_of, scopes_of,
+    has_scope, hash_of, scopes_have_path,
 };
 use vme_find::{FindFault, FoundBinding, write_binding};
 use vme_line_names::find_lines;
@@ -88,7 +88,7 @@ fn has_path(alloc: Global, declared: &DeclaredNames, place: usize, path: &[u8]) 
 
 /// Whether `wanted` says of each scope whether its path is `path`.
 fn has_scopes(alloc: Global, declared: &DeclaredNames, path: &[u8], wanted: &[bool]) -> bool {
-    match scopes_of(alloc, declared, path) {
+    match scopes_have_path(alloc, declared, path) {
         Ok(found) => found.as_slice() == wanted,
         Err(_) => false,
     }

@@ -8,7 +8,7 @@ use crate::vote::{ScopeVote, VoteCounter};
 use std::alloc::{AllocError, Global};
 use vme_declarations::{
     BUS_GROUPS, DeclaredNames, DeclaredVariable, FoundLines, Groups, LevelsSeen, MOST_BITS,
-    NOWHERE, VariableBit, count, group_of, scopes_of,
+    NOWHERE, VariableBit, count, group_of, scopes_have_path,
 };
 use vme_trace::{LINE_COUNT, Line};
 
@@ -103,7 +103,7 @@ fn all_votes(
     path: Option<&[u8]>,
 ) -> Result<(Vec<ScopeVote>, usize), AllocError> {
     let asked = match path {
-        Some(path) => Some(scopes_of(alloc, declared, path)?),
+        Some(path) => Some(scopes_have_path(alloc, declared, path)?),
         None => None,
     };
     let mut counter = VoteCounter::new(alloc);
