@@ -1,10 +1,10 @@
 -- A recording that a binding makes of a dump has its times from the dump.
 use Rattle.std.proofs.Common.{◌≡◌, ℕ, zero, suc, ◌+◌, ◌<◌, ◌≤◌, Bool, true, false, cond, eqb, List, [], ◌∷◌, ◌++◌}
 use Rattle.std.proofs.Common.{Option, None, Result, Ok, Err, refl, sym, ap, subst, arith, get_or, length}
-use Rattle.std.proofs.Common.{◌⊎◌, inl, inr, true≢false}
-use Rattle.std.specs.Prelude.{Contains, ◌||◌, map, nat_eq, slice_get, unwrap_or}
+use Rattle.std.proofs.Common.{◌⊎◌, inl, inr}
+use Rattle.std.specs.Prelude.{Contains, map, nat_eq, slice_get, unwrap_or}
 use Rattle.std.specs.List.{dedup}
-use Rattle.std.proofs.lemmas.Bool.{eq-eqb}
+use Rattle.std.proofs.lemmas.Bool.{eq-eqb, or_left, or_right}
 use Rattle.std.proofs.lemmas.List.Kept.{Contains-from_dedup}
 use Rattle.std.proofs.lemmas.Option.{slice_get_cases}
 use Rattle.vcd_read.specs.Contents.{Contents}
@@ -120,16 +120,11 @@ times_order t formed i (suc n) le =
 
 -- ---- the times of a dump's instants
 
-either_way : (a b : Bool) → (a ≡ true) ⊎ (b ≡ true) → (a || b) ≡ true
-either_way true b e = refl
-either_way false b (inl e) = absurd (true≢false (sym e))
-either_way false b (inr e) = e
-
 among_from : (xs : List ℕ) (x k : ℕ) → k < length xs → get_or xs k x ≡ x → is_among x xs ≡ true
 among_from [] x k lt e = absurd (omega (arith, lt))
-among_from (y ∷ ys) x zero lt e = either_way (eqb y x) (is_among x ys) (inl (eq-eqb y x e))
+among_from (y ∷ ys) x zero lt e = or_left (eqb y x) (is_among x ys) (eq-eqb y x e)
 among_from (y ∷ ys) x (suc k) lt e =
-    either_way (eqb y x) (is_among x ys) (inr (among_from ys x k (omega (arith, lt)) e))
+    or_right (eqb y x) (is_among x ys) (among_from ys x k (omega (arith, lt)) e)
 
 module _ (dump : List ℕ) where
   get_of_map : (f : ℕ → Instant) (ts : List ℕ) → ((t : ℕ) → Contains ts t → IsReached dump (f t).time) → (i : ℕ)

@@ -1,9 +1,9 @@
 -- The changes of a recording's rows are at its instants.
-use Rattle.std.proofs.Common.{◌≡◌, ℕ, zero, suc, ◌+◌, ◌≤◌, ◌==◌, Bool, true, false, List, [], ◌∷◌, ◌++◌, refl, sym}
-use Rattle.std.proofs.Common.{arith, inl, inr, true≢false}
+use Rattle.std.proofs.Common.{◌≡◌, ℕ, zero, suc, ◌+◌, ◌≤◌, ◌==◌, Bool, true, false, List, [], ◌∷◌, ◌++◌, refl}
+use Rattle.std.proofs.Common.{arith, inl, inr}
 use Rattle.std.specs.Prelude.{All, flat_map, if◌then◌else◌, nat_lt, ◌&&◌, IfSome, Option, None, Some}
 use Rattle.std.specs.List.{AllByRecursion}
-use Rattle.std.proofs.lemmas.Bool.{ltb-true}
+use Rattle.std.proofs.lemmas.Bool.{and_parts, ltb-true}
 use Rattle.std.proofs.lemmas.List.Elements.{All-from_recursion}
 use Rattle.vme_trace.specs.Cycle.{class_of}
 use Rattle.vme_trace.specs.Cycles.{cycle_of, cycle_starts}
@@ -147,17 +147,13 @@ module _ (last : ℕ) where
   unfolding row_changes
   reset_in i is = (is, (is, (is, tt)))
 
-  second_true : (a b : Bool) → (a && b) ≡ true → b ≡ true
-  second_true true b e = e
-  second_true false b e = absurd (true≢false (sym e))
-
   resets_in : (t : Trace) (limit : ℕ) (span : Stretch) → limit ≤ last + 1 → RowsAreIn (reset_rows t limit span)
   resets_in t limit span most = by_test (is_reset_at t span.end && nat_lt span.end limit) refl
     where
       by_test : (test : Bool) → (is_reset_at t span.end && nat_lt span.end limit) ≡ test
           → RowsAreIn (if test then Reset span.end ∷ [] else [])
       by_test true e =
-          let below = ltb-true span.end limit (second_true (is_reset_at t span.end) (nat_lt span.end limit) e) in
+          let below = ltb-true span.end limit (and_parts (is_reset_at t span.end) (nat_lt span.end limit) e).1 in
           (reset_in span.end (omega (arith, below, most)), tt)
       by_test false e = tt
 

@@ -1,10 +1,10 @@
 -- The time stamps of a dump that are passed while it is written.
-use Rattle.std.proofs.Common.{◌≡◌, ℕ, zero, suc, get_or, ◌<◌, ◌≤◌, Bool, true, false, eqb, List, [], ◌∷◌, ◌++◌, length}
+use Rattle.std.proofs.Common.{◌≡◌, ℕ, zero, suc, get_or, ◌<◌, ◌≤◌, true, false, eqb, List, [], ◌∷◌, ◌++◌, length}
 use Rattle.std.proofs.Common.{refl, sym, ap, subst, ◌∙◌}
-use Rattle.std.proofs.Common.{arith, true≢false, ◌⊎◌, inl, inr, append_assoc}
-use Rattle.std.specs.Prelude.{nat_lt, max, slice_get, ◌&&◌, ◌||◌, IfNone, IfSome, Option, None, Some}
+use Rattle.std.proofs.Common.{arith, true≢false, inl, inr, append_assoc}
+use Rattle.std.specs.Prelude.{nat_lt, max, slice_get, ◌&&◌, IfNone, IfSome, Option, None, Some}
 use Rattle.std.specs.List.{list_all}
-use Rattle.std.proofs.lemmas.Bool.{eqb-true, ltb-true}
+use Rattle.std.proofs.lemmas.Bool.{and_from, and_parts, eqb-true, lt-ltb, ltb-true, or_cases, or_from}
 use Rattle.std.proofs.lemmas.Bool.Decides.{nat_tests}
 use Rattle.std.proofs.lemmas.List.Folds.{list_all-append, list_any-append}
 use Rattle.vcd_places.specs.Places.{IsAtTime, times_of_body}
@@ -14,29 +14,14 @@ use Rattle.vcd_places.specs.Times.{IsAscendingFrom, IsReached, is_among}
 use Rattle.vme_annotate.specs.declared.inserting.WritingPlace.{WritingPlace}
 use Rattle.vme_annotate.specs.Writing.{IsNextTime, IsWrittenTo, StaysWithin, times_ahead}
 
-both_true : (a b : Bool) → (a && b) ≡ true → (a ≡ true) × (b ≡ true)
-both_true true b e = (refl, e)
-both_true false b e = absurd (true≢false (sym e))
-
-and_true : (a b : Bool) → a ≡ true → b ≡ true → (a && b) ≡ true
-and_true true b first second = second
-and_true false b first second = absurd (true≢false (sym first))
-
-below_test : (a b : ℕ) → a < b → nat_lt a b ≡ true
-below_test a b lt = grind (arith, nat_tests, lt)
-
 -- numbers that are all below `low` are all below `high`
 pub still_below : (xs : List ℕ) (low high : ℕ) → low ≤ high → list_all (λ (x : ℕ). nat_lt x low) xs ≡ true
     → list_all (λ (x : ℕ). nat_lt x high) xs ≡ true
 still_below [] low high le all = refl
 still_below (x ∷ xs) low high le all =
-    let parts = both_true (nat_lt x low) (list_all (λ (y : ℕ). nat_lt y low) xs) all in
-    and_true (nat_lt x high) (list_all (λ (y : ℕ). nat_lt y high) xs)
-    (below_test x high (omega (arith, ltb-true x low parts.0, le))) (still_below xs low high le parts.1)
-
-neither : (a b : Bool) → a ≡ false → b ≡ false → (a || b) ≡ false
-neither true b first second = absurd (true≢false first)
-neither false b first second = second
+    let parts = and_parts (nat_lt x low) (list_all (λ (y : ℕ). nat_lt y low) xs) all in
+    and_from (nat_lt x high) (list_all (λ (y : ℕ). nat_lt y high) xs)
+    (lt-ltb x high (omega (arith, ltb-true x low parts.0, le))) (still_below xs low high le parts.1)
 
 not_equal : (x n : ℕ) → x < n → eqb x n ≡ false
 not_equal x n lt = grind (arith, nat_tests, lt)
@@ -44,18 +29,14 @@ not_equal x n lt = grind (arith, nat_tests, lt)
 not_among : (xs : List ℕ) (n : ℕ) → list_all (λ (x : ℕ). nat_lt x n) xs ≡ true → is_among n xs ≡ false
 not_among [] n all = refl
 not_among (x ∷ xs) n all =
-    let parts = both_true (nat_lt x n) (list_all (λ (y : ℕ). nat_lt y n) xs) all in
-    neither (eqb x n) (is_among n xs) (not_equal x n (ltb-true x n parts.0)) (not_among xs n parts.1)
-
-either_true : (a b : Bool) → (a || b) ≡ true → (a ≡ true) ⊎ (b ≡ true)
-either_true true b e = inl refl
-either_true false b e = inr e
+    let parts = and_parts (nat_lt x n) (list_all (λ (y : ℕ). nat_lt y n) xs) all in
+    or_from (eqb x n) (is_among n xs) (not_equal x n (ltb-true x n parts.0)) (not_among xs n parts.1)
 
 -- numbers from `least` on that don't go back have none below `least`
 least_of : (least n : ℕ) (xs : List ℕ) → IsAscendingFrom least xs → is_among n xs ≡ true → least ≤ n
 least_of least n [] from among = absurd (true≢false (sym among))
 least_of least n (x ∷ xs) from among =
-    elim (either_true (eqb x n) (is_among n xs) among) [
+    elim (or_cases (eqb x n) (is_among n xs) among) [
       | inl is ↦ omega (arith, eqb-true x n is, from.0)
       | inr later ↦ omega (arith, from.0, least_of x n xs from.1 later)
     ]
@@ -66,7 +47,7 @@ from_part least (x ∷ xs) ys from = from_part x xs ys from.1
 
 among_rest : (n : ℕ) (xs ys : List ℕ) → is_among n (xs ++ ys) ≡ true → is_among n xs ≡ false → is_among n ys ≡ true
 among_rest n xs ys among none =
-    elim (either_true (is_among n xs) (is_among n ys)
+    elim (or_cases (is_among n xs) (is_among n ys)
     (sym (list_any-append (λ (x : ℕ). eqb x n) xs ys) ∙ among)) [
       | inl first ↦ absurd (true≢false (sym first ∙ none))
       | inr rest ↦ rest
@@ -79,7 +60,7 @@ next_reached time next passed rest all split from passed_below among =
     let part = from_part 0 passed (next ∷ rest) (subst (λ (ts : List ℕ). IsAscendingFrom 0 ts) split from) in
     let here = among_rest time passed (next ∷ rest) (sym (ap (is_among time) split) ∙ among)
     (not_among passed time passed_below) in
-    elim (either_true (eqb next time) (is_among time rest) here) [
+    elim (or_cases (eqb next time) (is_among time rest) here) [
       | inl is ↦ omega (arith, eqb-true next time is)
       | inr later ↦ least_of next time rest part.1.1 later
     ]
@@ -98,8 +79,8 @@ pub passed_more : (time next : ℕ) (passed rest all : List ℕ) → all ≡ pas
 passed_more time next passed rest all split lt passed_below = (
   split ∙ sym (append_assoc passed (next ∷ []) rest),
   list_all-append (λ (t : ℕ). nat_lt t time) passed (next ∷ [])
-      ∙ and_true (list_all (λ (t : ℕ). nat_lt t time) passed) (nat_lt next time && true) passed_below
-      (and_true (nat_lt next time) true (below_test next time lt) refl),
+      ∙ and_from (list_all (λ (t : ℕ). nat_lt t time) passed) (nat_lt next time && true) passed_below
+      (and_from (nat_lt next time) true (lt-ltb next time lt) refl),
 )
 
 -- ---- one step
