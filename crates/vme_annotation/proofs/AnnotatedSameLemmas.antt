@@ -3,6 +3,7 @@ use Rattle.std.proofs.Common.{◌≡◌, ℕ, ◌<◌, true, false, List, [], �
 use Rattle.std.proofs.Common.{Ok, Err, refl, sym, ap, subst, ◌∙◌, arith, length, take, drop}
 use Rattle.std.specs.Prelude.{codes, map, option_map, ◌&&◌}
 use Rattle.std.specs.List.{list_all}
+use Rattle.std.proofs.lemmas.Bool.{and_parts}
 use Rattle.std.proofs.lemmas.List.{append-nil, take-append-drop}
 use Rattle.vcd_read.specs.Contents.{Contents}
 use Rattle.vcd_read.specs.declared.dump.Instant.{Instant}
@@ -43,7 +44,7 @@ use Rattle.vme_annotation.proofs.DeclaredLemmas.{declares_inserted, header_decla
 use Rattle.vme_annotation.proofs.DeclaredLemmas.{inserted_variables, nets_1, nets_2, nets_3, nets_4, with_inserted}
 use Rattle.vme_annotation.proofs.SameDumpLemmas.{IsDump, dump_is, same_dump}
 use Rattle.vme_annotation.proofs.ShownWordLemmas.{shown_words, shows_word}
-use Rattle.vme_annotation.proofs.WholeLemmas.{appended_nothing, both_true, code_word, different_codes, end_items}
+use Rattle.vme_annotation.proofs.WholeLemmas.{appended_nothing, code_word, different_codes, end_items}
 use Rattle.vme_annotation.proofs.WholeLemmas.{four_apart, header_with, some_of, words_at}
 
 -- ---- the codes
@@ -151,7 +152,7 @@ module _ (nets : List Net) (c0 c1 c2 c3 : List ℕ) (are : AreFree nets (c0 ∷ 
       → list_all shows_word (map change_of put) ≡ true → ArePutIn all code_by dump from put
   placed_in dump t [] from placed words = tt
   placed_in dump t (p ∷ put) from placed words =
-      let parts = both_true (shows_word p.change) (list_all shows_word (map change_of put)) words in (
+      let parts = and_parts (shows_word p.change) (list_all shows_word (map change_of put)) words in (
         placed.0,
         record {
           shown = each_shows p.change.text p.change.variable parts.0;
@@ -199,9 +200,9 @@ module _ (dump : List ℕ) (contents : Contents) (is : IsDump dump contents) (t 
   parts : (ends_at_boundary front ≡ true) × (is_between_sections front ≡ true)
       × (begins_with_token (codes "$enddefinitions") (drop start dump) ≡ true)
   parts =
-      let outer = both_true (ends_at_boundary front && is_between_sections front)
+      let outer = and_parts (ends_at_boundary front && is_between_sections front)
       (begins_with_token (codes "$enddefinitions") (drop start dump)) starts in
-      let inner = both_true (ends_at_boundary front) (is_between_sections front) outer.0 in
+      let inner = and_parts (ends_at_boundary front) (is_between_sections front) outer.0 in
       (inner.0, inner.1, outer.1)
 
   header_behind : (text : List ℕ) → header_from between (tokens (front ++ text))

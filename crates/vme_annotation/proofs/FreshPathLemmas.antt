@@ -3,6 +3,7 @@ use Rattle.std.proofs.Common.{◌≡◌, ℕ, Bool, true, false, eqb, List, [], 
 use Rattle.std.proofs.Common.{◌∙◌, true≢false, ◌||◌}
 use Rattle.std.specs.Prelude.{All, bytes_eq, drop}
 use Rattle.std.specs.List.{list_any, onto_first, slice_split}
+use Rattle.std.proofs.lemmas.Bool.{or_right}
 use Rattle.std.proofs.lemmas.List.Splits.{slice_split_at, slice_split-cons_no, slice_split-cons_yes}
 use Rattle.std.proofs.lemmas.Slice.Eq.{bytes_eq-Decides}
 use Rattle.vcd_read.specs.Header.{joined_by_dots}
@@ -16,13 +17,9 @@ is_dot b = eqb b 46
 abbrev parts : List ℕ → List (List ℕ)
 parts path = slice_split is_dot path
 
-or_true : (test any : Bool) → any ≡ true → (test || any) ≡ true
-or_true true any is = refl
-or_true false any is = is
-
 any_of : (f : List ℕ → Bool) (ps : List (List ℕ)) → list_any f (drop 1 ps) ≡ true → list_any f ps ≡ true
 any_of f [] any = any
-any_of f (p ∷ ps) any = or_true (f p) (list_any f ps) any
+any_of f (p ∷ ps) any = or_right (f p) (list_any f ps) any
 
 -- if a part of `rest` satisfies `f`, so does a part, other than the first, of `front`, a dot and `rest`
 some_behind : (f : List ℕ → Bool) (front rest : List ℕ) → list_any f (parts rest) ≡ true

@@ -1,11 +1,11 @@
 -- The texts that the variables show are words: none of their bytes is a space.
 use Rattle.std.proofs.Common.{◌≡◌, ℕ, zero, suc, ◌+◌, ◌-◌, ◌≤◌, ◌/◌, ◌%◌, Bool, true, false, cond, eqb, List, [], ◌∷◌}
 use Rattle.std.proofs.Common.{◌++◌}
-use Rattle.std.proofs.Common.{Option, Some, None, refl, sym, ap, ◌∙◌, arith, true≢false}
-use Rattle.std.specs.Prelude.{not, ◌&&◌, nat_lt, flat_map, filter, codes, decimal}
+use Rattle.std.proofs.Common.{Option, Some, None, refl, sym, ap, ◌∙◌, arith}
+use Rattle.std.specs.Prelude.{not, nat_lt, flat_map, filter, codes, decimal}
 use Rattle.std.specs.List.{list_all}
 use Rattle.std.specs.Fmt.{digit_glyph, digits, digits_onto}
-use Rattle.std.proofs.lemmas.Bool.Decides.{nat_tests}
+use Rattle.std.proofs.lemmas.Bool.{and_from, and_parts, eq-eqb}
 use Rattle.std.proofs.lemmas.List.Folds.{list_all-append}
 use Rattle.vcd_read.specs.Tokens.{is_space}
 use Rattle.vcd_read.proofs.TokenLemmas.{above_space}
@@ -40,13 +40,9 @@ use Rattle.vme_annotation.specs.declared.shown_variable.ShownVariable.TheVariant
 abbrev pub is_word : List ℕ → Bool
 is_word text = list_all (λ b. not (is_space b)) text
 
-pub and_true : (a b : Bool) → a ≡ true → b ≡ true → (a && b) ≡ true
-and_true true b first second = second
-and_true false b first second = absurd (true≢false (sym first))
-
 pub appended_word : (a b : List ℕ) → is_word a ≡ true → is_word b ≡ true → is_word (a ++ b) ≡ true
 appended_word a b first second =
-    list_all-append (λ b. not (is_space b)) a b ∙ and_true (is_word a) (is_word b) first second
+    list_all-append (λ b. not (is_space b)) a b ∙ and_from (is_word a) (is_word b) first second
 
 -- ---- digits
 
@@ -66,7 +62,7 @@ glyph_high upper d = go upper (nat_lt d 10)
     go false false = omega arith
 
 before : (b : ℕ) (text : List ℕ) → 48 ≤ b → is_word text ≡ true → is_word (b ∷ text) ≡ true
-before b text high word = and_true (not (is_space b)) (is_word text) (high_word b high) word
+before b text high word = and_from (not (is_space b)) (is_word text) (high_word b high) word
 
 onto_word : (k base : ℕ) (upper : Bool) (n : ℕ) (acc : List ℕ) → is_word acc ≡ true
     → is_word (digits_onto k base upper n acc) ≡ true
@@ -99,7 +95,7 @@ digit_word true digit flag = go (eqb flag 1)
 digits_word : (a : Lanes) (place : ℕ) (rest : List ℕ) → is_word rest ≡ true
     → is_word (digit_text_in a place ∷ rest) ≡ true
 digits_word a place rest word =
-    and_true (not (is_space (digit_text_in a place))) (is_word rest)
+    and_from (not (is_space (digit_text_in a place))) (is_word rest)
     (digit_word (is_moved_in a place) (digit_in a place) (flag_in a place)) word
 
 lanes_word : (lanes : Lanes) → is_word (lanes_text lanes) ≡ true
@@ -219,8 +215,8 @@ are_words changes = list_all shows_word changes
 
 goes_words : (v : ShownVariable) (start : ℕ) (text : List ℕ) (end : Option ℕ) → is_word text ≡ true
     → are_words (shows_until v start text end) ≡ true
-goes_words v start text None word = and_true (is_word text) true word refl
-goes_words v start text (Some end) word = and_true (is_word text) true word refl
+goes_words v start text None word = and_from (is_word text) true word refl
+goes_words v start text (Some end) word = and_from (is_word text) true word refl
 
 row_words : (text : List ℕ) (row : Row) → is_word text ≡ true → are_words (changes_with text row) ≡ true
 row_words text (Start instant) word = refl
@@ -235,25 +231,21 @@ row_words text (Transfer direction line start cycle answer close lanes) word =
 row_words text (PendingTransfer start direction) word = goes_words shown.Transfer start text None word
 row_words text (Verdict Conforming) word = refl
 row_words text (Verdict NeverIdle) word = refl
-row_words text (Verdict (Broken r instant line)) word = and_true (is_word text) true word refl
-row_words text (Verdict (Unreadable r instant line)) word = and_true (is_word text) true word refl
+row_words text (Verdict (Broken r instant line)) word = and_from (is_word text) true word refl
+row_words text (Verdict (Unreadable r instant line)) word = and_from (is_word text) true word refl
 
 rows_words : (rows : List Row) → are_words (flat_map row_changes rows) ≡ true
 unfolding row_changes
 rows_words [] = refl
 rows_words (row ∷ rows) =
     list_all-append shows_word (row_changes row) (flat_map row_changes rows)
-    ∙ and_true (are_words (row_changes row)) (are_words (flat_map row_changes rows))
+    ∙ and_from (are_words (row_changes row)) (are_words (flat_map row_changes rows))
     (row_words (shown_text row) row (text_word row)) (rows_words rows)
 
 all_words : (rows : List Row) → are_words (all_changes rows) ≡ true
 all_words rows = list_all-append shows_word opening_changes (flat_map row_changes rows) ∙ rows_words rows
 
 -- ---- changes that are, at each instant, those of rows
-
-both_true : (a b : Bool) → (a && b) ≡ true → (a ≡ true) × (b ≡ true)
-both_true true b e = (refl, e)
-both_true false b e = absurd (true≢false (sym e))
 
 abbrev at : ℕ → List ShownChange → List ShownChange
 at instant changes = filter (λ c. eqb c.instant instant) changes
@@ -267,31 +259,28 @@ kept_words : (instant : ℕ) (changes : List ShownChange) → are_words changes 
     → are_words (at instant changes) ≡ true
 kept_words instant [] words = refl
 kept_words instant (c ∷ changes) words =
-    let parts = both_true (shows_word c) (are_words changes) words in
+    let parts = and_parts (shows_word c) (are_words changes) words in
     let rest = kept_words instant changes parts.1 in
     if_words (eqb c.instant instant) (c ∷ at instant changes) (at instant changes)
-    (and_true (shows_word c) (are_words (at instant changes)) parts.0 rest) rest
-
-tied : (n : ℕ) → eqb n n ≡ true
-tied n = grind (arith, nat_tests)
+    (and_from (shows_word c) (are_words (at instant changes)) parts.0 rest) rest
 
 from_each : (changes : List ShownChange) → ((instant : ℕ) → are_words (at instant changes) ≡ true)
     → are_words changes ≡ true
 from_each [] each = refl
 from_each (c ∷ changes) each =
-    and_true (shows_word c) (are_words changes) own (from_each changes (λ instant. rest instant))
+    and_from (shows_word c) (are_words changes) own (from_each changes (λ instant. rest instant))
   where
     own : shows_word c ≡ true
-    own = (both_true (shows_word c) (are_words (at c.instant changes))
+    own = (and_parts (shows_word c) (are_words (at c.instant changes))
         (sym (ap (λ (test : Bool). are_words (cond test (c ∷ at c.instant changes) (at c.instant changes)))
-        (tied c.instant)) ∙ each c.instant)).0
+        (eq-eqb c.instant c.instant refl)) ∙ each c.instant)).0
 
     rest : (instant : ℕ) → are_words (at instant changes) ≡ true
     rest instant = go (eqb c.instant instant) (each instant)
       where
         go : (test : Bool) → are_words (cond test (c ∷ at instant changes) (at instant changes)) ≡ true
             → are_words (at instant changes) ≡ true
-        go true words = (both_true (shows_word c) (are_words (at instant changes)) words).1
+        go true words = (and_parts (shows_word c) (are_words (at instant changes)) words).1
         go false words = words
 
 -- if `changes` are, at each instant, those of `rows`, their texts are words

@@ -1,10 +1,11 @@
 -- A code that is no token of the definitions isn't the code of a variable.
 use Rattle.std.proofs.Common.{◌≡◌, ℕ, Bool, true, false, cond, eqb, List, [], ◌∷◌, ◌++◌, Option, Some, None, Result, Ok}
 use Rattle.std.proofs.Common.{Err}
-use Rattle.std.proofs.Common.{refl, sym, ap, ◌∙◌, get_or, take, true≢false}
+use Rattle.std.proofs.Common.{refl, sym, ap, ◌∙◌, get_or, take}
 use Rattle.std.specs.List.Sorted.{IsStrictlyIncreasing}
 use Rattle.std.specs.Prelude.{All, bytes_eq, codes, map, ◌||◌}
 use Rattle.std.specs.List.{concat, list_any}
+use Rattle.std.proofs.lemmas.Bool.{or_from, or_parts}
 use Rattle.std.proofs.lemmas.List.Folds.{list_any-append}
 use Rattle.vcd_read.specs.declared.dump.Variable.{Variable}
 use Rattle.vcd_read.specs.declared.fault.FaultKind.{FaultKind}
@@ -45,14 +46,6 @@ module _ (code : List ℕ) where
   place_names between = false
   place_names (inside section) = list_any is_word section.words
 
-  not_either : (a b : Bool) → (a || b) ≡ false → (a ≡ false) × (b ≡ false)
-  not_either true b e = absurd (true≢false e)
-  not_either false b e = (refl, e)
-
-  neither : (a b : Bool) → a ≡ false → b ≡ false → (a || b) ≡ false
-  neither true b first second = absurd (true≢false first)
-  neither false b first second = second
-
   -- ---- no item has the code as a word, since it is no token
 
   abbrev Lack : Header → Type 0
@@ -75,7 +68,7 @@ module _ (code : List ℕ) where
       ])
   by_kind section ts true lacks next = refl
   by_kind section ts false lacks next =
-      neither (list_any is_word section.words) (list_any item_names (header_from between ts).items) lacks next
+      or_from (list_any is_word section.words) (list_any item_names (header_from between ts).items) lacks next
 
   by_end : (section : Section) (t : Token) (ts : List Token) (test : Bool) → list_any is_word section.words ≡ false
       → Lack (header_from between ts) → Lack (header_from (inside (with_word section t.bytes)) ts)
@@ -93,8 +86,8 @@ module _ (code : List ℕ) where
       → bytes_eq word code ≡ false → list_any is_word (section.words ++ word ∷ []) ≡ false
   word_lacks section word lacks differs =
       list_any-append is_word section.words (word ∷ [])
-      ∙ neither (list_any is_word section.words) (bytes_eq word code || false) lacks
-      (neither (bytes_eq word code) false differs refl)
+      ∙ or_from (list_any is_word section.words) (bytes_eq word code || false) lacks
+      (or_from (bytes_eq word code) false differs refl)
 
   items_lack : (ts : List Token) (place : HeaderPlace) → place_names place ≡ false → list_any is_token ts ≡ false
       → Lack (header_from place ts)
@@ -102,11 +95,11 @@ module _ (code : List ℕ) where
   items_lack [] between place lacks = refl
   items_lack [] (inside section) place lacks = refl
   items_lack (t ∷ ts) between place lacks =
-      let parts = not_either (bytes_eq t.bytes code) (list_any is_token ts) lacks in
+      let parts = or_parts (bytes_eq t.bytes code) (list_any is_token ts) lacks in
       by_opening t ts (opens_section t.bytes) (items_lack ts between refl parts.1)
       (items_lack ts (inside (opened t)) refl parts.1)
   items_lack (t ∷ ts) (inside section) place lacks =
-      let parts = not_either (bytes_eq t.bytes code) (list_any is_token ts) lacks in
+      let parts = or_parts (bytes_eq t.bytes code) (list_any is_token ts) lacks in
       by_end section t ts (is_end t.bytes) place (items_lack ts between refl parts.1)
       (items_lack ts (inside (with_word section t.bytes)) (word_lacks section t.bytes place parts.0) parts.1)
 
@@ -141,9 +134,9 @@ module _ (code : List ℕ) where
   code_is_word (type ∷ size ∷ []) var lacks e = absurd cc
   code_is_word (type ∷ size ∷ word ∷ []) var lacks e = absurd cc
   code_is_word (type ∷ size ∷ word ∷ first ∷ others) var lacks e =
-      let after_type = not_either (is_word type) (list_any is_word (size ∷ word ∷ first ∷ others)) lacks in
-      let after_size = not_either (is_word size) (list_any is_word (word ∷ first ∷ others)) after_type.1 in
-      let at_word = not_either (is_word word) (list_any is_word (first ∷ others)) after_size.1 in
+      let after_type = or_parts (is_word type) (list_any is_word (size ∷ word ∷ first ∷ others)) lacks in
+      let after_size = or_parts (is_word size) (list_any is_word (word ∷ first ∷ others)) after_type.1 in
+      let at_word = or_parts (is_word word) (list_any is_word (first ∷ others)) after_size.1 in
       let sized = both_read (number_below 65537 BadVar size) (λ n. cond (is_code word) (Ok (record {
         size = n;
         code = word;
@@ -208,7 +201,7 @@ module _ (code : List ℕ) where
   unfolding declare_all
   declared_lack [] d end lacks none e = sym (ap declared_after e) ∙ none
   declared_lack (whole section ∷ items) d end lacks none e =
-      let parts = not_either (list_any is_word section.words) (list_any item_names items) lacks in
+      let parts = or_parts (list_any is_word section.words) (list_any item_names items) lacks in
       let read = both_read (at_line section.line (declare_section appended d section))
       (λ next. declare_all appended next items) end e in
       declared_lack items read.0 end parts.1

@@ -2,14 +2,14 @@
 use Rattle.std.proofs.Common.{◌≡◌, ℕ, ◌<◌, Bool, true, false, eqb, List, [], ◌∷◌, ◌++◌}
 use Rattle.std.proofs.Common.{Some, refl, sym, ap, subst, ◌∙◌, arith, length}
 use Rattle.std.proofs.Common.{append_assoc}
-use Rattle.std.proofs.Common.{take, drop, reverse, true≢false}
+use Rattle.std.proofs.Common.{take, drop, reverse}
 use Rattle.std.specs.Prelude.{All, bytes_eq, nat_le, codes, is_some, not, replicate, ◌&&◌}
 use Rattle.std.specs.Prelude.{get_or}
 use Rattle.std.specs.List.{list_all, list_any}
 use Rattle.std.proofs.lemmas.List.{append-nil, reverse-append, take-append-drop}
 use Rattle.std.proofs.lemmas.List.Elements.{All-replicate}
 use Rattle.std.proofs.lemmas.List.Sums.{AllPass-from_list_all, list_all-from_AllPass}
-use Rattle.std.proofs.lemmas.Bool.{leb-true}
+use Rattle.std.proofs.lemmas.Bool.{and_from, and_parts, leb-true, not-true}
 use Rattle.std.proofs.lemmas.Slice.Eq.{bytes_eq-Decides}
 use Rattle.vcd_read.proofs.TokenLemmas.{above_space}
 use Rattle.vcd_read.specs.declared.dump.Variable.{Variable}
@@ -29,15 +29,7 @@ use Rattle.vme_annotation.proofs.BoundLemmas.{AreApart, has_path}
 use Rattle.vme_annotation.proofs.DeclaredLemmas.{inserted_variables, nets_1, nets_2, nets_3, shown_in}
 use Rattle.vme_annotation.proofs.FreshPathLemmas.{lacks_path, scope_in_path}
 use Rattle.vme_annotation.proofs.SameDumpLemmas.{end_declares}
-use Rattle.vme_annotation.proofs.ShownWordLemmas.{and_true, appended_word, is_word}
-
-pub both_true : (a b : Bool) → (a && b) ≡ true → (a ≡ true) × (b ≡ true)
-both_true true b e = (refl, e)
-both_true false b e = absurd (true≢false (sym e))
-
-pub negated : (b : Bool) → not b ≡ true → b ≡ false
-negated true e = absurd (true≢false (sym e))
-negated false e = refl
+use Rattle.vme_annotation.proofs.ShownWordLemmas.{appended_word, is_word}
 
 -- ---- the end of the definitions
 
@@ -48,7 +40,7 @@ pub end_items : (line : ℕ) (rest : List ℕ) → begins_with_token (codes "$en
     → (header_from between (tokens_from line rest)).items ≡ []
 unfolding header_from
 end_items line rest begins body ends =
-    let parts = both_true (bytes_eq (take 15 rest) (codes "$enddefinitions")) (starts_at_boundary (drop 15 rest))
+    let parts = and_parts (bytes_eq (take 15 rest) (codes "$enddefinitions")) (starts_at_boundary (drop 15 rest))
     begins in
     let word : take 15 rest ≡ codes "$enddefinitions" =
     (bytes_eq-Decides (take 15 rest) (codes "$enddefinitions")).0 parts.0 in
@@ -83,8 +75,8 @@ module _ (front : List ℕ) (ends : ends_at_boundary front ≡ true) (goes : is_
   go_on : IsBetweenSections (header_from between (tokens front))
   go_on =
       let header : Header = header_from between (tokens front) in
-      let parts = both_true (not (is_some header.body)) (not (list_any is_unfinished header.items)) goes in
-      (negated (is_some header.body) parts.0, negated (list_any is_unfinished header.items) parts.1)
+      let parts = and_parts (not (is_some header.body)) (not (list_any is_unfinished header.items)) goes in
+      (not-true (is_some header.body) parts.0, not-true (list_any is_unfinished header.items) parts.1)
 
   -- the items of `front` followed by `rest` are those of `front` and then those of `rest`
   pub header_with : (rest : List ℕ) → header_from between (tokens (front ++ rest))
@@ -98,9 +90,9 @@ pub items_before : (dump : List ℕ) (start : ℕ) → ends_definitions_at dump 
     → body_in dump ≡ Some body → items_of_text dump ≡ items_of_text (take start dump)
 items_before dump start starts body ends =
     let front : List ℕ = take start dump in
-    let outer = both_true (ends_at_boundary front && is_between_sections front)
+    let outer = and_parts (ends_at_boundary front && is_between_sections front)
     (begins_with_token (codes "$enddefinitions") (drop start dump)) starts in
-    let inner = both_true (ends_at_boundary front) (is_between_sections front) outer.0 in
+    let inner = and_parts (ends_at_boundary front) (is_between_sections front) outer.0 in
     let read = header_with front inner.0 inner.1 (drop start dump) in
     ap items_of_text (sym (take-append-drop start dump))
     ∙ ap (λ (h : Header). h.items) read
@@ -129,7 +121,7 @@ module _ (underscores : ℕ) where
   each_undotted = filled undotted refl
 
   pub scope_undotted : All (λ (b : ℕ). eqb b 46 ≡ false) scope
-  scope_undotted = λ k d lt. negated (eqb (get_or scope k d) 46)
+  scope_undotted = λ k d lt. not-true (eqb (get_or scope k d) 46)
       (AllPass-from_list_all undotted scope each_undotted k d lt)
 
   -- a name in the scope has the scope in its path
@@ -177,14 +169,14 @@ module _ (underscores : ℕ) where
 -- a code is a word
 code_byte : (b : ℕ) → is_code_byte b ≡ true → not (is_space b) ≡ true
 code_byte b is =
-    let parts = both_true (nat_le 33 b) (nat_le b 126) is in
+    let parts = and_parts (nat_le 33 b) (nat_le b 126) is in
     ap not (above_space b (omega (arith, leb-true 33 b parts.0)))
 
 pub code_word : (code : List ℕ) → is_code code ≡ true → IsWord code
 code_word [] is = refl
 code_word (b ∷ code) is =
-    let parts = both_true (is_code_byte b) (is_code code) is in
-    and_true (not (is_space b)) (is_word code) (code_byte b parts.0) (code_word code parts.1)
+    let parts = and_parts (is_code_byte b) (is_code code) is in
+    and_from (not (is_space b)) (is_word code) (code_byte b parts.0) (code_word code parts.1)
 
 -- a code that isn't empty has a first byte
 pub some_of : (code : List ℕ) → 0 < length code → (b : ℕ) × (k : List ℕ) × (code ≡ b ∷ k)
