@@ -3,7 +3,7 @@ use Rattle.std.proofs.Common.{◌≡◌, ◌⊎◌, ℕ, ◌+◌, ◌<◌, ◌�
 use Rattle.std.proofs.Common.{◌++◌, flat_map, length, get_or, take, drop, map, inl, inr}
 use Rattle.std.proofs.Common.{refl, sym, ap, subst, ◌∙◌, add-zero, append-nil, append_assoc, take-append-drop}
 use Rattle.std.specs.List.{AllZip, list_any}
-use Rattle.std.proofs.lemmas.Bool.{eq-eqb}
+use Rattle.std.proofs.lemmas.Bool.{eq-eqb, eqb-false}
 use Rattle.std.proofs.lemmas.Grind.{flat_map-append}
 use Rattle.std.proofs.lemmas.List.{get_or-drop, map-append, take_all, take_more}
 use Rattle.std.proofs.lemmas.List.Folds.{list_any-append}
@@ -105,10 +105,7 @@ flat-then : {X A : Type 0} (f : X → List A) (xs : List X) (x : X) → flat_map
 flat-then f xs x = ap (λ l. flat_map f xs ++ l) (sym (append-nil (f x))) ∙ sym (flat_map-append f xs (x ∷ []))
 
 pub not-five : (n : ℕ) → nat_eq n 5 ≡ false → n ≡ 5 → ⊥
-not-five n other is = differ (sym (eq-eqb n 5 is) ∙ other)
-  where
-    differ : true ≡ false → ⊥
-    differ same = cc
+not-five n other = eqb-false n 5 other
 
 module _ (options : AuditOptions) (bound : BoundLines) where
   pub writes-no-dumps : (out err : Writing) → WritesDumps options bound [] (out, out) (err, err) 0
