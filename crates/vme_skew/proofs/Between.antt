@@ -1,7 +1,8 @@
 -- The step from one set of levels to another.
 use Rattle.std.proofs.Common.{◌≡◌, ◌≢◌, ℕ, zero, suc, ◌+◌, ◌<◌, ◌≤◌, Bool, true, false, cond, not, ◌&&◌, ◌||◌, List, []}
-use Rattle.std.proofs.Common.{◌∷◌, ◌++◌, length, map, refl, sym, ap, ◌∙◌, arith, inl, inr, ◌⊎◌}
+use Rattle.std.proofs.Common.{◌∷◌, ◌++◌, length, map, refl, sym, ap, ◌∙◌, arith, inl, inr}
 use Rattle.std.specs.Prelude.{nat_le, nat_lt, ◌==◌}
+use Rattle.std.proofs.lemmas.Bool.{and_parts, eqb-true, le-leb, leb-true, lt-ltb, ltb-true, not-true, or_cases, or_from}
 use Rattle.std.proofs.lemmas.Bool.{false≢true}
 use Rattle.std.proofs.lemmas.Bool.Decides.{nat_tests}
 use Rattle.std.proofs.lemmas.List.{length-map}
@@ -19,7 +20,7 @@ use Rattle.vme_trace.proofs.Ranges.{any-fails, fails-any, those-next, those-none
 use Rattle.vme_bind.specs.Recording.{differs, change_to, changes_between, step_between}
 use Rattle.vme_bind.proofs.RecorderLemmas.{no_difference_at, same_levels, same_unless_differs, set_same, set_other}
 use Rattle.vme_bind.proofs.RecorderLemmas.{set_all}
-use Rattle.vme_bind.proofs.CaptureLemmas.{changed-those, length-changed, is_below}
+use Rattle.vme_bind.proofs.CaptureLemmas.{changed-those, length-changed}
 use Rattle.vme_bind.proofs.StepsLemmas.{some_of}
 
 -- ---- from levels to the same levels
@@ -60,7 +61,7 @@ changes-lead v w one =
     (length-changed v (changes_between v w) ∙ one.first) one.second
     (λ l lt.
     changed-those (differs v w) (level_at w) v line_count (omega (arith, one.first)) l
-    ∙ by_test (nat_lt l line_count) (differs v w l) l (is_below l line_count lt) refl)
+    ∙ by_test (nat_lt l line_count) (differs v w l) l (lt-ltb l line_count lt) refl)
   where
     by_test : (a b : Bool) (l : ℕ) → a ≡ true → differs v w l ≡ b → cond (a && b) (level_at w l) (level_at v l)
         ≡ level_at w l
@@ -85,26 +86,8 @@ four_parts true true false d h = absurd cc
 four_parts true false c d h = absurd cc
 four_parts false b c d h = absurd cc
 
-not_true : (b : Bool) → not b ≡ true → b ≡ false
-not_true false h = refl
-not_true true h = absurd cc
-
-from_test : (k m : ℕ) → nat_le k m ≡ true → k ≤ m
-from_test k m h = grind (arith, nat_tests)
-
-neither : (a b : Bool) → a ≡ false → b ≡ false → (a || b) ≡ false
-neither false b e h = h
-neither true b e h = absurd (false≢true (sym e))
-
-either_of : (a b : Bool) → (a || b) ≡ true → (a ≡ true) ⊎ (b ≡ true)
-either_of true b h = inl refl
-either_of false b h = inr h
-
 other_number : (m l : ℕ) → l < m → (m == l) ≡ false
 other_number m l lt = grind (arith, nat_tests)
-
-same_number : (m l : ℕ) → (m == l) ≡ true → m ≡ l
-same_number m l h = grind (arith, nat_tests)
 
 -- what holds of the first of some changes, and of those after it
 pub record FirstIs (v : Levels) (k : ℕ) (c : Change) (cs : List Change) : Type 0 where
@@ -119,10 +102,9 @@ first_is v k c cs h =
     let parts = four_parts (nat_le k c.line) (has_line v.slots c.line) (not (same_level (level_at v c.line) c.level))
     (are_changes v (c.line + 1) cs) h in
     record {
-      from = from_test k c.line parts.0;
+      from = leb-true k c.line parts.0;
       exists = parts.1;
-      other = not_true
-          (same_level (level_at v c.line) c.level) parts.2;
+      other = not-true (same_level (level_at v c.line) c.level) parts.2;
       rest = parts.3;
     }
 
@@ -132,7 +114,7 @@ pub lines_below : (v : Levels) (k : ℕ) (cs : List Change) (l : ℕ) → are_ch
 lines_below v k [] l h lt = refl
 lines_below v k (c ∷ cs) l h lt =
     let is = first_is v k c cs h in
-    neither (c.line == l) (is_changed cs l) (other_number c.line l (omega (arith, is.from, lt)))
+    or_from (c.line == l) (is_changed cs l) (other_number c.line l (omega (arith, is.from, lt)))
     (lines_below v (c.line + 1) cs l is.rest (omega (arith, is.from, lt)))
 
 -- a line that changes exists
@@ -141,17 +123,10 @@ pub changed_exists : (v : Levels) (k : ℕ) (cs : List Change) (l : ℕ) → are
 changed_exists v k [] l h is' = absurd (false≢true is')
 changed_exists v k (c ∷ cs) l h is' =
     let is = first_is v k c cs h in
-    elim (either_of (c.line == l) (is_changed cs l) is') [
-      | inl e ↦ ap (has_line v.slots) (sym (same_number c.line l e)) ∙ is.exists
+    elim (or_cases (c.line == l) (is_changed cs l) is') [
+      | inl e ↦ ap (has_line v.slots) (sym (eqb-true c.line l e)) ∙ is.exists
       | inr later ↦ changed_exists v (c.line + 1) cs l is.rest later
     ]
-
-less_than : (l n : ℕ) → nat_lt l n ≡ true → l < n
-less_than l n h = grind (arith, nat_tests)
-
-second_of : (a b : Bool) → (a && b) ≡ true → b ≡ true
-second_of true b h = h
-second_of false b h = absurd (false≢true h)
 
 pub exists_below : (slots l : ℕ) → has_line slots l ≡ true → l < line_count
 exists_below slots l h = by_tests (nat_lt l (grant 0 0)) (is_grant l) (is_slot_iack l) refl refl refl h
@@ -159,12 +134,12 @@ exists_below slots l h = by_tests (nat_lt l (grant 0 0)) (is_grant l) (is_slot_i
     by_tests : (a b c : Bool) → nat_lt l (grant 0 0) ≡ a → is_grant l ≡ b → is_slot_iack l ≡ c
         → cond a true (cond b (nat_le (grant_place l) slots) (cond c (nat_le l (iack slots)) (nat_lt l line_count)))
         ≡ true → l < line_count
-    by_tests true b c is_low is_grant_net is_iack h = omega (arith, less_than l (grant 0 0) is_low)
+    by_tests true b c is_low is_grant_net is_iack h = omega (arith, ltb-true l (grant 0 0) is_low)
     by_tests false true c is_low is_grant_net is_iack h = omega
-        (arith, less_than l (iack 1) (second_of (nat_le (grant 0 0) l) (nat_lt l (iack 1)) is_grant_net))
+        (arith, ltb-true l (iack 1) (and_parts (nat_le (grant 0 0) l) (nat_lt l (iack 1)) is_grant_net).1)
     by_tests false false true is_low is_grant_net is_iack h = omega
-        (arith, less_than l (D 0) (second_of (nat_le (iack 1) l) (nat_lt l (D 0)) is_iack))
-    by_tests false false false is_low is_grant_net is_iack h = less_than l line_count h
+        (arith, ltb-true l (D 0) (and_parts (nat_le (iack 1) l) (nat_lt l (D 0)) is_iack).1)
+    by_tests false false false is_low is_grant_net is_iack h = ltb-true l line_count h
 
 -- The changes `cs` from `v` are the changes between `v` and the levels to which they lead. These are made from `u`,
 -- which is `v` on the lines from `k` on.
@@ -243,9 +218,6 @@ may v n clock step a b c = rw (a, b, c) refl
 four_again : (a b c d : Bool) → a ≡ true → b ≡ true → c ≡ false → d ≡ true → (a && b && not c && d) ≡ true
 four_again a b c d e f g h = rw (e, f, g, h) refl
 
-at_least : (a b : ℕ) → a ≤ b → nat_le a b ≡ true
-at_least a b h = grind (arith, nat_tests)
-
 -- changes of lines from `k + 1` on are changes of lines from `k` on
 lower : (v : Levels) (k : ℕ) (cs : List Change) → are_changes v (k + 1) cs ≡ true → are_changes v k cs ≡ true
 unfolding are_changes
@@ -254,7 +226,7 @@ lower v k (c ∷ cs) h =
     let is = first_is v (k + 1) c cs h in
     four_again (nat_le k c.line) (has_line v.slots c.line) (same_level (level_at v c.line) c.level)
     (are_changes v (c.line + 1) cs)
-    (at_least k c.line (omega (arith, is.from))) is.exists is.other is.rest
+    (le-leb k c.line (omega (arith, is.from))) is.exists is.other is.rest
 
 -- the changes between `v` and `w`, on the lines from `k` on, may be made
 are_between : (v w : Levels) → Leads v w → (d k : ℕ) → k + d ≡ line_count → are_changes v k
@@ -279,7 +251,7 @@ are_between v w leads (suc d) k e = by_test (differs v w k) refl (are_between v 
         (omega arith) (omega (arith, e)) h none_before)
         ∙ four_again (nat_le k k) (has_line v.slots k) (same_level (level_at v k) (level_at w k))
         (are_changes v (k + 1) rest)
-        (at_least k k (omega arith)) (leads.exist k h) (not_true (same_level (level_at v k) (level_at w k)) h) so_far
+        (le-leb k k (omega arith)) (leads.exist k h) (not-true (same_level (level_at v k) (level_at w k)) h) so_far
     by_test false h so_far =
         let only : any (differs v w) k (k + 1) ≡ false =
         fails-any (differs v w) k (k + 1) (λ l low lt. let here : l ≡ k = omega (arith, low, lt) in

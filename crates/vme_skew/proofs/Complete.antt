@@ -2,7 +2,7 @@
 use Rattle.std.proofs.Common.{◌≡◌, ℕ, zero, suc, ◌+◌, ◌-◌, ◌<◌, ◌≤◌, Bool, true, false, cond, List, [], ◌∷◌, ◌++◌}
 use Rattle.std.proofs.Common.{length, refl, sym, ap, ◌∙◌, arith, inl, inr, append_assoc}
 use Rattle.std.specs.Prelude.{None, nat_lt, filter, All}
-use Rattle.std.proofs.lemmas.Bool.Decides.{nat_tests}
+use Rattle.std.proofs.lemmas.Bool.{lt-ltb, ltb-true}
 use Rattle.std.proofs.lemmas.List.{append-nil}
 use Rattle.std.proofs.lemmas.List.Elements.{All-append, All-cons, All-head, All-nil, All-tail, All-weaker}
 use Rattle.std.proofs.lemmas.List.Elements.{filter-append}
@@ -34,12 +34,6 @@ filter_all p (x ∷ xs) h =
 all_of_none : (P : Step → Type 0) (xs : List Step) → length xs ≡ 0 → All P xs
 all_of_none P [] e = All-nil P
 all_of_none P (x ∷ xs) e = absurd (omega (arith, e))
-
-pub less-test : (a b : ℕ) → a < b → nat_lt a b ≡ true
-less-test a b lt = grind (arith, nat_tests)
-
-pub not-less : (a b : ℕ) → nat_lt a b ≡ true → a < b
-not-less a b h = grind (arith, nat_tests)
 
 abbrev made_step : ℕ → List Change → List Step
 made_step time changes = record { time = time; changes = changes } ∷ []
@@ -93,7 +87,7 @@ module _ (skew : ℕ) (t : Trace) where
   before-complete n time le =
       filter_all (is_complete skew time) (steps_before skew t n)
       (All-weaker (λ (s : Step). s.time + skew < start_time n) (λ (s : Step). is_complete skew time s ≡ true)
-      (λ s lt. less-test (s.time + skew) time (omega (arith, lt, le))) (steps_before skew t n) (before-earlier n))
+      (λ s lt. lt-ltb (s.time + skew) time (omega (arith, lt, le))) (steps_before skew t n) (before-earlier n))
 
   -- the step of the group of an instant is complete at a time that is more than the skew after its beginning
   pub group-complete : (n time : ℕ) → filter (is_complete skew time) (step_to skew t n)
@@ -179,7 +173,7 @@ module _ (skew time : ℕ) (t : Trace) where
       by_test : (b : Bool) → nat_lt (start_time skew t n + skew) time ≡ b
           → IsPrefix (complete (before ++ group)) (before ++ group)
       by_test true e =
-          let lt : start_time skew t n + skew < time = not-less (start_time skew t n + skew) time e in
+          let lt : start_time skew t n + skew < time = ltb-true (start_time skew t n + skew) time e in
           let all : complete (before ++ group) ≡ before ++ group = parts true e ∙ ap (λ (xs : List Step). xs ++ group)
           (before-complete skew t n time (omega (arith, lt))) in
           ([], sym (append-nil (complete (before ++ group)) ∙ all))
@@ -221,7 +215,7 @@ until-by_zero time t is earlier =
     ap (λ (u : Trace). of_these (filter (is_complete 0 time) u.steps)) (by_zero t is)
     ∙ ap of_these (filter_all (is_complete 0 time) t.steps
     (All-weaker (λ (s : Step). s.time < time) (λ (s : Step). is_complete 0 time s ≡ true)
-    (λ s lt. less-test (s.time + 0) time (omega (arith, lt))) t.steps earlier))
+    (λ s lt. lt-ltb (s.time + 0) time (omega (arith, lt))) t.steps earlier))
   where
     of_these : List Step → Trace
     of_these xs = record { opening = t.opening; steps = xs }

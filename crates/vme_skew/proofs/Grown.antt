@@ -1,8 +1,8 @@
 -- What is complete of a settled recording stays so, and stays a prefix, as more steps come.
-use Rattle.std.proofs.Common.{◌≡◌, ℕ, suc, ◌+◌, ◌≤◌, Bool, true, false, cond, ◌||◌, List, [], ◌∷◌, ◌++◌, length, refl}
+use Rattle.std.proofs.Common.{◌≡◌, ℕ, suc, ◌+◌, ◌≤◌, Bool, true, false, cond, List, [], ◌∷◌, ◌++◌, length, refl}
 use Rattle.std.proofs.Common.{sym, ap, ◌∙◌, arith, append_assoc}
 use Rattle.std.specs.Prelude.{All, filter, nat_lt, ◌==◌}
-use Rattle.std.proofs.lemmas.Bool.{false≢true}
+use Rattle.std.proofs.lemmas.Bool.{false≢true, lt-ltb, ltb-true, or_parts}
 use Rattle.std.proofs.lemmas.Bool.Decides.{nat_tests}
 use Rattle.std.proofs.lemmas.List.{append-nil}
 use Rattle.std.proofs.lemmas.List.Elements.{All-head, All-tail, filter-append}
@@ -10,7 +10,7 @@ use Rattle.vme_trace.specs.Followed.{with_steps}
 use Rattle.vme_trace.specs.Trace.{Trace, time_at}
 use Rattle.vme_trace.specs.declared.step.Step.{Step}
 use Rattle.vme_skew.specs.Settled.{group_start, is_complete, settled, settled_until, step_to, steps_before}
-use Rattle.vme_skew.proofs.Complete.{IsPrefix, group-complete, less-test, not-less, start_time, until-front}
+use Rattle.vme_skew.proofs.Complete.{IsPrefix, group-complete, start_time, until-front}
 use Rattle.vme_skew.proofs.Growing.{before-more, begins, start-le, start-more, time-kept, time-last}
 use Rattle.vme_skew.proofs.Laws.{length_more}
 
@@ -26,10 +26,6 @@ later-yet a b le skew = grind (arith, nat_tests)
 not-over : (a b c : ℕ) → nat_lt a b ≡ false → c ≤ b → nat_lt a c ≡ false
 not-over a b c h le = grind (arith, nat_tests)
 
-either_false : (a b : Bool) → (a || b) ≡ false → b ≡ false
-either_false false b e = e
-either_false true b e = absurd (false≢true (sym e))
-
 -- ---- a step that isn't earlier completes nothing
 
 module _ (skew time : ℕ) (t : Trace) (step : Step) (late : time ≤ step.time) where
@@ -41,7 +37,7 @@ module _ (skew time : ℕ) (t : Trace) (step : Step) (late : time ≤ step.time)
 
   group-late : begins skew t step ≡ false → nat_lt (start_time skew t last + skew) time ≡ false
   group-late e = not-over (start_time skew t last + skew) step.time time
-      (either_false (last == 0) (nat_lt (start_time skew t last + skew) step.time) e) late
+      (or_parts (last == 0) (nat_lt (start_time skew t last + skew) step.time) e).1 late
 
   start-late : (b : Bool) → begins skew t step ≡ b
       → nat_lt (start_time skew (more t step) (suc last) + skew) time ≡ false
@@ -122,7 +118,7 @@ shorter-first (x ∷ xs) (y ∷ ys) more_xs more_ys e le =
 still-complete : (skew time later : ℕ) → time ≤ later → (s : Step) → is_complete skew time s ≡ true
     → is_complete skew later s ≡ true
 still-complete skew time later le s h =
-    less-test (s.time + skew) later (omega (arith, not-less (s.time + skew) time h, le))
+    lt-ltb (s.time + skew) later (omega (arith, ltb-true (s.time + skew) time h, le))
 
 -- what is complete at a time is a prefix of what is complete at a later one
 pub until-later : (skew time later : ℕ) (t : Trace) → time ≤ later

@@ -2,7 +2,7 @@
 use Rattle.std.proofs.Common.{◌≡◌, ℕ, zero, suc, ◌+◌, ◌-◌, ◌<◌, ◌≤◌, Bool, true, false, cond, not, ◌&&◌, ◌||◌, List, []}
 use Rattle.std.proofs.Common.{◌∷◌, ◌++◌, length, take, refl, sym, ap, ◌∙◌, subst, arith, inl, inr, ◌⊎◌}
 use Rattle.std.specs.Prelude.{Option, None, Some, slice_get, nat_lt, ◌==◌}
-use Rattle.std.proofs.lemmas.Bool.{false≢true}
+use Rattle.std.proofs.lemmas.Bool.{cases_Bool, eqb-true, false≢true, ltb-true, not-false, not-true, or_cases}
 use Rattle.std.proofs.lemmas.Bool.Decides.{nat_tests}
 use Rattle.std.proofs.lemmas.List.{append-nil, length-append, take_all}
 use Rattle.std.proofs.lemmas.Option.{slice_get_cases}
@@ -19,7 +19,7 @@ use Rattle.vme_trace.proofs.CutBlocks.{levels_after-append, taken_more}
 use Rattle.vme_trace.proofs.Ranges.{any-fails, fails-any, least-none, least-none-any}
 use Rattle.vme_trace.proofs.WellFormedSteps.{fits-at}
 use Rattle.vme_bind.specs.Recording.{differs, changes_between, step_between}
-use Rattle.vme_bind.proofs.RecorderLemmas.{bool_cases, no_difference_at}
+use Rattle.vme_bind.proofs.RecorderLemmas.{no_difference_at}
 use Rattle.vme_bind.proofs.CaptureLemmas.{length-changed}
 use Rattle.vme_skew.specs.Settled.{IsRecording, begins_after, group_start, settled, step_to, steps_before}
 use Rattle.vme_skew.proofs.Between.{AreOfOne, Leads, all_alike, between-may, changed_exists, changes-lead}
@@ -28,19 +28,11 @@ use Rattle.vme_skew.proofs.Growing.{levels-kept, levels-last, start-le, time-kep
 
 -- ---- the steps of a recording
 
-not_false : (b : Bool) → not b ≡ false → b ≡ true
-not_false true h = refl
-not_false false h = absurd cc
-
 three_parts : (a b c : Bool) → (a && b && c) ≡ true → (a ≡ true) × (b ≡ true) × (c ≡ true)
 three_parts true true true h = (refl, refl, refl)
 three_parts true true false h = absurd cc
 three_parts true false c h = absurd cc
 three_parts false b c h = absurd cc
-
-not_true : (b : Bool) → not b ≡ true → b ≡ false
-not_true false h = refl
-not_true true h = absurd cc
 
 -- `step` may follow `n` others, after which the levels are `v` and the time is `clock`
 pub record Stands (v : Levels) (n clock : ℕ) (step : Step) : Type 0 where
@@ -52,13 +44,13 @@ pub stands : (v : Levels) (n clock : ℕ) (step : Step) → may_follow v n clock
 stands v n clock step h =
     let parts = three_parts ((n == 0) || nat_lt clock step.time) (not (is_empty step.changes))
     (are_changes v 0 step.changes) h in
-    record { later = parts.0; some = not_true (is_empty step.changes) parts.1; changes = parts.2 }
+    record { later = parts.0; some = not-true (is_empty step.changes) parts.1; changes = parts.2 }
 
 pub step-stands : (t : Trace) → malformed_step t ≡ None → (n : ℕ) (step : Step) → n < length t.steps → slice_get t.steps
     n ≡ Some step → Stands (levels_at t n) n (time_at t n) step
 unfolding malformed_step
 step-stands t formed n step lt found =
-    let sound : is_step t n ≡ true = not_false (is_step t n) (any-fails (λ i. not (is_step t i)) 0 (length t.steps) n
+    let sound : is_step t n ≡ true = not-false (is_step t n) (any-fails (λ i. not (is_step t i)) 0 (length t.steps) n
     (least-none-any (λ i. not (is_step t i)) 0 (length t.steps) formed) (omega arith) lt) in
     stands (levels_at t n) n (time_at t n) step (sym (fits-at t n (levels_at t n) (time_at t n) step refl refl found)
     ∙ sound)
@@ -116,7 +108,7 @@ absent t formed l none (suc n) =
 pub leads : (t : Trace) → IsRecording t → (i j : ℕ) → Leads (levels_at t i) (levels_at t j)
 leads t is i j = record {
   one = of_one t is.whole i j;
-  exist = λ l d. elim (bool_cases (has_line (levels_at t i).slots l)) [
+  exist = λ l d. elim (cases_Bool (has_line (levels_at t i).slots l)) [
     | inl e ↦ e
     | inr none ↦
         let out : has_line t.opening.slots l ≡ false = ap (λ (s : ℕ). has_line s l) (sym (slots-at t i)) ∙ none in
@@ -402,18 +394,10 @@ one-more o xs v w time leads h = by_test (any (differs v w) 0 line_count) refl
         })
 
 pub begins_is : (i a b : ℕ) → ((i == 0) || nat_lt a b) ≡ true → (i ≡ 0) ⊎ (a < b)
-begins_is zero a b h = inl refl
-begins_is (suc i) a b h = inr (less a b (no_first (suc i == 0) (nat_lt a b) (not_first i) h))
-  where
-    not_first : (i : ℕ) → (suc i == 0) ≡ false
-    not_first i = grind (arith, nat_tests)
-
-    no_first : (a b : Bool) → a ≡ false → (a || b) ≡ true → b ≡ true
-    no_first false b e h = h
-    no_first true b e h = absurd (false≢true (sym e))
-
-    less : (a b : ℕ) → nat_lt a b ≡ true → a < b
-    less a b h = grind (arith, nat_tests)
+begins_is i a b h = elim (or_cases (i == 0) (nat_lt a b) h) [
+  | inl first ↦ inl (eqb-true i 0 first)
+  | inr later ↦ inr (ltb-true a b later)
+]
 
 module _ (skew : ℕ) (t : Trace) (is : IsRecording t) where
   abbrev BeforeGroup : ℕ → Type 0

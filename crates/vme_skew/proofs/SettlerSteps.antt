@@ -3,7 +3,7 @@ use Rattle.std.proofs.Common.{◌≡◌, ℕ, suc, ◌+◌, ◌-◌, ◌<◌, �
 use Rattle.std.proofs.Common.{◌∷◌, ◌++◌, length, refl, sym, ap, ◌∙◌, subst, arith, inl, inr, ◌⊎◌, append_assoc}
 use Rattle.std.specs.Prelude.{Option, None, Some, slice_get, max, nat_le, nat_lt, ◌==◌}
 use Rattle.std.specs.Option.{option_to_list}
-use Rattle.std.proofs.lemmas.Bool.{false≢true}
+use Rattle.std.proofs.lemmas.Bool.{and_parts, eqb-false, leb-true, lt-ltb, or_right}
 use Rattle.std.proofs.lemmas.Bool.Decides.{nat_tests}
 use Rattle.std.proofs.lemmas.List.{append-nil}
 use Rattle.vme_trace.specs.Followed.{with_steps}
@@ -18,7 +18,7 @@ use Rattle.vme_skew.specs.Group.{ChangeLines, GroupLevels, begun}
 use Rattle.vme_skew.specs.Settled.{IsRecording, group_start, settled, settled_until, step_to, steps_before}
 use Rattle.vme_skew.specs.Settling.{IsAtGroup, IsBetweenGroups, IsInGroup, IsSettledSoFar, KeepsGroup, Settling}
 use Rattle.vme_skew.proofs.Between.{nothing-between}
-use Rattle.vme_skew.proofs.Complete.{less-test, until-front, until-is}
+use Rattle.vme_skew.proofs.Complete.{until-front, until-is}
 use Rattle.vme_skew.proofs.Growing.{before-kept, before-more, begins, levels-kept, start-kept, start-le, start-more}
 use Rattle.vme_skew.proofs.Growing.{time-kept, time-last}
 use Rattle.vme_skew.proofs.Laws.{begins_is, first_or, get_last, is_recording, length_more, step_to-first, still_step}
@@ -84,13 +84,6 @@ not_itself a skew = grind (arith, nat_tests)
 not_zero : (n m : ℕ) → n ≡ suc m → (n == 0) ≡ false
 not_zero n m e = grind (arith, nat_tests)
 
-nonzero : (n : ℕ) → (n == 0) ≡ false → n ≡ 0 → ⊥
-nonzero n e z = absurd (false≢true (sym e ∙ ap (λ (k : ℕ). k == 0) z))
-
-or_true : (a b : Bool) → b ≡ true → (a || b) ≡ true
-or_true true b e = refl
-or_true false b e = e
-
 module _ (skew : ℕ) (t : Trace) (step : Step) where
   abbrev last : ℕ
   last = length t.steps
@@ -142,7 +135,7 @@ module _ (skew : ℕ) (t : Trace) (step : Step) where
   ready-same group out reached h within = record {
     ready = subst (AreReadyFor skew (more t step) last group) (sym (append-nil out)) (ready-within skew (more t step)
         last group out step (settled-kept group out (in_group_settled group out reached h)) found
-        (nonzero last h.some) within);
+        (eqb-false last 0 h.some) within);
     within = within;
   }
 
@@ -238,7 +231,7 @@ module _ (skew : ℕ) (t : Trace) where
     made = step-made skew t end_of group out
         (record { start = h.start; before = h.before; now = h.now; made = h.made });
     latest = omega (arith, h.latest, max-left reached time);
-    over = or_true (end_of == 0) (nat_lt (time_at t (group_start skew t end_of) + skew) (max reached time))
+    over = or_right (end_of == 0) (nat_lt (time_at t (group_start skew t end_of) + skew) (max reached time))
         (still-less (time_at t (group_start skew t end_of) + skew) time (max reached time)
         (ap (λ (start : ℕ). nat_lt (start + skew) time) (sym h.start) ∙ over) (max-right reached time));
   }
@@ -299,7 +292,7 @@ module _ (skew : ℕ) (t : Trace) where
       by_test true none = refl
       by_test false none = sym none
   made-rest reached (inr lt) = ap (λ (b : Bool). cond b (step_to skew t end_of) [])
-      (less-test (time_at t (group_start skew t end_of) + skew) reached lt)
+      (lt-ltb (time_at t (group_start skew t end_of) + skew) reached lt)
 
   pub so_far : malformed_step t ≡ None → (out : List Step) (reached : ℕ) (is_begun : Bool) (group : GroupLevels)
       → IsAtGroup skew t out reached is_begun group → out ≡ (settled_until skew reached t).steps
@@ -336,13 +329,6 @@ unsettled-at skew opening group e = record {
 }
 
 -- ---- the invariant after each call
-
-both-true : (a b : Bool) → (a && b) ≡ true → (a ≡ true) × (b ≡ true)
-both-true true b h = (refl, h)
-both-true false b h = absurd (false≢true h)
-
-from-test : (a b : ℕ) → nat_le a b ≡ true → a ≤ b
-from-test a b h = grind (arith, nat_tests)
 
 -- the steps that came out are those that are complete
 pub settled-so_far : (s : Settling) (is_begun : Bool) (group : GroupLevels) → KeepsGroup s is_begun group
@@ -387,8 +373,8 @@ keeps-taken skew opening given out reached was is_begun group step h taken made 
     all : malformed_step (more t step) ≡ None → in_order ≡ true
         → IsAtGroup skew (more t step) (out ++ made) (max reached step.time) true next
     all formed ok =
-        let parts = both-true was (nat_le reached step.time) (sym in_order_is ∙ ok) in
-        let late : reached ≤ step.time = from-test reached step.time parts.1 in
+        let parts = and_parts was (nat_le reached step.time) (sym in_order_is ∙ ok) in
+        let late : reached ≤ step.time = leb-true reached step.time parts.1 in
         let ready = ended-ready skew t step is_begun is_over ends group middle out made reached
         (h.at (formed-before t step formed) parts.0) late over ends_so middle_is made_is in
         let lines : ChangeLines middle.now.slots changes =

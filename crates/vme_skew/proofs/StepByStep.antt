@@ -1,8 +1,8 @@
 -- Settling a recording, step by step.
 use Rattle.std.proofs.Common.{◌≡◌, ℕ, suc, ◌+◌, ◌-◌, ◌<◌, Bool, true, false, cond, List, [], ◌∷◌, ◌++◌}
-use Rattle.std.proofs.Common.{length, refl, sym, ap, ◌∙◌, subst, arith}
+use Rattle.std.proofs.Common.{length, sym, ap, ◌∙◌, subst, arith}
 use Rattle.std.specs.Prelude.{Option, None, Some, nat_lt, slice_get, ◌==◌, ◌||◌}
-use Rattle.std.proofs.lemmas.Bool.Decides.{nat_tests}
+use Rattle.std.proofs.lemmas.Bool.{eq-eqb, ne_eqb, or_from, or_left, or_right}
 use Rattle.std.proofs.lemmas.List.Elements.{All-cons, All-nil}
 use Rattle.vme_trace.specs.Levels.{Levels}
 use Rattle.vme_trace.specs.LineNumbers.{line_count}
@@ -27,22 +27,6 @@ changes-lines v k (c ∷ cs) h =
 
 abbrev pub of_parts : Levels → List Step → Trace
 of_parts opening steps = record { opening = opening; steps = steps }
-
-is_first : (i : ℕ) (b : Bool) → i ≡ 0 → ((i == 0) || b) ≡ true
-is_first i b e = grind (arith, nat_tests)
-
-or_true : (a : Bool) → (a || true) ≡ true
-or_true true = refl
-or_true false = refl
-
-is_over : (i : ℕ) (b : Bool) → b ≡ true → ((i == 0) || b) ≡ true
-is_over i b e = rw e (or_true (i == 0))
-
-not_first : (i : ℕ) → (i ≡ 0 → ⊥) → (i == 0) ≡ false
-not_first i later = grind (arith, nat_tests)
-
-is_within : (i : ℕ) (b : Bool) → (i ≡ 0 → ⊥) → b ≡ false → ((i == 0) || b) ≡ false
-is_within i b later e = rw (not_first i later, e) refl
 
 module _ (skew : ℕ) (t : Trace) where
   next-levels : (i : ℕ) (step : Step) (v : Levels) → v ≡ levels_at t i → slice_get t.steps i ≡ Some step
@@ -142,7 +126,7 @@ module _ (skew : ℕ) (t : Trace) where
       → AreReadyFor i (begun step.time group.now) (steps ++ step_between group.start group.before group.now)
   ready-first i group steps step h found first =
       ready-next i group steps step h found (begins_is i group steps step h found
-      ∙ is_first i (nat_lt (group.start + skew) step.time) first)
+      ∙ or_left (i == 0) (nat_lt (group.start + skew) step.time) (eq-eqb i 0 first))
 
   -- a step that is too late for the current group begins another
   pub ready-over : (i : ℕ) (group : GroupLevels) (steps : List Step) (step : Step) → AreSettledTo i group steps
@@ -150,7 +134,7 @@ module _ (skew : ℕ) (t : Trace) where
       → AreReadyFor i (begun step.time group.now) (steps ++ step_between group.start group.before group.now)
   ready-over i group steps step h found over =
       ready-next i group steps step h found (begins_is i group steps step h found
-      ∙ is_over i (nat_lt (group.start + skew) step.time) over)
+      ∙ or_right (i == 0) (nat_lt (group.start + skew) step.time) over)
 
   -- any other step belongs to the current group
   pub ready-within : (i : ℕ) (group : GroupLevels) (steps : List Step) (step : Step) → AreSettledTo i group steps
@@ -158,7 +142,7 @@ module _ (skew : ℕ) (t : Trace) where
       → AreReadyFor i group steps
   ready-within i group steps step h found later within =
       ready-same i group steps h (begins_is i group steps step h found
-      ∙ is_within i (nat_lt (group.start + skew) step.time) later within)
+      ∙ or_from (i == 0) (nat_lt (group.start + skew) step.time) (ne_eqb i 0 later) within)
 
   -- the step is taken
   pub settled-more : (i : ℕ) (group : GroupLevels) (steps : List Step) (step : Step) → AreReadyFor i group steps

@@ -1,9 +1,9 @@
 -- The lines that a group touches, and showing them in the order of their numbers.
-use Rattle.std.proofs.Common.{◌≡◌, ◌≢◌, ℕ, zero, suc, ◌+◌, ◌<◌, ◌≤◌, Bool, true, false, not, List, [], ◌∷◌, ◌++◌}
+use Rattle.std.proofs.Common.{◌≡◌, ◌≢◌, ℕ, zero, suc, ◌+◌, ◌<◌, ◌≤◌, true, false, not, List, [], ◌∷◌, ◌++◌}
 use Rattle.std.proofs.Common.{length, map, get_or, refl, sym, ap, ◌∙◌, subst, arith, inl, inr, ◌⊎◌}
 use Rattle.std.specs.Prelude.{All, Contains}
 use Rattle.std.specs.List.Sorted.{IsNonDecreasing, IsPermutation}
-use Rattle.std.proofs.lemmas.Bool.{cases_lt, cases_eq, false≢true}
+use Rattle.std.proofs.lemmas.Bool.{cases_Bool, cases_lt, cases_eq, false≢true, not_from_false}
 use Rattle.std.proofs.lemmas.List.{get_or_default}
 use Rattle.std.proofs.lemmas.List.Elements.{All-append, All-cons, All-nil, Contains-append_left, Contains-append_right}
 use Rattle.std.proofs.lemmas.List.Sorted.{All-permutation, Contains-permutation}
@@ -13,7 +13,7 @@ use Rattle.vme_trace.specs.LineNumbers.{line_count}
 use Rattle.vme_trace.specs.declared.level.Level.{Level}
 use Rattle.vme_trace.specs.declared.step.Change.{Change}
 use Rattle.vme_bind.specs.Recording.{IsLine, differs, change_to, changes_between}
-use Rattle.vme_bind.proofs.RecorderLemmas.{same_self, same-is, bool_cases, no_difference_at, same_unless_differs}
+use Rattle.vme_bind.proofs.RecorderLemmas.{same_self, same-is, no_difference_at, same_unless_differs}
 use Rattle.vme_bind.proofs.RecorderLemmas.{set_same, set_other, set_all, same_levels, those-yes, those-skip, map-more}
 use Rattle.vme_skew.specs.Group.{ListsTouchedLines}
 
@@ -91,7 +91,7 @@ place_cases touched (suc i) k l sorted lt e here =
 quiet_before : (before now : Levels) (touched : List ℕ) (i l : ℕ) → IsNonDecreasing touched → ListsTouchedLines before
     now touched → i < length touched → bound touched i ≤ l → l < get_or touched i 0 → differs before now l ≡ false
 quiet_before before now touched i l sorted h here low high =
-    elim (bool_cases (differs before now l)) [
+    elim (cases_Bool (differs before now l)) [
       | inl d ↦
           let in' = h.listed l d in
           elim (place_cases touched i in'.0 l sorted in'.1 in'.2 here) [
@@ -113,7 +113,7 @@ bound_next touched i = let more : i + 1 ≡ suc i = omega arith in ap (bound tou
 quiet_after : (before now : Levels) (touched : List ℕ) (i l : ℕ) → IsNonDecreasing touched → ListsTouchedLines before
     now touched → length touched ≤ i → i ≤ length touched → bound touched i ≤ l → differs before now l ≡ false
 quiet_after before now touched i l sorted h past le low =
-    elim (bool_cases (differs before now l)) [
+    elim (cases_Bool (differs before now l)) [
       | inl d ↦ let in' = h.listed l d in absurd (at_end i le past low in'.0 in'.1 in'.2)
       | inr none ↦ none
     ]
@@ -170,10 +170,6 @@ shown-same touched i before now shown changes sorted t here same h =
       above = λ l le. h.above l (omega (arith, le, next, low));
     }
 
-not_true : (b : Bool) → b ≡ false → not b ≡ true
-not_true false h = refl
-not_true true h = absurd cc
-
 -- the line at place i has another level than is shown: it changes
 pub shown-more : (touched : List ℕ) (i : ℕ) (before now shown : Levels) (changes : List Change) → IsNonDecreasing
     touched → ListsTouchedLines before now touched → i < length touched
@@ -190,7 +186,7 @@ shown-more touched i before now shown changes sorted t here other h =
     ] in
     let next : bound touched (i + 1) ≡ get_or touched i 0 + 1 = bound_next touched i in
     let line = t.lines i 0 here in
-    let d : differs before now (get_or touched i 0) ≡ true = not_true _
+    let d : differs before now (get_or touched i 0) ≡ true = not_from_false _
     (ap (λ (y : Level). same_level y (level_at now (get_or touched i 0))) (sym (h.above _ low)) ∙ other) in
     let quiet = λ (l : ℕ) (le : bound touched i ≤ l) (lt : l < get_or touched i 0). quiet_before before now touched i l
     sorted t here le lt in
