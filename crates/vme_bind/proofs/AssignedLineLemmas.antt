@@ -2,7 +2,7 @@
 use Rattle.std.proofs.Common.{◌≡◌, ℕ, ◌+◌, ◌<◌, ◌≤◌, Bool, true, false, cond, List, [], ◌∷◌, ◌++◌, length, map}
 use Rattle.std.proofs.Common.{slice_set, Some, Result, Ok, Err, refl, sym, ap, subst, ◌∙◌, inl, inr, ◌⊎◌, arith}
 use Rattle.std.specs.Prelude.{◌≢◌}
-use Rattle.std.proofs.lemmas.Bool.{cases_eq, false≢true}
+use Rattle.std.proofs.lemmas.Bool.{cases_eq, cond-false, cond-true, false≢true}
 use Rattle.std.proofs.lemmas.List.{get_or-replicate, get_or-set_other, get_or-set_same, get_or_past, length-replicate}
 use Rattle.std.proofs.lemmas.List.{length-set}
 use Rattle.std.proofs.lemmas.List.Elements.{All-head, All-tail}
@@ -74,14 +74,6 @@ assigned-on slots (line_bit ∷ line_bits) assigned lines before l on =
     ])
     l on
 
-if_yes : {X : Type 0} (b : Bool) (x y : X) → b ≡ true → x ≡ cond b x y
-if_yes true x y e = refl
-if_yes false x y e = absurd cc
-
-if_no : {X : Type 0} (b : Bool) (x y : X) → b ≡ false → y ≡ cond b x y
-if_no true x y e = absurd cc
-if_no false x y e = refl
-
 -- ---- the same changes, made to other levels
 
 -- `these` has the level of `those` on each line that is assigned one, and that of `first` on each other line
@@ -107,9 +99,9 @@ mixed-set first those these assigned n x h = record {
         | inl same ↦
             ap (level_at (set_level these n x)) same ∙ set_same these n x (omega (arith, lt, same, h.all))
             ∙ sym (ap (level_at (set_level those n x)) same ∙ set_same those n x (omega (arith, lt, same, h.those_all)))
-            ∙ if_yes (is_assigned (slice_set assigned n true) l) (level_at (set_level those n x) l) (level_at first l)
-            (ap (is_assigned (slice_set assigned n true)) same ∙ assigned-here assigned n
-            (omega (arith, lt, same, h.assigned_all)))
+            ∙ sym (cond-true (is_assigned (slice_set assigned n true) l) (level_at (set_level those n x) l)
+            (level_at first l) (ap (is_assigned (slice_set assigned n true)) same ∙ assigned-here assigned n
+            (omega (arith, lt, same, h.assigned_all))))
         | inr ne ↦
             set_other these n l x ne ∙ h.levels l lt
             ∙ ap (λ (y : Level). cond (is_assigned assigned l) y (level_at first l)) (sym (set_other those n l x ne))
@@ -269,8 +261,8 @@ module _ (nets : List Net) (bytes : List ℕ) (e : SpeculativeBuilderState) (a :
           all = all;
           assigned_all = ap (λ (assigned : List Bool). length assigned) none ∙ length-replicate line_count false;
           slots = refl;
-          levels = λ l lt. if_no (is_assigned e.assigned l) (level_at e.made.progress.now l) (level_at v l)
-              (ap (λ (assigned : List Bool). is_assigned assigned l) none ∙ assigned-none l);
+          levels = λ l lt. sym (cond-false (is_assigned e.assigned l) (level_at e.made.progress.now l) (level_at v l)
+              (ap (λ (assigned : List Bool). is_assigned assigned l) none ∙ assigned-none l));
         })
         both-read.1)
 
@@ -365,8 +357,8 @@ module _ (a : ReadSpeculatively) (before : Levels) (n : ℕ) (after : Levels)
           | inl same ↦
               ap (level_at (set_level after n x)) same ∙ set_same after n x (omega (arith, lt, h.all)) ∙ is
               ∙ ap (level_at own) (sym same)
-              ∙ if_yes (is_assigned a.assigned l) (level_at own l) (level_at before l) (ap (is_assigned a.assigned) same
-              ∙ assigned)
+              ∙ sym (cond-true (is_assigned a.assigned l) (level_at own l) (level_at before l)
+              (ap (is_assigned a.assigned) same ∙ assigned))
           | inr ne ↦ set_other after n l x ne ∙ h.left l (omega (arith, below, ne))
         ];
     rest = λ l le. set_other after n l x (omega (arith, le)) ∙ h.rest l (omega (arith, le));
@@ -380,8 +372,9 @@ module _ (a : ReadSpeculatively) (before : Levels) (n : ℕ) (after : Levels)
     left = λ l below.
         elim (cases_eq l n) [
           | inl same ↦
-              h.rest l (omega (arith, same)) ∙ if_no (is_assigned a.assigned l) (level_at own l) (level_at before l)
-              (ap (is_assigned a.assigned) same ∙ off)
+              h.rest l (omega (arith, same))
+              ∙ sym (cond-false (is_assigned a.assigned l) (level_at own l) (level_at before l)
+              (ap (is_assigned a.assigned) same ∙ off))
           | inr ne ↦ h.left l (omega (arith, below, ne))
         ];
     rest = λ l le. h.rest l (omega (arith, le));

@@ -4,8 +4,7 @@ use Rattle.std.proofs.Common.{length, map, get_or, replicate, slice_set, refl, s
 use Rattle.std.proofs.Common.{inr, Option, Some, None}
 use Rattle.std.specs.Prelude.{◌==◌, slice_get}
 use Rattle.std.specs.Option.{option_or, option_map_or}
-use Rattle.std.proofs.lemmas.Bool.{cases_eq, eq-eqb}
-use Rattle.std.proofs.lemmas.Bool.Decides.{nat_tests}
+use Rattle.std.proofs.lemmas.Bool.{cases_eq, eq-eqb, ne_eqb}
 use Rattle.std.proofs.lemmas.List.{length-set, length-replicate, get_or-set_same, get_or-set_other, length_push}
 use Rattle.vme_trace.specs.Levels.{Levels, level_at}
 use Rattle.vme_trace.specs.LineNumbers.{line_count}
@@ -45,11 +44,8 @@ or_none (Some bits) = refl
 other_net : (v : Value) (values : List Value) (net : ℕ) → v.net ≢ net → last_bits net (v ∷ values)
     ≡ last_bits net values
 other_net v values net ne =
-    ap (λ (b : Bool). option_or (last_bits net values) (cond b (Some v.bits) None)) (eqb-no v.net net ne)
+    ap (λ (b : Bool). option_or (last_bits net values) (cond b (Some v.bits) None)) (ne_eqb v.net net ne)
     ∙ or_none (last_bits net values)
-  where
-    eqb-no : (a b : ℕ) → a ≢ b → eqb a b ≡ false
-    eqb-no a b ne = grind (arith, nat_tests)
 
 last-below : (net n : ℕ) (current : CurrentValues) → net < n → last_bits net (values_from n current) ≡ None
 last-below net n [] lt = refl
@@ -94,11 +90,8 @@ last-set current net at bits lt =
       | inr ne ↦
           get_or-set_other current net at (Some bits) None (λ e. ne (sym e))
           ∙ sym (last-from current 0 at at (omega arith))
-          ∙ sym (ap (λ (b : Bool). cond b (Some bits) (last_bits at (values_from 0 current))) (not_eqb net at ne))
+          ∙ sym (ap (λ (b : Bool). cond b (Some bits) (last_bits at (values_from 0 current))) (ne_eqb net at ne))
     ]
-  where
-    not_eqb : (a b : ℕ) → a ≢ b → eqb a b ≡ false
-    not_eqb a b ne = grind (arith, nat_tests)
 
 -- the level of a line after the current values and then `bits` for `net` is that after the values with `bits` set
 one_more : (l net : ℕ) (source : Option LineSource) (current : CurrentValues) (bits : List Bit) (base : Level)

@@ -4,7 +4,7 @@ use Rattle.std.proofs.Common.{length, map, refl, sym, ap, ◌∙◌, arith, add-
 use Rattle.std.specs.Prelude.{nat_lt, ◌==◌, slice_get, is_some, option_and_then}
 use Rattle.std.specs.List.{range_with_len}
 use Rattle.std.specs.Option.{option_or, option_map_or}
-use Rattle.std.proofs.lemmas.Bool.{cases_eq}
+use Rattle.std.proofs.lemmas.Bool.{and_from, and_right, cases_eq, cond-true, lt-ltb}
 use Rattle.std.proofs.lemmas.Bool.Decides.{nat_tests}
 use Rattle.std.proofs.lemmas.List.{length-set}
 use Rattle.std.proofs.lemmas.List.FromFn.{get_or-map-range_with_len, length-map-range_with_len}
@@ -48,30 +48,15 @@ length-changed v (c ∷ cs) = length-changed (set_level v c.line c.level) cs ∙
 abbrev to_level : (ℕ → Level) → ℕ → Change
 to_level g l = record { line = l; level = g l }
 
-and_false : (b : Bool) → (b && false) ≡ false
-and_false true = refl
-and_false false = refl
-
-yes_cond : {X : Type 0} (b : Bool) (x y : X) → b ≡ true → x ≡ cond b x y
-yes_cond true x y e = refl
-yes_cond false x y e = absurd cc
-
 lt_next : (l n : ℕ) → l ≢ n → nat_lt l n ≡ nat_lt l (n + 1)
 lt_next l n ne = grind (arith, nat_tests)
 
 lt_itself : (l n : ℕ) → l ≡ n → nat_lt l (n + 1) ≡ true
 lt_itself l n e = grind (arith, nat_tests)
 
-pub is_below : (l n : ℕ) → l < n → nat_lt l n ≡ true
-is_below l n lt = grind (arith, nat_tests)
-
-both_true : (a b : Bool) → a ≡ true → b ≡ true → (a && b) ≡ true
-both_true a b e h = rw (e, h) refl
-
 tests_alike : (p : ℕ → Bool) (l n : ℕ) → (l ≢ n) ⊎ (p l ≡ false) → (nat_lt l n && p l) ≡ (nat_lt l (n + 1) && p l)
 tests_alike p l n (inl ne) = ap (λ (b : Bool). b && p l) (lt_next l n ne)
-tests_alike p l n (inr off) = ap (λ (b : Bool). nat_lt l n && b) off ∙ and_false (nat_lt l n)
-    ∙ sym (and_false (nat_lt l (n + 1))) ∙ ap (λ (b : Bool). nat_lt l (n + 1) && b) (sym off)
+tests_alike p l n (inr off) = and_right (nat_lt l n) (p l) off ∙ sym (and_right (nat_lt l (n + 1)) (p l) off)
 
 abbrev at_those : (ℕ → Level) → Levels → ℕ → List ℕ → Level
 at_those g v l xs = level_at (changed v (map (to_level g) xs)) l
@@ -92,8 +77,8 @@ changed_those-step p g v n l true e lt so_far =
           ap (level_at (set_level (changed v (map (to_level g) (those p 0 n))) n (g n))) same
           ∙ set_same (changed v (map (to_level g) (those p 0 n))) n (g n)
           (omega (arith, length-changed v (map (to_level g) (those p 0 n)), lt))
-          ∙ ap g (sym same) ∙ yes_cond (nat_lt l (n + 1) && p l) (g l) (level_at v l)
-          (both_true _ _ (lt_itself l n same) (ap p same ∙ e))
+          ∙ ap g (sym same) ∙ sym (cond-true (nat_lt l (n + 1) && p l) (g l) (level_at v l)
+          (and_from (nat_lt l (n + 1)) (p l) (lt_itself l n same) (ap p same ∙ e)))
       | inr ne ↦
           set_other (changed v (map (to_level g) (those p 0 n))) n l (g n) ne ∙ so_far
           ∙ ap (λ (b : Bool). cond b (g l) (level_at v l)) (tests_alike p l n (inl ne))
@@ -181,7 +166,7 @@ after_value-at slots bound_groups line_bits all v now e l lt =
     ∙ changed-those (is_line_bit slots bound_groups v.net) (λ k. line_bit_level k (line_source slots bound_groups k)
     v.bits) now line_count (omega (arith, e)) l
     ∙ ap (λ (b : Bool). cond (b && is_line_bit slots bound_groups v.net l)
-    (line_bit_level l (line_source slots bound_groups l) v.bits) (level_at now l)) (is_below l line_count lt)
+    (line_bit_level l (line_source slots bound_groups l) v.bits) (level_at now l)) (lt-ltb l line_count lt)
 
 pub length-valued : (line_bits : NetLines) (values : List Value) (now : Levels)
     → length (valued line_bits values now).levels ≡ length now.levels

@@ -3,7 +3,7 @@ use Rattle.std.proofs.Common.{◌≡◌, ◌≢◌, ℕ, ◌+◌, ◌<◌, Bool,
 use Rattle.std.proofs.Common.{refl, sym, ap, ◌∙◌, subst, arith, inl, inr}
 use Rattle.std.specs.Prelude.{◌==◌}
 use Rattle.std.proofs.lemmas.Bool.Decides.{nat_tests}
-use Rattle.std.proofs.lemmas.Bool.{cases_eq, false≢true}
+use Rattle.std.proofs.lemmas.Bool.{cases_Bool, cases_eq, eq-eqb, false≢true}
 use Rattle.std.proofs.lemmas.List.{length-map}
 use Rattle.vme_trace.specs.Instants.{any, those}
 use Rattle.vme_trace.specs.Levels.{Levels, level_at, set_level, same_level}
@@ -13,7 +13,7 @@ use Rattle.vme_trace.specs.declared.step.Step.{Step}
 use Rattle.vme_trace.proofs.Ranges.{any-fails}
 use Rattle.vme_bind.specs.Recording.{RecorderLevels, IsLine, differs, DifferWithin, change_to, changes_between}
 use Rattle.vme_bind.specs.Recording.{step_between}
-use Rattle.vme_bind.proofs.RecorderLemmas.{those-yes, those-skip, bool_cases, same_unless_differs, same_levels}
+use Rattle.vme_bind.proofs.RecorderLemmas.{those-yes, those-skip, same_unless_differs, same_levels}
 use Rattle.vme_bind.proofs.RecorderLemmas.{set_same, set_other, set_all}
 use Rattle.vme_bind.proofs.StepsLemmas.{some_of}
 
@@ -23,9 +23,6 @@ none_those p n h = those-skip p 0 n (omega arith) (λ l low lt. any-fails p 0 n 
 
 abbrev pub one_step : ℕ → List Change → List Step
 one_step time changes = record { time = time; changes = changes } ∷ []
-
-is_none : (n : ℕ) → n ≡ 0 → (n == 0) ≡ true
-is_none n e = grind (arith, nat_tests)
 
 is_some : (n : ℕ) → 0 < n → (n == 0) ≡ false
 is_some n lt = grind (arith, nat_tests)
@@ -40,7 +37,7 @@ step-some time a b cs e h = ap (one_step time) e ∙ by_any (any (differs a b) 0
     by_any true k = refl
     by_any false k = absurd
         (false≢true
-        (sym h ∙ is_none (length cs) (ap length (e ∙ ap (map (change_to b)) (none_those (differs a b) line_count k)))))
+        (sym h ∙ eq-eqb (length cs) 0 (ap length (e ∙ ap (map (change_to b)) (none_those (differs a b) line_count k)))))
 
 -- where no line changes, there is no step
 pub step-none : (time : ℕ) (a b : Levels) (cs : List Change) → cs ≡ changes_between a b → (length cs == 0) ≡ true
@@ -77,7 +74,7 @@ step-same time shown now same =
 pub none_differs : (shown now : Levels) (first last : ℕ) → last < first → DifferWithin shown now first last
     → (l : ℕ) → differs shown now l ≡ false
 none_differs shown now first last none h l =
-    elim (bool_cases (differs shown now l)) [
+    elim (cases_Bool (differs shown now l)) [
       | inl d ↦ absurd (omega (arith, h.low l d, h.high l d, none))
       | inr same ↦ same
     ]
@@ -113,7 +110,7 @@ pub first-alone : (p : RecorderLevels) (shown now : Levels) (first last : ℕ) �
     → DifferWithin shown now first last → first ≡ last → (l : ℕ) → l ≢ first → differs p.shown p.now l ≡ false
 first-alone p shown now first last view h e l ne =
     subst (λ (q : RecorderLevels). differs q.shown q.now l ≡ false) (sym view)
-    (elim (bool_cases (differs shown now l)) [
+    (elim (cases_Bool (differs shown now l)) [
       | inl d ↦ absurd (omega (arith, e, ne, h.low l d, h.high l d))
       | inr none ↦ none
     ])

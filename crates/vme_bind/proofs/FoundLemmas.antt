@@ -2,7 +2,7 @@
 use Rattle.std.proofs.Common.{◌≡◌, ℕ, ◌<◌, eqb, Bool, true, false, cond, ◌&&◌, List, [], ◌∷◌, map, drop, get_or, length}
 use Rattle.std.proofs.Common.{◌+◌, ◌≤◌, ◌++◌, Option, Some, None, Result, Ok, Err, refl, sym, ap, ◌∙◌, arith}
 use Rattle.std.specs.Prelude.{bytes_eq}
-use Rattle.std.proofs.lemmas.Bool.{eq-eqb}
+use Rattle.std.proofs.lemmas.Bool.{and_from, and_right, eq-eqb}
 use Rattle.std.proofs.lemmas.Bool.Decides.{nat_tests}
 use Rattle.std.specs.List.{fold, filter_map, list_all}
 use Rattle.std.proofs.lemmas.List.{map-id}
@@ -127,21 +127,14 @@ module _ (named : VariableSelector) (scopes : List (List ℕ)) (net size : ℕ) 
         → bits_meant named.selection net size r.index ≡ candidate named (variable_in scopes net size r)
     candidate-here matched_scopes rest is all e same =
         sym (candidate_by ∙ ap (λ (b : Bool). cond b (bits_meant named.selection net size r.index) None)
-        (both (eq-eqb (scopes_matched named.path scopes) (length scopes) (sym is ∙ all)) (rw e at same)))
-      where
-        both : {a b : Bool} → a ≡ true → b ≡ true → (a && b) ≡ true
-        both p q = rw (p, q) refl
+        (and_from _ _ (eq-eqb (scopes_matched named.path scopes) (length scopes) (sym is ∙ all)) (rw e at same)))
 
     -- a variable with another name is no candidate
     pub candidate-named : (rest : List ℕ) → rest ≡ drop (length (path_in scopes)) named.path → bytes_eq rest r.name
         ≡ false → None ≡ candidate named (variable_in scopes net size r)
     candidate-named rest e other =
         sym (candidate_by ∙ ap (λ (b : Bool). cond b (bits_meant named.selection net size r.index) None)
-        (second (eqb (scopes_matched named.path scopes) (length scopes)) (rw e at other)))
-      where
-        second : (a : Bool) {b : Bool} → b ≡ false → (a && b) ≡ false
-        second true q = q
-        second false q = refl
+        (and_right (eqb (scopes_matched named.path scopes) (length scopes)) _ (rw e at other)))
 
     -- a variable in other scopes is no candidate
     candidate-other : (matched_scopes : ℕ) → matched_scopes ≡ scopes_matched named.path scopes

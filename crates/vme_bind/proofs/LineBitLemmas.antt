@@ -5,8 +5,7 @@ use Rattle.std.proofs.Common.{eqb, set}
 use Rattle.std.proofs.Math.Dec.{eqb-suc-zero, eqb-zero-suc, eqb-suc-suc}
 use Rattle.std.specs.Global.{Vec}
 use Rattle.std.specs.Prelude.{◌==◌, IsTrue}
-use Rattle.std.proofs.lemmas.Bool.Decides.{nat_tests}
-use Rattle.std.proofs.lemmas.Bool.{false≢true}
+use Rattle.std.proofs.lemmas.Bool.{cases_Bool, cond-false, eqb-true, false≢true}
 use Rattle.std.proofs.lemmas.List.{take_more}
 use Rattle.std.proofs.lemmas.List.Elements.{All-append, All-cons, All-nil}
 use Rattle.vme_trace.specs.Instants.{those}
@@ -28,7 +27,7 @@ use Rattle.vme_bind.specs.BoundGroups.{line_source}
 use Rattle.vme_bind.specs.NetLines.{line_bits_of, line_bits_on, is_on, place_in, is_line_bit, line_bit_at}
 use Rattle.vme_bind.specs.NetLines.{line_bits_below}
 use Rattle.vme_bind.specs.Recording.{IsLine, AreLines, line_change, valued}
-use Rattle.vme_bind.proofs.RecorderLemmas.{those-yes, those-no, bool_cases}
+use Rattle.vme_bind.proofs.RecorderLemmas.{those-yes, those-no}
 use Rattle.vme_bind.proofs.BoundGroupLemmas.{from_place}
 use Rattle.vme_bind.proofs.CaptureLemmas.{AreLineBits, changed-more}
 
@@ -56,10 +55,6 @@ line_bits_on-push [] none (suc net) e = refl
 line_bits_on-push (x ∷ nets) none zero e = refl
 line_bits_on-push (x ∷ nets) none (suc net) e = line_bits_on-push nets none net e
 
-elsewhere : (b : Bool) (added line_bits : List LineBit) → b ≡ false → line_bits ≡ cond b added line_bits
-elsewhere true added line_bits e = absurd cc
-elsewhere false added line_bits e = refl
-
 -- adding `line_bit` to the entry of `net` adds it to the lines of that net alone
 pub line_bits_on-set : (nets : List (Vec LineBit)) (net : ℕ) (old new : Vec LineBit) (line_bit : LineBit)
     → net < length nets → old ≡ get_or nets net old → new.items ≡ old.items ++ line_bit ∷ [] → (k : ℕ)
@@ -69,10 +64,10 @@ unfolding line_bits_on
 line_bits_on-set [] net old new line_bit lt is more k = absurd (omega (arith, lt))
 line_bits_on-set (x ∷ nets) zero old new line_bit lt is more zero =
     more ∙ ap (λ (v : Vec LineBit). v.items ++ line_bit ∷ []) is
-line_bits_on-set (x ∷ nets) zero old new line_bit lt is more (suc k) = elsewhere (eqb (suc k) 0)
-    (x.items ++ line_bit ∷ []) (line_bits_on nets k) (eqb-suc-zero k)
-line_bits_on-set (x ∷ nets) (suc net) old new line_bit lt is more zero = elsewhere (eqb 0 (suc net))
-    (line_bits_on nets net ++ line_bit ∷ []) x.items (eqb-zero-suc net)
+line_bits_on-set (x ∷ nets) zero old new line_bit lt is more (suc k) = sym
+    (cond-false (eqb (suc k) 0) (x.items ++ line_bit ∷ []) (line_bits_on nets k) (eqb-suc-zero k))
+line_bits_on-set (x ∷ nets) (suc net) old new line_bit lt is more zero = sym
+    (cond-false (eqb 0 (suc net)) (line_bits_on nets net ++ line_bit ∷ []) x.items (eqb-zero-suc net))
 line_bits_on-set (x ∷ nets) (suc net) old new line_bit lt is more (suc k) =
     line_bits_on-set nets net old new line_bit (omega (arith, lt)) is more k
     ∙ ap (λ (b : Bool). cond b (line_bits_on nets net ++ line_bit ∷ []) (line_bits_on nets k))
@@ -114,9 +109,6 @@ unfolding is_line_bit
 below-no slots bound_groups net n h = ap (map (line_bit_at slots bound_groups))
     (those-no (is_line_bit slots bound_groups net) n h)
 
-same_number : (a b : ℕ) → (a == b) ≡ true → a ≡ b
-same_number a b h = grind (arith, nat_tests)
-
 -- each net has its lines below `n`
 abbrev pub AreBelow : ℕ → List BoundGroup → NetLines → ℕ → Type 0
 AreBelow slots bound_groups line_bits n = (net : ℕ) → line_bits_of line_bits net ≡ line_bits_below slots bound_groups
@@ -140,7 +132,7 @@ line_bits-more old new slots bound_groups n bit line_bit e is added h net = adde
     by_net : (b : Bool) → (net == bit.net) ≡ b → cond b (line_bits_of old bit.net ++ line_bit ∷ [])
         (line_bits_of old net) ≡ line_bits_below slots bound_groups net (n + 1)
     by_net true k =
-        ap (λ (m : ℕ). line_bits_of old m ++ line_bit ∷ []) (sym (same_number net bit.net k))
+        ap (λ (m : ℕ). line_bits_of old m ++ line_bit ∷ []) (sym (eqb-true net bit.net k))
         ∙ ap (λ (ts : List LineBit). ts ++ line_bit ∷ []) (h net)
         ∙ ap (λ (t : LineBit). line_bits_below slots bound_groups net n ++ t ∷ []) here
         ∙ sym (below-yes slots bound_groups net n (on ∙ k))
@@ -186,7 +178,7 @@ below-lines slots bound_groups net (suc n) le =
     (omega (arith, le)) in
     let more : n + 1 ≡ suc n = omega arith in
     subst (λ (m : ℕ). AreLines slots (line_bits_below slots bound_groups net m)) more
-    (elim (bool_cases (is_on net (line_source slots bound_groups n))) [
+    (elim (cases_Bool (is_on net (line_source slots bound_groups n))) [
       | inl on ↦ subst (AreLines slots) (sym (below-yes slots bound_groups net n on))
           (All-append (λ (line_bit : LineBit). IsLine slots line_bit.line) (line_bits_below slots bound_groups net n)
           (line_bit_at slots bound_groups n ∷ []) so_far

@@ -1,8 +1,8 @@
 -- How levels change from one instant to the next, line by line.
 use Rattle.std.proofs.Common.{◌≡◌, ◌≢◌, ℕ, zero, suc, ◌+◌, ◌-◌, ◌<◌, ◌≤◌, Bool, true, false, not, List, [], ◌∷◌, ◌++◌}
-use Rattle.std.proofs.Common.{length, map, refl, sym, ap, ◌∙◌, subst, arith, add-one, inl, inr, ◌⊎◌}
+use Rattle.std.proofs.Common.{length, map, refl, sym, ap, ◌∙◌, subst, arith, add-one, inl, inr}
 use Rattle.std.specs.Prelude.{nat_le, slice_set}
-use Rattle.std.proofs.lemmas.Bool.{cases_lt, cases_eq, false≢true}
+use Rattle.std.proofs.lemmas.Bool.{cases_Bool, cases_lt, cases_eq, false≢true, not-false}
 use Rattle.std.proofs.lemmas.Bool.Decides.{nat_tests}
 use Rattle.std.proofs.lemmas.List.{get_or-set_same, get_or-set_other, get_or_default, same_lists, append-nil}
 use Rattle.std.proofs.lemmas.List.{length-set}
@@ -33,22 +33,10 @@ same-is Unknown Low h = absurd cc
 same-is Unknown High h = absurd cc
 same-is Unknown Unknown h = refl
 
-not_false : (b : Bool) → not b ≡ false → b ≡ true
-not_false true h = refl
-not_false false h = absurd cc
-
-not_true : (b : Bool) → b ≡ false → not b ≡ true
-not_true false h = refl
-not_true true h = absurd cc
-
-pub bool_cases : (b : Bool) → (b ≡ true) ⊎ (b ≡ false)
-bool_cases true = inl refl
-bool_cases false = inr refl
-
 -- a line on which `a` and `b` don't differ has one level
 pub same_unless_differs : (a b : Levels) (l : ℕ) → differs a b l ≡ false → level_at a l ≡ level_at b l
 same_unless_differs a b l h =
-    same-is (level_at a l) (level_at b l) (not_false (same_level (level_at a l) (level_at b l)) h)
+    same-is (level_at a l) (level_at b l) (not-false (same_level (level_at a l) (level_at b l)) h)
 
 pub no_difference_at : (a b : Levels) (l : ℕ) → level_at a l ≡ level_at b l → differs a b l ≡ false
 no_difference_at a b l e = rw e (ap not (same_self (level_at b l)))
@@ -194,14 +182,14 @@ pub record AreShown (n : ℕ) (before now shown : Levels) (changes : List Change
 -- no line below `first` or above `last` differs
 no_difference_below : (before now : Levels) (first last l : ℕ) → DifferWithin before now first last → l < first
     → differs before now l ≡ false
-no_difference_below before now first last l h lt = elim (bool_cases (differs before now l)) [
+no_difference_below before now first last l h lt = elim (cases_Bool (differs before now l)) [
   | inl d ↦ absurd (omega (arith, h.low l d, lt))
   | inr none ↦ none
 ]
 
 no_difference_above : (before now : Levels) (first last l : ℕ) → DifferWithin before now first last → last < l
     → differs before now l ≡ false
-no_difference_above before now first last l h lt = elim (bool_cases (differs before now l)) [
+no_difference_above before now first last l h lt = elim (cases_Bool (differs before now l)) [
   | inl d ↦ absurd (omega (arith, h.high l d, lt))
   | inr none ↦ none
 ]
@@ -249,7 +237,7 @@ map-more {X = X} f (y ∷ xs) x = ap (λ (ys : List X). f y ∷ ys) (map-more f 
 pub differs-here : (n : ℕ) (before now shown : Levels) (changes : List Change)
     → same_level (level_at now n) (level_at shown n) ≡ false → AreShown n before now shown changes
     → differs before now n ≡ true
-differs-here n before now shown changes other h = elim (bool_cases (differs before now n)) [
+differs-here n before now shown changes other h = elim (cases_Bool (differs before now n)) [
   | inl d ↦ d
   | inr same ↦
       let e : level_at shown n ≡ level_at now n = h.above n (omega arith) ∙ same_unless_differs before now n same in

@@ -1,6 +1,7 @@
 -- The result of a dump whose pieces are read before the text that precedes them, and joined in order.
 use Rattle.std.proofs.Common.{◌≡◌, ℕ, Bool, true, false, cond, ◌&&◌, List, [], ◌∷◌, ◌++◌, Option, Some, None, Result}
 use Rattle.std.proofs.Common.{refl, sym, ap, ◌∙◌, subst, append_assoc, arith}
+use Rattle.std.proofs.lemmas.Bool.{lt-ltb}
 use Rattle.std.proofs.lemmas.List.{append-nil}
 use Rattle.vme_trace.specs.Followed.{with_steps}
 use Rattle.vme_trace.specs.Instants.{any}
@@ -29,7 +30,7 @@ use Rattle.vme_bind.specs.SpeculativeReading.{DeterminesLines, SpeculativeReache
 use Rattle.vme_bind.specs.SpeculativeReading.{with_recording}
 use Rattle.vme_bind.specs.declared.fault.BindFault.{BindFault}
 use Rattle.vme_bind.specs.declared.net_lines.NetLines.{NetLines}
-use Rattle.vme_bind.proofs.CaptureLemmas.{changed-those, is_below, length-changed}
+use Rattle.vme_bind.proofs.CaptureLemmas.{changed-those, length-changed}
 use Rattle.vme_bind.proofs.RecorderLemmas.{same_unless_differs, same_levels}
 
 -- ---- the levels after the step that ends an instant
@@ -41,7 +42,7 @@ changes-lead shown now first last h =
     ∙ sym h.slots)
     (length-changed shown (changes_between shown now) ∙ h.shown_all) h.now_all
     (λ l lt. changed-those (differs shown now) (level_at now) shown line_count (omega (arith, h.shown_all)) l
-    ∙ ap (λ (b : Bool). cond (b && differs shown now l) (level_at now l) (level_at shown l)) (is_below l line_count lt)
+    ∙ ap (λ (b : Bool). cond (b && differs shown now l) (level_at now l) (level_at shown l)) (lt-ltb l line_count lt)
     ∙ by_test l (differs shown now l) refl)
   where
     by_test : (l : ℕ) (b : Bool) → differs shown now l ≡ b → cond (true && b) (level_at now l) (level_at shown l)

@@ -3,7 +3,7 @@ use Rattle.std.proofs.Common.{◌≡◌, ℕ, zero, suc, ◌+◌, ◌<◌, ◌�
 use Rattle.std.proofs.Common.{◌++◌, length, map, get_or, refl, sym, ap, ◌∙◌, subst, arith, inl, inr, ◌⊎◌, Some, None}
 use Rattle.std.specs.Prelude.{nat_le, nat_lt, ◌==◌, slice_get}
 use Rattle.std.specs.List.Sorted.{IsStrictlyIncreasing}
-use Rattle.std.proofs.lemmas.Bool.{cases_lt, false≢true}
+use Rattle.std.proofs.lemmas.Bool.{cases_Bool, cases_lt, false≢true, le-leb, lt-ltb, not-false, not-true}
 use Rattle.std.proofs.lemmas.Bool.Decides.{nat_tests}
 use Rattle.std.proofs.lemmas.List.{append-nil, length-append, length-map}
 use Rattle.vme_trace.specs.Instants.{any, those}
@@ -25,7 +25,7 @@ use Rattle.vme_bind.specs.BoundGroups.{line_source}
 use Rattle.vme_bind.specs.Capture.{time_of, level_by, level_after, changes_at, is_step, change_at, step_at}
 use Rattle.vme_bind.specs.Capture.{levels_after, recording}
 use Rattle.vme_bind.specs.Recording.{differs, change_to, changes_between, step_between}
-use Rattle.vme_bind.proofs.RecorderLemmas.{those-yes, those-no, same-is, same_levels, bool_cases}
+use Rattle.vme_bind.proofs.RecorderLemmas.{those-yes, those-no, same-is, same_levels}
 use Rattle.vme_bind.proofs.CaptureLemmas.{changed-those, length-changed, levels-at, levels-all, levels-slots}
 
 -- ---- the numbers of a range that hold
@@ -75,7 +75,7 @@ those-place p (suc n) i lt h =
     let more : n + 1 ≡ suc n = omega arith in
     ap (λ (m : ℕ). slice_get (those p 0 m) (length (those p 0 i))) (sym more)
     ∙ elim (cases_lt i n) [
-      | inl less ↦ elim (bool_cases (p n)) [
+      | inl less ↦ elim (cases_Bool (p n)) [
         | inl yes' ↦ ap (λ (xs : List ℕ). slice_get xs (length (those p 0 i))) (those-yes p n yes')
             ∙ get-left (those p 0 n) (n ∷ []) (length (those p 0 i)) i (those-place p n i less h)
         | inr no' ↦ ap (λ (xs : List ℕ). slice_get xs (length (those p 0 i))) (those-no p n no') ∙ those-place p n i
@@ -99,7 +99,7 @@ unfolding any those
 some_of p zero h = absurd cc
 some_of p (suc n) h =
     let more : n + 1 ≡ suc n = omega arith in
-    elim (bool_cases (p n)) [
+    elim (cases_Bool (p n)) [
       | inl yes' ↦ omega (
         arith,
         ap length (ap (those p 0) (sym more) ∙ those-yes p n yes'),
@@ -152,15 +152,12 @@ four_parts false b c d h = absurd cc
 four_again : (a b c d : Bool) → a ≡ true → b ≡ true → c ≡ true → d ≡ true → (a && b && c && d) ≡ true
 four_again a b c d e f g h = rw (e, f, g, h) refl
 
-at_least : (a b : ℕ) → a ≤ b → nat_le a b ≡ true
-at_least a b h = grind (arith, nat_tests)
-
 -- a change of a line above all others may come after their changes
 changes-more : (v : Levels) (lowest : ℕ) (cs : List Change) (c : Change) → are_changes v lowest cs ≡ true
     → lowest ≤ c.line → LinesBelow c.line cs → IsChange v c → are_changes v lowest (cs ++ c ∷ []) ≡ true
 unfolding are_changes LinesBelow
 changes-more v lowest [] c h le below is = four (nat_le lowest c.line) (has_line v.slots c.line)
-    (same_level (level_at v c.line) c.level) true (at_least lowest c.line le) is.exists is.other refl
+    (same_level (level_at v c.line) c.level) true (le-leb lowest c.line le) is.exists is.other refl
 changes-more v lowest (d ∷ cs) c h le below is =
     let parts = four_parts (nat_le lowest d.line) (has_line v.slots d.line)
     (not (same_level (level_at v d.line) d.level)) (are_changes v (d.line + 1) cs) h in
@@ -186,7 +183,7 @@ unfolding are_changes LinesBelow those
 changes-those v p g zero h = record { sound = refl; below = tt }
 changes-those v p g (suc n) h =
     let so_far = changes-those v p g n (λ l lt. h l (omega (arith, lt))) in
-    subst (λ (m : ℕ). AreChanges v m (map (to_level g) (those p 0 m))) more (elim (bool_cases (p n)) [
+    subst (λ (m : ℕ). AreChanges v m (map (to_level g) (those p 0 m))) more (elim (cases_Bool (p n)) [
       | inl yes' ↦ subst (AreChanges v (n + 1)) (sym (ap (map (to_level g)) (those-yes p n yes') ∙ map-more (to_level g)
           (those p 0 n) n)) (record {
             sound = changes-more v 0 (map (to_level g) (those p 0 n)) (to_level g n) so_far.sound (omega arith)
@@ -252,19 +249,11 @@ nowhere : (slots l : ℕ) (bound_groups : List BoundGroup) → has_line slots l 
     ≡ None
 nowhere slots l bound_groups e = rw e refl
 
-not_false : (b : Bool) → not b ≡ false → b ≡ true
-not_false true h = refl
-not_false false h = absurd cc
-
-not_true : (b : Bool) → not b ≡ true → b ≡ false
-not_true false h = refl
-not_true true h = absurd cc
-
 module _ (slots : ℕ) (bound_groups : List BoundGroup) (instants : List Instant) where
   -- only lines of the backplane change
   changes-exist : (n l : ℕ) → changes_at slots bound_groups instants n l ≡ true → has_line slots l ≡ true
   unfolding changes_at level_after
-  changes-exist n l h = elim (bool_cases (has_line slots l)) [
+  changes-exist n l h = elim (cases_Bool (has_line slots l)) [
     | inl e ↦ e
     | inr none ↦
         let still : not (same_level Unknown Unknown)
@@ -350,7 +339,7 @@ module _ (slots : ℕ) (bound_groups : List BoundGroup) (instants : List Instant
   level-kept : (n l : ℕ) → changes_at slots bound_groups instants n l ≡ false → level_after slots bound_groups instants
       n l ≡ level_after slots bound_groups instants (n + 1) l
   unfolding changes_at
-  level-kept n l h = same-is _ _ (not_false _ h)
+  level-kept n l h = same-is _ _ (not-false _ h)
 
   -- where there is no step at instant n, the levels before and after it are the same
   levels-kept : (n : ℕ) → is_step slots bound_groups instants n ≡ false → levels_after slots bound_groups instants n
@@ -379,7 +368,7 @@ module _ (slots : ℕ) (bound_groups : List BoundGroup) (instants : List Instant
       line_count (omega (arith, levels-all slots bound_groups instants n)) l
       ∙ ap (cond (nat_lt l line_count && changes_at slots bound_groups instants n l)
       (level_after slots bound_groups instants (n + 1) l)) (levels-at slots bound_groups instants n l lt)
-      ∙ either (nat_lt l line_count) (changes_at slots bound_groups instants n l) l (is_below l line_count lt) refl
+      ∙ either (nat_lt l line_count) (changes_at slots bound_groups instants n l) l (lt-ltb l line_count lt) refl
       ∙ sym (levels-at slots bound_groups instants (n + 1) l lt))
     where
       before : Levels
@@ -387,9 +376,6 @@ module _ (slots : ℕ) (bound_groups : List BoundGroup) (instants : List Instant
 
       cs : List Change
       cs = map (change_at slots bound_groups instants n) (those (changes_at slots bound_groups instants n) 0 line_count)
-
-      is_below : (l n : ℕ) → l < n → nat_lt l n ≡ true
-      is_below l n lt = grind (arith, nat_tests)
 
       either : (a b : Bool) (l : ℕ) → a ≡ true → changes_at slots bound_groups instants n l ≡ b
           → cond (a && b) (level_after slots bound_groups instants (n + 1) l) (level_after slots bound_groups instants n
@@ -406,7 +392,7 @@ module _ (slots : ℕ) (bound_groups : List BoundGroup) (instants : List Instant
   is-change n l lt h = record {
     exists = ap (λ (s : ℕ). has_line s l) (levels-slots slots bound_groups instants n) ∙ changes-exist n l h;
     other = ap (λ (x : Level). same_level x (level_after slots bound_groups instants (n + 1) l))
-        (levels-at slots bound_groups instants n l lt) ∙ not_true _ h;
+        (levels-at slots bound_groups instants n l lt) ∙ not-true _ h;
   }
 
   -- the number of steps at the first i instants

@@ -1,8 +1,9 @@
 -- How a text is cut into lines, and a line into words.
-use Rattle.std.proofs.Common.{◌≡◌, ℕ, ◌+◌, ◌-◌, ◌<◌, Bool, true, false, not, List, [], ◌∷◌, ◌++◌, length, take, drop}
+use Rattle.std.proofs.Common.{◌≡◌, ℕ, ◌+◌, ◌-◌, ◌<◌, Bool, not, List, [], ◌∷◌, ◌++◌, length, take, drop}
 use Rattle.std.proofs.Common.{refl, sym, ap, ◌∙◌, arith}
 use Rattle.std.specs.Prelude.{filter, count_by}
 use Rattle.std.specs.List.{slice_split, position_or_len}
+use Rattle.std.proofs.lemmas.Bool.{false_from_ne_true}
 use Rattle.std.proofs.lemmas.List.{append-nil, take_rest, get_or_default}
 use Rattle.std.proofs.lemmas.List.Sums.{position_or_len_is}
 use Rattle.std.proofs.lemmas.List.Splits.{slice_split_none, slice_split_first, length-slice_split}
@@ -10,10 +11,6 @@ use Rattle.memchr.specs.Find.{Passes, Nowhere, NoneBefore}
 use Rattle.vcd_read.specs.Numbers.{is_empty}
 use Rattle.vme_bind.specs.Text.{is_feed, is_blank, words, without_return, statement_on, statements_from}
 use Rattle.vme_bind.specs.Reading.{with_word}
-
-not_true : (b : Bool) → (b ≡ true → ⊥) → b ≡ false
-not_true true h = absurd (h refl)
-not_true false h = refl
 
 -- the bytes after place i
 abbrev pub bytes_after : List ℕ → ℕ → List ℕ
@@ -27,7 +24,7 @@ pub split_at : (p : ℕ → Bool) (xs : List ℕ) (i : ℕ) → NoneBefore (Pass
     → slice_split p xs ≡ take i xs ∷ slice_split p (bytes_after xs i)
 split_at p xs i first here =
     let place : position_or_len p xs ≡ i = position_or_len_is p xs i 0 (omega (arith, first.high))
-    (λ k lt. not_true _ (first.before k (omega arith) lt)) (λ _. here) in
+    (λ k lt. false_from_ne_true _ (first.before k (omega arith) lt)) (λ _. here) in
     slice_split_first p xs 0 (omega (arith, place, first.high))
     ∙ ap (λ (n : ℕ). take n xs ∷ slice_split p (drop (n + 1) xs)) place
     ∙ ap (λ (rest : List ℕ). take i xs ∷ slice_split p rest) (bytes_after-is xs i)
@@ -35,8 +32,8 @@ split_at p xs i first here =
 -- a list in which no byte has p is one part
 pub split_nowhere : (p : ℕ → Bool) (xs : List ℕ) → Nowhere (Passes p xs) 0 (length xs) → slice_split p xs ≡ xs ∷ []
 split_nowhere p xs none =
-    slice_split_none p xs (λ k d lt. not_true _ (λ here. none k (omega arith) lt (ap p (get_or_default xs k 0 d lt)
-    ∙ here)))
+    slice_split_none p xs (λ k d lt. false_from_ne_true _ (λ here. none k (omega arith) lt
+    (ap p (get_or_default xs k 0 d lt) ∙ here)))
 
 -- the bytes after the end, of which there are none
 abbrev pub at_end : List ℕ → List ℕ

@@ -1,12 +1,10 @@
-use Rattle.std.proofs.Common.{◌≡◌, ℕ, ◌&&◌, not, true, false, Bool, sym, ap, ◌∙◌, arith, refl, rules}
+use Rattle.std.proofs.Common.{◌≡◌, ℕ, ◌&&◌, not, true, false, sym, ap, ◌∙◌, arith, rules}
+use Rattle.std.proofs.lemmas.Bool.{and_from, not_from_false}
 use Rattle.vme_trace.specs.Instants.{any}
 use Rattle.vme_trace.specs.LineNumbers.{has_line, line_count}
 use Rattle.vme_trace.proofs.Ranges.{least-is, least-none}
 use Rattle.vme_bind.specs.Binding.{is_bound}
 use Rattle.vme_bind.proofs.binding.Binding.least_unbound.Goals as goal
-
-both : (a b : Bool) → a ≡ true → b ≡ false → (a && not b) ≡ true
-both a b e h = rw (e, h) refl
 
 pub returns-then-not-is_bound : goal.returns-then-not-is_bound
 returns-then-not-is_bound c =
@@ -15,7 +13,9 @@ returns-then-not-is_bound c =
     let has : has_line b.slots c.in-Some.line ≡ true = search rules in
     let free : is_bound b.assignments c.in-Some.line ≡ false = search rules in
     sym (least-is (λ (k : ℕ). has_line b.slots k && not (is_bound b.assignments k)) 0 line_count c.in-Some.line
-    (omega arith) (omega (arith, same)) (both _ _ has free) (rw same c.loop-number.invariant))
+    (omega arith) (omega (arith, same)) (and_from (has_line b.slots c.in-Some.line)
+    (not (is_bound b.assignments c.in-Some.line)) has (not_from_false (is_bound b.assignments c.in-Some.line) free))
+    (rw same c.loop-number.invariant))
 
 pub returns : goal.returns
 returns c =
