@@ -1,7 +1,8 @@
 -- The body of a dump as it is read.
-use Rattle.std.proofs.Common.{◌≡◌, ◌≤◌, ℕ, Bool, true, false, List, [], ◌++◌, length, take, drop}
+use Rattle.std.proofs.Common.{◌≡◌, ◌≤◌, ℕ, true, false, List, [], ◌++◌, length, take, drop}
 use Rattle.std.proofs.Common.{None, refl, sym, ap, subst, ◌∙◌, append_assoc, append-nil, take-append-drop}
 use Rattle.std.specs.Prelude.{Ok}
+use Rattle.std.proofs.lemmas.Bool.{both_ways}
 use Rattle.vcd_read.specs.declared.fault.FaultKind.{FaultKind}
 use Rattle.vcd_read.specs.declared.fault.FaultKind.TheVariants as vcd
 use Rattle.vme_trace.specs.Followed.{with_steps}
@@ -71,13 +72,9 @@ module _ (bound : BoundLines) (old now : Reading) (input : InputSoFar) (r : Step
         let same : after.held ++ rest ≡ input.held ++ (grown.more ++ rest) =
         ap (λ l. l ++ rest) grown.held ∙ append_assoc input.held grown.more rest in
         ap (λ l. reading_of_text bound (at.done ++ l)) same
-        ∙ at.body (grown.more ++ rest) (λ whole. absurd (ends_not input.is_whole going whole))
+        ∙ at.body (grown.more ++ rest) (λ whole. absurd (both_ways input.is_whole going whole))
         ∙ ap (λ l. Ok (whole_reading r l)) (sym same);
   }
-    where
-      ends_not : (flag : Bool) → flag ≡ false → flag ≡ true → ⊥
-      ends_not true e h = absurd (cc)
-      ends_not false e h = absurd (cc)
 
   -- no more bytes follow
   pub body-ends : input.is_whole ≡ true → input.limit ≡ longest_input → IsAtEnd bound old now input.held r

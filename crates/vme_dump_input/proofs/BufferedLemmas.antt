@@ -5,7 +5,7 @@ use Rattle.std.proofs.Common.{append_assoc, append-nil, length-append, take-appe
 use Rattle.std.specs.Io.KnownBytes.{Consumes, IsAtEnd}
 use Rattle.std.proofs.KnownBytes.{Consumes-trans}
 use Rattle.std.proofs.Math.Nat.{suc-mul}
-use Rattle.std.proofs.lemmas.Bool.{cases_lt}
+use Rattle.std.proofs.lemmas.Bool.{both_ways, cases_lt}
 use Rattle.std.proofs.lemmas.Nat.{mul-le}
 use Rattle.vme_trace.specs.Streams.{Reading}
 use Rattle.vme_stream.specs.Inputs.{IsInTime, IsReading, most_reads}
@@ -269,10 +269,6 @@ module _ (done held : List ℕ) (n : ℕ) where
 
 -- ---- more is read, and nothing is taken
 
-ends_not : (flag : Bool) → flag ≡ false → flag ≡ true → ⊥
-ends_not true e h = absurd (cc)
-ends_not false e h = absurd (cc)
-
 pub on-none : (input : InputSoFar) → IsReadOn input input
 on-none input = record {
   more = [];
@@ -287,5 +283,5 @@ on-grown before here after on going grown = record {
   held = grown.held ∙ ap (λ (l : List ℕ). l ++ grown.more) on.held ∙ append_assoc before.held on.more grown.more;
   follows = λ rest ends whole.
       append_assoc on.more grown.more rest
-      ∙ on.follows (grown.more ++ rest) (λ here_whole. absurd (ends_not here.is_whole going here_whole)) whole;
+      ∙ on.follows (grown.more ++ rest) (λ here_whole. absurd (both_ways here.is_whole going here_whole)) whole;
 }

@@ -1,8 +1,9 @@
 -- Steps that a settler takes one after the other.
 use Rattle.std.proofs.Common.{◌≡◌, ℕ, ◌+◌, ◌<◌, ◌≤◌, Bool, true, false, ◌&&◌, List, [], ◌∷◌, ◌++◌, Option, None, Some}
 use Rattle.std.proofs.Common.{length, get_or, take, sym, ap, subst, ◌∙◌, append_assoc, append-nil, refl, max, arith}
-use Rattle.std.specs.Prelude.{All, IfOk, OnOk, Result, Ok, Err, nat_le, nat_lt}
+use Rattle.std.specs.Prelude.{All, IfOk, OnOk, Result, Ok, Err, nat_le}
 use Rattle.std.specs.Option.{option_to_list}
+use Rattle.std.proofs.lemmas.Bool.{and_from, le-leb, ltb-true}
 use Rattle.std.proofs.lemmas.Bool.Decides.{nat_tests}
 use Rattle.std.proofs.lemmas.List.{take_more}
 use Rattle.std.proofs.lemmas.List.Elements.{All-head, All-tail, All-weaker}
@@ -105,25 +106,15 @@ reached-next first now later steps out outs time made is next grown =
 max-is : (a b : ℕ) → a ≤ b → max a b ≡ b
 max-is a b le = grind (arith, nat_tests)
 
-le-test : (a b : ℕ) → a ≤ b → nat_le a b ≡ true
-le-test a b le = grind (arith, nat_tests)
-
-less : (a b : ℕ) → nat_lt a b ≡ true → a ≤ b
-less a b e = grind (arith, nat_tests)
-
-both : (a b : Bool) → a ≡ true → b ≡ true → (a && b) ≡ true
-both true b e f = f
-both false b e f = absurd cc
-
 -- steps that may follow one another are in order
 order-after : (reached now : ℕ) (v : Levels) (steps : List Step) → reached ≤ now → MayStand v (Some now) steps
     → are_in_order reached steps ≡ true
 unfolding are_in_order
 order-after reached now v [] le m = refl
 order-after reached now v (x ∷ xs) le m =
-    let late : now ≤ x.time = less now x.time m.0 in
+    let late : now ≤ x.time = omega (arith, ltb-true now x.time m.0) in
     let here : reached ≤ x.time = omega (arith, le, late) in
-    both (nat_le reached x.time) (are_in_order (max reached x.time) xs) (le-test reached x.time here)
+    and_from (nat_le reached x.time) (are_in_order (max reached x.time) xs) (le-leb reached x.time here)
     (order-after (max reached x.time) x.time (changed v x.changes) xs (omega (arith, max-is reached x.time here))
     m.2)
 
@@ -133,7 +124,7 @@ unfolding are_in_order
 order-first reached v [] late m = refl
 order-first reached v (x ∷ xs) late m =
     let here : reached ≤ x.time = All-head (λ (step : Step). reached ≤ step.time) x xs late in
-    both (nat_le reached x.time) (are_in_order (max reached x.time) xs) (le-test reached x.time here)
+    and_from (nat_le reached x.time) (are_in_order (max reached x.time) xs) (le-leb reached x.time here)
     (order-after (max reached x.time) x.time (changed v x.changes) xs (omega (arith, max-is reached x.time here))
     m.2)
 
@@ -160,7 +151,7 @@ module _ (skew : ℕ) (s : Settling) (given t : Trace) (from : ℕ) (h : IsSettl
     (steps : List Step) where
   in-order : GoOnFrom given from steps → (s.in_order && are_in_order s.reached steps) ≡ true
   in-order go =
-      both s.in_order (are_in_order s.reached steps) h.in_order
+      and_from s.in_order (are_in_order s.reached steps) h.in_order
       (order-first s.reached _ steps
       (All-weaker (λ (step : Step). from ≤ step.time) (λ (step : Step). s.reached ≤ step.time)
       (λ step late. omega (arith, late, h.known)) steps go.follows)
