@@ -1,8 +1,9 @@
 -- A binding of all lines to constant levels makes a recording of every dump without a fault.
-use Rattle.std.proofs.Common.{◌≡◌, ℕ, ◌+◌, ◌-◌, Bool, true, false, not, ◌&&◌, List, [], ◌∷◌, length, map, Some, None}
+use Rattle.std.proofs.Common.{◌≡◌, ℕ, ◌+◌, ◌-◌, Bool, true, false, not, List, [], ◌∷◌, length, map, Some, None}
 use Rattle.std.proofs.Common.{Result, Ok, refl, ap, ◌∙◌}
 use Rattle.std.specs.Prelude.{if◌then◌else◌}
 use Rattle.std.specs.List.{list_all}
+use Rattle.std.proofs.lemmas.Bool.{and_parts}
 use Rattle.vme_trace.specs.Levels.{same_level}
 use Rattle.vme_trace.specs.LineNumbers.{has_line, line_count}
 use Rattle.vme_trace.specs.Trace.{Trace}
@@ -54,10 +55,6 @@ constant_group vs a level is = (
   ap (λ (s : LevelSource). bound_group_by a (source_in vs a.group.count s)) is,
   λ slots ws instants n m l place. refl,
 )
-
-and_parts : (a b : Bool) → (a && b) ≡ true → (a ≡ true) × (b ≡ true)
-and_parts true b e = (refl, e)
-and_parts false b e = cc
 
 abbrev ConstantGroups : List Variable → List Assignment → Type 0
 ConstantGroups vs as' = (ws : List BoundGroupType) × (bound_groups_in vs as' ≡ Ok ws) × AllKeepLevels ws

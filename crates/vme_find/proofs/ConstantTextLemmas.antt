@@ -4,7 +4,7 @@ use Rattle.std.proofs.Common.{Option, Some, None, Result, Ok, Err, codes, cond, 
 use Rattle.std.specs.Prelude.{bytes_eq, decimal, if◌then◌else◌, option_and_then}
 use Rattle.std.specs.Fmt.{digits}
 use Rattle.std.specs.List.{list_all, onto_first, slice_split}
-use Rattle.std.proofs.lemmas.Bool.{eqb-true}
+use Rattle.std.proofs.lemmas.Bool.{and_parts, eqb-true, not-false, not-true}
 use Rattle.vme_trace.specs.Instants.{any, every, least}
 use Rattle.vme_trace.specs.LineNumbers.{A, AM, AS, BBSY, BERR, BR, DS0, DS1, DTACK, IACK, LWORD, WRITE, grant, iack}
 use Rattle.vme_trace.specs.LineNumbers.{line_count}
@@ -48,14 +48,6 @@ pushed-is slots = append_assoc (first_line slots)
     (codes "\nAS = 1\nDS0 = 1\nDS1 = 1\nDTACK = 1\nBERR = 1\nIACK = 1\nLWORD = 1\nWRITE = 1\n")
     (codes "BBSY = 0\nAM = 1\nA = 1\nBR = 1\nBG0 = 1\nBG1 = 1\nBG2 = 1\nBG3 = 1\nIA = 1\n")
 
-and_parts : (a b : Bool) → (a && b) ≡ true → (a ≡ true) × (b ≡ true)
-and_parts true b e = (refl, e)
-and_parts false b e = cc
-
-no_feed : (b : Bool) → not b ≡ true → b ≡ false
-no_feed true e = cc
-no_feed false e = refl
-
 -- a text whose first line is `xs` is split into `xs` and the lines after it
 split_first : (xs ys : List ℕ) → list_all (λ b. not (is_feed b)) xs ≡ true → slice_split is_feed (xs ++ 10 ∷ ys)
     ≡ xs ∷ slice_split is_feed ys
@@ -63,7 +55,7 @@ split_first [] ys e = refl
 split_first (x ∷ xs) ys e =
     let parts = and_parts (not (is_feed x)) (list_all (λ b. not (is_feed b)) xs) e in
     let rest = slice_split is_feed (xs ++ 10 ∷ ys) in
-    ap (λ (b : Bool). cond b ([] ∷ rest) (onto_first x rest)) (no_feed (is_feed x) parts.0)
+    ap (λ (b : Bool). cond b ([] ∷ rest) (onto_first x rest)) (not-true (is_feed x) parts.0)
     ∙ ap (onto_first x) (split_first xs ys parts.1)
 
 -- ---- its first line
@@ -87,17 +79,9 @@ all_good : every first_is_good 1 22 ≡ true
 unfolding any digits says_slots
 all_good = refl
 
-true_of_not : (b : Bool) → not b ≡ false → b ≡ true
-true_of_not true h = refl
-true_of_not false h = cc
-
-false_of_not : (b : Bool) → not b ≡ true → b ≡ false
-false_of_not true h = cc
-false_of_not false h = refl
-
 -- what holds for each number from 1 to 21 holds for n
 holds_for : (p : ℕ → Bool) → every p 1 22 ≡ true → (n : ℕ) → 1 ≤ n → n ≤ 21 → p n ≡ true
-holds_for p all n low high = true_of_not (p n) (any-fails (λ k. not (p k)) 1 22 n (false_of_not _ all) low
+holds_for p all n low high = not-false (p n) (any-fails (λ k. not (p k)) 1 22 n (not-true _ all) low
     (omega (arith, high)))
 
 abbrev SaysSlots : ℕ → List StatementText → Type 0
