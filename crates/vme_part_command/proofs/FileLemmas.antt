@@ -1,7 +1,8 @@
 -- Reading a dump that is a file.
-use Rattle.std.proofs.Common.{◌≡◌, ◌≤◌, ℕ, Bool, true, false, List, [], ◌++◌, length, take, drop, Option}
+use Rattle.std.proofs.Common.{◌≡◌, ◌≤◌, ℕ, true, false, List, [], ◌++◌, length, take, drop, Option}
 use Rattle.std.proofs.Common.{refl, sym, ap, subst, ◌∙◌, append_assoc, append-nil, take-append-drop}
 use Rattle.std.specs.Prelude.{Ok}
+use Rattle.std.proofs.lemmas.Bool.{both_ways}
 use Rattle.vme_trace.specs.Streams.{Reading}
 use Rattle.vme_bind.specs.Binding.{BoundLines}
 use Rattle.vme_bind.specs.TextReading.{TextReading, reading_of_text}
@@ -13,10 +14,6 @@ use Rattle.vme_dump_input.specs.BufferedInputs.{InputSoFar, IsAllOf, IsGrown, Is
 use Rattle.vme_dump_input.proofs.BufferedLemmas.{all-read, split-at, taken-first}
 use Rattle.vme_dump_input.proofs.DefinitionLemmas.{body-on, held-on}
 use Rattle.vme_part_command.specs.FileReadings.{IsAtFile, IsAtFileEnd, IsStartFor}
-
-ends_not : (flag : Bool) → flag ≡ false → flag ≡ true → ⊥
-ends_not true e h = absurd (cc)
-ends_not false e h = absurd (cc)
 
 -- ---- the start of the body
 
@@ -80,10 +77,10 @@ module _ (bound : BoundLines) (number : ℕ) (start : Option ℕ) (old now : Rea
     read = read;
     body = λ rest ends.
         ap (λ l. reading_of_text bound (at.done ++ l)) (same rest)
-        ∙ at.body (grown.more ++ rest) (λ whole. absurd (ends_not input.is_whole going whole))
+        ∙ at.body (grown.more ++ rest) (λ whole. absurd (both_ways input.is_whole going whole))
         ∙ ap (λ l. Ok (whole_reading r l)) (sym (same rest));
     starts = λ rest ends. subst (λ (l : List ℕ). IsStartFor number (at.done ++ l) start) (sym (same rest))
-        (at.starts (grown.more ++ rest) (λ whole. absurd (ends_not input.is_whole going whole)));
+        (at.starts (grown.more ++ rest) (λ whole. absurd (both_ways input.is_whole going whole)));
   }
     where
       same : (rest : List ℕ) → after.held ++ rest ≡ input.held ++ (grown.more ++ rest)
