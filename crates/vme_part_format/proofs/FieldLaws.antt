@@ -7,7 +7,7 @@ use Rattle.std.proofs.Common.{subst, ◌∙◌, append_assoc, arith, inl, inr, �
 use Rattle.std.specs.Prelude.{IfSome, nat_le, nat_lt, slice_get}
 use Rattle.std.specs.Int.{Width, w16, w32, w64, byte_len, from_le_bytes, to_le_bytes}
 use Rattle.std.proofs.lemmas.Bool.{and_from, and_parts, cases_lt, eqb-false, eqb-true, leb-true, le-leb, le-ltb}
-use Rattle.std.proofs.lemmas.Bool.{lt-ltb, ltb-false}
+use Rattle.std.proofs.lemmas.Bool.{false_from_ne_true, lt-ltb, ltb-false}
 use Rattle.std.proofs.lemmas.Bool.{ltb-true}
 use Rattle.std.proofs.lemmas.List.{drop_at, get_or-drop, get_or-take, get_or_past, length-append, length-take}
 use Rattle.std.proofs.lemmas.List.{take-append-drop, take_at}
@@ -322,16 +322,12 @@ first_break_takes steps [] x fits e = absurd cc
 first_break_takes steps (b ∷ bytes) x fits e =
     first_break_by_takes steps (fault_at fault.BadBreak (b ∷ bytes)) b bytes x (IsBytes-rest b bytes fits) e
 
-pub is_false : (b : Bool) → (b ≡ true → ⊥) → b ≡ false
-is_false true h = absurd (h refl)
-is_false false h = refl
-
 first_break_by_again : (steps : ℕ) (bad : FieldFault) (b : WideBreak) (rest : List ℕ) → FitsBreak steps b
     → first_break_by steps bad (rule_number b.rule + 1) (break_bytes b ++ rest) ≡ Ok (Some b, rest)
 unfolding first_break_by
 first_break_by_again steps bad b rest fits =
     let some : eqb (rule_number b.rule + 1) 0 ≡ false =
-    is_false (eqb (rule_number b.rule + 1) 0)
+    false_from_ne_true (eqb (rule_number b.rule + 1) 0)
     (λ e. omega (arith, eqb-true (rule_number b.rule + 1) 0 e)) in
     let one : rule_number b.rule + 1 - 1 ≡ rule_number b.rule = omega arith in
     rw (some, one, listed b.rule) (break_again steps bad b rest fits)

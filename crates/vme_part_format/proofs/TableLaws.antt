@@ -5,7 +5,7 @@ use Rattle.std.proofs.Common.{ap}
 use Rattle.std.proofs.Common.{subst, ◌∙◌, append_assoc, arith, length-append}
 use Rattle.std.specs.Prelude.{All, flat_map, nat_lt}
 use Rattle.std.specs.Int.{w32, to_le_bytes}
-use Rattle.std.proofs.lemmas.Bool.{ltb-true, lt-ltb, eqb-false, eqb-true}
+use Rattle.std.proofs.lemmas.Bool.{ltb-true, lt-ltb, eqb-false, eqb-true, false_from_ne_true}
 use Rattle.std.proofs.lemmas.Grind.{flat_map-append}
 use Rattle.std.proofs.lemmas.List.Elements.{All-append, All-cons, All-nil}
 use Rattle.vme_part_format.specs.declared.fault.PartFaultKind.TheVariants as fault
@@ -24,7 +24,7 @@ use Rattle.vme_part_format.specs.Tables.{NodeValue, TableValue}
 use Rattle.vme_part_format.proofs.FieldLaws.{IsBytes, IsEntry, Takes, Takes-then, bind_ok, entry_again, entry_takes}
 use Rattle.vme_part_format.proofs.FieldLaws.{first_break_again, first_break_takes, guard_in, guard_out, number_again}
 use Rattle.vme_part_format.proofs.FieldLaws.{number_takes}
-use Rattle.vme_part_format.proofs.FieldLaws.{ok_is, way_again, way_takes, wide32, is_false}
+use Rattle.vme_part_format.proofs.FieldLaws.{ok_is, way_again, way_takes, wide32}
 use Rattle.vme_part_format.proofs.MarkLaws.{marks_again, marks_takes}
 
 -- each of the entries fits, and can be written
@@ -85,7 +85,7 @@ mark_count_again : (n : ℕ) (rest : List ℕ) → 0 < n → n < 2 ^ 32
     → mark_count_at (to_le_bytes w32 n ++ rest) ≡ Ok (n, rest)
 unfolding mark_count_at
 mark_count_again n rest some few =
-    let there : eqb n 0 ≡ false = is_false (eqb n 0) (λ h. omega (arith, eqb-true n 0 h)) in
+    let there : eqb n 0 ≡ false = false_from_ne_true (eqb n 0) (λ h. omega (arith, eqb-true n 0 h)) in
     rw (number_again w32 (2 ^ 32) wide32 n rest few, there) refl
 
 abbrev pub NodeTaken : ℕ → ℕ → ℕ → List ℕ → NodeValue × List ℕ → Type 0
