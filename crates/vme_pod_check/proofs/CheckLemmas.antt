@@ -2,7 +2,7 @@
 use Rattle.std.proofs.Common.{◌≡◌, ◌≤◌, ◌<◌, ◌↔◌, ℕ, suc, List, Bool, true, false, Result, Ok, Err, refl, sym, subst}
 use Rattle.std.proofs.Common.{arith}
 use Rattle.std.specs.Prelude.{nat_lt, if◌then◌else◌, Option, Some}
-use Rattle.std.proofs.lemmas.Bool.Decides.{nat_tests}
+use Rattle.std.proofs.lemmas.Bool.{le-ltb, lt-ltb}
 use Rattle.vme_stream.specs.Answers.{answer_by, answer_of, judgement_of, verdict_in_blocks}
 use Rattle.vme_stream.specs.Ends.{Tells}
 use Rattle.vme_stream.specs.declared.refusal.Refusal.{Refusal}
@@ -44,17 +44,11 @@ refused_by : (test : Bool) (v : Verdict) → test ≡ true → (if test then Err
 refused_by true v e = refl
 refused_by false v e = cc
 
-lt_false : (m n : ℕ) → n ≤ m → nat_lt m n ≡ false
-lt_false m n h = grind (arith, nat_tests)
-
-lt_true : (m n : ℕ) → m < n → nat_lt m n ≡ true
-lt_true m n h = grind (arith, nat_tests)
-
 -- a recording of at most 4,096 blocks has its verdict as judgement, and one of more has the refusal
 few_judged : (block : ℕ) (t : Trace) → block_count block t ≤ 4096 → verdict_in_blocks block t
     ≡ Ok (verdict_by rules_in_force t)
 few_judged block t few = judged_by (nat_lt 4096 (block_count block t)) (verdict_by rules_in_force t)
-    (lt_false 4096 (block_count block t) few)
+    (le-ltb 4096 (block_count block t) few)
 
 pub told_few : (block : ℕ) (t : Trace) (given : Result Verdict Unjudged) → block_count block t ≤ 4096
     → Finds given (Ok (verdict_by rules_in_force t)) → Finds given (verdict_in_blocks block t)
@@ -64,7 +58,7 @@ told_few block t given few is = subst (λ (there : Result Verdict Refusal). Find
 pub many_refused : (block : ℕ) (t : Trace) → 4096 < block_count block t → verdict_in_blocks block t
     ≡ Err refused.TooManyBlocks
 many_refused block t many = refused_by (nat_lt 4096 (block_count block t)) (verdict_by rules_in_force t)
-    (lt_true 4096 (block_count block t) many)
+    (lt-ltb 4096 (block_count block t) many)
 
 -- ---- how the command ends
 
