@@ -3,12 +3,12 @@ use Rattle.std.proofs.Common.{◌≡◌, ℕ, zero, suc, ◌+◌, ◌-◌, ◌<�
 use Rattle.std.proofs.Common.{drop}
 use Rattle.std.proofs.Common.{refl, sym, ◌∙◌, ap, subst, arith, append-nil, append_assoc, length-append}
 use Rattle.std.proofs.Common.{All, IfSome, Option, None, Some}
-use Rattle.std.proofs.lemmas.Bool.Decides.{nat_tests}
 use Rattle.std.proofs.lemmas.List.{take_all, take-append-drop, take-append-le}
 use Rattle.std.proofs.lemmas.List.Elements.{All-cons, All-filter, All-head, All-nil, All-tail, filter-append}
 use Rattle.std.proofs.lemmas.Option.{slice_get_past}
 use Rattle.std.specs.Prelude.{nat_lt, slice_get}
 use Rattle.std.specs.Option.{option_to_list}
+use Rattle.std.proofs.lemmas.Bool.{lt-ltb, ltb-false, ltb-true}
 use Rattle.vme_trace.specs.Followed.{with_steps}
 use Rattle.vme_trace.specs.Trace.{Trace}
 use Rattle.vme_trace.specs.WellFormed.{malformed_step}
@@ -20,16 +20,6 @@ use Rattle.vme_audit.specs.declared.allowance.Allowance.{Allowance}
 use Rattle.vme_summary.proofs.Sound.{sound_apart}
 use Rattle.vme_auditor.specs.Growth.{StepBreaks}
 use Rattle.vme_step_auditor.specs.ReadBy.{BreaksGoOn, is_stopped, read_by}
-
--- what a comparison of numbers gives
-pub below : (i j : ℕ) → nat_lt i j ≡ true → i < j
-below i j h = grind (arith, nat_tests)
-
-pub above : (i j : ℕ) → nat_lt i j ≡ false → j ≤ i
-above i j h = grind (arith, nat_tests)
-
-pub is_below : (i j : ℕ) → i < j → nat_lt i j ≡ true
-is_below i j h = grind (arith, nat_tests)
 
 -- an element of the first, or of the second, of two joined lists
 get_in_first : {X : Type 0} (xs ys : List X) (i : ℕ) → i < length xs → slice_get (xs ++ ys) i ≡ slice_get xs i
@@ -102,7 +92,8 @@ module _ (allowances : List Allowance) where
   reads_all None t h = refl
   reads_all (Some n) t h =
       ap (cut_at allowances t)
-      (slice_get_past (faults allowances (breaks t)) (n - 1) (above (n - 1) (length (faults allowances (breaks t))) h))
+      (slice_get_past (faults allowances (breaks t)) (n - 1)
+      (ltb-false (n - 1) (length (faults allowances (breaks t))) h))
 
   -- cut at breaks that are at its last instant, a recording is whole
   cut_last : (t : Trace) (bs : List Break) (i : ℕ) → All (λ (b : Break). b.instant ≡ length t.steps) bs
@@ -139,7 +130,7 @@ module _ (allowances : List Allowance) where
       let next = with_steps t (s ∷ []) in
       let so_far = faults allowances (breaks t) in
       let own = faults allowances (option_to_list step.found) in
-      let few : length so_far ≤ n - 1 = above (n - 1) (length so_far) h in
+      let few : length so_far ≤ n - 1 = ltb-false (n - 1) (length so_far) h in
       let at : n - 1 ≡ length so_far + (n - 1 - length so_far) = omega arith in
       let last : length t.steps + 1 ≡ length next.steps = sym (length-append t.steps (s ∷ [])) in
       ap (λ (bs : List Break). cut_at allowances next (slice_get (faults allowances bs) (n - 1))) step.grown
@@ -164,13 +155,13 @@ module _ (allowances : List Allowance) where
         by_stop (Some n) h =
             let on = goes_on grow steps t ok few in
             let so_far = faults allowances (breaks t) in
-            let enough : n - 1 < length so_far = below (n - 1) (length so_far) h in
+            let enough : n - 1 < length so_far = ltb-true (n - 1) (length so_far) h in
             let longer : length (so_far ++ faults allowances on.more)
             ≡ length so_far + length (faults allowances on.more) = length-append so_far (faults allowances on.more) in
             ap (λ (bs : List Break). nat_lt (n - 1) (length (faults allowances bs))) on.grown
             ∙ ap (λ (bs : List Break). nat_lt (n - 1) (length bs))
             (filter-append (is_fault allowances) (breaks t) on.more)
-            ∙ is_below (n - 1) (length (so_far ++ faults allowances on.more)) (omega arith)
+            ∙ lt-ltb (n - 1) (length (so_far ++ faults allowances on.more)) (omega arith)
 
     pub reads_no_more : read_by allowances stop (with_steps t steps) ≡ read_by allowances stop t
     unfolding stopped_at
@@ -182,7 +173,7 @@ module _ (allowances : List Allowance) where
         by_stop (Some n) h =
             let on = goes_on grow steps t ok few in
             let so_far = faults allowances (breaks t) in
-            let enough : n - 1 < length so_far = below (n - 1) (length so_far) h in
+            let enough : n - 1 < length so_far = ltb-true (n - 1) (length so_far) h in
             ap (λ (bs : List Break). cut_at allowances (with_steps t steps) (slice_get (faults allowances bs) (n - 1)))
             on.grown
             ∙ ap (λ (bs : List Break). cut_at allowances (with_steps t steps) (slice_get bs (n - 1)))
