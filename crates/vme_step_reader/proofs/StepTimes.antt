@@ -2,6 +2,7 @@
 use Rattle.std.proofs.Common.{◌≡◌, ℕ, ◌<◌, ◌≤◌, Bool, true, false, cond, ◌&&◌, List, [], ◌∷◌, ◌++◌, length}
 use Rattle.std.proofs.Common.{Some, Result, Ok, Err, refl, sym, ap, subst, ◌∙◌, arith}
 use Rattle.std.specs.Prelude.{All, not, nat_lt, ◌==◌}
+use Rattle.std.proofs.lemmas.Bool.{ltb-false}
 use Rattle.std.proofs.lemmas.Bool.Decides.{nat_tests}
 use Rattle.std.proofs.lemmas.List.{append_cancel_left}
 use Rattle.std.proofs.lemmas.List.Elements.{All-append, All-cons, All-nil, All-weaker}
@@ -46,9 +47,6 @@ not_before : {A E : Type 0} (p : Bool) (x y : A) (e : E) → cond p (Err e) (Ok 
 not_before true x y e h = absurd cc
 not_before false x y e h = (refl, cc)
 
-not_less : (a b : ℕ) → nat_lt a b ≡ false → b ≤ a
-not_less a b h = grind (arith, nat_tests)
-
 stays : {A : Type 0} (r : Result A FaultKind) (line : ℕ) (s next : BodyContext) (f : A → BodyContext)
     → ((x : A) → (f x).now ≡ s.now) → at_line line (r >>= λ x. Ok (f x)) ≡ Ok next → next.now ≡ s.now
 stays r line s next f same h =
@@ -64,7 +62,7 @@ at-time nets s next line digits h =
     let n : number digits ≡ a.0 = passed _ _ _ _ _ _ a.1 in
     let t = not_before (nat_lt a.0 s.now) a.0 b.0 _ b.1 in
     let e : record s { now = b.0 } ≡ next = cc in
-    (sym (ap (λ (s : BodyContext). s.now) e) ∙ sym (n ∙ t.1), omega (arith, not_less a.0 s.now t.0, n))
+    (sym (ap (λ (s : BodyContext). s.now) e) ∙ sym (n ∙ t.1), omega (arith, ltb-false a.0 s.now t.0, n))
 
 is-later : (has_instant : Bool) (t now : ℕ) → now ≤ t → (has_instant && not (t == now)) ≡ true → now < t
 is-later true t now le e = grind (arith, nat_tests)
