@@ -3,7 +3,7 @@ use Rattle.std.proofs.Common.{◌≡◌, ◌+◌, ◌*◌, ◌/◌, ◌%◌, ◌
 use Rattle.std.proofs.Common.{sym, subst, ap}
 use Rattle.std.proofs.Common.{◌∙◌, arith}
 use Rattle.std.specs.Prelude.{Option, Result, Ok, Err, max, min, nat_lt, if◌then◌else◌}
-use Rattle.std.proofs.lemmas.Bool.Decides.{nat_tests}
+use Rattle.std.proofs.lemmas.Bool.{le-ltb, lt-ltb}
 use Rattle.std.proofs.lemmas.Grind.{div_ceil_times}
 use Rattle.vcd_read.specs.Contents.{Contents}
 use Rattle.vcd_read.specs.Header.{◌>>=◌}
@@ -71,41 +71,29 @@ captured-short bound (Err r) = refl
 
 -- a recording that has no more steps than a recording may have
 pub fits-captured : (t : Trace) → length t.steps ≤ capture_limit → or_too_long t ≡ Ok t
-fits-captured t short = rw (not_over (length t.steps) short) refl
-  where
-    not_over : (n : ℕ) → n ≤ capture_limit → nat_lt capture_limit n ≡ false
-    not_over n short = grind (arith, nat_tests)
+fits-captured t short = rw (le-ltb capture_limit (length t.steps) short) refl
 
 pub over-captured : (t : Trace) → capture_limit < length t.steps → or_too_long t
     ≡ Err (judging_refusal no_verdict.TooManySteps)
-over-captured t long = rw (is_over (length t.steps) long) refl
-  where
-    is_over : (n : ℕ) → capture_limit < n → nat_lt capture_limit n ≡ true
-    is_over n long = grind (arith, nat_tests)
+over-captured t long = rw (lt-ltb capture_limit (length t.steps) long) refl
 
 -- ---- the number of blocks
 
 few_blocks : (n : ℕ) → n ≤ 67108864 → nat_lt 4096 (max 1 (n / 16384 + min 1 (n % 16384))) ≡ false
 few_blocks n short = by_bounds (n / 16384 + min 1 (n % 16384)) (div_ceil_times n 16384 (omega arith)).1
   where
-    ltb-fails : (b : ℕ) → b ≤ 4096 → nat_lt 4096 b ≡ false
-    ltb-fails b few = grind (arith, nat_tests)
-
     by_bounds : (d : ℕ) → d * 16384 < n + 16384 → nat_lt 4096 (max 1 d) ≡ false
     by_bounds d below =
         let few : max 1 d ≤ 4096 = omega (arith, below, short) in
-        ltb-fails (max 1 d) few
+        le-ltb 4096 (max 1 d) few
 
 many_blocks : (n : ℕ) → 67108864 < n → nat_lt 4096 (max 1 (n / 16384 + min 1 (n % 16384))) ≡ true
 many_blocks n long = by_bounds (n / 16384 + min 1 (n % 16384)) (div_ceil_times n 16384 (omega arith)).0
   where
-    ltb-holds : (b : ℕ) → 4096 < b → nat_lt 4096 b ≡ true
-    ltb-holds b many = grind (arith, nat_tests)
-
     by_bounds : (d : ℕ) → n ≤ d * 16384 → nat_lt 4096 (max 1 d) ≡ true
     by_bounds d above =
         let many : 4096 < max 1 d = omega (arith, above, long) in
-        ltb-holds (max 1 d) many
+        lt-ltb 4096 (max 1 d) many
 
 pub fits-blocks : (t : Trace) → length t.steps ≤ 67108864 → verdict_in_blocks 16384 t ≡ Ok (verdict t)
 fits-blocks t short = ap (λ (b : Bool). if b then Err TooManyBlocks else Ok (verdict t))
