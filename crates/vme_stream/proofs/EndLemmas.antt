@@ -120,12 +120,6 @@ answer_by-small (Err r) = refusal_status-small r
 abbrev MayJudge : ℕ → Option (List ℕ) → Option (List ℕ) → Result Verdict Refusal → Type 0
 MayJudge block b d judged = AnswerGives (λ (v : Verdict). v) judged (judgement_of b d block)
 
-pub Checks-unwritten : (binding dump : Reading × Reading) (block : ℕ) (out err : Writing × Writing) (status : ℕ)
-    → Checks binding dump block out err status
-    → (status ≡ 5) ↔ (out.1.failures ≡ suc out.0.failures)
-Checks-unwritten binding dump block out err status = Does-unwritten answer_by answer_by-small (MayJudge block) binding
-    dump out err status
-
 pub Checks-exact : (binding dump : Reading × Reading) (block : ℕ) (out err : Writing × Writing) (status : ℕ)
     → Checks binding dump block out err status
     → (b d : List ℕ) → TellsWhole binding.0 binding.1 b → TellsWhole dump.0 dump.1 d → out.1.failures ≡ out.0.failures
