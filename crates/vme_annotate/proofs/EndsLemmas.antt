@@ -14,6 +14,7 @@ use Rattle.vme_stream.specs.declared.refusal.Refusal.TheVariants.{Memory}
 use Rattle.vme_stream.proofs.EndLemmas.{Does-exact, Does-unwritten, given_is, not_both, read_is, refusal_status-small}
 use Rattle.vme_stream.proofs.EndLemmas.{unwritten_by, verdict_status-small}
 use Rattle.vme_commands.specs.Settled.{settled_recording}
+use Rattle.vme_commands.proofs.ListLemmas.{ReadAgreesWith}
 use Rattle.vme_annotation.specs.Annotated.{ArePutAt, IsAnnotated, annotated}
 use Rattle.vme_annotation.specs.Inserted.{PutChange, change_of}
 use Rattle.vme_annotation.specs.Shown.{ShownChange, changes_at}
@@ -28,22 +29,22 @@ use Rattle.vme_annotate.specs.TimedListings.{timed_text, times_of}
 use Rattle.vme_annotate.specs.declared.annotating.AnnotatedDump.{AnnotatedDump}
 use Rattle.vme_annotate.specs.declared.changes.PlannedChange.{PlannedChange}
 
--- ---- what was refused
+-- ---- what was refused: of a refusal `GivesTimedListing`, `GivesPrepared` and `AnswerGives` say the same
 
-pub timed_refusal : (r : Refusal) (read : Result Trace Refusal) → GivesTimedListing (Err r) read
-    → AnswerGives (λ (t : Trace). t) (Err r) read
-timed_refusal Memory read is = tt
-timed_refusal r read is = is
+pub AnswerGives-from_GivesTimedListing : (r : Refusal) (defined : Result Trace Refusal)
+    → GivesTimedListing (Err r) defined → AnswerGives (λ (t : Trace). t) (Err r) defined
+AnswerGives-from_GivesTimedListing Memory defined is = tt
+AnswerGives-from_GivesTimedListing r defined is = is
 
-pub prepared_refusal : (bytes : Option (List ℕ)) (r : Refusal) (read : Result Trace Refusal)
-    → GivesPrepared bytes (Err r) read → AnswerGives (λ (t : Trace). t) (Err r) read
-prepared_refusal bytes Memory read is = tt
-prepared_refusal bytes r read is = is
+pub AnswerGives-from_GivesPrepared : (bytes : Option (List ℕ)) (r : Refusal) (defined : Result Trace Refusal)
+    → GivesPrepared bytes (Err r) defined → AnswerGives (λ (t : Trace). t) (Err r) defined
+AnswerGives-from_GivesPrepared bytes Memory defined is = tt
+AnswerGives-from_GivesPrepared bytes r defined is = is
 
-pub refused_prepared : (bytes : Option (List ℕ)) (r : Refusal) (read : Result Trace Refusal)
-    → AnswerGives (λ (t : Trace). t) (Err r) read → GivesPrepared bytes (Err r) read
-refused_prepared bytes Memory read is = tt
-refused_prepared bytes r read is = is
+pub GivesPrepared-from_AnswerGives : (bytes : Option (List ℕ)) (r : Refusal) (defined : Result Trace Refusal)
+    → AnswerGives (λ (t : Trace). t) (Err r) defined → GivesPrepared bytes (Err r) defined
+GivesPrepared-from_AnswerGives bytes Memory defined is = tt
+GivesPrepared-from_AnswerGives bytes r defined is = is
 
 -- ---- listings with times
 
@@ -53,83 +54,81 @@ timed_text_is t found is =
     ap (λ (times : List ℕ). timed_rows_text times found.listing.rows) is.times_are
     ∙ ap (λ (listing : Listed). timed_rows_text (times_of t.steps) listing.rows) is.listing_is
 
-timed_answer-small : (read : Result Trace Refusal) → (timed_answer_by read).status ≤ 4
+timed_answer-small : (found : Result Trace Refusal) → (timed_answer_by found).status ≤ 4
 timed_answer-small (Ok t) = verdict_status-small (verdict_by rules_in_force t)
 timed_answer-small (Err r) = refusal_status-small r
-
-abbrev MayList : ℕ → ℕ → Option (List ℕ) → Option (List ℕ) → Result Trace Refusal → Type 0
-MayList skew block b d read = AnswerGives (λ (t : Trace). t) read (settled_recording skew b d block)
 
 module _ (skew : ℕ) (binding dump : Reading × Reading) (block : ℕ) (out err : Writing × Writing) (status : ℕ) where
   pub WritesTimes-unwritten : WritesTimes skew binding dump block out err status
       → (status ≡ 5) ↔ (out.1.failures ≡ suc out.0.failures)
   WritesTimes-unwritten =
-      Does-unwritten timed_answer_by timed_answer-small (MayList skew block) binding dump out err status
+      Does-unwritten timed_answer_by timed_answer-small (ReadAgreesWith skew block) binding dump out err status
 
   pub WritesTimes-exact : WritesTimes skew binding dump block out err status → (b d : List ℕ)
       → TellsWhole binding.0 binding.1 b → TellsWhole dump.0 dump.1 d → out.1.failures ≡ out.0.failures
       → (status ≡ 4 → ⊥) → Tells (timed_answer_of skew (Some b) (Some d) block) out err status
   WritesTimes-exact writes b d =
-      Does-exact timed_answer_by timed_answer-small (MayList skew block) binding dump out err status writes b d
+      Does-exact timed_answer_by timed_answer-small (ReadAgreesWith skew block) binding dump out err status writes b d
       (timed_answer_of skew (Some b) (Some d) block)
       (λ found. given_is timed_answer_by refl found (settled_recording skew (Some b) (Some d) block))
 
 -- ---- annotated dumps
 
-annotation_answer-small : (text : List ℕ) (read : Result Trace Refusal) → (annotation_answer_by text read).status ≤ 4
+annotation_answer-small : (text : List ℕ) (found : Result Trace Refusal) → (annotation_answer_by text found).status ≤ 4
 annotation_answer-small text (Ok t) = verdict_status-small (verdict_by rules_in_force t)
 annotation_answer-small text (Err r) = refusal_status-small r
 
--- unless memory ran out, which has the status 4, `read` is `said`, what is to be read
-same_read : (text : List ℕ) (read said : Result Trace Refusal) → AnswerGives (λ (t : Trace). t) read said
-    → ((annotation_answer_by text read).status ≡ 4 → ⊥) → read ≡ said
-same_read text (Ok t) said given memory = sym given
-same_read text (Err Memory) said given memory = absurd (memory refl)
-same_read text (Err r) said given memory = sym given
+-- if the status isn't 4, so that memory didn't run out, `found` is what the definition gives, `defined`
+found-is_defined : (text : List ℕ) (found defined : Result Trace Refusal) → AnswerGives (λ (t : Trace). t) found defined
+    → ((annotation_answer_by text found).status ≡ 4 → ⊥) → found ≡ defined
+found-is_defined text (Ok t) defined given memory = sym given
+found-is_defined text (Err Memory) defined given memory = absurd (memory refl)
+found-is_defined text (Err r) defined given memory = sym given
 
-told_exactly : (text dump : List ℕ) (read said : Result Trace Refusal) (out err : Writing × Writing) (status : ℕ)
-    → Ends (annotation_answer_by text read) out err status → AnswerGives (λ (t : Trace). t) read said
-    → IsAnnotationOf (Some dump) read text → out.1.failures ≡ out.0.failures → (status ≡ 4 → ⊥)
-    → IsAnnotationOf (Some dump) said text × Tells (annotation_answer_by text said) out err status
-told_exactly text dump read said out err status (inl told) given annotation same memory =
-    let is : read ≡ said = same_read text read said given (λ four. memory (told.status_is ∙ four)) in (
+told_exactly : (text dump : List ℕ) (found defined : Result Trace Refusal) (out err : Writing × Writing) (status : ℕ)
+    → Ends (annotation_answer_by text found) out err status → AnswerGives (λ (t : Trace). t) found defined
+    → IsAnnotationOf (Some dump) found text → out.1.failures ≡ out.0.failures → (status ≡ 4 → ⊥)
+    → IsAnnotationOf (Some dump) defined text × Tells (annotation_answer_by text defined) out err status
+told_exactly text dump found defined out err status (inl told) given annotation same memory =
+    let is : found ≡ defined =
+    found-is_defined text found defined given (λ is_memory. memory (told.status_is ∙ is_memory)) in (
       subst (λ (r : Result Trace Refusal). IsAnnotationOf (Some dump) r text) is annotation,
       subst (λ (r : Result Trace Refusal). Tells (annotation_answer_by text r) out err status) is told,
     )
-told_exactly text dump read said out err status (inr failed) given annotation same memory =
+told_exactly text dump found defined out err status (inr failed) given annotation same memory =
     absurd (not_both out.1.failures out.0.failures same failed.out_is.1)
 
 module _ (skew : ℕ) (binding dump : Reading × Reading) (out err : Writing × Writing) (status : ℕ) where
   pub Annotates-unwritten : Annotates skew binding dump out err status
       → (status ≡ 5) ↔ (out.1.failures ≡ suc out.0.failures)
   Annotates-unwritten does =
-      let (binding_bytes, dump_bytes, read, text, binding_read, dump_read, given, annotation, end) = does in
-      unwritten_by (annotation_answer_by text) (annotation_answer-small text) read out err status end
+      let (binding_bytes, dump_bytes, found, text, binding_read, dump_read, given, annotation, end) = does in
+      unwritten_by (annotation_answer_by text) (annotation_answer-small text) found out err status end
 
   pub Annotates-exact : Annotates skew binding dump out err status → (b d : List ℕ)
       → TellsWhole binding.0 binding.1 b → TellsWhole dump.0 dump.1 d → out.1.failures ≡ out.0.failures
       → (status ≡ 4 → ⊥) → TellsAnnotation skew b d out err status
   Annotates-exact does b d told_b told_d same memory =
-      let (binding_bytes, dump_bytes, read, text, binding_read, dump_read, given, annotation, end) = does in
+      let (binding_bytes, dump_bytes, found, text, binding_read, dump_read, given, annotation, end) = does in
       let b_is : binding_bytes ≡ Some b = read_is binding.0 binding.1 binding_bytes b binding_read told_b in
       let d_is : dump_bytes ≡ Some d = read_is dump.0 dump.1 dump_bytes d dump_read told_d in
       let with_b = subst (λ (x : Option (List ℕ)).
-      AnswerGives (λ (t : Trace). t) read (settled_recording skew x dump_bytes BLOCK)) b_is given in
+      AnswerGives (λ (t : Trace). t) found (settled_recording skew x dump_bytes BLOCK)) b_is given in
       let with_d = subst (λ (x : Option (List ℕ)).
-      AnswerGives (λ (t : Trace). t) read (settled_recording skew (Some b) x BLOCK)) d_is with_b in
-      let whole = subst (λ (x : Option (List ℕ)). IsAnnotationOf x read text) d_is annotation in
-      let (told, tells) = told_exactly text d read (settled_recording skew (Some b) (Some d) BLOCK) out err status
+      AnswerGives (λ (t : Trace). t) found (settled_recording skew (Some b) x BLOCK)) d_is with_b in
+      let whole = subst (λ (x : Option (List ℕ)). IsAnnotationOf x found text) d_is annotation in
+      let (told, tells) = told_exactly text d found (settled_recording skew (Some b) (Some d) BLOCK) out err status
       end
       with_d whole same memory in
       (text, told, tells)
 
--- if `d` is prepared with `t`, and its changes are put at the times of their instants, the text is `d`'s dump,
--- annotated
-pub annotated_so : (t : Trace) (d : AnnotatedDump) → IsPrepared t d → (start : ℕ) (put : List PutChange)
+-- Let `d` be a dump that is prepared for the recording `t`, and `put` its changes, each where the dump comes to its
+-- time. Then `annotated ..` is that dump, annotated with `t`.
+pub annotated-IsAnnotated : (t : Trace) (d : AnnotatedDump) → IsPrepared t d → (start : ℕ) (put : List PutChange)
     → ends_definitions_at d.text.items start ≡ true → ArePutAt d.text.items t start put
     → map change_of put ≡ map (planned d.listing.listing.rows) d.changes.items
     → IsAnnotated d.text.items t (annotated d.text.items start d.added.scope d.added.own put)
-annotated_so t d is start put starts placed are =
+annotated-IsAnnotated t d is start put starts placed are =
     let (defines, defines_are, beside) = is.added in
     record {
       defines = defines;
@@ -149,7 +148,7 @@ annotated_so t d is start put starts placed are =
       text_is = ap (λ (scope : List ℕ). annotated d.text.items start scope d.added.own put) beside.scope_is;
     }
 
--- changes of the rows of `found`, the listing of `t`, are changes of the rows of `t`
+-- changes that are planned by the rows of `found`, the listing of `t`, are planned by the rows of `t`
 pub planned_of : (t : Trace) (found : TimedListingValue) → IsTimedListingOf t found → (changes : List PlannedChange)
     → ArePlanned found.listing.rows changes → ArePlanned (recorded_rows t) changes
 planned_of t found is changes are = subst (λ (listing : Listed). ArePlanned listing.rows changes) is.listing_is are

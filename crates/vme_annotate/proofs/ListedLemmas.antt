@@ -61,15 +61,15 @@ text_captured bound bytes t is =
 
 -- ---- refusals
 
-pub gives_refusal : (r : Refusal) (read : Result Trace Refusal) → GivesTrace (Err r) read
+pub GivesTimedListing-from_AnswerGives : (r : Refusal) (read : Result Trace Refusal) → GivesTrace (Err r) read
     → GivesTimedListing (Err r) read
-gives_refusal Memory read is = tt
-gives_refusal r read is = is
+GivesTimedListing-from_AnswerGives Memory read is = tt
+GivesTimedListing-from_AnswerGives r read is = is
 
 pub refused_in_blocks : (skew block : ℕ) (r : Refusal) (read : Result Trace Refusal) → GivesTrace (Err r) read
     → GivesTimedListing (Err r) (settled_in_blocks skew block read)
 refused_in_blocks skew block r read is =
-    gives_refusal r (settled_in_blocks skew block read)
+    GivesTimedListing-from_AnswerGives r (settled_in_blocks skew block read)
     (passes_through r (settled_or skew read) (in_blocks block) (settled-refused skew read r is))
 
 pub text_refused : (skew block : ℕ) (bound : BoundLines) (bytes : List ℕ) (fault : CaptureFault)
@@ -93,7 +93,7 @@ module _ (skew block : ℕ) (t made : Trace) (within : nat_lt capture_limit (len
   pub settled_refused : (r : Refusal) → GivesTrace (Err r) (limited_in_blocks block made)
       → GivesTimedListing (Err r) (settled_in_blocks skew block (or_bad_binding (limited t)))
   settled_refused r given =
-      gives_refusal r (settled_in_blocks skew block (or_bad_binding (limited t)))
+      GivesTimedListing-from_AnswerGives r (settled_in_blocks skew block (or_bad_binding (limited t)))
       (subst (GivesTrace (Err r)) (sym in_blocks_is) given)
 
   pub settled_listed : (found : TimedListingValue) → limited_in_blocks block made ≡ Ok made
@@ -118,7 +118,7 @@ pub unbound : (skew block : ℕ) (binding dump : Option (List ℕ)) (r : Refusal
     → AnswerGives (λ (bound : BoundLines). bound) (Err r) (binding_read binding)
     → GivesTimedListing (Err r) (settled_recording skew binding dump block)
 unbound skew block binding dump r is =
-    gives_refusal r (settled_recording skew binding dump block)
+    GivesTimedListing-from_AnswerGives r (settled_recording skew binding dump block)
     (recording-refused skew binding dump block r
     (read-refused skew binding dump r (capture_read-refused binding dump r is)))
 

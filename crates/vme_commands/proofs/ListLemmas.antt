@@ -98,15 +98,16 @@ unfolding recording_in_blocks
 recording_in_blocks-recorded binding dump block t is = ap (λ (w : Result Trace Refusal). w >>= in_blocks block)
     (capture_read-recorded binding dump t is)
 
-pub refused_listing : (r : Refusal) (recording : Result Trace Refusal) → AnswerGives (λ (t : Trace). t) (Err r)
-    recording → GivesListing (Err r) recording
-refused_listing Memory recording given = tt
-refused_listing r recording given = given
+-- of a refusal `GivesListing` and `AnswerGives` say the same
+pub GivesListing-from_AnswerGives : (r : Refusal) (recording : Result Trace Refusal)
+    → AnswerGives (λ (t : Trace). t) (Err r) recording → GivesListing (Err r) recording
+GivesListing-from_AnswerGives Memory recording given = tt
+GivesListing-from_AnswerGives r recording given = given
 
-pub given_refusal : (r : Refusal) (recording : Result Trace Refusal) → GivesListing (Err r) recording
+pub AnswerGives-from_GivesListing : (r : Refusal) (recording : Result Trace Refusal) → GivesListing (Err r) recording
     → AnswerGives (λ (t : Trace). t) (Err r) recording
-given_refusal Memory recording given = tt
-given_refusal r recording given = given
+AnswerGives-from_GivesListing Memory recording given = tt
+AnswerGives-from_GivesListing r recording given = given
 
 -- ---- what was written
 
@@ -134,14 +135,15 @@ listing_answer_by-small : (recording : Result Trace Refusal) → (listing_answer
 listing_answer_by-small (Ok t) = verdict_status-small (verdict_by rules_in_force t)
 listing_answer_by-small (Err r) = refusal_status-small r
 
-abbrev MayList : ℕ → ℕ → Option (List ℕ) → Option (List ℕ) → Result Trace Refusal → Type 0
-MayList skew block b d recording = AnswerGives (λ (t : Trace). t) recording (settled_recording skew b d block)
+-- the recording that was read agrees with the settled recording of the bytes `b` of a binding and `d` of a dump
+abbrev pub ReadAgreesWith : ℕ → ℕ → Option (List ℕ) → Option (List ℕ) → Result Trace Refusal → Type 0
+ReadAgreesWith skew block b d recording = AnswerGives (λ (t : Trace). t) recording (settled_recording skew b d block)
 
 pub WritesListing-unwritten : (skew : ℕ) (binding dump : Reading × Reading) (block : ℕ) (out err : Writing × Writing)
     (status : ℕ) → WritesListing skew binding dump block out err status
     → (status ≡ 5) ↔ (out.1.failures ≡ suc out.0.failures)
 WritesListing-unwritten skew binding dump block out err status = Does-unwritten listing_answer_by
-    listing_answer_by-small (MayList skew block) binding dump out err status
+    listing_answer_by-small (ReadAgreesWith skew block) binding dump out err status
 
 pub WritesListing-exact : (skew : ℕ) (binding dump : Reading × Reading) (block : ℕ) (out err : Writing × Writing)
     (status : ℕ) → WritesListing skew binding dump block out err status
@@ -149,6 +151,6 @@ pub WritesListing-exact : (skew : ℕ) (binding dump : Reading × Reading) (bloc
     → out.1.failures ≡ out.0.failures → (status ≡ 4 → ⊥)
     → Tells (listing_answer_of skew (Some b) (Some d) block) out err status
 WritesListing-exact skew binding dump block out err status lists b d =
-    Does-exact listing_answer_by listing_answer_by-small (MayList skew block) binding dump out err status lists b d
-    (listing_answer_of skew (Some b) (Some d) block)
+    Does-exact listing_answer_by listing_answer_by-small (ReadAgreesWith skew block) binding dump out err status lists
+    b d (listing_answer_of skew (Some b) (Some d) block)
     (λ found. given_is listing_answer_by refl found (settled_recording skew (Some b) (Some d) block))

@@ -10,7 +10,7 @@ use Rattle.vme_stream.proofs.InputLemmas.{unread}
 use Rattle.vme_commands.specs.declared.built_in.TheConstants.{BLOCK}
 use Rattle.vme_annotate.specs.Prepared.{GivesPrepared}
 use Rattle.vme_annotate.specs.TimedListings.{recording_to_list}
-use Rattle.vme_annotate.proofs.EndsLemmas.{refused_prepared, timed_refusal}
+use Rattle.vme_annotate.proofs.EndsLemmas.{AnswerGives-from_GivesTimedListing, GivesPrepared-from_AnswerGives}
 use Rattle.vme_annotate.proofs.ListedLemmas.{recording_is, unbound, unread_dump}
 use Rattle.vme_annotate.proofs.annotating.annotated_from.Goals as goal
 
@@ -25,7 +25,7 @@ returns-in_err-bound g c =
       left.0,
       binding_reading,
       left.1,
-      refused_prepared left.0 refusal _ (timed_refusal refusal _
+      GivesPrepared-from_AnswerGives left.0 refusal _ (AnswerGives-from_GivesTimedListing refusal _
           (unbound c.args.skew BLOCK binding left.0 refusal refused)),
     )
 
@@ -55,6 +55,6 @@ returns g c =
       bytes,
       binding_reading,
       reading,
-      refused_prepared bytes _ _ (timed_refusal _ _
+      GivesPrepared-from_AnswerGives bytes _ _ (AnswerGives-from_GivesTimedListing _ _
           (unread_dump c.args.skew BLOCK binding bytes c.in_ok-bound.bound _ bound_is refused)),
     )

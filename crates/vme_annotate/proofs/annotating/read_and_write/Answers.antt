@@ -1,7 +1,7 @@
 use Rattle.std.proofs.Common.{[], inl, refl}
 use Rattle.std.specs.Prelude.{Err, Ok}
 use Rattle.std.proofs.KnownBytes.{Appends-nil}
-use Rattle.vme_annotate.proofs.EndsLemmas.{is_annotation, no_annotation, prepared_refusal}
+use Rattle.vme_annotate.proofs.EndsLemmas.{AnswerGives-from_GivesPrepared, is_annotation, no_annotation}
 use Rattle.vme_annotate.proofs.annotating.read_and_write.Goals as goal
 
 pub returns-in-Ok : goal.returns-in-Ok
@@ -29,7 +29,7 @@ returns-in-Err g c =
       [],
       binding_reading,
       dump_reading,
-      prepared_refusal dump c.in-Err.refusal _ given,
+      AnswerGives-from_GivesPrepared dump c.in-Err.refusal _ given,
       no_annotation dump c.in-Err.refusal [],
       inl (record {
         out_is = (Appends-nil _, refl);

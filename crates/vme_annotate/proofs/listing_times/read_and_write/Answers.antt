@@ -1,7 +1,7 @@
 use Rattle.std.proofs.Common.{inl, refl}
 use Rattle.std.specs.Prelude.{Err, Ok}
 use Rattle.std.proofs.KnownBytes.{Appends-nil}
-use Rattle.vme_annotate.proofs.EndsLemmas.{timed_refusal}
+use Rattle.vme_annotate.proofs.EndsLemmas.{AnswerGives-from_GivesTimedListing}
 use Rattle.vme_annotate.proofs.listing_times.read_and_write.Goals as goal
 
 pub returns-in-Ok : goal.returns-in-Ok
@@ -18,7 +18,7 @@ returns-in-Err g c =
       Err c.in-Err.refusal,
       binding_reading,
       dump_reading,
-      timed_refusal c.in-Err.refusal _ given,
+      AnswerGives-from_GivesTimedListing c.in-Err.refusal _ given,
       inl (record {
         out_is = (Appends-nil _, refl);
         err_is = rw c.refusal_line.ensures at c.complain.ensures;

@@ -1,7 +1,7 @@
 use Rattle.std.proofs.Common.{refl, inl}
 use Rattle.std.specs.Prelude.{Ok, Err}
 use Rattle.std.proofs.KnownBytes.{Appends-nil}
-use Rattle.vme_commands.proofs.ListLemmas.{given_refusal}
+use Rattle.vme_commands.proofs.ListLemmas.{AnswerGives-from_GivesListing}
 use Rattle.vme_commands.proofs.list.list_by.Goals as goal
 
 pub returns-in-Ok : goal.returns-in-Ok
@@ -18,7 +18,7 @@ returns-in-Err g c =
       Err c.in-Err.refusal,
       binding_reading,
       dump_reading,
-      given_refusal c.in-Err.refusal _ given,
+      AnswerGives-from_GivesListing c.in-Err.refusal _ given,
       inl (record {
         out_is = (Appends-nil _, refl);
         err_is = rw c.refusal_line.ensures at c.complain.ensures;

@@ -1,7 +1,7 @@
 use Rattle.std.proofs.Common.{◌∙◌, sym}
 use Rattle.std.proofs.lemmas.Result.{err_from_is_err_and}
 use Rattle.vme_commands.proofs.JudgedLemmas.{limited-short}
-use Rattle.vme_commands.proofs.ListLemmas.{refused_listing}
+use Rattle.vme_commands.proofs.ListLemmas.{GivesListing-from_AnswerGives}
 use Rattle.vme_commands.proofs.SettledLemmas.{recording-given, recording-refused}
 use Rattle.vme_commands.proofs.list.listing_in_order.Goals as goal
 
@@ -15,7 +15,7 @@ returns-in_err-lister g c =
       bytes,
       bound_reading,
       reading,
-      refused_listing refusal _ (recording-refused c.args.skew bound bytes c.args.block refusal refused),
+      GivesListing-from_AnswerGives refusal _ (recording-refused c.args.skew bound bytes c.args.block refusal refused),
     )
 
 pub returns : goal.returns

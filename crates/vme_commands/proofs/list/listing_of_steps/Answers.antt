@@ -2,7 +2,7 @@ use Rattle.std.proofs.Common.{refl}
 use Rattle.vme_stream.specs.Refusals.{judging_refusal}
 use Rattle.vme_commands.specs.Judged.{limited_in_blocks}
 use Rattle.vme_commands.proofs.JudgedLemmas.{judged-fits, judged-refused}
-use Rattle.vme_commands.proofs.ListLemmas.{refused_listing}
+use Rattle.vme_commands.proofs.ListLemmas.{GivesListing-from_AnswerGives}
 use Rattle.vme_commands.proofs.list.listing_of_steps.Goals as goal
 
 pub returns-in-Ok : goal.returns-in-Ok
@@ -20,5 +20,5 @@ returns-in-Err c =
     let told = c.in-Err.ensures in
     λ formed.
     rw c.of_judging.ensures
-    (refused_listing (judging_refusal c.in-Err.why) (limited_in_blocks c.args.block c.args.lister)
+    (GivesListing-from_AnswerGives (judging_refusal c.in-Err.why) (limited_in_blocks c.args.block c.args.lister)
     (judged-refused c.args.lister c.args.block _ told.too_many_steps told.too_many_blocks c.in-Err.why refl))
