@@ -128,7 +128,7 @@ pub annotated-IsAnnotated : (t : Trace) (d : AnnotatedDump) → IsPrepared t d �
     → ends_definitions_at d.text.items start ≡ true → ArePutAt d.text.items t start put
     → map change_of put ≡ map (planned d.listing.listing.rows) d.changes.items
     → IsAnnotated d.text.items t (annotated d.text.items start d.added.scope d.added.own put)
-annotated-IsAnnotated t d is start put starts placed are =
+annotated-IsAnnotated t d is start put starts placed put_is =
     let (defines, defines_are, beside) = is.added in
     record {
       defines = defines;
@@ -136,14 +136,14 @@ annotated-IsAnnotated t d is start put starts placed are =
       underscores = beside.underscores;
       scope = beside.scope;
       own = d.added.own;
-      four = beside.four;
+      count_is = beside.count_is;
       codes_are = beside.codes_are;
       start = start;
       starts = starts;
       put = put;
       placed = placed;
-      are = λ instant.
-          ap (filter (λ (c : ShownChange). c.instant == instant)) are ∙ is.planned.are instant
+      changes_are = λ instant.
+          ap (filter (λ (c : ShownChange). c.instant == instant)) put_is ∙ is.planned.are instant
           ∙ ap (λ (listing : Listed). changes_at listing.rows instant) is.timed.listing_is;
       text_is = ap (λ (scope : List ℕ). annotated d.text.items start scope d.added.own put) beside.scope_is;
     }

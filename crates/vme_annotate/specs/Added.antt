@@ -26,7 +26,7 @@ pub record AreBeside (variables : List Variable) (nets : List Net) (added : Adde
   pub underscores : ℕ
   pub scope : IsFreeScope variables underscores
   pub scope_is : added.scope ≡ scope_name underscores
-  pub four : length added.own ≡ 4
+  pub count_is : length added.own ≡ 4
   pub codes_are : AreFree nets added.own
 
 -- no variable has the scope in its path, and the codes are no tokens of the definitions
@@ -34,7 +34,7 @@ pub record IsBeside (dump : List ℕ) (variables : List Variable) (added : Added
   pub underscores : ℕ
   pub scope : IsFreeScope variables underscores
   pub scope_is : added.scope ≡ scope_name underscores
-  pub four : length added.own ≡ 4
+  pub count_is : length added.own ≡ 4
   pub start : ℕ
   pub starts : ends_definitions_at dump start ≡ true
   pub each : All (λ (code : List ℕ). IsUnused (take start dump) (code_number code) code) added.own

@@ -340,7 +340,7 @@ says_the_same bound dump text shown t a e =
     let contents : Contents = read.0 in
     let is : IsDump dump contents = dump_is dump contents read.1 in
     let defines : a.defines ≡ headed is.declared is.body = defined_in dump contents is a.defines a.defines_are in
-    let four = four_of a.own a.four in
+    let four = four_of a.own a.count_is in
     let own : List (List ℕ) = four.0 ∷ four.1 ∷ four.2 ∷ four.3 ∷ [] in
     let are : AreFree is.declared.nets own =
     subst (λ (d : Defined (List Variable)). AreFree d.head.nets own) defines
@@ -349,7 +349,7 @@ says_the_same bound dump text shown t a e =
     ap (λ (d : Defined (List Variable)). has_name d.variables a.underscores) (sym defines)
     ∙ a.scope in
     let words : list_all shows_word (map change_of a.put) ≡ true =
-    shown_words (recorded_rows shown) (map change_of a.put) a.are in
+    shown_words (recorded_rows shown) (map change_of a.put) a.changes_are in
     let text_is : text ≡ take a.start dump ++ (declarations (scope_name a.underscores) own
     ++ with_changes (change_text own) a.start a.put dump) =
     a.text_is ∙ ap (λ (codes : List (List ℕ)). annotated dump a.start (scope_name a.underscores) codes a.put) four.4 in

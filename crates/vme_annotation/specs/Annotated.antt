@@ -81,12 +81,12 @@ pub record IsAnnotated (dump : List ℕ) (t : Trace) (text : List ℕ) : Type 0 
   pub underscores : ℕ
   pub scope : IsFreeScope defines.variables underscores
   pub own : List (List ℕ)
-  pub four : length own ≡ 4
+  pub count_is : length own ≡ 4
   pub codes_are : AreFree defines.head.nets own
   pub start : ℕ
   pub starts : ends_definitions_at dump start ≡ true
   pub put : List PutChange
   pub placed : ArePutAt dump t start put
-  pub are : (instant : ℕ) → filter (λ (c : ShownChange). c.instant == instant) (map change_of put)
+  pub changes_are : (instant : ℕ) → filter (λ (c : ShownChange). c.instant == instant) (map change_of put)
       ≡ changes_at (recorded_rows t) instant
   pub text_is : text ≡ annotated dump start (scope_name underscores) own put

@@ -11,7 +11,7 @@ returns-in-Ok-added_beside c =
         underscores = beside.underscores;
         scope = beside.scope;
         scope_is = beside.scope_is;
-        four = beside.four;
+        count_is = beside.count_is;
         codes_are =
             are_free c.args.dump.now beside.start _ c.in-Ok-added_beside.added.own beside.starts read beside.each
             beside.ascend;
