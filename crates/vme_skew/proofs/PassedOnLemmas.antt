@@ -1,8 +1,10 @@
 -- What a settling visitor passes on, step by step.
 use Rattle.std.proofs.Common.{◌≡◌, ℕ, suc, ◌+◌, ◌<◌, Bool, true, ◌&&◌, List, ◌++◌, length}
 use Rattle.std.proofs.Common.{refl, sym, ap, ◌∙◌, subst, arith, inl, inr}
-use Rattle.std.specs.Prelude.{Option, None, max, min, nat_le, nat_lt, ◌==◌, ◌||◌}
+use Rattle.std.specs.Prelude.{Option, None, min, nat_le, nat_lt, ◌==◌, ◌||◌}
 use Rattle.std.specs.Option.{option_to_list}
+use Rattle.std.proofs.Math.Nat.{max-eq_right}
+use Rattle.std.proofs.lemmas.Bool.{leb-true}
 use Rattle.std.proofs.lemmas.Bool.Decides.{nat_tests}
 use Rattle.vme_trace.specs.Followed.{with_steps}
 use Rattle.vme_trace.specs.Trace.{Trace, time_at}
@@ -28,9 +30,6 @@ late_by n clock reached time none is later = elim (begins_is n clock time later)
   | inr lt ↦ later_le clock reached time lt is
 ]
 
-max-is : (a b : ℕ) → nat_le a b ≡ true → max a b ≡ b
-max-is a b le = grind (arith, nat_tests)
-
 at_first : (t : Trace) (n : ℕ) → n ≡ 0 → time_at t n ≡ 0
 at_first t n first = ap (time_at t) first
 
@@ -41,7 +40,7 @@ given-more s recorded h step out = record {
   recorded_is = ap (λ (t : Trace). with_steps t (option_to_list out)) h.recorded_is;
   in_order = in_order;
   reached = λ formed.
-      max-is s.reached step.time (late formed) ∙ sym (time-last s.given step)
+      max-eq_right (leb-true s.reached step.time (late formed)) ∙ sym (time-last s.given step)
       ∙ ap (time_at (more s.given step)) (sym (length_more s.given.steps step));
 }
   where

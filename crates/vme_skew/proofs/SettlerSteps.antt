@@ -3,6 +3,7 @@ use Rattle.std.proofs.Common.{◌≡◌, ℕ, suc, ◌+◌, ◌-◌, ◌<◌, �
 use Rattle.std.proofs.Common.{◌∷◌, ◌++◌, length, refl, sym, ap, ◌∙◌, subst, arith, inl, inr, ◌⊎◌, append_assoc}
 use Rattle.std.specs.Prelude.{Option, None, Some, slice_get, max, nat_le, nat_lt, ◌==◌}
 use Rattle.std.specs.Option.{option_to_list}
+use Rattle.std.proofs.Math.Nat.{le-max_left, le-max_right, max-eq_right}
 use Rattle.std.proofs.lemmas.Bool.{and_parts, eqb-false, leb-true, lt-ltb, or_right}
 use Rattle.std.proofs.lemmas.Bool.Decides.{nat_tests}
 use Rattle.std.proofs.lemmas.List.{append-nil}
@@ -62,15 +63,6 @@ until-recording skew time t is =
       formed = formed-front (settled_until skew time t) front.0
           (sym (ap malformed_step front.1) ∙ (is_recording skew t is).formed);
     }
-
-max-is : (a b : ℕ) → a ≤ b → max a b ≡ b
-max-is a b le = grind (arith, nat_tests)
-
-max-left : (a b : ℕ) → a ≤ max a b
-max-left a b = grind (arith, nat_tests)
-
-max-right : (a b : ℕ) → b ≤ max a b
-max-right a b = grind (arith, nat_tests)
 
 never-less : (a b c : ℕ) → nat_lt a b ≡ false → nat_lt a c ≡ false → nat_lt a (max b c) ≡ false
 never-less a b c h k = grind (arith, nat_tests)
@@ -201,7 +193,7 @@ module _ (skew : ℕ) (t : Trace) (step : Step) where
       subst (λ (n : ℕ). AreSettledTo skew (more t step) n next out) end all in
       let start : time_at (more t step) (group_start skew (more t step) (length (more t step).steps)) ≡ group.start =
       sym whole.start ∙ ap (λ (g : GroupLevels). g.start) e in
-      let top : max reached step.time ≡ step.time = max-is reached step.time late in
+      let top : max reached step.time ≡ step.time = max-eq_right late in
       record {
         some = not_zero (length (more t step).steps) last (length_more t.steps step);
         start = whole.start;
@@ -230,10 +222,10 @@ module _ (skew : ℕ) (t : Trace) where
     now = h.now;
     made = step-made skew t end_of group out
         (record { start = h.start; before = h.before; now = h.now; made = h.made });
-    latest = omega (arith, h.latest, max-left reached time);
+    latest = omega (arith, h.latest, le-max_left reached time);
     over = or_right (end_of == 0) (nat_lt (time_at t (group_start skew t end_of) + skew) (max reached time))
         (still-less (time_at t (group_start skew t end_of) + skew) time (max reached time)
-        (ap (λ (start : ℕ). nat_lt (start + skew) time) (sym h.start) ∙ over) (max-right reached time));
+        (ap (λ (start : ℕ). nat_lt (start + skew) time) (sym h.start) ∙ over) (le-max_right reached time));
   }
 
   -- any other time leaves the group as it is
@@ -245,7 +237,7 @@ module _ (skew : ℕ) (t : Trace) where
     before = h.before;
     now = h.now;
     made = append-nil out ∙ h.made;
-    latest = omega (arith, h.latest, max-left reached time);
+    latest = omega (arith, h.latest, le-max_left reached time);
     within = never-less (time_at t (group_start skew t end_of) + skew) reached time h.within
         (ap (λ (start : ℕ). nat_lt (start + skew) time) (sym h.start) ∙ within);
   }
@@ -257,11 +249,11 @@ module _ (skew : ℕ) (t : Trace) where
     before = h.before;
     now = h.now;
     made = append-nil out ∙ h.made;
-    latest = omega (arith, h.latest, max-left reached time);
+    latest = omega (arith, h.latest, le-max_left reached time);
     over = first_or end_of (nat_lt (time_at t (group_start skew t end_of) + skew) reached)
         (nat_lt (time_at t (group_start skew t end_of) + skew) (max reached time)) h.over
         (λ e. still-less (time_at t (group_start skew t end_of) + skew) reached (max reached time) e
-        (max-left reached time));
+        (le-max_left reached time));
   }
 
   pub reached-at : (is_begun is_over is_last still : Bool) (group next : GroupLevels) (out made : List Step)
