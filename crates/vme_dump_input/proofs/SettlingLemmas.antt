@@ -3,6 +3,7 @@ use Rattle.std.proofs.Common.{◌≡◌, ℕ, ◌+◌, ◌<◌, ◌≤◌, Bool,
 use Rattle.std.proofs.Common.{length, get_or, take, sym, ap, subst, ◌∙◌, append_assoc, append-nil, refl, max, arith}
 use Rattle.std.specs.Prelude.{All, IfOk, OnOk, Result, Ok, Err, nat_le}
 use Rattle.std.specs.Option.{option_to_list}
+use Rattle.std.proofs.Math.Nat.{max-eq_right}
 use Rattle.std.proofs.lemmas.Bool.{and_from, le-leb, ltb-true}
 use Rattle.std.proofs.lemmas.Bool.Decides.{nat_tests}
 use Rattle.std.proofs.lemmas.List.{take_more}
@@ -103,9 +104,6 @@ reached-next first now later steps out outs time made is next grown =
 
 -- ---- steps in order
 
-max-is : (a b : ℕ) → a ≤ b → max a b ≡ b
-max-is a b le = grind (arith, nat_tests)
-
 -- steps that may follow one another are in order
 order-after : (reached now : ℕ) (v : Levels) (steps : List Step) → reached ≤ now → MayStand v (Some now) steps
     → are_in_order reached steps ≡ true
@@ -115,7 +113,7 @@ order-after reached now v (x ∷ xs) le m =
     let late : now ≤ x.time = omega (arith, ltb-true now x.time m.0) in
     let here : reached ≤ x.time = omega (arith, le, late) in
     and_from (nat_le reached x.time) (are_in_order (max reached x.time) xs) (le-leb reached x.time here)
-    (order-after (max reached x.time) x.time (changed v x.changes) xs (omega (arith, max-is reached x.time here))
+    (order-after (max reached x.time) x.time (changed v x.changes) xs (omega (arith, max-eq_right here))
     m.2)
 
 order-first : (reached : ℕ) (v : Levels) (steps : List Step) → All (λ (step : Step). reached ≤ step.time) steps
@@ -125,7 +123,7 @@ order-first reached v [] late m = refl
 order-first reached v (x ∷ xs) late m =
     let here : reached ≤ x.time = All-head (λ (step : Step). reached ≤ step.time) x xs late in
     and_from (nat_le reached x.time) (are_in_order (max reached x.time) xs) (le-leb reached x.time here)
-    (order-after (max reached x.time) x.time (changed v x.changes) xs (omega (arith, max-is reached x.time here))
+    (order-after (max reached x.time) x.time (changed v x.changes) xs (omega (arith, max-eq_right here))
     m.2)
 
 reached-within : (reached time : ℕ) (steps : List Step) → reached ≤ time
@@ -170,7 +168,7 @@ module _ (skew : ℕ) (s : Settling) (given t : Trace) (from : ℕ) (h : IsSettl
     reached-is : next.reached ≡ time
     reached-is =
         ap (λ (x : Settling). x.reached) is
-        ∙ max-is (reached_at s.reached steps) time
+        ∙ max-eq_right
         (reached-within s.reached time steps (omega (arith, h.known, go.on)) go.within)
 
     given-is : next.given ≡ with_steps given steps
