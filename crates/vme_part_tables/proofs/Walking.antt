@@ -1,10 +1,10 @@
 -- Runs through nodes.
-use Rattle.std.proofs.Common.{inl, inr, ◌≡◌, ℕ, suc, ◌+◌, ◌-◌, ◌<◌, ◌≤◌, true, false, eqb, List, []}
+use Rattle.std.proofs.Common.{inl, inr, ◌≡◌, ℕ, suc, ◌+◌, ◌-◌, ◌<◌, ◌≤◌, false, eqb, List, []}
 use Rattle.std.proofs.Common.{◌∷◌, ◌++◌}
 use Rattle.std.proofs.Common.{length, map, Option, Some, None, refl, ap, sym, ◌∙◌, arith}
 use Rattle.std.specs.Prelude.{◌⊎◌}
 use Rattle.std.specs.Option.{option_map, option_or}
-use Rattle.std.proofs.lemmas.Bool.{lt-ltb, le-ltb, cases_order}
+use Rattle.std.proofs.lemmas.Bool.{cases_order, eq-eqb, le-ltb, lt-ltb}
 use Rattle.std.proofs.lemmas.Bool.Decides.{nat_tests}
 use Rattle.std.proofs.lemmas.List.{map-append}
 use Rattle.vme_part_format.specs.Tables.{NodeValue}
@@ -13,9 +13,6 @@ use Rattle.vme_part_format.specs.declared.wide.WideMark.{WideMark}
 use Rattle.vme_part_tables.specs.Ways.{WideOutcome, ended_in, later_break, later_mark, later_outcome, run_from}
 use Rattle.vme_part_tables.specs.Ways.{with_break_before, with_marks_before}
 use Rattle.vme_part_tables.specs.Composed.{later_node}
-
-pub same_number : (m : ℕ) → eqb m m ≡ true
-same_number m = grind (arith, nat_tests)
 
 other_number : (w m : ℕ) → m < w → eqb w m ≡ false
 other_number w m h = grind (arith, nat_tests)
@@ -26,7 +23,7 @@ run_from_memory m (n ∷ ns) w h = rw (lt-ltb w m h) refl
 
 pub run_from_here : (m : ℕ) (n : NodeValue) (ns : List NodeValue)
     → run_from m (n ∷ ns) m ≡ with_marks_before n.marks (with_break_before n.first_break (run_from m ns n.next))
-run_from_here m n ns = rw (le-ltb m m (omega arith), same_number m) refl
+run_from_here m n ns = rw (le-ltb m m (omega arith), eq-eqb m m refl) refl
 
 pub run_from_past : (m : ℕ) (n : NodeValue) (ns : List NodeValue) (w : ℕ) → m < w
     → run_from m (n ∷ ns) w ≡ run_from m ns (w - 1)
