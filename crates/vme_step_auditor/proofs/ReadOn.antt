@@ -8,6 +8,7 @@ use Rattle.std.proofs.lemmas.List.Elements.{All-cons, All-filter, All-head, All-
 use Rattle.std.proofs.lemmas.Option.{slice_get_past}
 use Rattle.std.specs.Prelude.{nat_lt, slice_get}
 use Rattle.std.specs.Option.{option_to_list}
+use Rattle.std.proofs.Math.Nat.{zero-add}
 use Rattle.std.proofs.lemmas.Bool.{lt-ltb, ltb-false, ltb-true}
 use Rattle.vme_trace.specs.Followed.{with_steps}
 use Rattle.vme_trace.specs.Trace.{Trace}
@@ -28,10 +29,7 @@ get_in_first (x ∷ xs) ys zero h = refl
 get_in_first (x ∷ xs) ys (suc i) h = get_in_first xs ys i (omega arith)
 
 get_in_second : {X : Type 0} (xs ys : List X) (i : ℕ) → slice_get (xs ++ ys) (length xs + i) ≡ slice_get ys i
-get_in_second [] ys i = ap (slice_get ys) (plain i)
-  where
-    plain : (i : ℕ) → 0 + i ≡ i
-    plain i = omega arith
+get_in_second [] ys i = ap (slice_get ys) (zero-add i)
 get_in_second (x ∷ xs) ys i =
     let onward : suc (length xs) + i ≡ suc (length xs + i) = omega arith in
     ap (slice_get (x ∷ xs ++ ys)) onward ∙ get_in_second xs ys i
