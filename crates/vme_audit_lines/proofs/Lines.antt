@@ -2,10 +2,8 @@
 use Rattle.std.proofs.Common.{◌≡◌, ℕ, ◌+◌, ◌-◌, ◌<◌, Bool, true, false, cond, not, List, [], ◌∷◌, ◌++◌, length}
 use Rattle.std.proofs.Common.{take, drop}
 use Rattle.std.proofs.Common.{get_or, refl, sym, ap, ◌∙◌, arith, append_assoc, length-drop}
-use Rattle.std.specs.Prelude.{◌==◌, OnOk, Result, Ok, Err, codes, filter, flat_map}
+use Rattle.std.specs.Prelude.{OnOk, Result, Ok, Err, codes, filter, flat_map}
 use Rattle.std.proofs.lemmas.Grind.{flat_map-append}
-use Rattle.std.proofs.lemmas.Bool.{false≢true}
-use Rattle.std.proofs.lemmas.Bool.Decides.{nat_tests}
 use Rattle.std.proofs.lemmas.List.{append-nil, take_all}
 use Rattle.std.proofs.lemmas.List.Elements.{filter_more}
 use Rattle.vme_trace.specs.declared.rule.Rule.{Rule}
@@ -68,12 +66,6 @@ pub no-line : (head : List ℕ) (rules : List Rule) → length (names_text rules
 unfolding names_text
 no-line head [] none = refl
 no-line head (r ∷ rs) none = absurd (omega (arith, none))
-
-pub zero-from : (n : ℕ) (b : Bool) → b ≡ true → b ≡ (n == 0) → n ≡ 0
-zero-from n b e is = grind (arith, nat_tests)
-
-pub some-from : (n : ℕ) (b : Bool) → b ≡ false → b ≡ (n == 0) → n ≡ 0 → ⊥
-some-from n b e is none = absurd (false≢true (sym e ∙ is ∙ ap (λ (k : ℕ). k == 0) none))
 
 pub some-line : (head : List ℕ) (rules : List Rule) → (length (names_text rules) ≡ 0 → ⊥)
     → unasked_line head rules ≡ head ++ line_of (codes "never asked:" ++ names_text rules)

@@ -1,8 +1,9 @@
-use Rattle.std.proofs.Common.{◌≡◌, ℕ, List, ◌++◌, length, append_assoc, refl, sym, ap, ◌∙◌, true, false}
+use Rattle.std.proofs.Common.{◌≡◌, ℕ, List, ◌++◌, length, append_assoc, sym, ap, ◌∙◌}
 use Rattle.std.specs.Prelude.{◌==◌}
+use Rattle.std.proofs.lemmas.Bool.{eqb-false, eqb-true}
 use Rattle.std.proofs.lemmas.List.{append-nil}
 use Rattle.vme_audit_lines.specs.AuditLines.{names_text, unasked}
-use Rattle.vme_audit_lines.proofs.Lines.{no-line, on_ok, some-from, some-line, zero-from}
+use Rattle.vme_audit_lines.proofs.Lines.{no-line, on_ok, some-line}
 use Rattle.vme_audit_lines.proofs.counts.push_unasked.Goals as goal
 
 pub returns-then-is_empty : goal.returns-then-is_empty
@@ -10,8 +11,8 @@ returns-then-is_empty c =
     let rules = unasked c.args.events.now in
     let named : c.push_names.new.text ≡ names_text rules = c.in_ok-push_names.ensures
     ∙ ap (λ (text : List ℕ). text ++ names_text rules) c.new-names.ensures in
-    let none : length (names_text rules) ≡ 0 = zero-from (length (names_text rules)) true refl
-    (c.if-is_empty.ensures ∙ ap (λ (text : List ℕ). length text == 0) (c.as_bytes.ensures ∙ named)) in
+    let none : length (names_text rules) ≡ 0 = eqb-true (length (names_text rules)) 0
+    (sym (c.if-is_empty.ensures ∙ ap (λ (text : List ℕ). length text == 0) (c.as_bytes.ensures ∙ named))) in
     sym (ap (λ (line : List ℕ). c.args.text.now ++ line) (no-line c.args.head.now rules none)
     ∙ append-nil c.args.text.now)
 
@@ -20,8 +21,8 @@ returns c =
     let rules = unasked c.args.events.now in
     let named : c.push_names.new.text ≡ names_text rules = c.in_ok-push_names.ensures
     ∙ ap (λ (text : List ℕ). text ++ names_text rules) c.new-names.ensures in
-    let line = some-line c.args.head.now rules (some-from (length (names_text rules)) false refl
-    (c.if-is_empty.ensures ∙ ap (λ (text : List ℕ). length text == 0) (c.as_bytes.ensures ∙ named))) in
+    let line = some-line c.args.head.now rules (eqb-false (length (names_text rules)) 0
+    (sym (c.if-is_empty.ensures ∙ ap (λ (text : List ℕ). length text == 0) (c.as_bytes.ensures ∙ named)))) in
     on_ok c.push-4.result _ _ c.push-4.ensures.ok (λ last.
     rw (
       last,

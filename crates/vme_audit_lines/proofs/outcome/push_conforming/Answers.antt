@@ -1,11 +1,7 @@
-use Rattle.std.proofs.Common.{◌≡◌, ℕ, false, arith, refl, append_assoc}
-use Rattle.std.specs.Prelude.{◌==◌}
-use Rattle.std.proofs.lemmas.Bool.Decides.{nat_tests}
+use Rattle.std.proofs.Common.{refl, append_assoc}
+use Rattle.std.proofs.lemmas.Bool.{ne_eqb}
 use Rattle.vme_audit_lines.proofs.Lines.{on_ok}
 use Rattle.vme_audit_lines.proofs.outcome.push_conforming.Goals as goal
-
-not_zero : (n : ℕ) → (n ≡ 0 → ⊥) → (n == 0) ≡ false
-not_zero n some = grind (arith, nat_tests)
 
 pub returns-then-allowed-eq0 : goal.returns-then-allowed-eq0
 returns-then-allowed-eq0 c = on_ok c.push.result _ _ c.push.ensures.ok (λ last. rw (last, c.if-allowed-eq0.true) refl)
@@ -13,4 +9,4 @@ returns-then-allowed-eq0 c = on_ok c.push.result _ _ c.push.ensures.ok (λ last.
 pub returns-else-allowed-eq0 : goal.returns-else-allowed-eq0
 returns-else-allowed-eq0 c =
     on_ok c.push_allowed.result _ _ c.push_allowed.ensures (λ last.
-    rw (last, not_zero c.args.allowed c.if-allowed-eq0.false) (simp append_assoc))
+    rw (last, ne_eqb c.args.allowed 0 c.if-allowed-eq0.false) (simp append_assoc))
