@@ -12,6 +12,7 @@ use Rattle.std.specs.Cmp.Lexicographic.{slice_cmp}
 use Rattle.std.specs.declared.cmp.Ordering.{Ordering}
 use Rattle.std.specs.declared.cmp.Ordering.TheVariants.{Less, Equal, Greater}
 use Rattle.std.proofs.lemmas.Bool.{cases_Bool, eq-eqb, eqb-true, cond-true, cond-false, false_from_ne_true, false≢true}
+use Rattle.std.proofs.lemmas.Bool.{and_parts}
 use Rattle.std.proofs.lemmas.Bool.Decides.{nat_tests}
 use Rattle.std.proofs.Math.Dec.{eqb-suc-zero, eqb-zero-suc, eqb-suc-suc}
 use Rattle.std.proofs.lemmas.Slice.Eq.{bytes_eq-Decides}
@@ -208,10 +209,6 @@ module _ {K X : Type 0} (bytes : K → List ℕ) where
 
 -- ---- the index
 
-both_are : (a b : Bool) → (a && b) ≡ true → (a ≡ true) × (b ≡ true)
-both_are true b e = (refl, e)
-both_are false b e = absurd cc
-
 -- after a net is set on a page, its code has it, and the other codes have the nets that they had
 pub page_change : (old new : List (Vec (Option ℕ))) (entries : List (Vec ℕ × ℕ)) (code : List ℕ) (place : CodePlace)
     (net : ℕ) → Some place ≡ short_place code
@@ -240,7 +237,7 @@ page_change old new entries code place net is set other =
         set at.page at.entry ∙ cond-false (eqb place.page at.page && eqb place.entry at.entry) _ _
         (false_from_ne_true (eqb place.page at.page && eqb place.entry at.entry)
         (λ e.
-        let same = both_are (eqb place.page at.page) (eqb place.entry at.entry) e in
+        let same = and_parts (eqb place.page at.page) (eqb place.entry at.entry) e in
         apart (short_place-same code other place at (sym is) is_at_place (eqb-true place.page at.page same.0)
         (eqb-true place.entry at.entry same.1))))
     go None is_at_place apart = refl

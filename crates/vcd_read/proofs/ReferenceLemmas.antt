@@ -10,7 +10,7 @@ use Rattle.std.proofs.lemmas.List.Folds.{list_any_at, list_any_none}
 use Rattle.std.proofs.lemmas.List.{take_rest, get_or_default}
 use Rattle.std.proofs.lemmas.Str.Parse.{digits_value_short, numerals_by_value, tells_all_ascii_digits}
 use Rattle.vcd_read.proofs.NumberLemmas.{digits_of_number}
-use Rattle.std.proofs.lemmas.Bool.{lt-ltb, false≢true}
+use Rattle.std.proofs.lemmas.Bool.{lt-ltb, false≢true, and_right, false_from_ne_true}
 use Rattle.memchr.specs.Find.{Passes, Nowhere, NoneBefore, NoneAfter, is_byte}
 use Rattle.vcd_read.specs.declared.fault.FaultKind.{FaultKind}
 use Rattle.vcd_read.specs.declared.fault.FaultKind.TheVariants.{NumberTooLarge}
@@ -59,17 +59,13 @@ is_colon b = eqb b 58
 abbrev colon_cut : List ℕ → Bool → ℕ → Option (ℕ × ℕ)
 colon_cut text some colon = cond some (two_numbers (take colon text) (drop (colon + 1) text)) (one_number text)
 
-not_true : (b : Bool) → (b ≡ true → ⊥) → b ≡ false
-not_true true h = absurd (h refl)
-not_true false h = refl
-
 pub index_between-colon : (text : List ℕ) (colon : ℕ) → NoneBefore (Passes (is_byte 58) text) 0 (length text) colon
     → Passes (is_byte 58) text colon
     → index_between text ≡ two_numbers (take colon text) (take (length text - (colon + 1)) (drop (colon + 1) text))
 index_between-colon text colon first here =
     let any : list_any is_colon text ≡ true = list_any_at is_colon text colon 0 first.high here in
     let place : position_or_len is_colon text ≡ colon = position_or_len_is is_colon text colon 0
-    (omega (arith, first.high)) (λ k lt. not_true _ (first.before k (omega arith) lt)) (λ _. here) in
+    (omega (arith, first.high)) (λ k lt. false_from_ne_true _ (first.before k (omega arith) lt)) (λ _. here) in
     ap (λ (some : Bool). colon_cut text some (position_or_len is_colon text)) any
     ∙ ap (colon_cut text true) place
     ∙ ap (two_numbers (take colon text)) (sym (take_rest text (colon + 1)))
@@ -78,7 +74,8 @@ pub index_between-one : (text : List ℕ) → Nowhere (Passes (is_byte 58) text)
     ≡ one_number text
 index_between-one text none =
     let any : list_any is_colon text ≡ false = list_any_none is_colon text
-    (λ k d lt. not_true _ (λ here. none k (omega arith) lt (ap is_colon (get_or_default text k 0 d lt) ∙ here))) in
+    (λ k d lt. false_from_ne_true _ (λ here. none k (omega arith) lt (ap is_colon (get_or_default text k 0 d lt)
+    ∙ here))) in
     ap (λ (some : Bool). colon_cut text some (position_or_len is_colon text)) any
 
 pub no_two : (front back : List ℕ) → no_number ≡ index_number front → two_numbers front back ≡ None
@@ -110,10 +107,6 @@ parts_at front both later = cond both (Some (take (length front - later - 1) fro
 abbrev some_parts : List ℕ → List ℕ → Option (List ℕ × List ℕ)
 some_parts name inner = Some (name, inner)
 
-and_false : (b c : Bool) → c ≡ false → (b && c) ≡ false
-and_false true c e = e
-and_false false c e = refl
-
 abbrev front_of : List ℕ → List ℕ
 front_of text = take (length text - 1) text
 
@@ -121,10 +114,10 @@ pub bracketed-none : (text : List ℕ) → Nowhere (Passes (is_byte 91) (front_o
     → bracketed text ≡ None
 bracketed-none text none =
     let any : list_any opens (front_of text) ≡ false = list_any_none opens (front_of text)
-    (λ k d lt. not_true _ (λ here. none k (omega arith) lt (ap opens (get_or_default (front_of text) k 0 d lt)
+    (λ k d lt. false_from_ne_true _ (λ here. none k (omega arith) lt (ap opens (get_or_default (front_of text) k 0 d lt)
     ∙ here))) in
     ap (λ (b : Bool). parts_at (front_of text) b (suffix_len (λ x. not (opens x)) (front_of text)))
-    (and_false (eqb (get_or text (length text - 1) 0) 93) (list_any opens (front_of text)) any)
+    (and_right (eqb (get_or text (length text - 1) 0) 93) (list_any opens (front_of text)) any)
 
 pub bracketed-some : (text : List ℕ) (place : ℕ) → get_or text (length text - 1) 0 ≡ 93
     → NoneAfter (Passes (is_byte 91) (front_of text)) 0 (length (front_of text)) place → Passes (is_byte 91)
@@ -140,7 +133,7 @@ bracketed-some text place closes last here =
     let back : place + 1 - 1 ≡ place = omega arith in
     let opened : not (opens (get_or front (place + 1 - 1) 0)) ≡ false = rw back (ap not here) in
     let later : suffix_len (λ x. not (opens x)) front ≡ length front - (place + 1) = suffix_len_is (λ x. not (opens x))
-    front (place + 1) 0 (omega (arith, last.high)) (λ k low high. ap not (not_true _ (last.after k low high)))
+    front (place + 1) 0 (omega (arith, last.high)) (λ k low high. ap not (false_from_ne_true _ (last.after k low high)))
     (λ _. opened) in
     let before : length front - (length front - (place + 1)) - 1 ≡ place = omega (arith, last.high) in
     let after : length front - (length front - (place + 1)) ≡ place + 1 = omega (arith, last.high) in
