@@ -1,9 +1,10 @@
 -- A text with an insertion: it is read as the text, with the inserted tokens in between.
 use Rattle.std.proofs.Common.{◌≡◌, ℕ, ◌+◌, Bool, true, false, cond, eqb, List, [], ◌∷◌, ◌++◌}
 use Rattle.std.proofs.Common.{refl, sym, ap, ◌∙◌, arith, append_assoc, true≢false, zero-add}
-use Rattle.std.specs.Prelude.{Option, Some, Result, Ok, Err, not, ◌&&◌, ◌||◌, flat_map, is_some, map, unwrap_or}
+use Rattle.std.specs.Prelude.{Option, Some, Result, Ok, Err, not, ◌||◌, flat_map, is_some, map, unwrap_or}
 use Rattle.std.specs.List.{count_by, list_all, list_any}
 use Rattle.std.proofs.lemmas.List.Sums.{sum_by-cons}
+use Rattle.std.proofs.lemmas.Bool.{and_parts, not-true}
 use Rattle.vcd_read.specs.declared.dump.Variable.{Variable}
 use Rattle.vcd_read.specs.declared.fault.VcdFault.{VcdFault}
 use Rattle.vcd_read.specs.Tokens.{Cut, Token, all_of, cut_from, is_space, next_line, token_of, tokens, tokens_from}
@@ -299,15 +300,6 @@ module _ {V : Type 0} (with_variable : V → Variable → V) where
 abbrev pub IsWord : List ℕ → Type 0
 IsWord word = list_all (λ b. not (is_space b)) word ≡ true
 
-both_true : (a b : Bool) → (a && b) ≡ true → (a ≡ true) × (b ≡ true)
-both_true true true e = (refl, refl)
-both_true true false e = absurd (true≢false (sym e))
-both_true false b e = absurd (true≢false (sym e))
-
-negated : (b : Bool) → not b ≡ true → b ≡ false
-negated true e = absurd (true≢false (sym e))
-negated false e = refl
-
 stays_on_line : (line b : ℕ) → is_space b ≡ false → next_line line b ≡ line
 stays_on_line line b unspaced = go (eqb b 10) refl
   where
@@ -330,8 +322,8 @@ word_cut : (line : ℕ) (word rest : List ℕ) → IsWord word → starts_at_bou
 unfolding cut_from
 word_cut line [] rest is detached = spaced_cut line rest detached
 word_cut line (b ∷ word) rest is detached =
-    let both = both_true (not (is_space b)) (list_all (λ x. not (is_space x)) word) is in
-    let unspaced = negated (is_space b) both.0 in
+    let both = and_parts (not (is_space b)) (list_all (λ x. not (is_space x)) word) is in
+    let unspaced = not-true (is_space b) both.0 in
     ap (λ (l : ℕ). with_byte line b (cut_from l (word ++ rest))) (stays_on_line line b unspaced)
     ∙ ap (with_byte line b) (word_cut line word rest both.1 detached)
     ∙ rw unspaced refl

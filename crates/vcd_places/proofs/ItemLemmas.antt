@@ -2,9 +2,9 @@
 use Rattle.std.proofs.Common.{◌≡◌, ℕ, ◌^◌, ◌≤◌, Bool, true, false, cond, List, [], ◌∷◌, ◌++◌}
 use Rattle.std.proofs.Common.{Option, Some}
 use Rattle.std.proofs.Common.{None, Ok, Err, length, take, drop, refl, sym, ap, subst, ◌∙◌, append_assoc}
-use Rattle.std.proofs.Common.{true≢false}
-use Rattle.std.specs.Prelude.{IfNone, not, nat_lt, ◌&&◌, ◌||◌, unwrap_or}
+use Rattle.std.specs.Prelude.{IfNone, nat_lt, unwrap_or}
 use Rattle.std.specs.List.{cons_option, list_any}
+use Rattle.std.proofs.lemmas.Bool.{or_parts}
 use Rattle.vcd_read.specs.declared.fault.FaultKind.TheVariants.{BadToken, NumberTooLarge}
 use Rattle.vcd_read.specs.Tokens.{Token, tokens}
 use Rattle.vcd_read.specs.Reading.{tokens_after}
@@ -23,14 +23,6 @@ use Rattle.vcd_places.specs.Places.{item_times}
 use Rattle.vcd_places.specs.NextTokens.{IsNextToken, IsTakenToEnd, ends_section}
 use Rattle.vcd_places.specs.Times.{IsBetweenItems, times_left}
 use Rattle.vcd_places.proofs.InsertionLemmas.{body_extended}
-
-both_true : (a b : Bool) → (a && b) ≡ true → (a ≡ true) × (b ≡ true)
-both_true true b e = (refl, e)
-both_true false b e = absurd (true≢false (sym e))
-
-negated : (b : Bool) → not b ≡ true → b ≡ false
-negated true e = absurd (true≢false (sym e))
-negated false e = refl
 
 -- ---- the times of some items
 
@@ -187,10 +179,6 @@ module _ (t : Token) where
       → body_from ready (t ∷ ts) ≡ body_from (in_comment t.line) ts
   comment_read is ts = shape_read t ts comment (sym (comment_shaped (shape_of t.bytes) is))
 
-not_either : (a b : Bool) → (a || b) ≡ false → (a ≡ false) × (b ≡ false)
-not_either true b e = absurd (true≢false e)
-not_either false b e = (refl, e)
-
 -- the items from a token of a comment on, where `test` is whether it is `$end`, and `ts` are the tokens after it
 abbrev commented : ℕ → List Token → Bool → List BodyItem
 commented line ts test = elim test as (λ _. List BodyItem) [
@@ -204,7 +192,7 @@ past_words : (line : ℕ) (words : List Token) (last : Token) (more : List Token
 unfolding body_from
 past_words line [] last more none_ends ends = ap (commented line more) ends
 past_words line (w ∷ words) last more none_ends ends =
-    let parts = not_either (is_end w.bytes) (list_any ends_section words) none_ends in
+    let parts = or_parts (is_end w.bytes) (list_any ends_section words) none_ends in
     ap (commented line (words ++ last ∷ more)) parts.0 ∙ past_words line words last more parts.1 ends
 
 -- a comment without `$end` gives no times
@@ -213,7 +201,7 @@ endless : (line : ℕ) (words : List Token) → list_any ends_section words ≡ 
 unfolding body_from item_times
 endless line [] none_ends = refl
 endless line (w ∷ words) none_ends =
-    let parts = not_either (is_end w.bytes) (list_any ends_section words) none_ends in
+    let parts = or_parts (is_end w.bytes) (list_any ends_section words) none_ends in
     ap (λ (test : Bool). item_times (commented line words test)) parts.0 ∙ endless line words parts.1
 
 pub comment_is_item : (t : Token) (words : List Token) (last : Token) → kind_of (shape_of t.bytes) ≡ comment_kind

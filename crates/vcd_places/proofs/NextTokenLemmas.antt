@@ -1,12 +1,12 @@
 -- Tokens that are taken from a text, one after the other.
 use Rattle.std.proofs.Common.{◌≡◌, ℕ, zero, suc, ◌+◌, ◌-◌, ◌<◌, ◌≤◌, Bool, true, false, eqb, List, [], ◌∷◌, ◌++◌}
 use Rattle.std.proofs.Common.{length, get_or, take, drop, refl, sym, ap, subst, ◌∙◌, arith, append_assoc, true≢false}
-use Rattle.std.proofs.Common.{◌⊎◌, inl, inr, length-append, add-one}
+use Rattle.std.proofs.Common.{inl, inr, length-append, add-one}
 use Rattle.std.specs.Prelude.{nat_le, ◌&&◌, ◌||◌, Option, Some, None}
 use Rattle.std.specs.List.{last_or, list_any}
 use Rattle.std.specs.Option.{option_map_or}
 use Rattle.std.proofs.Math.Seq.{drop-cons, take-append_seam}
-use Rattle.std.proofs.lemmas.Bool.{cases_lt, eqb-true, le-leb}
+use Rattle.std.proofs.lemmas.Bool.{cases_lt, eqb-true, le-leb, and_parts, or_cases, or_from}
 use Rattle.std.proofs.lemmas.List.{append-nil, length-drop, length-take, take-append-drop, take_more}
 use Rattle.std.proofs.lemmas.List.Folds.{list_any-append}
 use Rattle.vcd_read.specs.Tokens.{Token, cut_from, is_space, tokens, tokens_from}
@@ -18,14 +18,6 @@ use Rattle.vcd_places.specs.NextTokens.{IsNextToken, IsTakenToEnd, IsTokenAt, en
 use Rattle.vcd_places.proofs.InsertionLemmas.{tokens_append_detached, tokens_spaced}
 
 -- ---- token boundaries
-
-both_true : (a b : Bool) → (a && b) ≡ true → (a ≡ true) × (b ≡ true)
-both_true true b e = (refl, e)
-both_true false b e = absurd (true≢false (sym e))
-
-either_true : (a b : Bool) → (a || b) ≡ true → (a ≡ true) ⊎ (b ≡ true)
-either_true true b e = inl refl
-either_true false b e = inr e
 
 pub boundary_at_start : (text : List ℕ) → is_token_boundary text 0 ≡ true
 boundary_at_start text = rw (le-leb 0 (length text) (omega arith)) refl
@@ -54,7 +46,7 @@ tokens_at_start text = refl
 pub tokens_at_boundary : (text : List ℕ) (at : ℕ) → is_token_boundary text at ≡ true
     → tokens text ≡ tokens (take at text) ++ tokens_after 1 text at
 tokens_at_boundary text at boundary =
-    elim (either_true (eqb at 0) (starts_at_boundary (drop at text)) (both_true (nat_le at (length text))
+    elim (or_cases (eqb at 0) (starts_at_boundary (drop at text)) (and_parts (nat_le at (length text))
     (eqb at 0 || starts_at_boundary (drop at text)) boundary).1) [
       | inl is ↦ subst (λ (k : ℕ). tokens text ≡ tokens (take k text) ++ tokens_after 1 text k)
           (sym (eqb-true at 0 is)) (tokens_at_start text)
@@ -176,7 +168,7 @@ module _ (text : List ℕ) (at start end : ℕ) (boundary : is_token_boundary te
 
       at_boundary : start ≡ at → ends_at_boundary (take start text) ≡ true
       at_boundary e =
-          elim (either_true (eqb at 0) (starts_at_boundary (drop at text)) (both_true (nat_le at (length text))
+          elim (or_cases (eqb at 0) (starts_at_boundary (drop at text)) (and_parts (nat_le at (length text))
           (eqb at 0 || starts_at_boundary (drop at text)) boundary).1) [
             | inl is ↦ ap (λ (n : ℕ). ends_at_boundary (take n text)) (e ∙ eqb-true at 0 is)
             | inr begins ↦
@@ -235,10 +227,6 @@ so_far_none text at = record {
   taken = sym (append-nil (tokens (take at text)));
 }
 
-neither : (a b : Bool) → a ≡ false → b ≡ false → (a || b) ≡ false
-neither true b first second = absurd (true≢false first)
-neither false b first second = second
-
 -- the next token isn't `$end`, and is taken
 pub so_far_more : (text : List ℕ) (at mid next : ℕ) (bytes : List ℕ) → IsTakenSoFar text at mid
     → IsNextToken text mid next bytes → is_end bytes ≡ false → IsTakenSoFar text at next
@@ -247,8 +235,8 @@ so_far_more text at mid next bytes so one no_end =
     record {
       words = so.words ++ token ∷ [];
       none = list_any-append ends_section so.words (token ∷ [])
-          ∙ neither (list_any ends_section so.words) (is_end bytes || false) so.none
-          (neither (is_end bytes) false no_end refl);
+          ∙ or_from (list_any ends_section so.words) (is_end bytes || false) so.none
+          (or_from (is_end bytes) false no_end refl);
       moves = omega (arith, so.moves, one.moves);
       left = so.left ∙ ap (λ (ts : List Token). so.words ++ ts) one.left
           ∙ sym (append_assoc so.words (token ∷ []) (tokens_after 1 text next));
@@ -300,5 +288,5 @@ pub none_of_next : (p : Token → Bool) (text : List ℕ) (at next : ℕ) (bytes
 none_of_next p text at next bytes one none differs =
     ap (list_any p) one.taken
     ∙ list_any-append p (tokens (take at text)) (record { line = one.line; bytes = bytes } ∷ [])
-    ∙ neither (list_any p (tokens (take at text))) (p (record { line = one.line; bytes = bytes }) || false) none
-    (neither (p (record { line = one.line; bytes = bytes })) false differs refl)
+    ∙ or_from (list_any p (tokens (take at text))) (p (record { line = one.line; bytes = bytes }) || false) none
+    (or_from (p (record { line = one.line; bytes = bytes })) false differs refl)

@@ -6,6 +6,7 @@ use Rattle.std.specs.List.{list_any}
 use Rattle.std.proofs.lemmas.List.{append-nil}
 use Rattle.std.proofs.lemmas.List.Folds.{list_any-append}
 use Rattle.std.proofs.lemmas.Slice.Eq.{bytes_eq-Decides}
+use Rattle.std.proofs.lemmas.Bool.{and_from, and_parts, not-true, or_parts}
 use Rattle.vcd_read.specs.Tokens.{Token, cut_from, tokens}
 use Rattle.vcd_read.specs.Reading.{tokens_after}
 use Rattle.vcd_read.specs.Header.{Header, HeaderItem, Section, between, ends_definitions, header_from, inside, is_end}
@@ -19,22 +20,6 @@ use Rattle.vcd_places.specs.Times.{IsBetweenItems, times_left}
 use Rattle.vcd_places.proofs.InsertionLemmas.{IsBetweenSections, after_items, body_extended, header_split}
 use Rattle.vcd_places.proofs.ItemLemmas.{section_taken, token}
 use Rattle.vcd_places.proofs.NextTokenLemmas.{tokens_at_boundary, tokens_detached}
-
-both_true : (a b : Bool) → (a && b) ≡ true → (a ≡ true) × (b ≡ true)
-both_true true b e = (refl, e)
-both_true false b e = absurd (true≢false (sym e))
-
-and_true : (a b : Bool) → a ≡ true → b ≡ true → (a && b) ≡ true
-and_true true b first second = second
-and_true false b first second = absurd (true≢false (sym first))
-
-negated : (b : Bool) → not b ≡ true → b ≡ false
-negated true e = absurd (true≢false (sym e))
-negated false e = refl
-
-not_either : (a b : Bool) → (a || b) ≡ false → (a ≡ false) × (b ≡ false)
-not_either true b e = absurd (true≢false e)
-not_either false b e = (refl, e)
 
 -- ---- a section
 
@@ -61,7 +46,7 @@ section_ends section [] last more none ends is =
     ap (λ (test : Bool). continued section last more test (ends_definitions section)) ends
     ∙ ap (continued section last more true) is
 section_ends section (w ∷ words) last more none ends is =
-    let parts = not_either (is_end w.bytes) (list_any ends_section words) none in
+    let parts = or_parts (is_end w.bytes) (list_any ends_section words) none in
     ap (λ (test : Bool). continued section w (words ++ last ∷ more) test (ends_definitions section)) parts.0
     ∙ section_ends (with_word section w.bytes) words last more parts.1 ends is
 
@@ -74,7 +59,7 @@ section_whole section [] last more none ends is =
     ap (λ (test : Bool). continued section last more test (ends_definitions section)) ends
     ∙ ap (continued section last more true) is
 section_whole section (w ∷ words) last more none ends is =
-    let parts = not_either (is_end w.bytes) (list_any ends_section words) none in
+    let parts = or_parts (is_end w.bytes) (list_any ends_section words) none in
     ap (λ (test : Bool). continued section w (words ++ last ∷ more) test (ends_definitions section)) parts.0
     ∙ section_whole (with_word section w.bytes) words last more parts.1 ends is
 
@@ -83,7 +68,7 @@ section_endless : (section : Section) (words : List Token) → list_any ends_sec
 unfolding header_from
 section_endless section [] none = refl
 section_endless section (w ∷ words) none =
-    let parts = not_either (is_end w.bytes) (list_any ends_section words) none in
+    let parts = or_parts (is_end w.bytes) (list_any ends_section words) none in
     ap (λ (test : Bool). (continued section w words test (ends_definitions section)).body) parts.0
     ∙ section_endless (with_word section w.bytes) words parts.1
 
@@ -100,8 +85,8 @@ header_between_sections : (front : List ℕ) → is_between_sections front ≡ t
     → IsBetweenSections (header_from between (tokens front))
 header_between_sections front between_sections =
     let header : Header = header_from between (tokens front) in
-    let parts = both_true (not (is_some header.body)) (not (list_any is_unfinished header.items)) between_sections in
-    (negated (is_some header.body) parts.0, negated (list_any is_unfinished header.items) parts.1)
+    let parts = and_parts (not (is_some header.body)) (not (list_any is_unfinished header.items)) between_sections in
+    (not-true (is_some header.body) parts.0, not-true (list_any is_unfinished header.items) parts.1)
 
 pub between_sections_at_start : (text : List ℕ) → is_between_sections (take 0 text) ≡ true
 unfolding header_from cut_from
@@ -208,12 +193,12 @@ module _ (text : List ℕ) (at next : ℕ) (bytes : List ℕ) (between_sections 
       let len : length bytes ≡ 15 = ap (λ (bs : List ℕ). length bs) word in
       let begins : take 15 (drop start text) ≡ codes "$enddefinitions" =
       sym (stands.bytes_are ∙ ap (λ (n : ℕ). take n (drop start text)) len) ∙ word in
-      and_true (ends_at_boundary (take start text) && is_between_sections (take start text))
+      and_from (ends_at_boundary (take start text) && is_between_sections (take start text))
       (begins_with_token (codes "$enddefinitions") (drop start text))
-      (and_true (ends_at_boundary (take start text)) (is_between_sections (take start text)) stands.start_detached
+      (and_from (ends_at_boundary (take start text)) (is_between_sections (take start text)) stands.start_detached
       (ap (λ (ts : List Token). not (is_some (header_from between ts).body)
       && not (list_any is_unfinished (header_from between ts).items)) stands.same_tokens ∙ between_sections))
-      (and_true (bytes_eq (take 15 (drop start text)) (codes "$enddefinitions"))
+      (and_from (bytes_eq (take 15 (drop start text)) (codes "$enddefinitions"))
       (starts_at_boundary (drop 15 (drop start text)))
       ((bytes_eq-Decides (take 15 (drop start text)) (codes "$enddefinitions")).1 begins)
       (ap (λ (n : ℕ). starts_at_boundary (drop n (drop start text))) (sym len) ∙ stands.end_detached))

@@ -4,7 +4,7 @@ use Rattle.std.proofs.Common.{Result}
 use Rattle.std.proofs.Common.{Ok, Err, refl, sym, ap, subst, ◌∙◌, arith, true≢false, ◌⊎◌, inl, inr, length}
 use Rattle.std.specs.Prelude.{nat_lt, ◌||◌}
 use Rattle.std.specs.List.{cons_option}
-use Rattle.std.proofs.lemmas.Bool.{eq-eqb, eqb-true}
+use Rattle.std.proofs.lemmas.Bool.{eq-eqb, eqb-true, or_cases, or_right}
 use Rattle.std.proofs.lemmas.Bool.Decides.{nat_tests}
 use Rattle.vcd_read.specs.declared.fault.FaultKind.{FaultKind}
 use Rattle.vcd_read.specs.declared.fault.FaultKind.TheVariants.{TimeBackwards}
@@ -125,14 +125,6 @@ module _ (nets : List Net) where
   abbrev IsKnown : ℕ → ℕ → List BodyItem → Type 0
   IsKnown now time items = (time ≡ now) ⊎ (is_among time (item_times items) ≡ true)
 
-  either_true : (a b : Bool) → (a || b) ≡ true → (a ≡ true) ⊎ (b ≡ true)
-  either_true true b e = inl refl
-  either_true false b e = inr e
-
-  second_true : (a b : Bool) → b ≡ true → (a || b) ≡ true
-  second_true true b e = refl
-  second_true false b e = e
-
   first_true : (n time : ℕ) (b : Bool) → time ≡ n → (eqb n time || b) ≡ true
   first_true n time b e = ap (λ (test : Bool). test || b) (eq-eqb n time (sym e))
 
@@ -147,18 +139,18 @@ module _ (nets : List Net) where
       let told = timed_context s read.0 line digits nets read.1 in
       let n : number digits ≡ told.0 = time_number digits told.0 (ap if_time told.1) in
       inr (subst (λ (r : Result ℕ FaultKind). is_among time (cons_option (if_time r) (item_times items)) ≡ true)
-      (sym told.1) (elim (either_true (eqb (number digits) time) (is_among time (times_from (number digits) items))
+      (sym told.1) (elim (or_cases (eqb (number digits) time) (is_among time (times_from (number digits) items))
       among) [
         | inl is ↦ first_true told.0 time (is_among time (item_times items)) (sym (eqb-true (number digits) time is)
             ∙ n)
         | inr later ↦ elim (times_known items read.0 end (number digits) time read.2 later) [
           | inl is ↦ first_true told.0 time (is_among time (item_times items)) (is ∙ n)
-          | inr rest ↦ second_true (eqb told.0 time) (is_among time (item_times items)) rest
+          | inr rest ↦ or_right (eqb told.0 time) (is_among time (item_times items)) rest
         ]
       ]))
   times_known (change line digits code ∷ items) s end now time e among =
       let read = first_read (change line digits code) items s end e in
-      elim (either_true (eqb now time) (is_among time (times_from now items)) among) [
+      elim (or_cases (eqb now time) (is_among time (times_from now items)) among) [
         | inl is ↦ inl (sym (eqb-true now time is))
         | inr later ↦ times_known items read.0 end now time read.2 later
       ]
