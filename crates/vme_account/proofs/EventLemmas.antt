@@ -3,8 +3,8 @@ use Rattle.std.proofs.Common.{◌≡◌, ◌+◌, ◌<◌, ◌≤◌, ◌&&◌, 
 use Rattle.std.proofs.Common.{◌∙◌, add-one, arith}
 use Rattle.std.specs.Prelude.{Option, None, Some, is_some, nat_le, unwrap_or, if◌then◌else◌}
 use Rattle.std.proofs.lemmas.Bool.Decides.{nat_tests}
+use Rattle.std.proofs.lemmas.Bool.{cases_Bool}
 use Rattle.vme_trace.specs.Instants.{any, greatest, least}
-use Rattle.vme_trace.proofs.OpenTransfers.{bool_cases}
 use Rattle.vme_trace.proofs.Ranges.{any-least, least-none}
 
 greatest-step : (p : ℕ → Bool) (f n : ℕ) → greatest p f (n + 1) ≡ (if nat_le f n && p n then Some n else greatest p f n)
@@ -18,7 +18,7 @@ least-step p f n = rw add-one refl
 
 any-some : (p : ℕ → Bool) (f n : ℕ) → any p f n ≡ is_some (least p f n)
 any-some p f n =
-    elim (bool_cases (any p f n)) [
+    elim (cases_Bool (any p f n)) [
       | inl found ↦ let at = any-least p f n found in rw (found, at.1) refl
       | inr none ↦ rw (none, least-none p f n none) refl
     ]

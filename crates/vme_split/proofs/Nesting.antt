@@ -5,6 +5,7 @@ use Rattle.std.proofs.Common.{inl, inr, ◌⊎◌, All, Contains}
 use Rattle.std.specs.Prelude.{Option, None, Some, IfSome, ◌==◌, nat_lt, nat_le, option_map, option_and_then}
 use Rattle.std.proofs.lemmas.Bool.Decides.{nat_tests}
 use Rattle.std.proofs.lemmas.List.Elements.{Contains-append_left, Contains-append_right}
+use Rattle.std.proofs.lemmas.Bool.{cases_Bool}
 use Rattle.vme_trace.specs.Instants.{any, least, greatest, those}
 use Rattle.vme_trace.specs.LineNumbers.{AS, BBSY, grant}
 use Rattle.vme_trace.specs.Levels.{Levels}
@@ -19,7 +20,7 @@ use Rattle.vme_trace.specs.Rules.{is_broken, is_option_equal}
 use Rattle.vme_trace.specs.declared.rule.Rule.TheVariants as rule
 use Rattle.vme_trace.specs.declared.class.Class.{Class}
 use Rattle.vme_trace.specs.declared.class.Class.TheVariants as class
-use Rattle.vme_trace.proofs.OpenTransfers.{bool_cases, in_transfer-is}
+use Rattle.vme_trace.proofs.OpenTransfers.{in_transfer-is}
 use Rattle.vme_trace.proofs.Ranges.{every-more, IsLeast, any-fails, fails-any, least-found, least-none-any, clash}
 use Rattle.vme_listing.specs.Recorded.{cycle_row, transfer_row, answered_row, rows_before}
 use Rattle.vme_listing.specs.declared.row.Row.{Row}
@@ -78,7 +79,7 @@ unequal m n h = grind (arith, nat_tests)
 -- where line l is low near r, it is low at an instant k: r or the one before
 line_near : (t : Trace) (l s r : ℕ) → s < r → near (low t l) r ≡ true → (k : ℕ) × (s ≤ k) × (k ≤ r) × (r ≤ k + 1)
     × (low t l k ≡ true)
-line_near t l s r after h = by (bool_cases (low t l r))
+line_near t l s r after h = by (cases_Bool (low t l r))
   where
     first : (a b : Bool) → (a || b) ≡ true → b ≡ false → a ≡ true
     first true b e f = refl

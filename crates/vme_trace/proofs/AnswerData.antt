@@ -1,6 +1,7 @@
 -- The instant whose levels give the data of an answer.
-use Rattle.std.proofs.Common.{◌≡◌, ℕ, ◌+◌, ◌-◌, ◌<◌, ◌≤◌, Bool, true, false, ◌&&◌, ◌||◌, not, refl, ◌∙◌, ap, arith, inl}
+use Rattle.std.proofs.Common.{◌≡◌, ℕ, ◌+◌, ◌-◌, ◌<◌, ◌≤◌, Bool, true, false, ◌&&◌, ◌||◌, refl, ◌∙◌, ap, arith, inl}
 use Rattle.std.proofs.Common.{inr, ◌⊎◌}
+use Rattle.std.proofs.lemmas.Bool.{and_parts, not-true}
 use Rattle.vme_trace.specs.LineNumbers.{DS0, DS1}
 use Rattle.vme_trace.specs.Levels.{is_low, is_high}
 use Rattle.vme_trace.specs.Lanes.{lanes_at}
@@ -11,18 +12,6 @@ use Rattle.vme_trace.specs.Transfers.{strobes_high, transfer_starts, lasts, answ
 use Rattle.vme_trace.specs.declared.level.Level.{Level}
 use Rattle.vme_trace.specs.declared.level.Level.TheVariants.{Low, High, Unknown}
 use Rattle.vme_trace.proofs.Ranges.{any-fails}
-
-first_of_two : (a b : Bool) → (a && b) ≡ true → a ≡ true
-first_of_two true b h = refl
-first_of_two false b h = absurd (cc)
-
-second_of_two : (a b : Bool) → (a && b) ≡ true → b ≡ true
-second_of_two true b h = h
-second_of_two false b h = absurd (cc)
-
-not_true : (b : Bool) → not b ≡ true → b ≡ false
-not_true true h = absurd (cc)
-not_true false h = refl
 
 low_is_not_high : (x y : Level) → (is_low x || is_low y) ≡ true → (is_high x && is_high y) ≡ false
 low_is_not_high Low y h = refl
@@ -49,13 +38,13 @@ module _ (t : Trace) (span : Stretch) where
   -- a strobe is low where a transfer starts
   open_at_start : (i : ℕ) → transfer_starts t span i ≡ true → strobes_high t i ≡ false
   unfolding transfer_starts low high
-  open_at_start i starts = low_is_not_high (level t DS0 i) (level t DS1 i) (second_of_two _ _ starts)
+  open_at_start i starts = low_is_not_high (level t DS0 i) (level t DS1 i) (and_parts _ _ starts).1
 
   open_since : (i r k : ℕ) → answers t span i r ≡ true → i < k → k < r → strobes_high t k ≡ false
   unfolding answers lasts
   open_since i r k found after before =
       any-fails (strobes_high t) (i + 1) r k
-      (not_true _ (second_of_two _ _ (first_of_two _ _ (first_of_two _ _ found)))) (omega arith) before
+      (not-true _ (and_parts _ _ (and_parts _ _ (and_parts _ _ found).0).0).1) (omega arith) before
 
   -- where the transfer that starts at i is answered at a later r, no transfer starts at r
   pub starts_apart : (i r : ℕ) → transfer_starts t span i ≡ true → answers t span i r ≡ true → i < r → transfer_starts t

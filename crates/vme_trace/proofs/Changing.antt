@@ -5,6 +5,7 @@ use Rattle.std.specs.Prelude.{None, Some, ◌==◌, nat_le, slice_set}
 use Rattle.std.proofs.lemmas.Bool.Decides.{nat_tests}
 use Rattle.std.proofs.lemmas.List.{get_or-set_other}
 use Rattle.std.proofs.lemmas.Option.{unwrap_or-slice_get}
+use Rattle.std.proofs.lemmas.Bool.{and_parts, not-false, not-true, or_parts}
 use Rattle.vme_trace.specs.Instants.{any, least}
 use Rattle.vme_trace.specs.LineNumbers.{line_count, SYSRESET, has_line, is_control}
 use Rattle.vme_trace.specs.Levels.{Levels, level_at, set_level, rests_high, is_idle, is_idle_on, is_reset, is_lost}
@@ -17,14 +18,6 @@ use Rattle.vme_trace.specs.declared.level.Level.TheVariants.{Low, High, Unknown}
 use Rattle.vme_trace.specs.declared.step.Change.{Change}
 use Rattle.vme_trace.proofs.Ranges.{any-fails, fails-any, any-alike, least-is, least-none, clash}
 
-or_false : (a b : Bool) → (a || b) ≡ false → (a ≡ false) × (b ≡ false)
-or_false true b h = absurd (cc)
-or_false false b h = (refl, h)
-
-and_true : (a b : Bool) → (a && b) ≡ true → (a ≡ true) × (b ≡ true)
-and_true true b h = (refl, h)
-and_true false b h = absurd (cc)
-
 differs : (m l : ℕ) → (m == l) ≡ false → l ≢ m
 differs m l h e = absurd (same m l h e)
   where
@@ -35,17 +28,9 @@ kept_set : (v : Levels) (m l : ℕ) (x : Level) → (m == l) ≡ false → level
 kept_set v m l x h = unwrap_or-slice_get (slice_set v.levels m x) l Unknown
     ∙ (get_or-set_other v.levels m l x Unknown (differs m l h) ∙ sym (unwrap_or-slice_get v.levels l Unknown))
 
-true_of_not : (b : Bool) → not b ≡ false → b ≡ true
-true_of_not true h = refl
-true_of_not false h = absurd (cc)
-
-false_of_not : (b : Bool) → not b ≡ true → b ≡ false
-false_of_not true h = absurd (cc)
-false_of_not false h = refl
-
 each_idle : (v : Levels) (l : ℕ) → is_idle v ≡ true → l < line_count → is_idle_on v l ≡ true
 unfolding is_idle
-each_idle v l idle below = true_of_not _ (any-fails (λ k. not (is_idle_on v k)) 0 line_count l (false_of_not _ idle)
+each_idle v l idle below = not-false _ (any-fails (λ k. not (is_idle_on v k)) 0 line_count l (not-true _ idle)
     (omega arith) below)
 
 idle_known : (control strict reset : Bool) (x : Level) → cond (not control) true (cond strict (is_high x) (is_known x))
@@ -91,20 +76,20 @@ pub level-kept : (v : Levels) (cs : List Change) (l : ℕ) → is_changed cs l �
 unfolding changed
 level-kept v [] l h = refl
 level-kept v (c ∷ cs) l h =
-    let both = or_false (c.line == l) (is_changed cs l) h in
+    let both = or_parts (c.line == l) (is_changed cs l) h in
     level-kept (set_level v c.line c.level) cs l both.1 ∙ kept_set v c.line l c.level both.0
 
 untouched : (slots : ℕ) (cs : List Change) (l : ℕ) → touches_control slots cs ≡ false → is_control slots l ≡ true
     → is_changed cs l ≡ false
 untouched slots [] l h k = refl
 untouched slots (c ∷ cs) l h k =
-    let both = or_false (is_control slots c.line) (touches_control slots cs) h in
+    let both = or_parts (is_control slots c.line) (touches_control slots cs) h in
     rw (untouched slots cs l both.1 k) (other (c.line == l) refl)
   where
     other : (b : Bool) → (c.line == l) ≡ b → (b || false) ≡ false
     other false e = refl
     other true e = absurd (clash (is_control slots l) k (ap (is_control slots) (sym (equal c.line l e))
-        ∙ (or_false (is_control slots c.line) (touches_control slots cs) h).0))
+        ∙ (or_parts (is_control slots c.line) (touches_control slots cs) h).0))
       where
         equal : (a b : ℕ) → (a == b) ≡ true → a ≡ b
         equal a b h = grind (arith, nat_tests)
@@ -147,8 +132,8 @@ below_changes : (v : Levels) (lowest l : ℕ) (cs : List Change) → are_changes
 unfolding are_changes
 below_changes v lowest l [] h b = refl
 below_changes v lowest l (c ∷ cs) h b =
-    let parts = and_true _ _ h in
-    let low = and_true _ _ (and_true _ _ parts.0).0 in
+    let parts = and_parts _ _ h in
+    let low = and_parts _ _ (and_parts _ _ parts.0).0 in
     rw (below_changes v (c.line + 1) l cs parts.1 (past lowest c.line l low.0 b).0) (past lowest c.line l low.0 b).1
   where
     past : (k m l : ℕ) → nat_le k m ≡ true → l < k → (l < m + 1) × (((m == l) || false) ≡ false)
@@ -194,8 +179,8 @@ module _ (v now : Levels) (few : v.slots ≤ 21) where
   first_lost lowest [] h kept = sym (least-none (is_lost now) 0 line_count (fails-any (is_lost now) 0 line_count
       (λ l a b. kept l refl)))
   first_lost lowest (c ∷ cs) h kept =
-      let parts = and_true _ _ h in
-      let exists = (and_true _ _ (and_true _ _ parts.0).0).1 in
+      let parts = and_parts _ _ h in
+      let exists = (and_parts _ _ (and_parts _ _ parts.0).0).1 in
       lost_here c cs (is_lost now c.line) refl (exists_below v.slots c.line few exists)
       (fails-any (is_lost now) 0 c.line
       (λ l a b. kept l (rw (unlike c.line l b, below_changes v (c.line + 1) l cs parts.1 (one_more l c.line b))
@@ -206,15 +191,11 @@ none_lost : (v : Levels) (l : ℕ) → v.slots ≤ 21 → loses_control v ≡ fa
 unfolding loses_control
 none_lost v l few h = by_test (is_lost v l) refl
   where
-    control_exists : (a b : Bool) → (a && b) ≡ true → a ≡ true
-    control_exists true b h = refl
-    control_exists false b h = absurd (cc)
-
     by_test : (b : Bool) → is_lost v l ≡ b → b ≡ false
     by_test false e = refl
     by_test true e = absurd (clash (is_lost v l) e (any-fails (is_lost v) 0 line_count l h (omega arith)
-        (exists_below v.slots l few (control_exists (has_line v.slots l) _ (control_exists (is_control v.slots l) _
-        (control_exists _ _ e))))))
+        (exists_below v.slots l few (and_parts (has_line v.slots l) _ (and_parts (is_control v.slots l) _
+        (and_parts _ _ e).0).0).0)))
 
 -- where the bus wasn't reset before and no line was lost, the first changed line that is lost is the least lost line
 pub lost-least : (v : Levels) (cs : List Change) → v.slots ≤ 21 → are_changes v 0 cs ≡ true → loses_control v ≡ false
@@ -226,5 +207,5 @@ lost-least v cs few h held unreset = first_lost v (changed v cs) few 0 cs h
 pub lost-untouched : (now : Levels) (cs : List Change) → touches_control now.slots cs ≡ false → lost_among now cs ≡ None
 lost-untouched now [] h = refl
 lost-untouched now (c ∷ cs) h =
-    let both = or_false (is_control now.slots c.line) (touches_control now.slots cs) h in
+    let both = or_parts (is_control now.slots c.line) (touches_control now.slots cs) h in
     rw (both.0, lost-untouched now cs both.1) refl

@@ -2,6 +2,7 @@
 use Rattle.std.proofs.Common.{◌≡◌, ℕ, ◌+◌, ◌-◌, ◌<◌, ◌≤◌, Bool, true, false, ◌&&◌, ◌||◌, not, refl, sym, ◌∙◌, ap, arith}
 use Rattle.std.specs.Prelude.{◌==◌, None, nat_le}
 use Rattle.std.proofs.lemmas.Bool.Decides.{nat_tests}
+use Rattle.std.proofs.lemmas.Bool.{not-false, not-true}
 use Rattle.vme_trace.specs.Instants.{any, every, least}
 use Rattle.vme_trace.proofs.Ranges.{any-fails, any-step, clash, every-empty, fails-any, least-none}
 
@@ -80,15 +81,7 @@ module _ (p : ℕ → Bool) (first number count : ℕ) where
           by_test false e = grind (arith, nat_tests)
 
 holds_at : (p : ℕ → Bool) (f n i : ℕ) → every p f n ≡ true → f ≤ i → i < n → p i ≡ true
-holds_at p f n i h a b = unfailed (p i) (any-fails (λ k. not (p k)) f n i (unmet (any (λ k. not (p k)) f n) h) a b)
-  where
-    unmet : (b : Bool) → not b ≡ true → b ≡ false
-    unmet true h = absurd (cc)
-    unmet false h = refl
-
-    unfailed : (b : Bool) → not b ≡ false → b ≡ true
-    unfailed true h = refl
-    unfailed false h = absurd (cc)
+holds_at p f n i h a b = not-false (p i) (any-fails (λ k. not (p k)) f n i (not-true (any (λ k. not (p k)) f n) h) a b)
 
 -- where p holds of all of a range, and q only of numbers of that range of which p doesn't hold, q has no least number
 pub least-outside : (p q : ℕ → Bool) (first end n : ℕ) → every p first end ≡ true

@@ -1,7 +1,8 @@
 -- Each rule is in the list of all rules, at its number: what holds of all in the list holds of each.
-use Rattle.std.proofs.Common.{◌≡◌, ℕ, zero, suc, Bool, true, false, ◌&&◌, refl, sym, ◌∙◌, ap}
+use Rattle.std.proofs.Common.{◌≡◌, ℕ, zero, suc, Bool, true, refl, sym, ◌∙◌, ap}
 use Rattle.std.specs.Prelude.{List, [], ◌∷◌, Some, slice_get}
 use Rattle.std.specs.List.{list_all}
+use Rattle.std.proofs.lemmas.Bool.{and_parts}
 use Rattle.vme_trace.specs.Names.{rule_number}
 use Rattle.vme_trace.specs.Rules.{all_rules}
 use Rattle.vme_trace.specs.declared.rule.Rule.{Rule}
@@ -15,19 +16,11 @@ listed r = refl
 pub same-rule : (q r : Rule) → rule_number q ≡ rule_number r → q ≡ r
 same-rule q r e = let same : Some q ≡ Some r = sym (listed q) ∙ ap (slice_get all_rules) e ∙ listed r in cc
 
-first : (a b : Bool) → (a && b) ≡ true → a ≡ true
-first true b h = refl
-first false b h = absurd (cc)
-
-others : (a b : Bool) → (a && b) ≡ true → b ≡ true
-others true b h = h
-others false b h = absurd (cc)
-
 holds_at : (p : Rule → Bool) (rs : List Rule) (n : ℕ) (r : Rule) → list_all p rs ≡ true → slice_get rs n ≡ Some r
     → p r ≡ true
 holds_at p [] n r h e = absurd (cc)
-holds_at p (q ∷ rs) zero r h e = let same : q ≡ r = cc in ap p (sym same) ∙ first (p q) (list_all p rs) h
-holds_at p (q ∷ rs) (suc n) r h e = holds_at p rs n r (others (p q) (list_all p rs) h) e
+holds_at p (q ∷ rs) zero r h e = let same : q ≡ r = cc in ap p (sym same) ∙ (and_parts (p q) (list_all p rs) h).0
+holds_at p (q ∷ rs) (suc n) r h e = holds_at p rs n r (and_parts (p q) (list_all p rs) h).1 e
 
 -- a test that all rules of the list pass is passed by each rule
 pub every-rule : (p : Rule → Bool) → list_all p all_rules ≡ true → (r : Rule) → p r ≡ true

@@ -1,38 +1,21 @@
 -- The stretches of a recording that are judged: what is known of each, where they are, and how they are found from
 -- instant to instant.
-use Rattle.std.proofs.Common.{◌≡◌, ℕ, zero, suc, ◌+◌, ◌<◌, ◌≤◌, Bool, true, false, ◌&&◌, ◌||◌, not, List, [], ◌∷◌, ◌++◌}
+use Rattle.std.proofs.Common.{◌≡◌, ℕ, zero, suc, ◌+◌, ◌<◌, ◌≤◌, Bool, true, false, ◌&&◌, ◌||◌, List, [], ◌∷◌, ◌++◌}
 use Rattle.std.proofs.Common.{map, refl, sym, ◌∙◌, ap, arith, inl, inr, ◌⊎◌, cond, subst}
 use Rattle.std.specs.Prelude.{Option, None, Some, nat_le, unwrap_or}
 use Rattle.std.proofs.lemmas.Bool.Decides.{nat_tests}
 use Rattle.std.proofs.lemmas.List.{map-append}
+use Rattle.std.proofs.lemmas.Bool.{and_parts, cases_Bool, not-true, or_from, or_left, or_right}
 use Rattle.vme_trace.specs.Instants.{any, least, greatest, those}
 use Rattle.vme_trace.specs.Trace.{Trace, levels_at, last_instant}
 use Rattle.vme_trace.specs.Judged.{Awaits, Stretch, IsSpanOf, span_from, span_end, is_idle_at, is_reset_at}
 use Rattle.vme_trace.specs.Judged.{loses_control_at, stops_at, last_reset, was_idle, is_cut_off, span_starts}
 use Rattle.vme_trace.specs.Judged.{judged_spans, spans_after}
 use Rattle.vme_trace.proofs.Changing.{idle-unlost, idle-unreset, reset-unlost}
-use Rattle.vme_trace.proofs.OpenTransfers.{ReadsStrobes, bool_cases}
+use Rattle.vme_trace.proofs.OpenTransfers.{ReadsStrobes}
 use Rattle.vme_trace.proofs.Ranges.{any-fails, fails-any, any-least, least-found, those-none, those-more, those-same}
 use Rattle.vme_trace.proofs.Ranges.{those-next, those-split, clash}
 use Rattle.vme_trace.proofs.SpanEnds.{not_lost, not_reset, reads_strobes}
-
-and_true : (a b : Bool) → (a && b) ≡ true → (a ≡ true) × (b ≡ true)
-and_true true b h = (refl, h)
-and_true false b h = absurd (cc)
-
-false_of_not : (b : Bool) → not b ≡ true → b ≡ false
-false_of_not true h = absurd (cc)
-false_of_not false h = refl
-
-both_false : (a b : Bool) → a ≡ false → b ≡ false → (a || b) ≡ false
-both_false a b h k = rw (h, k) refl
-
-or_first : (a b : Bool) → a ≡ true → (a || b) ≡ true
-or_first a b h = rw h refl
-
-or_second : (a b : Bool) → b ≡ true → (a || b) ≡ true
-or_second true b h = refl
-or_second false b h = h
 
 zero_le : (n : ℕ) → nat_le 0 n ≡ true
 zero_le n = grind (arith, nat_tests)
@@ -87,7 +70,7 @@ module _ (t : Trace) where
 
   pub reset-busy_at : (n : ℕ) → is_reset_at t n ≡ true → is_idle_at t n ≡ false
   reset-busy_at n h =
-      elim (bool_cases (is_idle_at t n)) [
+      elim (cases_Bool (is_idle_at t n)) [
         | inl idle ↦ absurd (clash (is_reset_at t n) h (idle-unreset_at n idle))
         | inr busy ↦ busy
       ]
@@ -95,8 +78,8 @@ module _ (t : Trace) where
   -- where a stretch stops, the bus isn't idle
   pub stops-busy_at : (n : ℕ) → stops_at t n ≡ true → is_idle_at t n ≡ false
   stops-busy_at n h =
-      elim (bool_cases (is_idle_at t n)) [
-        | inl idle ↦ absurd (clash (stops_at t n) h (both_false _ _ (idle-unreset_at n idle) (idle-unlost_at n idle)))
+      elim (cases_Bool (is_idle_at t n)) [
+        | inl idle ↦ absurd (clash (stops_at t n) h (or_from _ _ (idle-unreset_at n idle) (idle-unlost_at n idle)))
         | inr busy ↦ busy
       ]
 
@@ -154,11 +137,11 @@ module _ (t : Trace) where
   pub awaits-next : (n : ℕ) → Awaits t n → is_idle_at t n ≡ false → Awaits t (suc n)
   awaits-next n w busy = record {
     unjudged =
-        elim (bool_cases (is_reset_at t n)) [
+        elim (cases_Bool (is_reset_at t n)) [
           | inl reset ↦ was_idle-reset n reset
-          | inr unreset ↦ was_idle-next n unreset ∙ both_false _ _ w.unjudged busy
+          | inr unreset ↦ was_idle-next n unreset ∙ or_from _ _ w.unjudged busy
         ];
-    uncut = cut-next n ∙ both_false _ _ w.uncut (rw w.unjudged (ends_in_false (loses_control_at t n)));
+    uncut = cut-next n ∙ or_from _ _ w.uncut (rw w.unjudged (ends_in_false (loses_control_at t n)));
   }
     where
       ends_in_false : (b : Bool) → (b && false) ≡ false
@@ -179,34 +162,34 @@ module _ (t : Trace) where
   -- a stretch starts at an idle instant
   pub starts-idle : (s : ℕ) → span_starts t s ≡ true → is_idle_at t s ≡ true
   unfolding span_starts
-  starts-idle s h = (and_true _ _ (and_true _ _ h).0).0
+  starts-idle s h = (and_parts _ _ (and_parts _ _ h).0).0
 
   starts_awaited : (s : ℕ) → span_starts t s ≡ true → Awaits t s
   unfolding span_starts
   starts_awaited s h = record {
-    unjudged = false_of_not _ (and_true _ _ (and_true _ _ h).0).1;
-    uncut = false_of_not _
-        (and_true _ _ h).1;
+    unjudged = not-true _ (and_parts _ _ (and_parts _ _ h).0).1;
+    uncut = not-true _
+        (and_parts _ _ h).1;
   }
 
   -- no stretch starts after one was cut off, nor where the bus was idle since the last reset
   pub cut-no_start : (n : ℕ) → any (is_cut_off t) 0 n ≡ true → span_starts t n ≡ false
   cut-no_start n h =
-      elim (bool_cases (span_starts t n)) [
+      elim (cases_Bool (span_starts t n)) [
         | inl starts ↦ absurd (clash _ h (starts_awaited n starts).uncut)
         | inr none ↦ none
       ]
 
   pub idle-no_start : (n : ℕ) → was_idle t n ≡ true → span_starts t n ≡ false
   idle-no_start n h =
-      elim (bool_cases (span_starts t n)) [
+      elim (cases_Bool (span_starts t n)) [
         | inl starts ↦ absurd (clash _ h (starts_awaited n starts).unjudged)
         | inr none ↦ none
       ]
 
   pub busy-no_start : (n : ℕ) → is_idle_at t n ≡ false → span_starts t n ≡ false
   busy-no_start n h =
-      elim (bool_cases (span_starts t n)) [
+      elim (cases_Bool (span_starts t n)) [
         | inl starts ↦ absurd (clash _ (starts-idle n starts) h)
         | inr none ↦ none
       ]
@@ -217,7 +200,7 @@ module _ (t : Trace) where
   cut-stays m (suc n) h from =
       elim (last_or_before m n from) [
         | inl e ↦ ap (any (is_cut_off t) 0) (sym e) ∙ h
-        | inr before ↦ cut-next n ∙ or_first _ _ (cut-stays m n h before)
+        | inr before ↦ cut-next n ∙ or_left _ _ (cut-stays m n h before)
       ]
 
   -- a stretch ends after its start, at the latest one after the last instant
@@ -274,22 +257,22 @@ module _ (t : Trace) where
   in_started s zero h =
       let e : s ≡ 0 = omega (arith, h.from) in
       let starts = subst (λ i. span_starts t i ≡ true) e h.starts in (
-        was_idle-next 0 (in-unreset s 0 h) ∙ or_second _ _ (starts-idle 0 starts),
-        cut-next 0 ∙ both_false _ _ cut-first (ap (λ b. b && was_idle t 0) (in-unlost s 0 h)),
+        was_idle-next 0 (in-unreset s 0 h) ∙ or_right _ _ (starts-idle 0 starts),
+        cut-next 0 ∙ or_from _ _ cut-first (ap (λ b. b && was_idle t 0) (in-unlost s 0 h)),
       )
   in_started s (suc n) h =
       elim (last_or_before s n h.from) [
         | inl e ↦
             let starts = subst (λ i. span_starts t i ≡ true) e h.starts in (
-              was_idle-next (suc n) (in-unreset s (suc n) h) ∙ or_second _ _ (starts-idle (suc n) starts),
-              cut-next (suc n) ∙ both_false _ _ (starts_awaited (suc n) starts).uncut (ap (λ b. b && was_idle t (suc n))
+              was_idle-next (suc n) (in-unreset s (suc n) h) ∙ or_right _ _ (starts-idle (suc n) starts),
+              cut-next (suc n) ∙ or_from _ _ (starts_awaited (suc n) starts).uncut (ap (λ b. b && was_idle t (suc n))
                   (in-unlost s (suc n) h)),
             )
         | inr before ↦
             let earlier = in_started s n (record { starts = h.starts; from = before; before = omega (arith, h.before) })
             in (
-              was_idle-next (suc n) (in-unreset s (suc n) h) ∙ or_first _ _ earlier.0,
-              cut-next (suc n) ∙ both_false _ _ earlier.1 (ap (λ b. b && was_idle t (suc n)) (in-unlost s (suc n) h)),
+              was_idle-next (suc n) (in-unreset s (suc n) h) ∙ or_left _ _ earlier.0,
+              cut-next (suc n) ∙ or_from _ _ earlier.1 (ap (λ b. b && was_idle t (suc n)) (in-unlost s (suc n) h)),
             )
       ]
 
@@ -301,13 +284,13 @@ module _ (t : Trace) where
   pub in-reset : (s n : ℕ) → IsIn s n → is_reset_at t (suc n) ≡ true → Awaits t (suc (suc n))
   in-reset s n h reset = record {
     unjudged = was_idle-reset (suc n) reset;
-    uncut = cut-next (suc n) ∙ both_false _ _ (in_started s n h).1 (ap (λ b. b && was_idle t (suc n))
+    uncut = cut-next (suc n) ∙ or_from _ _ (in_started s n h).1 (ap (λ b. b && was_idle t (suc n))
         (reset-unlost_at (suc n) reset));
   }
 
   -- where a stretch ends by a lost control line, it is cut off
   pub in-lost : (s n : ℕ) → IsIn s n → loses_control_at t (suc n) ≡ true → any (is_cut_off t) 0 (suc (suc n)) ≡ true
-  in-lost s n h lost = cut-next (suc n) ∙ or_second _ (loses_control_at t (suc n) && was_idle t (suc n))
+  in-lost s n h lost = cut-next (suc n) ∙ or_right _ (loses_control_at t (suc n) && was_idle t (suc n))
       (rw (lost, (in_started s n h).0) refl)
 
   second_of : (a b : Bool) → a ≡ false → (a || b) ≡ true → b ≡ true
@@ -316,7 +299,7 @@ module _ (t : Trace) where
 
   case_of_awaited : (n : ℕ) → n ≤ last_instant t → Awaits t n → InstantCase n
   case_of_awaited n within w =
-      elim (bool_cases (is_idle_at t n)) [
+      elim (cases_Bool (is_idle_at t n)) [
         | inl idle ↦ judging n (in-first n (awaits-starts n w ∙ idle) within)
         | inr busy ↦ awaiting (awaits-next n w busy)
       ]
@@ -334,14 +317,14 @@ module _ (t : Trace) where
                   elim not_before [
                     | inl e ↦
                         let stops = ap (stops_at t) (sym e) ∙ end-stops s (omega (arith, e)) in
-                        elim (bool_cases (is_reset_at t (suc n))) [
+                        elim (cases_Bool (is_reset_at t (suc n))) [
                           | inl reset ↦ awaiting (in-reset s n h reset)
                           | inr unreset ↦ over (in-lost s n h (second_of _ _ unreset stops))
                         ]
                     | inr past ↦ absurd (omega (arith, h.before))
                   ]
             ]
-        | over cut ↦ over (cut-next (suc n) ∙ or_first _ _ cut)
+        | over cut ↦ over (cut-next (suc n) ∙ or_left _ _ cut)
       ]
 
   -- facts about a stretch that is judged
@@ -559,7 +542,7 @@ module _ (t : Trace) where
       let none : spans_after t f ≡ [] = ap (map (span_from t)) (those-none (span_starts t) f (last_instant t + 1)
       (fails-any (span_starts t) f (last_instant t + 1) (λ j a b. absurd (omega arith)))) in
       subst (AreInOrder t) (sym none) tt
-  ordered_from (suc k) f e = by_start (bool_cases (span_starts t f)) (ordered_from k (f + 1) (omega arith))
+  ordered_from (suc k) f e = by_start (cases_Bool (span_starts t f)) (ordered_from k (f + 1) (omega arith))
     where
       is_one : (i : ℕ) → i ≤ last_instant t → span_starts t i ≡ true → IsSpanOf t (span_from t i)
       is_one i within starts = record { within = within; starts = starts; ends = refl }
@@ -594,7 +577,7 @@ module _ (t : Trace) where
           ∙ none)) in
           subst (AreInOrder t) (sym same) later
       by_start (inl starts) later = subst (AreInOrder t) (sym (starts_here t f (omega arith) starts))
-          (by_next starts (bool_cases (any (span_starts t) (f + 1) (last_instant t + 1))) later)
+          (by_next starts (cases_Bool (any (span_starts t) (f + 1) (last_instant t + 1))) later)
 
   pub spans_in_order : AreInOrder t (judged_spans t)
   spans_in_order = subst (AreInOrder t) (sym (spans_from_first t)) (ordered_from (last_instant t + 1) 0 (omega arith))

@@ -4,7 +4,7 @@ use Rattle.std.proofs.Common.{inl, inr, ◌⊎◌, get_or, cond}
 use Rattle.std.specs.Prelude.{Option, None, Some, IfSome, ◌==◌, bytes_eq, decimal, find, nat_lt}
 use Rattle.std.specs.Fmt.{digits}
 use Rattle.std.specs.List.{range_with_len}
-use Rattle.std.proofs.lemmas.Bool.{eqb-true}
+use Rattle.std.proofs.lemmas.Bool.{eqb-true, false_from_ne_true, not-false, not-true}
 use Rattle.std.proofs.lemmas.Bool.Decides.{nat_tests}
 use Rattle.std.proofs.lemmas.List.FromFn.{get_or-map-range_with_len}
 use Rattle.std.proofs.lemmas.Slice.Eq.{bytes_eq-Decides}
@@ -48,21 +48,13 @@ all_differ : every (λ m. none (λ n. bytes_eq (line_name n) (line_name m)) 0 m)
 unfolding any digits
 all_differ = refl
 
-true_of_not : (b : Bool) → not b ≡ false → b ≡ true
-true_of_not true h = refl
-true_of_not false h = absurd (cc)
-
-false_of_not : (b : Bool) → not b ≡ true → b ≡ false
-false_of_not true h = absurd (cc)
-false_of_not false h = refl
-
 later_differs : (n m : ℕ) → n < m → m < line_count → line_name n ≡ line_name m → ⊥
 later_differs n m before below e =
-    let alone = true_of_not (none (λ k. bytes_eq (line_name k) (line_name m)) 0 m)
+    let alone = not-false (none (λ k. bytes_eq (line_name k) (line_name m)) 0 m)
     (any-fails (λ k. not (none (λ n. bytes_eq (line_name n) (line_name k)) 0 k)) 0 line_count m
-    (false_of_not _ all_differ) (omega arith) below) in
+    (not-true _ all_differ) (omega arith) below) in
     clash (bytes_eq (line_name n) (line_name m)) (text-same _ _ e)
-    (any-fails (λ k. bytes_eq (line_name k) (line_name m)) 0 m n (false_of_not _ alone) (omega arith) before)
+    (any-fails (λ k. bytes_eq (line_name k) (line_name m)) 0 m n (not-true _ alone) (omega arith) before)
 
 order_of : (n m : ℕ) → (n < m) ⊎ ((n ≡ m) ⊎ (m < n))
 order_of n m = grind arith
@@ -75,17 +67,14 @@ line_name-injective n m a b e =
       | inr not_before ↦ elim not_before [ inl same ↦ same | inr after ↦ absurd (later_differs m n after a (sym e)) ]
     ]
 
-not_true : (b : Bool) → (b ≡ true → ⊥) → b ≡ false
-not_true true h = absurd (h refl)
-not_true false h = refl
-
 -- the line n that has a name is the one that `line_named` finds by it
 pub line_named-is : (n : ℕ) (name : List ℕ) → n < line_count → line_name n ≡ name → line_named name ≡ Some n
 unfolding line_named
 line_named-is n name below e =
     least-is (is_line_name name) 0 line_count n (omega arith) below (text-same _ _ e)
     (fails-any (is_line_name name) 0 n
-    (λ l a b. not_true _ (λ h. apart l b (line_name-injective l n (omega arith) below (same_text _ _ h ∙ sym e)))))
+    (λ l a b. false_from_ne_true _ (λ h. apart l b (line_name-injective l n (omega arith) below (same_text _ _ h
+    ∙ sym e)))))
   where
     apart : (l : ℕ) → l < n → l ≡ n → ⊥
     apart l b e = omega arith
@@ -93,7 +82,7 @@ line_named-is n name below e =
 pub line_named-none : (name : List ℕ) → ((n : ℕ) → n < line_count → line_name n ≡ name → ⊥) → line_named name ≡ None
 unfolding line_named
 line_named-none name unlike = least-none (is_line_name name) 0 line_count (fails-any (is_line_name name) 0 line_count
-    (λ l a b. not_true _ (λ h. unlike l b (same_text _ _ h))))
+    (λ l a b. false_from_ne_true _ (λ h. unlike l b (same_text _ _ h))))
 
 pub line_named-found : (n : ℕ) (name : List ℕ) → line_named name ≡ Some n → (n < line_count) × (line_name n ≡ name)
 unfolding line_named

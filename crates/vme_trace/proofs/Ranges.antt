@@ -3,6 +3,7 @@ use Rattle.std.proofs.Common.{◌≡◌, ℕ, zero, suc, ◌+◌, ◌<◌, ◌�
 use Rattle.std.proofs.Common.{arith, add-one, inl, inr, ◌⊎◌, cond, subst, [], ◌∷◌, ◌++◌, append_assoc, append-nil}
 use Rattle.std.specs.Prelude.{Option, None, Some, nat_le}
 use Rattle.std.proofs.lemmas.Bool.Decides.{nat_tests}
+use Rattle.std.proofs.lemmas.Bool.{and_parts, and_right, or_parts}
 use Rattle.vme_trace.specs.Instants.{any, every, least, those}
 
 -- `any` over a range with one more number, n, at its end
@@ -26,10 +27,6 @@ le_from f n h = grind (arith, nat_tests)
 
 here : (p : ℕ → Bool) (f i : ℕ) → f ≤ i → p i ≡ true → (nat_le f i && p i) ≡ true
 here p f i in_range h = grind (arith, nat_tests)
-
-or_none : (a b : Bool) → (a || b) ≡ false → (a ≡ false) × (b ≡ false)
-or_none true b h = absurd (cc)
-or_none false b h = (refl, h)
 
 -- where p holds of some number of the range, `any` is true
 pub any-holds : (p : ℕ → Bool) (f n i : ℕ) → f ≤ i → i < n → p i ≡ true → any p f n ≡ true
@@ -84,16 +81,12 @@ every-fails p f n i in_range below h = rw (any-holds (λ k. not (p k)) f n i in_
 pub least-none : (p : ℕ → Bool) (f n : ℕ) → any p f n ≡ false → least p f n ≡ None
 unfolding least any
 least-none p f zero none = refl
-least-none p f (suc n) none = least_nowhere _ _ _ _ (least-none p f n (or_none _ _ none).0) (or_none _ _ none).0
-    (or_none _ _ none).1
+least-none p f (suc n) none = least_nowhere _ _ _ _ (least-none p f n (or_parts _ _ none).0) (or_parts _ _ none).0
+    (or_parts _ _ none).1
 
 chosen : (b : Bool) (x y z : Option ℕ) → cond b x y ≡ z → ((b ≡ true) × (x ≡ z)) ⊎ ((b ≡ false) × (y ≡ z))
 chosen true x y z h = inl (refl, h)
 chosen false x y z h = inr (refl, h)
-
-and_holds : (a b : Bool) → (a && b) ≡ true → (a ≡ true) × (b ≡ true)
-and_holds true b h = (refl, h)
-and_holds false b h = absurd (cc)
 
 -- i is the least number of the range of which p holds
 pub record IsLeast (p : ℕ → Bool) (f n i : ℕ) : Type 0 where
@@ -118,7 +111,7 @@ least-found p f (suc n) i h =
       | inl found ↦ is_least_more p f n i (least-found p f n i found.1)
       | inr none ↦
           let here = last_is n i (nat_le f n && p n) none.1 in
-          let both = and_holds (nat_le f n) (p n) here.0 in
+          let both = and_parts (nat_le f n) (p n) here.0 in
           subst (λ k. IsLeast p f (suc n) k) here.1
           (record { first = le_from f n both.0; below = omega arith; holds = both.1; least = none.0 })
     ]
@@ -230,12 +223,8 @@ every-holds p f n h = ap not (fails-any (λ k. not (p k)) f n (λ i a b. ap not 
 pub those-none : (p : ℕ → Bool) (f n : ℕ) → any p f n ≡ false → those p f n ≡ []
 unfolding those any
 those-none p f zero none = refl
-those-none p f (suc n) none = let both = or_none (any p f n) (nat_le f n && p n) none in
+those-none p f (suc n) none = let both = or_parts (any p f n) (nat_le f n && p n) none in
     rw (those-none p f n both.0, both.1) refl
-
-and_off : (a b : Bool) → b ≡ false → (a && b) ≡ false
-and_off true b h = h
-and_off false b h = refl
 
 -- `those` of the range with n at its end has one more, n, where p holds of n, and no more where it doesn't
 pub those-more : (p : ℕ → Bool) (f n : ℕ) → f ≤ n → p n ≡ true → those p f (suc n) ≡ those p f n ++ n ∷ []
@@ -244,7 +233,7 @@ those-more p f n from h = rw (here p f n from h) refl
 
 pub those-same : (p : ℕ → Bool) (f n : ℕ) → p n ≡ false → those p f (suc n) ≡ those p f n
 unfolding those
-those-same p f n h = rw (and_off (nat_le f n) (p n) h) (append-nil (those p f n))
+those-same p f n h = rw (and_right (nat_le f n) (p n) h) (append-nil (those p f n))
 
 -- `those` of a range are those before m and then those from m on
 pub those-split : (p : ℕ → Bool) (f m n : ℕ) → f ≤ m → m ≤ n → those p f n ≡ those p f m ++ those p m n

@@ -1,8 +1,9 @@
 -- Where a span ends, which levels are known within it, and what is broken at its end.
-use Rattle.std.proofs.Common.{lit<, lit≤, ◌≡◌, ℕ, zero, suc, ◌+◌, ◌<◌, ◌≤◌, Bool, true, false, ◌&&◌, ◌||◌, not, List}
+use Rattle.std.proofs.Common.{lit<, lit≤, ◌≡◌, ℕ, zero, suc, ◌+◌, ◌<◌, ◌≤◌, Bool, true, false, ◌&&◌, not, List}
 use Rattle.std.proofs.Common.{refl, sym, ◌∙◌, ap, arith, inl, inr, ◌⊎◌}
 use Rattle.std.specs.Prelude.{Option, None, Some, slice_get, ◌==◌, nat_le, unwrap_or}
 use Rattle.std.proofs.lemmas.Bool.Decides.{nat_tests}
+use Rattle.std.proofs.lemmas.Bool.{and_from, not-false, not-true, or_parts}
 use Rattle.vme_trace.specs.Instants.{any, least}
 use Rattle.vme_trace.specs.LineNumbers.{line_count, has_line}
 use Rattle.vme_trace.specs.Levels.{Levels, is_idle, is_idle_on, is_lost, loses_control}
@@ -90,18 +91,6 @@ module _ (t : Trace) (s n : ℕ) where
       le_test : (a b : ℕ) → a < b → nat_le (suc a) b ≡ true
       le_test a b h = grind (arith, nat_tests)
 
-true_of_not : (b : Bool) → not b ≡ false → b ≡ true
-true_of_not true h = refl
-true_of_not false h = absurd (cc)
-
-false_of_not : (b : Bool) → not b ≡ true → b ≡ false
-false_of_not true h = absurd (cc)
-false_of_not false h = refl
-
-or_false : (a b : Bool) → (a || b) ≡ false → (a ≡ false) × (b ≡ false)
-or_false true b h = absurd (cc)
-or_false false b h = (refl, h)
-
 goes_on : (t : Trace) (s j : ℕ) → s < j → j < span_end t s → stops_at t j ≡ false
 unfolding span_end
 goes_on t s j after before = by_end (least (stops_at t) (s + 1) (last_instant t + 1)) refl before
@@ -115,17 +104,17 @@ goes_on t s j after before = by_end (least (stops_at t) (s + 1) (last_instant t 
 
 -- within a span no control line is lost
 pub not_lost : (t : Trace) (s j : ℕ) → s < j → j < span_end t s → loses_control_at t j ≡ false
-not_lost t s j after before = (or_false (is_reset_at t j) (loses_control_at t j) (goes_on t s j after before)).1
+not_lost t s j after before = (or_parts (is_reset_at t j) (loses_control_at t j) (goes_on t s j after before)).1
 
 -- within a span the bus isn't reset
 pub not_reset : (t : Trace) (s j : ℕ) → s < j → j < span_end t s → is_reset_at t j ≡ false
-not_reset t s j after before = (or_false (is_reset_at t j) (loses_control_at t j) (goes_on t s j after before)).0
+not_reset t s j after before = (or_parts (is_reset_at t j) (loses_control_at t j) (goes_on t s j after before)).0
 
 -- after an idle instant both strobes are known, in the span that starts there
 pub reads_strobes : (t : Trace) (s : ℕ) → is_idle_at t s ≡ true → ReadsStrobes t (span_from t s)
 unfolding is_idle_at is_idle high known is_reset_at loses_control_at loses_control
 reads_strobes t s idle = record {
-  opens = both (idle_line 1 (lit< tt)) (idle_line 2 (lit< tt));
+  opens = and_from _ _ (idle_line 1 (lit< tt)) (idle_line 2 (lit< tt));
   first = λ j a b. known_unless _ _ (any-fails (is_lost (levels_at t j)) 0 line_count 1 (not_lost t s j a b) (lit≤ tt)
       (lit< tt)) (not_reset t s j a b);
   second = λ j a b. known_unless _ _ (any-fails (is_lost (levels_at t j)) 0 line_count 2 (not_lost t s j a b) (lit≤ tt)
@@ -133,16 +122,13 @@ reads_strobes t s idle = record {
 }
   where
     idle_line : (l : ℕ) → l < line_count → is_idle_on (levels_at t s) l ≡ true
-    idle_line l below = true_of_not _ (any-fails (λ k. not (is_idle_on (levels_at t s) k)) 0 line_count l
-        (false_of_not _ idle) (omega arith) below)
+    idle_line l below = not-false _ (any-fails (λ k. not (is_idle_on (levels_at t s) k)) 0 line_count l
+        (not-true _ idle) (omega arith) below)
 
     known_unless : (a b : Bool) → (not a && not b) ≡ false → b ≡ false → a ≡ true
     known_unless true b h k = refl
     known_unless false true h k = absurd (cc)
     known_unless false false h k = absurd (cc)
-
-    both : {a b : Bool} → a ≡ true → b ≡ true → (a && b) ≡ true
-    both h k = rw (h, k) refl
 
 last_or_before : (j k : ℕ) → j ≤ suc k → (j ≡ suc k) ⊎ (j ≤ k)
 last_or_before j k h = grind arith
