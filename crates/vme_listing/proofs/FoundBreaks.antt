@@ -3,7 +3,7 @@ use Rattle.std.proofs.Common.{◌≡◌, ℕ, zero, suc, ◌+◌, ◌<◌, ◌�
 use Rattle.std.proofs.Common.{subst, arith, ◌⊎◌, inl, inr}
 use Rattle.std.specs.Prelude.{Option, None, Some, option_map, ◌==◌, ◌&&◌, ◌||◌, nat_le}
 use Rattle.std.specs.Option.{option_or}
-use Rattle.std.proofs.lemmas.Bool.{and_parts}
+use Rattle.std.proofs.lemmas.Bool.{and_parts, or_cases}
 use Rattle.std.proofs.lemmas.Bool.Decides.{nat_tests}
 use Rattle.vme_trace.specs.Instants.{least}
 use Rattle.vme_trace.specs.LineNumbers.{has_line, line_count}
@@ -41,16 +41,12 @@ unfolding breaks is_broken
 breaks-within t span r j l whole h =
     let parts = and_parts ((ends_span r || is_judged span j) && has_line t.opening.slots l) (is_broken t span r j l)
     h in
-    elim (one_of (ends_span r) (is_judged span j) (and_parts (ends_span r || is_judged span j)
+    elim (or_cases (ends_span r) (is_judged span j) (and_parts (ends_span r || is_judged span j)
     (has_line t.opening.slots l) parts.0).0) [
       | inl ends ↦ at_end span j (nat_le j (last_instant t)) (is_lost (levels_at t j) l) whole
           (subst (λ (q : Rule). is_broken t span q j l ≡ true) (only_u1 r ends) parts.1)
       | inr judged ↦ judged_there span j whole judged
     ]
-  where
-    one_of : (a b : Bool) → (a || b) ≡ true → (a ≡ true) ⊎ (b ≡ true)
-    one_of true b e = inl refl
-    one_of false b e = inr e
 
 -- the break b is at instant j, on one of the lines
 record IsAt (span : Stretch) (b : Break) (j : ℕ) : Type 0 where

@@ -1,10 +1,10 @@
 -- The number whose digits in base 16 a word is, and the data whose text a word is.
-use Rattle.std.proofs.Common.{◌≡◌, ℕ, zero, suc, ◌+◌, ◌*◌, ◌/◌, ◌%◌, ◌^◌, ◌<◌, ◌≤◌, Bool, true, false, ◌&&◌}
+use Rattle.std.proofs.Common.{◌≡◌, ℕ, zero, suc, ◌+◌, ◌*◌, ◌/◌, ◌%◌, ◌^◌, ◌<◌, ◌≤◌, true, false}
 use Rattle.std.proofs.Common.{List, [], ◌∷◌, ◌++◌, drop, get_or, length, take, refl, sym, ap, ◌∙◌, arith, length-append}
 use Rattle.std.specs.Prelude.{None, Some, bytes_eq, if◌then◌else◌}
 use Rattle.std.specs.Fmt.{digit_glyph}
 use Rattle.std.proofs.Math.Nat.{pow-le-pow_right, pow-suc}
-use Rattle.std.proofs.lemmas.Bool.{and_from, and_parts, false≢true}
+use Rattle.std.proofs.lemmas.Bool.{and_from, and_parts, false≢true, and_right}
 use Rattle.std.proofs.lemmas.Bool.Decides.{nat_tests}
 use Rattle.std.proofs.lemmas.Grind.{take_at_read}
 use Rattle.std.proofs.lemmas.List.{length-take-le, take_all}
@@ -33,17 +33,13 @@ hexadecimal-are (suc k) n =
     are_hexadecimal-append (hexadecimal k (n / 16)) (digit_glyph true (n % 16) ∷ []) (hexadecimal-are k (n / 16))
     (and_from _ _ (glyph_hexadecimal (n % 16) (omega arith)) refl)
 
-false_behind : (b c : Bool) → c ≡ false → (b && c) ≡ false
-false_behind true c e = e
-false_behind false c e = refl
-
 -- a word with a byte that isn't a digit in base 16 isn't all such digits
 pub not-hexadecimal : (word : List ℕ) (i : ℕ) → i < length word → is_hexadecimal (get_or word i 0) ≡ false
     → are_hexadecimal word ≡ false
 not-hexadecimal [] i within e = absurd (omega arith)
 not-hexadecimal (byte ∷ word) zero within e = rw e refl
 not-hexadecimal (byte ∷ word) (suc i) within e =
-    false_behind (is_hexadecimal byte) (are_hexadecimal word) (not-hexadecimal word i (omega arith) e)
+    and_right (is_hexadecimal byte) (are_hexadecimal word) (not-hexadecimal word i (omega arith) e)
 
 pub hexadecimal-length : (k n : ℕ) → length (hexadecimal k n) ≡ k
 unfolding hexadecimal

@@ -100,11 +100,6 @@ break-inside rule instant line p q =
     let l = line-inside line q in
     simp (list_all-append, r, n, l)
 
-two : (a b : Bool) → (a && b) ≡ true → (a ≡ true) × (b ≡ true)
-two true true h = (refl, refl)
-two true false h = absurd (cc)
-two false b h = absurd (cc)
-
 three : (a b c : Bool) → (a && b && c) ≡ true → (a ≡ true) × (b ≡ true) × (c ≡ true)
 three true true true h = (refl, refl, refl)
 three true true false h = absurd (cc)
@@ -140,9 +135,10 @@ outcome-inside (Unreadable rule instant line) h = let p = three _ (is_number ins
 pub row-inside : (version : Version) (row : Row) → is_row version row ≡ true → is_inside (row_text row) ≡ true
 unfolding is_row row_text
 row-inside version (Start instant) h = number-inside instant h
-row-inside version (Reset instant) h = number-inside instant (two (includes_resets version) (is_number instant) h).1
+row-inside version (Reset instant) h = number-inside instant
+    (and_parts (includes_resets version) (is_number instant) h).1
 row-inside version (OpenTenure start end) h =
-    let p = two (is_number start) (is_edge end) h in
+    let p = and_parts (is_number start) (is_edge end) h in
     let s = number-inside start p.0 in
     let e = edge-inside end p.1 in
     simp (list_all-append, s, e)

@@ -2,7 +2,7 @@
 use Rattle.std.proofs.Common.{◌≡◌, ℕ, ◌+◌, ◌*◌, ◌/◌, ◌%◌, ◌^◌, ◌<◌, ◌≤◌, Bool, true, false, not, ◌&&◌, ◌||◌, cond, refl}
 use Rattle.std.proofs.Common.{ap, ◌∙◌, arith}
 use Rattle.std.proofs.Math.Nat.{add-mul-div_left, div-eq_of_lt}
-use Rattle.std.proofs.lemmas.Bool.{agree_below, agree_below_at}
+use Rattle.std.proofs.lemmas.Bool.{agree_below, agree_below_at, and_from}
 use Rattle.vme_trace.specs.Data.{is_odd_byte, is_even_byte, is_selected}
 use Rattle.vme_trace.specs.Lanes.{has_digit, moved_at, is_digit_moved, is_digit_known, weight_at, digit_at, flag_at}
 use Rattle.vme_trace.specs.Lanes.{lanes_at}
@@ -13,7 +13,7 @@ use Rattle.vme_trace.specs.declared.data.MovedBytes.TheVariants.{Nothing, OddByt
 use Rattle.vme_trace.specs.declared.level.Level.{Level}
 use Rattle.vme_trace.specs.declared.level.Level.TheVariants.{Low, High, Unknown}
 use Rattle.vme_listing.specs.Places.{is_allowed_data, is_allowed_digit}
-use Rattle.vme_listing.proofs.RowForms.{both, is_less}
+use Rattle.vme_listing.proofs.RowForms.{is_less}
 
 -- the selection of a line, by the level of the long word line and whether A01 and the strobes are low
 abbrev selected_by : Level → Bool → Bool → Bool → ℕ → Bool
@@ -185,8 +185,8 @@ lanes_form v =
     f7.below in
     let bits = bits_are unknown (flag_at v 0) (flag_at v 1) (flag_at v 2) (flag_at v 3) (flag_at v 4) (flag_at v 5)
     (flag_at v 6) (flag_at v 7) refl f0.bit f1.bit f2.bit f3.bit f4.bit f5.bit f6.bit f7.bit in
-    both _ _
-    (both _ _ (both _ _ (is_less value (2 ^ 32) (omega (
+    and_from _ _
+    (and_from _ _ (and_from _ _ (is_less value (2 ^ 32) (omega (
       arith,
       f0.below,
       f1.below,
@@ -198,9 +198,9 @@ lanes_form v =
       f7.below,
     )))
     (is_less unknown 256 (omega (arith, f0.bit, f1.bit, f2.bit, f3.bit, f4.bit, f5.bit, f6.bit, f7.bit))))
-    (both _ _
-    (both _ _
-    (both _ _ (same_form (has_digit (moved_at v) 0) (is_digit_moved v 0) (value / 16 ^ 0 % 16) (digit_at v 0)
+    (and_from _ _
+    (and_from _ _
+    (and_from _ _ (same_form (has_digit (moved_at v) 0) (is_digit_moved v 0) (value / 16 ^ 0 % 16) (digit_at v 0)
     (unknown / 2 ^ 0 % 2) (flag_at v 0) (has_selected v 0 (omega arith)) digits.at0 bits.at0 f0.form)
     (same_form (has_digit (moved_at v) 1) (is_digit_moved v 1) (value / 16 ^ 1 % 16) (digit_at v 1)
     (unknown / 2 ^ 1 % 2) (flag_at v 1) (has_selected v 1 (omega arith)) digits.at1 bits.at1 f1.form))
@@ -208,9 +208,9 @@ lanes_form v =
     (unknown / 2 ^ 2 % 2) (flag_at v 2) (has_selected v 2 (omega arith)) digits.at2 bits.at2 f2.form))
     (same_form (has_digit (moved_at v) 3) (is_digit_moved v 3) (value / 16 ^ 3 % 16) (digit_at v 3)
     (unknown / 2 ^ 3 % 2) (flag_at v 3) (has_selected v 3 (omega arith)) digits.at3 bits.at3 f3.form)))
-    (both _ _
-    (both _ _
-    (both _ _ (same_form (has_digit (moved_at v) 4) (is_digit_moved v 4) (value / 16 ^ 4 % 16) (digit_at v 4)
+    (and_from _ _
+    (and_from _ _
+    (and_from _ _ (same_form (has_digit (moved_at v) 4) (is_digit_moved v 4) (value / 16 ^ 4 % 16) (digit_at v 4)
     (unknown / 2 ^ 4 % 2) (flag_at v 4) (has_selected v 4 (omega arith)) digits.at4 bits.at4 f4.form)
     (same_form (has_digit (moved_at v) 5) (is_digit_moved v 5) (value / 16 ^ 5 % 16) (digit_at v 5)
     (unknown / 2 ^ 5 % 2) (flag_at v 5) (has_selected v 5 (omega arith)) digits.at5 bits.at5 f5.form))

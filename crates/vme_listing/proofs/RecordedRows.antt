@@ -3,6 +3,7 @@ use Rattle.std.proofs.Common.{◌≡◌, ◌≢◌, ℕ, zero, suc, ◌+◌, ◌
 use Rattle.std.proofs.Common.{List, [], ◌∷◌, refl, arith}
 use Rattle.std.specs.Prelude.{Option, None, Some, nat_le, option_map, option_and_then, if◌then◌else◌}
 use Rattle.std.proofs.lemmas.Bool.Decides.{nat_tests}
+use Rattle.std.proofs.lemmas.Bool.{and_from, not-false}
 use Rattle.vme_trace.specs.Instants.{greatest, least}
 use Rattle.vme_trace.specs.LineNumbers.{AM, AS, BBSY, grant, has_line, line_count}
 use Rattle.vme_trace.specs.Levels.{Levels, is_known_on}
@@ -26,7 +27,7 @@ use Rattle.vme_listing.specs.declared.row.Version.TheVariants.{Three}
 use Rattle.vme_listing.specs.declared.row.Row.{Row}
 use Rattle.vme_listing.specs.declared.row.Row.TheVariants.{OpenTenure, PendingTransfer}
 use Rattle.vme_listing.proofs.RecordedLanes.{lanes_form}
-use Rattle.vme_listing.proofs.RowForms.{IsMiddle, both, cycle_form, edge, number, tenure_form}
+use Rattle.vme_listing.proofs.RowForms.{IsMiddle, cycle_form, edge, number, tenure_form}
 
 -- the list has at most one row, and that is of instant i and of this kind
 abbrev pub AtMostOne : ℕ → ℕ → List Row → Type 0
@@ -104,17 +105,13 @@ code_known : (t : Trace) (span : Stretch) (i : ℕ) → cycle_starts t span i �
 unfolding breaks is_broken cycle_starts known
 code_known t span i starts unbroken free unknown =
     let v = levels_at t i in
-    let found = any-least (λ n. not (is_modifier_bit_known v n)) 0 6 (negated _ unknown) in
+    let found = any-least (λ n. not (is_modifier_bit_known v n)) 0 6 (not-false _ unknown) in
     let n = found.0 in
     let is = least-found (λ n. not (is_modifier_bit_known v n)) 0 6 n found.1 in
     lacking (is_judged span i) (falls t AS i) (has_line t.opening.slots (AM n)) (is_needed v (AM n))
     (is_known_on v (AM n))
     starts (bused t.opening.slots (AM n) (omega (arith, is.below))) (needs_modifier v n free is.below) is.holds
     (unbroken (AM n) (omega (arith, is.below)))
-  where
-    negated : (b : Bool) → not b ≡ false → b ≡ true
-    negated true h = refl
-    negated false h = absurd (cc)
 
 data_by : (write : Bool) (lanes : Lanes) → is_allowed_data lanes ≡ true → has_data Three (cond write Write Read)
     (cond write (Some lanes) None) ≡ true
@@ -148,7 +145,7 @@ module _ (t : Trace) (span : Stretch) (end : ℕ) (few : end ≤ 2 ^ 32) (i : �
           → AtMostOne i 2 (cond opened (OpenTenure i (least (rises t BBSY) (i + 1) end) ∷ [])
           (cond starts (tenure_row i (tenure_level t i) (tenure_slot t i) (least (rises t BBSY) (i + 1) end)) []))
       by_tests true starts e = record {
-        allowed = both _ _ (number i end listed few)
+        allowed = and_from _ _ (number i end listed few)
             (edge (rises t BBSY) (i + 1) end few);
         place = refl;
         no_start = refl;
@@ -183,10 +180,10 @@ module _ (t : Trace) (span : Stretch) (end : ℕ) (few : end ≤ 2 ^ 32) (i : �
           let first = greatest-below (cycle_starts t span) (span.start + 1) (r + 1) cycle e in
           record {
             allowed =
-                both _ _
-                (both _ _ (both _ _ (both _ _ (number i end listed few) (number cycle end (omega (arith, first)) few))
-                (number r end below few)) (edge (strobes_high t) (i + 1) end few))
-                (data_form t span end i r);
+                and_from _ _
+                (and_from _ _ (and_from _ _ (and_from _ _ (number i end listed few)
+                (number cycle end (omega (arith, first)) few)) (number r end below few))
+                (edge (strobes_high t) (i + 1) end few)) (data_form t span end i r);
             place = refl;
             no_start = refl;
             no_reset = refl;

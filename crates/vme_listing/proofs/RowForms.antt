@@ -1,9 +1,10 @@
 -- The rows of cycles, tenures and transfers are ones that their forms allow.
-use Rattle.std.proofs.Common.{◌≡◌, ℕ, zero, suc, ◌+◌, ◌*◌, ◌/◌, ◌%◌, ◌^◌, ◌<◌, ◌≤◌, ◌==◌, Bool, true, false, ◌&&◌, not}
+use Rattle.std.proofs.Common.{◌≡◌, ℕ, zero, suc, ◌+◌, ◌*◌, ◌/◌, ◌%◌, ◌^◌, ◌<◌, ◌≤◌, ◌==◌, Bool, true, false, not}
 use Rattle.std.proofs.Common.{cond, refl, ap, arith, add-one, ◌⊎◌, inl, inr}
 use Rattle.std.specs.Prelude.{Option, None, Some, nat_lt, nat_le}
 use Rattle.std.proofs.Math.Nat.{pow-succ'}
 use Rattle.std.proofs.lemmas.Bool.Decides.{nat_tests}
+use Rattle.std.proofs.lemmas.Bool.{and_from}
 use Rattle.vme_trace.specs.Instants.{least}
 use Rattle.vme_trace.specs.LineNumbers.{A, IACK}
 use Rattle.vme_trace.specs.Levels.{Levels, level_at, is_high, is_high_on, is_low}
@@ -24,10 +25,6 @@ pub record IsMiddle (i kind : ℕ) (row : Row) : Type 0 where
   pub place : place_of Three row ≡ Some (i, kind)
   pub no_start : is_start row ≡ false
   pub no_reset : is_reset row ≡ false
-
--- tests that hold hold together
-pub both : (a b : Bool) → a ≡ true → b ≡ true → (a && b) ≡ true
-both a b h k = rw (h, k) refl
 
 pub is_less : (m n : ℕ) → m < n → nat_lt m n ≡ true
 is_less m n h = grind (arith, nat_tests)
@@ -71,7 +68,8 @@ address_form v modifier h =
     let highest = highest_address modifier in
     let e = even v highest in
     let rest : address_to v highest % 2 ≡ 0 = remainder (address_to v highest) e.0 e.1 in
-    both _ _ (both _ _ (ap not h) (is_less (address_to v highest) (2 ^ (highest + 1)) (rw add-one (bounded v highest))))
+    and_from _ _ (and_from _ _ (ap not h) (is_less (address_to v highest) (2 ^ (highest + 1)) (rw add-one
+    (bounded v highest))))
     (ap (λ n. n == 0) rest)
   where
     remainder : (a k : ℕ) → a ≡ 2 * k → a % 2 ≡ 0
@@ -133,14 +131,14 @@ cycle_form i v e n ed known = by_class (class_of v) refl (class_implies v)
     by_class : (c : Class) → class_of v ≡ c → ClassImplies c (has_known_modifier v) (is_block (modifier_of v))
         (highest_address (modifier_of v) == 0) → IsMiddle i 3 (cycle_row i v e c)
     by_class class.S is f = record {
-      allowed = both _ _ (both _ _ (both _ _ n (ap not f.0)) (address_form v (modifier_of v) f.1)) ed;
+      allowed = and_from _ _ (and_from _ _ (and_from _ _ n (ap not f.0)) (address_form v (modifier_of v) f.1)) ed;
       place = refl;
       no_start = refl;
       no_reset = refl;
     }
     by_class class.K is f = record {
-      allowed = both _ _ (both _ _ (both _ _ n f) (address_form v (modifier_of v) (block_space (modifier_of v) f)))
-          ed;
+      allowed = and_from _ _ (and_from _ _ (and_from _ _ n f) (address_form v (modifier_of v)
+          (block_space (modifier_of v) f))) ed;
       place = refl;
       no_start = refl;
       no_reset = refl;
@@ -148,14 +146,14 @@ cycle_form i v e n ed known = by_class (class_of v) refl (class_implies v)
     by_class class.I is f =
         let level : address_to v 3 < 16 = bounded v 3 in
         record {
-          allowed = both _ _ (both _ _ n (is_less (address_to v 3 / 2) 8 (omega arith))) ed;
+          allowed = and_from _ _ (and_from _ _ n (is_less (address_to v 3 / 2) 8 (omega arith))) ed;
           place = refl;
           no_start = refl;
           no_reset = refl;
         }
     by_class class.F is (inl unknown) = absurd (known is unknown)
     by_class class.F is (inr free) = record {
-      allowed = both _ _ (both _ _ (both _ _ n (is_less (modifier_of v) 64 (modifier_within v))) free) ed;
+      allowed = and_from _ _ (and_from _ _ (and_from _ _ n (is_less (modifier_of v) 64 (modifier_within v))) free) ed;
       place
           = refl;
       no_start = refl;
@@ -167,8 +165,8 @@ pub tenure_form : (i level slot : ℕ) (e : Option ℕ) → is_number i ≡ true
 unfolding is_row
 tenure_form i level slot e n below first last ed =
     record {
-      allowed = both _ _ (both _ _ (both _ _ (both _ _ n (is_less level 4 below)) (is_at_most 1 slot first))
-          (is_at_most slot 21 last)) ed;
+      allowed = and_from _ _ (and_from _ _ (and_from _ _ (and_from _ _ n (is_less level 4 below))
+          (is_at_most 1 slot first)) (is_at_most slot 21 last)) ed;
       place = refl;
       no_start = refl;
       no_reset = refl;

@@ -5,6 +5,7 @@ use Rattle.std.proofs.Common.{inl, inr}
 use Rattle.std.specs.Prelude.{Option, None, Some, drop, flat_map, nat_lt, take}
 use Rattle.std.proofs.Math.Nat.{min-le_right, min-eq_left}
 use Rattle.std.proofs.lemmas.Bool.Decides.{nat_tests}
+use Rattle.std.proofs.lemmas.Bool.{and_from}
 use Rattle.vme_trace.specs.LineNumbers.{BBSY, line_count}
 use Rattle.vme_trace.specs.Trace.{Trace, last_instant}
 use Rattle.vme_trace.specs.Judged.{Stretch, IsSpanOf, is_judged, is_reset_at, judged_spans}
@@ -30,7 +31,7 @@ use Rattle.vme_listing.specs.declared.row.Row.TheVariants.{InterruptCycle, Trans
 use Rattle.vme_listing.proofs.FoundBreaks.{either, neither, least_break-judged, least_break-within, unbroken_always}
 use Rattle.vme_listing.proofs.FoundBreaks.{unbroken_before}
 use Rattle.vme_listing.proofs.RecordedRows.{AtMostOne, cycle_one, tenure_one, transfer_one}
-use Rattle.vme_listing.proofs.RowForms.{IsMiddle, both, is_less, number}
+use Rattle.vme_listing.proofs.RowForms.{IsMiddle, is_less, number}
 
 -- the row is of a start, a tenure, a cycle or a transfer, and a row at the place (i, kind) may follow it
 record Precedes (row : Row) (i kind : ℕ) : Type 0 where
@@ -91,7 +92,7 @@ follows_on : (before row : Row) (i kind : ℕ) → Precedes before i kind → is
 unfolding follows
 follows_on before row i kind p allowed place no_start =
     let is = inside row (i, kind) place in
-    both _ _ (both _ _ allowed
+    and_from _ _ (and_from _ _ allowed
     (placed_behind (is_verdict before) (is_reset before) (is_never_idle row) (is_start row) (is_verdict row)
     p.unfinished is.no_idle
     (rw (p.goes_on, no_start) refl)))
@@ -115,7 +116,7 @@ group : (before : Row) (i kind : ℕ) (rows more : List Row) → AtMostOne i kin
     (rows ++ more) ≡ true
 unfolding is_rest
 group before i kind [] more one p rest = rest before (later before i i kind (kind + 1) (inr (refl, omega arith)) p)
-group before i kind (row ∷ []) more one p rest = both _ _ (follows_on before row i kind p one.allowed one.place
+group before i kind (row ∷ []) more one p rest = and_from _ _ (follows_on before row i kind p one.allowed one.place
     one.no_start) (rest row (next_kind row i kind one))
 group before i kind (row ∷ next ∷ rows) more one p rest = absurd one
 
@@ -124,8 +125,9 @@ last_is : (row : Row) (found : Option Break) → is_allowed_outcome (outcome_of 
     → is_rest Three (Some row) (Verdict (outcome_of found) ∷ []) ≡ true
 unfolding is_rest follows is_row
 last_is row found is e =
-    both _ _ (both _ _ (both _ _ is (placed_behind (is_verdict row) (is_reset row) (never_idles (outcome_of found))
-    false true e (named found) (of_any (is_reset row)))) (unplaced (place_of Three row))) refl
+    and_from _ _ (and_from _ _ (and_from _ _ is (placed_behind (is_verdict row) (is_reset row)
+    (never_idles (outcome_of found)) false true e (named found) (of_any (is_reset row))))
+    (unplaced (place_of Three row))) refl
   where
     of_any : (reset : Bool) → cond reset true true ≡ true
     of_any true = refl
@@ -372,7 +374,7 @@ module _ (t : Trace) (slots : t.opening.slots ≤ 21) (few : length t.steps < 2 
 
     start_follows : (i start : ℕ) → i < start → start < limit → follows Three (Some (Reset i)) (Start start) ≡ true
     unfolding follows is_row
-    start_follows i start after below = both _ _ (both _ _ (number start limit below (omega arith)) refl)
+    start_follows i start after below = and_from _ _ (and_from _ _ (number start limit below (omega arith)) refl)
         (higher i start after)
       where
         higher : (i j : ℕ) → i < j → (nat_lt i j || ((i == j) && nat_lt 0 1)) ≡ true
@@ -432,8 +434,8 @@ module _ (t : Trace) (slots : t.opening.slots ≤ 21) (few : length t.steps < 2 
               → is_rest Three (Some row) (cond b (Reset span.end ∷ []) [] ++ rows_of spans) ≡ true
           by_reset row p true e =
               let below = below_limit (is_reset_at t span.end) span.end e in
-              both _ _ (reset_follows row span.end below (subst (λ i. Precedes row i 0) (min-eq_left (omega arith)) p))
-              (after e)
+              and_from _ _ (reset_follows row span.end below (subst (λ i. Precedes row i 0) (min-eq_left (omega arith))
+              p)) (after e)
           by_reset row p false e = subst (λ rows. is_rest Three (Some row) rows ≡ true)
               (sym (only_verdict span spans order e)) (last_is row found is p.unfinished)
 
@@ -451,7 +453,7 @@ module _ (t : Trace) (slots : t.opening.slots ≤ 21) (few : length t.steps < 2 
           elim (by_limit next.start) [
             | inl below ↦
                 subst (λ rows. is_rest Three (Some (Reset span.end)) rows ≡ true) (sym (rows_split next spans below))
-                (both _ _ (start_follows span.end next.start order.2 below) (behind_start next spans order.3 held.1
+                (and_from _ _ (start_follows span.end next.start order.2 below) (behind_start next spans order.3 held.1
                 below))
             | inr past ↦
                 subst (λ rows. is_rest Three (Some (Reset span.end)) rows ≡ true)
@@ -470,8 +472,8 @@ module _ (t : Trace) (slots : t.opening.slots ≤ 21) (few : length t.steps < 2 
       let form = limit_form span spans order found e in
       let is = outcome_form span spans order found e in
       subst (λ rows. is_rest Three None rows ≡ true) (sym (rows_split limit form.most found is span spans form.after))
-      (both _ _ (both _ _ (both _ _ (number span.start limit form.after (omega (arith, form.most))) refl) refl)
-      (behind_start limit form.most found is span spans order (unbroken span spans order found e) form.after))
+      (and_from _ _ (and_from _ _ (and_from _ _ (number span.start limit form.after (omega (arith, form.most))) refl)
+      refl) (behind_start limit form.most found is span spans order (unbroken span spans order found e) form.after))
 
 -- the listing of a recording of at most 21 slots and fewer than 2^32 steps is well placed
 pub listing_placed : (t : Trace) → t.opening.slots ≤ 21 → length t.steps < 2 ^ 32
