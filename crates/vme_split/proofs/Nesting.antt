@@ -5,7 +5,7 @@ use Rattle.std.proofs.Common.{inl, inr, ◌⊎◌, All, Contains}
 use Rattle.std.specs.Prelude.{Option, None, Some, IfSome, ◌==◌, nat_lt, nat_le, option_map, option_and_then}
 use Rattle.std.proofs.lemmas.Bool.Decides.{nat_tests}
 use Rattle.std.proofs.lemmas.List.Elements.{Contains-append_left, Contains-append_right}
-use Rattle.std.proofs.lemmas.Bool.{cases_Bool}
+use Rattle.std.proofs.lemmas.Bool.{cases_Bool, and_parts, false_from_ne_true, not-false, not-true}
 use Rattle.vme_trace.specs.Instants.{any, least, greatest, those}
 use Rattle.vme_trace.specs.LineNumbers.{AS, BBSY, grant}
 use Rattle.vme_trace.specs.Levels.{Levels}
@@ -154,18 +154,6 @@ module _ (t : Trace) (span : Stretch) (is : IsSpanOf t span) (end : ℕ) (within
       second true = omega arith
       second false = omega arith
 
-      on_by : (b : Bool) → not b ≡ false → b ≡ true
-      on_by true h = refl
-      on_by false h = absurd (cc)
-
-      off_by : (b : Bool) → not b ≡ true → b ≡ false
-      off_by true h = absurd (cc)
-      off_by false h = refl
-
-      off : (b : Bool) → (b ≡ true → ⊥) → b ≡ false
-      off true h = absurd (h refl)
-      off false h = refl
-
       by : (o : Option ℕ) → greatest (has_reached t (taken_grant t i) level) 0 (t.opening.slots + 1) ≡ o
           → option_map (λ k. 1 + k) o ≡ Some slot → ShowsGrant t (row.Tenure i level slot e)
       by None f g = absurd (cc)
@@ -177,11 +165,12 @@ module _ (t : Trace) (span : Stretch) (is : IsSpanOf t span) (end : ℕ) (within
             first (is_granting t i),
             second (is_granting t i),
             (
-              (λ m a. on_by (low t (grant level m) (taken_grant t i))
+              (λ m a. not-false (low t (grant level m) (taken_grant t i))
                   (any-fails (λ net. not (low t (grant level net) (taken_grant t i))) 0 (k + 1) m
-                  (off_by (any (λ net. not (low t (grant level net) (taken_grant t i))) 0 (k + 1)) found.holds)
+                  (not-true (any (λ net. not (low t (grant level net) (taken_grant t i))) 0 (k + 1)) found.holds)
                   (omega arith) (omega (arith, same)))),
-              off (low t (grant level slot) (taken_grant t i)) (λ h. let next : slot ≡ k + 1 = omega (arith, same) in
+              false_from_ne_true (low t (grant level slot) (taken_grant t i)) (λ h.
+                  let next : slot ≡ k + 1 = omega (arith, same) in
                   clash (has_reached t (taken_grant t i) level (k + 1))
                   (every-more (λ net. low t (grant level net) (taken_grant t i)) 0 (k + 1) found.holds
                   (ap (λ n. low t (grant level n) (taken_grant t i)) (sym next) ∙ h))
@@ -347,11 +336,7 @@ module _ (t : Trace) (span : Stretch) (is : IsSpanOf t span) (end : ℕ) (within
     found = least-found (reply_at t span i) i end r e
 
     lasting : lasts t span i r ≡ true
-    lasting = first_part (lasts t span i r) (answer_falls t r) found.holds
-      where
-        first_part : (a b : Bool) → (a && b) ≡ true → a ≡ true
-        first_part true b h = refl
-        first_part false b h = absurd (cc)
+    lasting = (and_parts (lasts t span i r) (answer_falls t r) found.holds).0
 
     -- at no instant between the transfer's start and its answer are both strobes high
     still : (m : ℕ) → i < m → m < r → strobes_high t m ≡ false

@@ -4,6 +4,7 @@ use Rattle.std.proofs.Common.{ap}
 use Rattle.std.proofs.Common.{arith, All, inl, inr, ◌⊎◌}
 use Rattle.std.specs.Prelude.{Option, None, Some, ◌==◌, nat_le}
 use Rattle.std.proofs.lemmas.Bool.Decides.{nat_tests}
+use Rattle.std.proofs.lemmas.Bool.{false_from_ne_true}
 use Rattle.vme_trace.specs.Instants.{any, least}
 use Rattle.vme_trace.specs.LineNumbers.{AS}
 use Rattle.vme_trace.specs.Lanes.{lanes_at}
@@ -39,10 +40,6 @@ third_of true true true h = refl
 third_of true true false h = absurd (cc)
 third_of true false c h = absurd (cc)
 third_of false b c h = absurd (cc)
-
-off_if : (b : Bool) → (b ≡ true → ⊥) → b ≡ false
-off_if true h = absurd (h refl)
-off_if false h = refl
 
 is_order : (i r : ℕ) → nat_le i r ≡ true → i ≤ r
 is_order i r h = grind (arith, nat_tests)
@@ -85,7 +82,7 @@ module _ (t : Trace) (span : Stretch) (is : IsSpanOf t span) (end : ℕ) (within
         where
           by : (i ≡ r) ⊎ (i + 1 ≤ r) → transfer_starts t span r ≡ (i == r)
           by (inl same) = ap (transfer_starts t span) (sym same) ∙ (starts ∙ sym (is_same i r same))
-          by (inr later) = off_if (transfer_starts t span r) (none_later later) ∙ sym (is_later i r later)
+          by (inr later) = false_from_ne_true (transfer_starts t span r) (none_later later) ∙ sym (is_later i r later)
 
       answered : (c : ℕ) → ShowsData t (answered_row t span end i r (Some c))
       unfolding data_at
