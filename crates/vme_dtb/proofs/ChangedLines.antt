@@ -1,10 +1,11 @@
 -- A line has an edge at a step only if it is among the step's changes.
-use Rattle.std.proofs.Common.{◌≡◌, ℕ, ◌+◌, ◌<◌, Bool, true, false, ◌||◌, ◌&&◌, not, List, [], ◌∷◌, refl, sym, ◌∙◌, ap}
+use Rattle.std.proofs.Common.{◌≡◌, ℕ, ◌+◌, ◌<◌, Bool, true, false, ◌||◌, not, List, [], ◌∷◌, refl, sym, ◌∙◌, ap}
 use Rattle.std.proofs.Common.{arith, length, cond, subst}
 use Rattle.std.specs.Prelude.{Some, ◌==◌, nat_le, slice_set}
 use Rattle.std.proofs.lemmas.Bool.Decides.{nat_tests}
 use Rattle.std.proofs.lemmas.List.{length-set, get_or-set_same}
 use Rattle.std.proofs.lemmas.Option.{unwrap_or-slice_get}
+use Rattle.std.proofs.lemmas.Bool.{and_parts, not-true, or_right}
 use Rattle.vme_trace.specs.Instants.{any, least}
 use Rattle.vme_trace.specs.Levels.{Levels, level_at, set_level, same_level}
 use Rattle.vme_trace.specs.Trace.{changed}
@@ -16,18 +17,6 @@ use Rattle.vme_trace.specs.declared.step.Change.{Change}
 use Rattle.vme_trace.proofs.Changing.{level-kept}
 use Rattle.vme_trace.proofs.Ranges.{fails-any, least-is, least-none}
 use Rattle.vme_dtb.specs.StabilityRules.{first_among}
-
-pub and_true : (a b : Bool) → (a && b) ≡ true → (a ≡ true) × (b ≡ true)
-and_true true b h = (refl, h)
-and_true false b h = absurd (cc)
-
-pub false_of_not : (b : Bool) → not b ≡ true → b ≡ false
-false_of_not true h = absurd (cc)
-false_of_not false h = refl
-
-pub or_false : (a b : Bool) → (a || b) ≡ false → (a ≡ false) × (b ≡ false)
-or_false true b h = absurd (cc)
-or_false false b h = (refl, h)
 
 or_second : (a b : Bool) → (a || b) ≡ true → a ≡ false → b ≡ true
 or_second true b h e = absurd (cc)
@@ -57,8 +46,8 @@ below_changes : (v : Levels) (lowest l : ℕ) (cs : List Change) → are_changes
 unfolding are_changes
 below_changes v lowest l [] h b = refl
 below_changes v lowest l (c ∷ cs) h b =
-    let parts = and_true _ _ h in
-    let low = and_true _ _ (and_true _ _ parts.0).0 in
+    let parts = and_parts _ _ h in
+    let low = and_parts _ _ (and_parts _ _ parts.0).0 in
     rw (
       unlike_lower lowest c.line l low.0 b,
       below_changes v (c.line + 1) l cs parts.1
@@ -90,8 +79,8 @@ changed_differs : (v u : Levels) (lowest : ℕ) (cs : List Change) (l : ℕ) →
 unfolding are_changes changed
 changed_differs v u lowest [] l h k inside = absurd (cc)
 changed_differs v u lowest (c ∷ cs) l h k inside =
-    let parts = and_true _ _ h in
-    differs_here v u c cs l (c.line == l) refl (false_of_not _ (and_true _ _ parts.0).1)
+    let parts = and_parts _ _ h in
+    differs_here v u c cs l (c.line == l) refl (not-true _ (and_parts _ _ parts.0).1)
     (below_changes v (c.line + 1) c.line cs parts.1 (here_below c.line)) inside
     (λ e. changed_differs v (set_level u c.line c.level) (c.line + 1) cs l parts.1
     (or_second (c.line == l) (is_changed cs l) k e) (subst (λ k. l < k) (sym (length-set u.levels c.line c.level))
@@ -125,21 +114,17 @@ module _ (p q : ℕ → Bool) (n : ℕ) (bound : (l : ℕ) → q l ≡ true → 
   same_line : (k : ℕ) → (k == k) ≡ true
   same_line k = grind (arith, nat_tests)
 
-  or_last : (a b : Bool) → b ≡ true → (a || b) ≡ true
-  or_last true b h = refl
-  or_last false b h = h
-
   pub first_least : (v : Levels) (lowest : ℕ) (cs : List Change) → are_changes v lowest cs ≡ true
       → ((l : ℕ) → is_changed cs l ≡ false → p l ≡ false) → ((l : ℕ) → is_changed cs l ≡ true → p l ≡ q l)
       → first_among q cs ≡ least p 0 n
   unfolding are_changes
   first_least v lowest [] h fails alike = sym (least-none p 0 n (fails-any p 0 n (λ l a b. fails l refl)))
   first_least v lowest (c ∷ cs) h fails alike =
-      let parts = and_true _ _ h in
+      let parts = and_parts _ _ h in
       let here : p c.line ≡ q c.line = alike c.line (rw (same_line c.line) refl) in
       first_here c cs (q c.line) refl (λ e. here ∙ e)
       (fails-any p 0 c.line
       (λ l a b. fails l (rw (unlike c.line l b, below_changes v (c.line + 1) l cs parts.1 (one_more l c.line b))
       refl)))
       (λ e. first_least v (c.line + 1) cs parts.1 (fails_else c cs fails (here ∙ e))
-      (λ l k. alike l (or_last (c.line == l) (is_changed cs l) k)))
+      (λ l k. alike l (or_right (c.line == l) (is_changed cs l) k)))

@@ -2,6 +2,7 @@
 use Rattle.std.proofs.Common.{◌≡◌, ℕ, zero, suc, ◌<◌, ◌≤◌, Bool, true, false, ◌&&◌, ◌||◌, not, refl, sym, ◌∙◌, ap}
 use Rattle.std.proofs.Common.{arith, lit<, Option, Some, None, cond, subst, inl, inr, ◌⊎◌}
 use Rattle.std.specs.Prelude.{is_some, slice_get}
+use Rattle.std.proofs.lemmas.Bool.{not-false, not-true}
 use Rattle.vme_trace.specs.LineNumbers.{line_count, DTACK, BERR}
 use Rattle.vme_trace.specs.Levels.{Levels, level_at, is_low, is_known, is_idle, is_idle_on}
 use Rattle.vme_trace.specs.Trace.{Trace, levels_at}
@@ -32,17 +33,9 @@ use Rattle.vme_dtb.proofs.Searches.{lt_fails}
 use Rattle.vme_dtb.proofs.StepFacts.{old, new, strobe_rises_is}
 use Rattle.vme_dtb.proofs.StillSteps.{machine_step_is}
 
-true_of_not : (b : Bool) → not b ≡ false → b ≡ true
-true_of_not true h = refl
-true_of_not false h = absurd (cc)
-
-false_of_not : (b : Bool) → not b ≡ true → b ≡ false
-false_of_not true h = absurd (cc)
-false_of_not false h = refl
-
 idle_line : (v : Levels) (l : ℕ) → l < line_count → is_idle v ≡ true → is_idle_on v l ≡ true
 unfolding is_idle
-idle_line v l below idle = true_of_not _ (any-fails (λ k. not (is_idle_on v k)) 0 line_count l (false_of_not _ idle)
+idle_line v l below idle = not-false _ (any-fails (λ k. not (is_idle_on v k)) 0 line_count l (not-true _ idle)
     (omega arith) below)
 
 -- two tests of an answer give the same phase: u (the transfer is unanswered) and o (an answer line falls) tested each,

@@ -4,6 +4,7 @@ use Rattle.std.proofs.Common.{arith, cond, inl, inr, ◌⊎◌, length, lit<, su
 use Rattle.std.specs.Prelude.{Option, None, Some, slice_get, unwrap_or, option_map}
 use Rattle.std.specs.Option.{option_or}
 use Rattle.std.proofs.lemmas.Option.{slice_get_past}
+use Rattle.std.proofs.lemmas.Bool.{and_parts, not-true}
 use Rattle.vme_trace.specs.Instants.{any, least, none}
 use Rattle.vme_trace.specs.LineNumbers.{line_count, AS, has_line}
 use Rattle.vme_trace.specs.Cycle.{is_needed, is_within, needs_of}
@@ -28,7 +29,7 @@ use Rattle.vme_trace.proofs.Ranges.{least-none-any}
 use Rattle.vme_monitor.proofs.SpanFacts.{IsSpan}
 use Rattle.vme_dtb.specs.StabilityRules.{address_moved, moved_fault, observation_of, stability_rules}
 use Rattle.vme_dtb.specs.declared.holding.Holding.{Holding}
-use Rattle.vme_dtb.proofs.ChangedLines.{and_true, edge_is, false_of_not, first_least, same_itself}
+use Rattle.vme_dtb.proofs.ChangedLines.{edge_is, first_least, same_itself}
 use Rattle.vme_dtb.proofs.Needed.{bused_line, needed_below, needs_same}
 use Rattle.vme_dtb.proofs.Lasting.{any-and, none_shorter}
 use Rattle.vme_dtb.proofs.StabilityMeaning.{Holds, holds_address, keeps_address_is}
@@ -146,13 +147,13 @@ module _ (t : Trace) (span : Stretch) where
   module _ (facts : IsSpan t span) (n : ℕ) (before : n < span.end) (unbroken : break_before t span stability_rules
       (suc n) ≡ None) (i : ℕ) (after : span.start < i) (order : i ≤ n) (held : holds_address t span n i ≡ true) where
     starts : cycle_starts t span i ≡ true
-    starts = (and_true _ _ (and_true _ _ held).0).0
+    starts = (and_parts _ _ (and_parts _ _ held).0).0
 
     runs : cycle_runs t span i n ≡ true
-    runs = (and_true _ _ (and_true _ _ held).0).1
+    runs = (and_parts _ _ (and_parts _ _ held).0).1
 
     unanswered : none (is_answer t span) i (n + 1) ≡ true
-    unanswered = (and_true _ _ held).1
+    unanswered = (and_parts _ _ held).1
 
     runs_to : (k : ℕ) → k ≤ n → cycle_runs t span i k ≡ true
     unfolding cycle_runs
@@ -193,11 +194,11 @@ module _ (t : Trace) (span : Stretch) where
 
     low_start : cycle_starts t span i ≡ true → low t AS i ≡ true
     unfolding cycle_starts falls
-    low_start h = (and_true _ _ (and_true _ _ h).1).1
+    low_start h = (and_parts _ _ (and_parts _ _ h).1).1
 
     no_rise : cycle_runs t span i n ≡ true → (k : ℕ) → i ≤ k → suc k ≤ n → (low t AS k && high t AS (suc k)) ≡ false
     unfolding cycle_runs rises
-    no_rise h k from to = rw (suc-sub-one k) at (any-fails (rises t AS) (i + 1) (n + 1) (suc k) (false_of_not _ h)
+    no_rise h k from to = rw (suc-sub-one k) at (any-fails (rises t AS) (i + 1) (n + 1) (suc k) (not-true _ h)
         (omega arith) (omega arith))
 
     low_next : (k : ℕ) → span.start ≤ suc k → suc k < span.end → low t AS k ≡ true → (low t AS k && high t AS (suc k))
@@ -220,10 +221,6 @@ module _ (t : Trace) (span : Stretch) where
     unfolding low
     strobe_low = stays_low n order (omega arith)
 
-  either : (b : Bool) → (b ≡ true) ⊎ (b ≡ false)
-  either true = inl refl
-  either false = inr refl
-
   module _ (facts : IsSpan t span) (n : ℕ) (from : span.start ≤ n) (before : suc n < span.end)
       (unbroken : break_before t span stability_rules (suc n) ≡ None) where
     abbrev old : Levels
@@ -242,9 +239,9 @@ module _ (t : Trace) (span : Stretch) where
 
     held_before : (i : ℕ) → i ≤ n → holds_address t span (suc n) i ≡ true → holds_address t span n i ≡ true
     held_before i order h =
-        let two = and_true (cycle_starts t span i && cycle_runs t span i (suc n))
+        let two = and_parts (cycle_starts t span i && cycle_runs t span i (suc n))
         (none (is_answer t span) i (suc n + 1)) h in
-        let one = and_true (cycle_starts t span i) (cycle_runs t span i (suc n)) two.0 in
+        let one = and_parts (cycle_starts t span i) (cycle_runs t span i (suc n)) two.0 in
         rw (one.0, runs_before i one.1, none_shorter (is_answer t span) i (n + 1) (suc n + 1) (omega arith) two.1) refl
 
     -- the lines that the held cycle needs are those that the levels before the step need

@@ -3,6 +3,7 @@ use Rattle.std.proofs.Common.{◌≡◌, ℕ, suc, ◌+◌, ◌-◌, ◌<◌, �
 use Rattle.std.proofs.Common.{arith, cond, inl, inr, ◌⊎◌}
 use Rattle.std.specs.Prelude.{Option, None, Some, List, nat_le, nat_lt}
 use Rattle.std.proofs.lemmas.Bool.Decides.{nat_tests}
+use Rattle.std.proofs.lemmas.Bool.{and_parts}
 use Rattle.vme_trace.specs.Edges.{answer_between, strobe_falls_between, strobe_low_in, strobe_rises_between}
 use Rattle.vme_trace.specs.Edges.{strobes_high_in}
 use Rattle.vme_trace.specs.Instants.{least, none}
@@ -33,7 +34,7 @@ use Rattle.vme_dtb.specs.StabilityRules.{is_shifted, is_undriven, keeps_data, ke
 use Rattle.vme_dtb.specs.StabilityRules.{observation_of, stability_rules, undriven_fault, writes_now}
 use Rattle.vme_dtb.specs.declared.holding.Holding.{Holding}
 use Rattle.vme_dtb.proofs.AskedLines.{least_and}
-use Rattle.vme_dtb.proofs.ChangedLines.{and_true, first_least, same_itself}
+use Rattle.vme_dtb.proofs.ChangedLines.{first_least, same_itself}
 use Rattle.vme_dtb.proofs.StabilityMeaning.{Holds, falls_is, high_is, judged, strobe_rises_is, transfer_starts_is}
 use Rattle.vme_dtb.proofs.Lasting.{none_more}
 use Rattle.vme_dtb.proofs.Searches.{le_holds}
@@ -108,7 +109,7 @@ kept_line true false false o h = refl
 kept_line false w y o h = refl
 
 may : (h l d z : Bool) → cond h (l && d) z ≡ true → (not h || d) ≡ true
-may true l d z e = (and_true l d e).1
+may true l d z e = (and_parts l d e).1
 may false l d z e = refl
 
 -- if the instant is judged, and the write is held, the rule is broken on a line exactly if the line moves
@@ -250,7 +251,7 @@ module _ (t : Trace) (span : Stretch) (reads : ReadsStrobes t span) (n : ℕ) (f
   started : (i : ℕ) (w a : Bool) → IsIn t span (suc n) i w a → strobes_high_in old ≡ false → i ≤ n
   started i w a o low =
       elim (order_of i o.within) [
-        | inl e ↦ absurd (clash (strobes_high_in old) (and_true (strobes_high_in old) (strobe_low_in new)
+        | inl e ↦ absurd (clash (strobes_high_in old) (and_parts (strobes_high_in old) (strobe_low_in new)
             (sym (transfer_starts_is t span reads n from before) ∙ (rw e at o.starts))).0 low)
         | inr earlier ↦ earlier
       ]
@@ -322,7 +323,7 @@ module _ (t : Trace) (span : Stretch) (reads : ReadsStrobes t span) (n : ℕ) (f
 
   bound : (l : ℕ) → is_shifted old new l ≡ true → l < line_count
   bound l h = let within : l < 191 = selected_to old l
-      (and_true _ _ (and_true (has_line old.slots l && has_line new.slots l) _ h).1).0 in omega arith
+      (and_parts _ _ (and_parts (has_line old.slots l && has_line new.slots l) _ h).1).0 in omega arith
 
   none_where : (cs : List Change) → (keeps_data m old new && is_low (level_at old WRITE)) ≡ false
       → least (breaks t span S3 (suc n)) 0 line_count ≡ None

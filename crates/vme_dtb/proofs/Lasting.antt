@@ -2,9 +2,9 @@
 use Rattle.std.proofs.Common.{◌≡◌, ℕ, zero, suc, ◌+◌, ◌<◌, ◌≤◌, Bool, true, false, ◌||◌, ◌&&◌, not, refl, ◌∙◌, ap}
 use Rattle.std.proofs.Common.{arith}
 use Rattle.std.specs.Prelude.{nat_le}
+use Rattle.std.proofs.lemmas.Bool.{not-true}
 use Rattle.vme_trace.specs.Instants.{any, none}
 use Rattle.vme_trace.proofs.Ranges.{any-alike, any-fails, any-step, fails-any}
-use Rattle.vme_dtb.proofs.ChangedLines.{false_of_not}
 use Rattle.vme_dtb.proofs.Searches.{le_holds}
 
 pub suc-is : (n : ℕ) → suc n ≡ n + 1
@@ -50,7 +50,7 @@ pub none_shorter : (p : ℕ → Bool) (f m n : ℕ) → m ≤ n → none p f n �
 none_shorter p f m n order h = ap not (fails-any p f m (λ i a b. fails i a b))
   where
     fails : (i : ℕ) → f ≤ i → i < m → p i ≡ false
-    fails i a b = any-fails p f n i (false_of_not (any p f n) h) a (omega arith)
+    fails i a b = any-fails p f n i (not-true (any p f n) h) a (omega arith)
 
 module _ (old new : ℕ → Bool) (keep : Bool) (f n : ℕ) (from : f ≤ suc n) (kept : (i : ℕ) → f ≤ i → i ≤ n → new i
     ≡ (old i && keep)) where

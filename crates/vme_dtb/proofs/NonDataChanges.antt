@@ -1,22 +1,18 @@
 -- Changes of lines that no transfer moves.
-use Rattle.std.proofs.Common.{◌≡◌, ℕ, ◌+◌, ◌<◌, ◌≤◌, Bool, true, false, List, ◌∷◌, length, get_or, drop, refl, ap, sym}
+use Rattle.std.proofs.Common.{◌≡◌, ℕ, ◌+◌, ◌<◌, ◌≤◌, false, List, ◌∷◌, length, get_or, drop, refl, ap, sym}
 use Rattle.std.proofs.Common.{◌∙◌, arith}
 use Rattle.std.proofs.lemmas.List.{drop_more}
 use Rattle.std.proofs.lemmas.Bool.Decides.{nat_tests}
+use Rattle.std.proofs.lemmas.Bool.{and_parts, false_from_ne_true}
 use Rattle.vme_trace.specs.LineNumbers.{is_data}
 use Rattle.vme_trace.specs.Levels.{Levels}
 use Rattle.vme_trace.specs.declared.step.Change.{Change}
 use Rattle.vme_dtb.specs.StabilityRules.{first_among, is_shifted}
-use Rattle.vme_dtb.proofs.ChangedLines.{and_true}
 use Rattle.vme_dtb.proofs.HeldData.{selected_from, selected_to}
-
-not_true : (b : Bool) → (b ≡ true → ⊥) → b ≡ false
-not_true true h = absurd (h refl)
-not_true false h = refl
 
 not_moved : (v w : Levels) (l : ℕ) → is_data l ≡ false → is_shifted v w l ≡ false
 not_moved v w l h =
-    not_true (is_shifted v w l) (λ e. let moved = (and_true _ _ (and_true _ _ e).1).0 in
+    false_from_ne_true (is_shifted v w l) (λ e. let moved = (and_parts _ _ (and_parts _ _ e).1).0 in
     apart l h (selected_from v l moved) (selected_to v l moved))
   where
     apart : (l : ℕ) → is_data l ≡ false → 159 ≤ l → l < 191 → ⊥

@@ -3,6 +3,7 @@ use Rattle.std.proofs.Common.{◌≡◌, ℕ, zero, suc, ◌<◌, ◌≤◌, Boo
 use Rattle.std.proofs.Common.{Option, Some, None, cond, inl, inr, ◌⊎◌}
 use Rattle.std.specs.Prelude.{nat_le, nat_lt}
 use Rattle.std.proofs.lemmas.Bool.Decides.{nat_tests}
+use Rattle.std.proofs.lemmas.Bool.{and_parts}
 use Rattle.vme_trace.specs.Instants.{any, greatest, those}
 
 pub le_holds : (i j : ℕ) → i ≤ j → nat_le i j ≡ true
@@ -37,10 +38,6 @@ chosen : (b : Bool) (x y z : Option ℕ) → cond b x y ≡ z → ((b ≡ true) 
 chosen true x y z h = inl (refl, h)
 chosen false x y z h = inr (refl, h)
 
-and_first : (a b : Bool) → (a && b) ≡ true → a ≡ true
-and_first true b h = refl
-and_first false b h = absurd (cc)
-
 same_value : (n i : ℕ) → Some n ≡ Some i → n ≡ i
 same_value n i h = cc
 
@@ -52,7 +49,7 @@ greatest_within p f (suc n) i h =
     elim (chosen (nat_le f n && p n) (Some n) (greatest p f n) (Some i) h) [
       | inl here ↦
           let e : n ≡ i = same_value n i here.1 in
-          let from : f ≤ n = le_of f n (and_first (nat_le f n) (p n) here.0) in
+          let from : f ≤ n = le_of f n (and_parts (nat_le f n) (p n) here.0).0 in
           (omega arith, omega arith)
       | inr earlier ↦
           let found = greatest_within p f n i earlier.1 in

@@ -4,6 +4,7 @@ use Rattle.std.proofs.Common.{cond, inl, inr, ◌⊎◌, length, lit<, subst}
 use Rattle.std.specs.Prelude.{Option, None, Some, option_map, slice_get, nat_lt}
 use Rattle.std.specs.Option.{option_map_or, option_or}
 use Rattle.std.proofs.lemmas.Bool.Decides.{nat_tests}
+use Rattle.std.proofs.lemmas.Bool.{not-true}
 use Rattle.vme_trace.specs.LineNumbers.{line_count, AS, WRITE, is_control}
 use Rattle.vme_trace.specs.Levels.{Levels, level_at, is_low, is_high, is_idle, is_idle_on, same_level}
 use Rattle.vme_trace.specs.Trace.{Trace, levels_at, time_at}
@@ -31,7 +32,6 @@ use Rattle.vme_dtb.specs.StabilityRules.{stability_observation, turned_fault, un
 use Rattle.vme_dtb.specs.declared.holding.Holding.{Holding}
 use Rattle.vme_dtb.specs.declared.observation.HoldingObservation.{HoldingObservation}
 use Rattle.vme_dtb.proofs.AskedLines.{address_least, direction_least}
-use Rattle.vme_dtb.proofs.ChangedLines.{false_of_not}
 use Rattle.vme_dtb.proofs.HeldAddress.{S2_least, before_last, moved_least, no_fault}
 use Rattle.vme_dtb.proofs.HeldData.{shifted_least, undriven_least}
 use Rattle.vme_dtb.proofs.HeldDirection.{turned_least}
@@ -154,7 +154,7 @@ module _ (t : Trace) (span : Stretch) (ok : malformed_step t ≡ None) (facts : 
   address_high : is_low (level_at (levels_at t span.start) AS) ≡ false
   unfolding is_idle
   address_high = not_low (level_at (levels_at t span.start) AS)
-      (any-fails (λ k. not (is_idle_on (levels_at t span.start) k)) 0 line_count AS (false_of_not _ facts.idle)
+      (any-fails (λ k. not (is_idle_on (levels_at t span.start) k)) 0 line_count AS (not-true _ facts.idle)
       (omega arith) (lit< tt))
     where
       not_low : (x : Level) → not (is_high x) ≡ false → is_low x ≡ false

@@ -7,6 +7,7 @@ use Rattle.vme_trace.specs.Edges.{strobe_rises_between, strobes_high_in}
 use Rattle.vme_trace.specs.Instants.{any, none}
 use Rattle.std.proofs.Common.{inl, inr, ◌⊎◌}
 use Rattle.std.specs.Prelude.{None}
+use Rattle.std.proofs.lemmas.Bool.{and_parts, or_parts}
 use Rattle.vme_trace.specs.LineNumbers.{AS, DS0, DS1, WRITE}
 use Rattle.vme_trace.specs.Levels.{Levels, level_at, is_low, is_high, is_known}
 use Rattle.vme_trace.specs.Trace.{Trace, levels_at}
@@ -30,7 +31,6 @@ use Rattle.vme_dtb.specs.declared.holding.Holding.{Holding}
 use Rattle.vme_dtb.specs.HoldingNumbers.{has_risen, was_answered, writes_of}
 use Rattle.vme_dtb.proofs.Progressing.{directed_by, fresh_here, fresh_more, is_answered_state, is_closed}
 use Rattle.vme_dtb.proofs.Progressing.{risen_passed, was_passed}
-use Rattle.vme_dtb.proofs.ChangedLines.{and_true, or_false}
 use Rattle.vme_dtb.proofs.Lasting.{none_more, none_empty, none_one, lasts_on}
 use Rattle.vme_dtb.proofs.Searches.{le_holds}
 
@@ -92,8 +92,8 @@ was_high Unknown y k r h = absurd (cc)
 pub high_before : (v w : Levels) → is_known (level_at v DS0) ≡ true → is_known (level_at v DS1) ≡ true
     → strobe_rises_between v w ≡ false → strobes_high_in w ≡ true → strobes_high_in v ≡ true
 high_before v w first second still h =
-    let rises = or_false (rises_between v w DS0) (rises_between v w DS1) still in
-    let highs = and_true (is_high (level_at w DS0)) (is_high (level_at w DS1)) h in
+    let rises = or_parts (rises_between v w DS0) (rises_between v w DS1) still in
+    let highs = and_parts (is_high (level_at w DS0)) (is_high (level_at w DS1)) h in
     rw (
       was_high (level_at v DS0) (level_at w DS0) first rises.0 highs.0,
       was_high (level_at v DS1) (level_at w DS1)
@@ -313,7 +313,7 @@ module _ (t : Trace) (span : Stretch) where
     writing_now m = writes_of m.transfer (is_low (level_at old WRITE))
 
     high_old : transfer_starts t span (suc n) ≡ true → strobes_high_in old ≡ true
-    high_old s = (and_true (strobes_high_in old) (strobe_low_in new) (sym transfer_starts_is ∙ s)).0
+    high_old s = (and_parts (strobes_high_in old) (strobe_low_in new) (sym transfer_starts_is ∙ s)).0
 
     last_or_before : (i : ℕ) → i ≤ suc n → (i ≡ suc n) ⊎ (i ≤ n)
     last_or_before i h = grind arith

@@ -3,6 +3,7 @@ use Rattle.std.proofs.Common.{◌≡◌, ℕ, Bool, true, false, ◌&&◌, ◌||
 use Rattle.std.proofs.Common.{None, cond}
 use Rattle.std.specs.Prelude.{is_some, option_map}
 use Rattle.std.specs.Option.{option_or, option_map_or}
+use Rattle.std.proofs.lemmas.Bool.{or_from}
 use Rattle.vme_trace.specs.Edges.{answer_between, falls_between, rises_between, starts_between, strobe_low_in}
 use Rattle.vme_trace.specs.Edges.{strobes_high_in}
 use Rattle.vme_trace.specs.LineNumbers.{AS, DS0, DS1, DTACK, BERR, WRITE}
@@ -195,10 +196,7 @@ module _ (v w : Levels) (still : is_still v w ≡ true) where
   same_tracked h a s x p q e f g = rw (e, f, g) refl
 
   no_answer : answer_between v w ≡ false
-  no_answer = neither (falls_between v w DTACK) (falls_between v w BERR) (no_fall DTACK each.3) (no_fall BERR each.4)
-    where
-      neither : (a b : Bool) → a ≡ false → b ≡ false → (a || b) ≡ false
-      neither a b e f = rw (e, f) refl
+  no_answer = or_from (falls_between v w DTACK) (falls_between v w BERR) (no_fall DTACK each.3) (no_fall BERR each.4)
 
   tracked_still : (p : TransferPhase) → tracked p v w ≡ cond (strobes_high_in v) Closed p
   tracked_still p = same_tracked (strobes_high_in w) (answer_between v w) (starts_between v w) (strobes_high_in v) p

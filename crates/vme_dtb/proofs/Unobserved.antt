@@ -3,6 +3,7 @@ use Rattle.std.proofs.Common.{◌≡◌, ℕ, suc, ◌<◌, ◌≤◌, Bool, tru
 use Rattle.std.proofs.Common.{cond, lit<}
 use Rattle.std.specs.Prelude.{Option, None, Some}
 use Rattle.std.specs.Option.{is_some, option_or}
+use Rattle.std.proofs.lemmas.Bool.{or_parts}
 use Rattle.vme_trace.specs.Edges.{answer_between, rises_between, strobe_low_in, strobe_rises_between, strobes_high_in}
 use Rattle.vme_trace.specs.LineNumbers.{AS, DS0, DS1, WRITE}
 use Rattle.vme_trace.specs.Levels.{Levels, level_at, is_low, is_high, is_known}
@@ -22,7 +23,6 @@ use Rattle.vme_dtb.specs.StabilityRules.{faults_unknown, held_fault, is_observed
 use Rattle.vme_dtb.specs.StabilityRules.{observation_of, shifted_line, stability_next, stepped, undriven_line}
 use Rattle.vme_dtb.specs.declared.holding.Holding.{Holding}
 use Rattle.vme_dtb.specs.HoldingNumbers.{has_risen, was_answered}
-use Rattle.vme_dtb.proofs.ChangedLines.{or_false}
 use Rattle.vme_dtb.proofs.StabilityMeaning.{Holds, high_before, high_is}
 use Rattle.vme_dtb.proofs.Progressing.{is_answered_state, is_closed, passed_same}
 
@@ -94,18 +94,18 @@ module _ (t : Trace) (span : Stretch) (facts : IsSpan t span) (n : ℕ) (from : 
   pub quiet_there : (m : Holding) (cs : List Change) → Holds t span n m → is_observed old new cs ≡ false
       → stability_next m old new (observation_of old new cs) ≡ quiet m
   quiet_there m cs holds h =
-      let all = or_false (is_some (faults_unknown old new) || is_some (address_moved old cs) || direction_turned old new
+      let all = or_parts (is_some (faults_unknown old new) || is_some (address_moved old cs) || direction_turned old new
       || changes_holding old new || is_some (undriven_line old new)) (is_some (shifted_line old new cs)) h in
-      let most = or_false (is_some (faults_unknown old new) || is_some (address_moved old cs) || direction_turned old
+      let most = or_parts (is_some (faults_unknown old new) || is_some (address_moved old cs) || direction_turned old
       new || changes_holding old new) (is_some (undriven_line old new)) all.0 in
-      let held = or_false (is_some (faults_unknown old new) || is_some (address_moved old cs) || direction_turned old
+      let held = or_parts (is_some (faults_unknown old new) || is_some (address_moved old cs) || direction_turned old
       new) (changes_holding old new) most.0 in
-      let turned = or_false (is_some (faults_unknown old new) || is_some (address_moved old cs))
+      let turned = or_parts (is_some (faults_unknown old new) || is_some (address_moved old cs))
       (direction_turned old new) held.0 in
-      let moved = or_false (is_some (faults_unknown old new)) (is_some (address_moved old cs)) turned.0 in
-      let address = or_false (answer_between old new || strobe_rises_between old new) (rises_between old new AS)
+      let moved = or_parts (is_some (faults_unknown old new)) (is_some (address_moved old cs)) turned.0 in
+      let address = or_parts (answer_between old new || strobe_rises_between old new) (rises_between old new AS)
       held.1 in
-      let strobe = or_false (answer_between old new) (strobe_rises_between old new) address.0 in
+      let strobe = or_parts (answer_between old new) (strobe_rises_between old new) address.0 in
       let highs = high_before old new (facts.known n DS0 from (omega arith) (lit< tt) refl)
       (facts.known n DS1 from (omega arith) (lit< tt) refl) strobe.1 in
       rw (

@@ -1,5 +1,6 @@
 -- The edges of the usual kinds of steps.
 use Rattle.std.proofs.Common.{◌≡◌, ℕ, Bool, true, false, ◌&&◌, ◌||◌, not, refl, ◌∙◌, ap, Option, Some, None, cond}
+use Rattle.std.proofs.lemmas.Bool.{not_from_true}
 use Rattle.vme_trace.specs.Edges.{falls_between, rises_between, starts_between, strobes_high_in}
 use Rattle.vme_trace.specs.LineNumbers.{AS, DS0, DS1, DTACK, BERR, WRITE}
 use Rattle.vme_trace.specs.Levels.{Levels, level_at, is_low, is_high}
@@ -68,9 +69,6 @@ from_low : (x y : Level) → is_low x ≡ true → ((is_high x && is_low y) ≡ 
 from_low Low y h = (refl, refl)
 from_low High y h = absurd (cc)
 from_low Unknown y h = absurd (cc)
-
-negated : (b : Bool) → b ≡ true → not b ≡ false
-negated b h = rw h refl
 
 pub all_four : (a b c d : Bool) → (a && b && c && d) ≡ true → (a ≡ true) × (b ≡ true) × (c ≡ true) × (d ≡ true)
 all_four true true true true h = (refl, refl, refl, refl)
@@ -188,7 +186,7 @@ module _ (v w : Levels) where
       (no_rise AS all.0) (no_start all.1 all.2) (no_close all.1 all.2) (no_rise DS0 all.1) (no_rise DS1 all.2)
       (no_fall DS0 all.1) (no_fall DS1 all.2) falls
       (no_fall BERR all.3) (falls_alone (level_at v DTACK) (level_at w DTACK) falls).0 (no_rise BERR all.3)
-      (negated _ addressed)
+      (not_from_true _ addressed)
 
   pub ready_is : is_answer_alone v w ≡ true → rises_between v w DTACK ≡ true → ready_edges (not (is_addressed v w))
       ≡ edges_between v w

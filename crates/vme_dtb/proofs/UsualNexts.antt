@@ -2,6 +2,7 @@
 use Rattle.std.proofs.Common.{◌≡◌, ℕ, Bool, true, false, ◌&&◌, ◌||◌, not, refl, sym, ◌∙◌, ap, Option, Some, None, cond}
 use Rattle.std.specs.Prelude.{is_some, option_map}
 use Rattle.std.specs.Option.{option_or}
+use Rattle.std.proofs.lemmas.Bool.{or_parts}
 use Rattle.vme_trace.specs.Edges.{falls_between, rises_between, starts_between, strobe_falls_between}
 use Rattle.vme_trace.specs.Edges.{strobe_rises_between, strobes_high_in}
 use Rattle.vme_trace.specs.LineNumbers.{AS, DS0, DS1, DTACK, BERR, WRITE}
@@ -65,18 +66,13 @@ no_line_fault r false false k l h = refl
 no_line_fault r true b k l h = absurd (cc)
 no_line_fault r false true k l h = absurd (cc)
 
-neither : (a b : Bool) → (a || b) ≡ false → (a ≡ false) × (b ≡ false)
-neither false false h = (refl, refl)
-neither true b h = absurd (cc)
-neither false true h = absurd (cc)
-
 broken_by_rise : (p : TransferPhase) (a b e f : Bool) → strobes_break_rule p (a || b) e f ≡ false
     → fault_if H2 (is_unanswered p && true)
     (first_of a DS0 b DS1) ≡ None
 broken_by_rise Closed a b e f h = refl
 broken_by_rise Answered a b e f h = refl
-broken_by_rise Reading a b e f h = no_line_fault H2 a b DS0 DS1 (neither (a || b) e h).0
-broken_by_rise Writing a b e f h = no_line_fault H2 a b DS0 DS1 (neither (a || b) e h).0
+broken_by_rise Reading a b e f h = no_line_fault H2 a b DS0 DS1 (or_parts (a || b) e h).0
+broken_by_rise Writing a b e f h = no_line_fault H2 a b DS0 DS1 (or_parts (a || b) e h).0
 
 broken_by_fall : (p : TransferPhase) (r e a b : Bool) → strobes_break_rule p r e (a || b) ≡ false
     → fault_if H3 (is_replied p) (first_of a DS0 b DS1) ≡ None
@@ -90,8 +86,8 @@ broken_by_end : (p : TransferPhase) (r e f : Bool) → strobes_break_rule p r e 
     ≡ false
 broken_by_end Closed r e f h = refl
 broken_by_end Answered r e f h = refl
-broken_by_end Reading r e f h = (neither r e h).1
-broken_by_end Writing r e f h = (neither r e h).1
+broken_by_end Reading r e f h = (or_parts r e h).1
+broken_by_end Writing r e f h = (or_parts r e h).1
 
 -- in a transfer without an answer, DTACK* alone is its answer, and no second one
 one_answer : (e : TransferPhase) → is_unanswered e ≡ true → (not (is_within e) ≡ false)
