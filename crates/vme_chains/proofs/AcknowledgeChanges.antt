@@ -4,6 +4,7 @@ use Rattle.std.proofs.Common.{ap, arith, cond}
 use Rattle.std.specs.Prelude.{Option, None, Some, ◌==◌, nat_le}
 use Rattle.std.specs.Option.{is_some}
 use Rattle.std.proofs.lemmas.Bool.Decides.{nat_tests}
+use Rattle.std.proofs.lemmas.Bool.{and_left, and_parts}
 use Rattle.vme_trace.specs.Edges.{falls_between, low_near}
 use Rattle.vme_trace.specs.Instants.{any, least}
 use Rattle.vme_trace.specs.LineNumbers.{line_count, has_line, input_of}
@@ -18,17 +19,6 @@ use Rattle.vme_trace.proofs.Ranges.{fails-any, least-is, least-none, least-alike
 use Rattle.vme_trace.proofs.Changing.{level-kept}
 use Rattle.vme_chains.specs.AcknowledgeRules.{first_changed, passes_on, passes_unasked}
 
-and_true : (a b : Bool) → (a && b) ≡ true → (a ≡ true) × (b ≡ true)
-and_true true b h = (refl, h)
-and_true false b h = absurd (cc)
-
-pub or_false : (a b : Bool) → (a || b) ≡ false → (a ≡ false) × (b ≡ false)
-or_false true b h = absurd (cc)
-or_false false b h = (refl, h)
-
-and_none : (a b : Bool) → a ≡ false → (a && b) ≡ false
-and_none a b h = rw h refl
-
 none_last : (a : Bool) → (a && false) ≡ false
 none_last true = refl
 none_last false = refl
@@ -42,8 +32,8 @@ below_changes : (v : Levels) (lowest l : ℕ) (cs : List Change) → are_changes
 unfolding are_changes
 below_changes v lowest l [] h b = refl
 below_changes v lowest l (c ∷ cs) h b =
-    let parts = and_true _ _ h in
-    let low = and_true _ _ (and_true _ _ parts.0).0 in
+    let parts = and_parts _ _ h in
+    let low = and_parts _ _ (and_parts _ _ parts.0).0 in
     rw (below_changes v (c.line + 1) l cs parts.1 (before lowest c.line l low.0 b)) (unlike lowest c.line l low.0 b)
   where
     before : (k m l : ℕ) → nat_le k m ≡ true → l < k → l < m + 1
@@ -82,8 +72,8 @@ module _ (v : Levels) (p : ℕ → Bool) (few : v.slots ≤ 21) where
   unfolding are_changes
   first-least lowest [] h kept = sym (least-none p 0 line_count (fails-any p 0 line_count (λ l a b. kept l refl)))
   first-least lowest (c ∷ cs) h kept =
-      let parts = and_true _ _ h in
-      let exists = (and_true _ _ (and_true _ _ parts.0).0).1 in
+      let parts = and_parts _ _ h in
+      let exists = (and_parts _ _ (and_parts _ _ parts.0).0).1 in
       here_or_later c cs (p c.line) refl (exists_below v.slots c.line few exists)
       (fails-any p 0 c.line
       (λ l a b. kept l (rw (unlike c.line l b, below_changes v (c.line + 1) l cs parts.1 (past_first l c.line b))
@@ -115,7 +105,7 @@ passes_not v cs l h = rw (falls_not v (changed v cs) l (level-kept v cs l h)) (n
 
 pub unasked_not : (v : Levels) (cs : List Change) (l : ℕ) → is_changed cs l ≡ false → passes_unasked v (changed v cs) l
     ≡ false
-unasked_not v cs l h = and_none (passes_on v (changed v cs) l) _ (passes_not v cs l h)
+unasked_not v cs l h = and_left (passes_on v (changed v cs) l) _ (passes_not v cs l h)
 
 pub none_of : {A : Type 0} (o : Option A) → is_some o ≡ false → o ≡ None
 none_of None h = refl
@@ -132,4 +122,4 @@ unasked_none v w (c ∷ cs) h = past_first (passes_on v w c.line) refl h (unaske
         → (is_some (first_changed (passes_on v w) cs) ≡ false → first_changed (passes_unasked v w) cs ≡ None)
         → first_changed (passes_unasked v w) (c ∷ cs) ≡ None
     past_first true e h rest = absurd (cc)
-    past_first false e h rest = rw (and_none (passes_on v w c.line) (not (low_near v w (input_of c.line))) e) (rest h)
+    past_first false e h rest = rw (and_left (passes_on v w c.line) (not (low_near v w (input_of c.line))) e) (rest h)

@@ -4,6 +4,7 @@ use Rattle.std.proofs.Common.{arith, cond, length, subst, inl, inr, ◌⊎◌, O
 use Rattle.std.specs.Prelude.{option_map, slice_get, nat_lt}
 use Rattle.std.specs.Option.{is_some, option_or, option_map_or}
 use Rattle.std.proofs.lemmas.Bool.Decides.{nat_tests}
+use Rattle.std.proofs.lemmas.Bool.{or_parts}
 use Rattle.vme_trace.specs.Instants.{least}
 use Rattle.vme_trace.specs.LineNumbers.{line_count}
 use Rattle.vme_trace.specs.Levels.{Levels}
@@ -30,7 +31,7 @@ use Rattle.vme_chains.specs.AcknowledgeRules.{is_addressed}
 use Rattle.vme_chains.specs.declared.acknowledge.Acknowledgement.{Acknowledgement}
 use Rattle.vme_chains.specs.declared.acknowledge.PassingSlots.{PassingSlots}
 use Rattle.vme_chains.proofs.AcknowledgeBreaks.{least_input, least_strobes, least_answer}
-use Rattle.vme_chains.proofs.AcknowledgeChanges.{first-least, none_of, or_false, passes_not, unasked_none, unasked_not}
+use Rattle.vme_chains.proofs.AcknowledgeChanges.{first-least, none_of, passes_not, unasked_none, unasked_not}
 use Rattle.vme_chains.proofs.AcknowledgeMemory.{Holds, holds_start, holds_next, memory_same}
 
 module _ (t : Trace) (span : Stretch) (ok : malformed_step t ≡ None) (few : t.opening.slots ≤ 21)
@@ -94,7 +95,7 @@ module _ (t : Trace) (span : Stretch) (ok : malformed_step t ≡ None) (few : t.
             }
         by_observation true e = refl
         by_observation false e =
-            let still = or_false (is_some (first_changed (passes_on old new) cs)) (changes_memory old new) e in
+            let still = or_parts (is_some (first_changed (passes_on old new) cs)) (changes_memory old new) e in
             rw (
               unasked_none old new cs still.0,
               none_of (first_changed (passes_on old new) cs) still.0,

@@ -3,6 +3,7 @@ use Rattle.std.proofs.Common.{◌≡◌, ℕ, zero, suc, ◌+◌, ◌<◌, ◌�
 use Rattle.std.proofs.Common.{arith, cond, add-one, lit<}
 use Rattle.std.specs.Prelude.{Option, Some, nat_le}
 use Rattle.std.proofs.lemmas.Bool.Decides.{nat_tests}
+use Rattle.std.proofs.lemmas.Bool.{not-false, not-true, or_parts}
 use Rattle.vme_trace.specs.Edges.{answer_between, falls_between, strobe_low_in, strobes_high_in}
 use Rattle.vme_trace.specs.Instants.{any, greatest}
 use Rattle.vme_trace.specs.LineNumbers.{line_count, AS, DTACK, BERR, WRITE}
@@ -25,7 +26,6 @@ use Rattle.vme_monitor.proofs.TrackedTransfers.{says_start, tracked_is, is_answe
 use Rattle.vme_chains.specs.AcknowledgeRules.{acknowledge_begin, acknowledged_after, changes_memory, changes_strobes}
 use Rattle.vme_chains.specs.AcknowledgeRules.{is_acknowledged, memory_after}
 use Rattle.vme_chains.specs.declared.acknowledge.Acknowledgement.{Acknowledgement}
-use Rattle.vme_chains.proofs.AcknowledgeChanges.{or_false}
 
 -- the greatest number in a range that is longer by one
 greatest-step : (p : ℕ → Bool) (f n : ℕ) → greatest p f (n + 1) ≡ cond (nat_le f n && p n) (Some n) (greatest p f n)
@@ -88,16 +88,8 @@ module _ (t : Trace) (span : Stretch) where
   module _ (facts : IsSpan t span) where
     idle_address : is_high (level_at (levels_at t span.start) AS) ≡ true
     unfolding is_idle
-    idle_address = true_of_not _ (any-fails (λ k. not (is_idle_on (levels_at t span.start) k)) 0 line_count AS
-        (false_of_not _ facts.idle) (omega arith) (lit< tt))
-      where
-        true_of_not : (b : Bool) → not b ≡ false → b ≡ true
-        true_of_not true h = refl
-        true_of_not false h = absurd (cc)
-
-        false_of_not : (b : Bool) → not b ≡ true → b ≡ false
-        false_of_not true h = absurd (cc)
-        false_of_not false h = refl
+    idle_address = not-false _ (any-fails (λ k. not (is_idle_on (levels_at t span.start) k)) 0 line_count AS
+        (not-true _ facts.idle) (omega arith) (lit< tt))
 
     high_not_low : (x : Level) → is_high x ≡ true → is_low x ≡ true → ⊥
     high_not_low High h k = cc
@@ -255,10 +247,10 @@ module _ (t : Trace) (span : Stretch) where
       pub memory_same : (m : Acknowledgement) → Holds n m → changes_memory old new ≡ false → memory_after m old new ≡ m
       unfolding low
       memory_same m h still =
-          let address = or_false (changes_strobes old new || answer_between old new) (is_low (level_at old AS)
+          let address = or_parts (changes_strobes old new || answer_between old new) (is_low (level_at old AS)
           && is_high (level_at new AS)) still in
-          let answer = or_false (changes_strobes old new) (answer_between old new) address.0 in
-          let done = or_false (falls_between old new DTACK) (falls_between old new BERR) answer.1 in
+          let answer = or_parts (changes_strobes old new) (answer_between old new) address.0 in
+          let done = or_parts (falls_between old new DTACK) (falls_between old new BERR) answer.1 in
           rw (
             same_transfer m.transfer (cond (is_low (level_at new WRITE)) Writing Reading) (strobes_high_in old)
                 (strobe_low_in new) (strobes_high_in new) (answer_between old new) (closed_there m.transfer h.transfer)

@@ -3,6 +3,7 @@ use Rattle.std.proofs.Common.{◌≡◌, ℕ, zero, suc, ◌+◌, ◌<◌, ◌�
 use Rattle.std.proofs.Common.{arith, Option, Some, None, cond}
 use Rattle.std.specs.Prelude.{option_map}
 use Rattle.std.proofs.lemmas.Bool.Decides.{nat_tests}
+use Rattle.std.proofs.lemmas.Bool.{and_left}
 use Rattle.vme_trace.specs.Instants.{any, none, least}
 use Rattle.vme_trace.specs.LineNumbers.{line_count, BR, grant, has_line, is_arbiter_grant, grant_level}
 use Rattle.vme_trace.specs.Trace.{Trace, levels_at}
@@ -22,7 +23,7 @@ use Rattle.vme_chains.specs.declared.grant_memory.LevelSet.{LevelSet}
 use Rattle.vme_chains.proofs.GrantLines.{net_exists}
 use Rattle.vme_chains.proofs.GrantEdges.{falls-is, requested-is}
 use Rattle.vme_chains.proofs.GrantMeaning.{Holds, requested-more}
-use Rattle.vme_chains.proofs.GrantTests.{first_false, off_kind, on_kind, one_more}
+use Rattle.vme_chains.proofs.GrantTests.{off_kind, on_kind, one_more}
 
 arbiter_line : (l : ℕ) → is_arbiter_grant l ≡ true → l ≡ grant (grant_level l) 0
 arbiter_line l h = grind (arith, nat_tests)
@@ -112,7 +113,7 @@ module _ (t : Trace) (span : Stretch) (few : t.opening.slots ≤ 21) (n : ℕ) (
   by_begin false e requests =
       ap (option_map (λ n. grant n 0))
       (least-none _ 0 4
-      (fails-any _ 0 4 (λ i a b. first_false (falls_between (levels_at t n) (levels_at t (suc n)) (grant i 0)) _
+      (fails-any _ 0 4 (λ i a b. and_left (falls_between (levels_at t n) (levels_at t (suc n)) (grant i 0)) _
       (any-fails (λ n'. falls_between (levels_at t n) (levels_at t (suc n)) (grant n' 0)) 0 4 i e a b))))
 
   pub g5-is : least (breaks t span G5 (suc n)) 0 line_count

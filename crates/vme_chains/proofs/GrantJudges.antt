@@ -4,6 +4,7 @@ use Rattle.std.proofs.Common.{arith, Option, Some, None, cond, length, inl, inr,
 use Rattle.std.specs.Prelude.{◌==◌, nat_lt, option_map, slice_get}
 use Rattle.std.specs.Option.{option_map_or}
 use Rattle.std.proofs.lemmas.Bool.Decides.{nat_tests}
+use Rattle.std.proofs.lemmas.Bool.{or_parts}
 use Rattle.vme_trace.specs.LineNumbers.{BBSY, BR}
 use Rattle.vme_trace.specs.Levels.{Levels}
 use Rattle.vme_trace.specs.Trace.{Trace, levels_at, time_at, changed}
@@ -39,7 +40,7 @@ use Rattle.vme_chains.proofs.GrantMeaning.{requested-next, granted-next, request
 use Rattle.vme_chains.proofs.GrantSkips.{untouched, request_arbitration, nets-none, grants-none, takes-none, ends-none}
 use Rattle.vme_chains.proofs.GrantSkips.{fault-none}
 use Rattle.vme_chains.proofs.GrantFaults.{fault-is}
-use Rattle.vme_chains.proofs.GrantTests.{or_false, start_or_after}
+use Rattle.vme_chains.proofs.GrantTests.{start_or_after}
 
 in_cond : (b : Bool) (x y : LevelSet) (l : ℕ) → is_in (cond b x y) l ≡ cond b (is_in x l) (is_in y l)
 in_cond true x y l = refl
@@ -134,14 +135,14 @@ module _ (t : Trace) (span : Stretch) (few : t.opening.slots ≤ 21) where
         → Holds t span n m → Holds t span (suc n) (option_map_or (grant_next m old new) (cond b (Some seen) None)
         (quiet m)).memory
     holds_by m true e held = holds_seen m held
-    holds_by m false e held = holds_passed (or_false _ _ e).0 m held
+    holds_by m false e held = holds_passed (or_parts _ _ e).0 m held
 
     fault_by : (m : Arbitration) (b : Bool) → (touches_arbitration cs || is_cycle_unowned old new) ≡ b
         → (option_map_or (grant_next m old new) (cond b (Some seen) None) (quiet m)).fault
         ≡ (grant_next m old new seen).fault
     fault_by m true e = refl
     fault_by m false e =
-        let none = or_false (touches_arbitration cs) (is_cycle_unowned old new) e in
+        let none = or_parts (touches_arbitration cs) (is_cycle_unowned old new) e in
         sym
         (fault-none old new (union m.requests (requested_in new)) (requested_in new) (m.granted || grant_begins old new)
         (nets_fault old new cs) (grant_begins old new) (falls_between old new BBSY) (is_ungranted old new)
@@ -178,7 +179,7 @@ module _ (t : Trace) (span : Stretch) (few : t.opening.slots ≤ 21) where
         ≡ (grant_next m old new seen).shown
     kinds_by m true e = refl
     kinds_by m false e =
-        let none = or_false (touches_arbitration cs) (is_cycle_unowned old new) e in
+        let none = or_parts (touches_arbitration cs) (is_cycle_unowned old new) e in
         sym (passed (falls_between old new BBSY) (rises_between old new BBSY) (takes-none t span few n from before cs
         step fit none.0) (ends-none t span few n from before cs step fit none.0))
       where

@@ -3,6 +3,7 @@ use Rattle.std.proofs.Common.{◌≡◌, ℕ, ◌+◌, ◌-◌, ◌<◌, ◌≤�
 use Rattle.std.proofs.Common.{ap, arith, Some, cond}
 use Rattle.std.specs.Prelude.{◌==◌, nat_le}
 use Rattle.std.proofs.lemmas.Bool.Decides.{nat_tests}
+use Rattle.std.proofs.lemmas.Bool.{and_parts}
 use Rattle.vme_trace.specs.Instants.{any, least}
 use Rattle.vme_trace.specs.LineNumbers.{line_count, has_line, is_slot_grant, input_of, grant, BR}
 use Rattle.vme_trace.specs.Levels.{Levels, is_low, is_high}
@@ -17,10 +18,6 @@ use Rattle.vme_trace.proofs.Changing.{slots-kept, level-kept}
 use Rattle.vme_chains.specs.GrantLevels.{shown, falls_between, rises_between, first_changed}
 use Rattle.vme_chains.proofs.GrantTests.{equal, unlike}
 
-and_true : (a b : Bool) → (a && b) ≡ true → (a ≡ true) × (b ≡ true)
-and_true true b h = (refl, h)
-and_true false b h = absurd (cc)
-
 exists_below : (slots l : ℕ) → slots ≤ 21 → has_line slots l ≡ true → l < line_count
 exists_below slots l few h = grind (arith, nat_tests)
 
@@ -33,8 +30,8 @@ below_changes : (v : Levels) (lowest l : ℕ) (cs : List Change) → are_changes
 unfolding are_changes
 below_changes v lowest l [] h b = refl
 below_changes v lowest l (c ∷ cs) h b =
-    let parts = and_true _ _ h in
-    let low = and_true _ _ (and_true _ _ parts.0).0 in
+    let parts = and_parts _ _ h in
+    let low = and_parts _ _ (and_parts _ _ parts.0).0 in
     rw (below_changes v (c.line + 1) l cs parts.1 (past lowest c.line l low.0 b).0) (past lowest c.line l low.0 b).1
   where
     past : (k m l : ℕ) → nat_le k m ≡ true → l < k → (l < m + 1) × (((m == l) || false) ≡ false)
@@ -67,8 +64,8 @@ module _ (p : ℕ → Bool) (v : Levels) (few : v.slots ≤ 21) where
   unfolding are_changes
   first-least lowest [] h kept = sym (least-none p 0 line_count (fails-any p 0 line_count (λ l a b. kept l refl)))
   first-least lowest (c ∷ cs) h kept =
-      let parts = and_true _ _ h in
-      let exists = (and_true _ _ (and_true _ _ parts.0).0).1 in
+      let parts = and_parts _ _ h in
+      let exists = (and_parts _ _ (and_parts _ _ parts.0).0).1 in
       first_here c cs (p c.line) refl (exists_below v.slots c.line few exists)
       (fails-any p 0 c.line
       (λ l a b. kept l (rw (unlike c.line l b, below_changes v (c.line + 1) l cs parts.1 (one_more l c.line b))

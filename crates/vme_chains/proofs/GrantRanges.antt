@@ -3,6 +3,7 @@ use Rattle.std.proofs.Common.{◌≡◌, ℕ, zero, suc, ◌+◌, ◌<◌, ◌�
 use Rattle.std.proofs.Common.{◌⊎◌}
 use Rattle.std.specs.Prelude.{None, Some, nat_le}
 use Rattle.std.proofs.lemmas.Bool.Decides.{nat_tests}
+use Rattle.std.proofs.lemmas.Bool.{and_right}
 use Rattle.vme_trace.specs.Instants.{greatest}
 use Rattle.vme_trace.specs.Judged.{Stretch}
 use Rattle.vme_trace.specs.Tenures.{last_before}
@@ -15,16 +16,13 @@ in_range p f n from h = grind (arith, nat_tests)
 out_of_range : (f n : ℕ) (b : Bool) → n < f → (nat_le f n && b) ≡ false
 out_of_range f n b past = grind (arith, nat_tests)
 
-and_false : (a b : Bool) → b ≡ false → (a && b) ≡ false
-and_false a b h = grind (arith, nat_tests)
-
 pub greatest-here : (p : ℕ → Bool) (f n : ℕ) → f ≤ n → p n ≡ true → greatest p f (suc n) ≡ Some n
 unfolding greatest
 greatest-here p f n from h = rw (in_range p f n from h) refl
 
 pub greatest-before : (p : ℕ → Bool) (f n : ℕ) → p n ≡ false → greatest p f (suc n) ≡ greatest p f n
 unfolding greatest
-greatest-before p f n h = rw (and_false (nat_le f n) (p n) h) refl
+greatest-before p f n h = rw (and_right (nat_le f n) (p n) h) refl
 
 pub greatest-empty : (p : ℕ → Bool) (f n : ℕ) → n ≤ f → greatest p f n ≡ None
 unfolding greatest

@@ -3,6 +3,7 @@ use Rattle.std.proofs.Common.{◌≡◌, ℕ, suc, ◌<◌, ◌≤◌, Bool, tru
 use Rattle.std.proofs.Common.{arith, Option, None, cond}
 use Rattle.std.specs.Prelude.{◌==◌}
 use Rattle.std.proofs.lemmas.Bool.Decides.{nat_tests}
+use Rattle.std.proofs.lemmas.Bool.{and_left, or_parts}
 use Rattle.vme_trace.specs.LineNumbers.{BBSY, BR, grant, is_grant}
 use Rattle.vme_trace.specs.Changes.{is_changed}
 use Rattle.vme_trace.specs.Levels.{Levels}
@@ -19,26 +20,26 @@ use Rattle.vme_chains.specs.GrantLevels.{grant_begins, falls_between, rises_betw
 use Rattle.vme_chains.specs.GrantRules.{nets_fault, step_fault}
 use Rattle.vme_chains.specs.declared.grant_memory.LevelSet.{LevelSet}
 use Rattle.vme_chains.proofs.GrantNets.{falls-kept, rises-kept}
-use Rattle.vme_chains.proofs.GrantTests.{or_false, equal, first_false}
+use Rattle.vme_chains.proofs.GrantTests.{equal}
 
 -- if `touches_arbitration` is false, no line of the arbitration bus is among the changes
 pub untouched : (cs : List Change) (l : ℕ) → touches_arbitration cs ≡ false → is_arbitration l ≡ true → is_changed cs l
     ≡ false
 untouched [] l h k = refl
 untouched (c ∷ cs) l h k =
-    let both = or_false (is_arbitration c.line) (touches_arbitration cs) h in
+    let both = or_parts (is_arbitration c.line) (touches_arbitration cs) h in
     rw (untouched cs l both.1 k) (other (c.line == l) refl)
   where
     other : (b : Bool) → (c.line == l) ≡ b → (b || false) ≡ false
     other false e = refl
     other true e = absurd (clash (is_arbitration l) k (ap is_arbitration (sym (equal c.line l e))
-        ∙ (or_false (is_arbitration c.line) (touches_arbitration cs) h).0))
+        ∙ (or_parts (is_arbitration c.line) (touches_arbitration cs) h).0))
 
 first_none : (p : ℕ → Bool) → ((l : ℕ) → is_arbitration l ≡ false → p l ≡ false) → (cs : List Change)
     → touches_arbitration cs ≡ false → first_changed p cs ≡ None
 first_none p off [] h = refl
 first_none p off (c ∷ cs) h =
-    let both = or_false (is_arbitration c.line) (touches_arbitration cs) h in
+    let both = or_parts (is_arbitration c.line) (touches_arbitration cs) h in
     rw (off c.line both.0) (first_none p off cs both.1)
 
 no_grant : (l : ℕ) → is_arbitration l ≡ false → is_grant l ≡ false
@@ -50,9 +51,9 @@ net_off kind edge rest h = rw h refl
 pub nets-none : (v w : Levels) (cs : List Change) → touches_arbitration cs ≡ false → nets_fault v w cs ≡ None
 nets-none v w cs h =
     rw (
-      first_none (is_net_broken G1 v w) (λ l k. net_off _ _ _ (first_false (is_grant l) _ (no_grant l k))) cs h,
-      first_none (is_net_broken G2 v w) (λ l k. net_off _ _ _ (first_false (is_grant l) _ (no_grant l k))) cs h,
-      first_none (is_net_broken G3 v w) (λ l k. net_off _ _ _ (first_false (is_grant l) _ (no_grant l k))) cs h,
+      first_none (is_net_broken G1 v w) (λ l k. net_off _ _ _ (and_left (is_grant l) _ (no_grant l k))) cs h,
+      first_none (is_net_broken G2 v w) (λ l k. net_off _ _ _ (and_left (is_grant l) _ (no_grant l k))) cs h,
+      first_none (is_net_broken G3 v w) (λ l k. net_off _ _ _ (and_left (is_grant l) _ (no_grant l k))) cs h,
       first_none (is_net_broken G4 v w) (λ l k. net_off _ _ _ (no_grant l k)) cs h,
     ) refl
 

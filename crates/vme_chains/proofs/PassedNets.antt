@@ -2,6 +2,7 @@
 use Rattle.std.proofs.Common.{◌≡◌, ℕ, ◌+◌, ◌<◌, Bool, false, List, ◌∷◌, length, get_or, drop, refl, ap, sym, ◌∙◌}
 use Rattle.std.specs.Prelude.{None}
 use Rattle.std.proofs.lemmas.List.{drop_more}
+use Rattle.std.proofs.lemmas.Bool.{and_left}
 use Rattle.vme_trace.specs.LineNumbers.{is_grant}
 use Rattle.vme_trace.specs.Levels.{Levels}
 use Rattle.vme_trace.specs.declared.rule.Rule.TheVariants.{G1, G2, G3, G4}
@@ -9,7 +10,6 @@ use Rattle.vme_trace.specs.declared.step.Change.{Change}
 use Rattle.vme_chains.specs.GrantLevels.{first_changed, is_net_broken}
 use Rattle.vme_chains.specs.GrantRules.{nets_fault}
 use Rattle.vme_chains.proofs.GrantSkips.{net_off}
-use Rattle.vme_chains.proofs.GrantTests.{first_false}
 
 passed_first : (p : ℕ → Bool) (c : Change) (cs : List Change) → p c.line ≡ false → first_changed p (c ∷ cs)
     ≡ first_changed p cs
@@ -29,8 +29,8 @@ pub nets-passed : (v w : Levels) (cs : List Change) → ((p : ℕ → Bool) → 
     → first_changed p cs ≡ None) → nets_fault v w cs ≡ None
 nets-passed v w cs none =
     rw (
-      none (is_net_broken G1 v w) (λ l k. net_off _ _ _ (first_false (is_grant l) _ k)),
-      none (is_net_broken G2 v w) (λ l k. net_off _ _ _ (first_false (is_grant l) _ k)),
-      none (is_net_broken G3 v w) (λ l k. net_off _ _ _ (first_false (is_grant l) _ k)),
+      none (is_net_broken G1 v w) (λ l k. net_off _ _ _ (and_left (is_grant l) _ k)),
+      none (is_net_broken G2 v w) (λ l k. net_off _ _ _ (and_left (is_grant l) _ k)),
+      none (is_net_broken G3 v w) (λ l k. net_off _ _ _ (and_left (is_grant l) _ k)),
       none (is_net_broken G4 v w) (λ l k. net_off _ _ _ k),
     ) refl

@@ -1,17 +1,15 @@
-use Rattle.std.proofs.Common.{◌≡◌, Bool, true, sym, ◌∙◌, ap, arith, refl}
+use Rattle.std.proofs.Common.{sym, ◌∙◌, ap, arith}
 use Rattle.std.specs.Prelude.{not, ◌==◌, ◌&&◌}
+use Rattle.std.proofs.lemmas.Bool.{and_from}
 use Rattle.vme_trace.specs.LineNumbers.{grant}
 use Rattle.vme_trace.proofs.Ranges.{any-holds}
 use Rattle.vme_chains.specs.GrantLevels.{is_low_in}
 use Rattle.vme_chains.proofs.grant_levels.is_other_granted.Goals as goal
-
-both : (a b : Bool) → a ≡ true → b ≡ true → (a && b) ≡ true
-both a b h k = rw (h, k) refl
 
 pub returns-then-is_low : goal.returns-then-is_low
 returns-then-is_low c =
     sym
     (any-holds (λ n. not (grant n 0 == c.args.line) && is_low_in c.args.lines.now (grant n 0)) 0 4 c.loop-level.level
     (omega arith) c.loop-level-test.true
-    (both _ _ (ap (λ l. not (l == c.args.line)) (sym c.grant-net.ensures) ∙ sym c.ne.ensures ∙ c.if-ne.true)
+    (and_from _ _ (ap (λ l. not (l == c.args.line)) (sym c.grant-net.ensures) ∙ sym c.ne.ensures ∙ c.if-ne.true)
     (ap (is_low_in c.args.lines.now) (sym c.grant-net.ensures) ∙ sym c.is_low.ensures ∙ c.if-is_low.true)))
