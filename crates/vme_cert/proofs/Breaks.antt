@@ -4,6 +4,7 @@ use Rattle.std.proofs.Common.{◌∙◌, arith, ◌+◌, ◌-◌, ◌≤◌, ◌
 use Rattle.std.specs.Prelude.{◌==◌, nat_le, nat_lt, if◌then◌else◌, None, Some}
 use Rattle.std.specs.List.{list_any}
 use Rattle.std.proofs.lemmas.Bool.{agree_below, agree_below_at, ltb-true, eqb-true, and_parts}
+use Rattle.std.proofs.lemmas.Bool.{not-false, not-true, or_parts}
 use Rattle.std.proofs.lemmas.Bool.Decides.{nat_tests}
 use Rattle.vme_trace.specs.declared.class.Class.TheVariants as class
 use Rattle.vme_trace.proofs.EveryRule.{every-rule, same-rule}
@@ -24,7 +25,7 @@ use Rattle.vme_cert.specs.State.{IsStateOf}
 use Rattle.vme_cert.specs.declared.bus.Bus.{Bus}
 use Rattle.vme_cert.specs.declared.state.State.{State}
 use Rattle.std.proofs.lemmas.List.Folds.{list_any_at}
-use Rattle.vme_cert.proofs.Ranges.{eq_fails, false_of_not, true_of_not, within_of, and_off, any-first, or_false, decide}
+use Rattle.vme_cert.proofs.Ranges.{eq_fails, within_of, and_off, any-first, decide}
 use Rattle.vme_cert.proofs.Fields.{starts-is}
 
 -- ---- The table of rules by line lists the rules that speak of a line: every rule is tried on every line.
@@ -233,9 +234,9 @@ pub known-within : (t : Trace) (j first last l : ℕ) → every (is_known_on (le
 unfolding known
 known-within t j first last l all within =
     let (from, below) = within_of first l last within in
-    true_of_not (is_known_on (levels_at t j) l)
+    not-false (is_known_on (levels_at t j) l)
     (any-fails (λ k. not (is_known_on (levels_at t j) k)) first (last + 1) l
-    (false_of_not (any (λ k. not (is_known_on (levels_at t j) k)) first (last + 1)) all) from below)
+    (not-true (any (λ k. not (is_known_on (levels_at t j) k)) first (last + 1)) all) from below)
 
 -- ---- where no rule is broken
 
@@ -304,6 +305,6 @@ has-is t bus l at = ap (λ (v : Levels). has_line v.slots l) at.levels
 pub ruleset asked_breaks = (breaks-absent, breaks-is, breaks-elsewhere, has-is)
 
 -- for the goals of `is_transfer_start_broken`
-pub ruleset started = (answers-only, direction-only, unstarted-answers, unstarted-direction, starts-is, or_false)
+pub ruleset started = (answers-only, direction-only, unstarted-answers, unstarted-direction, starts-is, or_parts)
 
 pub ruleset within = (known-within, any-first, any-fails)

@@ -1,6 +1,6 @@
 -- The listing of a recording stretch by stretch, from one instant to the next, and its steps taken one by one.
 use Rattle.std.proofs.Common.{◌≡◌, ℕ, ◌+◌, ◌<◌, ◌≤◌, List, [], ◌∷◌, ◌++◌, refl, sym, ◌∙◌, ap, arith, append_assoc, zero}
-use Rattle.std.proofs.Common.{suc, ◌-◌, Bool, true, false, ◌||◌, inl, inr, ◌⊎◌, add-one, ◌*◌, map, subst, length-append}
+use Rattle.std.proofs.Common.{suc, ◌-◌, true, false, inl, inr, ◌⊎◌, add-one, ◌*◌, map, subst, length-append}
 use Rattle.std.proofs.Common.{not, get_or, length, take, append-nil}
 use Rattle.std.specs.Prelude.{Option, None, Some, flat_map, nat_lt, ◌==◌, option_map, ◌-◌, if◌then◌else◌, slice_get}
 use Rattle.std.specs.Option.{option_or}
@@ -8,7 +8,7 @@ use Rattle.std.proofs.Math.Nat.{min-eq_left, min-eq_right}
 use Rattle.std.proofs.lemmas.List.{append-nil, length-take-le, take_all}
 use Rattle.std.proofs.lemmas.Option.{slice_get_read, slice_get_within}
 use Rattle.std.proofs.Math.Seq.{get_or-append_seam}
-use Rattle.std.proofs.lemmas.Bool.{lt-ltb, le-ltb, and_parts}
+use Rattle.std.proofs.lemmas.Bool.{lt-ltb, le-ltb, and_parts, and_right, not-false, or_from, or_right}
 use Rattle.vme_trace.proofs.JudgedSpans.{AreInOrder, starts_before_end, ends_within, spans_in_order, span_unlost}
 use Rattle.vme_trace.proofs.JudgedSpans.{span_unreset, awaits-first, awaits-next, busy-no_start, end-after}
 use Rattle.vme_trace.proofs.JudgedSpans.{end-within, reset-unlost_at, span_reset, spans_from_first}
@@ -41,7 +41,7 @@ use Rattle.vme_cert.specs.declared.checker.CheckPhase.{CheckPhase}
 use Rattle.vme_cert.specs.declared.checker.CheckPhase.TheVariants.{Ended, InStretch, Waiting}
 use Rattle.vme_cert.specs.declared.open_rows.OpenRows.{OpenRows}
 use Rattle.vme_cert.specs.declared.state.State.{State}
-use Rattle.vme_cert.proofs.Ranges.{second_fails, eq_fails, unjudged, case_of, same_value, eq_past, true_of_not}
+use Rattle.vme_cert.proofs.Ranges.{eq_fails, unjudged, case_of, same_value, eq_past}
 use Rattle.vme_cert.proofs.Ranges.{last_or_before}
 use Rattle.vme_cert.proofs.Breaks.{break_at-none}
 use Rattle.vme_cert.proofs.Following.{open-last, transfer-last}
@@ -63,7 +63,7 @@ module _ (t : Trace) where
       rw (
         lt-ltb span.start limit order,
         min-eq_right within,
-        second_fails (is_reset_at t span.end)
+        and_right (is_reset_at t span.end)
             (nat_lt span.end limit) (le-ltb span.end limit within),
       )
       (append-nil (rows_to t span limit))
@@ -214,7 +214,7 @@ module _ (t : Trace) (span : Stretch) where
   -- away from the end of a stretch U1 isn't broken
   pub held : (j l : ℕ) → (j == span.end) ≡ false → breaks t span U1 j l ≡ false
   unfolding breaks is_broken
-  held j l other = rw other (second_fails (has_line t.opening.slots l) false refl)
+  held j l other = rw other (and_right (has_line t.opening.slots l) false refl)
 
   -- no rule is broken up to the start of the stretch
   pub none-first : (j : ℕ) → j ≤ span.start + 1 → span.start < span.end → break_before t span all_rules j ≡ None
@@ -227,12 +227,9 @@ module _ (t : Trace) (span : Stretch) where
 module _ (t : Trace) (s j : ℕ) (is : IsSpanOf t (span_from t s)) (from : s ≤ j) (before : j < span_end t s)
     (within : suc j ≤ last_instant t) where
   ran : any (stops_at t) (s + 1) (j + 1) ≡ false
-  ran = fails-any (stops_at t) (s + 1) (j + 1) (λ i a b. both
+  ran = fails-any (stops_at t) (s + 1) (j + 1) (λ i a b. or_from _ _
       (span_unreset t (span_from t s) i is (omega arith) (omega arith))
       (span_unlost t (span_from t s) i is (omega arith) (omega arith)))
-    where
-      both : {a b : Bool} → a ≡ false → b ≡ false → (a || b) ≡ false
-      both h k = rw (h, k) refl
 
   pub ends-here : stops_at t (suc j) ≡ true → span_end t s ≡ suc j
   ends-here stops = end-is t s j ran from (omega arith) stops
@@ -279,13 +276,9 @@ module _ (t : Trace) (s : ℕ) (is : IsSpanOf t (span_from t s)) where
         let loses : loses_control_at t (suc j) ≡ true = any-holds (is_lost (levels_at t (suc j))) 0 line_count l
         found.first
         found.below found.holds in
-        let ends = ends-here t s j is (omega arith) (omega arith) within (or_second (is_reset_at t (suc j)) _ loses) in
+        let ends = ends-here t s j is (omega arith) (omega arith) within (or_right (is_reset_at t (suc j)) _ loses) in
         rw (least-alike (breaks t stretch U1 (suc j)) (is_lost (levels_at t (suc j))) 0 line_count
         (λ k a b. u1-lost t s j ends (omega arith) k) ∙ least_is) refl
-      where
-        or_second : (a b : Bool) → b ≡ true → (a || b) ≡ true
-        or_second true b h = refl
-        or_second false b h = h
 
     pub at-rest : (n : ℕ) → s < n → n ≤ stretch.end → n ≤ last_instant t → (levels_at t (n - 1)).slots ≤ 21
         → levels_at t n ≡ changed (levels_at t (n - 1)) cs → are_changes (levels_at t (n - 1)) 0 cs ≡ true
@@ -409,7 +402,7 @@ module _ {Whole Source : Type 0} {gave : Whole → Source → List Row → Type 
               (λ i a b. quiet t span i (past i a) (λ l below. by_order i l below (order i a)) all_rules)
             where
               past : (i : ℕ) → n ≤ i → is_judged span i ≡ false
-              past i a = second_fails (nat_lt span.start i) (nat_lt i span.end)
+              past i a = and_right (nat_lt span.start i) (nat_lt i span.end)
                   (le-ltb i span.end (omega (arith, ends)))
 
               order : (i : ℕ) → n ≤ i → (i ≡ n) ⊎ (n < i)
@@ -584,7 +577,7 @@ module _ (t : Trace) (i : ℕ) (step : Step) (found : slice_get t.steps i ≡ So
   pub sound-step : malformed_step t ≡ None → are_changes (levels_at t i) 0 step.changes ≡ true
   unfolding malformed_step is_step
   sound-step well =
-      let fits = true_of_not (is_step t i) (any-fails (λ n. not (is_step t n)) 0 (length t.steps) i
+      let fits = not-false (is_step t i) (any-fails (λ n. not (is_step t n)) 0 (length t.steps) i
       (least-none-any _ _ _ well) (omega arith) (slice_get_within t.steps i step found)) in
       (and_parts _ _ (rw found at fits)).1
 
@@ -718,7 +711,7 @@ module _ {Whole Source : Type 0} (gave : Whole → Source → List Row → Type 
         no_spans t (last_instant t + 1 + 1) (omega arith),
         h.conforms,
         le-ltb (last_instant t + 1) (last_instant t + 1) (omega arith),
-        second_fails (is_reset_at t (last_instant t + 1)) false refl,
+        and_right (is_reset_at t (last_instant t + 1)) false refl,
       ) refl
 
 pub ended-all : {Whole Source : Type 0} {gave : Whole → Source → List Row → Type 0} {is_over : Source → Type 0}

@@ -5,7 +5,7 @@ use Rattle.std.specs.Prelude.{Some, nat_le, if◌then◌else◌, nat_lt, unwrap_
 use Rattle.std.proofs.Math.Bool.{beq}
 use Rattle.std.proofs.lemmas.Bool.Decides.{nat_tests}
 use Rattle.std.specs.Option.{option_map_or}
-use Rattle.std.proofs.lemmas.Bool.{le-leb, ltb-true, ltb-false, and_parts}
+use Rattle.std.proofs.lemmas.Bool.{le-leb, ltb-true, ltb-false, and_parts, and_from, not-false, not-true, or_parts}
 use Rattle.vme_trace.proofs.OpenTransfers.{in_transfer-is, ReadsStrobes}
 use Rattle.vme_trace.proofs.Ranges.{any-holds, fails-any, any-step, any-fails, clash, any-least, least-found}
 use Rattle.vme_trace.proofs.JudgedSpans.{span_reads}
@@ -22,10 +22,10 @@ use Rattle.vme_cert.specs.State.{is_acknowledged, is_data_held, is_unanswered}
 use Rattle.vme_cert.specs.Instant.{starts_transfer}
 use Rattle.vme_cert.specs.declared.state.Transfer.{Transfer}
 use Rattle.vme_cert.specs.declared.state.Cycle.{Cycle}
-use Rattle.vme_cert.proofs.Ranges.{below_or_from, both, IsGreatest, and_off, and_on, greatest-found, none-shorter}
+use Rattle.vme_cert.proofs.Ranges.{below_or_from, IsGreatest, and_off, and_on, greatest-found, none-shorter}
 use Rattle.vme_cert.proofs.Ranges.{after_start, greatest-here, greatest-not, none-step, any-start, last_or_before}
-use Rattle.vme_cert.proofs.Ranges.{greatest-none-any, those-empty, false_of_not, order_of, true_of_not, greatest-none}
-use Rattle.vme_cert.proofs.Ranges.{decide, case_of, later, de_morgan, only-last, or_on, unless, or_false}
+use Rattle.vme_cert.proofs.Ranges.{greatest-none-any, those-empty, order_of, greatest-none}
+use Rattle.vme_cert.proofs.Ranges.{decide, case_of, later, de_morgan, only-last, or_on, unless}
 use Rattle.vme_cert.proofs.Instant.{address-known}
 
 -- ---- The transfer of an instant: the last to start, while no instant since then had both strobes high.
@@ -232,7 +232,7 @@ module _ (t : Trace) (span : Stretch) (j : ℕ) (judged : is_judged span j ≡ t
         (λ e. let before = ltb-true c.start j e in
         let low : strobes_high t j ≡ false = rw e at h in
         none-step (strobes_high t) (c.start + 1) j (omega arith)
-        ∙ both (none (strobes_high t) (c.start + 1) j) (not (strobes_high t j)) is.still (ap not low))
+        ∙ and_from (none (strobes_high t) (c.start + 1) j) (not (strobes_high t j)) is.still (ap not low))
         (λ e. let same = ltb-false c.start j e in
         ap not (any-start (strobes_high t) (c.start + 1) (j + 1) (omega arith)))
 
@@ -340,7 +340,7 @@ module _ (t : Trace) (l j : ℕ) where
 
 -- what has ended stays so
 pub stays-ended : (p : ℕ → Bool) (i j : ℕ) → none p (i + 1) j ≡ false → none p (i + 1) (j + 1) ≡ false
-stays-ended p i j h = rw (any-step p (i + 1) j, true_of_not (any p (i + 1) j) h) refl
+stays-ended p i j h = rw (any-step p (i + 1) j, not-false (any p (i + 1) j) h) refl
 
 starts-after : (t : Trace) (span : Stretch) (i : ℕ) → cycle_starts t span i ≡ true → span.start + 1 ≤ i
 unfolding cycle_starts
@@ -444,7 +444,7 @@ module _ (t : Trace) (span : Stretch) (j : ℕ) (judged : is_judged span j ≡ t
 
         by_order : (c.start ≡ j) ⊎ (c.start < j) → low t AS j ≡ true
         by_order (inl e) = starts-low t span j (ap (cycle_starts t span) (sym e) ∙ found-cycle.holds)
-        by_order (inr before) = stays-low t AS j (is.is_low parts.0 before) (false_of_not (rises t AS j) parts.1) knows
+        by_order (inr before) = stays-low t AS j (is.is_low parts.0 before) (not-true (rises t AS j) parts.1) knows
 
     answers-later : answers_of t span c.start (j + 1)
         ≡ answers_of t span c.start j ++ (if is_answer t span j then j ∷ [] else [])
@@ -736,7 +736,7 @@ module _ (t : Trace) (span : Stretch) (is : IsSpanOf t span) where
 
       quiet : any (strobe_rises t) (i + 1) (k + 1) ≡ false → (r : ℕ) → i < r → r ≤ k
           → (rises t DS0 r ≡ false) × (rises t DS1 r ≡ false)
-      quiet none r a b = or_false (rises t DS0 r) (rises t DS1 r)
+      quiet none r a b = or_parts (rises t DS0 r) (rises t DS1 r)
           (any-fails (strobe_rises t) (i + 1) (k + 1) r none (omega arith) (omega arith))
 
       by_low : (a b : Bool) → (a || b) ≡ true → low t DS0 i ≡ a → low t DS1 i ≡ b

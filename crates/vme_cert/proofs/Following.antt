@@ -4,7 +4,7 @@ use Rattle.std.proofs.Common.{refl, sym, ◌∙◌, ap, subst, arith, length-app
 use Rattle.std.proofs.Common.{append_assoc}
 use Rattle.std.specs.Prelude.{◌==◌, Option, None, Some, slice_get, nat_le, if◌then◌else◌}
 use Rattle.std.proofs.lemmas.Bool.Decides.{nat_tests}
-use Rattle.std.proofs.lemmas.Bool.{and_parts}
+use Rattle.std.proofs.lemmas.Bool.{and_parts, and_left, and_right, not-true}
 use Rattle.vme_trace.proofs.Ranges.{clash, least-is, least-none, any-fails, any-holds, fails-any, least-found}
 use Rattle.vme_trace.proofs.Ranges.{least-none-any}
 use Rattle.vme_trace.specs.declared.class.Class.TheVariants as class
@@ -34,8 +34,8 @@ use Rattle.vme_cert.proofs.Fields.{low-no_fall, stays-low, answers-is, is_answer
 use Rattle.vme_cert.proofs.Fields.{high-between, answer-is, fall-low, no-fall}
 use Rattle.vme_cert.proofs.Placing.{cycle-place, next-count, row_after, rows_in-append, rows_in-length, tenure-place}
 use Rattle.vme_cert.proofs.Placing.{transfer-place}
-use Rattle.vme_cert.proofs.Ranges.{same_value, any-more, any-start, second_fails, greatest-found, after_start}
-use Rattle.vme_cert.proofs.Ranges.{greatest-here, greatest-not, below_or_from, false_of_not, first_fails, decide}
+use Rattle.vme_cert.proofs.Ranges.{same_value, any-more, any-start, greatest-found, after_start}
+use Rattle.vme_cert.proofs.Ranges.{greatest-here, greatest-not, below_or_from, decide}
 use Rattle.vme_cert.proofs.Ranges.{case_of, unjudged}
 use Rattle.vme_cert.proofs.Instant.{address-known, control-known}
 
@@ -64,7 +64,7 @@ pub none-at : (o : Option OpenRow) (n : ℕ) → o ≡ None → is_at o n ≡ fa
 none-at o n e = rw e refl
 
 pub without-off : (x a : Bool) → (a ≡ false → x ≡ false) → (x && not a) ≡ false
-without-off x true h = second_fails x false refl
+without-off x true h = and_right x false refl
 without-off x false h = rw (h refl) refl
 
 -- a row that was taken stays so when more rows are given and taken
@@ -219,9 +219,9 @@ module _ (t : Trace) (span : Stretch) where
   answers-once : (i j : ℕ) → answers t span i j ≡ true → any (answers t span i) i j ≡ false
   unfolding answers is_answered
   answers-once i j h =
-      let none : any (λ r. lasts t span i r && answer_falls t r) i j ≡ false = false_of_not (is_answered t span i j)
+      let none : any (λ r. lasts t span i r && answer_falls t r) i j ≡ false = not-true (is_answered t span i j)
       (and_parts (lasts t span i j && answer_falls t j) (not (is_answered t span i j)) h).1 in
-      fails-any (answers t span i) i j (λ r a b. first_fails (lasts t span i r && answer_falls t r)
+      fails-any (answers t span i) i j (λ r a b. and_left (lasts t span i r && answer_falls t r)
       (not (is_answered t span i r)) (any-fails (λ r. lasts t span i r && answer_falls t r) i j r none a b))
 
   answer-not : (i j : ℕ) → answers t span i j ≡ false → least (answers t span i) i (j + 1) ≡ least (answers t span i) i
@@ -234,15 +234,15 @@ module _ (t : Trace) (span : Stretch) where
   unfolding lasts
   lasts-no_more i j r order later high =
       rw (any-holds (strobes_high t) (i + 1) r j (omega arith) (omega arith) high)
-      (second_fails (nat_le i r && is_judged span r) false refl)
+      (and_right (nat_le i r && is_judged span r) false refl)
 
   answer-last : (i j end : ℕ) → i < j → strobes_high t j ≡ true → j + 1 ≤ end
       → least (answers t span i) i end ≡ least (answers t span i) i (j + 1)
   unfolding answers
   answer-last i j end order high later =
       least-longer (answers t span i) i (j + 1) end later (λ r from below.
-      first_fails (lasts t span i r && answer_falls t r) (not (is_answered t span i r))
-      (first_fails (lasts t span i r) (answer_falls t r) (lasts-no_more i j r order (omega arith) high)))
+      and_left (lasts t span i r && answer_falls t r) (not (is_answered t span i r))
+      (and_left (lasts t span i r) (answer_falls t r) (lasts-no_more i j r order (omega arith) high)))
 
   -- the row of a transfer already has its close as its last edge
   edge-own : (end i : ℕ) (answer : Option ℕ) → with_edge (transfer_row t span end i answer)

@@ -3,7 +3,7 @@ use Rattle.std.proofs.Common.{◌≡◌, ℕ, ◌+◌, ◌<◌, ◌≤◌, Bool,
 use Rattle.std.proofs.Common.{[], ◌∷◌, get_or, sym, ◌∙◌, ap, inl, inr, cond, add-one}
 use Rattle.std.specs.Prelude.{◌==◌, nat_le, nat_lt, Option, None, Some, is_some}
 use Rattle.std.proofs.lemmas.Bool.Decides.{nat_tests}
-use Rattle.std.proofs.lemmas.Bool.{leb-true, le-leb, ltb-true, lt-ltb, le-ltb, and_parts}
+use Rattle.std.proofs.lemmas.Bool.{leb-true, le-leb, ltb-true, lt-ltb, le-ltb, and_parts, and_right}
 use Rattle.vme_trace.proofs.Ranges.{any-fails, fails-any, clash, searches, any-holds, any-step, least-found}
 use Rattle.vme_trace.proofs.Ranges.{least-none-any, those-none}
 use Rattle.vme_cert.specs.Vocabulary.{Stretch, any, greatest, is_judged, least, none, those}
@@ -37,20 +37,9 @@ pub de_morgan : (a b : Bool) → not (a || b) ≡ (not a && not b)
 de_morgan true b = refl
 de_morgan false b = refl
 
-pub true_of_not : (b : Bool) → not b ≡ false → b ≡ true
-true_of_not true h = refl
-true_of_not false h = absurd (cc)
-
-pub false_of_not : (b : Bool) → not b ≡ true → b ≡ false
-false_of_not true h = absurd (cc)
-false_of_not false h = refl
-
 pub within_of : (f i n : ℕ) → (nat_le f i && nat_le i n) ≡ true → (f ≤ i) × (i < n + 1)
 within_of f i n h = let both = and_parts (nat_le f i) (nat_le i n) h in
     let last = leb-true i n both.1 in (leb-true f i both.0, omega arith)
-
-pub both : (a b : Bool) → a ≡ true → b ≡ true → (a && b) ≡ true
-both a b h k = rw (h, k) refl
 
 pub and_on : (a : Bool) → (a && true) ≡ a
 and_on true = refl
@@ -64,20 +53,9 @@ pub or_on : (a : Bool) → (a || true) ≡ true
 or_on true = refl
 or_on false = refl
 
-pub first_fails : (a b : Bool) → a ≡ false → (a && b) ≡ false
-first_fails a b h = rw h refl
-
-pub second_fails : (a b : Bool) → b ≡ false → (a && b) ≡ false
-second_fails true b h = h
-second_fails false b h = refl
-
 pub unless : (a b : Bool) → (a ≡ true → (a && b) ≡ false) → (a && b) ≡ false
 unless true b h = h refl
 unless false b h = refl
-
-pub or_false : (a b : Bool) → (a || b) ≡ false → (a ≡ false) × (b ≡ false)
-or_false true b h = absurd (cc)
-or_false false b h = (refl, h)
 
 -- ---- A condition on each of the four request levels.
 
@@ -231,7 +209,7 @@ greatest-here p f n from here = rw (add-one, le-leb f n from, here) refl
 
 pub greatest-not : (p : ℕ → Bool) (f n : ℕ) → p n ≡ false → greatest p f (n + 1) ≡ greatest p f n
 unfolding greatest
-greatest-not p f n not_here = rw (add-one, second_fails (nat_le f n) (p n) not_here) refl
+greatest-not p f n not_here = rw (add-one, and_right (nat_le f n) (p n) not_here) refl
 
 pub none-step : (p : ℕ → Bool) (f n : ℕ) → f ≤ n → none p f (n + 1) ≡ (none p f n && not (p n))
 none-step p f n from = ap not (any-step p f n) ∙ rw (le-leb f n from) (de_morgan (any p f n) (p n))

@@ -2,10 +2,11 @@
 -- strobe breaks one.
 use Rattle.std.proofs.Common.{◌≡◌, ◌<◌, ◌&&◌, ◌||◌, List, false, drop, refl, sym, ◌∙◌, ap, arith, add-one, drop-cons}
 use Rattle.std.specs.Prelude.{nat_le}
+use Rattle.std.proofs.lemmas.Bool.{or_parts}
 use Rattle.vme_cert.specs.Vocabulary.{Rule, U1, U2, U4, all_rules, break_at, cycle_starts, is_broken, rule_count}
 use Rattle.vme_cert.specs.Vocabulary.{strobe_falls}
 use Rattle.vme_cert.specs.Instant.{named}
-use Rattle.vme_cert.proofs.Ranges.{or_false, and_off}
+use Rattle.vme_cert.proofs.Ranges.{and_off}
 use Rattle.vme_cert.proofs.Breaks.{break_at-empty, break_at-here, break_at-next, break_at-none, breaks-off}
 use Rattle.vme_cert.proofs.Breaks.{breaks-elsewhere, unbroken}
 use Rattle.vme_cert.proofs.Fields.{cycle-starts-is}
@@ -19,10 +20,10 @@ returns-then-not-change-transfer c t span h =
     let change = c.is_change_broken-change.result in
     let transfer = c.is_transfer_start_broken-transfer.result in
     let cycle = c.is_broken_within-cycle.result in
-    let three = or_false (change || transfer || cycle) c.is_broken_within-data.result
+    let three = or_parts (change || transfer || cycle) c.is_broken_within-data.result
     c.if-not-change-transfer.true in
-    let two = or_false (change || transfer) cycle three.0 in
-    let one = or_false change transfer two.0 in
+    let two = or_parts (change || transfer) cycle three.0 in
+    let one = or_parts change transfer two.0 in
     sym (ap named (break_at-none t span j (unbroken t span bus c.args.self.now c.args.changes.now h c.requires
     (λ r l e s. c.is_change_broken-change.ensures t span r l h one.0 e s)
     (λ l. c.is_broken_within-cycle.ensures t span l h two.1

@@ -1,10 +1,10 @@
-use Rattle.std.proofs.Common.{◌≡◌, ◌==◌, ℕ, ◌+◌, ◌∙◌, ◌⊎◌, Bool, ◌&&◌, ◌||◌, arith, false, true, ap, refl, List, []}
+use Rattle.std.proofs.Common.{◌≡◌, ◌==◌, ℕ, ◌+◌, ◌∙◌, ◌⊎◌, ◌&&◌, arith, false, true, ap, refl, List, []}
 use Rattle.std.proofs.Common.{◌∷◌, ◌++◌, inl, inr, not, subst, sym, take}
 use Rattle.std.specs.Prelude.{nat_le}
 use Rattle.std.specs.List.{list_all}
 use Rattle.std.proofs.lemmas.List.{take_all, take_more}
 use Rattle.std.proofs.lemmas.List.Folds.{list_all_at}
-use Rattle.std.proofs.lemmas.Bool.{eqb-true, and_parts}
+use Rattle.std.proofs.lemmas.Bool.{eqb-true, and_parts, or_cases}
 use Rattle.vme_trace.proofs.Ranges.{clash}
 use Rattle.vme_cert.specs.Vocabulary.{Change, Levels, are_changes, has_line, is_broken, is_changed, level_at}
 use Rattle.vme_cert.specs.Vocabulary.{same_level}
@@ -12,18 +12,14 @@ use Rattle.vme_cert.specs.RulesByLine.{may_be_broken_on}
 use Rattle.vme_cert.proofs.Ranges.{decide, or_on}
 use Rattle.vme_cert.proofs.state.State.is_change_broken.Goals as goal
 
-either : (a b : Bool) → (a || b) ≡ true → (a ≡ true) ⊎ (b ≡ true)
-either true b h = inl refl
-either false b h = inr h
-
 -- one more change adds only its own line to those that are changed
 changed-last : (cs : List Change) (c : Change) (n : ℕ) → is_changed (cs ++ c ∷ []) n ≡ true
     → (is_changed cs n ≡ true) ⊎ (c.line ≡ n)
-changed-last [] c n h = elim (either (c.line == n) false h) [
+changed-last [] c n h = elim (or_cases (c.line == n) false h) [
   | inl here ↦ inr (eqb-true c.line n here)
   | inr none ↦ absurd (cc)
 ]
-changed-last (d ∷ cs) c n h = elim (either (d.line == n) (is_changed (cs ++ c ∷ []) n) h) [
+changed-last (d ∷ cs) c n h = elim (or_cases (d.line == n) (is_changed (cs ++ c ∷ []) n) h) [
   | inl first ↦ inl (rw first refl)
   | inr more ↦ elim (changed-last cs c n more) [
     | inl before ↦ inl (rw before (or_on (d.line == n)))
