@@ -5,6 +5,7 @@ use Rattle.std.specs.Prelude.{◌==◌}
 use Rattle.std.specs.List.{list_any}
 use Rattle.std.proofs.lemmas.Bool.Decides.{nat_tests}
 use Rattle.std.proofs.Math.Bool.{and-false, or-true}
+use Rattle.std.proofs.lemmas.Bool.{and_parts}
 use Rattle.vme_trace.specs.Changes.{is_changed}
 use Rattle.vme_trace.specs.Edges.{falls_between, rises_between}
 use Rattle.vme_trace.specs.Instants.{any}
@@ -19,14 +20,6 @@ use Rattle.vme_trace.proofs.Ranges.{any-holds, any-least, clash, least-found}
 use Rattle.vme_dtb.proofs.StillSteps.{never_falls, never_rises}
 use Rattle.vme_auditor.specs.Events.{net_falls, net_rises}
 use Rattle.vme_auditor.proofs.Truth.{or_swapped}
-
-and_left : (a b : Bool) → (a && b) ≡ true → a ≡ true
-and_left true b h = refl
-and_left false b h = absurd (cc)
-
-and_right : (a b : Bool) → (a && b) ≡ true → b ≡ true
-and_right true b h = h
-and_right false b h = absurd (cc)
 
 equal : (a b : ℕ) → (a == b) ≡ true → a ≡ b
 equal a b h = grind (arith, nat_tests)
@@ -50,8 +43,8 @@ module _ (p q : ℕ → Bool) (v : Levels) (few : v.slots ≤ 21)
       → exists_first lowest c cs h
   unfolding are_changes
   first_exists lowest c cs h =
-      let first = and_left _ _ h in
-      (and_right _ _ (and_left _ _ first), and_right _ _ h)
+      let first = (and_parts _ _ h).0 in
+      ((and_parts _ _ (and_parts _ _ first).0).1, (and_parts _ _ h).1)
 
   from_list : (lowest : ℕ) (cs : List Change) → are_changes v lowest cs ≡ true → list_any (λ c. q c.line) cs ≡ true
       → any p 0 line_count ≡ true
@@ -168,9 +161,9 @@ arbiter_any p = same_truth (any (λ l. is_arbiter_grant l && p l) 0 line_count) 
         let found = any-least (λ l. is_arbiter_grant l && p l) 0 line_count e in
         let l = found.0 in
         let holds = (least-found (λ l. is_arbiter_grant l && p l) 0 line_count l found.1).holds in
-        let level = arbiter_level l (and_left (is_arbiter_grant l) (p l) holds) in
+        let level = arbiter_level l (and_parts (is_arbiter_grant l) (p l) holds).0 in
         any-holds (λ n. p (grant n 0)) 0 4 ((l - 50) / 22) (omega arith) level.1
-        (ap p level.0 ∙ and_right (is_arbiter_grant l) (p l) holds)
+        (ap p level.0 ∙ (and_parts (is_arbiter_grant l) (p l) holds).1)
 
     back : any (λ n. p (grant n 0)) 0 4 ≡ true → any (λ l. is_arbiter_grant l && p l) 0 line_count ≡ true
     back e =
