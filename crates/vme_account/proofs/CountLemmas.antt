@@ -7,6 +7,7 @@ use Rattle.std.proofs.lemmas.Bool.Decides.{nat_tests}
 use Rattle.std.proofs.lemmas.List.{get_or-replicate, get_or-set_same, get_or-set_other, length-set}
 use Rattle.std.proofs.lemmas.List.Sums.{sum_by-cons}
 use Rattle.std.specs.Prelude.{None}
+use Rattle.std.proofs.lemmas.Bool.{and_parts}
 use Rattle.vme_listing.specs.declared.row.Row.{Row}
 use Rattle.vme_listing.specs.declared.row.Row.TheVariants as row
 use Rattle.vme_monitor.specs.declared.mark.Mark.{Mark}
@@ -27,10 +28,6 @@ no_more n = omega arith
 
 -- ---- the places of tenures
 
-both_are_true : (a b : Bool) → (a && b) ≡ true → (a ≡ true) × (b ≡ true)
-both_are_true true b h = (refl, h)
-both_are_true false b h = absurd (cc h)
-
 is_less : (a b : ℕ) → nat_lt a b ≡ true → a < b
 is_less a b h = grind (arith, nat_tests)
 
@@ -42,7 +39,7 @@ equals a b h = grind (arith, nat_tests)
 
 within : (level slot : ℕ) → is_place level slot ≡ true → place_of level slot < 88
 within level slot is =
-    let tests = both_are_true (nat_lt level 4) (nat_lt slot 22) is in
+    let tests = and_parts (nat_lt level 4) (nat_lt slot 22) is in
     bound level slot (is_less level 4 tests.0) (is_less slot 22 tests.1)
   where
     bound : (level slot : ℕ) → level < 4 → slot < 22 → level * 22 + slot < 88
@@ -52,8 +49,8 @@ within level slot is =
 one_place : (level slot granted taken : ℕ) → is_place level slot ≡ true → is_place granted taken ≡ true
     → (granted == level && taken == slot) ≡ false → place_of level slot ≢ place_of granted taken
 one_place level slot granted taken is other differs same =
-    let these = both_are_true (nat_lt level 4) (nat_lt slot 22) is in
-    let those = both_are_true (nat_lt granted 4) (nat_lt taken 22) other in
+    let these = and_parts (nat_lt level 4) (nat_lt slot 22) is in
+    let those = and_parts (nat_lt granted 4) (nat_lt taken 22) other in
     let levels : granted ≡ level = one_level level slot granted taken
     (is_less slot 22 these.1) (is_less taken 22 those.1)
     same in
@@ -73,7 +70,7 @@ one_place level slot granted taken is other differs same =
 same_place : (level slot granted taken : ℕ) → (granted == level && taken == slot) ≡ true
     → (granted ≡ level) × (taken ≡ slot)
 same_place level slot granted taken same =
-    let tests = both_are_true (granted == level) (taken == slot) same in
+    let tests = and_parts (granted == level) (taken == slot) same in
     (is_equal granted level tests.0, is_equal taken slot tests.1)
 
 module _ (tenures : List ℕ) (long : length tenures ≡ 88) (level slot : ℕ) (is : is_place level slot ≡ true) where
