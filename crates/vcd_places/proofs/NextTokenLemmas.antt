@@ -9,6 +9,7 @@ use Rattle.std.proofs.Math.Seq.{drop-cons, take-append_seam}
 use Rattle.std.proofs.lemmas.Bool.{cases_lt, eqb-true, le-leb, and_parts, or_cases, or_from}
 use Rattle.std.proofs.lemmas.List.{append-nil, length-drop, length-take, take-append-drop, take_more}
 use Rattle.std.proofs.lemmas.List.Folds.{list_any-append}
+use Rattle.std.proofs.Math.Bool.{or-true}
 use Rattle.vcd_read.specs.Tokens.{Token, cut_from, is_space, tokens, tokens_from}
 use Rattle.vcd_read.specs.Reading.{tokens_after}
 use Rattle.vcd_read.specs.Header.{is_end}
@@ -22,15 +23,11 @@ use Rattle.vcd_places.proofs.InsertionLemmas.{tokens_append_detached, tokens_spa
 pub boundary_at_start : (text : List ℕ) → is_token_boundary text 0 ≡ true
 boundary_at_start text = rw (le-leb 0 (length text) (omega arith)) refl
 
-second_true : (a : Bool) → (a || true) ≡ true
-second_true true = refl
-second_true false = refl
-
 pub boundary_from : (text : List ℕ) (at : ℕ) → at ≤ length text → starts_at_boundary (drop at text) ≡ true
     → is_token_boundary text at ≡ true
 boundary_from text at within detached =
     ap (λ (test : Bool). test && (eqb at 0 || starts_at_boundary (drop at text))) (le-leb at (length text) within)
-    ∙ ap (λ (test : Bool). eqb at 0 || test) detached ∙ second_true (eqb at 0)
+    ∙ ap (λ (test : Bool). eqb at 0 || test) detached ∙ or-true (eqb at 0)
 
 -- if white space or the end follows `at`, the tokens are those before `at`, and then those from `at` on
 pub tokens_detached : (text : List ℕ) (at : ℕ) → starts_at_boundary (drop at text) ≡ true
