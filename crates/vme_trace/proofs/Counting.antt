@@ -3,6 +3,7 @@ use Rattle.std.proofs.Common.{◌≡◌, ℕ, ◌+◌, ◌-◌, ◌<◌, ◌≤�
 use Rattle.std.specs.Prelude.{◌==◌, None, nat_le}
 use Rattle.std.proofs.lemmas.Bool.Decides.{nat_tests}
 use Rattle.std.proofs.lemmas.Bool.{not-false, not-true}
+use Rattle.std.proofs.Math.Bool.{and-false}
 use Rattle.vme_trace.specs.Instants.{any, every, least}
 use Rattle.vme_trace.proofs.Ranges.{any-fails, any-step, clash, every-empty, fails-any, least-none}
 
@@ -57,15 +58,11 @@ module _ (p : ℕ → Bool) (first number count : ℕ) where
       let le = is.0 in (
         omega (arith, e, le),
         rw (e, every-step (omega (arith, le)), h) (fewer count first number le
-            ∙ sym (off (every p first number))),
+            ∙ sym (and-false (every p first number))),
       )
     where
       fewer : (c f n : ℕ) → c + f ≤ n → (c + f == n + 1) ≡ false
       fewer c f n h = grind (arith, nat_tests)
-
-      off : (b : Bool) → (b && false) ≡ false
-      off true = refl
-      off false = refl
 
   -- at the end of the range, after `last`: the count is its length just if p holds of all of it
   pub all-counted : (last : ℕ) → first ≤ last → number ≡ last + 1 → AreCounted p first number count

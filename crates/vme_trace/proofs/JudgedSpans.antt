@@ -6,6 +6,7 @@ use Rattle.std.specs.Prelude.{Option, None, Some, nat_le, unwrap_or}
 use Rattle.std.proofs.lemmas.Bool.Decides.{nat_tests}
 use Rattle.std.proofs.lemmas.List.{map-append}
 use Rattle.std.proofs.lemmas.Bool.{and_parts, cases_Bool, not-true, or_from, or_left, or_right}
+use Rattle.std.proofs.Math.Bool.{and-false}
 use Rattle.vme_trace.specs.Instants.{any, least, greatest, those}
 use Rattle.vme_trace.specs.Trace.{Trace, levels_at, last_instant}
 use Rattle.vme_trace.specs.Judged.{Awaits, Stretch, IsSpanOf, span_from, span_end, is_idle_at, is_reset_at}
@@ -141,12 +142,8 @@ module _ (t : Trace) where
           | inl reset ↦ was_idle-reset n reset
           | inr unreset ↦ was_idle-next n unreset ∙ or_from _ _ w.unjudged busy
         ];
-    uncut = cut-next n ∙ or_from _ _ w.uncut (rw w.unjudged (ends_in_false (loses_control_at t n)));
+    uncut = cut-next n ∙ or_from _ _ w.uncut (rw w.unjudged (and-false (loses_control_at t n)));
   }
-    where
-      ends_in_false : (b : Bool) → (b && false) ≡ false
-      ends_in_false true = refl
-      ends_in_false false = refl
 
   pub awaits-until : (f n : ℕ) → Awaits t f → f ≤ n → any (is_idle_at t) f n ≡ false → Awaits t n
   awaits-until f zero w from busy = let e : f ≡ 0 = omega arith in subst (Awaits t) e w
