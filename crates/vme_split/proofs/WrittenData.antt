@@ -5,6 +5,7 @@ use Rattle.std.proofs.Common.{arith, All, inl, inr, ◌⊎◌}
 use Rattle.std.specs.Prelude.{Option, None, Some, ◌==◌, nat_le}
 use Rattle.std.proofs.lemmas.Bool.Decides.{nat_tests}
 use Rattle.std.proofs.lemmas.Bool.{false_from_ne_true}
+use Rattle.std.proofs.Math.Bool.{not-not}
 use Rattle.vme_trace.specs.Instants.{any, least}
 use Rattle.vme_trace.specs.LineNumbers.{AS}
 use Rattle.vme_trace.specs.Lanes.{lanes_at}
@@ -23,7 +24,7 @@ use Rattle.vme_split.specs.Split.{ShowsData}
 use Rattle.vme_split.proofs.Lists.{same_or_after}
 use Rattle.vme_split.proofs.Unbroken.{IsUnbroken}
 use Rattle.vme_split.proofs.Transfers.{after_start}
-use Rattle.vme_split.proofs.Answering.{double_not, low_there}
+use Rattle.vme_split.proofs.Answering.{low_there}
 use Rattle.vme_split.proofs.EachRow.{all_before, all_tenure, all_cycle, all_transfer}
 
 first_of : (a b c : Bool) → (a && b && c) ≡ true → a ≡ true
@@ -61,7 +62,7 @@ module _ (t : Trace) (span : Stretch) (is : IsSpanOf t span) (end : ℕ) (within
 
       unclosed : any (strobes_high t) (i + 1) r ≡ false
       unfolding lasts
-      unclosed = sym (double_not (any (strobes_high t) (i + 1) r)) ∙ ap not (third_of (nat_le i r) _ _ there)
+      unclosed = sym (not-not (any (strobes_high t) (i + 1) r)) ∙ ap not (third_of (nat_le i r) _ _ there)
 
       high_before : transfer_starts t span r ≡ true → strobes_high t (r - 1) ≡ true
       unfolding transfer_starts
