@@ -3,6 +3,7 @@
 use Rattle.std.proofs.Common.{◌≡◌, ℕ, ◌<◌, ◌≤◌, Bool, true, false, ◌&&◌, not, List, [], ◌∷◌, refl, arith, inl, inr, ◌⊎◌}
 use Rattle.std.specs.Prelude.{◌==◌, None, nat_le, nat_lt}
 use Rattle.std.proofs.lemmas.Bool.Decides.{nat_tests}
+use Rattle.std.proofs.Math.Bool.{and-false}
 use Rattle.vme_trace.specs.LineNumbers.{has_line, line_count}
 use Rattle.vme_trace.specs.Levels.{is_lost}
 use Rattle.vme_trace.specs.Trace.{Trace, last_instant, levels_at}
@@ -25,12 +26,8 @@ module _ (t : Trace) (span : Stretch) (j : ℕ) (unjudged : is_judged span j ≡
   never r l = elim (ends_alone r) [
     | inl e ↦ rw (e, unjudged) refl
     | inr e ↦ rw (e, kept l)
-        (and_false (has_line t.opening.slots l))
+        (and-false (has_line t.opening.slots l))
   ]
-    where
-      and_false : (a : Bool) → (a && false) ≡ false
-      and_false true = refl
-      and_false false = refl
 
   rule_unbroken : (r : Rule) → rule_break t span j r ≡ None
   unfolding rule_break
