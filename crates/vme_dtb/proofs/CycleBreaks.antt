@@ -2,6 +2,7 @@
 use Rattle.std.proofs.Common.{◌≡◌, ℕ, suc, ◌<◌, ◌≤◌, Bool, true, false, ◌&&◌, refl, sym, ◌∙◌, ap, Option, Some, None}
 use Rattle.std.proofs.Common.{cond}
 use Rattle.std.specs.Prelude.{option_map, is_some}
+use Rattle.std.proofs.Math.Bool.{and_assoc}
 use Rattle.vme_trace.specs.Edges.{falls_between}
 use Rattle.vme_trace.specs.LineNumbers.{AS, DTACK, BERR, is_answer_line, has_line}
 use Rattle.vme_trace.specs.Trace.{Trace, time_at}
@@ -34,7 +35,7 @@ use Rattle.vme_dtb.proofs.CycleMemory.{in_answered_interrupt_acknowledge, in_bro
 use Rattle.vme_dtb.proofs.CycleMemory.{in_changed_direction}
 use Rattle.vme_dtb.proofs.HandshakeBreaks.{answer_is}
 use Rattle.vme_dtb.proofs.HandshakeMeaning.{Holds}
-use Rattle.vme_dtb.proofs.StepFacts.{old, new, answer_fall_is, falls_is, gathered, judged, on_answers, rule_from}
+use Rattle.vme_dtb.proofs.StepFacts.{old, new, answer_fall_is, falls_is, judged, on_answers, rule_from}
 use Rattle.vme_dtb.proofs.StepFacts.{same_cond, some_of}
 
 nowhere : (b : Bool) → let none : Option ℕ = None in none ≡ cond b none none
@@ -132,7 +133,7 @@ module _ (t : Trace) (span : Stretch) (reads : ReadsStrobes t span) (n : ℕ) (f
       && (is_answer_line l && falls t l (suc n) && (is_answer t span (suc n) && read_modify_write_broken)))
   unfolding breaks is_broken
   form_c1 l = ap (λ b. is_judged span (suc n) && has_line t.opening.slots l && b)
-      (gathered (is_answer_line l && falls t l (suc n)) (is_answer t span (suc n)) read_modify_write_broken)
+      (and_assoc (is_answer_line l && falls t l (suc n)) (is_answer t span (suc n)) read_modify_write_broken)
 
   c1 : option_map (break_of_fault (suc n) (time_at t (suc n)))
       (fault_if C1 (is_read_modify_write_broken here (is_writing within))
@@ -148,7 +149,7 @@ module _ (t : Trace) (span : Stretch) (reads : ReadsStrobes t span) (n : ℕ) (f
       && (is_answer_line l && falls t l (suc n) && (is_answer t span (suc n) && direction_changed)))
   unfolding breaks is_broken
   form_c2 l = ap (λ b. is_judged span (suc n) && has_line t.opening.slots l && b)
-      (gathered (is_answer_line l && falls t l (suc n)) (is_answer t span (suc n)) direction_changed)
+      (and_assoc (is_answer_line l && falls t l (suc n)) (is_answer t span (suc n)) direction_changed)
 
   c2 : option_map (break_of_fault (suc n) (time_at t (suc n)))
       (fault_if C2 (is_direction_changed here (is_writing within))
@@ -163,7 +164,7 @@ module _ (t : Trace) (span : Stretch) (reads : ReadsStrobes t span) (n : ℕ) (f
       && (is_answer_line l && falls t l (suc n) && (is_answer t span (suc n) && answered_interrupt_acknowledge)))
   unfolding breaks is_broken
   form_i5 l = ap (λ b. is_judged span (suc n) && has_line t.opening.slots l && b)
-      (gathered (is_answer_line l && falls t l (suc n)) (is_answer t span (suc n)) answered_interrupt_acknowledge)
+      (and_assoc (is_answer_line l && falls t l (suc n)) (is_answer t span (suc n)) answered_interrupt_acknowledge)
 
   i5 : option_map (break_of_fault (suc n) (time_at t (suc n))) (fault_if I5 (is_answered_interrupt_acknowledge here)
       (answer_in within seen))
@@ -178,7 +179,7 @@ module _ (t : Trace) (span : Stretch) (reads : ReadsStrobes t span) (n : ℕ) (f
       && (is_answer_line l && falls t l (suc n) && (answers_write t span (suc n) && interrupt_acknowledge)))
   unfolding breaks is_broken
   form_i4 l = ap (λ b. is_judged span (suc n) && has_line t.opening.slots l && b)
-      (gathered (is_answer_line l && falls t l (suc n)) (answers_write t span (suc n)) interrupt_acknowledge)
+      (and_assoc (is_answer_line l && falls t l (suc n)) (answers_write t span (suc n)) interrupt_acknowledge)
 
   i4 : option_map (break_of_fault (suc n) (time_at t (suc n)))
       (fault_if I4 (is_interrupt_acknowledge here && is_writing within)

@@ -3,6 +3,7 @@
 use Rattle.std.proofs.Common.{◌≡◌, ℕ, suc, ◌+◌, ◌<◌, ◌≤◌, Bool, true, false, ◌&&◌, ◌||◌, not, refl, sym, ◌∙◌, ap}
 use Rattle.std.proofs.Common.{Option, Some, None, cond}
 use Rattle.std.specs.Prelude.{option_map, is_some, nat_lt, ◌==◌}
+use Rattle.std.proofs.Math.Bool.{and_assoc, and_comm}
 use Rattle.vme_trace.specs.Edges.{falls_between, rises_between}
 use Rattle.vme_trace.specs.Instants.{none}
 use Rattle.vme_trace.specs.LineNumbers.{AS, DTACK, BERR, is_answer_line, is_strobe, has_line}
@@ -29,7 +30,7 @@ use Rattle.vme_dtb.proofs.Faults.{AreBreaksOf}
 use Rattle.vme_dtb.proofs.AnswerRises.{may_rise_at, held_is}
 use Rattle.vme_dtb.proofs.HandshakeMeaning.{Holds}
 use Rattle.vme_dtb.proofs.OpenState.{doubled_is, replied_is, left_unanswered_is}
-use Rattle.vme_dtb.proofs.StepFacts.{old, new, answer_falls_is, answer_fall_is, falls_is, gathered, on_address}
+use Rattle.vme_dtb.proofs.StepFacts.{old, new, answer_falls_is, answer_fall_is, falls_is, on_address}
 use Rattle.vme_dtb.proofs.StepFacts.{on_answers, on_strobes, rises_is, rule_from, same_cond, same_first, some_of}
 use Rattle.vme_dtb.proofs.StepFacts.{starts_is, strobe_fall_is, strobe_rise_is, strobe_rises_is, unaddressed_is}
 use Rattle.vme_dtb.proofs.StepFacts.{answer_not_high_is}
@@ -170,7 +171,7 @@ module _ (t : Trace) (span : Stretch) (reads : ReadsStrobes t span) (n : ℕ) (f
   form_6 l =
       plain_6 l
       ∙ ap (λ b. is_judged span (suc n) && has_line t.opening.slots l && b)
-      (gathered (is_answer_line l) (rises t l (suc n)) (none (strobe_rises t) (last_before t span (falls t l) (suc n))
+      (and_assoc (is_answer_line l) (rises t l (suc n)) (none (strobe_rises t) (last_before t span (falls t l) (suc n))
       (suc n + 1))
       ∙ ap (λ b. is_answer_line l && b) (held_is t span l n from)
       ∙ always (is_answer_line l) (held_at l))
@@ -207,14 +208,8 @@ module _ (t : Trace) (span : Stretch) (reads : ReadsStrobes t span) (n : ℕ) (f
       ∙ ap (λ b. cond b (Some AS) None) (swapped (rises t AS (suc n)) (in_transfer t span left_unanswered_at (suc n))
       (rises_between (old t n) (new t n) AS) (is_left_unanswered m.transfer seen) (rises_is t n AS) left_unanswered))
     where
-      swap : (a b : Bool) → (a && b) ≡ (b && a)
-      swap true true = refl
-      swap true false = refl
-      swap false true = refl
-      swap false false = refl
-
       swapped : (a b c d : Bool) → a ≡ c → b ≡ d → (a && b) ≡ (d && c)
-      swapped a b c d e f = rw (e, f) (swap c d)
+      swapped a b c d e f = rw (e, f) (and_comm c d)
 
   -- whether instant n + 1 is an answer, by the phase of the transfer and the edges
   pub answer_is : is_answer t span (suc n) ≡ (is_unanswered within && is_some seen.answer_fall)
@@ -227,7 +222,7 @@ module _ (t : Trace) (span : Stretch) (reads : ReadsStrobes t span) (n : ℕ) (f
       && (is_answer_line l && falls t l (suc n) && (is_answer t span (suc n) && not (near (low t AS) (suc n)))))
   unfolding breaks is_broken
   form_8 l = ap (λ b. is_judged span (suc n) && has_line t.opening.slots l && b)
-      (gathered (is_answer_line l && falls t l (suc n)) (is_answer t span (suc n)) (not (near (low t AS) (suc n))))
+      (and_assoc (is_answer_line l && falls t l (suc n)) (is_answer t span (suc n)) (not (near (low t AS) (suc n))))
 
   h8 : option_map (break_of_fault (suc n) (time_at t (suc n))) (fault_if H8 seen.unaddressed (answer_in within seen))
       ≡ rule_break t span (suc n) H8

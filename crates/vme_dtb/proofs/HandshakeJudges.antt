@@ -2,6 +2,7 @@
 use Rattle.std.proofs.Common.{◌≡◌, ℕ, suc, ◌+◌, ◌<◌, ◌≤◌, Bool, true, false, ◌&&◌, not, refl, sym, ◌∙◌, ap, arith}
 use Rattle.std.proofs.Common.{Option, Some, None, cond}
 use Rattle.std.specs.Prelude.{option_map, is_some, slice_get, nat_lt}
+use Rattle.std.proofs.Math.Bool.{and-false}
 use Rattle.vme_trace.specs.Edges.{falls_between, rises_between, starts_between, strobes_high_in}
 use Rattle.vme_trace.specs.Instants.{least}
 use Rattle.vme_trace.specs.LineNumbers.{line_count, AS, WRITE, is_answer_line}
@@ -178,17 +179,13 @@ module _ (t : Trace) (span : Stretch) where
   in_none p = fails-any (λ i. transfer_starts t span i && lasts t span i span.start && p i) (span.start + 1)
       (span.start + 1) (λ i a b. absurd (omega arith))
 
-  and_false : (b : Bool) → (b && false) ≡ false
-  and_false true = refl
-  and_false false = refl
-
   shown_start : no_step_marks ≡ handshake_shown t span span.start
   unfolding cycle_starts transfer_starts answered answer_line is_answer closes
   shown_start = rw (
     unjudged,
     in_none (λ i. answers t span i span.start),
     in_none (λ i. nat_lt i span.start),
-    and_false (strobes_high t span.start),
+    and-false (strobes_high t span.start),
   ) refl
 
 pub dtb_first_break : FindsLeast

@@ -4,6 +4,7 @@ use Rattle.std.proofs.Common.{arith, cond, inl, inr, ◌⊎◌}
 use Rattle.std.specs.Prelude.{Option, None, Some, List, nat_le, nat_lt}
 use Rattle.std.proofs.lemmas.Bool.Decides.{nat_tests}
 use Rattle.std.proofs.lemmas.Bool.{and_parts}
+use Rattle.std.proofs.Math.Bool.{and-false}
 use Rattle.vme_trace.specs.Edges.{answer_between, strobe_falls_between, strobe_low_in, strobe_rises_between}
 use Rattle.vme_trace.specs.Edges.{strobes_high_in}
 use Rattle.vme_trace.specs.Instants.{least, none}
@@ -171,11 +172,7 @@ module _ (t : Trace) (span : Stretch) (reads : ReadsStrobes t span) (n : ℕ) (f
   asks_by Closed o = in_none is_asked o.0 o.1
   asks_by Reading o = in_one is_asked o.0 false false o.1 ∙ rw o.1.direction refl
   asks_by Writing o = in_one is_asked o.0 true false o.1 ∙ rw (o.1.direction, o.1.reply) refl
-  asks_by Answered o = in_one is_asked o.0 o.1 true o.2 ∙ rw (o.2.direction, o.2.reply) (never o.1)
-    where
-      never : (b : Bool) → (b && false) ≡ false
-      never true = refl
-      never false = refl
+  asks_by Answered o = in_one is_asked o.0 o.1 true o.2 ∙ rw (o.2.direction, o.2.reply) (and-false o.1)
 
   writes_is : in_transfer t span is_asked (suc n) ≡ writes_now m old new
   writes_is = asks_by (entered holds.state old new) enters ∙ writes_entered holds.state (strobes_high_in old)

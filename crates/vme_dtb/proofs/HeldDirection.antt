@@ -2,6 +2,7 @@
 use Rattle.std.proofs.Common.{◌≡◌, ℕ, suc, ◌+◌, ◌<◌, ◌≤◌, Bool, true, false, ◌&&◌, refl, sym, ◌∙◌, arith}
 use Rattle.std.specs.Prelude.{◌==◌, List}
 use Rattle.std.proofs.lemmas.Bool.Decides.{nat_tests}
+use Rattle.std.proofs.Math.Bool.{and_comm}
 use Rattle.vme_trace.specs.Instants.{any, least}
 use Rattle.vme_trace.specs.LineNumbers.{line_count, WRITE, has_line}
 use Rattle.vme_trace.specs.Levels.{Levels}
@@ -21,13 +22,7 @@ off_line : (j h e a b : Bool) → e ≡ false → (j && h && (e && a && b)) ≡ 
 off_line j h e a b x = grind (arith, nat_tests)
 
 on_line : (j a b c d : Bool) → j ≡ true → a ≡ d → b ≡ c → (j && true && (true && a && b)) ≡ (c && d)
-on_line j a b c d x y z = rw (x, y, z) (turn d c)
-  where
-    turn : (a b : Bool) → (a && b) ≡ (b && a)
-    turn true true = refl
-    turn true false = refl
-    turn false true = refl
-    turn false false = refl
+on_line j a b c d x y z = rw (x, y, z) (and_comm d c)
 
 module _ (t : Trace) (span : Stretch) (reads : ReadsStrobes t span) (n : ℕ) (from : span.start ≤ n)
     (before : suc n < span.end) (m : Holding) (holds : Holds t span n m) where

@@ -1,7 +1,8 @@
 -- What a change of a held line breaks, if no needed line moved, or the needed lines aren't held.
 use Rattle.std.proofs.Common.{◌≡◌, ℕ, Bool, true, false, refl, ap}
-use Rattle.std.specs.Prelude.{Option, None, Some, ◌&&◌, if◌then◌else◌}
+use Rattle.std.specs.Prelude.{Option, None, Some, if◌then◌else◌}
 use Rattle.std.specs.Option.{is_some, option_or}
+use Rattle.std.proofs.Math.Bool.{and-false}
 use Rattle.vme_trace.specs.LineNumbers.{WRITE}
 use Rattle.vme_trace.specs.Levels.{Levels}
 use Rattle.vme_trace.specs.declared.rule.Rule.TheVariants.{S1, S2}
@@ -15,10 +16,6 @@ none_or_none true None h = refl
 none_or_none false None h = refl
 none_or_none b (Some l) h = absurd (cc)
 
-never : (a : Bool) → (a && false) ≡ false
-never true = refl
-never false = refl
-
 module _ (m : Holding) (v w : Levels) (seen : HoldingObservation) where
   pub no_line_moved : is_some seen.moved ≡ false → moved_fault m v w seen ≡ None
   no_line_moved h = none_or_none (keeps_address m v w) seen.moved h
@@ -30,7 +27,7 @@ module _ (m : Holding) (v w : Levels) (seen : HoldingObservation) where
   turned k h = rw (k, h) refl
 
   pub unturned : seen.turned ≡ false → turned_fault m v w seen ≡ None
-  unturned h = rw (h, never (keeps_direction m v w)) refl
+  unturned h = rw (h, and-false (keeps_direction m v w)) refl
 
   pub undirected : keeps_direction m v w ≡ false → turned_fault m v w seen ≡ None
   undirected h = rw h refl

@@ -8,6 +8,7 @@ use Rattle.vme_trace.specs.Instants.{any, none}
 use Rattle.std.proofs.Common.{inl, inr, ◌⊎◌}
 use Rattle.std.specs.Prelude.{None}
 use Rattle.std.proofs.lemmas.Bool.{and_parts, or_parts}
+use Rattle.std.proofs.Math.Bool.{and-true, and_assoc}
 use Rattle.vme_trace.specs.LineNumbers.{AS, DS0, DS1, WRITE}
 use Rattle.vme_trace.specs.Levels.{Levels, level_at, is_low, is_high, is_known}
 use Rattle.vme_trace.specs.Trace.{Trace, levels_at}
@@ -242,32 +243,21 @@ module _ (t : Trace) (span : Stretch) where
 
     pub direction_more : (i : ℕ) → span.start + 1 ≤ i → i ≤ n → holds_direction (suc n) i
         ≡ (holds_direction n i && not (strobe_rises t (suc n)))
-    direction_more i a b = rw (none_more (strobe_rises t) (i + 1) n (omega arith)) (regroup (transfer_starts t span i)
-        (none (strobe_rises t) (i + 1) (n + 1)) (not (strobe_rises t (suc n))))
-      where
-        regroup : (a b c : Bool) → (a && (b && c)) ≡ ((a && b) && c)
-        regroup true b c = refl
-        regroup false b c = refl
+    direction_more i a b = rw (none_more (strobe_rises t) (i + 1) n (omega arith)) (sym (and_assoc
+        (transfer_starts t span i) (none (strobe_rises t) (i + 1) (n + 1)) (not (strobe_rises t (suc n)))))
 
     direction_here : holds_direction (suc n) (suc n) ≡ starts_between old new
-    direction_here = rw (transfer_starts_is, none_empty (strobe_rises t) (suc n + 1)) (no_test (starts_between old new))
-      where
-        no_test : (a : Bool) → (a && true) ≡ a
-        no_test true = refl
-        no_test false = refl
+    direction_here = rw (transfer_starts_is, none_empty (strobe_rises t) (suc n + 1))
+        (and-true (starts_between old new))
 
     -- whether the lines that a cycle needs are still held at n + 1
     pub keeps_address_is : (m : Holding) → Holds n m → keeps_address m old new ≡ any (holds_address (suc n))
         (span.start + 1) (suc n)
     keeps_address_is m h =
-        regroup (awaits_answer m old) (rises_between old new AS) (answers_in m old new)
+        and_assoc (awaits_answer m old) (not (rises_between old new AS)) (not (answers_in m old new))
         ∙ sym (lasts_on (holds_address n) (holds_address (suc n)) (not (rises t AS (suc n))
         && not (is_answer t span (suc n))) (span.start + 1) n (omega arith) address_more
         ∙ rw (rises_is AS, answer_is m h, ← h.address) refl)
-      where
-        regroup : (a b c : Bool) → (a && not b && not c) ≡ (a && (not b && not c))
-        regroup true b c = refl
-        regroup false b c = refl
 
     pub keeps_direction_is : (m : Holding) → Holds n m → keeps_direction m old new ≡ any (holds_direction (suc n))
         (span.start + 1) (suc n)

@@ -3,6 +3,7 @@ use Rattle.std.proofs.Common.{◌≡◌, ℕ, suc, ◌<◌, ◌≤◌, Bool, tru
 use Rattle.std.proofs.Common.{Some, None, cond, lit<}
 use Rattle.std.specs.Prelude.{option_map, is_some, ◌==◌}
 use Rattle.std.proofs.lemmas.Bool.Decides.{nat_tests}
+use Rattle.std.proofs.Math.Bool.{and-false}
 use Rattle.vme_trace.specs.Edges.{falls_between, rises_between, starts_between}
 use Rattle.vme_trace.specs.Instants.{least}
 use Rattle.vme_trace.specs.LineNumbers.{line_count, AS, DS0, DS1, DTACK, BERR, is_answer_line, is_strobe, has_line}
@@ -24,12 +25,8 @@ use Rattle.vme_dtb.specs.Machine.{fault_if}
 applied : (j h a e c : Bool) → j ≡ true → h ≡ true → a ≡ true → (j && h && (a && e && c)) ≡ (e && c)
 applied j h a e c x y z = rw (x, y, z) refl
 
-and_false : (a : Bool) → (a && false) ≡ false
-and_false true = refl
-and_false false = refl
-
 unapplied : (j h a e c : Bool) → a ≡ false → (j && h && (a && e && c)) ≡ false
-unapplied j h a e c x = rw x (and_false (j && h))
+unapplied j h a e c x = rw x (and-false (j && h))
 
 by_condition : (c a b : Bool) (x y : ℕ) → cond (a && c) (Some x) (cond (b && c) (Some y) None)
     ≡ cond c (first_of a x b y) None
@@ -46,10 +43,6 @@ answer_exists l slots h = grind (arith, nat_tests)
 
 strobe_exists : (l slots : ℕ) → is_strobe l ≡ true → has_line slots l ≡ true
 strobe_exists l slots h = grind (arith, nat_tests)
-
-pub gathered : (a x y : Bool) → (a && x && y) ≡ (a && (x && y))
-gathered true x y = refl
-gathered false x y = refl
 
 pub some_of : (a b : Bool) (x y : ℕ) → (a || b) ≡ is_some (first_of a x b y)
 some_of true b x y = refl

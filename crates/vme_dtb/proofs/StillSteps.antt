@@ -4,6 +4,7 @@ use Rattle.std.proofs.Common.{None, cond}
 use Rattle.std.specs.Prelude.{is_some, option_map}
 use Rattle.std.specs.Option.{option_or, option_map_or}
 use Rattle.std.proofs.lemmas.Bool.{or_from}
+use Rattle.std.proofs.Math.Bool.{and-false, and-not_self}
 use Rattle.vme_trace.specs.Edges.{answer_between, falls_between, rises_between, starts_between, strobe_low_in}
 use Rattle.vme_trace.specs.Edges.{strobes_high_in}
 use Rattle.vme_trace.specs.LineNumbers.{AS, DS0, DS1, DTACK, BERR, WRITE}
@@ -64,10 +65,6 @@ never_starts High Low = refl
 never_starts High High = refl
 never_starts High Unknown = refl
 
-pub and_not : (b : Bool) → (b && not b) ≡ false
-and_not true = refl
-and_not false = refl
-
 pub all_five : (a b c d e : Bool) → (a && b && c && d && e) ≡ true → (a ≡ true) × (b ≡ true) × (c ≡ true) × (d ≡ true)
     × (e ≡ true)
 all_five true true true true true h = (refl, refl, refl, refl, refl)
@@ -80,10 +77,6 @@ all_five true true true true false h = absurd (cc)
 nowhere : {A : Type 0} (b : Bool) (o : Option A) → o ≡ None → cond b o None ≡ None
 nowhere true o e = e
 nowhere false o e = refl
-
-and_false : (b : Bool) → (b && false) ≡ false
-and_false true = refl
-and_false false = refl
 
 neither : (a b : Option Fault) → a ≡ None → b ≡ None → option_or a b ≡ None
 neither a b e f = rw (e, f) refl
@@ -175,7 +168,7 @@ module _ (v w : Levels) (still : is_still v w ≡ true) where
   no_start = ap (λ b. strobes_high_in v && b) low_kept ∙ never_starts (level_at v DS0) (level_at v DS1)
 
   no_close : (strobes_high_in w && not (strobes_high_in v)) ≡ false
-  no_close = ap (λ b. b && not (strobes_high_in v)) high_kept ∙ and_not (strobes_high_in v)
+  no_close = ap (λ b. b && not (strobes_high_in v)) high_kept ∙ and-not_self (strobes_high_in v)
 
   abbrev unaddressed_in : Bool
   unaddressed_in = not (is_low (level_at v AS) || is_low (level_at w AS))
@@ -271,7 +264,7 @@ module _ (t : Trace) (span : Stretch) (n : ℕ) (m : HandshakeMemory) (holds : H
                 (
                   refl,
                   (
-                    not_applied H7 _ (Some AS) (and_false (is_left_unanswered m.transfer (absent_edges u))),
+                    not_applied H7 _ (Some AS) (and-false (is_left_unanswered m.transfer (absent_edges u))),
                     (ap (fault_if H8 u) none ∙ unnamed H8 u, tt),
                   ),
                 ),

@@ -1,6 +1,7 @@
 -- The search for an unknown data line that a transfer moves.
 use Rattle.std.proofs.Common.{◌≡◌, ℕ, ◌+◌, ◌<◌, ◌≤◌, Bool, true, false, ◌&&◌, not, refl, ◌∙◌, arith, inl, inr, ◌⊎◌}
 use Rattle.std.specs.Prelude.{None, Some, nat_le}
+use Rattle.std.proofs.Math.Bool.{and-false}
 use Rattle.vme_trace.specs.Instants.{any, every, least}
 use Rattle.vme_trace.specs.LineNumbers.{line_count}
 use Rattle.vme_trace.specs.Data.{is_selected}
@@ -14,10 +15,6 @@ use Rattle.vme_dtb.proofs.UnknownNeeds.{unknown_one}
 first_false : (a b : Bool) → (a ≡ true → ⊥) → (a && b) ≡ false
 first_false true b h = absurd (h refl)
 first_false false b h = refl
-
-and_false : (a : Bool) → (a && false) ≡ false
-and_false true = refl
-and_false false = refl
 
 module _ (v : Levels) where
   outside : (l : ℕ) → l < 159 → is_undriven v l ≡ false
@@ -61,7 +58,7 @@ module _ (v : Levels) where
 
   pub undriven_more : (n : ℕ) → any (is_undriven v) 0 n ≡ false → is_undriven v n ≡ false → any (is_undriven v) 0
       (n + 1) ≡ false
-  undriven_more n h e = any-step (is_undriven v) 0 n ∙ rw (h, e) (and_false (nat_le 0 n))
+  undriven_more n h e = any-step (is_undriven v) 0 n ∙ rw (h, e) (and-false (nat_le 0 n))
 
   pub next_line : (b : ℕ) → any (is_undriven v) 0 (159 + b + 1) ≡ false → any (is_undriven v) 0 (159 + (b + 1)) ≡ false
   next_line b h = let next : 159 + (b + 1) ≡ 159 + b + 1 = omega arith in rw next h
@@ -74,4 +71,4 @@ module _ (v : Levels) where
     not_moved h = rw (← there, h) refl
 
     pub not_unknown : is_known_on v l ≡ true → is_undriven v n ≡ false
-    not_unknown k = rw (← there, k) (and_false (is_selected v l))
+    not_unknown k = rw (← there, k) (and-false (is_selected v l))

@@ -1,6 +1,7 @@
 -- The search for an unknown line that a cycle needs.
 use Rattle.std.proofs.Common.{◌≡◌, ℕ, ◌+◌, ◌<◌, ◌≤◌, Bool, true, false, ◌&&◌, not, refl, ◌∙◌, arith, inl, inr, ◌⊎◌}
 use Rattle.std.specs.Prelude.{None, Some, nat_le}
+use Rattle.std.proofs.Math.Bool.{and-false}
 use Rattle.vme_trace.specs.Instants.{any, every}
 use Rattle.vme_trace.specs.LineNumbers.{line_count}
 use Rattle.vme_trace.specs.Cycle.{Needs, is_needed, is_within, needs_of}
@@ -13,10 +14,6 @@ use Rattle.vme_dtb.proofs.Needed.{needed_above, needed_below}
 first_false : (a b : Bool) → (a ≡ true → ⊥) → (a && b) ≡ false
 first_false true b h = absurd (h refl)
 first_false false b h = refl
-
-and_false : (a : Bool) → (a && false) ≡ false
-and_false true = refl
-and_false false = refl
 
 pub unknown_one : (a k : Bool) → (a && not k) ≡ true → (a ≡ true) × (k ≡ false)
 unknown_one true true h = absurd (cc)
@@ -57,7 +54,7 @@ module _ (v : Levels) where
   lacks_here n below h e = least-is (lacks v) 0 line_count n (omega arith) (omega arith) e h
 
   pub lacks_more : (n : ℕ) → any (lacks v) 0 n ≡ false → lacks v n ≡ false → any (lacks v) 0 (n + 1) ≡ false
-  lacks_more n h e = any-step (lacks v) 0 n ∙ rw (h, e) (and_false (nat_le 0 n))
+  lacks_more n h e = any-step (lacks v) 0 n ∙ rw (h, e) (and-false (nat_le 0 n))
 
   -- whether the line l, whose number is n, is lacked, if `needs` is what a cycle needs
   module _ (needs : Needs) (n l : ℕ) (same : needs ≡ needs_of v) (there : l ≡ n) where
@@ -70,4 +67,4 @@ module _ (v : Levels) where
     not_needed h = rw (← there, ← same, h) refl
 
   pub not_lacked : (n l : ℕ) → l ≡ n → is_known_on v l ≡ true → lacks v n ≡ false
-  not_lacked n l there k = rw (← there, k) (and_false (is_needed v l))
+  not_lacked n l there k = rw (← there, k) (and-false (is_needed v l))

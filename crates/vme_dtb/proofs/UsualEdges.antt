@@ -1,6 +1,7 @@
 -- The edges of the usual kinds of steps.
 use Rattle.std.proofs.Common.{◌≡◌, ℕ, Bool, true, false, ◌&&◌, ◌||◌, not, refl, ◌∙◌, ap, Option, Some, None, cond}
 use Rattle.std.proofs.lemmas.Bool.{not_from_true}
+use Rattle.std.proofs.Math.Bool.{and-not_self}
 use Rattle.vme_trace.specs.Edges.{falls_between, rises_between, starts_between, strobes_high_in}
 use Rattle.vme_trace.specs.LineNumbers.{AS, DS0, DS1, DTACK, BERR, WRITE}
 use Rattle.vme_trace.specs.Levels.{Levels, level_at, is_low, is_high}
@@ -12,7 +13,7 @@ use Rattle.vme_dtb.specs.Edge.{cycle_start_of, edges_between, closes_between, fi
 use Rattle.vme_dtb.specs.Edge.{is_answer_not_high, stays_on}
 use Rattle.vme_dtb.specs.UsualSteps.{is_answer_alone, is_start_alone, is_strobes_alone}
 use Rattle.vme_dtb.specs.declared.edges.Edges.{Edges}
-use Rattle.vme_dtb.proofs.StillSteps.{all_five, and_not, built, never_falls, never_rises, never_starts, same_is}
+use Rattle.vme_dtb.proofs.StillSteps.{all_five, built, never_falls, never_rises, never_starts, same_is}
 
 -- the edges of a step that has none, while AS* is low
 abbrev no_edges : Edges
@@ -172,7 +173,7 @@ module _ (v w : Levels) where
       (same_is (level_at v DS0) (level_at w DS0) h)
       ∙ ap (λ x. (is_high (level_at v DS0) && is_high x) && not (strobes_high_in v))
       (same_is (level_at v DS1) (level_at w DS1) k)
-      ∙ and_not (strobes_high_in v)
+      ∙ and-not_self (strobes_high_in v)
 
   abbrev answer_not_high_in : Option ℕ
   answer_not_high_in = first_of (is_answer_not_high v w DTACK) DTACK (is_answer_not_high v w BERR) BERR

@@ -3,6 +3,7 @@ use Rattle.std.proofs.Common.{◌≡◌, ℕ, Bool, true, false, ◌&&◌, ◌||
 use Rattle.std.specs.Prelude.{is_some, option_map}
 use Rattle.std.specs.Option.{option_or}
 use Rattle.std.proofs.lemmas.Bool.{or_parts}
+use Rattle.std.proofs.Math.Bool.{and-false}
 use Rattle.vme_trace.specs.Edges.{falls_between, rises_between, starts_between, strobe_falls_between}
 use Rattle.vme_trace.specs.Edges.{strobe_rises_between, strobes_high_in}
 use Rattle.vme_trace.specs.LineNumbers.{AS, DS0, DS1, DTACK, BERR, WRITE}
@@ -51,10 +52,6 @@ same_next p l k c d x y h q r a b o e f g i = rw (o, e, f, g, i) refl
 nowhere : (b : Bool) → let none : Option ℕ = None in cond b none none ≡ none
 nowhere true = refl
 nowhere false = refl
-
-and_false : (b : Bool) → (b && false) ≡ false
-and_false true = refl
-and_false false = refl
 
 any_of : (a b : Bool) (k l : ℕ) → is_some (first_of a k b l) ≡ (a || b)
 any_of true b k l = refl
@@ -189,7 +186,7 @@ module _ (m : HandshakeMemory) (v w : Levels) where
               unnamed H4 (not (is_within within)),
               (
                 unnamed H5 (is_doubled within s),
-                (refl, (not_applied H7 _ (Some AS) (and_false (is_left_unanswered m.transfer s)), (no_h8 false, tt))),
+                (refl, (not_applied H7 _ (Some AS) (and-false (is_left_unanswered m.transfer s)), (no_h8 false, tt))),
               ),
             ),
           ),
@@ -291,7 +288,7 @@ module _ (m : HandshakeMemory) (v w : Levels) where
               not_applied H4 _ (Some DTACK) one.0,
               (
                 not_applied H5 _ (Some DTACK) one.1,
-                (refl, (not_applied H7 _ (Some AS) (and_false (is_left_unanswered m.transfer s)), (refl, tt))),
+                (refl, (not_applied H7 _ (Some AS) (and-false (is_left_unanswered m.transfer s)), (refl, tt))),
               ),
             ),
           ),
@@ -326,7 +323,7 @@ module _ (m : HandshakeMemory) (v w : Levels) where
                 (
                   rw gone refl,
                   (
-                    not_applied H7 _ (Some AS) (and_false (is_left_unanswered m.transfer s)),
+                    not_applied H7 _ (Some AS) (and-false (is_left_unanswered m.transfer s)),
                     (no_h8 (not (is_addressed v w)), tt),
                   ),
                 ),
