@@ -5,6 +5,7 @@ use Rattle.std.specs.Prelude.{Option, None, Some, ◌==◌, nat_le}
 use Rattle.std.specs.Option.{is_some}
 use Rattle.std.proofs.lemmas.Bool.Decides.{nat_tests}
 use Rattle.std.proofs.lemmas.Bool.{and_left, and_parts}
+use Rattle.std.proofs.Math.Bool.{and-false, and-true}
 use Rattle.vme_trace.specs.Edges.{falls_between, low_near}
 use Rattle.vme_trace.specs.Instants.{any, least}
 use Rattle.vme_trace.specs.LineNumbers.{line_count, has_line, input_of}
@@ -18,10 +19,6 @@ use Rattle.vme_trace.specs.declared.step.Change.{Change}
 use Rattle.vme_trace.proofs.Ranges.{fails-any, least-is, least-none, least-alike}
 use Rattle.vme_trace.proofs.Changing.{level-kept}
 use Rattle.vme_chains.specs.AcknowledgeRules.{first_changed, passes_on, passes_unasked}
-
-none_last : (a : Bool) → (a && false) ≡ false
-none_last true = refl
-none_last false = refl
 
 equal : (a b : ℕ) → (a == b) ≡ true → a ≡ b
 equal a b h = grind (arith, nat_tests)
@@ -82,13 +79,9 @@ module _ (v : Levels) (p : ℕ → Bool) (few : v.slots ≤ 21) where
 
 -- the least line with p, if b
 pub least-when : (p : ℕ → Bool) (b : Bool) (n : ℕ) → least (λ l. p l && b) 0 n ≡ cond b (least p 0 n) None
-least-when p true n = least-alike (λ l. p l && true) p 0 n (λ l from to. true_last (p l))
-  where
-    true_last : (a : Bool) → (a && true) ≡ a
-    true_last true = refl
-    true_last false = refl
+least-when p true n = least-alike (λ l. p l && true) p 0 n (λ l from to. and-true (p l))
 least-when p false n = least-none (λ l. p l && false) 0 n (fails-any (λ l. p l && false) 0 n
-    (λ l from to. none_last (p l)))
+    (λ l from to. and-false (p l)))
 
 pub still_level : (x : Level) → (is_high x && is_low x) ≡ false
 still_level Low = refl
@@ -101,7 +94,7 @@ falls_not v w l e = rw e (still_level (level_at v l))
 
 pub passes_not : (v : Levels) (cs : List Change) (l : ℕ) → is_changed cs l ≡ false → passes_on v (changed v cs) l
     ≡ false
-passes_not v cs l h = rw (falls_not v (changed v cs) l (level-kept v cs l h)) (none_last _)
+passes_not v cs l h = rw (falls_not v (changed v cs) l (level-kept v cs l h)) (and-false _)
 
 pub unasked_not : (v : Levels) (cs : List Change) (l : ℕ) → is_changed cs l ≡ false → passes_unasked v (changed v cs) l
     ≡ false

@@ -4,6 +4,7 @@ use Rattle.std.proofs.Common.{◌≡◌, ℕ, suc, ◌+◌, ◌<◌, ◌≤◌, 
 use Rattle.std.proofs.Common.{cond}
 use Rattle.std.specs.Prelude.{nat_le}
 use Rattle.std.proofs.lemmas.Bool.Decides.{nat_tests}
+use Rattle.std.proofs.Math.Bool.{or-false}
 use Rattle.vme_trace.specs.Instants.{any}
 use Rattle.vme_trace.specs.LineNumbers.{BBSY, BR}
 use Rattle.vme_trace.specs.Trace.{Trace}
@@ -92,13 +93,9 @@ module _ (t : Trace) (span : Stretch) where
       or_true : (a : Bool) → a ≡ true → (a || true) ≡ a
       or_true a h = rw h refl
 
-      or_false : (a : Bool) → (a || false) ≡ a
-      or_false true = refl
-      or_false false = refl
-
       by_level : (b : Bool) → low t (BR l) n ≡ b → (requested_since n l || b) ≡ requested_since n l
       by_level true e =
           let h = last-within t span (grant_falls t) n from in
           or_true (requested_since n l) (any-holds (low t (BR l)) (last_before t span (grant_falls t) (suc n)) (suc n) n
           (omega arith) (omega arith) e)
-      by_level false e = or_false (requested_since n l)
+      by_level false e = or-false (requested_since n l)
