@@ -25,7 +25,8 @@ use Rattle.vme_cert.specs.State.{IsStateOf}
 use Rattle.vme_cert.specs.declared.bus.Bus.{Bus}
 use Rattle.vme_cert.specs.declared.state.State.{State}
 use Rattle.std.proofs.lemmas.List.Folds.{list_any_at}
-use Rattle.vme_cert.proofs.Ranges.{eq_fails, within_of, and_off, any-first, decide}
+use Rattle.std.proofs.Math.Bool.{and-false}
+use Rattle.vme_cert.proofs.Ranges.{eq_fails, within_of, any-first, decide}
 use Rattle.vme_cert.proofs.Fields.{starts-is}
 
 -- ---- The table of rules by line lists the rules that speak of a line: every rule is tried on every line.
@@ -125,13 +126,13 @@ module _ (t : Trace) (span : Stretch) (j l : ℕ) where
   unfolding is_broken
   unbroken_elsewhere U1 n h = rw (eq_fails j span.end
       (ltb-true j span.end (and_parts (nat_lt span.start j) (nat_lt j span.end) n).1)) refl
-  unbroken_elsewhere U2 n h = rw (not_needed (levels_at t j) l h, and_off) refl
+  unbroken_elsewhere U2 n h = rw (not_needed (levels_at t j) l h, and-false) refl
   unbroken_elsewhere U4 n h = rw (not_selected (levels_at t j) l h) refl
   unbroken_elsewhere S1 n h = ap (λ b. has_edge t l j && b)
       (fails-any (holds t span j l) (span.start + 1) j
       (λ i a b. rw (not_needed (levels_at t i) l h)
-      (and_off (cycle_starts t span i && cycle_runs t span i j && none (is_answer t span) i (j + 1)))))
-      ∙ and_off (has_edge t l j)
+      (and-false (cycle_starts t span i && cycle_runs t span i j && none (is_answer t span) i (j + 1)))))
+      ∙ and-false (has_edge t l j)
   unbroken_elsewhere S3 n h = rw (not_selected (levels_at t (j - 1)) l h) refl
   unbroken_elsewhere r n h = rw h refl
 
@@ -167,7 +168,7 @@ module _ (t : Trace) (l j : ℕ) (still : level t l j ≡ level t l (j - 1)) whe
   unbroken_without_edge span U3 e = absurd (cc)
   unbroken_without_edge span U4 e = absurd (cc)
   unbroken_without_edge span H1 e = absurd (cc)
-  unbroken_without_edge span r e = first_of (rw (no_fall, and_off), rw (no_rise, and_off), rw (no_edge, and_off))
+  unbroken_without_edge span r e = first_of (rw (no_fall, and-false), rw (no_rise, and-false), rw (no_edge, and-false))
 
 -- a line that isn't among the changes stays
 pub stays : (t : Trace) (bus : Bus) (cs : List Change) (l : ℕ) → IsBusOf t bus → LeadToInstant bus cs
@@ -182,7 +183,7 @@ stays t bus cs l at lead h =
 module _ (t : Trace) (span : Stretch) (j l : ℕ) where
   pub breaks-off : (r : Rule) → is_broken t span r j l ≡ false → breaks t span r j l ≡ false
   unfolding breaks
-  breaks-off r h = rw h (and_off _)
+  breaks-off r h = rw h (and-false _)
 
   -- at a judged instant, on a line that the backplane has, `breaks` is `is_broken`
   pub breaks-is : (r : Rule) → is_judged span j ≡ true → has_line t.opening.slots l ≡ true
@@ -222,11 +223,11 @@ module _ (t : Trace) (span : Stretch) (j l : ℕ) where
 
   pub unstarted-direction : transfer_starts t span j ≡ false → is_broken t span U3 j l ≡ false
   unfolding is_broken
-  unstarted-direction h = rw (h, and_off) refl
+  unstarted-direction h = rw (h, and-false) refl
 
   pub unstarted-answers : transfer_starts t span j ≡ false → is_broken t span H1 j l ≡ false
   unfolding is_broken
-  unstarted-answers h = rw (h, and_off) refl
+  unstarted-answers h = rw (h, and-false) refl
 
 -- if all lines from `first` to `last` are known, so is line `l` of these
 pub known-within : (t : Trace) (j first last l : ℕ) → every (is_known_on (levels_at t j)) first (last + 1) ≡ true

@@ -2,7 +2,7 @@
 use Rattle.std.proofs.Common.{◌≡◌, ℕ, ◌+◌, ◌-◌, ◌≤◌, ◌<◌, ◌&&◌, ◌||◌, Bool, true, false, refl, sym, ◌∙◌, ap, arith, inl}
 use Rattle.std.proofs.Common.{inr, ◌⊎◌, ◌∷◌, ◌++◌, [], not, add-one, List, subst, zero, suc, cond}
 use Rattle.std.specs.Prelude.{Some, nat_le, if◌then◌else◌, nat_lt, unwrap_or, None}
-use Rattle.std.proofs.Math.Bool.{beq}
+use Rattle.std.proofs.Math.Bool.{beq, and-false, and-true, and_assoc, or-true}
 use Rattle.std.proofs.lemmas.Bool.Decides.{nat_tests}
 use Rattle.std.specs.Option.{option_map_or}
 use Rattle.std.proofs.lemmas.Bool.{le-leb, ltb-true, ltb-false, and_parts, and_from, not-false, not-true, or_parts}
@@ -22,10 +22,10 @@ use Rattle.vme_cert.specs.State.{is_acknowledged, is_data_held, is_unanswered}
 use Rattle.vme_cert.specs.Instant.{starts_transfer}
 use Rattle.vme_cert.specs.declared.state.Transfer.{Transfer}
 use Rattle.vme_cert.specs.declared.state.Cycle.{Cycle}
-use Rattle.vme_cert.proofs.Ranges.{below_or_from, IsGreatest, and_off, and_on, greatest-found, none-shorter}
+use Rattle.vme_cert.proofs.Ranges.{below_or_from, IsGreatest, greatest-found, none-shorter}
 use Rattle.vme_cert.proofs.Ranges.{after_start, greatest-here, greatest-not, none-step, any-start, last_or_before}
 use Rattle.vme_cert.proofs.Ranges.{greatest-none-any, those-empty, order_of, greatest-none}
-use Rattle.vme_cert.proofs.Ranges.{decide, case_of, later, de_morgan, only-last, or_on, unless}
+use Rattle.vme_cert.proofs.Ranges.{decide, case_of, later, de_morgan, only-last, unless}
 use Rattle.vme_cert.proofs.Instant.{address-known}
 
 -- ---- The transfer of an instant: the last to start, while no instant since then had both strobes high.
@@ -59,7 +59,7 @@ module _ (t : Trace) (span : Stretch) where
   module _ (j : ℕ) (judged : is_judged span j ≡ true) where
     lasts-not : (i : ℕ) → any (strobes_high t) (i + 1) j ≡ true → lasts t span i j ≡ false
     unfolding lasts
-    lasts-not i h = rw h (and_off (nat_le i j && is_judged span j))
+    lasts-not i h = rw h (and-false (nat_le i j && is_judged span j))
 
     pub lasts-on : (i : ℕ) → i ≤ j → none (strobes_high t) (i + 1) j ≡ true → lasts t span i j ≡ true
     unfolding lasts
@@ -431,7 +431,7 @@ module _ (t : Trace) (span : Stretch) (j : ℕ) (judged : is_judged span j ≡ t
             ≡ (c.runs && not (rises t AS j))
         by_order (inl e) = ap not (any-start (rises t AS) (c.start + 1) (j + 1) (omega arith))
             ∙ (sym (is.runs ∙ ap not (any-start (rises t AS) (c.start + 1) j (omega arith)))
-            ∙ (sym (and_on c.runs) ∙ ap (λ b. c.runs && not b) (sym (no-rise t AS j
+            ∙ (sym (and-true c.runs) ∙ ap (λ b. c.runs && not b) (sym (no-rise t AS j
             (sym cycle-starts-is ∙ (ap (cycle_starts t span) (sym e) ∙ found-cycle.holds))))))
         by_order (inr before) = none-step (rises t AS) (c.start + 1) j (omega arith)
             ∙ ap (λ b. b && not (rises t AS j)) (sym is.runs)
@@ -528,8 +528,8 @@ module _ (t : Trace) (span : Stretch) (p q : ℕ → Bool) (j : ℕ) (judged : i
   -- the field one instant later
   pub since-step : {a b c : Bool} → a ≡ any q (last_before t span p j) j → b ≡ p j → c ≡ q j
       → ((a && not b) || c) ≡ any q (last_before t span p (j + 1)) (j + 1)
-  since-step e f g = rw (e, f, g) (decide (p j) (λ e. rw (last-here e, e, here_only, and_off) refl)
-      (λ e. rw (last-not e, e, since-asks, and_on) refl))
+  since-step e f g = rw (e, f, g) (decide (p j) (λ e. rw (last-here e, e, here_only, and-false) refl)
+      (λ e. rw (last-not e, e, since-asks, and-true) refl))
     where
       here_only : any q j (j + 1) ≡ q j
       here_only = any-step q j j ∙ rw (any-start q j j (omega arith), le-leb j j (omega arith)) refl
@@ -537,8 +537,8 @@ module _ (t : Trace) (span : Stretch) (p q : ℕ → Bool) (j : ℕ) (judged : i
   pub since-later-step : {a b c : Bool} → a ≡ any q (last_before t span p j + 1) j → b ≡ p j → c ≡ q j
       → ((a || c) && not b) ≡ any q (last_before t span p (j + 1) + 1) (j + 1)
   since-later-step e f g = rw (e, f, g) (decide (p j)
-      (λ e. rw (last-here e, e, and_off) (sym (any-start q (j + 1) (j + 1) (omega arith))))
-      (λ e. rw (last-not e, e, and_on) (sym since-later-asks)))
+      (λ e. rw (last-here e, e, and-false) (sym (any-start q (j + 1) (j + 1) (omega arith))))
+      (λ e. rw (last-not e, e, and-true) (sym since-later-asks)))
 
 -- the fields after the start of a stretch
 module _ (t : Trace) (span : Stretch) (p q : ℕ → Bool) where
@@ -575,7 +575,7 @@ module _ (t : Trace) (span : Stretch) (j : ℕ) (judged : is_judged span j ≡ t
         ap (λ b. answer_falls t j && not b) w.answered ∙ sym (answers-is t span j c.start judged w.last w.still)
 
     pub has-is : c.is_open ≡ in_transfer t span (λ i. true) j
-    has-is = sym (and_on c.is_open) ∙ ask true (λ i. true) (λ w. refl)
+    has-is = sym (and-true c.is_open) ∙ ask true (λ i. true) (λ w. refl)
 
     pub answer-is : (c.is_open && (answer_falls t j && not c.answered)) ≡ is_answer t span j
     unfolding is_answer
@@ -584,13 +584,9 @@ module _ (t : Trace) (span : Stretch) (j : ℕ) (judged : is_judged span j ≡ t
     pub write-is : (is_answer t span j && c.is_write) ≡ answers_write t span j
     unfolding answers_write
     write-is =
-        ap (λ b. b && c.is_write) (sym answer-is) ∙ (grouped c.is_open (answer_falls t j && not c.answered) c.is_write
+        ap (λ b. b && c.is_write) (sym answer-is) ∙ (and_assoc c.is_open (answer_falls t j && not c.answered) c.is_write
         ∙ ask ((answer_falls t j && not c.answered) && c.is_write) (λ i. answers t span i j && is_write t span i)
         (λ w. ap (λ b. b && c.is_write) (answers-here w) ∙ ap (λ b. answers t span c.start j && b) w.direction))
-      where
-        grouped : (a b x : Bool) → ((a && b) && x) ≡ (a && (b && x))
-        grouped true b x = refl
-        grouped false b x = refl
 
     pub unanswered-is : (c.is_open && (nat_lt c.start j && not (c.answered || answer_falls t j)))
         ≡ is_unanswered t span j
@@ -746,7 +742,7 @@ module _ (t : Trace) (span : Stretch) (is : IsSpanOf t span) where
           (λ r a b. reads.first r (omega (arith, from)) (omega arith)) (λ r a b. (still r a b).0)) refl
       by_low false true h e f still = rw (stays-along t DS1 i k f (omega arith)
           (λ r a b. reads.second r (omega (arith, from)) (omega arith)) (λ r a b. (still r a b).1))
-          (or_on (low t DS0 k))
+          (or-true (low t DS0 k))
       by_low false false h e f still = absurd (cc)
 
   module _ (j : ℕ) (judged : is_judged span j ≡ true) where

@@ -5,6 +5,7 @@ use Rattle.std.proofs.Common.{append_assoc}
 use Rattle.std.specs.Prelude.{◌==◌, Option, None, Some, slice_get, nat_le, if◌then◌else◌}
 use Rattle.std.proofs.lemmas.Bool.Decides.{nat_tests}
 use Rattle.std.proofs.lemmas.Bool.{and_parts, and_left, and_right, not-true}
+use Rattle.std.proofs.Math.Bool.{and-not_self}
 use Rattle.vme_trace.proofs.Ranges.{clash, least-is, least-none, any-fails, any-holds, fails-any, least-found}
 use Rattle.vme_trace.proofs.Ranges.{least-none-any}
 use Rattle.vme_trace.specs.declared.class.Class.TheVariants as class
@@ -186,7 +187,7 @@ module _ {Whole Source : Type 0} {gave : Whole → Source → List Row → Type 
           g.given_is ∙ ap (slice_get g.more) (sym b.place),
           ap (slice_get more) (b.place ∙ upto) ∙ (row_after v rights [] right ∙ ap (λ (r : Row). Some r)
               (sym (ap (λ (r : Row). with_edge r None) is ∙ (with_edge-in v right None ∙ ap (row_in v) edge)))),
-        )) (λ n off. same_off (n == row.place));
+        )) (λ n off. and-not_self (n == row.place));
         tenure = tt;
         cycle = tt;
         transfer = tt;
@@ -197,10 +198,6 @@ module _ {Whole Source : Type 0} {gave : Whole → Source → List Row → Type 
       each_off false true c = refl
       each_off false false true = refl
       each_off false false false = refl
-
-      same_off : (a : Bool) → (a && not a) ≡ false
-      same_off true = refl
-      same_off false = refl
 
 -- ---- The row of the last transfer to start: as it starts, is answered, and closes.
 

@@ -1,15 +1,16 @@
 -- The grant that a tenure takes, and the lines that are known within a stretch.
-use Rattle.std.proofs.Common.{◌≡◌, ℕ, ◌-◌, not, refl, ap, Bool, true, false, ◌||◌, ◌∙◌, ◌+◌, ◌<◌, ◌≤◌, sym, arith, inl}
+use Rattle.std.proofs.Common.{◌≡◌, ℕ, ◌-◌, not, refl, ap, Bool, true, false, ◌∙◌, ◌+◌, ◌<◌, ◌≤◌, sym, arith, inl}
 use Rattle.std.proofs.Common.{inr, ◌⊎◌, ◌&&◌}
 use Rattle.std.specs.Prelude.{None, is_some, Option, Some, option_map, unwrap_or, nat_lt}
 use Rattle.std.proofs.lemmas.Bool.{ltb-true, and_parts}
+use Rattle.std.proofs.Math.Bool.{or-false, or-true}
 use Rattle.vme_trace.proofs.Ranges.{any-holds, fails-any, least-found, least-none-any, any-fails}
 use Rattle.vme_trace.proofs.JudgedSpans.{span_unlost, span_unreset}
 use Rattle.vme_cert.specs.Vocabulary.{AS, IsSpanOf, Stretch, Trace, any, every, falls, grant, greatest, has_edge}
 use Rattle.vme_cert.specs.Vocabulary.{has_reached, high, is_control, is_granting, is_judged, is_known_on, is_lost}
 use Rattle.vme_cert.specs.Vocabulary.{is_reset, is_reset_at, known, least, levels_at, line_count, loses_control}
 use Rattle.vme_cert.specs.Vocabulary.{loses_control_at, low, near, rises, taken_grant, tenure_level, tenure_slot}
-use Rattle.vme_cert.proofs.Ranges.{or_on, any-first, greatest-is, any-start, decide}
+use Rattle.vme_cert.proofs.Ranges.{any-first, greatest-is, any-start, decide}
 
 -- for what a line shows by the levels that a `Bus` keeps: to unfold this is to unfold each of these names
 unfoldable pub shown : Trace → ℕ → ℕ → Bool
@@ -35,12 +36,8 @@ pub granted-near : (t : Trace) (j : ℕ) → is_some (tenure_level t j) ≡ near
 unfolding tenure_level
 granted-near t j = any-first (λ n. low t (grant n 0) (taken_grant t j)) 0 4
     ∙ (granting-is t (taken_grant t j) ∙ decide (is_granting t j)
-    (λ e. rw (taken-now t j e, e) (sym (or_on (is_granting t (j - 1)))))
-    (λ e. rw (taken-before t j e, e) (or_off (is_granting t (j - 1)))))
-  where
-    or_off : (a : Bool) → a ≡ (a || false)
-    or_off true = refl
-    or_off false = refl
+    (λ e. rw (taken-now t j e, e) (sym (or-true (is_granting t (j - 1)))))
+    (λ e. rw (taken-before t j e, e) (sym (or-false (is_granting t (j - 1))))))
 
 -- for the goals of the grant that a tenure takes
 pub ruleset grants = (taken-now, taken-before)

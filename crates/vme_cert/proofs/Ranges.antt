@@ -4,6 +4,7 @@ use Rattle.std.proofs.Common.{[], ◌∷◌, get_or, sym, ◌∙◌, ap, inl, in
 use Rattle.std.specs.Prelude.{◌==◌, nat_le, nat_lt, Option, None, Some, is_some}
 use Rattle.std.proofs.lemmas.Bool.Decides.{nat_tests}
 use Rattle.std.proofs.lemmas.Bool.{leb-true, le-leb, ltb-true, lt-ltb, le-ltb, and_parts, and_right}
+use Rattle.std.proofs.Math.Bool.{and-false}
 use Rattle.vme_trace.proofs.Ranges.{any-fails, fails-any, clash, searches, any-holds, any-step, least-found}
 use Rattle.vme_trace.proofs.Ranges.{least-none-any, those-none}
 use Rattle.vme_cert.specs.Vocabulary.{Stretch, any, greatest, is_judged, least, none, those}
@@ -40,18 +41,6 @@ de_morgan false b = refl
 pub within_of : (f i n : ℕ) → (nat_le f i && nat_le i n) ≡ true → (f ≤ i) × (i < n + 1)
 within_of f i n h = let both = and_parts (nat_le f i) (nat_le i n) h in
     let last = leb-true i n both.1 in (leb-true f i both.0, omega arith)
-
-pub and_on : (a : Bool) → (a && true) ≡ a
-and_on true = refl
-and_on false = refl
-
-pub and_off : (a : Bool) → (a && false) ≡ false
-and_off true = refl
-and_off false = refl
-
-pub or_on : (a : Bool) → (a || true) ≡ true
-or_on true = refl
-or_on false = refl
 
 pub unless : (a b : Bool) → (a ≡ true → (a && b) ≡ false) → (a && b) ≡ false
 unless true b h = h refl
@@ -173,7 +162,7 @@ pub any-start : (p : ℕ → Bool) (f n : ℕ) → n ≤ f → any p f n ≡ fal
 any-start p f n h = fails-any p f n (λ i a b. absurd (omega arith))
 
 pub any-more : (p : ℕ → Bool) (f n : ℕ) → any p f n ≡ false → p n ≡ false → any p f (n + 1) ≡ false
-any-more p f n none fails = any-step p f n ∙ rw (none, fails) (and_off (nat_le f n))
+any-more p f n none fails = any-step p f n ∙ rw (none, fails) (and-false (nat_le f n))
 
 chosen_below : (f n : ℕ) (b : Bool) (o : Option ℕ) → n < f → cond (nat_le f n && b) (Some n) o ≡ o
 chosen_below f n b o k = grind (arith, nat_tests)

@@ -5,11 +5,12 @@ use Rattle.std.specs.List.{list_all}
 use Rattle.std.proofs.lemmas.List.{take_all, take_more}
 use Rattle.std.proofs.lemmas.List.Folds.{list_all_at}
 use Rattle.std.proofs.lemmas.Bool.{eqb-true, and_parts, or_cases}
+use Rattle.std.proofs.Math.Bool.{or-true}
 use Rattle.vme_trace.proofs.Ranges.{clash}
 use Rattle.vme_cert.specs.Vocabulary.{Change, Levels, are_changes, has_line, is_broken, is_changed, level_at}
 use Rattle.vme_cert.specs.Vocabulary.{same_level}
 use Rattle.vme_cert.specs.RulesByLine.{may_be_broken_on}
-use Rattle.vme_cert.proofs.Ranges.{decide, or_on}
+use Rattle.vme_cert.proofs.Ranges.{decide}
 use Rattle.vme_cert.proofs.state.State.is_change_broken.Goals as goal
 
 -- one more change adds only its own line to those that are changed
@@ -22,7 +23,7 @@ changed-last [] c n h = elim (or_cases (c.line == n) false h) [
 changed-last (d ∷ cs) c n h = elim (or_cases (d.line == n) (is_changed (cs ++ c ∷ []) n) h) [
   | inl first ↦ inl (rw first refl)
   | inr more ↦ elim (changed-last cs c n more) [
-    | inl before ↦ inl (rw before (or_on (d.line == n)))
+    | inl before ↦ inl (rw before (or-true (d.line == n)))
     | inr here ↦ inr here
   ]
 ]
