@@ -3,6 +3,7 @@ use Rattle.std.proofs.Common.{◌≡◌, ℕ, suc, ◌<◌, ◌≤◌, Bool, tru
 use Rattle.std.proofs.Common.{lit≤}
 use Rattle.std.specs.Prelude.{None, Some, ◌==◌}
 use Rattle.std.proofs.lemmas.Bool.Decides.{nat_tests}
+use Rattle.std.proofs.lemmas.Bool.{eqb-true}
 use Rattle.vme_trace.specs.Edges.{falls_between, starts_between}
 use Rattle.vme_trace.specs.Instants.{least}
 use Rattle.vme_trace.specs.LineNumbers.{line_count, AS, WRITE, has_line}
@@ -33,11 +34,8 @@ least_write p elsewhere = by_test (p WRITE) refl
     unlike : (l k : ℕ) → l < k → (l == k) ≡ false
     unlike l k h = grind (arith, nat_tests)
 
-    equal : (l k : ℕ) → (l == k) ≡ true → l ≡ k
-    equal l k h = grind (arith, nat_tests)
-
     nowhere : p WRITE ≡ false → (l : ℕ) (b : Bool) → (l == WRITE) ≡ b → p l ≡ false
-    nowhere h l true e = ap p (equal l WRITE e) ∙ h
+    nowhere h l true e = ap p (eqb-true l WRITE e) ∙ h
     nowhere h l false e = elsewhere l e
 
     by_test : (b : Bool) → p WRITE ≡ b → least p 0 line_count ≡ cond b (Some WRITE) None

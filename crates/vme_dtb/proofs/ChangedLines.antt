@@ -5,7 +5,7 @@ use Rattle.std.specs.Prelude.{Some, ◌==◌, nat_le, slice_set}
 use Rattle.std.proofs.lemmas.Bool.Decides.{nat_tests}
 use Rattle.std.proofs.lemmas.List.{length-set, get_or-set_same}
 use Rattle.std.proofs.lemmas.Option.{unwrap_or-slice_get}
-use Rattle.std.proofs.lemmas.Bool.{and_parts, not-true, or_right}
+use Rattle.std.proofs.lemmas.Bool.{and_parts, not-true, or_right, eqb-true}
 use Rattle.vme_trace.specs.Instants.{any, least}
 use Rattle.vme_trace.specs.Levels.{Levels, level_at, set_level, same_level}
 use Rattle.vme_trace.specs.Trace.{changed}
@@ -21,9 +21,6 @@ use Rattle.vme_dtb.specs.StabilityRules.{first_among}
 or_second : (a b : Bool) → (a || b) ≡ true → a ≡ false → b ≡ true
 or_second true b h e = absurd (cc)
 or_second false b h e = h
-
-equal : (a b : ℕ) → (a == b) ≡ true → a ≡ b
-equal a b h = grind (arith, nat_tests)
 
 unlike : (a b : ℕ) → b < a → (a == b) ≡ false
 unlike a b h = grind (arith, nat_tests)
@@ -68,7 +65,7 @@ differs_here : (v u : Levels) (c : Change) (cs : List Change) (l : ℕ) (b : Boo
     → same_level (level_at v l) (level_at (changed (set_level u c.line c.level) cs) l) ≡ false
 differs_here v u c cs l false e differs later inside rest = rest refl
 differs_here v u c cs l true e differs later inside rest =
-    let same : c.line ≡ l = equal c.line l e in
+    let same : c.line ≡ l = eqb-true c.line l e in
     subst (λ k. same_level (level_at v k) (level_at (changed (set_level u c.line c.level) cs) k) ≡ false) same
     (ap (same_level (level_at v c.line)) (level-kept (set_level u c.line c.level) cs c.line later ∙ set_here u c.line
     c.level (subst (λ k. k < length u.levels) (sym same) inside)) ∙ differs)
@@ -108,7 +105,7 @@ module _ (p q : ℕ → Bool) (n : ℕ) (bound : (l : ℕ) → q l ≡ true → 
   fails_else c cs fails here l h = by_line (c.line == l) refl
     where
       by_line : (b : Bool) → (c.line == l) ≡ b → p l ≡ false
-      by_line true e = ap p (sym (equal c.line l e)) ∙ here
+      by_line true e = ap p (sym (eqb-true c.line l e)) ∙ here
       by_line false e = fails l (rw (e, h) refl)
 
   same_line : (k : ℕ) → (k == k) ≡ true

@@ -2,7 +2,7 @@
 use Rattle.std.proofs.Common.{◌≡◌, ℕ, zero, suc, ◌<◌, ◌≤◌, Bool, true, false, ◌&&◌, ◌||◌, not, refl, sym, ◌∙◌, ap}
 use Rattle.std.proofs.Common.{arith, lit<, Option, Some, None, cond, subst, inl, inr, ◌⊎◌}
 use Rattle.std.specs.Prelude.{is_some, slice_get}
-use Rattle.std.proofs.lemmas.Bool.{not-false, not-true}
+use Rattle.std.proofs.lemmas.Bool.{not-false, not-true, le-ltb}
 use Rattle.vme_trace.specs.LineNumbers.{line_count, DTACK, BERR}
 use Rattle.vme_trace.specs.Levels.{Levels, level_at, is_low, is_known, is_idle, is_idle_on}
 use Rattle.vme_trace.specs.Trace.{Trace, levels_at}
@@ -29,7 +29,6 @@ use Rattle.vme_dtb.proofs.CycleMemory.{after_is, cycle_after, cycle_before, cycl
 use Rattle.vme_dtb.proofs.AnswerRises.{may_rise_at, may_rise_start, may_rise_suc}
 use Rattle.vme_dtb.proofs.HandshakeBreaks.{answer_is}
 use Rattle.vme_dtb.proofs.HandshakeMeaning.{Holds}
-use Rattle.vme_dtb.proofs.Searches.{lt_fails}
 use Rattle.vme_dtb.proofs.StepFacts.{old, new, strobe_rises_is}
 use Rattle.vme_dtb.proofs.StillSteps.{machine_step_is}
 
@@ -129,7 +128,7 @@ module _ (t : Trace) (span : Stretch) (facts : IsSpan t span) where
         | inl e ↦ subst (λ (k : ℕ). Holds t span k (memory_at k)) e held_start
         | inr earlier ↦
             let so_far = holds_at n earlier (omega arith) in
-            rw (lt_fails n span.start earlier)
+            rw (le-ltb n span.start earlier)
             (subst (Holds t span (suc n)) (ap (λ (x : Next HandshakeMemory). x.memory)
             (sym (machine_step_is t span n (memory_at n) so_far (changes_of (slice_get t.steps n)))))
             (holds_next n earlier before (memory_at n) so_far))

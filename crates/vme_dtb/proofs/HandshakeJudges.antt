@@ -3,6 +3,7 @@ use Rattle.std.proofs.Common.{◌≡◌, ℕ, suc, ◌+◌, ◌<◌, ◌≤◌, 
 use Rattle.std.proofs.Common.{Option, Some, None, cond}
 use Rattle.std.specs.Prelude.{option_map, is_some, slice_get, nat_lt}
 use Rattle.std.proofs.Math.Bool.{and-false}
+use Rattle.std.proofs.lemmas.Bool.{le-ltb}
 use Rattle.vme_trace.specs.Edges.{falls_between, rises_between, starts_between, strobes_high_in}
 use Rattle.vme_trace.specs.Instants.{least}
 use Rattle.vme_trace.specs.LineNumbers.{line_count, AS, WRITE, is_answer_line}
@@ -47,7 +48,6 @@ use Rattle.vme_dtb.proofs.HandshakeBreaks.{answer_is, handshake_faults-are-break
 use Rattle.vme_dtb.proofs.HandshakeMeaning.{Holds}
 use Rattle.vme_dtb.proofs.HandshakeInstants.{holds_at, memory_at}
 use Rattle.vme_dtb.proofs.OpenState.{started_is}
-use Rattle.vme_dtb.proofs.Searches.{lt_fails}
 use Rattle.vme_dtb.proofs.StepFacts.{old, new, answer_fall_is, judged, rises_is, starts_is}
 use Rattle.vme_dtb.proofs.StillSteps.{machine_step_is}
 
@@ -172,7 +172,7 @@ module _ (t : Trace) (span : Stretch) (facts : IsSpan t span) (n : ℕ) (from : 
 
 module _ (t : Trace) (span : Stretch) where
   unjudged : is_judged span span.start ≡ false
-  unjudged = rw (lt_fails span.start span.start (omega arith)) refl
+  unjudged = rw (le-ltb span.start span.start (omega arith)) refl
 
   in_none : (p : ℕ → Bool) → in_transfer t span p span.start ≡ false
   unfolding in_transfer

@@ -4,7 +4,7 @@ use Rattle.std.proofs.Common.{arith, cond, inl, inr, ◌⊎◌, length, lit<, su
 use Rattle.std.specs.Prelude.{Option, None, Some, slice_get, unwrap_or, option_map}
 use Rattle.std.specs.Option.{option_or}
 use Rattle.std.proofs.lemmas.Option.{slice_get_past}
-use Rattle.std.proofs.lemmas.Bool.{and_parts, not-true}
+use Rattle.std.proofs.lemmas.Bool.{and_parts, not-true, cases_lt}
 use Rattle.vme_trace.specs.Instants.{any, least, none}
 use Rattle.vme_trace.specs.LineNumbers.{line_count, AS, has_line}
 use Rattle.vme_trace.specs.Cycle.{is_needed, is_within, needs_of}
@@ -71,14 +71,11 @@ not_risen false b h k = absurd (cc)
 
 known_within : (xs : List Level) (l : ℕ) → is_known (unwrap_or (slice_get xs l) Unknown) ≡ true → l < length xs
 known_within xs l h =
-    elim (below_or_not l (length xs)) [
+    elim (cases_lt l (length xs)) [
       | inl below ↦ below
       | inr past ↦ absurd (unknown (rw (slice_get_past xs l past) at h))
     ]
   where
-    below_or_not : (a b : ℕ) → (a < b) ⊎ (b ≤ a)
-    below_or_not a b = grind arith
-
     unknown : false ≡ true → ⊥
     unknown h = cc
 

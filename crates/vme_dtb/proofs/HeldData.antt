@@ -3,7 +3,7 @@ use Rattle.std.proofs.Common.{◌≡◌, ℕ, suc, ◌+◌, ◌-◌, ◌<◌, �
 use Rattle.std.proofs.Common.{arith, cond, inl, inr, ◌⊎◌}
 use Rattle.std.specs.Prelude.{Option, None, Some, List, nat_le, nat_lt}
 use Rattle.std.proofs.lemmas.Bool.Decides.{nat_tests}
-use Rattle.std.proofs.lemmas.Bool.{and_parts}
+use Rattle.std.proofs.lemmas.Bool.{and_parts, le-leb}
 use Rattle.std.proofs.Math.Bool.{and-false}
 use Rattle.vme_trace.specs.Edges.{answer_between, strobe_falls_between, strobe_low_in, strobe_rises_between}
 use Rattle.vme_trace.specs.Edges.{strobes_high_in}
@@ -38,7 +38,6 @@ use Rattle.vme_dtb.proofs.AskedLines.{least_and}
 use Rattle.vme_dtb.proofs.ChangedLines.{first_least, same_itself}
 use Rattle.vme_dtb.proofs.StabilityMeaning.{Holds, falls_is, high_is, judged, strobe_rises_is, transfer_starts_is}
 use Rattle.vme_dtb.proofs.Lasting.{none_more}
-use Rattle.vme_dtb.proofs.Searches.{le_holds}
 use Rattle.vme_dtb.proofs.Progressing.{held_data, is_closed, kept_is, writes_entered}
 
 -- lines that a transfer moves are from 159 on, the first data line
@@ -242,7 +241,7 @@ module _ (t : Trace) (span : Stretch) (reads : ReadsStrobes t span) (n : ℕ) (f
   unfolding is_answered
   answered_more i w a o =
       any-step (λ r. lasts t span i r && answer_falls t r) i (suc n)
-      ∙ rw (o.reply, o.last, le_holds i (suc n) o.within, answer_here) refl
+      ∙ rw (o.reply, o.last, le-leb i (suc n) o.within, answer_here) refl
 
   -- a transfer that was open at n started at n or before
   started : (i : ℕ) (w a : Bool) → IsIn t span (suc n) i w a → strobes_high_in old ≡ false → i ≤ n

@@ -2,10 +2,9 @@
 use Rattle.std.proofs.Common.{◌≡◌, ℕ, zero, suc, ◌+◌, ◌<◌, ◌≤◌, Bool, true, false, ◌||◌, ◌&&◌, not, refl, ◌∙◌, ap}
 use Rattle.std.proofs.Common.{arith}
 use Rattle.std.specs.Prelude.{nat_le}
-use Rattle.std.proofs.lemmas.Bool.{not-true}
+use Rattle.std.proofs.lemmas.Bool.{not-true, le-leb}
 use Rattle.vme_trace.specs.Instants.{any, none}
 use Rattle.vme_trace.proofs.Ranges.{any-alike, any-fails, any-step, fails-any}
-use Rattle.vme_dtb.proofs.Searches.{le_holds}
 
 pub suc-is : (n : ℕ) → suc n ≡ n + 1
 suc-is n = omega arith
@@ -27,7 +26,7 @@ any-and q k f (suc n) = rw (any-and q k f n) (spread (any q f n) (nat_le f n) (q
 -- there is none up to n + 1 exactly if there is none up to n, and none at n + 1
 pub none_more : (p : ℕ → Bool) (f n : ℕ) → f ≤ suc n → none p f (suc n + 1) ≡ (none p f (n + 1) && not (p (suc n)))
 none_more p f n h = ap not (any-step p f (suc n)) ∙ more (any p f (suc n)) (any p f (n + 1)) (nat_le f (suc n))
-    (p (suc n)) (ap (any p f) (suc-is n)) (le_holds f (suc n) h)
+    (p (suc n)) (ap (any p f) (suc-is n)) (le-leb f (suc n) h)
   where
     more : (a b c d : Bool) → a ≡ b → c ≡ true → not (a || (c && d)) ≡ (not b && not d)
     more a true c d e h = rw e refl
@@ -40,7 +39,7 @@ none_empty p f = ap not (fails-any p f f (λ i a b. absurd (omega arith)))
 -- there is none in a range of one number exactly if p fails there
 pub none_one : (p : ℕ → Bool) (f : ℕ) → none p f (f + 1) ≡ not (p f)
 none_one p f = ap not (any-step p f f) ∙ one (any p f f) (nat_le f f) (p f)
-    (fails-any p f f (λ i a b. absurd (omega arith))) (le_holds f f (omega arith))
+    (fails-any p f f (λ i a b. absurd (omega arith))) (le-leb f f (omega arith))
   where
     one : (a b c : Bool) → a ≡ false → b ≡ true → not (a || (b && c)) ≡ not c
     one a b c e h = rw (e, h) refl

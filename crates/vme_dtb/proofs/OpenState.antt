@@ -2,6 +2,7 @@
 use Rattle.std.proofs.Common.{◌≡◌, ℕ, suc, ◌+◌, ◌<◌, ◌≤◌, Bool, true, false, ◌||◌, ◌&&◌, not, refl, sym, ◌∙◌, ap, arith}
 use Rattle.std.proofs.Common.{inl, inr, ◌⊎◌, add-one}
 use Rattle.std.specs.Prelude.{nat_lt}
+use Rattle.std.proofs.lemmas.Bool.{le-leb, le-ltb, lt-ltb}
 use Rattle.vme_trace.specs.Instants.{any}
 use Rattle.vme_trace.specs.LineNumbers.{DTACK, BERR}
 use Rattle.vme_trace.specs.Trace.{Trace}
@@ -20,7 +21,7 @@ use Rattle.vme_monitor.proofs.TrackedTransfers.{IsIn, Enters, entered_is}
 use Rattle.vme_monitor.specs.Tracking.{entered}
 use Rattle.vme_trace.specs.Trace.{levels_at}
 use Rattle.vme_dtb.specs.Machine.{is_replied}
-use Rattle.vme_dtb.proofs.Searches.{le_holds, lt_holds, lt_fails, any_more}
+use Rattle.vme_dtb.proofs.Searches.{any_more}
 
 and_first : (a b : Bool) → (a && true) ≡ false → (a && b) ≡ false
 and_first true b h = absurd (cc)
@@ -41,7 +42,7 @@ module _ (t : Trace) (span : Stretch) (reads : ReadsStrobes t span) (n : ℕ) (f
   unfolding lasts
   lasts_now i w a o =
       rw (
-        le_holds i (suc n) (omega (arith, o.within)),
+        le-leb i (suc n) (omega (arith, o.within)),
         is_judged-holds span (suc n) (omega arith) before,
         fails-any (strobes_high t) (i + 1) (suc n) (λ r x y. o.still r (omega arith) (omega arith)),
       ) refl
@@ -95,7 +96,7 @@ module _ (t : Trace) (span : Stretch) (reads : ReadsStrobes t span) (n : ℕ) (f
       ∙ rw (o.reply, lasts_now i w a o) refl
 
   not_yet : (b : Bool) → (nat_lt (suc n) (suc n) && b) ≡ false
-  not_yet b = rw (lt_fails (suc n) (suc n) (omega arith)) refl
+  not_yet b = rw (le-ltb (suc n) (suc n) (omega arith)) refl
 
   -- whether n + 1 is in a transfer that started before and has no answer up to n + 1
   pub left_unanswered_is : (m : TransferPhase) → IsTransferPhase t span n m → in_transfer t span (λ i. nat_lt i (suc n)
@@ -104,13 +105,13 @@ module _ (t : Trace) (span : Stretch) (reads : ReadsStrobes t span) (n : ℕ) (f
       high_before (not_yet (not (is_answered t span (suc n) (suc n + 1))))
   left_unanswered_is Reading o =
       open_is (λ i. nat_lt i (suc n) && not (is_answered t span i (suc n + 1))) o.0 false false o.1
-      ∙ rw (lt_holds o.0 (suc n) (omega (arith, o.1.within)), open_answered o.0 false false o.1) refl
+      ∙ rw (lt-ltb o.0 (suc n) (omega (arith, o.1.within)), open_answered o.0 false false o.1) refl
   left_unanswered_is Writing o =
       open_is (λ i. nat_lt i (suc n) && not (is_answered t span i (suc n + 1))) o.0 true false o.1
-      ∙ rw (lt_holds o.0 (suc n) (omega (arith, o.1.within)), open_answered o.0 true false o.1) refl
+      ∙ rw (lt-ltb o.0 (suc n) (omega (arith, o.1.within)), open_answered o.0 true false o.1) refl
   left_unanswered_is Answered o =
       open_is (λ i. nat_lt i (suc n) && not (is_answered t span i (suc n + 1))) o.0 o.1 true o.2
-      ∙ rw (lt_holds o.0 (suc n) (omega (arith, o.2.within)), open_answered o.0 o.1 true o.2) refl
+      ∙ rw (lt-ltb o.0 (suc n) (omega (arith, o.2.within)), open_answered o.0 o.1 true o.2) refl
 
   -- whether n + 1 is in a transfer that started before n + 1 and was answered before n + 1
   pub replied_is : (m : TransferPhase) → IsTransferPhase t span n m → in_transfer t span (λ i. nat_lt i (suc n)
@@ -118,21 +119,21 @@ module _ (t : Trace) (span : Stretch) (reads : ReadsStrobes t span) (n : ℕ) (f
   replied_is Closed high_before = closed_is (λ i. nat_lt i (suc n) && is_answered t span i (suc n)) high_before
       (not_yet (is_answered t span (suc n) (suc n)))
   replied_is Reading o = open_is (λ i. nat_lt i (suc n) && is_answered t span i (suc n)) o.0 false false o.1
-      ∙ rw (lt_holds o.0 (suc n) (omega (arith, o.1.within)), o.1.reply) refl
+      ∙ rw (lt-ltb o.0 (suc n) (omega (arith, o.1.within)), o.1.reply) refl
   replied_is Writing o = open_is (λ i. nat_lt i (suc n) && is_answered t span i (suc n)) o.0 true false o.1
-      ∙ rw (lt_holds o.0 (suc n) (omega (arith, o.1.within)), o.1.reply) refl
+      ∙ rw (lt-ltb o.0 (suc n) (omega (arith, o.1.within)), o.1.reply) refl
   replied_is Answered o = open_is (λ i. nat_lt i (suc n) && is_answered t span i (suc n)) o.0 o.1 true o.2
-      ∙ rw (lt_holds o.0 (suc n) (omega (arith, o.2.within)), o.2.reply) refl
+      ∙ rw (lt-ltb o.0 (suc n) (omega (arith, o.2.within)), o.2.reply) refl
 
   -- whether n + 1 is in a transfer that started before
   pub started_is : (m : TransferPhase) → IsTransferPhase t span n m → in_transfer t span (λ i. nat_lt i (suc n)) (suc n)
       ≡ is_within m
-  started_is Closed high_before = closed_is (λ i. nat_lt i (suc n)) high_before (lt_fails (suc n) (suc n) (omega arith))
-  started_is Reading o = open_is (λ i. nat_lt i (suc n)) o.0 false false o.1 ∙ lt_holds o.0 (suc n)
+  started_is Closed high_before = closed_is (λ i. nat_lt i (suc n)) high_before (le-ltb (suc n) (suc n) (omega arith))
+  started_is Reading o = open_is (λ i. nat_lt i (suc n)) o.0 false false o.1 ∙ lt-ltb o.0 (suc n)
       (omega (arith, o.1.within))
-  started_is Writing o = open_is (λ i. nat_lt i (suc n)) o.0 true false o.1 ∙ lt_holds o.0 (suc n)
+  started_is Writing o = open_is (λ i. nat_lt i (suc n)) o.0 true false o.1 ∙ lt-ltb o.0 (suc n)
       (omega (arith, o.1.within))
-  started_is Answered o = open_is (λ i. nat_lt i (suc n)) o.0 o.1 true o.2 ∙ lt_holds o.0 (suc n)
+  started_is Answered o = open_is (λ i. nat_lt i (suc n)) o.0 o.1 true o.2 ∙ lt-ltb o.0 (suc n)
       (omega (arith, o.2.within))
 
   abbrev answered_twice : ℕ → Bool

@@ -1,38 +1,22 @@
 -- Searches of a range that gets longer by one number at its end.
 use Rattle.std.proofs.Common.{◌≡◌, ℕ, zero, suc, ◌<◌, ◌≤◌, Bool, true, false, ◌&&◌, ◌||◌, [], ◌∷◌, ◌++◌, refl, arith}
 use Rattle.std.proofs.Common.{Option, Some, None, cond, inl, inr, ◌⊎◌}
-use Rattle.std.specs.Prelude.{nat_le, nat_lt}
-use Rattle.std.proofs.lemmas.Bool.Decides.{nat_tests}
-use Rattle.std.proofs.lemmas.Bool.{and_parts}
+use Rattle.std.specs.Prelude.{nat_le}
+use Rattle.std.proofs.lemmas.Bool.{and_parts, le-leb, leb-true, lt-leb}
 use Rattle.vme_trace.specs.Instants.{any, greatest, those}
-
-pub le_holds : (i j : ℕ) → i ≤ j → nat_le i j ≡ true
-le_holds i j h = grind (arith, nat_tests)
-
-pub lt_holds : (i j : ℕ) → i < j → nat_lt i j ≡ true
-lt_holds i j h = grind (arith, nat_tests)
-
-pub lt_fails : (i j : ℕ) → j ≤ i → nat_lt i j ≡ false
-lt_fails i j h = grind (arith, nat_tests)
-
-le_fails : (i j : ℕ) → j < i → nat_le i j ≡ false
-le_fails i j h = grind (arith, nat_tests)
-
-le_of : (i j : ℕ) → nat_le i j ≡ true → i ≤ j
-le_of i j h = grind (arith, nat_tests)
 
 pub any_more : (p : ℕ → Bool) (f n : ℕ) → f ≤ n → any p f (suc n) ≡ (any p f n || p n)
 unfolding any
-any_more p f n h = rw (le_holds f n h) refl
+any_more p f n h = rw (le-leb f n h) refl
 
 pub greatest_more : (p : ℕ → Bool) (f n : ℕ) → f ≤ n → greatest p f (suc n) ≡ cond (p n) (Some n) (greatest p f n)
 unfolding greatest
-greatest_more p f n h = rw (le_holds f n h) refl
+greatest_more p f n h = rw (le-leb f n h) refl
 
 pub greatest_before : (p : ℕ → Bool) (f n : ℕ) → n ≤ f → greatest p f n ≡ None
 unfolding greatest
 greatest_before p f zero h = refl
-greatest_before p f (suc n) h = rw (le_fails f n (omega arith)) (greatest_before p f n (omega arith))
+greatest_before p f (suc n) h = rw (lt-leb f n (omega arith)) (greatest_before p f n (omega arith))
 
 chosen : (b : Bool) (x y z : Option ℕ) → cond b x y ≡ z → ((b ≡ true) × (x ≡ z)) ⊎ ((b ≡ false) × (y ≡ z))
 chosen true x y z h = inl (refl, h)
@@ -49,7 +33,7 @@ greatest_within p f (suc n) i h =
     elim (chosen (nat_le f n && p n) (Some n) (greatest p f n) (Some i) h) [
       | inl here ↦
           let e : n ≡ i = same_value n i here.1 in
-          let from : f ≤ n = le_of f n (and_parts (nat_le f n) (p n) here.0).0 in
+          let from : f ≤ n = leb-true f n (and_parts (nat_le f n) (p n) here.0).0 in
           (omega arith, omega arith)
       | inr earlier ↦
           let found = greatest_within p f n i earlier.1 in
@@ -59,8 +43,8 @@ greatest_within p f (suc n) i h =
 pub those_before : (p : ℕ → Bool) (f n : ℕ) → n ≤ f → those p f n ≡ []
 unfolding those
 those_before p f zero h = refl
-those_before p f (suc n) h = rw (le_fails f n (omega arith), those_before p f n (omega arith)) refl
+those_before p f (suc n) h = rw (lt-leb f n (omega arith), those_before p f n (omega arith)) refl
 
 pub those_more : (p : ℕ → Bool) (f n : ℕ) → f ≤ n → those p f (suc n) ≡ those p f n ++ cond (p n) (n ∷ []) []
 unfolding those
-those_more p f n h = rw (le_holds f n h) refl
+those_more p f n h = rw (le-leb f n h) refl

@@ -1,10 +1,10 @@
 -- The fault that the monitor of stability finds at each judged instant is the first broken rule.
 use Rattle.std.proofs.Common.{◌≡◌, ℕ, zero, suc, ◌<◌, ◌≤◌, Bool, true, false, not, ◌&&◌, List, [], refl, sym, arith}
 use Rattle.std.proofs.Common.{cond, inl, inr, ◌⊎◌, length, lit<, subst}
-use Rattle.std.specs.Prelude.{Option, None, Some, option_map, slice_get, nat_lt}
+use Rattle.std.specs.Prelude.{Option, None, Some, option_map, slice_get}
 use Rattle.std.specs.Option.{option_map_or, option_or}
 use Rattle.std.proofs.lemmas.Bool.Decides.{nat_tests}
-use Rattle.std.proofs.lemmas.Bool.{not-true}
+use Rattle.std.proofs.lemmas.Bool.{not-true, le-ltb}
 use Rattle.vme_trace.specs.LineNumbers.{line_count, AS, WRITE, is_control}
 use Rattle.vme_trace.specs.Levels.{Levels, level_at, is_low, is_high, is_idle, is_idle_on, same_level}
 use Rattle.vme_trace.specs.Trace.{Trace, levels_at, time_at}
@@ -141,9 +141,6 @@ module _ (t : Trace) (span : Stretch) (ok : malformed_step t ≡ None) (facts : 
       (turned_least t span facts.reads n from before m holds [])
       (S2_least t span (suc n) (before_last t span (suc n) unbroken).1)))
 
-  after_test : (n s : ℕ) → s ≤ n → nat_lt n s ≡ false
-  after_test n s h = grind (arith, nat_tests)
-
   strobe_control : (s l : ℕ) → l < 3 → is_control s l ≡ true
   strobe_control s l h = grind (arith, nat_tests)
 
@@ -171,7 +168,7 @@ module _ (t : Trace) (span : Stretch) (ok : malformed_step t ≡ None) (facts : 
       elim (first_or_later span.start n from) [
         | inl e ↦ at_start e
         | inr later ↦ let holds = holds_at n later (omega arith) (omega arith) in
-            rw (after_test n span.start later, next_is n later before (omega arith) (memory_at n) holds)
+            rw (le-ltb n span.start later, next_is n later before (omega arith) (memory_at n) holds)
             (holds_next t span facts.reads n later before (earlier n) (stays n later before)
             (λ l below. facts.known n l later (omega arith) (omega arith) (strobe_control t.opening.slots l below))
             (λ l below. facts.known (suc n) l (omega arith) before (omega arith)

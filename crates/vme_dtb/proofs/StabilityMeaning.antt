@@ -7,7 +7,7 @@ use Rattle.vme_trace.specs.Edges.{strobe_rises_between, strobes_high_in}
 use Rattle.vme_trace.specs.Instants.{any, none}
 use Rattle.std.proofs.Common.{inl, inr, ◌⊎◌}
 use Rattle.std.specs.Prelude.{None}
-use Rattle.std.proofs.lemmas.Bool.{and_parts, or_parts}
+use Rattle.std.proofs.lemmas.Bool.{and_parts, or_parts, le-leb}
 use Rattle.std.proofs.Math.Bool.{and-true, and_assoc}
 use Rattle.vme_trace.specs.LineNumbers.{AS, DS0, DS1, WRITE}
 use Rattle.vme_trace.specs.Levels.{Levels, level_at, is_low, is_high, is_known}
@@ -33,7 +33,6 @@ use Rattle.vme_dtb.specs.HoldingNumbers.{has_risen, was_answered, writes_of}
 use Rattle.vme_dtb.proofs.Progressing.{directed_by, fresh_here, fresh_more, is_answered_state, is_closed}
 use Rattle.vme_dtb.proofs.Progressing.{risen_passed, was_passed}
 use Rattle.vme_dtb.proofs.Lasting.{none_more, none_empty, none_one, lasts_on}
-use Rattle.vme_dtb.proofs.Searches.{le_holds}
 
 -- whether the transfer that the step enters, or that was open, has had no answer
 unanswered_is : (p : TransferPhase) (h l w : Bool) → h ≡ is_closed p
@@ -270,7 +269,7 @@ module _ (t : Trace) (span : Stretch) where
         ≡ any (holds_address (suc n)) (span.start + 1) (suc n + 1)
     address_next m h =
         rw (keeps_address_is m h, ← answer_is m h) (sym (any-step (holds_address (suc n)) (span.start + 1) (suc n)
-        ∙ rw (le_holds (span.start + 1) (suc n) (omega arith), address_here) refl))
+        ∙ rw (le-leb (span.start + 1) (suc n) (omega arith), address_here) refl))
 
     awaits_next : (x y : Level) (a u : Bool) → is_known x ≡ true → is_known y ≡ true → (is_low x ≡ false → a ≡ false)
         → (is_low y && not (is_low y && (a || u))) ≡ (((is_low x && not a) && not (is_low x && is_high y) && not u) ||
@@ -291,7 +290,7 @@ module _ (t : Trace) (span : Stretch) where
         ≡ any (holds_direction (suc n)) (span.start + 1) (suc n + 1)
     direction_next m h =
         rw (keeps_direction_is m h) (sym (any-step (holds_direction (suc n)) (span.start + 1) (suc n)
-        ∙ rw (le_holds (span.start + 1) (suc n) (omega arith), direction_here) refl))
+        ∙ rw (le-leb (span.start + 1) (suc n) (omega arith), direction_here) refl))
 
     abbrev answered_now : Holding → Bool
     answered_now m = not (strobes_high_in new) && (was_answered m.transfer || answer_between old new)

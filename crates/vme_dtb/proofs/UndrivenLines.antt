@@ -2,6 +2,7 @@
 use Rattle.std.proofs.Common.{◌≡◌, ℕ, ◌+◌, ◌<◌, ◌≤◌, Bool, true, false, ◌&&◌, not, refl, ◌∙◌, arith, inl, inr, ◌⊎◌}
 use Rattle.std.specs.Prelude.{None, Some, nat_le}
 use Rattle.std.proofs.Math.Bool.{and-false}
+use Rattle.std.proofs.lemmas.Bool.{cases_lt}
 use Rattle.vme_trace.specs.Instants.{any, every, least}
 use Rattle.vme_trace.specs.LineNumbers.{line_count}
 use Rattle.vme_trace.specs.Data.{is_selected}
@@ -36,11 +37,8 @@ module _ (v : Levels) where
   pub undriven_none : (n : ℕ) → 191 ≤ n → any (is_undriven v) 0 n ≡ false → least (is_undriven v) 0 line_count ≡ None
   undriven_none n past h =
       least-none (is_undriven v) 0 line_count (fails-any (is_undriven v) 0 line_count
-      (λ l a b. by_place l (below_or_not l n)))
+      (λ l a b. by_place l (cases_lt l n)))
     where
-      below_or_not : (l n : ℕ) → (l < n) ⊎ (n ≤ l)
-      below_or_not l n = grind arith
-
       by_place : (l : ℕ) → (l < n) ⊎ (n ≤ l) → is_undriven v l ≡ false
       by_place l (inl below) = any-fails (is_undriven v) 0 n l h (omega arith) below
       by_place l (inr from) = beyond l (omega arith)

@@ -2,6 +2,7 @@
 use Rattle.std.proofs.Common.{◌≡◌, ℕ, ◌+◌, ◌<◌, ◌≤◌, Bool, true, false, ◌&&◌, not, refl, ◌∙◌, arith, inl, inr, ◌⊎◌}
 use Rattle.std.specs.Prelude.{None, Some, nat_le}
 use Rattle.std.proofs.Math.Bool.{and-false}
+use Rattle.std.proofs.lemmas.Bool.{cases_lt}
 use Rattle.vme_trace.specs.Instants.{any, every}
 use Rattle.vme_trace.specs.LineNumbers.{line_count}
 use Rattle.vme_trace.specs.Cycle.{Needs, is_needed, is_within, needs_of}
@@ -33,11 +34,8 @@ module _ (v : Levels) where
   -- if no line below n is lacked, and n is past the last line that a cycle may need, none is
   pub lacks_none : (n : ℕ) → 45 ≤ n → any (lacks v) 0 n ≡ false → unknown_need v ≡ None
   lacks_none n past h = least-none (lacks v) 0 line_count
-      (fails-any (lacks v) 0 line_count (λ l a b. by_place l (below_or_not l n)))
+      (fails-any (lacks v) 0 line_count (λ l a b. by_place l (cases_lt l n)))
     where
-      below_or_not : (a b : ℕ) → (a < b) ⊎ (b ≤ a)
-      below_or_not a b = grind arith
-
       by_place : (l : ℕ) → (l < n) ⊎ (n ≤ l) → lacks v l ≡ false
       by_place l (inl below) = any-fails (lacks v) 0 n l h (omega arith) below
       by_place l (inr above) = outside l (λ x y. omega arith)

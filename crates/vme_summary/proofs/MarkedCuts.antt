@@ -2,18 +2,14 @@
 use Rattle.std.proofs.Common.{◌≡◌, ℕ, zero, suc, ◌+◌, ◌-◌, ◌<◌, ◌≤◌, Bool, true, false, ◌&&◌, List, [], ◌∷◌, ◌++◌, map}
 use Rattle.std.proofs.Common.{refl, sym, ◌∙◌, ap, arith, cond, append_assoc, append-nil}
 use Rattle.std.specs.Prelude.{nat_lt, nat_le}
-use Rattle.std.proofs.lemmas.Bool.Decides.{nat_tests}
+use Rattle.std.proofs.lemmas.Bool.{le-ltb, lt-leb, lt-ltb}
 use Rattle.vme_trace.specs.Judged.{Stretch}
 use Rattle.vme_monitor.specs.Run.{mark_at, kinds_of}
 use Rattle.vme_monitor.specs.Shows.{marks_on, marks_until}
 use Rattle.vme_monitor.specs.declared.mark.MarkKind.{MarkKind}
 use Rattle.vme_monitor.specs.declared.mark.StepMarks.{StepMarks}
 use Rattle.vme_monitor.specs.declared.mark.Mark.{Mark}
-use Rattle.vme_dtb.proofs.Searches.{lt_fails, lt_holds}
 use Rattle.vme_summary.specs.MarkedRows.{marks_before}
-
-le_fails : (i j : ℕ) → j < i → nat_le i j ≡ false
-le_fails i j h = grind (arith, nat_tests)
 
 -- three tests fail if the second fails, or (`third_fails`) the third
 second_fails : (a b c : Bool) → b ≡ false → (a && b && c) ≡ false
@@ -29,12 +25,12 @@ third_fails false b c e = refl
 cut_kept : (end j : ℕ) (ks : List MarkKind) (ms : List Mark) → j < end → marks_before end (map (mark_at j) ks ++ ms)
     ≡ map (mark_at j) ks ++ marks_before end ms
 cut_kept end j [] ms h = refl
-cut_kept end j (k ∷ ks) ms h = rw (lt_holds j end h) (ap (λ x. mark_at j k ∷ x) (cut_kept end j ks ms h))
+cut_kept end j (k ∷ ks) ms h = rw (lt-ltb j end h) (ap (λ x. mark_at j k ∷ x) (cut_kept end j ks ms h))
 
 -- marks of an instant j from the end on aren't kept
 cut_none : (end j : ℕ) (ks : List MarkKind) → end ≤ j → marks_before end (map (mark_at j) ks) ≡ []
 cut_none end j [] h = refl
-cut_none end j (k ∷ ks) h = rw (lt_fails j end h) refl
+cut_none end j (k ∷ ks) h = rw (le-ltb j end h) refl
 
 -- if none of the last marks ys is kept, the kept marks are those of xs
 pub cut_first : (end : ℕ) (xs ys : List Mark) → marks_before end ys ≡ [] → marks_before end (xs ++ ys)
@@ -92,7 +88,7 @@ module _ (span : Stretch) (shown : ℕ → StepMarks) where
   -- before the start of a span there are no marks
   pub on_early : (n : ℕ) → n < span.start → marks_on span shown n ≡ []
   on_early n h = ap (λ c. cond c (map (mark_at n) (kinds_of (shown n))) [])
-      (second_fails (nat_lt 0 n) (nat_le span.start n) (nat_le n span.end) (le_fails span.start n h))
+      (second_fails (nat_lt 0 n) (nat_le span.start n) (nat_le n span.end) (lt-leb span.start n h))
 
   pub until_start : (n : ℕ) → n ≤ span.start → marks_until span shown n ≡ []
   until_start zero h = refl
@@ -102,7 +98,7 @@ module _ (span : Stretch) (shown : ℕ → StepMarks) where
   -- after the end of a span there are no marks
   on_late : (n : ℕ) → span.end < n → marks_on span shown n ≡ []
   on_late n h = ap (λ c. cond c (map (mark_at n) (kinds_of (shown n))) [])
-      (third_fails (nat_lt 0 n) (nat_le span.start n) (nat_le n span.end) (le_fails n span.end h))
+      (third_fails (nat_lt 0 n) (nat_le span.start n) (nat_le n span.end) (lt-leb n span.end h))
 
   until_late : (k : ℕ) → marks_until span shown (k + suc span.end) ≡ marks_until span shown (suc span.end)
   until_late zero = ap (marks_until span shown) none

@@ -3,6 +3,7 @@ use Rattle.std.proofs.Common.{◌≡◌, ℕ, zero, suc, ◌+◌, ◌<◌, ◌�
 use Rattle.std.proofs.Common.{sym, ◌∙◌, ap, arith, Option, None, cond, inl, inr, ◌⊎◌, append_assoc, append-nil}
 use Rattle.std.specs.Prelude.{◌==◌, nat_lt, nat_le}
 use Rattle.std.proofs.lemmas.Bool.Decides.{nat_tests}
+use Rattle.std.proofs.lemmas.Bool.{cases_lt, le-leb, lt-ltb}
 use Rattle.vme_trace.specs.LineNumbers.{BBSY}
 use Rattle.vme_trace.specs.Levels.{is_idle, is_low, level_at}
 use Rattle.vme_trace.specs.Trace.{Trace, levels_at}
@@ -17,7 +18,7 @@ use Rattle.vme_monitor.specs.Shows.{marks_on, marks_until}
 use Rattle.vme_monitor.specs.declared.mark.MarkKind.TheVariants as kind
 use Rattle.vme_monitor.specs.declared.mark.StepMarks.{StepMarks}
 use Rattle.vme_monitor.specs.declared.mark.Mark.{Mark}
-use Rattle.vme_dtb.proofs.Searches.{greatest_before, le_holds, lt_holds}
+use Rattle.vme_dtb.proofs.Searches.{greatest_before}
 use Rattle.vme_monitor.specs.KnownRules.{known_reset_marks}
 use Rattle.vme_summary.specs.AllShown.{all_over, all_shown}
 use Rattle.vme_summary.specs.MarkedRows.{first_instant, is_cycle_end, is_tenure_end, opening_marks, rows_of}
@@ -33,9 +34,6 @@ not_equal i j h = grind (arith, nat_tests)
 
 not_equal_after : (i j : ℕ) → j < i → (i == j) ≡ false
 not_equal_after i j h = grind (arith, nat_tests)
-
-before_or_from : (i s : ℕ) → (i < s) ⊎ (s ≤ i)
-before_or_from i s = grind arith
 
 -- the marks of instant j
 abbrev pub pieces : (ℕ → StepMarks) → ℕ → List Mark
@@ -90,10 +88,10 @@ module _ (t : Trace) (span : Stretch) where
   -- at any instant before the end but the opening, the marks are those of what is shown
   on_is : (j : ℕ) → 0 < j → j < span.end → marks_on span (shown_at t span) j ≡ pieces (shown_at t span) j
   on_is j later below =
-      elim (before_or_from j span.start) [
+      elim (cases_lt j span.start) [
         | inl early ↦ on_early span (shown_at t span) j early ∙ sym (nothing_early j early)
         | inr from ↦ ap (λ c. cond c (pieces (shown_at t span) j) []) (tested (nat_lt 0 j) (nat_le span.start j)
-            (nat_le j span.end) (lt_holds 0 j later) (le_holds span.start j from) (le_holds j span.end (omega arith)))
+            (nat_le j span.end) (lt-ltb 0 j later) (le-leb span.start j from) (le-leb j span.end (omega arith)))
       ]
 
   -- with the marks of the opening, the marks of the span up to n are those of the instants from 0 to n
@@ -119,7 +117,7 @@ module _ (t : Trace) (span : Stretch) where
   -- before the end of the span, all monitors show what `shown_at` has
   over_is : (j : ℕ) → j < span.end → all_over t span j ≡ shown_at t span j
   over_is j h = ap (λ b. cond b (all_shown t span j) (cond (is_reset_at t j) known_reset_marks no_step_marks))
-      (lt_holds j span.end h) ∙ shown_as_defined t span j
+      (lt-ltb j span.end h) ∙ shown_as_defined t span j
 
   module _ (end : ℕ) (within : end ≤ span.end) where
     -- the rows of n instants from i on
@@ -164,7 +162,7 @@ module _ (t : Trace) (span : Stretch) where
 
     tenures_at : (i n : ℕ) → suc i + n ≡ end → open_part i n ++ taken_part i n ≡ tenure_rows t span end i
     tenures_at i n whole =
-        elim (before_or_from i span.start) [
+        elim (cases_lt i span.start) [
           | inl early ↦ rw (not_equal i span.start early, no_tenure t span i (not_judged t span i (omega arith)))
               (sym (early_tenures i early))
           | inr from ↦ tenures_are t span end within i n from whole
@@ -172,7 +170,7 @@ module _ (t : Trace) (span : Stretch) where
 
     cycles_at : (i n : ℕ) → suc i + n ≡ end → asked_part i n ≡ cycle_rows t span end i
     cycles_at i n whole =
-        elim (before_or_from i span.start) [
+        elim (cases_lt i span.start) [
           | inl early ↦ rw (no_cycle t span i (not_judged t span i (omega arith))) (sym (early_cycles i early))
           | inr from ↦ cycles_are t span end within i n from whole
         ]
