@@ -1,11 +1,10 @@
 -- The times of a body without a fault: they don't go back, and each instant has one of them, or 0.
 use Rattle.std.proofs.Common.{◌≡◌, ℕ, ◌≤◌, Bool, true, false, cond, eqb, List, [], ◌∷◌, Option}
 use Rattle.std.proofs.Common.{Result}
-use Rattle.std.proofs.Common.{Ok, Err, refl, sym, ap, subst, ◌∙◌, arith, true≢false, ◌⊎◌, inl, inr, length}
+use Rattle.std.proofs.Common.{Ok, Err, refl, sym, ap, subst, ◌∙◌, true≢false, ◌⊎◌, inl, inr, length}
 use Rattle.std.specs.Prelude.{nat_lt, ◌||◌}
 use Rattle.std.specs.List.{cons_option}
-use Rattle.std.proofs.lemmas.Bool.{eq-eqb, eqb-true, or_cases, or_right}
-use Rattle.std.proofs.lemmas.Bool.Decides.{nat_tests}
+use Rattle.std.proofs.lemmas.Bool.{eq-eqb, eqb-true, or_cases, or_right, ltb-false}
 use Rattle.vcd_read.specs.declared.fault.FaultKind.{FaultKind}
 use Rattle.vcd_read.specs.declared.fault.FaultKind.TheVariants.{TimeBackwards}
 use Rattle.vcd_read.specs.Numbers.{number, time_of}
@@ -36,14 +35,11 @@ abbrev time_in : Result ℕ FaultKind → ℕ
 time_in (Ok n) = n
 time_in (Err kind) = 0
 
-not_below : (a b : ℕ) → nat_lt a b ≡ false → b ≤ a
-not_below a b e = grind (arith, nat_tests, e)
-
 -- a time that is read without a fault isn't before the time `now`
 after_time : (now n : ℕ) (test : Bool) → nat_lt n now ≡ test → (next : ℕ)
     → cond test (Err TimeBackwards) (Ok n) ≡ Ok next → (now ≤ n) × (n ≡ next)
 after_time now n true is next e = absurd cc
-after_time now n false is next e = (not_below n now is, ap time_in e)
+after_time now n false is next e = (ltb-false n now is, ap time_in e)
 
 timed_context : (s next : BodyContext) (line : ℕ) (digits : List ℕ) (nets : List Net)
     → context_after nets s (time_item line digits) ≡ Ok next
