@@ -5,7 +5,7 @@ use Rattle.std.specs.Prelude.{None, Some, ◌==◌, nat_le, slice_set}
 use Rattle.std.proofs.lemmas.Bool.Decides.{nat_tests}
 use Rattle.std.proofs.lemmas.List.{get_or-set_other}
 use Rattle.std.proofs.lemmas.Option.{unwrap_or-slice_get}
-use Rattle.std.proofs.lemmas.Bool.{and_parts, not-false, not-true, or_parts}
+use Rattle.std.proofs.lemmas.Bool.{and_parts, not-false, not-true, or_parts, eqb-true}
 use Rattle.vme_trace.specs.Instants.{any, least}
 use Rattle.vme_trace.specs.LineNumbers.{line_count, SYSRESET, has_line, is_control}
 use Rattle.vme_trace.specs.Levels.{Levels, level_at, set_level, rests_high, is_idle, is_idle_on, is_reset, is_lost}
@@ -88,11 +88,8 @@ untouched slots (c ∷ cs) l h k =
   where
     other : (b : Bool) → (c.line == l) ≡ b → (b || false) ≡ false
     other false e = refl
-    other true e = absurd (clash (is_control slots l) k (ap (is_control slots) (sym (equal c.line l e))
+    other true e = absurd (clash (is_control slots l) k (ap (is_control slots) (sym (eqb-true c.line l e))
         ∙ (or_parts (is_control slots c.line) (touches_control slots cs) h).0))
-      where
-        equal : (a b : ℕ) → (a == b) ≡ true → a ≡ b
-        equal a b h = grind (arith, nat_tests)
 
 idle_on-kept : (v : Levels) (cs : List Change) (l : ℕ) → touches_control v.slots cs ≡ false → is_idle_on (changed v cs)
     l ≡ is_idle_on v l
@@ -166,11 +163,8 @@ module _ (v now : Levels) (few : v.slots ≤ 21) where
       → is_lost now c.line ≡ false → (l : ℕ) → is_changed cs l ≡ false → is_lost now l ≡ false
   kept_else c cs kept here l h = by_line (c.line == l) refl
     where
-      equal : (a b : ℕ) → (a == b) ≡ true → a ≡ b
-      equal a b h = grind (arith, nat_tests)
-
       by_line : (b : Bool) → (c.line == l) ≡ b → is_lost now l ≡ false
-      by_line true e = ap (is_lost now) (sym (equal c.line l e)) ∙ here
+      by_line true e = ap (is_lost now) (sym (eqb-true c.line l e)) ∙ here
       by_line false e = kept l (rw (e, h) refl)
 
   first_lost : (lowest : ℕ) (cs : List Change) → are_changes v lowest cs ≡ true → ((l : ℕ) → is_changed cs l ≡ false

@@ -1,8 +1,8 @@
 -- A count of the numbers of a range of which p holds: where it is the length of the range, p holds of all of them.
 use Rattle.std.proofs.Common.{◌≡◌, ℕ, ◌+◌, ◌-◌, ◌<◌, ◌≤◌, Bool, true, false, ◌&&◌, ◌||◌, not, refl, sym, ◌∙◌, ap, arith}
-use Rattle.std.specs.Prelude.{◌==◌, None, nat_le}
+use Rattle.std.specs.Prelude.{◌==◌, None}
 use Rattle.std.proofs.lemmas.Bool.Decides.{nat_tests}
-use Rattle.std.proofs.lemmas.Bool.{not-false, not-true}
+use Rattle.std.proofs.lemmas.Bool.{not-false, not-true, le-leb}
 use Rattle.std.proofs.Math.Bool.{and-false}
 use Rattle.vme_trace.specs.Instants.{any, every, least}
 use Rattle.vme_trace.proofs.Ranges.{any-fails, any-step, clash, every-empty, fails-any, least-none}
@@ -12,9 +12,6 @@ use Rattle.vme_trace.proofs.Ranges.{any-fails, any-step, clash, every-empty, fai
 abbrev pub AreCounted : (ℕ → Bool) → ℕ → ℕ → ℕ → Type 0
 AreCounted p first number count = (count + first ≤ number) × ((count + first == number) ≡ every p first number)
 
-le_holds : (f n : ℕ) → f ≤ n → nat_le f n ≡ true
-le_holds f n h = grind (arith, nat_tests)
-
 none-more : (a b : Bool) → not (a || (true && not b)) ≡ (not a && b)
 none-more true b = refl
 none-more false true = refl
@@ -23,7 +20,7 @@ none-more false false = refl
 module _ (p : ℕ → Bool) (first number count : ℕ) where
   every-step : first ≤ number → every p first (number + 1) ≡ (every p first number && p number)
   every-step h =
-      ap not (any-step (λ k. not (p k)) first number) ∙ rw (le_holds first number h)
+      ap not (any-step (λ k. not (p k)) first number) ∙ rw (le-leb first number h)
       (none-more (any (λ k. not (p k)) first number) (p number))
 
   pub none-counted : number ≡ first → AreCounted p first number 0

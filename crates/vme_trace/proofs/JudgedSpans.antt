@@ -5,7 +5,7 @@ use Rattle.std.proofs.Common.{map, refl, sym, ◌∙◌, ap, arith, inl, inr, �
 use Rattle.std.specs.Prelude.{Option, None, Some, nat_le, unwrap_or}
 use Rattle.std.proofs.lemmas.Bool.Decides.{nat_tests}
 use Rattle.std.proofs.lemmas.List.{map-append}
-use Rattle.std.proofs.lemmas.Bool.{and_parts, cases_Bool, not-true, or_from, or_left, or_right}
+use Rattle.std.proofs.lemmas.Bool.{and_parts, cases_Bool, not-true, or_from, or_left, or_right, le-leb}
 use Rattle.std.proofs.Math.Bool.{and-false}
 use Rattle.vme_trace.specs.Instants.{any, least, greatest, those}
 use Rattle.vme_trace.specs.Trace.{Trace, levels_at, last_instant}
@@ -20,9 +20,6 @@ use Rattle.vme_trace.proofs.SpanEnds.{not_lost, not_reset, reads_strobes}
 
 zero_le : (n : ℕ) → nat_le 0 n ≡ true
 zero_le n = grind (arith, nat_tests)
-
-le_holds : (f n : ℕ) → f ≤ n → nat_le f n ≡ true
-le_holds f n h = grind (arith, nat_tests)
 
 greatest_within : (p : ℕ → Bool) (n : ℕ) → unwrap_or (greatest p 0 n) 0 ≤ n
 unfolding greatest
@@ -109,7 +106,7 @@ module _ (t : Trace) where
   was_idle-next n h =
       ap (λ first. any (is_idle_at t) first (suc n)) (last_reset_before n h)
       ∙ ap (λ b. any (is_idle_at t) (last_reset t n) n || (b && is_idle_at t n))
-      (le_holds (last_reset t n) n (greatest_within (is_reset_at t) n))
+      (le-leb (last_reset t n) n (greatest_within (is_reset_at t) n))
 
   -- whether a stretch was cut off, from instant to instant
   pub cut-first : any (is_cut_off t) 0 0 ≡ false

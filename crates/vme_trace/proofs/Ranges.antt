@@ -3,7 +3,7 @@ use Rattle.std.proofs.Common.{◌≡◌, ℕ, zero, suc, ◌+◌, ◌<◌, ◌�
 use Rattle.std.proofs.Common.{arith, add-one, inl, inr, ◌⊎◌, cond, subst, [], ◌∷◌, ◌++◌, append_assoc, append-nil}
 use Rattle.std.specs.Prelude.{Option, None, Some, nat_le}
 use Rattle.std.proofs.lemmas.Bool.Decides.{nat_tests}
-use Rattle.std.proofs.lemmas.Bool.{and_parts, and_right, or_parts}
+use Rattle.std.proofs.lemmas.Bool.{and_parts, and_right, or_parts, le-leb, leb-true}
 use Rattle.vme_trace.specs.Instants.{any, every, least, those}
 
 -- `any` over a range with one more number, n, at its end
@@ -21,9 +21,6 @@ or_fails p f n i a none in_range below rest = grind (arith, nat_tests)
 
 last_or_before : (n i : ℕ) → i < suc n → (i ≡ n) ⊎ (i < n)
 last_or_before n i h = grind arith
-
-le_from : (f n : ℕ) → nat_le f n ≡ true → f ≤ n
-le_from f n h = grind (arith, nat_tests)
 
 here : (p : ℕ → Bool) (f i : ℕ) → f ≤ i → p i ≡ true → (nat_le f i && p i) ≡ true
 here p f i in_range h = grind (arith, nat_tests)
@@ -113,7 +110,7 @@ least-found p f (suc n) i h =
           let here = last_is n i (nat_le f n && p n) none.1 in
           let both = and_parts (nat_le f n) (p n) here.0 in
           subst (λ k. IsLeast p f (suc n) k) here.1
-          (record { first = le_from f n both.0; below = omega arith; holds = both.1; least = none.0 })
+          (record { first = leb-true f n both.0; below = omega arith; holds = both.1; least = none.0 })
     ]
 
 both_alike : (p q : ℕ → Bool) (f n : ℕ) → (f ≤ n → p n ≡ q n) → (nat_le f n && p n) ≡ (nat_le f n && q n)
@@ -188,7 +185,7 @@ any-split p f m (suc n) a b =
       | inl e ↦ subst (λ k. any p f (suc n) ≡ (any p f k || any p k (suc n))) (sym e)
           (or_false (any p f (suc n)) (any p (suc n) (suc n)) (any_after p (suc n)))
       | inr c ↦ rw (any-split p f m n a c) (regroup (any p f m) (any p m n) (nat_le f n) (nat_le m n) (p n)
-          (le_holds f n (omega arith)) (le_holds m n c))
+          (le-leb f n (omega arith)) (le-leb m n c))
     ]
   where
     same_or_below : (m n : ℕ) → m ≤ suc n → (m ≡ suc n) ⊎ (m ≤ n)
@@ -200,9 +197,6 @@ any-split p f m (suc n) a b =
     or_false : (a b : Bool) → b ≡ false → a ≡ (a || b)
     or_false true b h = refl
     or_false false b h = sym h
-
-    le_holds : (f n : ℕ) → f ≤ n → nat_le f n ≡ true
-    le_holds f n h = grind (arith, nat_tests)
 
     regroup : (a b x y z : Bool) → x ≡ true → y ≡ true → (a || b || (x && z)) ≡ (a || (b || (y && z)))
     regroup true b x y z h k = refl

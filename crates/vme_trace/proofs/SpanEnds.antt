@@ -3,7 +3,7 @@ use Rattle.std.proofs.Common.{lit<, lit≤, ◌≡◌, ℕ, zero, suc, ◌+◌, 
 use Rattle.std.proofs.Common.{refl, sym, ◌∙◌, ap, arith, inl, inr, ◌⊎◌}
 use Rattle.std.specs.Prelude.{Option, None, Some, slice_get, ◌==◌, nat_le, unwrap_or}
 use Rattle.std.proofs.lemmas.Bool.Decides.{nat_tests}
-use Rattle.std.proofs.lemmas.Bool.{and_from, not-false, not-true, or_parts}
+use Rattle.std.proofs.lemmas.Bool.{and_from, not-false, not-true, or_parts, cases_lt, eq-eqb}
 use Rattle.vme_trace.specs.Instants.{any, least}
 use Rattle.vme_trace.specs.LineNumbers.{line_count, has_line}
 use Rattle.vme_trace.specs.Levels.{Levels, is_idle, is_idle_on, is_lost, loses_control}
@@ -28,13 +28,10 @@ pub end-past : (t : Trace) (s n : ℕ) → any (stops_at t) (s + 1) (n + 1) ≡ 
 unfolding span_end
 end-past t s n held within = past (least (stops_at t) (s + 1) (last_instant t + 1)) refl
   where
-    below_or_not : (n w : ℕ) → (n < w) ⊎ (w ≤ n)
-    below_or_not n w = grind arith
-
     past : (o : Option ℕ) → least (stops_at t) (s + 1) (last_instant t + 1) ≡ o → n < unwrap_or o (last_instant t + 1)
     past None e = omega arith
     past (Some w) e = let found = least-found (stops_at t) (s + 1) (last_instant t + 1) w e in
-        elim (below_or_not n w) [
+        elim (cases_lt n w) [
           | inl below ↦ below
           | inr above ↦ absurd (clash (stops_at t w) found.holds (any-fails (stops_at t) (s + 1) (n + 1) w held
               found.first (omega arith)))
@@ -82,12 +79,9 @@ module _ (t : Trace) (s n : ℕ) where
   u1-lost ends within l =
       all_but_last (has_line t.opening.slots l) (suc n == span_end t s) (nat_le (suc n) (last_instant t))
       (has_line (levels_at t (suc n)).slots l) _ _ _
-      (ap (λ slots. has_line slots l) (sym (slots_at t (suc n)))) (equal_test (suc n) (span_end t s) (sym ends))
+      (ap (λ slots. has_line slots l) (sym (slots_at t (suc n)))) (eq-eqb (suc n) (span_end t s) (sym ends))
       (le_test n (last_instant t) within)
     where
-      equal_test : (a b : ℕ) → a ≡ b → (a == b) ≡ true
-      equal_test a b h = grind (arith, nat_tests)
-
       le_test : (a b : ℕ) → a < b → nat_le (suc a) b ≡ true
       le_test a b h = grind (arith, nat_tests)
 
