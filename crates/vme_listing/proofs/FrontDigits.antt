@@ -7,6 +7,7 @@ use Rattle.std.specs.Char.{digit_value, is_ascii_digit}
 use Rattle.std.specs.Str.{all_ascii_digits}
 use Rattle.std.specs.Str.Parse.{digits_value}
 use Rattle.std.proofs.lemmas.Bool.{and_from, and_parts, cases_order, eqb-true, false_from_ne_true, ltb-true}
+use Rattle.std.proofs.lemmas.Bool.{le-ltb, lt-ltb}
 use Rattle.std.proofs.lemmas.Bool.Decides.{nat_tests}
 use Rattle.std.proofs.lemmas.Fmt.{decimal-digits_value, decimal_digit, decimal_nonempty, first_decimal}
 use Rattle.std.proofs.lemmas.Int.Digits.{digits_value_more}
@@ -107,12 +108,6 @@ number_in-unlike text ds e h =
     rw (e, bytes_eq-differs (decimal (digits_value 10 ds)) ds h)
     (no_other (nat_lt (digits_value 10 ds) (2 ^ 32)) (digits_value 10 ds))
 
-pub is_less : (m n : ℕ) → m < n → nat_lt m n ≡ true
-is_less m n h = grind (arith, nat_tests)
-
-not_less : (m n : ℕ) → n ≤ m → nat_lt m n ≡ false
-not_less m n h = grind (arith, nat_tests)
-
 leads : (count first : ℕ) → 0 < count → (nat_lt 1 count && (first == 48)) ≡ false → first ≡ 48 → count ≡ 1
 leads count first some h e = grind (arith, nat_tests)
 
@@ -142,7 +137,7 @@ module _ (text : List ℕ) (count : ℕ) (few : count ≤ 10) (within : count �
   module _ (number : ℕ) (value : number ≡ digits_value 10 (take count text)) where
     pub number_in-large : 2 ^ 32 ≤ number → number_in text ≡ None
     unfolding number_in
-    number_in-large large = rw (front-is, sym value, not_less number (2 ^ 32) large) refl
+    number_in-large large = rw (front-is, sym value, le-ltb number (2 ^ 32) large) refl
 
     module _ (some : 0 < count) (no_lead : (nat_lt 1 count && (get_or text 0 0 == 48)) ≡ false) where
       decimal-front : decimal (digits_value 10 (take count text)) ≡ take count text
@@ -155,7 +150,7 @@ module _ (text : List ℕ) (count : ℕ) (few : count ≤ 10) (within : count �
       pub number_in-front : number < 2 ^ 32 → number_in text ≡ Some number
       unfolding number_in
       number_in-front small =
-          rw (front-is, decimal-front, sym value, is_less number (2 ^ 32) small, bytes_eq-refl (take count text)) refl
+          rw (front-is, decimal-front, sym value, lt-ltb number (2 ^ 32) small, bytes_eq-refl (take count text)) refl
 
       pub after_word-front : after_word (decimal number) text ≡ Some (drop count text)
       after_word-front =

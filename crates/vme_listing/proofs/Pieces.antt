@@ -1,9 +1,9 @@
 -- A piece that was read at the start of a line has its text there, and a piece whose text is there is read.
 use Rattle.std.proofs.Common.{◌≡◌, ◌==◌, ℕ, zero, suc, ◌+◌, ◌%◌, ◌^◌, ◌<◌, ◌≤◌, Bool, true, false, not, ◌&&◌, List}
 use Rattle.std.proofs.Common.{[], ◌∷◌, ◌++◌, drop, length, take, refl, sym, ap, ◌∙◌, arith}
-use Rattle.std.specs.Prelude.{Option, None, Some, bytes_eq, decimal, nat_lt, if◌then◌else◌}
+use Rattle.std.specs.Prelude.{Option, None, Some, bytes_eq, decimal, if◌then◌else◌}
 use Rattle.std.specs.Char.{is_ascii_digit}
-use Rattle.std.proofs.lemmas.Bool.{and_from, and_parts, eq-eqb, eqb-true, false≢true, not-true}
+use Rattle.std.proofs.lemmas.Bool.{and_from, and_parts, eq-eqb, eqb-true, false≢true, not-true, lt-ltb}
 use Rattle.std.proofs.lemmas.Bool.Decides.{nat_tests}
 use Rattle.std.proofs.lemmas.Fmt.{decimal_by_steps, decimal_is_IsNumeral, length-decimal-le}
 use Rattle.std.proofs.lemmas.Option.{none-some, same_Some}
@@ -83,9 +83,6 @@ digits_at-is (suc most) (byte ∷ ds) more h few end =
     let parts = and_parts (is_ascii_digit byte) (are_digits ds) h in
     rw parts.0 (ap (λ l. byte ∷ l) (digits_at-is most ds more parts.1 (omega arith) end))
 
-less : (m n : ℕ) → m < n → nat_lt m n ≡ true
-less m n h = grind (arith, nat_tests)
-
 pub number_in-is : (n : ℕ) (more : List ℕ) → n < 2 ^ 32 → is_end more ≡ true → number_in (decimal n ++ more) ≡ Some n
 unfolding number_in
 number_in-is n more below end =
@@ -93,7 +90,7 @@ number_in-is n more below end =
       digits_at-is 10 (decimal n) more (decimal-digits n (omega arith))
           (length-decimal-le 10 n (omega arith) (omega arith) (omega arith)) end,
       (decimal_is_IsNumeral n (omega arith)).1,
-      less n (2 ^ 32) below,
+      lt-ltb n (2 ^ 32) below,
       (bytes_eq-Decides (decimal n) (decimal n)).1 refl,
     ) refl
 

@@ -2,7 +2,7 @@
 use Rattle.std.proofs.Common.{◌≡◌, ℕ, ◌+◌, ◌*◌, ◌/◌, ◌%◌, ◌^◌, ◌<◌, ◌≤◌, Bool, true, false, not, ◌&&◌, ◌||◌, cond, refl}
 use Rattle.std.proofs.Common.{ap, ◌∙◌, arith}
 use Rattle.std.proofs.Math.Nat.{add-mul-div_left, div-eq_of_lt}
-use Rattle.std.proofs.lemmas.Bool.{agree_below, agree_below_at, and_from}
+use Rattle.std.proofs.lemmas.Bool.{agree_below, agree_below_at, and_from, lt-ltb}
 use Rattle.vme_trace.specs.Data.{is_odd_byte, is_even_byte, is_selected}
 use Rattle.vme_trace.specs.Lanes.{has_digit, moved_at, is_digit_moved, is_digit_known, weight_at, digit_at, flag_at}
 use Rattle.vme_trace.specs.Lanes.{lanes_at}
@@ -13,7 +13,6 @@ use Rattle.vme_trace.specs.declared.data.MovedBytes.TheVariants.{Nothing, OddByt
 use Rattle.vme_trace.specs.declared.level.Level.{Level}
 use Rattle.vme_trace.specs.declared.level.Level.TheVariants.{Low, High, Unknown}
 use Rattle.vme_listing.specs.Places.{is_allowed_data, is_allowed_digit}
-use Rattle.vme_listing.proofs.RowForms.{is_less}
 
 -- the selection of a line, by the level of the long word line and whether A01 and the strobes are low
 abbrev selected_by : Level → Bool → Bool → Bool → ℕ → Bool
@@ -186,7 +185,7 @@ lanes_form v =
     let bits = bits_are unknown (flag_at v 0) (flag_at v 1) (flag_at v 2) (flag_at v 3) (flag_at v 4) (flag_at v 5)
     (flag_at v 6) (flag_at v 7) refl f0.bit f1.bit f2.bit f3.bit f4.bit f5.bit f6.bit f7.bit in
     and_from _ _
-    (and_from _ _ (and_from _ _ (is_less value (2 ^ 32) (omega (
+    (and_from _ _ (and_from _ _ (lt-ltb value (2 ^ 32) (omega (
       arith,
       f0.below,
       f1.below,
@@ -197,7 +196,7 @@ lanes_form v =
       f6.below,
       f7.below,
     )))
-    (is_less unknown 256 (omega (arith, f0.bit, f1.bit, f2.bit, f3.bit, f4.bit, f5.bit, f6.bit, f7.bit))))
+    (lt-ltb unknown 256 (omega (arith, f0.bit, f1.bit, f2.bit, f3.bit, f4.bit, f5.bit, f6.bit, f7.bit))))
     (and_from _ _
     (and_from _ _
     (and_from _ _ (same_form (has_digit (moved_at v) 0) (is_digit_moved v 0) (value / 16 ^ 0 % 16) (digit_at v 0)

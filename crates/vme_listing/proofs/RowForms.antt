@@ -1,10 +1,10 @@
 -- The rows of cycles, tenures and transfers are ones that their forms allow.
 use Rattle.std.proofs.Common.{◌≡◌, ℕ, zero, suc, ◌+◌, ◌*◌, ◌/◌, ◌%◌, ◌^◌, ◌<◌, ◌≤◌, ◌==◌, Bool, true, false, not}
 use Rattle.std.proofs.Common.{cond, refl, ap, arith, add-one, ◌⊎◌, inl, inr}
-use Rattle.std.specs.Prelude.{Option, None, Some, nat_lt, nat_le}
+use Rattle.std.specs.Prelude.{Option, None, Some}
 use Rattle.std.proofs.Math.Nat.{pow-succ'}
 use Rattle.std.proofs.lemmas.Bool.Decides.{nat_tests}
-use Rattle.std.proofs.lemmas.Bool.{and_from}
+use Rattle.std.proofs.lemmas.Bool.{and_from, le-leb, lt-ltb}
 use Rattle.vme_trace.specs.Instants.{least}
 use Rattle.vme_trace.specs.LineNumbers.{A, IACK}
 use Rattle.vme_trace.specs.Levels.{Levels, level_at, is_high, is_high_on, is_low}
@@ -26,14 +26,8 @@ pub record IsMiddle (i kind : ℕ) (row : Row) : Type 0 where
   pub no_start : is_start row ≡ false
   pub no_reset : is_reset row ≡ false
 
-pub is_less : (m n : ℕ) → m < n → nat_lt m n ≡ true
-is_less m n h = grind (arith, nat_tests)
-
-pub is_at_most : (m n : ℕ) → m ≤ n → nat_le m n ≡ true
-is_at_most m n h = grind (arith, nat_tests)
-
 pub number : (n end : ℕ) → n < end → end ≤ 2 ^ 32 → is_number n ≡ true
-number n end below few = is_less n (2 ^ 32) (omega arith)
+number n end below few = lt-ltb n (2 ^ 32) (omega arith)
 
 -- an instant that was searched for before `end`, which is at most 2^32, is below 2^32
 pub edge : (p : ℕ → Bool) (first end : ℕ) → end ≤ 2 ^ 32 → is_edge (least p first end) ≡ true
@@ -68,7 +62,7 @@ address_form v modifier h =
     let highest = highest_address modifier in
     let e = even v highest in
     let rest : address_to v highest % 2 ≡ 0 = remainder (address_to v highest) e.0 e.1 in
-    and_from _ _ (and_from _ _ (ap not h) (is_less (address_to v highest) (2 ^ (highest + 1)) (rw add-one
+    and_from _ _ (and_from _ _ (ap not h) (lt-ltb (address_to v highest) (2 ^ (highest + 1)) (rw add-one
     (bounded v highest))))
     (ap (λ n. n == 0) rest)
   where
@@ -146,14 +140,14 @@ cycle_form i v e n ed known = by_class (class_of v) refl (class_implies v)
     by_class class.I is f =
         let level : address_to v 3 < 16 = bounded v 3 in
         record {
-          allowed = and_from _ _ (and_from _ _ n (is_less (address_to v 3 / 2) 8 (omega arith))) ed;
+          allowed = and_from _ _ (and_from _ _ n (lt-ltb (address_to v 3 / 2) 8 (omega arith))) ed;
           place = refl;
           no_start = refl;
           no_reset = refl;
         }
     by_class class.F is (inl unknown) = absurd (known is unknown)
     by_class class.F is (inr free) = record {
-      allowed = and_from _ _ (and_from _ _ (and_from _ _ n (is_less (modifier_of v) 64 (modifier_within v))) free) ed;
+      allowed = and_from _ _ (and_from _ _ (and_from _ _ n (lt-ltb (modifier_of v) 64 (modifier_within v))) free) ed;
       place
           = refl;
       no_start = refl;
@@ -165,8 +159,8 @@ pub tenure_form : (i level slot : ℕ) (e : Option ℕ) → is_number i ≡ true
 unfolding is_row
 tenure_form i level slot e n below first last ed =
     record {
-      allowed = and_from _ _ (and_from _ _ (and_from _ _ (and_from _ _ n (is_less level 4 below))
-          (is_at_most 1 slot first)) (is_at_most slot 21 last)) ed;
+      allowed = and_from _ _ (and_from _ _ (and_from _ _ (and_from _ _ n (lt-ltb level 4 below))
+          (le-leb 1 slot first)) (le-leb slot 21 last)) ed;
       place = refl;
       no_start = refl;
       no_reset = refl;

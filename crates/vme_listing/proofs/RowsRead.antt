@@ -5,7 +5,7 @@ use Rattle.std.proofs.Common.{◌++◌, drop, length, take, refl, sym, ap, ◌�
 use Rattle.std.specs.Prelude.{Option, None, Some, codes, decimal, nat_le, nat_lt, if◌then◌else◌}
 use Rattle.std.specs.Char.{is_ascii_digit}
 use Rattle.std.specs.Option.{is_some}
-use Rattle.std.proofs.lemmas.Bool.{and_parts, eqb-true, leb-true, ltb-true}
+use Rattle.std.proofs.lemmas.Bool.{and_parts, eqb-true, leb-true, ltb-true, lt-ltb}
 use Rattle.std.proofs.lemmas.Bool.Decides.{nat_tests}
 use Rattle.std.proofs.lemmas.Fmt.{decimal_nonempty}
 use Rattle.std.proofs.lemmas.List.{append-nil, drop_at, take_at}
@@ -42,7 +42,7 @@ use Rattle.vme_listing.specs.Lines.{past_answer, past_cycle, past_data, past_dir
 use Rattle.vme_listing.specs.Lines.{past_hexadecimal, past_modifier, past_number, past_read, past_small, past_tenure}
 use Rattle.vme_listing.specs.Lines.{past_transfer, row_in, small_at, tenure_at, transfer_at, verdict_by}
 use Rattle.vme_listing.proofs.Addresses.{HasDigits, address-digits}
-use Rattle.vme_listing.proofs.FrontDigits.{bytes_eq-refl, is_less}
+use Rattle.vme_listing.proofs.FrontDigits.{bytes_eq-refl}
 use Rattle.vme_listing.proofs.FrontHexadecimals.{hexadecimal-length, lanes-length}
 use Rattle.vme_listing.proofs.LaneTexts.{lanes-are}
 use Rattle.vme_listing.proofs.Numerals.{number_of-hexadecimal}
@@ -79,7 +79,7 @@ module _ (n : ℕ) (more : List ℕ) (end : is_end more ≡ true) where
   small : n < 256 → Piece small_at past_small (decimal n ++ more) n more
   small below =
       let read = number (omega arith) in
-      let within = is_less n 256 below in (
+      let within = lt-ltb n 256 below in (
         ap (λ m. if nat_lt m 256 then m else 0) read.0 ∙ (rw within refl),
         ap (λ m. if nat_lt m 256 then past_number (Some (decimal n ++ more)) else None) read.0 ∙ (rw within read.1),
       )
@@ -124,7 +124,7 @@ address k n more small below =
 modifier : (n : ℕ) (more : List ℕ) → n < 64 → Piece modifier_at past_modifier (hexadecimal 2 n ++ more) n more
 modifier n more below =
     let read = address 2 n more (omega arith) (omega arith) in
-    let within = is_less n 256 (omega arith) in (
+    let within = lt-ltb n 256 (omega arith) in (
       ap (λ m. if nat_lt m 256 then m else 0) read.0 ∙ (rw within refl),
       ap (λ m. if nat_lt m 256 then past_hexadecimal (Some (hexadecimal 2 n ++ more)) 2 else None) read.0
           ∙ (rw within read.1),

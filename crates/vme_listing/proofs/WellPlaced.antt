@@ -5,7 +5,7 @@ use Rattle.std.proofs.Common.{inl, inr}
 use Rattle.std.specs.Prelude.{Option, None, Some, drop, flat_map, nat_lt, take}
 use Rattle.std.proofs.Math.Nat.{min-le_right, min-eq_left}
 use Rattle.std.proofs.lemmas.Bool.Decides.{nat_tests}
-use Rattle.std.proofs.lemmas.Bool.{and_from}
+use Rattle.std.proofs.lemmas.Bool.{and_from, le-ltb, lt-ltb}
 use Rattle.vme_trace.specs.LineNumbers.{BBSY, line_count}
 use Rattle.vme_trace.specs.Trace.{Trace, last_instant}
 use Rattle.vme_trace.specs.Judged.{Stretch, IsSpanOf, is_judged, is_reset_at, judged_spans}
@@ -31,7 +31,7 @@ use Rattle.vme_listing.specs.declared.row.Row.TheVariants.{InterruptCycle, Trans
 use Rattle.vme_listing.proofs.FoundBreaks.{either, neither, least_break-judged, least_break-within, unbroken_always}
 use Rattle.vme_listing.proofs.FoundBreaks.{unbroken_before}
 use Rattle.vme_listing.proofs.RecordedRows.{AtMostOne, cycle_one, tenure_one, transfer_one}
-use Rattle.vme_listing.proofs.RowForms.{IsMiddle, is_less, number}
+use Rattle.vme_listing.proofs.RowForms.{IsMiddle, number}
 
 -- the row is of a start, a tenure, a cycle or a transfer, and a row at the place (i, kind) may follow it
 record Precedes (row : Row) (i kind : ℕ) : Type 0 where
@@ -271,7 +271,7 @@ module _ (t : Trace) (slots : t.opening.slots ≤ 21) (few : length t.steps < 2 
   outcome_form span spans order (Some b) e =
       let is = named span spans b order e in
       by_rule (is_unreadable b.rule) refl (number b.instant (last_instant t + 1) is.below (omega arith))
-      (is_less b.line line_count is.line)
+      (lt-ltb b.line line_count is.line)
     where
       by_rule : (r : Bool) → is_unreadable b.rule ≡ r → nat_lt b.instant (2 ^ 32) ≡ true → nat_lt b.line line_count
           ≡ true → is_allowed_outcome (outcome_of (Some b)) ≡ true
@@ -348,10 +348,7 @@ module _ (t : Trace) (slots : t.opening.slots ≤ 21) (few : length t.steps < 2 
     -- a span that starts at the limit or later has no rows
     none_of : (span : Stretch) → limit ≤ span.start → rows_of_span t limit span ≡ []
     unfolding rows_of_span
-    none_of span h = rw (not_less span.start limit h) refl
-      where
-        not_less : (m n : ℕ) → n ≤ m → nat_lt m n ≡ false
-        not_less m n h = grind (arith, nat_tests)
+    none_of span h = rw (le-ltb span.start limit h) refl
 
     unlisted : (span : Stretch) (spans : List Stretch) → AreInOrder t (span ∷ spans) → limit ≤ span.start
         → flat_map (rows_of_span t limit) (span ∷ spans) ≡ []
@@ -365,7 +362,7 @@ module _ (t : Trace) (slots : t.opening.slots ≤ 21) (few : length t.steps < 2 
 
     all_of : (span : Stretch) → span.start < limit → rows_of_span t limit span ≡ Start span.start ∷ rows_behind span
     unfolding rows_of_span
-    all_of span h = rw (is_less span.start limit h) refl
+    all_of span h = rw (lt-ltb span.start limit h) refl
 
     -- a reset may follow a row that precedes its place, and the start of a later span may follow the reset
     reset_follows : (row : Row) (i : ℕ) → i < limit → Precedes row i 0 → follows Three (Some row) (Reset i) ≡ true
