@@ -5,7 +5,7 @@ use Rattle.std.proofs.Common.{inl, inr, ◌⊎◌, All, Contains}
 use Rattle.std.specs.Prelude.{Option, None, Some, IfSome, ◌==◌, nat_lt, nat_le, option_map, option_and_then}
 use Rattle.std.proofs.lemmas.Bool.Decides.{nat_tests}
 use Rattle.std.proofs.lemmas.List.Elements.{Contains-append_left, Contains-append_right}
-use Rattle.std.proofs.lemmas.Bool.{cases_Bool, and_parts, false_from_ne_true, not-false, not-true}
+use Rattle.std.proofs.lemmas.Bool.{cases_Bool, and_parts, false_from_ne_true, not-false, not-true, lt-ltb}
 use Rattle.vme_trace.specs.Instants.{any, least, greatest, those}
 use Rattle.vme_trace.specs.LineNumbers.{AS, BBSY, grant}
 use Rattle.vme_trace.specs.Levels.{Levels}
@@ -416,12 +416,9 @@ module _ (t : Trace) (span : Stretch) (is : IsSpanOf t span) (end : ℕ) (within
       (is_answered t span i (j + 1))
       (in_transfer-is t span (λ k. nat_lt k j && not (is_answered t span k (j + 1))) i j (after_start t span i starts)
       (omega arith) starts lasting)
-      (less i j order) (answered_is t span i (j + 1) ∙ none)
+      (lt-ltb i j order) (answered_is t span i (j + 1) ∙ none)
       (held t span end most unbroken rule.H7 j AS (omega (arith, after_start t span i starts)) before (lit< tt) refl)
     where
-      less : (m n : ℕ) → m < n → nat_lt m n ≡ true
-      less m n h = grind (arith, nat_tests)
-
       by : (a x n d : Bool) → x ≡ (n && not d) → n ≡ true → d ≡ false → (true && a && x) ≡ false → a ≡ false
       by true x n d h k e f = absurd (clash x (h ∙ (ap (λ b. b && not d) k ∙ ap not e)) f)
       by false x n d h k e f = refl

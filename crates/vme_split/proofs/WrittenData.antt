@@ -4,7 +4,7 @@ use Rattle.std.proofs.Common.{ap}
 use Rattle.std.proofs.Common.{arith, All, inl, inr, ◌⊎◌}
 use Rattle.std.specs.Prelude.{Option, None, Some, ◌==◌, nat_le}
 use Rattle.std.proofs.lemmas.Bool.Decides.{nat_tests}
-use Rattle.std.proofs.lemmas.Bool.{false_from_ne_true}
+use Rattle.std.proofs.lemmas.Bool.{false_from_ne_true, eq-eqb, leb-true}
 use Rattle.std.proofs.Math.Bool.{not-not}
 use Rattle.vme_trace.specs.Instants.{any, least}
 use Rattle.vme_trace.specs.LineNumbers.{AS}
@@ -42,12 +42,6 @@ third_of true true false h = absurd (cc)
 third_of true false c h = absurd (cc)
 third_of false b c h = absurd (cc)
 
-is_order : (i r : ℕ) → nat_le i r ≡ true → i ≤ r
-is_order i r h = grind (arith, nat_tests)
-
-is_same : (i r : ℕ) → i ≡ r → (i == r) ≡ true
-is_same i r h = grind (arith, nat_tests)
-
 is_later : (i r : ℕ) → i + 1 ≤ r → (i == r) ≡ false
 is_later i r h = grind (arith, nat_tests)
 
@@ -58,7 +52,7 @@ module _ (t : Trace) (span : Stretch) (is : IsSpanOf t span) (end : ℕ) (within
     where
       order : i ≤ r
       unfolding lasts
-      order = is_order i r (first_of (nat_le i r) _ _ there)
+      order = leb-true i r (first_of (nat_le i r) _ _ there)
 
       unclosed : any (strobes_high t) (i + 1) r ≡ false
       unfolding lasts
@@ -82,7 +76,7 @@ module _ (t : Trace) (span : Stretch) (is : IsSpanOf t span) (end : ℕ) (within
       starts_alike = by (same_or_after i r order)
         where
           by : (i ≡ r) ⊎ (i + 1 ≤ r) → transfer_starts t span r ≡ (i == r)
-          by (inl same) = ap (transfer_starts t span) (sym same) ∙ (starts ∙ sym (is_same i r same))
+          by (inl same) = ap (transfer_starts t span) (sym same) ∙ (starts ∙ sym (eq-eqb i r same))
           by (inr later) = false_from_ne_true (transfer_starts t span r) (none_later later) ∙ sym (is_later i r later)
 
       answered : (c : ℕ) → ShowsData t (answered_row t span end i r (Some c))
