@@ -4,7 +4,7 @@ use Rattle.std.proofs.Common.{ap, arith, cond}
 use Rattle.std.specs.Prelude.{Option, None, Some, ◌==◌, nat_le}
 use Rattle.std.specs.Option.{is_some}
 use Rattle.std.proofs.lemmas.Bool.Decides.{nat_tests}
-use Rattle.std.proofs.lemmas.Bool.{and_left, and_parts}
+use Rattle.std.proofs.lemmas.Bool.{and_left, and_parts, eqb-true}
 use Rattle.std.proofs.Math.Bool.{and-false, and-true}
 use Rattle.vme_trace.specs.Edges.{falls_between, low_near}
 use Rattle.vme_trace.specs.Instants.{any, least}
@@ -19,9 +19,6 @@ use Rattle.vme_trace.specs.declared.step.Change.{Change}
 use Rattle.vme_trace.proofs.Ranges.{fails-any, least-is, least-none, least-alike}
 use Rattle.vme_trace.proofs.Changing.{level-kept}
 use Rattle.vme_chains.specs.AcknowledgeRules.{first_changed, passes_on, passes_unasked}
-
-equal : (a b : ℕ) → (a == b) ≡ true → a ≡ b
-equal a b h = grind (arith, nat_tests)
 
 -- no line below `lowest` is changed
 below_changes : (v : Levels) (lowest l : ℕ) (cs : List Change) → are_changes v lowest cs ≡ true → l < lowest
@@ -61,7 +58,7 @@ module _ (v : Levels) (p : ℕ → Bool) (few : v.slots ≤ 21) where
   kept_else c cs kept here l h = by_line (c.line == l) refl
     where
       by_line : (b : Bool) → (c.line == l) ≡ b → p l ≡ false
-      by_line true e = ap p (sym (equal c.line l e)) ∙ here
+      by_line true e = ap p (sym (eqb-true c.line l e)) ∙ here
       by_line false e = kept l (rw (e, h) refl)
 
   pub first-least : (lowest : ℕ) (cs : List Change) → are_changes v lowest cs ≡ true

@@ -1,10 +1,9 @@
 -- The memory (state of the automaton) is right of each instant of the span, so the machine's faults are the breaks.
 use Rattle.std.proofs.Common.{◌≡◌, ℕ, zero, suc, ◌<◌, ◌≤◌, Bool, true, false, ◌&&◌, ◌||◌, not, List, refl, sym, ◌∙◌, ap}
 use Rattle.std.proofs.Common.{arith, cond, length, subst, inl, inr, ◌⊎◌, Option, Some, None}
-use Rattle.std.specs.Prelude.{option_map, slice_get, nat_lt}
+use Rattle.std.specs.Prelude.{option_map, slice_get}
 use Rattle.std.specs.Option.{is_some, option_or, option_map_or}
-use Rattle.std.proofs.lemmas.Bool.Decides.{nat_tests}
-use Rattle.std.proofs.lemmas.Bool.{or_parts}
+use Rattle.std.proofs.lemmas.Bool.{or_parts, le-ltb}
 use Rattle.vme_trace.specs.Instants.{least}
 use Rattle.vme_trace.specs.LineNumbers.{line_count}
 use Rattle.vme_trace.specs.Levels.{Levels}
@@ -156,9 +155,6 @@ module _ (t : Trace) (span : Stretch) (ok : malformed_step t ≡ None) (few : t.
         by_lines None (Some l) = by_tests l (is_strobed old new) (is_addressed old new && m.acknowledged)
         by_lines None None = none_left (is_strobed old new) (is_addressed old new && m.acknowledged)
 
-  after_test : (n s : ℕ) → s ≤ n → nat_lt n s ≡ false
-  after_test n s h = grind (arith, nat_tests)
-
   first_or_later : (s n : ℕ) → s ≤ suc n → (suc n ≤ s) ⊎ (s ≤ n)
   first_or_later s n h = grind arith
 
@@ -172,7 +168,7 @@ module _ (t : Trace) (span : Stretch) (ok : malformed_step t ≡ None) (few : t.
             let e : span.start ≡ suc n = omega arith in
             rw (memory_early step t (acknowledge_begin (levels_at t span.start)) span.start (suc n) first)
             (subst (λ k. Holds t span k (acknowledge_begin (levels_at t span.start))) e (holds_start t span facts))
-        | inr later ↦ rw (after_test n span.start later) (holds_after n later before (omega arith) (memory_at n)
+        | inr later ↦ rw (le-ltb n span.start later) (holds_after n later before (omega arith) (memory_at n)
             (holds_at n later (omega arith) (omega arith)))
       ]
 

@@ -4,7 +4,7 @@ use Rattle.std.proofs.Common.{arith, Option, Some, None, cond, length, inl, inr,
 use Rattle.std.specs.Prelude.{◌==◌, nat_lt, option_map, slice_get}
 use Rattle.std.specs.Option.{option_map_or}
 use Rattle.std.proofs.lemmas.Bool.Decides.{nat_tests}
-use Rattle.std.proofs.lemmas.Bool.{or_parts}
+use Rattle.std.proofs.lemmas.Bool.{or_parts, le-ltb}
 use Rattle.vme_trace.specs.LineNumbers.{BBSY, BR}
 use Rattle.vme_trace.specs.Levels.{Levels}
 use Rattle.vme_trace.specs.Trace.{Trace, levels_at, time_at, changed}
@@ -202,9 +202,6 @@ module _ (t : Trace) (span : Stretch) (few : t.opening.slots ≤ 21) where
     holds_at : (k : ℕ) → span.start ≡ k → Holds t span k started
     holds_at k e = subst (λ i. Holds t span i started) e holds_start
 
-    not_before : (n s : ℕ) → s ≤ n → nat_lt n s ≡ false
-    not_before n s h = grind (arith, nat_tests)
-
     -- the memory is right of each judged instant
     holds_along : (n : ℕ) → span.start ≤ n → n < span.end → n ≤ length t.steps → Holds t span n (memory n)
     holds_along zero from before within = holds_at zero (omega arith)
@@ -214,7 +211,7 @@ module _ (t : Trace) (span : Stretch) (few : t.opening.slots ≤ 21) where
               (omega arith))
               (holds_at (suc n) e)
           | inr earlier ↦
-              rw (not_before n span.start earlier)
+              rw (le-ltb n span.start earlier)
               (holds_by n earlier before (changes_of (slice_get t.steps n)) (levels_step t n (omega arith))
               (changes_fit t n ok (omega arith)) (memory n) (touches_arbitration (changes_of (slice_get t.steps n)) ||
               is_cycle_unowned (levels_at t n) (levels_at t (suc n))) refl

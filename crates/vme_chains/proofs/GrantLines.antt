@@ -3,7 +3,7 @@ use Rattle.std.proofs.Common.{◌≡◌, ℕ, ◌+◌, ◌-◌, ◌<◌, ◌≤�
 use Rattle.std.proofs.Common.{ap, arith, Some, cond}
 use Rattle.std.specs.Prelude.{◌==◌, nat_le}
 use Rattle.std.proofs.lemmas.Bool.Decides.{nat_tests}
-use Rattle.std.proofs.lemmas.Bool.{and_parts}
+use Rattle.std.proofs.lemmas.Bool.{and_parts, eqb-true}
 use Rattle.vme_trace.specs.Instants.{any, least}
 use Rattle.vme_trace.specs.LineNumbers.{line_count, has_line, is_slot_grant, input_of, grant, BR}
 use Rattle.vme_trace.specs.Levels.{Levels, is_low, is_high}
@@ -16,7 +16,7 @@ use Rattle.vme_trace.specs.declared.step.Change.{Change}
 use Rattle.vme_trace.proofs.Ranges.{fails-any, least-is, least-none}
 use Rattle.vme_trace.proofs.Changing.{slots-kept, level-kept}
 use Rattle.vme_chains.specs.GrantLevels.{shown, falls_between, rises_between, first_changed}
-use Rattle.vme_chains.proofs.GrantTests.{equal, unlike}
+use Rattle.vme_chains.proofs.GrantTests.{unlike}
 
 exists_below : (slots l : ℕ) → slots ≤ 21 → has_line slots l ≡ true → l < line_count
 exists_below slots l few h = grind (arith, nat_tests)
@@ -56,7 +56,7 @@ module _ (p : ℕ → Bool) (v : Levels) (few : v.slots ≤ 21) where
   kept_else c cs kept here l h = by_line (c.line == l) refl
     where
       by_line : (b : Bool) → (c.line == l) ≡ b → p l ≡ false
-      by_line true e = ap p (sym (equal c.line l e)) ∙ here
+      by_line true e = ap p (sym (eqb-true c.line l e)) ∙ here
       by_line false e = kept l (rw (e, h) refl)
 
   pub first-least : (lowest : ℕ) (cs : List Change) → are_changes v lowest cs ≡ true

@@ -2,9 +2,8 @@
 -- step.
 use Rattle.std.proofs.Common.{◌≡◌, ℕ, suc, ◌+◌, ◌<◌, ◌≤◌, Bool, true, false, ◌&&◌, ◌||◌, not, refl, ◌∙◌, ap, arith}
 use Rattle.std.proofs.Common.{cond}
-use Rattle.std.specs.Prelude.{nat_le}
-use Rattle.std.proofs.lemmas.Bool.Decides.{nat_tests}
 use Rattle.std.proofs.Math.Bool.{or-false}
+use Rattle.std.proofs.lemmas.Bool.{le-leb}
 use Rattle.vme_trace.specs.Instants.{any}
 use Rattle.vme_trace.specs.LineNumbers.{BBSY, BR}
 use Rattle.vme_trace.specs.Trace.{Trace}
@@ -18,10 +17,7 @@ use Rattle.vme_chains.proofs.GrantRanges.{last-start, last-here, last-kept, last
 
 any_suc : (p : ℕ → Bool) (f n : ℕ) → f ≤ n → any p f (suc n) ≡ (any p f n || p n)
 unfolding any
-any_suc p f n from = ap (λ b. any p f n || (b && p n)) (from_holds f n from)
-  where
-    from_holds : (f n : ℕ) → f ≤ n → nat_le f n ≡ true
-    from_holds f n h = grind (arith, nat_tests)
+any_suc p f n from = ap (λ b. any p f n || (b && p n)) (le-leb f n from)
 
 any_one : (p : ℕ → Bool) (n : ℕ) → any p n (suc n) ≡ p n
 any_one p n = any_suc p n n (omega arith) ∙ ap (λ b. b || p n) (fails-any p n n (λ i a b. absurd (omega arith)))

@@ -3,7 +3,7 @@ use Rattle.std.proofs.Common.{◌≡◌, ℕ, suc, ◌<◌, ◌≤◌, Bool, tru
 use Rattle.std.proofs.Common.{arith, Option, None, cond}
 use Rattle.std.specs.Prelude.{◌==◌}
 use Rattle.std.proofs.lemmas.Bool.Decides.{nat_tests}
-use Rattle.std.proofs.lemmas.Bool.{and_left, or_parts}
+use Rattle.std.proofs.lemmas.Bool.{and_left, or_parts, eqb-true}
 use Rattle.vme_trace.specs.LineNumbers.{BBSY, BR, grant, is_grant}
 use Rattle.vme_trace.specs.Changes.{is_changed}
 use Rattle.vme_trace.specs.Levels.{Levels}
@@ -20,7 +20,6 @@ use Rattle.vme_chains.specs.GrantLevels.{grant_begins, falls_between, rises_betw
 use Rattle.vme_chains.specs.GrantRules.{nets_fault, step_fault}
 use Rattle.vme_chains.specs.declared.grant_memory.LevelSet.{LevelSet}
 use Rattle.vme_chains.proofs.GrantNets.{falls-kept, rises-kept}
-use Rattle.vme_chains.proofs.GrantTests.{equal}
 
 -- if `touches_arbitration` is false, no line of the arbitration bus is among the changes
 pub untouched : (cs : List Change) (l : ℕ) → touches_arbitration cs ≡ false → is_arbitration l ≡ true → is_changed cs l
@@ -32,7 +31,7 @@ untouched (c ∷ cs) l h k =
   where
     other : (b : Bool) → (c.line == l) ≡ b → (b || false) ≡ false
     other false e = refl
-    other true e = absurd (clash (is_arbitration l) k (ap is_arbitration (sym (equal c.line l e))
+    other true e = absurd (clash (is_arbitration l) k (ap is_arbitration (sym (eqb-true c.line l e))
         ∙ (or_parts (is_arbitration c.line) (touches_arbitration cs) h).0))
 
 first_none : (p : ℕ → Bool) → ((l : ℕ) → is_arbitration l ≡ false → p l ≡ false) → (cs : List Change)

@@ -3,6 +3,7 @@ use Rattle.std.proofs.Common.{◌≡◌, ℕ, suc, ◌+◌, ◌<◌, ◌≤◌, 
 use Rattle.std.proofs.Common.{Option, Some, None, cond, lit<}
 use Rattle.std.specs.Prelude.{◌==◌, option_map, option_and_then}
 use Rattle.std.proofs.lemmas.Bool.Decides.{nat_tests}
+use Rattle.std.proofs.lemmas.Bool.{eqb-true}
 use Rattle.vme_trace.specs.Instants.{any, none, least, greatest}
 use Rattle.vme_trace.specs.LineNumbers.{line_count, AS, BBSY, has_line}
 use Rattle.vme_trace.specs.Trace.{Trace, levels_at}
@@ -22,7 +23,7 @@ use Rattle.vme_chains.specs.GrantRules.{line_if, slot_of}
 use Rattle.vme_chains.specs.declared.grant_memory.Arbitration.{Arbitration}
 use Rattle.vme_chains.proofs.GrantEdges.{falls-is, low_near-is, grant_begins-is, is_ungranted-is, taken_between-is}
 use Rattle.vme_chains.proofs.GrantMeaning.{Holds, granted-more}
-use Rattle.vme_chains.proofs.GrantTests.{equal, off_kind, on_kind, one_more}
+use Rattle.vme_chains.proofs.GrantTests.{off_kind, on_kind, one_more}
 
 below_unlike : (a b : ℕ) → a < b → (a == b) ≡ false
 below_unlike a b h = grind (arith, nat_tests)
@@ -33,7 +34,7 @@ least_one : (p : ℕ → Bool) (n a : ℕ) → a < n → ((l : ℕ) → (l == a)
 least_one p n a below elsewhere = by_test (p a) refl
   where
     fails_on : p a ≡ false → (l : ℕ) (b : Bool) → (l == a) ≡ b → p l ≡ false
-    fails_on h l true e = ap p (equal l a e) ∙ h
+    fails_on h l true e = ap p (eqb-true l a e) ∙ h
     fails_on h l false e = elsewhere l e
 
     by_test : (b : Bool) → p a ≡ b → least p 0 n ≡ line_if b a

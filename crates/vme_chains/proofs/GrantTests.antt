@@ -3,9 +3,6 @@ use Rattle.std.proofs.Common.{◌≡◌, ℕ, suc, ◌+◌, ◌<◌, ◌≤◌, 
 use Rattle.std.specs.Prelude.{◌==◌}
 use Rattle.std.proofs.lemmas.Bool.Decides.{nat_tests}
 
-pub equal : (a b : ℕ) → (a == b) ≡ true → a ≡ b
-equal a b h = grind (arith, nat_tests)
-
 pub unlike : (a b : ℕ) → b < a → (a == b) ≡ false
 unlike a b h = grind (arith, nat_tests)
 
