@@ -5,7 +5,7 @@ use Rattle.std.specs.Prelude.{◌==◌, Option, None, Some, slice_get, MatchOpti
 use Rattle.std.proofs.lemmas.Bool.Decides.{nat_tests}
 use Rattle.std.proofs.lemmas.Option.{slice_get_past, slice_get_within}
 use Rattle.std.proofs.lemmas.List.{append-nil}
-use Rattle.std.proofs.lemmas.Bool.{eqb-true}
+use Rattle.std.proofs.lemmas.Bool.{eqb-true, cases_lt}
 use Rattle.vme_cert.specs.Vocabulary.{Row}
 use Rattle.vme_cert.specs.Comparing.{Decides, Extends, IsBegun, IsCompared, IsDue, IsGiven, IsGivenNext, IsSame}
 use Rattle.vme_cert.specs.Comparing.{HasComparedRow, same_to, without}
@@ -14,7 +14,7 @@ use Rattle.vme_cert.specs.declared.comparison.OpenRow.{OpenRow}
 use Rattle.vme_cert.specs.declared.compare.Answer.TheVariants.{Yes, No}
 use Rattle.vme_cert.specs.Agreement.{DecidesListing, DiffersAt}
 use Rattle.vme_cert.specs.declared.compare.Answer.{Answer}
-use Rattle.vme_cert.proofs.Ranges.{same_value, below_or_from, decide}
+use Rattle.vme_cert.proofs.Ranges.{same_value, decide}
 
 module _ {A : Type 0} where
   none_some : (x : A) → None ≡ Some x → ⊥
@@ -214,7 +214,7 @@ module _ {Source : Type 0} (is_over : Source → Type 0) (given right : List Row
         → Decides is_over more right source
         Yes
     finish-same source is over = (
-      list-same more right (λ n. elim (below_or_from n taken) [
+      list-same more right (λ n. elim (cases_lt n taken) [
         | inl below ↦ extends n below ∙ h.same n below refl
         | inr from ↦
             slice_get_past more n (omega (arith, past more taken (sym is)))

@@ -6,6 +6,7 @@ use Rattle.std.proofs.Math.Bool.{beq, and-false, and-true, and_assoc, or-true}
 use Rattle.std.proofs.lemmas.Bool.Decides.{nat_tests}
 use Rattle.std.specs.Option.{option_map_or}
 use Rattle.std.proofs.lemmas.Bool.{le-leb, ltb-true, ltb-false, and_parts, and_from, not-false, not-true, or_parts}
+use Rattle.std.proofs.lemmas.Bool.{cases_lt}
 use Rattle.vme_trace.proofs.OpenTransfers.{in_transfer-is, ReadsStrobes}
 use Rattle.vme_trace.proofs.Ranges.{any-holds, fails-any, any-step, any-fails, clash, any-least, least-found}
 use Rattle.vme_trace.proofs.JudgedSpans.{span_reads}
@@ -22,7 +23,7 @@ use Rattle.vme_cert.specs.State.{is_acknowledged, is_data_held, is_unanswered}
 use Rattle.vme_cert.specs.Instant.{starts_transfer}
 use Rattle.vme_cert.specs.declared.state.Transfer.{Transfer}
 use Rattle.vme_cert.specs.declared.state.Cycle.{Cycle}
-use Rattle.vme_cert.proofs.Ranges.{below_or_from, IsGreatest, greatest-found, none-shorter}
+use Rattle.vme_cert.proofs.Ranges.{IsGreatest, greatest-found, none-shorter}
 use Rattle.vme_cert.proofs.Ranges.{after_start, greatest-here, greatest-not, none-step, any-start, last_or_before}
 use Rattle.vme_cert.proofs.Ranges.{greatest-none-any, those-empty, order_of, greatest-none}
 use Rattle.vme_cert.proofs.Ranges.{decide, case_of, later, de_morgan, only-last, unless}
@@ -221,7 +222,7 @@ module _ (t : Trace) (span : Stretch) (j : ℕ) (judged : is_judged span j ≡ t
 
     closes : c.start < j → strobes_high t j ≡ true → AreClosed t span (j + 1) (j + 1)
     closes later there i before start =
-        any-holds (strobes_high t) (i + 1) (j + 1) j (elim (below_or_from c.start i) [
+        any-holds (strobes_high t) (i + 1) (j + 1) j (elim (cases_lt c.start i) [
           | inl past ↦ absurd (clash (transfer_starts t span i) start
               (any-fails (transfer_starts t span) (c.start + 1) (j + 1) i found-transfer.last (omega arith) before))
           | inr earlier ↦ omega arith

@@ -4,7 +4,7 @@ use Rattle.std.proofs.Common.{refl, sym, ◌∙◌, ap, subst, arith, length-app
 use Rattle.std.proofs.Common.{append_assoc}
 use Rattle.std.specs.Prelude.{◌==◌, Option, None, Some, slice_get, nat_le, if◌then◌else◌}
 use Rattle.std.proofs.lemmas.Bool.Decides.{nat_tests}
-use Rattle.std.proofs.lemmas.Bool.{and_parts, and_left, and_right, not-true}
+use Rattle.std.proofs.lemmas.Bool.{and_parts, and_left, and_right, not-true, cases_lt}
 use Rattle.std.proofs.Math.Bool.{and-not_self}
 use Rattle.vme_trace.proofs.Ranges.{clash, least-is, least-none, any-fails, any-holds, fails-any, least-found}
 use Rattle.vme_trace.proofs.Ranges.{least-none-any}
@@ -36,7 +36,7 @@ use Rattle.vme_cert.proofs.Fields.{high-between, answer-is, fall-low, no-fall}
 use Rattle.vme_cert.proofs.Placing.{cycle-place, next-count, row_after, rows_in-append, rows_in-length, tenure-place}
 use Rattle.vme_cert.proofs.Placing.{transfer-place}
 use Rattle.vme_cert.proofs.Ranges.{same_value, any-more, any-start, greatest-found, after_start}
-use Rattle.vme_cert.proofs.Ranges.{greatest-here, greatest-not, below_or_from, decide}
+use Rattle.vme_cert.proofs.Ranges.{greatest-here, greatest-not, decide}
 use Rattle.vme_cert.proofs.Ranges.{case_of, unjudged}
 use Rattle.vme_cert.proofs.Instant.{address-known, control-known}
 
@@ -204,7 +204,7 @@ module _ {Whole Source : Type 0} {gave : Whole → Source → List Row → Type 
 -- the least of a range stays so in a longer one, if none of the added numbers meets `p`
 least-longer : (p : ℕ → Bool) (f m n : ℕ) → m ≤ n → ((r : ℕ) → m ≤ r → r < n → p r ≡ false) → least p f n ≡ least p f m
 least-longer p f m n order later = case_of (least p f m)
-    (λ e. rw e (least-none p f n (fails-any p f n (λ r a b. elim (below_or_from r m) [
+    (λ e. rw e (least-none p f n (fails-any p f n (λ r a b. elim (cases_lt r m) [
       | inl below ↦ any-fails p f m r (least-none-any p f m e) a below
       | inr from ↦ later r from b
     ]))))
@@ -388,7 +388,7 @@ module _ (t : Trace) (span : Stretch) where
         )
       where
         started : h.start < j + 1 → transfer_starts t span h.start ≡ true → h.start < j
-        started before starts = by_order (below_or_from h.start j)
+        started before starts = by_order (cases_lt h.start j)
           where
             by_order : (h.start < j) ⊎ (j ≤ h.start) → h.start < j
             by_order (inl less) = less

@@ -25,9 +25,6 @@ pub case_of : {A P : Type 0} (o : Option A) → (o ≡ None → P) → ((x : A) 
 case_of None none some = none refl
 case_of (Some x) none some = some x refl
 
-pub below_or_from : (k m : ℕ) → (k < m) ⊎ (m ≤ k)
-below_or_from k m = grind arith
-
 pub order_of : (i k : ℕ) → (i < k) ⊎ ((i ≡ k) ⊎ (k < i))
 order_of i k = grind arith
 
