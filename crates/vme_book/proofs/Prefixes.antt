@@ -1,7 +1,7 @@
 -- Prefixes of the places of a book: lists of what is at the numbers from 0 on, with nothing missing.
 use Rattle.std.proofs.Common.{◌≡◌, ℕ, zero, suc, ◌+◌, ◌*◌, ◌<◌, ◌≤◌, List, [], ◌∷◌, ◌++◌, length, length-append, map}
 use Rattle.std.proofs.Common.{take, get_or, set, replicate, true, false, Option, Some, None, Result, Ok, Err}
-use Rattle.std.proofs.Common.{append-nil, append_assoc, refl, sym, ◌∙◌, ap, subst, arith, inl, inr, ◌⊎◌, ◌≢◌}
+use Rattle.std.proofs.Common.{append-nil, append_assoc, refl, sym, ◌∙◌, ap, subst, arith, inl, inr, ◌⊎◌}
 use Rattle.std.specs.Prelude.{OnOk}
 use Rattle.std.specs.Option.{is_some}
 use Rattle.std.specs.Result.{is_err}
@@ -11,6 +11,7 @@ use Rattle.std.proofs.lemmas.List.{get_or_default, get_or-set_other, get_or-set_
 use Rattle.std.proofs.lemmas.List.{length-take, set-get_or, take_all, take-set-le}
 use Rattle.std.proofs.Math.Seq.{take-append_seam}
 use Rattle.std.proofs.lemmas.Option.{none-some, same_Some}
+use Rattle.std.proofs.lemmas.Bool.{cases_eq}
 use Rattle.vme_trace.specs.Blocks.{joined_steps}
 use Rattle.vme_trace.specs.declared.block.Block.{Block}
 use Rattle.vme_trace.specs.declared.step.Step.{Step}
@@ -311,9 +312,6 @@ keeps_nothing places start total some few blocks spans count span =
       within = omega arith;
     }
 
-same_or_other : (m n : ℕ) → (m ≡ n) ⊎ (m ≢ n)
-same_or_other m n = grind arith
-
 -- what stays true where block b is inserted at number n
 module _ (inserted : List (Option Block)) (n : ℕ) (b : Block) (below : n < length inserted) where
   pub placed_set : AreAtOwnNumbers inserted → b.number ≡ n → length b.steps ≤ 65536
@@ -323,7 +321,7 @@ module _ (inserted : List (Option Block)) (n : ℕ) (b : Block) (below : n < len
       let few = p.few in
       record {
         few = omega arith;
-        each = λ m c e. elim (same_or_other m n) [
+        each = λ m c e. elim (cases_eq m n) [
           | inl same ↦
               let here : Some b ≡ Some c = sym (get_or-set_same inserted n (Some b) None below)
               ∙ ap (λ (k : ℕ). get_or (set inserted n (Some b)) k None) (sym same) ∙ e in
@@ -340,7 +338,7 @@ module _ (inserted : List (Option Block)) (n : ℕ) (b : Block) (below : n < len
       let below' : n < length spans = omega arith in
       record {
         as_many = length-set spans n (Some s) ∙ h.as_many ∙ sym (length-set inserted n (Some b));
-        each = λ m c le e. elim (same_or_other m n) [
+        each = λ m c le e. elim (cases_eq m n) [
           | inl same ↦
               let here : Some b ≡ Some c = sym (get_or-set_same inserted n (Some b) None below)
               ∙ ap (λ (k : ℕ). get_or (set inserted n (Some b)) k None) (sym same) ∙ e in (
