@@ -2,10 +2,10 @@
 use Rattle.std.proofs.Common.{◌≡◌, ℕ, ◌*◌, ◌<◌, ◌≤◌, Bool, true, false, if◌then◌else◌, List, length, slice_get, get_or}
 use Rattle.std.proofs.Common.{take, drop, min, Option, Some, None, sym, refl, ap, ◌∙◌, subst, arith}
 use Rattle.std.specs.Prelude.{nat_lt}
-use Rattle.std.proofs.lemmas.Bool.Decides.{nat_tests}
 use Rattle.std.proofs.lemmas.List.{length-take, take-append-drop}
 use Rattle.std.proofs.lemmas.List.FromFn.{get_or-map-range_with_len, length-map-range_with_len}
 use Rattle.std.proofs.lemmas.Option.{none-some, same_Some, slice_get-get_or, slice_get_within}
+use Rattle.std.proofs.lemmas.Bool.{le-ltb, lt-ltb}
 use Rattle.vme_trace.specs.Block.{trace_of}
 use Rattle.vme_trace.specs.Blocks.{block_at, block_count, blocks_of}
 use Rattle.vme_trace.specs.Levels.{Levels}
@@ -46,12 +46,6 @@ module _ (t : Trace) (size : ℕ) where
   accepted_by true false (Some k) e f g = absurd (none-some k (sym g))
   accepted_by false long step e f g = absurd (cc)
 
-  is_below : (m n : ℕ) → m < n → nat_lt m n ≡ true
-  is_below m n h = grind (arith, nat_tests)
-
-  isnt_below : (m n : ℕ) → n ≤ m → nat_lt m n ≡ false
-  isnt_below m n h = grind (arith, nat_tests)
-
   module _ (sound : malformed_step t ≡ None) (some : 0 < size) (few : size ≤ 65536) where
     -- a block is a part of the recording, so its steps are well-formed
     block_sound : (k : ℕ) → malformed_step (trace_of (block_at size t k)) ≡ None
@@ -77,7 +71,7 @@ module _ (t : Trace) (size : ℕ) where
     block_accepted : (n : ℕ) → n < block_count size t → first_refusal (block_count size t) (block_at size t n) ≡ None
     block_accepted n low = accepted_by (nat_lt n (block_count size t))
         (nat_lt 65536 (length (take size (drop (n * size) t.steps)))) (malformed_step (trace_of (block_at size t n)))
-        (is_below n (block_count size t) low) (isnt_below 65536 (length (take size (drop (n * size) t.steps)))
+        (lt-ltb n (block_count size t) low) (le-ltb 65536 (length (take size (drop (n * size) t.steps)))
         (block_short n)) (block_sound n)
 
     pub size_cuts : IsCutOf t (block_count size t) blocks
