@@ -3,6 +3,7 @@ use Rattle.std.proofs.Common.{◌≡◌, ℕ, ◌<◌, ◌≤◌, List, [], ◌�
 use Rattle.std.proofs.Common.{◌∙◌}
 use Rattle.std.proofs.Common.{ap, arith, append-nil}
 use Rattle.std.proofs.lemmas.List.{map-append}
+use Rattle.std.proofs.lemmas.Bool.{le-ltb, lt-ltb}
 use Rattle.vme_trace.specs.Levels.{Levels}
 use Rattle.vme_trace.specs.Trace.{changed}
 use Rattle.vme_trace.specs.declared.step.Step.{Step}
@@ -21,7 +22,6 @@ use Rattle.vme_auditor.specs.declared.memories.Memories.{Memories}
 use Rattle.vme_auditor.proofs.ShownKinds.{AllBelow, AllFrom, acknowledge_own, from_both, grant_own, handshake_own}
 use Rattle.vme_auditor.proofs.ShownKinds.{known_own, stability_own, stretch_below, tenure_below, tenure_from}
 use Rattle.vme_auditor.proofs.ShownKinds.{transfer_from}
-use Rattle.vme_auditor.proofs.Truth.{lt_fails, lt_holds}
 
 abbrev pub marked : List MarkKind → List Mark
 marked ks = map (mark_at 1) ks
@@ -35,23 +35,23 @@ module _ (n : ℕ) where
   front_all : (k : MarkKind) (ls : List MarkKind) → n ≤ kind_number k → AllBelow n ls
       → front (mark_at 1 k) (marked ls) ≡ marked ls
   front_all k [] h b = refl
-  front_all k (l ∷ ls) h b = rw (lt_holds (kind_number l) (kind_number k) (omega (arith, b.0)))
+  front_all k (l ∷ ls) h b = rw (lt-ltb (kind_number l) (kind_number k) (omega (arith, b.0)))
       (ap (λ x. mark_at 1 l ∷ x) (front_all k ls h b.1))
 
   rest_none : (k : MarkKind) (ls : List MarkKind) → n ≤ kind_number k → AllBelow n ls
       → rest (mark_at 1 k) (marked ls) ≡ []
   rest_none k [] h b = refl
-  rest_none k (l ∷ ls) h b = rw (lt_holds (kind_number l) (kind_number k) (omega (arith, b.0))) (rest_none k ls h b.1)
+  rest_none k (l ∷ ls) h b = rw (lt-ltb (kind_number l) (kind_number k) (omega (arith, b.0))) (rest_none k ls h b.1)
 
   front_none : (k : MarkKind) (ls : List MarkKind) → kind_number k < n → AllFrom n ls
       → front (mark_at 1 k) (marked ls) ≡ []
   front_none k [] h b = refl
-  front_none k (l ∷ ls) h b = rw (lt_fails (kind_number l) (kind_number k) (omega (arith, b.0))) refl
+  front_none k (l ∷ ls) h b = rw (le-ltb (kind_number l) (kind_number k) (omega (arith, b.0))) refl
 
   rest_all : (k : MarkKind) (ls : List MarkKind) → kind_number k < n → AllFrom n ls
       → rest (mark_at 1 k) (marked ls) ≡ marked ls
   rest_all k [] h b = refl
-  rest_all k (l ∷ ls) h b = rw (lt_fails (kind_number l) (kind_number k) (omega (arith, b.0))) refl
+  rest_all k (l ∷ ls) h b = rw (le-ltb (kind_number l) (kind_number k) (omega (arith, b.0))) refl
 
   merged_in_order : (ks ls : List MarkKind) → AllFrom n ks → AllBelow n ls → merged (marked ks) (marked ls)
       ≡ marked (ls ++ ks)

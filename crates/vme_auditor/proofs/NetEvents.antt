@@ -5,7 +5,7 @@ use Rattle.std.specs.Prelude.{◌==◌}
 use Rattle.std.specs.List.{list_any}
 use Rattle.std.proofs.lemmas.Bool.Decides.{nat_tests}
 use Rattle.std.proofs.Math.Bool.{and-false, or-true}
-use Rattle.std.proofs.lemmas.Bool.{and_parts}
+use Rattle.std.proofs.lemmas.Bool.{and_parts, eqb-true}
 use Rattle.vme_trace.specs.Changes.{is_changed}
 use Rattle.vme_trace.specs.Edges.{falls_between, rises_between}
 use Rattle.vme_trace.specs.Instants.{any}
@@ -20,9 +20,6 @@ use Rattle.vme_trace.proofs.Ranges.{any-holds, any-least, clash, least-found}
 use Rattle.vme_dtb.proofs.StillSteps.{never_falls, never_rises}
 use Rattle.vme_auditor.specs.Events.{net_falls, net_rises}
 use Rattle.vme_auditor.proofs.Truth.{or_swapped}
-
-equal : (a b : ℕ) → (a == b) ≡ true → a ≡ b
-equal a b h = grind (arith, nat_tests)
 
 exists_below : (slots l : ℕ) → slots ≤ 21 → has_line slots l ≡ true → l < line_count
 exists_below slots l few h = grind (arith, nat_tests)
@@ -78,7 +75,7 @@ module _ (p q : ℕ → Bool) (v : Levels) (few : v.slots ≤ 21)
           → (q c.line || list_any (λ c. q c.line) cs) ≡ true
       by_line true here others =
           let exists = (first_exists lowest c cs h).0 in
-          rw (there c.line exists ∙ ap p (equal c.line l here) ∙ holds) refl
+          rw (there c.line exists ∙ ap p (eqb-true c.line l here) ∙ holds) refl
       by_line false here others =
           rw (others (ap (λ b. b || is_changed cs l) (sym here) ∙ e) holds) (or-true (q c.line))
 

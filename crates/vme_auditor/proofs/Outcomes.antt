@@ -3,7 +3,7 @@ use Rattle.std.proofs.Common.{◌≡◌, ℕ, suc, ◌-◌, ◌^◌, ◌<◌, �
 use Rattle.std.proofs.Common.{ap, arith, cond, Option, None, Some}
 use Rattle.std.specs.Prelude.{min, nat_lt}
 use Rattle.std.specs.Option.{option_map, option_map_or}
-use Rattle.std.proofs.lemmas.Bool.Decides.{nat_tests}
+use Rattle.std.proofs.lemmas.Bool.{le-ltb, lt-ltb, ltb-false, ltb-true}
 use Rattle.vme_trace.specs.Trace.{Trace}
 use Rattle.vme_trace.specs.declared.verdict.Break.{Break}
 use Rattle.vme_audit.specs.Allowances.{unreadables, wrongs}
@@ -19,26 +19,25 @@ use Rattle.vme_auditor.specs.Findings.{AreBreakCountsOf, AreFindingsOf, gap_by, 
 use Rattle.vme_auditor.specs.Findings.{outcome_by, started_at}
 use Rattle.vme_auditor.specs.declared.findings.AuditFindings.{AuditFindings}
 use Rattle.vme_auditor.specs.declared.findings.BreakCounts.{BreakCounts}
-use Rattle.vme_auditor.proofs.Truth.{lt_fails, lt_holds}
 
 -- the outcome, case by case
 module _ (f : AuditFindings) (c : BreakCounts) (wanted : ℕ) where
   pub by_broken : 0 < c.broken → Broken ≡ outcome_by f c wanted
-  by_broken h = rw (lt_holds 0 c.broken h) refl
+  by_broken h = rw (lt-ltb 0 c.broken h) refl
 
   pub by_unreadable : c.broken ≤ 0 → 0 < c.unreadable → Unreadable ≡ outcome_by f c wanted
-  by_unreadable none h = rw (lt_fails 0 c.broken none, lt_holds 0 c.unreadable h) refl
+  by_unreadable none h = rw (le-ltb 0 c.broken none, lt-ltb 0 c.unreadable h) refl
 
   pub by_gap : c.broken ≤ 0 → c.unreadable ≤ 0 → (gap : Option CoverageGap) → gap ≡ gap_by f wanted
       → option_map_or NotCovered gap (Conforming c.allowed) ≡ outcome_by f c wanted
   by_gap none no_more gap e =
-      rw (lt_fails 0 c.broken none, lt_fails 0 c.unreadable no_more)
+      rw (le-ltb 0 c.broken none, le-ltb 0 c.unreadable no_more)
       (ap (λ (gap : Option CoverageGap). option_map_or NotCovered gap (Conforming c.allowed)) e)
 
 -- there is a break exactly if the number of breaks is over 0
 some_breaks : (bs : List Break) → nat_lt 0 (length bs) ≡ any_of bs
 some_breaks [] = refl
-some_breaks (b ∷ bs) = lt_holds 0 (suc (length bs)) (omega arith)
+some_breaks (b ∷ bs) = lt-ltb 0 (suc (length bs)) (omega arith)
 
 never_idle_by_last : (bs : List Break) → never_idle_by (last_instant_of bs) ≡ never_idle bs
 never_idle_by_last [] = refl
@@ -51,23 +50,17 @@ few_answers : (answers wanted : ℕ) (other : Option CoverageGap) → wanted ≤
     ≡ cond (nat_lt answers wanted) (Some (FewAnswers answers wanted)) other
 few_answers answers wanted other fits = by_test (nat_lt answers wanted) refl
   where
-    below : (a w : ℕ) → nat_lt a w ≡ true → a < w
-    below a w h = grind (arith, nat_tests)
-
-    above : (a w : ℕ) → nat_lt a w ≡ false → w ≤ a
-    above a w h = grind (arith, nat_tests)
-
     by_test : (b : Bool) → nat_lt answers wanted ≡ b
         → cond (nat_lt (min answers (2 ^ 64 - 1)) wanted) (Some (FewAnswers (min answers (2 ^ 64 - 1)) wanted)) other
         ≡ cond b (Some (FewAnswers answers wanted)) other
     by_test true e =
-        let few = below answers wanted e in
+        let few = ltb-true answers wanted e in
         let same : min answers (2 ^ 64 - 1) ≡ answers = omega arith in
         rw (same, e) refl
     by_test false e =
-        let enough = above answers wanted e in
+        let enough = ltb-false answers wanted e in
         let still : wanted ≤ min answers (2 ^ 64 - 1) = omega arith in
-        rw (lt_fails (min answers (2 ^ 64 - 1)) wanted still) refl
+        rw (le-ltb (min answers (2 ^ 64 - 1)) wanted still) refl
 
 same_hang : (t : Trace) (h : Option ℕ) → option_map hang_by (option_map (started_at t) h)
     ≡ option_map (hang_from (last_part t)) h

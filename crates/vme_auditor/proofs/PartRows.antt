@@ -5,6 +5,7 @@ use Rattle.std.proofs.Common.{sym, ◌∙◌, ap, subst, arith, cond, take, filt
 use Rattle.std.specs.Prelude.{nat_lt}
 use Rattle.std.proofs.lemmas.Bool.Decides.{nat_tests}
 use Rattle.std.proofs.lemmas.List.Elements.{filter-append}
+use Rattle.std.proofs.lemmas.Bool.{le-ltb, lt-ltb}
 use Rattle.vme_trace.specs.LineNumbers.{BBSY}
 use Rattle.vme_trace.specs.Levels.{Levels, is_idle, is_low, level_at}
 use Rattle.vme_trace.specs.Judged.{Stretch, judged_spans}
@@ -39,7 +40,6 @@ use Rattle.vme_auditor.specs.Memories.{memories_at, memories_next}
 use Rattle.vme_auditor.specs.declared.memories.Memories.{Memories}
 use Rattle.vme_auditor.proofs.FirstBreaks.{named_is_least}
 use Rattle.vme_auditor.proofs.MarkHangs.{never_hangs, never_is}
-use Rattle.vme_auditor.proofs.Truth.{lt_fails, lt_holds}
 
 abbrev is_no_verdict : Row → Bool
 is_no_verdict row = not (is_verdict row)
@@ -163,7 +163,7 @@ part_rows shows start t ok few first_break e =
 first_pass : (n : ℕ) (ks : List MarkKind) (ms : List Mark) → 1 < n → marks_before n (map (mark_at 1) ks ++ ms)
     ≡ map (mark_at 1) ks ++ marks_before n ms
 first_pass n [] ms h = refl
-first_pass n (k ∷ ks) ms h = rw (lt_holds 1 n h) (ap (λ x. mark_at 1 k ∷ x) (first_pass n ks ms h))
+first_pass n (k ∷ ks) ms h = rw (lt-ltb 1 n h) (ap (λ x. mark_at 1 k ∷ x) (first_pass n ks ms h))
 
 first_stop : (ks : List MarkKind) (ms : List Mark) → marks_before 1 ms ≡ [] → marks_before 1 (map (mark_at 1) ks ++ ms)
     ≡ []
@@ -187,7 +187,7 @@ later_before n (m ∷ ms) = rw (same m.instant n) (by_test (nat_lt m.instant n) 
 
 none_before : (ms : List Mark) → marks_before 0 ms ≡ []
 none_before [] = refl
-none_before (m ∷ ms) = rw (lt_fails m.instant 0 (omega arith)) refl
+none_before (m ∷ ms) = rw (le-ltb m.instant 0 (omega arith)) refl
 
 -- the marks before instant `k + 1` are those of the first `k` steps
 pub marks_cut : (k : ℕ) (x : List Step) (m : Memories) (o : Levels) → marks_before (suc k) (joined_marks m o x)

@@ -1,13 +1,5 @@
--- Results of comparing numbers, and of two tests together.
-use Rattle.std.proofs.Common.{◌≡◌, ℕ, ◌<◌, ◌≤◌, Bool, true, false, ◌||◌, refl, arith}
-use Rattle.std.specs.Prelude.{nat_lt}
-use Rattle.std.proofs.lemmas.Bool.Decides.{nat_tests}
-
-pub lt_holds : (i j : ℕ) → i < j → nat_lt i j ≡ true
-lt_holds i j h = grind (arith, nat_tests)
-
-pub lt_fails : (i j : ℕ) → j ≤ i → nat_lt i j ≡ false
-lt_fails i j h = grind (arith, nat_tests)
+-- Laws of `||`: one test is false, or four tests in another order.
+use Rattle.std.proofs.Common.{◌≡◌, Bool, true, false, ◌||◌, refl}
 
 pub or_fails : (b c : Bool) → b ≡ false → (b || c) ≡ c
 or_fails b c e = rw e refl
