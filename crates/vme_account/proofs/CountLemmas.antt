@@ -7,7 +7,7 @@ use Rattle.std.proofs.lemmas.Bool.Decides.{nat_tests}
 use Rattle.std.proofs.lemmas.List.{get_or-replicate, get_or-set_same, get_or-set_other, length-set}
 use Rattle.std.proofs.lemmas.List.Sums.{sum_by-cons}
 use Rattle.std.specs.Prelude.{None}
-use Rattle.std.proofs.lemmas.Bool.{and_parts}
+use Rattle.std.proofs.lemmas.Bool.{and_parts, eqb-true, ltb-true}
 use Rattle.vme_listing.specs.declared.row.Row.{Row}
 use Rattle.vme_listing.specs.declared.row.Row.TheVariants as row
 use Rattle.vme_monitor.specs.declared.mark.Mark.{Mark}
@@ -28,19 +28,13 @@ no_more n = omega arith
 
 -- ---- the places of tenures
 
-is_less : (a b : ℕ) → nat_lt a b ≡ true → a < b
-is_less a b h = grind (arith, nat_tests)
-
-is_equal : (a b : ℕ) → (a == b) ≡ true → a ≡ b
-is_equal a b h = grind (arith, nat_tests)
-
 equals : (a b : ℕ) → a ≡ b → (a == b) ≡ true
 equals a b h = grind (arith, nat_tests)
 
 within : (level slot : ℕ) → is_place level slot ≡ true → place_of level slot < 88
 within level slot is =
     let tests = and_parts (nat_lt level 4) (nat_lt slot 22) is in
-    bound level slot (is_less level 4 tests.0) (is_less slot 22 tests.1)
+    bound level slot (ltb-true level 4 tests.0) (ltb-true slot 22 tests.1)
   where
     bound : (level slot : ℕ) → level < 4 → slot < 22 → level * 22 + slot < 88
     bound level slot l s = omega (arith, l, s)
@@ -52,7 +46,7 @@ one_place level slot granted taken is other differs same =
     let these = and_parts (nat_lt level 4) (nat_lt slot 22) is in
     let those = and_parts (nat_lt granted 4) (nat_lt taken 22) other in
     let levels : granted ≡ level = one_level level slot granted taken
-    (is_less slot 22 these.1) (is_less taken 22 those.1)
+    (ltb-true slot 22 these.1) (ltb-true taken 22 those.1)
     same in
     let slots : taken ≡ slot = one_slot level slot granted taken levels same in
     let is_one : (granted == level && taken == slot) ≡ true =
@@ -71,7 +65,7 @@ same_place : (level slot granted taken : ℕ) → (granted == level && taken == 
     → (granted ≡ level) × (taken ≡ slot)
 same_place level slot granted taken same =
     let tests = and_parts (granted == level) (taken == slot) same in
-    (is_equal granted level tests.0, is_equal taken slot tests.1)
+    (eqb-true granted level tests.0, eqb-true taken slot tests.1)
 
 module _ (tenures : List ℕ) (long : length tenures ≡ 88) (level slot : ℕ) (is : is_place level slot ≡ true) where
   abbrev read : List ℕ → ℕ

@@ -3,7 +3,7 @@ use Rattle.std.proofs.Common.{◌≡◌, ◌+◌, ◌<◌, ◌≤◌, ◌&&◌, 
 use Rattle.std.proofs.Common.{◌∙◌, add-one, arith}
 use Rattle.std.specs.Prelude.{Option, None, Some, is_some, nat_le, unwrap_or, if◌then◌else◌}
 use Rattle.std.proofs.lemmas.Bool.Decides.{nat_tests}
-use Rattle.std.proofs.lemmas.Bool.{cases_Bool}
+use Rattle.std.proofs.lemmas.Bool.{cases_Bool, lt-leb}
 use Rattle.vme_trace.specs.Instants.{any, greatest, least}
 use Rattle.vme_trace.proofs.Ranges.{any-least, least-none}
 
@@ -27,21 +27,15 @@ any-some p f n =
 pub greatest-nowhere : (p : ℕ → Bool) (f n : ℕ) → n ≤ f → greatest p f n ≡ None
 unfolding greatest
 greatest-nowhere p f zero le = refl
-greatest-nowhere p f (suc n) le = rw (not_from f n le, greatest-nowhere p f n (omega (arith, le))) refl
-  where
-    not_from : (f n : ℕ) → suc n ≤ f → nat_le f n ≡ false
-    not_from f n le = grind (arith, nat_tests)
+greatest-nowhere p f (suc n) le = rw (lt-leb f n le, greatest-nowhere p f n (omega (arith, le))) refl
 
 pub least-nowhere : (p : ℕ → Bool) (f n : ℕ) → n ≤ f → least p f n ≡ None
 unfolding least any
 least-nowhere p f n le = least-none p f n (none_from n le)
   where
-    not_from : (f n : ℕ) → suc n ≤ f → nat_le f n ≡ false
-    not_from f n le = grind (arith, nat_tests)
-
     none_from : (n : ℕ) → n ≤ f → any p f n ≡ false
     none_from zero le = refl
-    none_from (suc n) le = rw (none_from n (omega (arith, le)), not_from f n le) refl
+    none_from (suc n) le = rw (none_from n (omega (arith, le)), lt-leb f n le) refl
 
 from_first : (s i : ℕ) → s ≤ i → nat_le (s + 1) (i + 1) ≡ true
 from_first s i le = grind (arith, nat_tests)
@@ -130,9 +124,6 @@ greatest-either p q f (suc n) =
     by_tests (nat_le f n) (p n) (q n) (greatest p f n) (greatest q f n) (greatest_within p f n) (greatest_within q f n)
     (greatest-either p q f n)
   where
-    not_from : (n b : ℕ) → b < n → nat_le n b ≡ false
-    not_from n b less = grind (arith, nat_tests)
-
     is_from : (a n : ℕ) → a < n → nat_le a n ≡ true
     is_from a n less = grind (arith, nat_tests)
 
@@ -142,7 +133,7 @@ greatest-either p q f (suc n) =
 
     first_later : (y : Option ℕ) → ((i : ℕ) → y ≡ Some i → i < n) → Some n ≡ later_instant (Some n) y
     first_later None v = refl
-    first_later (Some b) v = rw (not_from n b (v b refl)) refl
+    first_later (Some b) v = rw (lt-leb n b (v b refl)) refl
 
     second_later : (x : Option ℕ) → ((i : ℕ) → x ≡ Some i → i < n) → Some n ≡ later_instant x (Some n)
     second_later None u = refl

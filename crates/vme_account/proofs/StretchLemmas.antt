@@ -2,8 +2,9 @@
 use Rattle.std.proofs.Common.{◌≡◌, ◌+◌, ◌-◌, ◌<◌, ◌≤◌, ℕ, Bool, true, false, cond, Option, None, Some, refl}
 use Rattle.std.proofs.Common.{sym, subst, ap}
 use Rattle.std.proofs.Common.{◌∙◌, arith}
-use Rattle.std.specs.Prelude.{◌||◌, ◌==◌, IfSome, nat_le, nat_lt, unwrap_or}
+use Rattle.std.specs.Prelude.{◌||◌, ◌==◌, IfSome, nat_le, unwrap_or}
 use Rattle.std.proofs.lemmas.Bool.Decides.{nat_tests}
+use Rattle.std.proofs.lemmas.Bool.{eqb-true, ltb-true}
 use Rattle.vme_trace.specs.Instants.{greatest, least}
 use Rattle.vme_trace.specs.LineNumbers.{AS, DS0, DS1, DTACK, grant, line_count}
 use Rattle.vme_trace.specs.Trace.{Trace}
@@ -21,12 +22,6 @@ use Rattle.vme_account.specs.declared.related_event.StepEvent.{StepEvent}
 use Rattle.vme_account.specs.declared.related_event.StepEvent.TheVariants.{AnswerFalls, Falls, GrantFalls, Rises}
 use Rattle.vme_account.specs.declared.related_event.StepEvent.TheVariants.{StrobeRises, TransferStarts}
 use Rattle.vme_account.specs.declared.stretch_events.StretchEvents.{StretchEvents}
-
-is_less : (a b : ℕ) → nat_lt a b ≡ true → a < b
-is_less a b h = grind (arith, nat_tests)
-
-is_equal : (a b : ℕ) → (a == b) ≡ true → a ≡ b
-is_equal a b h = grind (arith, nat_tests)
 
 itself : (n : ℕ) → (n == n) ≡ true
 itself n = grind (arith, nat_tests)
@@ -69,8 +64,8 @@ module _ (t : Trace) where
     pub last-of : (k : StepEvent) → is_kept_last k ≡ true → last_of e k
         ≡ moment t (greatest (happens t k) (s + 1) (i + 1))
     unfolding happens
-    last-of (Falls l) kept = last.falls l (is_less l line_count kept)
-    last-of (Rises l) kept = last.rises l (is_less l line_count kept)
+    last-of (Falls l) kept = last.falls l (ltb-true l line_count kept)
+    last-of (Rises l) kept = last.rises l (ltb-true l line_count kept)
     last-of StrobeRises kept =
         two (happens t (Rises DS0)) (happens t (Rises DS1)) (s + 1) (i + 1) (last_rise e DS0) (last_rise e DS1)
         (last.rises DS0 (omega arith)) (last.rises DS1 (omega arith))
@@ -151,7 +146,7 @@ module _ (t : Trace) where
         first_at (Falls DTACK) (Falls AS) (last_fall now AS) before.dtack_in_cycle (is_now.falls AS (omega arith))
         is_before.dtack_in_cycle
         ∙ ap (λ (x : ℕ). moment t (least (happens t (Falls x)) (since t (Falls AS) s (i + 1)) (i + 1)))
-        (sym (is_equal l DTACK kept))
+        (sym (eqb-true l DTACK kept))
     kept_at FirstInCycle k kept = absurd (cc kept)
 
   pub moment-kept : (e : StretchEvents) (before : LastEvents) → AreEvents t e → e.before ≡ Some before
