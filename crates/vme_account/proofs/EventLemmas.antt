@@ -5,11 +5,7 @@ use Rattle.std.specs.Prelude.{Option, None, Some, is_some, nat_le, unwrap_or, if
 use Rattle.std.proofs.lemmas.Bool.Decides.{nat_tests}
 use Rattle.std.proofs.lemmas.Bool.{cases_Bool, lt-leb}
 use Rattle.vme_trace.specs.Instants.{any, greatest, least}
-use Rattle.vme_trace.proofs.Ranges.{any-least, least-none}
-
-greatest-step : (p : ℕ → Bool) (f n : ℕ) → greatest p f (n + 1) ≡ (if nat_le f n && p n then Some n else greatest p f n)
-unfolding greatest
-greatest-step p f n = rw add-one refl
+use Rattle.vme_trace.proofs.Ranges.{any-least, least-none, greatest-step, greatest-below}
 
 least-step : (p : ℕ → Bool) (f n : ℕ) → least p f (n + 1) ≡ (if any p f n then least p f n else if nat_le f n
     && p n then Some n else None)
@@ -22,12 +18,6 @@ any-some p f n =
       | inl found ↦ let at = any-least p f n found in rw (found, at.1) refl
       | inr none ↦ rw (none, least-none p f n none) refl
     ]
-
--- there is no greatest instant in an empty range
-pub greatest-nowhere : (p : ℕ → Bool) (f n : ℕ) → n ≤ f → greatest p f n ≡ None
-unfolding greatest
-greatest-nowhere p f zero le = refl
-greatest-nowhere p f (suc n) le = rw (lt-leb f n le, greatest-nowhere p f n (omega (arith, le))) refl
 
 pub least-nowhere : (p : ℕ → Bool) (f n : ℕ) → n ≤ f → least p f n ≡ None
 unfolding least any
@@ -59,21 +49,12 @@ last-before p s i none = greatest-step p (s + 1) (i + 1) ∙ rw none (by_test (n
 abbrev pub since_last : (ℕ → Bool) → ℕ → ℕ → ℕ
 since_last q s i = unwrap_or (greatest q (s + 1) (i + 1)) (s + 1)
 
-greatest_within : (q : ℕ → Bool) (f n i : ℕ) → greatest q f n ≡ Some i → i < n
-unfolding greatest
-greatest_within q f zero i h = absurd (cc h)
-greatest_within q f (suc n) i h = by_case (nat_le f n && q n) (greatest q f n) (greatest_within q f n i) h
-  where
-    by_case : (b : Bool) (o : Option ℕ) → (o ≡ Some i → i < n) → cond b (Some n) o ≡ Some i → i < suc n
-    by_case true o rest h = let same : n ≡ i = cc h in omega (arith, same)
-    by_case false o rest h = let less = rest h in omega (arith, less)
-
 since_within : (q : ℕ → Bool) (s i : ℕ) → s ≤ i → since_last q s i ≤ i + 1
 since_within q s i le = by_case (greatest q (s + 1) (i + 1)) refl
   where
     by_case : (o : Option ℕ) → greatest q (s + 1) (i + 1) ≡ o → unwrap_or o (s + 1) ≤ i + 1
     by_case None e = omega (arith, le)
-    by_case (Some n) e = let less = greatest_within q (s + 1) (i + 1) n e in omega (arith, less)
+    by_case (Some n) e = let less = greatest-below q (s + 1) (i + 1) n e in omega (arith, less)
 
 module _ (p q : ℕ → Bool) (s i : ℕ) (le : s ≤ i) where
   abbrev first_since : ℕ → Option ℕ
@@ -113,15 +94,12 @@ later_instant None o = o
 later_instant (Some a) None = Some a
 later_instant (Some a) (Some b) = if nat_le a b then Some b else Some a
 
-pub greatest-within : (q : ℕ → Bool) (f n i : ℕ) → greatest q f n ≡ Some i → i < n
-greatest-within q f n i h = greatest_within q f n i h
-
 pub greatest-either : (p q : ℕ → Bool) (f n : ℕ) → greatest (λ i. p i || q i) f n
     ≡ later_instant (greatest p f n) (greatest q f n)
 unfolding greatest
 greatest-either p q f zero = refl
 greatest-either p q f (suc n) =
-    by_tests (nat_le f n) (p n) (q n) (greatest p f n) (greatest q f n) (greatest_within p f n) (greatest_within q f n)
+    by_tests (nat_le f n) (p n) (q n) (greatest p f n) (greatest q f n) (greatest-below p f n) (greatest-below q f n)
     (greatest-either p q f n)
   where
     is_from : (a n : ℕ) → a < n → nat_le a n ≡ true

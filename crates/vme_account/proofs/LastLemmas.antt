@@ -15,7 +15,8 @@ use Rattle.vme_trace.specs.declared.level.Level.{Level}
 use Rattle.vme_trace.specs.declared.level.Level.TheVariants.{High, Low, Unknown}
 use Rattle.vme_trace.specs.declared.step.Change.{Change}
 use Rattle.vme_trace.proofs.Changing.{level-kept, slots-kept}
-use Rattle.vme_account.proofs.EventLemmas.{greatest-nowhere, last-before, last-now, least-nowhere}
+use Rattle.vme_trace.proofs.Ranges.{greatest-empty}
+use Rattle.vme_account.proofs.EventLemmas.{last-before, last-now, least-nowhere}
 use Rattle.vme_account.proofs.EventLemmas.{since-before, since-now}
 use Rattle.vme_account.specs.LastEvents.{AreLast, first_or, handshake_after, last_after, moment, moment_at, no_events}
 use Rattle.vme_account.specs.LastEvents.{noted, now_or, unless}
@@ -293,7 +294,7 @@ none_noted l = everywhere line_count l
     everywhere (suc n) (suc l) = everywhere n l
 
 since_nothing : (t : Trace) (q : StepEvent) (s : ℕ) → since t q s s ≡ s + 1
-since_nothing t q s = rw (greatest-nowhere (happens t q) (s + 1) (s + 1) (omega arith)) refl
+since_nothing t q s = rw (greatest-empty (happens t q) (s + 1) (s + 1) (omega arith)) refl
 
 pub last-none : (t : Trace) (s : ℕ) → AreLast t s s no_events
 last-none t s = record {
@@ -308,7 +309,7 @@ last-none t s = record {
 }
   where
     nowhere : (k : StepEvent) → moment t (greatest (happens t k) (s + 1) (s + 1)) ≡ None
-    nowhere k = ap (moment t) (greatest-nowhere (happens t k) (s + 1) (s + 1) (omega arith))
+    nowhere k = ap (moment t) (greatest-empty (happens t k) (s + 1) (s + 1) (omega arith))
 
     first_nowhere : (p q : StepEvent) → moment t (least (happens t p) (since t q s s) (s + 1)) ≡ None
     first_nowhere p q = ap (λ (f : ℕ). moment t (least (happens t p) f (s + 1))) (since_nothing t q s)

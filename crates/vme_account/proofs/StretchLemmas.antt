@@ -8,7 +8,8 @@ use Rattle.std.proofs.lemmas.Bool.{eqb-true, ltb-true}
 use Rattle.vme_trace.specs.Instants.{greatest, least}
 use Rattle.vme_trace.specs.LineNumbers.{AS, DS0, DS1, DTACK, grant, line_count}
 use Rattle.vme_trace.specs.Trace.{Trace}
-use Rattle.vme_account.proofs.EventLemmas.{greatest-either, greatest-within, last-before, last-now, later_instant}
+use Rattle.vme_trace.proofs.Ranges.{greatest-below}
+use Rattle.vme_account.proofs.EventLemmas.{greatest-either, last-before, last-now, later_instant}
 use Rattle.vme_account.proofs.EventLemmas.{least-nowhere}
 use Rattle.vme_account.specs.LastEvents.{AreLast, last_fall, last_of, last_rise, later, moment, moment_at}
 use Rattle.vme_account.specs.RelatedEvents.{happens, searched, since}
@@ -114,7 +115,7 @@ module _ (t : Trace) where
             let same : greatest (happens t q) (s + 1) (i + 1 + 1) ≡ greatest (happens t q) (s + 1) (i + 1) =
             last-before (happens t q) s i none in
             ap unless_now same
-            ∙ (not_now (greatest (happens t q) (s + 1) (i + 1)) (greatest-within (happens t q) (s + 1) (i + 1))
+            ∙ (not_now (greatest (happens t q) (s + 1) (i + 1)) (greatest-below (happens t q) (s + 1) (i + 1))
             ∙ sym (ap first_since same))
 
   -- ---- all of them

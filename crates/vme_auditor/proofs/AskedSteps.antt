@@ -17,7 +17,7 @@ use Rattle.vme_trace.specs.declared.rule.Rule.{Rule}
 use Rattle.vme_trace.specs.declared.rule.Rule.TheVariants as rule
 use Rattle.vme_trace.specs.declared.step.Change.{Change}
 use Rattle.vme_trace.proofs.JudgedSpans.{spans_kept, spans_more}
-use Rattle.vme_trace.proofs.Ranges.{fails-any}
+use Rattle.vme_trace.proofs.Ranges.{fails-any, any-next}
 use Rattle.vme_monitor.specs.Along.{changes_of, memory_from, next_at}
 use Rattle.vme_monitor.specs.Ends.{end_among}
 use Rattle.vme_monitor.specs.KnownRules.{known_begin, known_end_fault, known_next, known_start_marks, known_reset_marks}
@@ -40,7 +40,6 @@ use Rattle.vme_dtb.specs.Machine.{dtb_begin, dtb_end_fault, dtb_start_marks, dtb
 use Rattle.vme_dtb.specs.declared.memory.HandshakeMemory.{HandshakeMemory}
 use Rattle.vme_dtb.proofs.HandshakeMeaning.{Holds}
 use Rattle.vme_dtb.proofs.HandshakeInstants.{holds_at}
-use Rattle.vme_dtb.proofs.Searches.{any_more}
 use Rattle.vme_dtb.proofs.StillSteps.{machine_step_is}
 use Rattle.vme_audit.specs.AskedRules.{happens}
 use Rattle.vme_auditor.specs.Audited.{events_by, events_in, with_stretch}
@@ -213,7 +212,7 @@ module _ (t : Trace) (ok : malformed_step t ≡ None) (few : t.opening.slots ≤
         let later : min span.end (suc (suc n)) ≡ suc (suc n) = omega arith in
         let now : suc n ≡ min span.end (suc n) = omega arith in
         ap (any (happens t span r) (span.start + 1)) later
-        ∙ any_more (happens t span r) (span.start + 1) (suc n) (omega arith)
+        ∙ any-next (happens t span r) (span.start + 1) (suc n) (omega arith)
         ∙ ap (λ k. any (happens t span r) (span.start + 1) k || happens t span r (suc n)) now
 
     all_over : (n : ℕ) (spans : List Stretch) → AreOver n spans → list_any (happened_by (suc n)) spans

@@ -9,6 +9,7 @@ use Rattle.std.proofs.lemmas.Bool.{le-leb, ltb-true, ltb-false, and_parts, and_f
 use Rattle.std.proofs.lemmas.Bool.{cases_lt}
 use Rattle.vme_trace.proofs.OpenTransfers.{in_transfer-is, ReadsStrobes}
 use Rattle.vme_trace.proofs.Ranges.{any-holds, fails-any, any-step, any-fails, clash, any-least, least-found}
+use Rattle.vme_trace.proofs.Ranges.{greatest-empty, those-empty}
 use Rattle.vme_trace.proofs.JudgedSpans.{span_reads}
 use Rattle.vme_cert.specs.Vocabulary.{AS, DS0, DS1, DTACK, High, Level, Low, Stretch, Trace, Unknown, WRITE}
 use Rattle.vme_cert.specs.Vocabulary.{answer_falls, answers, answers_of, answers_write, any, class_at, cycle_starts}
@@ -25,7 +26,7 @@ use Rattle.vme_cert.specs.declared.state.Transfer.{Transfer}
 use Rattle.vme_cert.specs.declared.state.Cycle.{Cycle}
 use Rattle.vme_cert.proofs.Ranges.{IsGreatest, greatest-found, none-shorter}
 use Rattle.vme_cert.proofs.Ranges.{after_start, greatest-here, greatest-not, none-step, any-start, last_or_before}
-use Rattle.vme_cert.proofs.Ranges.{greatest-none-any, those-empty, order_of, greatest-none}
+use Rattle.vme_cert.proofs.Ranges.{greatest-none-any, order_of}
 use Rattle.vme_cert.proofs.Ranges.{decide, case_of, later, de_morgan, only-last, unless}
 use Rattle.vme_cert.proofs.Instant.{address-known}
 
@@ -545,7 +546,7 @@ module _ (t : Trace) (span : Stretch) (p q : ℕ → Bool) (j : ℕ) (judged : i
 module _ (t : Trace) (span : Stretch) (p q : ℕ → Bool) where
   last-start : last_before t span p (span.start + 1) ≡ span.start
   unfolding last_before
-  last-start = ap (λ o. unwrap_or o span.start) (greatest-none p (span.start + 1) (span.start + 1) (omega arith))
+  last-start = ap (λ o. unwrap_or o span.start) (greatest-empty p (span.start + 1) (span.start + 1) (omega arith))
 
   pub since-start : any q (last_before t span p (span.start + 1)) (span.start + 1) ≡ q span.start
   since-start = ap (λ k. any q k (span.start + 1)) last-start

@@ -6,8 +6,8 @@ use Rattle.std.proofs.lemmas.Bool.Decides.{nat_tests}
 use Rattle.std.proofs.lemmas.Bool.{leb-true, le-leb, ltb-true, lt-ltb, le-ltb, and_parts, and_right}
 use Rattle.std.proofs.Math.Bool.{and-false}
 use Rattle.vme_trace.proofs.Ranges.{any-fails, fails-any, clash, searches, any-holds, any-step, least-found}
-use Rattle.vme_trace.proofs.Ranges.{least-none-any, those-none}
-use Rattle.vme_cert.specs.Vocabulary.{Stretch, any, greatest, is_judged, least, none, those}
+use Rattle.vme_trace.proofs.Ranges.{least-none-any}
+use Rattle.vme_cert.specs.Vocabulary.{Stretch, any, greatest, is_judged, least, none}
 
 -- ---- Tests on numbers, and two tests together.
 
@@ -160,17 +160,6 @@ any-start p f n h = fails-any p f n (λ i a b. absurd (omega arith))
 
 pub any-more : (p : ℕ → Bool) (f n : ℕ) → any p f n ≡ false → p n ≡ false → any p f (n + 1) ≡ false
 any-more p f n none fails = any-step p f n ∙ rw (none, fails) (and-false (nat_le f n))
-
-chosen_below : (f n : ℕ) (b : Bool) (o : Option ℕ) → n < f → cond (nat_le f n && b) (Some n) o ≡ o
-chosen_below f n b o k = grind (arith, nat_tests)
-
-pub greatest-none : (p : ℕ → Bool) (f n : ℕ) → n ≤ f → greatest p f n ≡ None
-unfolding greatest
-greatest-none p f zero h = refl
-greatest-none p f (suc n) h = chosen_below f n (p n) (greatest p f n) (omega arith) ∙ greatest-none p f n (omega arith)
-
-pub those-empty : (p : ℕ → Bool) (f n : ℕ) → n ≤ f → those p f n ≡ []
-those-empty p f n h = those-none p f n (any-start p f n h)
 
 -- there is a least number that meets `p` exactly if some number does
 pub any-first : (p : ℕ → Bool) (f n : ℕ) → is_some (least p f n) ≡ any p f n

@@ -1,7 +1,7 @@
 -- What the memory (state of the automaton) means at an instant, and that a step keeps it right.
-use Rattle.std.proofs.Common.{◌≡◌, ℕ, zero, suc, ◌+◌, ◌<◌, ◌≤◌, Bool, true, false, ◌||◌, ◌&&◌, not, refl, sym, ◌∙◌, ap}
-use Rattle.std.proofs.Common.{arith, cond, add-one, lit<}
-use Rattle.std.specs.Prelude.{Option, Some, nat_le}
+use Rattle.std.proofs.Common.{◌≡◌, ℕ, suc, ◌+◌, ◌<◌, ◌≤◌, Bool, true, false, ◌||◌, ◌&&◌, not, refl, sym, ◌∙◌, ap}
+use Rattle.std.proofs.Common.{arith, cond, lit<}
+use Rattle.std.specs.Prelude.{Some, nat_le}
 use Rattle.std.proofs.lemmas.Bool.Decides.{nat_tests}
 use Rattle.std.proofs.lemmas.Bool.{not-false, not-true, or_parts}
 use Rattle.vme_trace.specs.Edges.{answer_between, falls_between, strobe_low_in, strobes_high_in}
@@ -15,7 +15,7 @@ use Rattle.vme_trace.specs.Transfers.{strobes_high, is_answer}
 use Rattle.vme_trace.specs.Cycles.{cycle_starts, cycle_of, in_cycle}
 use Rattle.vme_trace.specs.declared.level.Level.{Level}
 use Rattle.vme_trace.specs.declared.level.Level.TheVariants.{Low, High, Unknown}
-use Rattle.vme_trace.proofs.Ranges.{any-fails, clash, fails-any}
+use Rattle.vme_trace.proofs.Ranges.{any-fails, clash, fails-any, greatest-step, greatest-below, any-suc}
 use Rattle.vme_trace.proofs.OpenTransfers.{is_judged-holds, suc-sub-one}
 use Rattle.vme_monitor.specs.Tracked.{IsTransferPhase}
 use Rattle.vme_monitor.specs.Tracking.{answered_by, entered, is_unanswered}
@@ -26,26 +26,6 @@ use Rattle.vme_monitor.proofs.TrackedTransfers.{says_start, tracked_is, is_answe
 use Rattle.vme_chains.specs.AcknowledgeRules.{acknowledge_begin, acknowledged_after, changes_memory, changes_strobes}
 use Rattle.vme_chains.specs.AcknowledgeRules.{is_acknowledged, memory_after}
 use Rattle.vme_chains.specs.declared.acknowledge.Acknowledgement.{Acknowledgement}
-
--- the greatest number in a range that is longer by one
-greatest-step : (p : ℕ → Bool) (f n : ℕ) → greatest p f (n + 1) ≡ cond (nat_le f n && p n) (Some n) (greatest p f n)
-unfolding greatest
-greatest-step p f n = rw add-one refl
-
-chosen : (n i : ℕ) (b : Bool) (o : Option ℕ) → (o ≡ Some i → i < n) → cond b (Some n) o ≡ Some i → i < suc n
-chosen n i true o rest e = let same : n ≡ i = cc in omega arith
-chosen n i false o rest e = let below : i < n = rest e in omega arith
-
--- the greatest number is in the range
-greatest-below : (p : ℕ → Bool) (f n i : ℕ) → greatest p f n ≡ Some i → i < n
-unfolding greatest
-greatest-below p f zero i e = absurd (cc)
-greatest-below p f (suc n) i e = chosen n i (nat_le f n && p n) (greatest p f n) (λ found. greatest-below p f n i found)
-    e
-
-any_suc : (p : ℕ → Bool) (f n : ℕ) → any p f (suc n) ≡ (any p f n || (nat_le f n && p n))
-unfolding any
-any_suc p f n = refl
 
 module _ (t : Trace) (span : Stretch) where
   -- a transfer is answered by DTACK* at r
@@ -148,7 +128,7 @@ module _ (t : Trace) (span : Stretch) where
             start = o.start;
             last = next_cycle ∙ rw no_fall o.last;
             reply =
-                any_suc acknowledges o.start (suc n)
+                any-suc acknowledges o.start (suc n)
                 ∙ rw (
                   o.reply,
                   within o.start n (start_within n o.start o.last),
@@ -171,7 +151,7 @@ module _ (t : Trace) (span : Stretch) where
             start = suc n;
             last = next_cycle ∙ rw fall refl;
             reply =
-                any_suc acknowledges (suc n) (suc n)
+                any-suc acknowledges (suc n) (suc n)
                 ∙ rw (empty, itself (suc n), acknowledges_is m.transfer says, fresh, on) refl;
           }
         where

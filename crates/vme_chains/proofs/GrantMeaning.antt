@@ -3,24 +3,19 @@
 use Rattle.std.proofs.Common.{◌≡◌, ℕ, suc, ◌+◌, ◌<◌, ◌≤◌, Bool, true, false, ◌&&◌, ◌||◌, not, refl, ◌∙◌, ap, arith}
 use Rattle.std.proofs.Common.{cond}
 use Rattle.std.proofs.Math.Bool.{or-false}
-use Rattle.std.proofs.lemmas.Bool.{le-leb}
 use Rattle.vme_trace.specs.Instants.{any}
 use Rattle.vme_trace.specs.LineNumbers.{BBSY, BR}
 use Rattle.vme_trace.specs.Trace.{Trace}
 use Rattle.vme_trace.specs.Signals.{low, falls}
 use Rattle.vme_trace.specs.Judged.{Stretch}
 use Rattle.vme_trace.specs.Tenures.{grant_falls, last_before}
-use Rattle.vme_trace.proofs.Ranges.{fails-any, any-holds}
+use Rattle.vme_trace.proofs.Ranges.{fails-any, any-holds, any-next}
 use Rattle.vme_chains.specs.GrantMemory.{is_in}
 use Rattle.vme_chains.specs.declared.grant_memory.Arbitration.{Arbitration}
 use Rattle.vme_chains.proofs.GrantRanges.{last-start, last-here, last-kept, last-within}
 
-any_suc : (p : ℕ → Bool) (f n : ℕ) → f ≤ n → any p f (suc n) ≡ (any p f n || p n)
-unfolding any
-any_suc p f n from = ap (λ b. any p f n || (b && p n)) (le-leb f n from)
-
 any_one : (p : ℕ → Bool) (n : ℕ) → any p n (suc n) ≡ p n
-any_one p n = any_suc p n n (omega arith) ∙ ap (λ b. b || p n) (fails-any p n n (λ i a b. absurd (omega arith)))
+any_one p n = any-next p n n (omega arith) ∙ ap (λ b. b || p n) (fails-any p n n (λ i a b. absurd (omega arith)))
 
 module _ (t : Trace) (span : Stretch) where
   -- level l was requested at some instant up to n, from the last grant or the start of the span on, that instant
@@ -50,13 +45,13 @@ module _ (t : Trace) (span : Stretch) where
       (suc (suc n)) ≡ (requested_since n l || low t (BR l) (suc n))
   requested-more n l from =
       let h = last-within t span (grant_falls t) n from in
-      any_suc (low t (BR l)) (last_before t span (grant_falls t) (suc n)) (suc n) (omega arith)
+      any-next (low t (BR l)) (last_before t span (grant_falls t) (suc n)) (suc n) (omega arith)
 
   pub granted-more : (n : ℕ) → span.start ≤ n → any (grant_falls t) (last_before t span (falls t BBSY) (suc n) + 1)
       (suc (suc n)) ≡ (granted_since n || grant_falls t (suc n))
   granted-more n from =
       let h = last-within t span (falls t BBSY) n from in
-      any_suc (grant_falls t) (last_before t span (falls t BBSY) (suc n) + 1) (suc n) (omega arith)
+      any-next (grant_falls t) (last_before t span (falls t BBSY) (suc n) + 1) (suc n) (omega arith)
 
   -- `requested_since` at n + 1, by what it is at n
   pub requested-next : (n l : ℕ) → span.start ≤ n → requested_since (suc n) l ≡ cond (grant_falls t (suc n))

@@ -1,20 +1,18 @@
 -- The greatest number of a range with some property, and the last instant with it before another instant.
 use Rattle.std.proofs.Common.{◌≡◌, ℕ, zero, suc, ◌+◌, ◌<◌, ◌≤◌, Bool, true, false, ◌&&◌, refl, ◌∙◌, arith, inl, inr}
 use Rattle.std.proofs.Common.{◌⊎◌}
-use Rattle.std.specs.Prelude.{None, Some, nat_le}
+use Rattle.std.specs.Prelude.{Some, nat_le}
 use Rattle.std.proofs.lemmas.Bool.Decides.{nat_tests}
 use Rattle.std.proofs.lemmas.Bool.{and_right}
 use Rattle.vme_trace.specs.Instants.{greatest}
 use Rattle.vme_trace.specs.Judged.{Stretch}
 use Rattle.vme_trace.specs.Tenures.{last_before}
 use Rattle.vme_trace.specs.Trace.{Trace}
+use Rattle.vme_trace.proofs.Ranges.{greatest-empty}
 use Rattle.vme_chains.proofs.GrantTests.{start_or_after}
 
 in_range : (p : ℕ → Bool) (f n : ℕ) → f ≤ n → p n ≡ true → (nat_le f n && p n) ≡ true
 in_range p f n from h = grind (arith, nat_tests)
-
-out_of_range : (f n : ℕ) (b : Bool) → n < f → (nat_le f n && b) ≡ false
-out_of_range f n b past = grind (arith, nat_tests)
 
 pub greatest-here : (p : ℕ → Bool) (f n : ℕ) → f ≤ n → p n ≡ true → greatest p f (suc n) ≡ Some n
 unfolding greatest
@@ -23,11 +21,6 @@ greatest-here p f n from h = rw (in_range p f n from h) refl
 pub greatest-before : (p : ℕ → Bool) (f n : ℕ) → p n ≡ false → greatest p f (suc n) ≡ greatest p f n
 unfolding greatest
 greatest-before p f n h = rw (and_right (nat_le f n) (p n) h) refl
-
-pub greatest-empty : (p : ℕ → Bool) (f n : ℕ) → n ≤ f → greatest p f n ≡ None
-unfolding greatest
-greatest-empty p f zero h = refl
-greatest-empty p f (suc n) h = rw (out_of_range f n (p n) (omega arith)) (greatest-empty p f n (omega arith))
 
 last_or_before : (i n : ℕ) → i < suc n → (i ≡ n) ⊎ (i < n)
 last_or_before i n h = grind arith

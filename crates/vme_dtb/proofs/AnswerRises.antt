@@ -11,9 +11,9 @@ use Rattle.vme_trace.specs.Transfers.{strobe_rises}
 use Rattle.vme_trace.specs.Tenures.{last_before}
 use Rattle.vme_trace.specs.declared.level.Level.{Level}
 use Rattle.vme_trace.specs.declared.level.Level.TheVariants.{Low, High, Unknown}
-use Rattle.vme_trace.proofs.Ranges.{fails-any}
+use Rattle.vme_trace.proofs.Ranges.{fails-any, any-next}
 use Rattle.vme_trace.proofs.OpenTransfers.{suc-sub-one}
-use Rattle.vme_dtb.proofs.Searches.{any_more, greatest_more, greatest_within}
+use Rattle.vme_dtb.proofs.Searches.{greatest_more, greatest_within}
 
 module _ (t : Trace) (span : Stretch) where
   -- the line l is low at n, and a strobe rose at its last fall or after it
@@ -71,10 +71,10 @@ module _ (t : Trace) (span : Stretch) where
   may_rise_suc l n from readable =
       by_levels (level t l n) (level t l (suc n)) _ _ (strobe_rises t (suc n)) readable
       (λ e. ap (λ k. any (strobe_rises t) k (suc (suc n))) (last_suc (falls t l) n from ∙ kept e)
-      ∙ any_more (strobe_rises t) (last_before t span (falls t l) (suc n)) (suc n)
+      ∙ any-next (strobe_rises t) (last_before t span (falls t l) (suc n)) (suc n)
       (later n (last_before t span (falls t l) (suc n)) (last_within (falls t l) n from)))
       (λ e. ap (λ k. any (strobe_rises t) k (suc (suc n))) (last_suc (falls t l) n from ∙ anew e)
-      ∙ any_more (strobe_rises t) (suc n) (suc n) (omega arith) ∙ false_first (any (strobe_rises t) (suc n) (suc n))
+      ∙ any-next (strobe_rises t) (suc n) (suc n) (omega arith) ∙ false_first (any (strobe_rises t) (suc n) (suc n))
       (strobe_rises t (suc n)) (fails-any (strobe_rises t) (suc n) (suc n) (λ i a b. absurd (omega arith))))
     where
       later : (n k : ℕ) → k ≤ n → k ≤ suc n
@@ -99,7 +99,7 @@ module _ (t : Trace) (span : Stretch) where
       ≡ (rises t l (suc n) && not (may_rise_at l n || strobe_rises t (suc n)))
   unfolding low
   held_is l n from =
-      let more = any_more (strobe_rises t) (last_before t span (falls t l) (suc n)) (suc n)
+      let more = any-next (strobe_rises t) (last_before t span (falls t l) (suc n)) (suc n)
       (later n (last_before t span (falls t l) (suc n)) (last_within (falls t l) n from)) in
       rw (rises_here l n, add-one (suc n), more) (by_level (level t l n) (is_high (level t l (suc n)))
       (any (strobe_rises t) (last_before t span (falls t l) (suc n)) (suc n)) (strobe_rises t (suc n)))

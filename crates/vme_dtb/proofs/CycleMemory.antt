@@ -12,6 +12,7 @@ use Rattle.vme_trace.specs.Rules.{is_single, is_block_class, is_interrupt, has_e
 use Rattle.vme_trace.specs.Rules.{changes_direction, differ}
 use Rattle.vme_trace.specs.declared.class.Class.{Class}
 use Rattle.vme_trace.specs.declared.class.Class.TheVariants as class
+use Rattle.vme_trace.proofs.Ranges.{greatest-empty, those-empty}
 use Rattle.vme_dtb.specs.CycleState.{unanswered_of, cycle_entered, after_answer, is_read_modify_write_broken}
 use Rattle.vme_dtb.specs.CycleState.{is_direction_changed}
 use Rattle.vme_dtb.specs.CycleState.{is_interrupt_acknowledge, is_answered_interrupt_acknowledge}
@@ -20,7 +21,7 @@ use Rattle.vme_dtb.specs.declared.cycle.CyclePhase.{CyclePhase}
 use Rattle.vme_dtb.specs.declared.cycle.CyclePhase.TheVariants.{Free, Single, SingleRead, SingleDone, Block}
 use Rattle.vme_dtb.specs.declared.cycle.CyclePhase.TheVariants.{BlockReading}
 use Rattle.vme_dtb.specs.declared.cycle.CyclePhase.TheVariants.{BlockWriting, Interrupt, InterruptDone}
-use Rattle.vme_dtb.proofs.Searches.{greatest_more, greatest_before, greatest_within, those_before, those_more}
+use Rattle.vme_dtb.proofs.Searches.{greatest_more, greatest_within, those_more}
 
 module _ (t : Trace) (span : Stretch) where
   -- the phase of a cycle of the class with answers at these instants
@@ -102,12 +103,12 @@ module _ (t : Trace) (span : Stretch) where
 
   answers_none : (i : ℕ) → answers_of t span i i ≡ []
   unfolding answers_of
-  answers_none i = those_before (is_answer t span) i i (omega arith)
+  answers_none i = those-empty (is_answer t span) i i (omega arith)
 
   -- at the start of the span no cycle has started, so its phase is `Free`
   pub cycle_start : cycle_after span.start ≡ Free
   unfolding cycle_of
-  cycle_start = ap (λ o. told_of o (suc span.start)) (greatest_before (cycle_starts t span) (span.start + 1)
+  cycle_start = ap (λ o. told_of o (suc span.start)) (greatest-empty (cycle_starts t span) (span.start + 1)
       (span.start + 1) (omega arith))
 
   -- instant n + 1 is in the cycle that starts there, or else in that of instant n

@@ -10,7 +10,7 @@ use Rattle.vme_trace.specs.Signals.{falls}
 use Rattle.vme_trace.specs.Judged.{Stretch}
 use Rattle.vme_trace.specs.Transfers.{strobes_high, answer_falls, transfer_starts, lasts, is_answered, answers}
 use Rattle.vme_trace.specs.Transfers.{in_transfer}
-use Rattle.vme_trace.proofs.Ranges.{any-fails, fails-any, clash}
+use Rattle.vme_trace.proofs.Ranges.{any-fails, fails-any, clash, any-next}
 use Rattle.vme_trace.proofs.OpenTransfers.{suc-sub-one, is_judged-holds, ReadsStrobes, in_transfer-is}
 use Rattle.vme_trace.proofs.OpenTransfers.{in_transfer-levels}
 use Rattle.vme_monitor.specs.Tracked.{StaysOpen, IsTransferPhase}
@@ -21,7 +21,6 @@ use Rattle.vme_monitor.proofs.TrackedTransfers.{IsIn, Enters, entered_is}
 use Rattle.vme_monitor.specs.Tracking.{entered}
 use Rattle.vme_trace.specs.Trace.{levels_at}
 use Rattle.vme_dtb.specs.Machine.{is_replied}
-use Rattle.vme_dtb.proofs.Searches.{any_more}
 
 and_first : (a b : Bool) → (a && true) ≡ false → (a && b) ≡ false
 and_first true b h = absurd (cc)
@@ -92,7 +91,7 @@ module _ (t : Trace) (span : Stretch) (reads : ReadsStrobes t span) (n : ℕ) (f
   unfolding is_answered
   open_answered i w a o =
       ap (any (λ r. lasts t span i r && answer_falls t r) i) (add-one (suc n))
-      ∙ any_more (λ r. lasts t span i r && answer_falls t r) i (suc n) (omega (arith, o.within))
+      ∙ any-next (λ r. lasts t span i r && answer_falls t r) i (suc n) (omega (arith, o.within))
       ∙ rw (o.reply, lasts_now i w a o) refl
 
   not_yet : (b : Bool) → (nat_lt (suc n) (suc n) && b) ≡ false

@@ -1,22 +1,13 @@
 -- Searches of a range that gets longer by one number at its end.
-use Rattle.std.proofs.Common.{◌≡◌, ℕ, zero, suc, ◌<◌, ◌≤◌, Bool, true, false, ◌&&◌, ◌||◌, [], ◌∷◌, ◌++◌, refl, arith}
-use Rattle.std.proofs.Common.{Option, Some, None, cond, inl, inr, ◌⊎◌}
+use Rattle.std.proofs.Common.{◌≡◌, ℕ, zero, suc, ◌<◌, ◌≤◌, Bool, true, false, ◌&&◌, [], ◌∷◌, ◌++◌, refl, arith}
+use Rattle.std.proofs.Common.{Option, Some, cond, inl, inr, ◌⊎◌}
 use Rattle.std.specs.Prelude.{nat_le}
-use Rattle.std.proofs.lemmas.Bool.{and_parts, le-leb, leb-true, lt-leb}
-use Rattle.vme_trace.specs.Instants.{any, greatest, those}
-
-pub any_more : (p : ℕ → Bool) (f n : ℕ) → f ≤ n → any p f (suc n) ≡ (any p f n || p n)
-unfolding any
-any_more p f n h = rw (le-leb f n h) refl
+use Rattle.std.proofs.lemmas.Bool.{and_parts, le-leb, leb-true}
+use Rattle.vme_trace.specs.Instants.{greatest, those}
 
 pub greatest_more : (p : ℕ → Bool) (f n : ℕ) → f ≤ n → greatest p f (suc n) ≡ cond (p n) (Some n) (greatest p f n)
 unfolding greatest
 greatest_more p f n h = rw (le-leb f n h) refl
-
-pub greatest_before : (p : ℕ → Bool) (f n : ℕ) → n ≤ f → greatest p f n ≡ None
-unfolding greatest
-greatest_before p f zero h = refl
-greatest_before p f (suc n) h = rw (lt-leb f n (omega arith)) (greatest_before p f n (omega arith))
 
 chosen : (b : Bool) (x y z : Option ℕ) → cond b x y ≡ z → ((b ≡ true) × (x ≡ z)) ⊎ ((b ≡ false) × (y ≡ z))
 chosen true x y z h = inl (refl, h)
@@ -39,11 +30,6 @@ greatest_within p f (suc n) i h =
           let found = greatest_within p f n i earlier.1 in
           (found.0, omega (arith, found.1))
     ]
-
-pub those_before : (p : ℕ → Bool) (f n : ℕ) → n ≤ f → those p f n ≡ []
-unfolding those
-those_before p f zero h = refl
-those_before p f (suc n) h = rw (lt-leb f n (omega arith), those_before p f n (omega arith)) refl
 
 pub those_more : (p : ℕ → Bool) (f n : ℕ) → f ≤ n → those p f (suc n) ≡ those p f n ++ cond (p n) (n ∷ []) []
 unfolding those

@@ -1,7 +1,7 @@
 -- At each listed instant at most one tenure, one cycle and one transfer begin, each with a row that its form allows.
-use Rattle.std.proofs.Common.{◌≡◌, ◌≢◌, ℕ, zero, suc, ◌+◌, ◌-◌, ◌^◌, ◌<◌, ◌≤◌, ◌==◌, Bool, true, false, ◌&&◌, not, cond}
+use Rattle.std.proofs.Common.{◌≡◌, ◌≢◌, ℕ, ◌+◌, ◌-◌, ◌^◌, ◌<◌, ◌≤◌, ◌==◌, Bool, true, false, ◌&&◌, not, cond}
 use Rattle.std.proofs.Common.{List, [], ◌∷◌, refl, arith}
-use Rattle.std.specs.Prelude.{Option, None, Some, nat_le, option_map, option_and_then, if◌then◌else◌}
+use Rattle.std.specs.Prelude.{Option, None, Some, option_map, option_and_then, if◌then◌else◌}
 use Rattle.std.proofs.lemmas.Bool.Decides.{nat_tests}
 use Rattle.std.proofs.lemmas.Bool.{and_from, not-false}
 use Rattle.vme_trace.specs.Instants.{greatest, least}
@@ -17,7 +17,7 @@ use Rattle.vme_trace.specs.Tenures.{has_reached, taken_grant, tenure_level, tenu
 use Rattle.vme_trace.specs.Rules.{breaks, is_broken, is_option_equal}
 use Rattle.vme_trace.specs.declared.class.Class.TheVariants as class
 use Rattle.vme_trace.specs.declared.rule.Rule.TheVariants.{U2, B4}
-use Rattle.vme_trace.proofs.Ranges.{any-least, least-found}
+use Rattle.vme_trace.proofs.Ranges.{any-least, least-found, greatest-below}
 use Rattle.vme_trace.specs.declared.data.Lanes.{Lanes}
 use Rattle.vme_listing.specs.Places.{is_allowed_data, has_data, is_row}
 use Rattle.vme_listing.specs.Recorded.{answered_row, cycle_row, cycle_rows, data_of, direction_of, tenure_row}
@@ -34,16 +34,6 @@ abbrev pub AtMostOne : ℕ → ℕ → List Row → Type 0
 AtMostOne i kind [] = Unit {0}
 AtMostOne i kind (row ∷ []) = IsMiddle i kind row
 AtMostOne i kind (row ∷ next ∷ rows) = ⊥
-
-greatest-below : (p : ℕ → Bool) (first n i : ℕ) → greatest p first n ≡ Some i → i < n
-unfolding greatest
-greatest-below p first zero i e = absurd (cc)
-greatest-below p first (suc n) i e = chosen (nat_le first n && p n) (λ h. greatest-below p first n i h) e
-  where
-    chosen : (b : Bool) → (greatest p first n ≡ Some i → i < n) → cond b (Some n) (greatest p first n) ≡ Some i
-        → i < suc n
-    chosen true before h = let same : n ≡ i = cc in omega arith
-    chosen false before h = omega (arith, before h)
 
 -- the slot of a tenure is one of the backplane, or one more than the last
 slot_within : (t : Trace) (i slot : ℕ) → tenure_slot t i ≡ Some slot → (1 ≤ slot) × (slot ≤ t.opening.slots + 1)

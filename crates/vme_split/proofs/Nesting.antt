@@ -1,5 +1,5 @@
 -- What is listed keeps the rules.
-use Rattle.std.proofs.Common.{lit<, ◌≡◌, ◌≢◌, ℕ, zero, suc, ◌+◌, ◌-◌, ◌<◌, ◌≤◌, Bool, true, false, ◌&&◌, ◌||◌, not}
+use Rattle.std.proofs.Common.{lit<, ◌≡◌, ◌≢◌, ℕ, ◌+◌, ◌-◌, ◌<◌, ◌≤◌, Bool, true, false, ◌&&◌, ◌||◌, not}
 use Rattle.std.proofs.Common.{cond, if◌then◌else◌, refl, sym, ◌∙◌, ap, arith, subst, List, [], ◌∷◌, ◌++◌, map, flat_map}
 use Rattle.std.proofs.Common.{inl, inr, ◌⊎◌, All, Contains}
 use Rattle.std.specs.Prelude.{Option, None, Some, IfSome, ◌==◌, nat_lt, nat_le, option_map, option_and_then}
@@ -22,6 +22,7 @@ use Rattle.vme_trace.specs.declared.class.Class.{Class}
 use Rattle.vme_trace.specs.declared.class.Class.TheVariants as class
 use Rattle.vme_trace.proofs.OpenTransfers.{in_transfer-is}
 use Rattle.vme_trace.proofs.Ranges.{every-more, IsLeast, any-fails, fails-any, least-found, least-none-any, clash}
+use Rattle.vme_trace.proofs.Ranges.{greatest-below}
 use Rattle.vme_listing.specs.Recorded.{cycle_row, transfer_row, answered_row, rows_before}
 use Rattle.vme_listing.specs.declared.row.Row.{Row}
 use Rattle.vme_listing.specs.declared.row.Row.TheVariants as row
@@ -41,16 +42,6 @@ use Rattle.vme_split.proofs.WrittenData.{data_shown}
 use Rattle.vme_split.proofs.Codes.{classes_of_codes, modifiers_shown, addresses_shown}
 use Rattle.vme_split.proofs.EachRow.{contains_those, all_those, all_before, all_tenure, all_tenure_at, all_cycle}
 use Rattle.vme_split.proofs.EachRow.{all_transfer}
-
-greatest-below : (p : ℕ → Bool) (first n i : ℕ) → greatest p first n ≡ Some i → i < n
-unfolding greatest
-greatest-below p first zero i e = absurd (cc)
-greatest-below p first (suc n) i e = chosen (nat_le first n && p n) (λ h. greatest-below p first n i h) e
-  where
-    chosen : (b : Bool) → (greatest p first n ≡ Some i → i < n) → cond b (Some n) (greatest p first n) ≡ Some i
-        → i < suc n
-    chosen true before h = let same : n ≡ i = cc in omega arith
-    chosen false before h = omega (arith, before h)
 
 -- the slot of a tenure is one of the backplane, or one more than the last
 slot_within : (t : Trace) (i slot : ℕ) → tenure_slot t i ≡ Some slot → (1 ≤ slot) × (slot ≤ t.opening.slots + 1)

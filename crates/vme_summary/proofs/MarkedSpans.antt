@@ -10,6 +10,7 @@ use Rattle.vme_trace.specs.Trace.{Trace, levels_at}
 use Rattle.vme_trace.specs.Signals.{low}
 use Rattle.vme_trace.specs.Judged.{Stretch, is_reset_at}
 use Rattle.vme_trace.specs.Cycles.{cycle_starts}
+use Rattle.vme_trace.proofs.Ranges.{greatest-empty}
 use Rattle.vme_listing.specs.Recorded.{cycle_rows, rows_before, tenure_rows, transfer_rows}
 use Rattle.vme_listing.specs.declared.row.Row.{Row}
 use Rattle.vme_listing.specs.declared.row.Row.TheVariants as row
@@ -18,7 +19,6 @@ use Rattle.vme_monitor.specs.Shows.{marks_on, marks_until}
 use Rattle.vme_monitor.specs.declared.mark.MarkKind.TheVariants as kind
 use Rattle.vme_monitor.specs.declared.mark.StepMarks.{StepMarks}
 use Rattle.vme_monitor.specs.declared.mark.Mark.{Mark}
-use Rattle.vme_dtb.proofs.Searches.{greatest_before}
 use Rattle.vme_monitor.specs.KnownRules.{known_reset_marks}
 use Rattle.vme_summary.specs.AllShown.{all_over, all_shown}
 use Rattle.vme_summary.specs.MarkedRows.{first_instant, is_cycle_end, is_tenure_end, opening_marks, rows_of}
@@ -281,7 +281,7 @@ module _ (t : Trace) (span : Stretch) where
         ∷ rows_before t span end end
     rows_are after =
         ap (λ l. rows_of l (marks_from (shown_at t span) 0 end))
-        (sym (greatest_before (cycle_starts t span) (span.start + 1) 0 (omega arith)))
+        (sym (greatest-empty (cycle_starts t span) (span.start + 1) 0 (omega arith)))
         ∙ (rows_found end 0 whole
         ∙ (from_start end 0 (omega arith) (omega arith)
         ∙ ap (λ k. row.Start span.start ∷ rows_before t span end k) whole))

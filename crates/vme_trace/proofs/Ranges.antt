@@ -3,13 +3,22 @@ use Rattle.std.proofs.Common.{◌≡◌, ℕ, zero, suc, ◌+◌, ◌<◌, ◌�
 use Rattle.std.proofs.Common.{arith, add-one, inl, inr, ◌⊎◌, cond, subst, [], ◌∷◌, ◌++◌, append_assoc, append-nil}
 use Rattle.std.specs.Prelude.{Option, None, Some, nat_le}
 use Rattle.std.proofs.lemmas.Bool.Decides.{nat_tests}
-use Rattle.std.proofs.lemmas.Bool.{and_parts, and_right, or_parts, le-leb, leb-true}
-use Rattle.vme_trace.specs.Instants.{any, every, least, those}
+use Rattle.std.proofs.lemmas.Bool.{and_parts, and_right, le-leb, leb-true, lt-leb, or_parts}
+use Rattle.vme_trace.specs.Instants.{any, every, greatest, least, those}
 
 -- `any` over a range with one more number, n, at its end
 pub any-step : (p : ℕ → Bool) (f n : ℕ) → any p f (n + 1) ≡ (any p f n || (nat_le f n && p n))
 unfolding any
 any-step p f n = rw add-one refl
+
+pub any-suc : (p : ℕ → Bool) (f n : ℕ) → any p f (suc n) ≡ (any p f n || (nat_le f n && p n))
+unfolding any
+any-suc p f n = refl
+
+-- where n isn't before the range
+pub any-next : (p : ℕ → Bool) (f n : ℕ) → f ≤ n → any p f (suc n) ≡ (any p f n || p n)
+unfolding any
+any-next p f n h = rw (le-leb f n h) refl
 
 or_holds : (p : ℕ → Bool) (f n i : ℕ) (a : Bool) → f ≤ i → i < suc n → p i ≡ true → (i < n → a ≡ true)
     → (a || (nat_le f n && p n)) ≡ true
@@ -112,6 +121,27 @@ least-found p f (suc n) i h =
           subst (λ k. IsLeast p f (suc n) k) here.1
           (record { first = leb-true f n both.0; below = omega arith; holds = both.1; least = none.0 })
     ]
+
+-- `greatest` over a range with one more number, n, at its end
+pub greatest-step : (p : ℕ → Bool) (f n : ℕ) → greatest p f (n + 1) ≡ cond (nat_le f n && p n) (Some n) (greatest p f n)
+unfolding greatest
+greatest-step p f n = rw add-one refl
+
+-- what `greatest` finds is before the end of the range
+pub greatest-below : (p : ℕ → Bool) (f n i : ℕ) → greatest p f n ≡ Some i → i < n
+unfolding greatest
+greatest-below p f zero i e = absurd (cc)
+greatest-below p f (suc n) i e = by_test (nat_le f n && p n) (λ h. greatest-below p f n i h) e
+  where
+    by_test : (b : Bool) → (greatest p f n ≡ Some i → i < n) → cond b (Some n) (greatest p f n) ≡ Some i → i < suc n
+    by_test true before h = let same : n ≡ i = cc in omega arith
+    by_test false before h = omega (arith, before h)
+
+-- an empty range has no greatest number
+pub greatest-empty : (p : ℕ → Bool) (f n : ℕ) → n ≤ f → greatest p f n ≡ None
+unfolding greatest
+greatest-empty p f zero h = refl
+greatest-empty p f (suc n) h = rw (lt-leb f n (omega arith)) (greatest-empty p f n (omega arith))
 
 both_alike : (p q : ℕ → Bool) (f n : ℕ) → (f ≤ n → p n ≡ q n) → (nat_le f n && p n) ≡ (nat_le f n && q n)
 both_alike p q f n alike = grind (arith, nat_tests)
@@ -219,6 +249,9 @@ unfolding those any
 those-none p f zero none = refl
 those-none p f (suc n) none = let both = or_parts (any p f n) (nat_le f n && p n) none in
     rw (those-none p f n both.0, both.1) refl
+
+pub those-empty : (p : ℕ → Bool) (f n : ℕ) → n ≤ f → those p f n ≡ []
+those-empty p f n h = those-none p f n (fails-any p f n (λ i a b. absurd (omega arith)))
 
 -- `those` of the range with n at its end has one more, n, where p holds of n, and no more where it doesn't
 pub those-more : (p : ℕ → Bool) (f n : ℕ) → f ≤ n → p n ≡ true → those p f (suc n) ≡ those p f n ++ n ∷ []

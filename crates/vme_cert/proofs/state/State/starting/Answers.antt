@@ -1,7 +1,8 @@
 use Rattle.std.proofs.Common.{ℕ, ◌+◌, ◌∙◌, ap, arith, sym}
+use Rattle.vme_trace.proofs.Ranges.{greatest-empty}
 use Rattle.vme_cert.specs.Vocabulary.{BBSY, BERR, BR, DTACK, cycle_starts, falls, grant_falls, low, strobe_rises}
 use Rattle.vme_cert.specs.State.{is_requested}
-use Rattle.vme_cert.proofs.Ranges.{each-of, greatest-none}
+use Rattle.vme_cert.proofs.Ranges.{each-of}
 use Rattle.vme_cert.proofs.Fields.{none-started, since-later-start, since-start}
 use Rattle.vme_cert.proofs.state.State.starting.Goals as goal
 
@@ -12,7 +13,7 @@ returns c t span at start =
     record {
       cycle = record {
         here = λ e. absurd (cc);
-        absent = λ e. greatest-none (cycle_starts t span) (span.start + 1) (span.start + 1) (omega arith);
+        absent = λ e. greatest-empty (cycle_starts t span) (span.start + 1) (span.start + 1) (omega arith);
       };
       transfer = record { here = λ e. absurd (cc); absent = λ e. none-started t span };
       acknowledge_freed = rises ∙ sym (since-start t span (falls t DTACK) (strobe_rises t));
