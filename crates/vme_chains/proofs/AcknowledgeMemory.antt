@@ -15,6 +15,7 @@ use Rattle.vme_trace.specs.Transfers.{strobes_high, is_answer}
 use Rattle.vme_trace.specs.Cycles.{cycle_starts, cycle_of, in_cycle}
 use Rattle.vme_trace.specs.declared.level.Level.{Level}
 use Rattle.vme_trace.specs.declared.level.Level.TheVariants.{Low, High, Unknown}
+use Rattle.vme_trace.proofs.Changing.{high_not_low}
 use Rattle.vme_trace.proofs.Ranges.{any-fails, clash, fails-any, greatest-step, greatest-below, any-suc}
 use Rattle.vme_trace.proofs.OpenTransfers.{is_judged-holds, suc-sub-one}
 use Rattle.vme_monitor.specs.Tracked.{IsTransferPhase}
@@ -71,11 +72,6 @@ module _ (t : Trace) (span : Stretch) where
     idle_address = not-false _ (any-fails (λ k. not (is_idle_on (levels_at t span.start) k)) 0 line_count AS
         (not-true _ facts.idle) (omega arith) (lit< tt))
 
-    high_not_low : (x : Level) → is_high x ≡ true → is_low x ≡ true → ⊥
-    high_not_low High h k = cc
-    high_not_low Low h k = cc
-    high_not_low Unknown h k = cc
-
     -- the memory is right of the start of a span, at which no transfer is open
     pub holds_start : Holds span.start (acknowledge_begin (levels_at t span.start))
     unfolding low
@@ -83,7 +79,8 @@ module _ (t : Trace) (span : Stretch) where
       transfer = says_start t span facts.reads;
       idle = λ off. refl;
       cycle = λ on. absurd
-          (high_not_low (level_at (levels_at t span.start) AS) idle_address on);
+          (clash (is_low (level_at (levels_at t span.start) AS)) on
+          (high_not_low (level_at (levels_at t span.start) AS) idle_address));
     }
 
     -- the step to n + 1

@@ -11,6 +11,7 @@ use Rattle.vme_trace.specs.Transfers.{strobe_rises}
 use Rattle.vme_trace.specs.Tenures.{last_before}
 use Rattle.vme_trace.specs.declared.level.Level.{Level}
 use Rattle.vme_trace.specs.declared.level.Level.TheVariants.{Low, High, Unknown}
+use Rattle.vme_trace.proofs.Changing.{high_not_low}
 use Rattle.vme_trace.proofs.Ranges.{fails-any, any-next}
 use Rattle.vme_trace.proofs.OpenTransfers.{suc-sub-one}
 use Rattle.vme_dtb.proofs.Searches.{greatest_more, greatest_within}
@@ -39,14 +40,9 @@ module _ (t : Trace) (span : Stretch) where
       by_found None e = from
       by_found (Some i) e = let found = greatest_within p (span.start + 1) (suc n) i e in omega (arith, found.1)
 
-  not_low : (x : Level) → is_high x ≡ true → is_low x ≡ false
-  not_low Low h = absurd (cc)
-  not_low High h = refl
-  not_low Unknown h = absurd (cc)
-
   pub may_rise_start : (l n : ℕ) → is_high (level_at (levels_at t n) l) ≡ true → false ≡ may_rise_at l n
   unfolding low
-  may_rise_start l n h = rw (not_low (level_at (levels_at t n) l) h) refl
+  may_rise_start l n h = rw (high_not_low (level_at (levels_at t n) l) h) refl
 
   -- a known line that is low after a step falls at the step, or was low before it
   by_levels : (x y : Level) (a b r : Bool) → is_known x ≡ true → ((is_high x && is_low y) ≡ false → a ≡ (b || r))

@@ -9,7 +9,7 @@ use Rattle.vme_trace.specs.Cycle.{has_known_modifier, is_modifier_bit_known, is_
 use Rattle.vme_trace.specs.Cycle.{is_short}
 use Rattle.vme_trace.specs.declared.class.Class.{Class}
 use Rattle.vme_trace.specs.declared.class.Class.TheVariants as class
-use Rattle.vme_trace.proofs.Ranges.{every-alike}
+use Rattle.vme_trace.proofs.Ranges.{clash, every-alike}
 
 highest_by : (a b c : Bool) → (if a then 31 else if b then 23 else if c then 15 else 0) ≤ 31
 highest_by true b c = lit≤ tt
@@ -84,9 +84,6 @@ not_interrupting v h = rw h (by_tests (not (has_known_modifier v)) (is_block (mo
 asks_modifier : (v : Levels) → is_low (level_at v IACK) ≡ false → (needs_of v).modifier ≡ true
 asks_modifier v h = modifier_by v (class_of v) refl (λ e. clash (is_interrupting (class_of v)) (ap is_interrupting e)
     (not_interrupting v h))
-  where
-    clash : (b : Bool) → b ≡ true → b ≡ false → ⊥
-    clash b h k = cc
 
 modifier_within : (needs : Needs) (b : ℕ) → needs.modifier ≡ true → b < 6 → is_within needs (AM b) ≡ true
 modifier_within needs b h few = within needs.modifier needs.highest b h few

@@ -5,14 +5,13 @@ use Rattle.std.specs.Prelude.{Option, None, Some}
 use Rattle.std.proofs.Math.Nat.{div-div-eq-div-mul}
 use Rattle.vme_trace.specs.Cycle.{highest_address, is_block}
 use Rattle.vme_trace.specs.Lanes.{lanes_at}
-use Rattle.vme_trace.specs.Levels.{is_low, is_high}
+use Rattle.vme_trace.specs.Levels.{is_low}
 use Rattle.vme_trace.specs.LineNumbers.{AM, IACK, WRITE}
 use Rattle.vme_trace.specs.Signals.{level, low, high}
 use Rattle.vme_trace.specs.Trace.{Trace, levels_at}
 use Rattle.vme_trace.specs.declared.class.Class.TheVariants as class
 use Rattle.vme_trace.specs.declared.data.Lanes.{Lanes}
-use Rattle.vme_trace.specs.declared.level.Level.{Level}
-use Rattle.vme_trace.specs.declared.level.Level.TheVariants.{Low, High, Unknown}
+use Rattle.vme_trace.proofs.Changing.{high_not_low}
 use Rattle.vme_trace.proofs.Ranges.{clash}
 use Rattle.vme_listing.specs.declared.row.Direction.TheVariants.{Read, Write}
 use Rattle.vme_listing.specs.declared.row.Row.{Row}
@@ -23,14 +22,9 @@ use Rattle.vme_split.specs.Split.{bit_of, ShowsBit, ShowNumber, address_line, da
 use Rattle.vme_split.specs.Split.{ShowsAcknowledge, ShowsModifier, ShowsAddress, ShowsDirection, ShowsData, IsOfItsCode}
 use Rattle.vme_split.specs.Split.{AgreeOnCycle, AgreeOnTransfer}
 
-one_level : (x : Level) → is_high x ≡ true → is_low x ≡ true → ⊥
-one_level Low h l = cc
-one_level High h l = cc
-one_level Unknown h l = cc
-
 not_both : (t : Trace) (line i : ℕ) → high t line i ≡ true → low t line i ≡ true → ⊥
 unfolding high low
-not_both t line i h l = one_level (level t line i) h l
+not_both t line i h l = clash (is_low (level t line i)) l (high_not_low (level t line i) h)
 
 same_bit : (t : Trace) (line i a b : ℕ) → ShowsBit t line i a → ShowsBit t line i b → a ≡ b
 same_bit t line i a b (inl x) (inl y) = x.0 ∙ sym y.0

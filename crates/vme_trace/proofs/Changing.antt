@@ -47,7 +47,7 @@ unfolding loses_control
 idle-unlost v idle = fails-any (is_lost v) 0 line_count (λ l a b. idle_known (is_control v.slots l) (rests_high l)
     (is_reset v) (level_at v l) (each_idle v l idle b))
 
-high_not_low : (x : Level) → is_high x ≡ true → is_low x ≡ false
+pub high_not_low : (x : Level) → is_high x ≡ true → is_low x ≡ false
 high_not_low Low h = absurd (cc)
 high_not_low High h = refl
 high_not_low Unknown h = refl
