@@ -3,11 +3,10 @@ use Rattle.std.proofs.Common.{◌≡◌, ◌≢◌, ◌+◌, ◌*◌, ◌<◌, �
 use Rattle.std.proofs.Common.{refl, sym, ap, ◌∙◌, arith}
 use Rattle.std.specs.Prelude.{◌&&◌, ◌==◌, nat_lt, count_by}
 use Rattle.std.specs.List.{fold}
-use Rattle.std.proofs.lemmas.Bool.Decides.{nat_tests}
 use Rattle.std.proofs.lemmas.List.{get_or-replicate, get_or-set_same, get_or-set_other, length-set}
 use Rattle.std.proofs.lemmas.List.Sums.{sum_by-cons}
 use Rattle.std.specs.Prelude.{None}
-use Rattle.std.proofs.lemmas.Bool.{and_parts, eqb-true, ltb-true}
+use Rattle.std.proofs.lemmas.Bool.{and_parts, eqb-true, ltb-true, eq-eqb}
 use Rattle.vme_listing.specs.declared.row.Row.{Row}
 use Rattle.vme_listing.specs.declared.row.Row.TheVariants as row
 use Rattle.vme_monitor.specs.declared.mark.Mark.{Mark}
@@ -28,9 +27,6 @@ no_more n = omega arith
 
 -- ---- the places of tenures
 
-equals : (a b : ℕ) → a ≡ b → (a == b) ≡ true
-equals a b h = grind (arith, nat_tests)
-
 within : (level slot : ℕ) → is_place level slot ≡ true → place_of level slot < 88
 within level slot is =
     let tests = and_parts (nat_lt level 4) (nat_lt slot 22) is in
@@ -50,7 +46,7 @@ one_place level slot granted taken is other differs same =
     same in
     let slots : taken ≡ slot = one_slot level slot granted taken levels same in
     let is_one : (granted == level && taken == slot) ≡ true =
-    rw (equals granted level levels, equals taken slot slots) refl in
+    rw (eq-eqb granted level levels, eq-eqb taken slot slots) refl in
     absurd (cc (sym differs ∙ is_one))
   where
     one_level : (level slot granted taken : ℕ) → slot < 22 → taken < 22 → level * 22 + slot ≡ granted * 22 + taken

@@ -4,7 +4,7 @@ use Rattle.std.proofs.Common.{sym, subst, ap}
 use Rattle.std.proofs.Common.{◌∙◌, arith}
 use Rattle.std.specs.Prelude.{◌||◌, ◌==◌, IfSome, nat_le, unwrap_or}
 use Rattle.std.proofs.lemmas.Bool.Decides.{nat_tests}
-use Rattle.std.proofs.lemmas.Bool.{eqb-true, ltb-true}
+use Rattle.std.proofs.lemmas.Bool.{eqb-true, ltb-true, eq-eqb}
 use Rattle.vme_trace.specs.Instants.{greatest, least}
 use Rattle.vme_trace.specs.LineNumbers.{AS, DS0, DS1, DTACK, grant, line_count}
 use Rattle.vme_trace.specs.Trace.{Trace}
@@ -23,9 +23,6 @@ use Rattle.vme_account.specs.declared.related_event.StepEvent.{StepEvent}
 use Rattle.vme_account.specs.declared.related_event.StepEvent.TheVariants.{AnswerFalls, Falls, GrantFalls, Rises}
 use Rattle.vme_account.specs.declared.related_event.StepEvent.TheVariants.{StrobeRises, TransferStarts}
 use Rattle.vme_account.specs.declared.stretch_events.StretchEvents.{StretchEvents}
-
-itself : (n : ℕ) → (n == n) ≡ true
-itself n = grind (arith, nat_tests)
 
 differs : (n j : ℕ) → n < j → (n == j) ≡ false
 differs n j less = grind (arith, nat_tests)
@@ -109,8 +106,8 @@ module _ (t : Trace) where
             let nowhere : first_since (Some (i + 1)) ≡ None =
             ap (moment t) (least-nowhere (happens t p) (i + 1) (i + 1) (omega arith)) in
             ap unless_now here
-            ∙ (ap (λ (c : Bool). cond c None (first_since (greatest (happens t q) (s + 1) (i + 1)))) (itself (i + 1))
-            ∙ sym (ap first_since here ∙ nowhere))
+            ∙ (ap (λ (c : Bool). cond c None (first_since (greatest (happens t q) (s + 1) (i + 1))))
+            (eq-eqb (i + 1) (i + 1) refl) ∙ sym (ap first_since here ∙ nowhere))
         by_test false none =
             let same : greatest (happens t q) (s + 1) (i + 1 + 1) ≡ greatest (happens t q) (s + 1) (i + 1) =
             last-before (happens t q) s i none in

@@ -3,7 +3,7 @@ use Rattle.std.proofs.Common.{◌≡◌, ℕ, suc, ◌<◌, Bool, true, false, �
 use Rattle.std.proofs.Common.{◌∙◌, arith, ◌+◌, ◌-◌, ◌≤◌, ◌&&◌, ap, subst}
 use Rattle.std.specs.Prelude.{◌==◌, nat_le, nat_lt, if◌then◌else◌, None, Some}
 use Rattle.std.specs.List.{list_any}
-use Rattle.std.proofs.lemmas.Bool.{agree_below, agree_below_at, ltb-true, eqb-true, and_parts}
+use Rattle.std.proofs.lemmas.Bool.{agree_below, agree_below_at, ltb-true, eqb-true, and_parts, eq-eqb}
 use Rattle.std.proofs.lemmas.Bool.{not-false, not-true, or_parts}
 use Rattle.std.proofs.lemmas.Bool.Decides.{nat_tests}
 use Rattle.vme_trace.specs.declared.class.Class.TheVariants as class
@@ -47,10 +47,8 @@ pub listed-may_be_broken : (l k : ℕ) → l < line_count → k < length (rules_
 listed-may_be_broken l k below within =
     let r = get_or (rules_on l) k U1 in
     sym (listed-is l r below)
-    ∙ list_any_at (λ y. rule_number y == rule_number r) (rules_on l) k U1 within (same (rule_number r))
-  where
-    same : (n : ℕ) → (n == n) ≡ true
-    same n = grind (arith, nat_tests)
+    ∙ list_any_at (λ y. rule_number y == rule_number r) (rules_on l) k U1 within
+    (eq-eqb (rule_number r) (rule_number r) refl)
 
 -- each rule that may be broken on a line is on the line's row
 pub may_be_broken-listed : (l : ℕ) (r : Rule) → l < line_count → may_be_broken_on r l ≡ true

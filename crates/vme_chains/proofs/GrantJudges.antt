@@ -4,7 +4,7 @@ use Rattle.std.proofs.Common.{arith, Option, Some, None, cond, length, inl, inr,
 use Rattle.std.specs.Prelude.{◌==◌, nat_lt, option_map, slice_get}
 use Rattle.std.specs.Option.{option_map_or}
 use Rattle.std.proofs.lemmas.Bool.Decides.{nat_tests}
-use Rattle.std.proofs.lemmas.Bool.{or_parts, le-ltb}
+use Rattle.std.proofs.lemmas.Bool.{or_parts, le-ltb, eq-eqb}
 use Rattle.vme_trace.specs.LineNumbers.{BBSY, BR}
 use Rattle.vme_trace.specs.Levels.{Levels}
 use Rattle.vme_trace.specs.Trace.{Trace, levels_at, time_at, changed}
@@ -234,12 +234,9 @@ module _ (t : Trace) (span : Stretch) (few : t.opening.slots ≤ 21) where
   open_at : grant_start_marks (levels_at t span.start) ≡ tenures_shown t span span.start
   unfolding tenure_starts
   open_at =
-      alike _ _ (is_low_in (levels_at t span.start) BBSY) (low t BBSY span.start) _ _ _ (at_start span.start)
-      (low-is t span.start BBSY refl) (not_judged span.start span.end)
+      alike _ _ (is_low_in (levels_at t span.start) BBSY) (low t BBSY span.start) _ _ _
+      (eq-eqb span.start span.start refl) (low-is t span.start BBSY refl) (not_judged span.start span.end)
     where
-      at_start : (s : ℕ) → (s == s) ≡ true
-      at_start s = grind (arith, nat_tests)
-
       not_judged : (s e : ℕ) → (nat_lt s s && nat_lt s e) ≡ false
       not_judged s e = grind (arith, nat_tests)
 

@@ -5,7 +5,7 @@ use Rattle.std.specs.Prelude.{Some, ◌==◌, nat_le, slice_set}
 use Rattle.std.proofs.lemmas.Bool.Decides.{nat_tests}
 use Rattle.std.proofs.lemmas.List.{length-set, get_or-set_same}
 use Rattle.std.proofs.lemmas.Option.{unwrap_or-slice_get}
-use Rattle.std.proofs.lemmas.Bool.{and_parts, not-true, or_right, eqb-true}
+use Rattle.std.proofs.lemmas.Bool.{and_parts, not-true, or_right, eqb-true, eq-eqb}
 use Rattle.vme_trace.specs.Instants.{any, least}
 use Rattle.vme_trace.specs.Levels.{Levels, level_at, set_level, same_level}
 use Rattle.vme_trace.specs.Trace.{changed}
@@ -108,9 +108,6 @@ module _ (p q : ℕ → Bool) (n : ℕ) (bound : (l : ℕ) → q l ≡ true → 
       by_line true e = ap p (sym (eqb-true c.line l e)) ∙ here
       by_line false e = fails l (rw (e, h) refl)
 
-  same_line : (k : ℕ) → (k == k) ≡ true
-  same_line k = grind (arith, nat_tests)
-
   pub first_least : (v : Levels) (lowest : ℕ) (cs : List Change) → are_changes v lowest cs ≡ true
       → ((l : ℕ) → is_changed cs l ≡ false → p l ≡ false) → ((l : ℕ) → is_changed cs l ≡ true → p l ≡ q l)
       → first_among q cs ≡ least p 0 n
@@ -118,7 +115,7 @@ module _ (p q : ℕ → Bool) (n : ℕ) (bound : (l : ℕ) → q l ≡ true → 
   first_least v lowest [] h fails alike = sym (least-none p 0 n (fails-any p 0 n (λ l a b. fails l refl)))
   first_least v lowest (c ∷ cs) h fails alike =
       let parts = and_parts _ _ h in
-      let here : p c.line ≡ q c.line = alike c.line (rw (same_line c.line) refl) in
+      let here : p c.line ≡ q c.line = alike c.line (rw (eq-eqb c.line c.line refl) refl) in
       first_here c cs (q c.line) refl (λ e. here ∙ e)
       (fails-any p 0 c.line
       (λ l a b. fails l (rw (unlike c.line l b, below_changes v (c.line + 1) l cs parts.1 (one_more l c.line b))

@@ -1,9 +1,9 @@
 -- At each listed instant at most one tenure, one cycle and one transfer begin, each with a row that its form allows.
-use Rattle.std.proofs.Common.{◌≡◌, ◌≢◌, ℕ, ◌+◌, ◌-◌, ◌^◌, ◌<◌, ◌≤◌, ◌==◌, Bool, true, false, ◌&&◌, not, cond}
+use Rattle.std.proofs.Common.{◌≡◌, ℕ, ◌+◌, ◌-◌, ◌^◌, ◌<◌, ◌≤◌, ◌==◌, Bool, true, false, ◌&&◌, not, cond}
 use Rattle.std.proofs.Common.{List, [], ◌∷◌, refl, arith}
 use Rattle.std.specs.Prelude.{Option, None, Some, option_map, option_and_then, if◌then◌else◌}
 use Rattle.std.proofs.lemmas.Bool.Decides.{nat_tests}
-use Rattle.std.proofs.lemmas.Bool.{and_from, not-false}
+use Rattle.std.proofs.lemmas.Bool.{and_from, not-false, eqb-false}
 use Rattle.vme_trace.specs.Instants.{greatest, least}
 use Rattle.vme_trace.specs.LineNumbers.{AM, AS, BBSY, grant, has_line, line_count}
 use Rattle.vme_trace.specs.Levels.{Levels, is_known_on}
@@ -69,9 +69,6 @@ unfolding breaks is_broken tenure_starts
 slot_exists t span i starts unbroken = not_past (is_judged span i) (falls t BBSY i) (is_option_equal (tenure_slot t i)
     (t.opening.slots + 1)) starts unbroken
 
-unequal : (m n : ℕ) → (m == n) ≡ false → m ≢ n
-unequal m n h = grind (arith, nat_tests)
-
 bused : (slots l : ℕ) → l < 50 → has_line slots l ≡ true
 bused slots l h = grind (arith, nat_tests)
 
@@ -127,7 +124,7 @@ module _ (t : Trace) (span : Stretch) (end : ℕ) (few : end ≤ 2 ^ 32) (i : �
       taken (Some level) None l s unequal_past = tt
       taken (Some level) (Some slot) l s unequal_past =
           let within = slot_within t i slot s in
-          let other = unequal slot (t.opening.slots + 1) unequal_past in
+          let other = eqb-false slot (t.opening.slots + 1) unequal_past in
           tenure_form i level slot (least (rises t BBSY) (i + 1) end) (number i end listed few)
           (level_within t i level l) within.0 (omega (arith, within.1, other)) (edge (rises t BBSY) (i + 1) end few)
 

@@ -4,7 +4,7 @@ use Rattle.std.proofs.Common.{not, if◌then◌else◌, refl, sym, ◌∙◌, ap
 use Rattle.std.specs.Prelude.{Option, None, Some, ◌==◌}
 use Rattle.std.proofs.Math.Nat.{div-div-eq-div-mul, pow-suc, pow-succ'}
 use Rattle.std.proofs.lemmas.Bool.Decides.{nat_tests}
-use Rattle.std.proofs.lemmas.Bool.{eqb-true}
+use Rattle.std.proofs.lemmas.Bool.{eqb-true, eqb-false}
 use Rattle.vme_trace.specs.Instants.{least}
 use Rattle.vme_trace.specs.LineNumbers.{AS, IACK, AM, has_line}
 use Rattle.vme_trace.specs.Cycle.{class_of, has_known_modifier, is_modifier_bit_known, is_block, is_extended}
@@ -170,14 +170,11 @@ highest_31 code = by (is_extended code) (is_standard code) (is_short code)
 
 -- ---- the class by the modifier code
 
-unequal : (m n : ℕ) → (m == n) ≡ false → m ≢ n
-unequal m n h = grind (arith, nat_tests)
-
 code_of_single : (v : Levels) → class_of v ≡ class.S → (is_block (modifier_of v) ≡ false)
     × (highest_address (modifier_of v) ≢ 0)
 unfolding class_of
 code_of_single v h = let found = by (is_low (level_at v IACK)) (has_known_modifier v) (is_block (modifier_of v))
-    (highest_address (modifier_of v) == 0) h in (found.0, unequal (highest_address (modifier_of v)) 0 found.1)
+    (highest_address (modifier_of v) == 0) h in (found.0, eqb-false (highest_address (modifier_of v)) 0 found.1)
   where
     by : (a b c d : Bool) → (if a then class.I else if not b then class.F else if c then class.K else if d then class.F
         else class.S) ≡ class.S → (c ≡ false) × (d ≡ false)

@@ -1,11 +1,11 @@
 -- What is listed keeps the rules.
-use Rattle.std.proofs.Common.{lit<, ◌≡◌, ◌≢◌, ℕ, ◌+◌, ◌-◌, ◌<◌, ◌≤◌, Bool, true, false, ◌&&◌, ◌||◌, not}
+use Rattle.std.proofs.Common.{lit<, ◌≡◌, ℕ, ◌+◌, ◌-◌, ◌<◌, ◌≤◌, Bool, true, false, ◌&&◌, ◌||◌, not}
 use Rattle.std.proofs.Common.{cond, if◌then◌else◌, refl, sym, ◌∙◌, ap, arith, subst, List, [], ◌∷◌, ◌++◌, map, flat_map}
 use Rattle.std.proofs.Common.{inl, inr, ◌⊎◌, All, Contains}
-use Rattle.std.specs.Prelude.{Option, None, Some, IfSome, ◌==◌, nat_lt, nat_le, option_map, option_and_then}
+use Rattle.std.specs.Prelude.{Option, None, Some, IfSome, nat_lt, nat_le, option_map, option_and_then}
 use Rattle.std.proofs.lemmas.Bool.Decides.{nat_tests}
 use Rattle.std.proofs.lemmas.List.Elements.{Contains-append_left, Contains-append_right}
-use Rattle.std.proofs.lemmas.Bool.{cases_Bool, and_parts, false_from_ne_true, not-false, not-true, lt-ltb}
+use Rattle.std.proofs.lemmas.Bool.{cases_Bool, and_parts, false_from_ne_true, not-false, not-true, lt-ltb, eqb-false}
 use Rattle.vme_trace.specs.Instants.{any, least, greatest, those}
 use Rattle.vme_trace.specs.LineNumbers.{AS, BBSY, grant}
 use Rattle.vme_trace.specs.Levels.{Levels}
@@ -64,9 +64,6 @@ level_within : (t : Trace) (i level : ℕ) → tenure_level t i ≡ Some level �
 unfolding tenure_level
 level_within t i level e = (least-found (λ n. low t (grant n 0) (taken_grant t i)) 0 4 level e).below
 
-unequal : (m n : ℕ) → (m == n) ≡ false → m ≢ n
-unequal m n h = grind (arith, nat_tests)
-
 -- where line l is low near r, it is low at an instant k: r or the one before
 line_near : (t : Trace) (l s r : ℕ) → s < r → near (low t l) r ≡ true → (k : ℕ) × (s ≤ k) × (k ≤ r) × (r ≤ k + 1)
     × (low t l k ≡ true)
@@ -96,7 +93,7 @@ module _ (t : Trace) (span : Stretch) (is : IsSpanOf t span) (end : ℕ) (within
       let bounds = slot_within t i slot e in
       let past = off_past (falls t BBSY i) _ there.1 (held t span end most unbroken rule.B4 i BBSY there.0 before
       (lit< tt) refl) in
-      let other = unequal slot (t.opening.slots + 1)
+      let other = eqb-false slot (t.opening.slots + 1)
       (sym (ap (λ (o : Option ℕ). is_option_equal o (t.opening.slots + 1)) e) ∙ past) in
       (level_within t i level l, bounds.0, omega (arith, bounds.1, other))
     where

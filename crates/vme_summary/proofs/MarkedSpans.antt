@@ -3,7 +3,7 @@ use Rattle.std.proofs.Common.{◌≡◌, ℕ, zero, suc, ◌+◌, ◌<◌, ◌�
 use Rattle.std.proofs.Common.{sym, ◌∙◌, ap, arith, Option, None, cond, inl, inr, ◌⊎◌, append_assoc, append-nil}
 use Rattle.std.specs.Prelude.{◌==◌, nat_lt, nat_le}
 use Rattle.std.proofs.lemmas.Bool.Decides.{nat_tests}
-use Rattle.std.proofs.lemmas.Bool.{cases_lt, le-leb, lt-ltb}
+use Rattle.std.proofs.lemmas.Bool.{cases_lt, le-leb, lt-ltb, eq-eqb}
 use Rattle.vme_trace.specs.LineNumbers.{BBSY}
 use Rattle.vme_trace.specs.Levels.{is_idle, is_low, level_at}
 use Rattle.vme_trace.specs.Trace.{Trace, levels_at}
@@ -242,7 +242,7 @@ module _ (t : Trace) (span : Stretch) where
     unfolding rows_before
     at_start n =
         ap (λ b. start_row span.start b ++ (tenure_rows t span end span.start ++ (cycle_rows t span end span.start
-        ++ (transfer_rows t span end span.start ++ rows_from (suc span.start) n)))) (same_number span.start)
+        ++ (transfer_rows t span end span.start ++ rows_from (suc span.start) n)))) (eq-eqb span.start span.start refl)
         ∙ ap (λ r. row.Start span.start ∷ r) (
         ap (λ b. b ++ (tenure_rows t span end span.start ++ (cycle_rows t span end span.start
         ++ (transfer_rows t span end span.start ++ rows_from (suc span.start) n))))
@@ -251,9 +251,6 @@ module _ (t : Trace) (span : Stretch) where
         (cycle_rows t span end span.start) (transfer_rows t span end span.start) (rows_from (suc span.start) n)
         ∙ after_start n (suc span.start) (omega arith))
         )
-      where
-        same_number : (a : ℕ) → (a == a) ≡ true
-        same_number a = grind (arith, nat_tests)
 
     early_none : (n i : ℕ) → i < span.start → rows_from i (suc n) ≡ rows_from (suc i) n
     early_none n i early = rw (
