@@ -9,7 +9,7 @@ use Rattle.std.proofs.lemmas.Bool.{le-leb, ltb-true, ltb-false, and_parts, and_f
 use Rattle.std.proofs.lemmas.Bool.{cases_lt}
 use Rattle.vme_trace.proofs.OpenTransfers.{in_transfer-is, ReadsStrobes}
 use Rattle.vme_trace.proofs.Ranges.{any-holds, fails-any, any-step, any-fails, clash, any-least, least-found}
-use Rattle.vme_trace.proofs.Ranges.{greatest-empty, those-empty}
+use Rattle.vme_trace.proofs.Ranges.{greatest-empty, not_or, those-empty}
 use Rattle.vme_trace.proofs.JudgedSpans.{span_reads}
 use Rattle.vme_cert.specs.Vocabulary.{AS, DS0, DS1, DTACK, High, Level, Low, Stretch, Trace, Unknown, WRITE}
 use Rattle.vme_cert.specs.Vocabulary.{answer_falls, answers, answers_of, answers_write, any, class_at, cycle_starts}
@@ -27,7 +27,7 @@ use Rattle.vme_cert.specs.declared.state.Cycle.{Cycle}
 use Rattle.vme_cert.proofs.Ranges.{IsGreatest, greatest-found, none-shorter}
 use Rattle.vme_cert.proofs.Ranges.{after_start, greatest-here, greatest-not, none-step, any-start, last_or_before}
 use Rattle.vme_cert.proofs.Ranges.{greatest-none-any, order_of}
-use Rattle.vme_cert.proofs.Ranges.{decide, case_of, later, de_morgan, only-last, unless}
+use Rattle.vme_cert.proofs.Ranges.{decide, case_of, later, only-last, unless}
 use Rattle.vme_cert.proofs.Instant.{address-known}
 
 -- ---- The transfer of an instant: the last to start, while no instant since then had both strobes high.
@@ -837,7 +837,7 @@ module _ (t : Trace) (span : Stretch) (is : IsSpanOf t span) where
             any-later
                 (is_answer t span) c.start j,
           )
-              (de_morgan (has_earlier_answer (those (is_answer t span) c.start j)) (is_answer t span j))
+              (not_or (has_earlier_answer (those (is_answer t span) c.start j)) (is_answer t span j))
 
           step : needs c.start ≡
               ((c.runs && not (rises t AS j)) && not (has_earlier_answer (answers_of t span c.start j)) && not

@@ -1,12 +1,12 @@
 -- Tests on numbers, and searches over a range of numbers.
-use Rattle.std.proofs.Common.{◌≡◌, ℕ, ◌+◌, ◌<◌, ◌≤◌, Bool, true, false, ◌&&◌, ◌||◌, not, refl, arith, ◌⊎◌, zero, suc}
+use Rattle.std.proofs.Common.{◌≡◌, ℕ, ◌+◌, ◌<◌, ◌≤◌, Bool, true, false, ◌&&◌, not, refl, arith, ◌⊎◌, zero, suc}
 use Rattle.std.proofs.Common.{[], ◌∷◌, get_or, sym, ◌∙◌, ap, inl, inr, cond, add-one}
 use Rattle.std.specs.Prelude.{◌==◌, nat_le, nat_lt, Option, None, Some, is_some}
 use Rattle.std.proofs.lemmas.Bool.Decides.{nat_tests}
 use Rattle.std.proofs.lemmas.Bool.{leb-true, le-leb, ltb-true, lt-ltb, le-ltb, and_parts, and_right}
 use Rattle.std.proofs.Math.Bool.{and-false}
 use Rattle.vme_trace.proofs.Ranges.{any-fails, fails-any, clash, searches, any-holds, any-step, least-found}
-use Rattle.vme_trace.proofs.Ranges.{least-none-any}
+use Rattle.vme_trace.proofs.Ranges.{least-none-any, not_or}
 use Rattle.vme_cert.specs.Vocabulary.{Stretch, any, greatest, is_judged, least, none}
 
 -- ---- Tests on numbers, and two tests together.
@@ -30,10 +30,6 @@ order_of i k = grind arith
 
 pub last_or_before : (i j : ℕ) → i < j + 1 → (i ≡ j) ⊎ (i < j)
 last_or_before i j h = grind arith
-
-pub de_morgan : (a b : Bool) → not (a || b) ≡ (not a && not b)
-de_morgan true b = refl
-de_morgan false b = refl
 
 pub within_of : (f i n : ℕ) → (nat_le f i && nat_le i n) ≡ true → (f ≤ i) × (i < n + 1)
 within_of f i n h = let both = and_parts (nat_le f i) (nat_le i n) h in
@@ -187,7 +183,7 @@ unfolding greatest
 greatest-not p f n not_here = rw (add-one, and_right (nat_le f n) (p n) not_here) refl
 
 pub none-step : (p : ℕ → Bool) (f n : ℕ) → f ≤ n → none p f (n + 1) ≡ (none p f n && not (p n))
-none-step p f n from = ap not (any-step p f n) ∙ rw (le-leb f n from) (de_morgan (any p f n) (p n))
+none-step p f n from = ap not (any-step p f n) ∙ rw (le-leb f n from) (not_or (any p f n) (p n))
 
 pub later : (span : Stretch) (j : ℕ) → is_judged span j ≡ true → 1 ≤ j
 later span j judged = let after = after_start span j judged in omega arith

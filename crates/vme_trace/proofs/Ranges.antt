@@ -199,9 +199,13 @@ every-more p f n so_far here = ap not (any-step (λ k. not (p k)) f n) ∙ more 
     more false true c h k = rw k refl
     more false false c h k = refl
 
-or_splits : (a b : Bool) → not (a || b) ≡ (not a && not b)
-or_splits true b = refl
-or_splits false b = refl
+pub not_or : (a b : Bool) → not (a || b) ≡ (not a && not b)
+not_or true b = refl
+not_or false b = refl
+
+pub not_and : (a b : Bool) → not (a && b) ≡ (not a || not b)
+not_and true b = refl
+not_and false b = refl
 
 pub every-empty : (p : ℕ → Bool) (f : ℕ) → every p f f ≡ true
 every-empty p f = ap not (fails-any (λ k. not (p k)) f f (λ i a b. absurd (omega arith)))
@@ -234,7 +238,7 @@ any-split p f m (suc n) a b =
 
 -- p holds of all of a range just if it does before m and from m on
 pub every-split : (p : ℕ → Bool) (f m n : ℕ) → f ≤ m → m ≤ n → every p f n ≡ (every p f m && every p m n)
-every-split p f m n a b = ap not (any-split (λ k. not (p k)) f m n a b) ∙ or_splits (any (λ k. not (p k)) f m)
+every-split p f m n a b = ap not (any-split (λ k. not (p k)) f m n a b) ∙ not_or (any (λ k. not (p k)) f m)
     (any (λ k. not (p k)) m n)
 
 pub every-alike : (p q : ℕ → Bool) (f n : ℕ) → ((i : ℕ) → f ≤ i → i < n → p i ≡ q i) → every p f n ≡ every q f n
