@@ -21,7 +21,7 @@ use Rattle.std.proofs.lemmas.Option.{none-some}
 use Rattle.vcd_read.specs.Header.{is_code_byte, is_code}
 use Rattle.vcd_read.specs.declared.code_index.CodePlace.{CodePlace}
 use Rattle.vcd_read.specs.CodeNumbers.{code_number, code_place, short_place}
-use Rattle.vcd_read.specs.CodeIndexes.{found, net_on}
+use Rattle.vcd_read.specs.CodeIndexes.{net_of_code, net_at_entry}
 
 -- ---- no two codes have one number
 
@@ -73,74 +73,75 @@ short_place-same code other a b h k page entry =
 -- ---- the pages
 
 -- the net at an entry of a page that is there, `p`
-pub net_on-at : (pages : List (Vec (Option ℕ))) (page entry : ℕ) (p : Vec (Option ℕ)) → page < length pages
-    → p ≡ get_or pages page p → net_on pages page entry ≡ get_or p.items entry None
-unfolding net_on
-net_on-at [] page entry p lt e = absurd (omega (arith, lt))
-net_on-at (x ∷ pages) zero entry p lt e = ap (λ (v : Vec (Option ℕ)). get_or v.items entry None) (sym e)
-net_on-at (x ∷ pages) (suc page) entry p lt e = net_on-at pages page entry p (omega (arith, lt)) e
+pub net_at_entry-there : (pages : List (Vec (Option ℕ))) (page entry : ℕ) (p : Vec (Option ℕ)) → page < length pages
+    → p ≡ get_or pages page p → net_at_entry pages page entry ≡ get_or p.items entry None
+unfolding net_at_entry
+net_at_entry-there [] page entry p lt e = absurd (omega (arith, lt))
+net_at_entry-there (x ∷ pages) zero entry p lt e = ap (λ (v : Vec (Option ℕ)). get_or v.items entry None) (sym e)
+net_at_entry-there (x ∷ pages) (suc page) entry p lt e = net_at_entry-there pages page entry p (omega (arith, lt)) e
 
 -- no net is on a page that isn't there
-pub net_on-past : (pages : List (Vec (Option ℕ))) (page entry : ℕ) → length pages ≤ page → net_on pages page entry
+pub net_at_entry-past : (pages : List (Vec (Option ℕ))) (page entry : ℕ) → length pages ≤ page
+    → net_at_entry pages page entry
     ≡ None
-unfolding net_on
-net_on-past [] page entry le = refl
-net_on-past (x ∷ pages) zero entry le = absurd (omega (arith, le))
-net_on-past (x ∷ pages) (suc page) entry le = net_on-past pages page entry (omega (arith, le))
+unfolding net_at_entry
+net_at_entry-past [] page entry le = refl
+net_at_entry-past (x ∷ pages) zero entry le = absurd (omega (arith, le))
+net_at_entry-past (x ∷ pages) (suc page) entry le = net_at_entry-past pages page entry (omega (arith, le))
 
 none_on_empty : (items : List (Option ℕ)) (entry : ℕ) → items ≡ [] → get_or items entry None ≡ None
 none_on_empty items entry e = ap (λ (items : List (Option ℕ)). get_or items entry None) e
 
 -- one more page, with no net on it, changes no net
-pub net_on-push : (pages : List (Vec (Option ℕ))) (p : Vec (Option ℕ)) (page entry : ℕ) → p.items ≡ []
-    → net_on (pages ++ p ∷ []) page entry ≡ net_on pages page entry
-unfolding net_on
-net_on-push [] p zero entry e = none_on_empty p.items entry e
-net_on-push [] p (suc page) entry e = refl
-net_on-push (x ∷ pages) p zero entry e = refl
-net_on-push (x ∷ pages) p (suc page) entry e = net_on-push pages p page entry e
+pub net_at_entry-push : (pages : List (Vec (Option ℕ))) (p : Vec (Option ℕ)) (page entry : ℕ) → p.items ≡ []
+    → net_at_entry (pages ++ p ∷ []) page entry ≡ net_at_entry pages page entry
+unfolding net_at_entry
+net_at_entry-push [] p zero entry e = none_on_empty p.items entry e
+net_at_entry-push [] p (suc page) entry e = refl
+net_at_entry-push (x ∷ pages) p zero entry e = refl
+net_at_entry-push (x ∷ pages) p (suc page) entry e = net_at_entry-push pages p page entry e
 
-elsewhere : {X : Type 0} (b c : Bool) (x y : X) → b ≡ false → y ≡ cond (b && c) x y
-elsewhere true c x y e = absurd cc
-elsewhere false c x y e = refl
+cond-and_false : {X : Type 0} (b c : Bool) (x y : X) → b ≡ false → y ≡ cond (b && c) x y
+cond-and_false true c x y e = absurd cc
+cond-and_false false c x y e = refl
 
 -- if the page `at` is changed at the entry `place`, this entry has `net`, and all others are as they were
-pub net_on-set : (pages : List (Vec (Option ℕ))) (at : ℕ) (old new : Vec (Option ℕ)) (place : ℕ) (net : Option ℕ)
+pub net_at_entry-set : (pages : List (Vec (Option ℕ))) (at : ℕ) (old new : Vec (Option ℕ)) (place : ℕ) (net : Option ℕ)
     → at < length pages → old ≡ get_or pages at old
     → ((k : ℕ) → get_or new.items k None ≡ update nat_eq (λ j. get_or old.items j None) place net k)
-    → (page entry : ℕ) → net_on (set pages at new) page entry
-    ≡ cond (eqb at page && eqb place entry) net (net_on pages page entry)
-unfolding net_on
-net_on-set [] at old new place net lt is changed page entry = absurd (omega (arith, lt))
-net_on-set (x ∷ pages) zero old new place net lt is changed zero entry =
+    → (page entry : ℕ) → net_at_entry (set pages at new) page entry
+    ≡ cond (eqb at page && eqb place entry) net (net_at_entry pages page entry)
+unfolding net_at_entry
+net_at_entry-set [] at old new place net lt is changed page entry = absurd (omega (arith, lt))
+net_at_entry-set (x ∷ pages) zero old new place net lt is changed zero entry =
     changed entry ∙ ap (λ (v : Vec (Option ℕ)). cond (eqb place entry) net (get_or v.items entry None)) is
-net_on-set (x ∷ pages) zero old new place net lt is changed (suc page) entry = elsewhere (eqb 0 (suc page))
-    (eqb place entry) net (net_on pages page entry) (eqb-zero-suc page)
-net_on-set (x ∷ pages) (suc at) old new place net lt is changed zero entry = elsewhere (eqb (suc at) 0)
+net_at_entry-set (x ∷ pages) zero old new place net lt is changed (suc page) entry = cond-and_false (eqb 0 (suc page))
+    (eqb place entry) net (net_at_entry pages page entry) (eqb-zero-suc page)
+net_at_entry-set (x ∷ pages) (suc at) old new place net lt is changed zero entry = cond-and_false (eqb (suc at) 0)
     (eqb place entry) net (get_or x.items entry None) (eqb-suc-zero at)
-net_on-set (x ∷ pages) (suc at) old new place net lt is changed (suc page) entry =
-    net_on-set pages at old new place net (omega (arith, lt)) is changed page entry
-    ∙ ap (λ (b : Bool). cond (b && eqb place entry) net (net_on pages page entry)) (sym (eqb-suc-suc at page))
+net_at_entry-set (x ∷ pages) (suc at) old new place net lt is changed (suc page) entry =
+    net_at_entry-set pages at old new place net (omega (arith, lt)) is changed page entry
+    ∙ ap (λ (b : Bool). cond (b && eqb place entry) net (net_at_entry pages page entry)) (sym (eqb-suc-suc at page))
 
 -- if a page is set to what it was, all nets are as they were
-pub net_on-same : (pages : List (Vec (Option ℕ))) (at : ℕ) (old new : Vec (Option ℕ)) → at < length pages
-    → old ≡ get_or pages at old → new.items ≡ old.items → (page entry : ℕ) → net_on (set pages at new) page entry
-    ≡ net_on pages page entry
-unfolding net_on
-net_on-same [] at old new lt is same page entry = absurd (omega (arith, lt))
-net_on-same (x ∷ pages) zero old new lt is same zero entry =
+pub net_at_entry-same : (pages : List (Vec (Option ℕ))) (at : ℕ) (old new : Vec (Option ℕ)) → at < length pages
+    → old ≡ get_or pages at old → new.items ≡ old.items → (page entry : ℕ) → net_at_entry (set pages at new) page entry
+    ≡ net_at_entry pages page entry
+unfolding net_at_entry
+net_at_entry-same [] at old new lt is same page entry = absurd (omega (arith, lt))
+net_at_entry-same (x ∷ pages) zero old new lt is same zero entry =
     ap (λ (items : List (Option ℕ)). get_or items entry None) (same ∙ ap (λ (v : Vec (Option ℕ)). v.items) is)
-net_on-same (x ∷ pages) zero old new lt is same (suc page) entry = refl
-net_on-same (x ∷ pages) (suc at) old new lt is same zero entry = refl
-net_on-same (x ∷ pages) (suc at) old new lt is same (suc page) entry =
-    net_on-same pages at old new (omega (arith, lt)) is same page entry
+net_at_entry-same (x ∷ pages) zero old new lt is same (suc page) entry = refl
+net_at_entry-same (x ∷ pages) (suc at) old new lt is same zero entry = refl
+net_at_entry-same (x ∷ pages) (suc at) old new lt is same (suc page) entry =
+    net_at_entry-same pages at old new (omega (arith, lt)) is same page entry
 
 -- with no page, and nothing in the map, no code has a net
 pub none_found : (pages : List (Vec (Option ℕ))) (entries : List (Vec ℕ × ℕ)) → pages ≡ [] → entries ≡ []
-    → (code : List ℕ) (place : Option CodePlace) → found pages entries code place ≡ None
-unfolding net_on
+    → (code : List ℕ) (place : Option CodePlace) → net_of_code pages entries code place ≡ None
+unfolding net_at_entry
 none_found pages entries none empty code (Some place) =
-    ap (λ (pages : List (Vec (Option ℕ))). net_on pages place.page place.entry) none
+    ap (λ (pages : List (Vec (Option ℕ))). net_at_entry pages place.page place.entry) none
 none_found pages entries none empty code None =
     ap (lookup (is_at (λ (key : Vec ℕ). slice_cmp nat_cmp code key.items))) empty
 
@@ -165,19 +166,19 @@ bytes_eq_flip a b =
 abbrev by_bytes : {K : Type 0} → (K → List ℕ) → List ℕ → K → Ordering
 by_bytes bytes other key = slice_cmp nat_cmp other (bytes key)
 
-test_is : {K : Type 0} (bytes : K → List ℕ) (key : K) (other : List ℕ) → is_at (by_bytes bytes other) key
+is_at-by_bytes : {K : Type 0} (bytes : K → List ℕ) (key : K) (other : List ℕ) → is_at (by_bytes bytes other) key
     ≡ bytes_eq (bytes key) other
-test_is bytes key other = is_eq-slice_cmp other (bytes key) ∙ bytes_eq_flip other (bytes key)
+is_at-by_bytes bytes key other = is_eq-slice_cmp other (bytes key) ∙ bytes_eq_flip other (bytes key)
 
-front : {X : Type 0} (b c : Bool) (v w : X) (rest : Option X) → c ≡ b → cond c (Some v) rest ≡ cond b (Some v)
+cond-shadowed : {X : Type 0} (b c : Bool) (v w : X) (rest : Option X) → c ≡ b → cond c (Some v) rest ≡ cond b (Some v)
     (cond c (Some w) rest)
-front true c v w rest e = rw e refl
-front false c v w rest e = rw e refl
+cond-shadowed true c v w rest e = rw e refl
+cond-shadowed false c v w rest e = rw e refl
 
-behind : {X : Type 0} (b c : Bool) (v w : X) (rest : Option X) → (b ≡ true → c ≡ false) → cond c (Some w)
+cond-swapped : {X : Type 0} (b c : Bool) (v w : X) (rest : Option X) → (b ≡ true → c ≡ false) → cond c (Some w)
     (cond b (Some v) rest) ≡ cond b (Some v) (cond c (Some w) rest)
-behind true c v w rest e = rw (e refl) refl
-behind false c v w rest e = refl
+cond-swapped true c v w rest e = rw (e refl) refl
+cond-swapped false c v w rest e = refl
 
 module _ {K X : Type 0} (bytes : K → List ℕ) where
   abbrev value_at : List ℕ → List (K × X) → Option X
@@ -188,7 +189,7 @@ module _ {K X : Type 0} (bytes : K → List ℕ) where
 
   lookup-insert_entry : (es : List (K × X)) (key : K) (value : X) (other : List ℕ)
       → value_at other (with_key es key value) ≡ cond (bytes_eq (bytes key) other) (Some value) (value_at other es)
-  lookup-insert_entry [] key value other = ap (λ (b : Bool). cond b (Some value) None) (test_is bytes key other)
+  lookup-insert_entry [] key value other = ap (λ (b : Bool). cond b (Some value) None) (is_at-by_bytes bytes key other)
   lookup-insert_entry (e ∷ es) key value other = go (by_bytes bytes (bytes key) e.0) refl
       (lookup-insert_entry es key value other)
     where
@@ -196,14 +197,15 @@ module _ {K X : Type 0} (bytes : K → List ℕ) where
           ≡ cond (bytes_eq (bytes key) other) (Some value) (value_at other es)
           → value_at other (match_ordering o ((key, value) ∷ e ∷ es) ((e.0, value) ∷ es) (e ∷ with_key es key value))
           ≡ cond (bytes_eq (bytes key) other) (Some value) (value_at other (e ∷ es))
-      go Less h rest = ap (λ (b : Bool). cond b (Some value) (value_at other (e ∷ es))) (test_is bytes key other)
+      go Less h rest = ap (λ (b : Bool). cond b (Some value) (value_at other (e ∷ es))) (is_at-by_bytes bytes key other)
       go Equal h rest =
           let same : bytes key ≡ bytes e.0 = exact_bytes (bytes key) (bytes e.0) h in
-          front (bytes_eq (bytes key) other) (is_at (by_bytes bytes other) e.0) value e.1 (value_at other es)
-          (test_is bytes e.0 other ∙ ap (λ (k : List ℕ). bytes_eq k other) (sym same))
+          cond-shadowed (bytes_eq (bytes key) other) (is_at (by_bytes bytes other) e.0) value e.1 (value_at other es)
+          (is_at-by_bytes bytes e.0 other ∙ ap (λ (k : List ℕ). bytes_eq k other) (sym same))
       go Greater h rest =
           ap (λ (o : Option X). cond (is_at (by_bytes bytes other) e.0) (Some e.1) o) rest
-          ∙ behind (bytes_eq (bytes key) other) (is_at (by_bytes bytes other) e.0) value e.1 (value_at other es) (λ b.
+          ∙ cond-swapped (bytes_eq (bytes key) other) (is_at (by_bytes bytes other) e.0) value e.1 (value_at other es)
+          (λ b.
           let same : bytes key ≡ other = (bytes_eq-Decides (bytes key) other).0 b in
           ap is_eq (ap (λ (k : List ℕ). by_bytes bytes k e.0) (sym same) ∙ h))
 
@@ -212,27 +214,28 @@ module _ {K X : Type 0} (bytes : K → List ℕ) where
 -- after a net is set on a page, its code has it, and the other codes have the nets that they had
 pub page_change : (old new : List (Vec (Option ℕ))) (entries : List (Vec ℕ × ℕ)) (code : List ℕ) (place : CodePlace)
     (net : ℕ) → Some place ≡ short_place code
-    → ((page entry : ℕ) → net_on new page entry
-    ≡ cond (eqb place.page page && eqb place.entry entry) (Some net) (net_on old page entry))
-    → (other : List ℕ) → found new entries other (short_place other) ≡ update bytes_eq
-    (λ code. found old entries code (short_place code)) code (Some net) other
+    → ((page entry : ℕ) → net_at_entry new page entry
+    ≡ cond (eqb place.page page && eqb place.entry entry) (Some net) (net_at_entry old page entry))
+    → (other : List ℕ) → net_of_code new entries other (short_place other) ≡ update bytes_eq
+    (λ code. net_of_code old entries code (short_place code)) code (Some net) other
 page_change old new entries code place net is set other =
     elim (same_or_not code other) [
       | inl s ↦
-          ap (λ (code : List ℕ). found new entries code (short_place code)) (sym s.1) ∙ ap (found new entries code)
+          ap (λ (code : List ℕ). net_of_code new entries code (short_place code)) (sym s.1)
+          ∙ ap (net_of_code new entries code)
           (sym is)
           ∙ set place.page place.entry
           ∙ cond-true (eqb place.page place.page && eqb place.entry place.entry) _ _ itself
           ∙ sym (cond-true (bytes_eq code other) (Some net) _ s.0)
       | inr o ↦ go (short_place other) refl o.1
-          ∙ sym (cond-false (bytes_eq code other) (Some net) (found old entries other (short_place other)) o.0)
+          ∙ sym (cond-false (bytes_eq code other) (Some net) (net_of_code old entries other (short_place other)) o.0)
     ]
   where
     itself : (eqb place.page place.page && eqb place.entry place.entry) ≡ true
     itself = rw (eq-eqb place.page place.page refl) (eq-eqb place.entry place.entry refl)
 
-    go : (n : Option CodePlace) → short_place other ≡ n → (code ≡ other → ⊥) → found new entries other n
-        ≡ found old entries other n
+    go : (n : Option CodePlace) → short_place other ≡ n → (code ≡ other → ⊥) → net_of_code new entries other n
+        ≡ net_of_code old entries other n
     go (Some at) is_at_place apart =
         set at.page at.entry ∙ cond-false (eqb place.page at.page && eqb place.entry at.entry) _ _
         (false_from_ne_true (eqb place.page at.page && eqb place.entry at.entry)
@@ -246,12 +249,12 @@ page_change old new entries code place net is set other =
 pub map_change : (pages : List (Vec (Option ℕ))) (old new : List (Vec ℕ × ℕ)) (code : List ℕ) (key : Vec ℕ)
     (net : ℕ) → None ≡ short_place code → key.items ≡ code
     → new ≡ insert_entry (λ x y. slice_cmp nat_cmp x.items y.items) old key net
-    → (other : List ℕ) → found pages new other (short_place other) ≡ update bytes_eq
-    (λ code. found pages old code (short_place code)) code (Some net) other
+    → (other : List ℕ) → net_of_code pages new other (short_place other) ≡ update bytes_eq
+    (λ code. net_of_code pages old code (short_place code)) code (Some net) other
 map_change pages old new code key net is bytes set other = go (short_place other) refl
   where
-    go : (n : Option CodePlace) → short_place other ≡ n → found pages new other n
-        ≡ cond (bytes_eq code other) (Some net) (found pages old other n)
+    go : (n : Option CodePlace) → short_place other ≡ n → net_of_code pages new other n
+        ≡ cond (bytes_eq code other) (Some net) (net_of_code pages old other n)
     go (Some k) at =
         let apart : bytes_eq code other ≡ false = false_from_ne_true (bytes_eq code other)
         (λ e. none-some k (is ∙ ap short_place ((bytes_eq-Decides code other).0 e) ∙ at)) in
@@ -259,4 +262,4 @@ map_change pages old new code key net is bytes set other = go (short_place other
     go None at =
         ap (lookup (is_at (by_bytes (λ (key : Vec ℕ). key.items) other))) set
         ∙ lookup-insert_entry (λ (key : Vec ℕ). key.items) old key net other
-        ∙ ap (λ (code : List ℕ). cond (bytes_eq code other) (Some net) (found pages old other None)) bytes
+        ∙ ap (λ (code : List ℕ). cond (bytes_eq code other) (Some net) (net_of_code pages old other None)) bytes

@@ -107,28 +107,29 @@ parts_at front both later = cond both (Some (take (length front - later - 1) fro
 abbrev some_parts : List ℕ → List ℕ → Option (List ℕ × List ℕ)
 some_parts name inner = Some (name, inner)
 
-abbrev front_of : List ℕ → List ℕ
-front_of text = take (length text - 1) text
+abbrev without_last : List ℕ → List ℕ
+without_last text = take (length text - 1) text
 
-pub bracketed-none : (text : List ℕ) → Nowhere (Passes (is_byte 91) (front_of text)) 0 (length (front_of text))
+pub bracketed-none : (text : List ℕ) → Nowhere (Passes (is_byte 91) (without_last text)) 0 (length (without_last text))
     → bracketed text ≡ None
 bracketed-none text none =
-    let any : list_any opens (front_of text) ≡ false = list_any_none opens (front_of text)
-    (λ k d lt. false_from_ne_true _ (λ here. none k (omega arith) lt (ap opens (get_or_default (front_of text) k 0 d lt)
+    let any : list_any opens (without_last text) ≡ false = list_any_none opens (without_last text)
+    (λ k d lt. false_from_ne_true _ (λ here. none k (omega arith) lt
+    (ap opens (get_or_default (without_last text) k 0 d lt)
     ∙ here))) in
-    ap (λ (b : Bool). parts_at (front_of text) b (suffix_len (λ x. not (opens x)) (front_of text)))
-    (and_right (eqb (get_or text (length text - 1) 0) 93) (list_any opens (front_of text)) any)
+    ap (λ (b : Bool). parts_at (without_last text) b (suffix_len (λ x. not (opens x)) (without_last text)))
+    (and_right (eqb (get_or text (length text - 1) 0) 93) (list_any opens (without_last text)) any)
 
 pub bracketed-some : (text : List ℕ) (place : ℕ) → get_or text (length text - 1) 0 ≡ 93
-    → NoneAfter (Passes (is_byte 91) (front_of text)) 0 (length (front_of text)) place → Passes (is_byte 91)
-    (front_of text) place
+    → NoneAfter (Passes (is_byte 91) (without_last text)) 0 (length (without_last text)) place → Passes (is_byte 91)
+    (without_last text) place
     → bracketed text ≡ Some (
-      take place (front_of text),
-      take (length (front_of text) - (place + 1))
-          (drop (place + 1) (front_of text)),
+      take place (without_last text),
+      take (length (without_last text) - (place + 1))
+          (drop (place + 1) (without_last text)),
     )
 bracketed-some text place closes last here =
-    let front = front_of text in
+    let front = without_last text in
     let any : list_any opens front ≡ true = list_any_at opens front place 0 last.high here in
     let back : place + 1 - 1 ≡ place = omega arith in
     let opened : not (opens (get_or front (place + 1 - 1) 0)) ≡ false = rw back (ap not here) in

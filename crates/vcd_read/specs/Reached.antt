@@ -2,7 +2,7 @@
 use Rattle.std.specs.Prelude.{ℕ, List, Option, Result}
 use Rattle.vcd_read.specs.declared.dump.Bit.{Bit}
 use Rattle.vcd_read.specs.declared.fault.VcdFault.{VcdFault}
-use Rattle.vcd_read.specs.declared.pieces.Pieces.{Pieces}
+use Rattle.vcd_read.specs.declared.pieces.BodyReader.{BodyReader}
 use Rattle.vcd_read.specs.Tokens.{Token}
 use Rattle.vcd_read.specs.Header.{Net}
 use Rattle.vcd_read.specs.Body.{BodyPlace}
@@ -20,7 +20,7 @@ pub record Reached (A : Type 0) : Type 0 where
   pub line : ℕ
 
 -- how far some pieces go, by what their visitor took
-abbrev pub reached : {T A : Type 0} → (T → A) → Pieces T → Reached A
+abbrev pub reached : {T A : Type 0} → (T → A) → BodyReader T → Reached A
 reached taken p =
     record {
       nets = p.codes;

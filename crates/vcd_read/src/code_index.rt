@@ -4,7 +4,7 @@ ghost use Rattle.std.specs.Prelude.{◌≡◌, ◌==◌, ◌&&◌, if◌then◌e
 ghost use Rattle.std.specs.Prelude.{OnErr, bytes_eq, nat_eq, length, slice_index_or};
 ghost use Rattle.std.specs.Map.{update};
 ghost use Rattle.vcd_read.specs.CodeNumbers.{digit, short_place};
-ghost use Rattle.vcd_read.specs.CodeIndexes.{net_on};
+ghost use Rattle.vcd_read.specs.CodeIndexes.{net_at_entry};
 
 use std::alloc::{AllocError, Global};
 use std::collections::BTreeMap;
@@ -28,7 +28,7 @@ pub(crate) struct CodeIndex {
 }
 
 impl CodeIndex {
-    ghost use Rattle.vcd_read.specs.CodeIndexes.{found, net_at};
+    ghost use Rattle.vcd_read.specs.CodeIndexes.{net_of_code, net_at};
 
     /// No code has a net.
     pub fn new(alloc: Global) -> CodeIndex
@@ -46,7 +46,7 @@ impl CodeIndex {
         ensures { result ≡ net_at self.now code.now }
     {
         match short_place(code) {
-            Some(place) => net_on(&self.short, place),
+            Some(place) => net_at_entry(&self.short, place),
             None => self.get_long(code),
         }
     }
@@ -54,7 +54,7 @@ impl CodeIndex {
     /// The net of a code without a place, where it has one.
     #[inline(never)]
     fn get_long(&self, code: &[u8]) -> Option<u32>
-        ensures { result ≡ found self.now.short.items self.now.long.entries code.now None }
+        ensures { result ≡ net_of_code self.now.short.items self.now.long.entries code.now None }
     {
         self.long.get(code).copied()
     }
@@ -77,18 +77,18 @@ impl CodeIndex {
 
 /// The net at a place, where it has one.
 #[inline(always)]
-fn net_on(pages: &[Vec<Option<u32>>], place: CodePlace) -> Option<u32>
-    ensures { result ≡ net_on pages.now place.page place.entry }
+fn net_at_entry(pages: &[Vec<Option<u32>>], place: CodePlace) -> Option<u32>
+    ensures { result ≡ net_at_entry pages.now place.page place.entry }
 {
     match pages.get(place.page) {
-        Some(page) => net_on_page(page, place.entry),
+        Some(page) => net_at_page_entry(page, place.entry),
         None => None,
     }
 }
 
 /// The net at an entry of a page, where it has one.
 #[inline(always)]
-fn net_on_page(nets: &[Option<u32>], entry: usize) -> Option<u32>
+fn net_at_page_entry(nets: &[Option<u32>], entry: usize) -> Option<u32>
     ensures { result ≡ slice_index_or nets.now entry None }
 {
     nets.get(entry).copied().flatten()
@@ -102,10 +102,10 @@ fn set_net(
     net: u32,
 ) -> Result<(), AllocError>
     requires { (place.page < 2 ^ 32) × (place.entry < 2 ^ 32) }
-    ensures ok { OnOk result ((page entry : ℕ) → net_on pages.new.items page entry
-        ≡ (if place.page == page && place.entry == entry then Some net else net_on pages.old.items page entry)) }
-    ensures err { OnErr result ((page entry : ℕ) → net_on pages.new.items page entry
-        ≡ net_on pages.old.items page entry) }
+    ensures ok { OnOk result ((page entry : ℕ) → net_at_entry pages.new.items page entry
+        ≡ (if place.page == page && place.entry == entry then Some net else net_at_entry pages.old.items page entry)) }
+    ensures err { OnErr result ((page entry : ℕ) → net_at_entry pages.new.items page entry
+        ≡ net_at_entry pages.old.items page entry) }
 {
     make_page(alloc, pages, place.page)?;
     set_on_page(&mut pages[place.page], place.entry, net)?;
@@ -119,7 +119,8 @@ fn make_page(
     page: usize,
 ) -> Result<(), AllocError>
     ensures made { OnOk result (page < length pages.new.items) }
-    ensures same { (page entry : ℕ) → net_on pages.new.items page entry ≡ net_on pages.old.items page entry }
+    ensures same { (page entry : ℕ) → net_at_entry pages.new.items page entry
+        ≡ net_at_entry pages.old.items page entry }
 {
     while pages.len() <= page {
         pages.reserve(1)?;

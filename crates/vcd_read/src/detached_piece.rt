@@ -14,7 +14,7 @@ use crate::change_visitor::ChangeVisitor;
 use crate::fault::FaultKind;
 use crate::number::decimal;
 use crate::open_item::OpenItem;
-use crate::pieces::Pieces;
+use crate::pieces::BodyReader;
 use crate::shape::{Shape, shape_of};
 use crate::timed_visitor::{Clock, TimedVisitor};
 use crate::token::Reader;
@@ -80,7 +80,7 @@ impl<T: ChangeVisitor> DetachedPiece<T> {
     }
 }
 
-impl<T: ChangeVisitor> Pieces<T> {
+impl<T: ChangeVisitor> BodyReader<T> {
     /// Reads a piece that begins on `line` and ends after a space, or where the text does, and gives its changes to a
     /// visitor of its own. `None` if the piece doesn't begin with a time, has a fault or ends within an item, and if
     /// memory runs out or lines could no longer be counted.
@@ -166,13 +166,13 @@ impl<T: ChangeVisitor> Pieces<T> {
 
     /// Continues after a piece that was read by itself, with the visitor of that piece. The visitor of what is
     /// before the piece is handed back; it took nothing of the piece, nor the end of an instant that the piece ends.
-    pub fn join<N: ChangeVisitor>(self, detached: DetachedPiece<N>) -> (Pieces<N>, T)
+    pub fn join<N: ChangeVisitor>(self, detached: DetachedPiece<N>) -> (BodyReader<N>, T)
         requires { MayFollow (reached T.taken self) (read_detached N.taken detached) }
         ensures behind { reached N.taken result.0
             ≡ behind_piece (reached T.taken self).nets (read_detached N.taken detached) }
         ensures visitor { T.taken result.1 ≡ (reached T.taken self).progress.accumulator }
     {
-        let Pieces {
+        let BodyReader {
             codes,
             state,
             line: _,
@@ -190,16 +190,16 @@ impl<T: ChangeVisitor> Pieces<T> {
             dump_section,
             place: OpenItem::Ready,
         };
-        let joined = Pieces { codes, state, line };
+        let joined = BodyReader { codes, state, line };
         (joined, visitor)
     }
 
     /// Continues with another visitor. The one before is handed back.
-    pub fn with_visitor<N: ChangeVisitor>(self, visitor: N) -> (Pieces<N>, T)
+    pub fn with_visitor<N: ChangeVisitor>(self, visitor: N) -> (BodyReader<N>, T)
         ensures pieces { reached N.taken result.0 ≡ with_taken (N.taken visitor) (reached T.taken self) }
         ensures visitor { T.taken result.1 ≡ (reached T.taken self).progress.accumulator }
     {
-        let Pieces { codes, state, line } = self;
+        let BodyReader { codes, state, line } = self;
         let BodyState {
             timed,
             dump_section,
@@ -214,7 +214,7 @@ impl<T: ChangeVisitor> Pieces<T> {
             dump_section,
             place,
         };
-        let pieces = Pieces { codes, state, line };
+        let pieces = BodyReader { codes, state, line };
         (pieces, before)
     }
 

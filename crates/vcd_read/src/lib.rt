@@ -23,7 +23,7 @@
 //! - [`read_vcd`] answers exactly the value that the grammar gives the text, or its first fault
 //!   with the fault's line (`dump_of`), or lack of memory. [`read_definitions`] and
 //!   [`Head::read_body`] give the same value, part by part, to a visitor.
-//! - What [`read_front`] and [`Pieces`] answer of a part of a text, a fault included, is the same
+//! - What [`read_front`] and [`BodyReader`] answer of a part of a text, a fault included, is the same
 //!   whatever follows (`HeaderContinuesAs`, `BodyContinuesTo`). A fault of the body comes with the
 //!   visitor that took all that precedes it, and with the last time there ([`Stopped`],
 //!   `ContinuesOrStops`).
@@ -89,7 +89,7 @@ pub use dump::{Bit, Bits, Dump, Instant, Path, Value, Values, Variable};
 pub use fault::{FaultKind, VcdFault};
 pub use head::{Head, read_definitions};
 pub use lines::line_feeds;
-pub use pieces::{Front, Pieces, read_front};
+pub use pieces::{BodyReader, Front, read_front};
 pub use read::read_vcd;
 pub use scopes::Scopes;
 pub use stopped::Stopped;

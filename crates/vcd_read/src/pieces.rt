@@ -50,7 +50,7 @@ impl<'a> Model for Front<'a> {
 
 /// A dump whose definitions are read, and of its body the pieces so far.
 #[derive(Drop)]
-pub struct Pieces<T: ChangeVisitor> {
+pub struct BodyReader<T: ChangeVisitor> {
     pub(crate) codes: Codes,
     pub(crate) state: BodyState<T>,
     /// The line that the next piece begins on.
@@ -98,7 +98,7 @@ pub fn read_front<D: DeclarationVisitor>(
 impl<'a> Front<'a> {
     /// Begins to read the body, of which nothing is read yet. The bytes are what the prefix has of it, the first piece:
     /// so a fault of the body is met in a piece.
-    pub fn before_body<T: ChangeVisitor>(self, visitor: T) -> (Pieces<T>, &'a [u8])
+    pub fn before_body<T: ChangeVisitor>(self, visitor: T) -> (BodyReader<T>, &'a [u8])
         ensures nets { (reached T.taken result.0).nets ≡ self.entry.head.nets }
         ensures progress { (reached T.taken result.0).progress
             ≡ record { accumulator = T.taken visitor; time = 0; has_instant = false } }
@@ -109,7 +109,7 @@ impl<'a> Front<'a> {
         ensures line { line_behind (reached T.taken result.0).line result.1.now ≡ self.entry.line }
     {
         let Front { codes, text, at } = self;
-        let pieces = Pieces {
+        let pieces = BodyReader {
             codes,
             state: BodyState::new(visitor),
             line: Reader::new(text).line(Start::Here(at)),
@@ -118,12 +118,12 @@ impl<'a> Front<'a> {
     }
 }
 
-impl<T: ChangeVisitor> Pieces<T> {
+impl<T: ChangeVisitor> BodyReader<T> {
     /// Reads the next piece of the body, which ends after a space, or where the text does. The first fault met is that
     /// of every text that continues so. It comes with the visitor that took all that is before it: the changes of each
     /// item, and the end of each instant that a later time follows. Where lines could no longer be counted, the fault
     /// is want of memory.
-    pub fn read_until_fault(self, alloc: Global, piece: &[u8]) -> Result<Pieces<T>, Stopped<T>>
+    pub fn read_until_fault(self, alloc: Global, piece: &[u8]) -> Result<BodyReader<T>, Stopped<T>>
         ensures nets { IfOk result (λ pieces. (reached T.taken pieces).nets ≡ (reached T.taken self).nets) }
         ensures line { IfOk result (λ pieces. (reached T.taken pieces).line
             ≡ line_behind (reached T.taken self).line piece.now) }
@@ -132,7 +132,7 @@ impl<T: ChangeVisitor> Pieces<T> {
             (rest_until_fault T.with_change T.with_instant (reached T.taken self)
             (tokens_from (reached T.taken self).line piece.now)) }
     {
-        let Pieces { codes, state, line } = self;
+        let BodyReader { codes, state, line } = self;
         if u64::MAX - line <= piece.len() as u64 {
             let time = state.timed.clock.time;
             return Err(Stopped::out_of_memory(state.timed.visitor, time));
@@ -141,13 +141,13 @@ impl<T: ChangeVisitor> Pieces<T> {
         let reader = Reader { text, at: 0 };
         let line = reader.line(Start::Here(piece.len()));
         match read_until_fault(alloc, reader, &codes, state) {
-            Ok(state) => Ok(Pieces { codes, state, line }),
+            Ok(state) => Ok(BodyReader { codes, state, line }),
             Err(stopped) => Err(stopped),
         }
     }
 
     /// As `read_until_fault`, but an error has the fault alone.
-    pub fn read(self, alloc: Global, piece: &[u8]) -> Result<Pieces<T>, VcdFault>
+    pub fn read(self, alloc: Global, piece: &[u8]) -> Result<BodyReader<T>, VcdFault>
         ensures nets { IfOk result (λ pieces. (reached T.taken pieces).nets ≡ (reached T.taken self).nets) }
         ensures line { IfOk result (λ pieces. (reached T.taken pieces).line
             ≡ line_behind (reached T.taken self).line piece.now) }

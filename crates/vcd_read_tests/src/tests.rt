@@ -1,7 +1,7 @@
 use std::alloc::{AllocError, Global};
 use vcd_read::{
-    Bit, ChangeVisitor, DetachedPiece, Dump, FaultKind, Front, Instant, Pieces, Stopped, Variable,
-    Variables, VcdFault, line_feeds, read_front, read_vcd,
+    Bit, BodyReader, ChangeVisitor, DetachedPiece, Dump, FaultKind, Front, Instant, Stopped,
+    Variable, Variables, VcdFault, line_feeds, read_front, read_vcd,
 };
 
 /// What a dump says, a line for each variable and each instant.
@@ -195,13 +195,13 @@ fn body_begun(
     alloc: Global,
     front: Front<'_>,
     variables: Variables,
-) -> Result<(Pieces<Visits>, Variables), VcdFault> {
+) -> Result<(BodyReader<Visits>, Variables), VcdFault> {
     let (pieces, rest) = front.before_body(no_visits(alloc));
     Ok((pieces.read(alloc, rest)?, variables))
 }
 
 /// Reads a text up to the end of its prefix `front`. `None` if its definitions don't end in `front`.
-fn begun(alloc: Global, front: &[u8]) -> Result<Option<(Pieces<Visits>, Variables)>, VcdFault> {
+fn begun(alloc: Global, front: &[u8]) -> Result<Option<(BodyReader<Visits>, Variables)>, VcdFault> {
     match read_front(alloc, front, Variables::new(alloc))? {
         Some((front, variables)) => Ok(Some(body_begun(alloc, front, variables)?)),
         None => Ok(None),
@@ -211,7 +211,7 @@ fn begun(alloc: Global, front: &[u8]) -> Result<Option<(Pieces<Visits>, Variable
 /// Reads a text from `begin` on, in pieces that end at `ends`.
 fn read_on(
     alloc: Global,
-    pieces: Pieces<Visits>,
+    pieces: BodyReader<Visits>,
     text: &[u8],
     begin: usize,
     ends: &[usize],
@@ -241,7 +241,7 @@ fn show_told(
 /// the fault that reading gives.
 fn body_says(
     alloc: Global,
-    begun: (Pieces<Visits>, Variables),
+    begun: (BodyReader<Visits>, Variables),
     text: &[u8],
     begin: usize,
     ends: &[usize],
@@ -319,10 +319,10 @@ fn visits_together(
 /// Puts the earlier visits before those of a piece that was joined.
 fn with_earlier(
     alloc: Global,
-    pieces: Pieces<Visits>,
+    pieces: BodyReader<Visits>,
     earlier: Visits,
     ended: Option<u64>,
-) -> Result<Pieces<Visits>, AllocError> {
+) -> Result<BodyReader<Visits>, AllocError> {
     let (pieces, later) = pieces.with_visitor(no_visits(alloc));
     let (pieces, _) = pieces.with_visitor(visits_together(earlier, ended, later)?);
     Ok(pieces)
@@ -331,14 +331,14 @@ fn with_earlier(
 /// A body that is read in pieces, and how many of them were joined.
 #[derive(Drop)]
 struct Joined {
-    pieces: Pieces<Visits>,
+    pieces: BodyReader<Visits>,
     count: usize,
 }
 
 /// Adds the next piece, which was read by itself: it is joined if it fits, and else read again, in order.
 fn join_or_read(
     alloc: Global,
-    pieces: Pieces<Visits>,
+    pieces: BodyReader<Visits>,
     piece: &[u8],
     detached: DetachedPiece<Visits>,
 ) -> Result<Joined, VcdFault> {
@@ -353,7 +353,11 @@ fn join_or_read(
     })
 }
 
-fn read_in_order(alloc: Global, pieces: Pieces<Visits>, piece: &[u8]) -> Result<Joined, VcdFault> {
+fn read_in_order(
+    alloc: Global,
+    pieces: BodyReader<Visits>,
+    piece: &[u8],
+) -> Result<Joined, VcdFault> {
     Ok(Joined {
         pieces: pieces.read(alloc, piece)?,
         count: 0,
@@ -364,8 +368,8 @@ fn read_in_order(alloc: Global, pieces: Pieces<Visits>, piece: &[u8]) -> Result<
 /// fits.
 fn read_and_join(
     alloc: Global,
-    origin: &Pieces<Visits>,
-    pieces: Pieces<Visits>,
+    origin: &BodyReader<Visits>,
+    pieces: BodyReader<Visits>,
     body: &[u8],
     ends: &[usize],
 ) -> Result<(Visits, usize), VcdFault> {
@@ -675,7 +679,7 @@ fn faults_of_bodies(rt: HostRuntime) {
 /// Where reading a body in pieces with the ends `ends` stops, if it does.
 fn stopped_in_body(
     alloc: Global,
-    pieces: Pieces<Visits>,
+    pieces: BodyReader<Visits>,
     body: &[u8],
     ends: &[usize],
 ) -> Option<Stopped<Visits>> {
@@ -880,7 +884,7 @@ static TIMES: [(&str, u64); 5] = [
 const ONE_CHANGE: &str = "$var wire 1 p AS $end\n$enddefinitions $end\n1p\n";
 
 /// The first piece after which another time is the last, or which isn't read.
-fn first_wrong_time(alloc: Global, pieces: Pieces<Visits>) -> Option<&'static str> {
+fn first_wrong_time(alloc: Global, pieces: BodyReader<Visits>) -> Option<&'static str> {
     let mut pieces = pieces;
     for (piece, time) in TIMES.iter() {
         pieces = match pieces.read(alloc, piece.as_bytes()) {
@@ -1346,7 +1350,7 @@ const BODY_SHOWN: &str = "\
 /// if the definitions of `FRONT` don't end.
 fn join_after_front(
     alloc: Global,
-    origin: &Pieces<Visits>,
+    origin: &BodyReader<Visits>,
     body: &[u8],
     ends: &[usize],
 ) -> Result<Option<(Visits, usize)>, VcdFault> {

@@ -12,7 +12,7 @@ ghost use Rattle.vcd_start.specs.StartReading.{IsStartRead};
 use crate::first_instant::FirstInstant;
 use crate::no_variables::NoVariables;
 use std::alloc::{AllocError, Global};
-use vcd_read::{FaultKind, Pieces, VcdFault, read_front, whole_tokens};
+use vcd_read::{BodyReader, FaultKind, VcdFault, read_front, whole_tokens};
 
 /// What a prefix of a text determines of its first time.
 #[derive(Clone, Copy, Debug)]
@@ -25,7 +25,7 @@ pub enum Start {
 
 /// Reads what `front` has of a body. `None` if the definitions don't end in `front`. A fault is that of every text that
 /// begins with the tokens of `front`.
-fn read_in(alloc: Global, front: &[u8]) -> Result<Option<Pieces<FirstInstant>>, VcdFault>
+fn read_in(alloc: Global, front: &[u8]) -> Result<Option<BodyReader<FirstInstant>>, VcdFault>
     ensures read { IfOk result
         (λ found. IfSome found (λ pieces. IsStartRead front.now (reached (λ v. v.time) pieces))) }
     ensures none { IfOk result (λ found. IfNone found ((dump : Contents) → dump_of front.now ≡ Ok dump → ⊥)) }
@@ -56,7 +56,7 @@ fn unless_memory(fault: VcdFault) -> Result<(), AllocError>
 }
 
 /// What the body that is read so far determines of the first time.
-fn start_by_pieces(pieces: Pieces<FirstInstant>) -> Start
+fn start_by_pieces(pieces: BodyReader<FirstInstant>) -> Start
     ensures { (front text : List ℕ) (more : List Token) → IsStartRead front (reached (λ v. v.time) pieces)
         → tokens text ≡ tokens front ++ more → DeterminesStart text result }
 {

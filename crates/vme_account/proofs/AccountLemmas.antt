@@ -7,7 +7,7 @@ use Rattle.std.specs.Prelude.{◌||◌, count_by, find}
 use Rattle.std.specs.List.{fold}
 use Rattle.std.specs.Option.{option_and_then}
 use Rattle.vme_trace.specs.Instants.{any}
-use Rattle.vme_trace.specs.Judged.{Stretch, is_idle_at, judged_spans}
+use Rattle.vme_trace.specs.Judged.{Stretch, is_idle_at, judged_stretches}
 use Rattle.vme_trace.specs.Levels.{Levels, is_idle}
 use Rattle.vme_trace.specs.Rules.{all_rules}
 use Rattle.vme_trace.specs.Trace.{Trace, changed, levels_at}
@@ -16,7 +16,7 @@ use Rattle.vme_trace.specs.WellFormed.{malformed_step}
 use Rattle.vme_trace.specs.declared.step.Step.{Step}
 use Rattle.vme_trace.specs.declared.verdict.Break.{Break}
 use Rattle.vme_trace.specs.declared.verdict.Verdict.TheVariants.{Conforming, NeverIdle}
-use Rattle.vme_trace.proofs.JudgedSpans.{awaits-first, spans_from_first, spans_next}
+use Rattle.vme_trace.proofs.JudgedStretches.{awaits-first, stretches_from_first, stretches_next}
 use Rattle.vme_trace.proofs.Ranges.{fails-any}
 use Rattle.vme_audit.specs.Parts.{named_break}
 use Rattle.vme_listing.specs.Recorded.{outcome_of, recorded_rows}
@@ -27,7 +27,7 @@ use Rattle.vme_listing.specs.declared.row.Row.TheVariants as row
 use Rattle.vme_monitor.specs.OverStretches.{has_started}
 use Rattle.vme_monitor.specs.Run.{mark_at}
 use Rattle.vme_monitor.specs.Shows.{marks_over}
-use Rattle.vme_monitor.specs.Whole.{has_span}
+use Rattle.vme_monitor.specs.Whole.{has_any_stretch}
 use Rattle.vme_monitor.specs.declared.mark.Mark.{Mark}
 use Rattle.vme_summary.specs.AllShown.{all_marks, all_over}
 use Rattle.vme_summary.specs.MarkedRows.{marks_listed, opening_marks, rows_of}
@@ -57,14 +57,14 @@ named-verdict t b e = first_determines_verdict t b (first_is t ∙ e)
 
 -- if the verdict names no break, it depends on whether anything is judged
 pub unnamed-verdict : (t : Trace) → named_break (verdict t) ≡ None → verdict t
-    ≡ cond (has_span (judged_spans t)) Conforming NeverIdle
+    ≡ cond (has_any_stretch (judged_stretches t)) Conforming NeverIdle
 unfolding verdict_by
-unnamed-verdict t e = conforms (judged_spans t) e
+unnamed-verdict t e = conforms (judged_stretches t) e
   where
-    conforms : (spans : List Stretch) → named_break (judge all_rules t spans) ≡ None
-        → judge all_rules t spans ≡ cond (has_span spans) Conforming NeverIdle
+    conforms : (stretches : List Stretch) → named_break (judge all_rules t stretches) ≡ None
+        → judge all_rules t stretches ≡ cond (has_any_stretch stretches) Conforming NeverIdle
     conforms [] e = refl
-    conforms (span ∷ spans) e = ap verdict_on (sym (named_on (least_of all_rules t (span ∷ spans))) ∙ e)
+    conforms (stretch ∷ stretches) e = ap verdict_on (sym (named_on (least_of all_rules t (stretch ∷ stretches))) ∙ e)
 
 -- ---- whether anything is judged
 
@@ -96,7 +96,7 @@ quiet-reached (s ∷ x) o n m ms none =
 
 pub started-reached : KnowsStart → (t : Trace) → malformed_step t ≡ None → t.opening.slots ≤ 21
     → (reached t.opening t.steps).found ≡ None
-    → has_started (reached t.opening t.steps).memories.known ≡ has_span (judged_spans t)
+    → has_started (reached t.opening t.steps).memories.known ≡ has_any_stretch (judged_stretches t)
 unfolding reached
 started-reached starts t ok few none =
     ap (λ (m : Memories). has_started m.known)
@@ -106,17 +106,18 @@ started-reached starts t ok few none =
 -- ---- the listing
 
 -- in a recording with an idle opening something is judged
-idle_starts : (t : Trace) → is_idle t.opening ≡ true → has_span (judged_spans t) ≡ true
+idle_starts : (t : Trace) → is_idle t.opening ≡ true → has_any_stretch (judged_stretches t) ≡ true
 unfolding is_idle_at levels_at
 idle_starts t idle =
     let none : any (is_idle_at t) 0 0 ≡ false = fails-any (is_idle_at t) 0 0 (λ i a b. absurd (omega arith)) in
-    ap has_span (spans_from_first t ∙ (spans_next t 0 0 (awaits-first t) (omega arith) (omega arith) idle none).1)
+    ap has_any_stretch (stretches_from_first t ∙ (stretches_next t 0 0 (awaits-first t) (omega arith) (omega arith) idle
+    none).1)
 
 -- a recording in which nothing is judged has no marks
-module _ (t : Trace) (nothing : has_span (judged_spans t) ≡ false) where
-  no_spans : (spans : List Stretch) → has_span spans ≡ false → spans ≡ []
-  no_spans [] e = refl
-  no_spans (span ∷ spans) e = absurd (cc e)
+module _ (t : Trace) (nothing : has_any_stretch (judged_stretches t) ≡ false) where
+  no_stretches : (stretches : List Stretch) → has_any_stretch stretches ≡ false → stretches ≡ []
+  no_stretches [] e = refl
+  no_stretches (stretch ∷ stretches) e = absurd (cc e)
 
   no_opening : (b : Bool) → is_idle t.opening ≡ b → opening_marks t.opening ≡ []
   no_opening false e = rw e refl
@@ -124,8 +125,8 @@ module _ (t : Trace) (nothing : has_span (judged_spans t) ≡ false) where
 
   none_listed : (o : Option Break) → marks_listed o (all_marks t) ≡ []
   none_listed o =
-      ap (λ (spans : List Stretch). marks_listed o (marks_over (all_over t) t spans))
-      (no_spans (judged_spans t) nothing)
+      ap (λ (stretches : List Stretch). marks_listed o (marks_over (all_over t) t stretches))
+      (no_stretches (judged_stretches t) nothing)
       ∙ of_nothing o
     where
       of_nothing : (o : Option Break) → marks_listed o [] ≡ []
@@ -147,7 +148,7 @@ module _ (finds : FindsFirst) (shows : ShowsMarks) (t : Trace) (ok : malformed_s
   found-named = reached-first t.opening t.steps ∙ sym (finds t ok few)
 
   abbrev first : Option Break
-  first = least_of all_rules t (judged_spans t)
+  first = least_of all_rules t (judged_stretches t)
 
   abbrev marks : List Mark
   marks = opening_marks t.opening ++ marks_listed first (all_marks t)
@@ -160,7 +161,7 @@ module _ (finds : FindsFirst) (shows : ShowsMarks) (t : Trace) (ok : malformed_s
       ∙ ap (λ (ms : List Mark). opening_marks t.opening ++ marks_listed first ms) (shows t ok few))
 
   -- the listing has the rows of the marks that are reached, and a verdict after them
-  rows_by : (b : Bool) → has_span (judged_spans t) ≡ b
+  rows_by : (b : Bool) → has_any_stretch (judged_stretches t) ≡ b
       → (v : ListedVerdict) × (rows_of None marks ++ row.Verdict v ∷ [] ≡ recorded_rows t)
   rows_by true e = (
     outcome_of first,
@@ -200,7 +201,7 @@ module _ (finds : FindsFirst) (shows : ShowsMarks) (t : Trace) (ok : malformed_s
 
   rows_listed : (v : ListedVerdict) × (rows ++ row.Verdict v ∷ [] ≡ recorded_rows t)
   rows_listed =
-      let (v, is) = rows_by (has_span (judged_spans t)) refl in
+      let (v, is) = rows_by (has_any_stretch (judged_stretches t)) refl in
       (v, ap (λ (ms : List Mark). rows_of None ms ++ row.Verdict v ∷ []) marks_are ∙ is)
 
   pub counts-listed : (k : RowKind) → count_by (is_of k) rows ≡ count_by (is_of k) (recorded_rows t)

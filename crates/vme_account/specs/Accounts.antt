@@ -4,8 +4,8 @@ use Rattle.std.specs.Global.{Box}
 use Rattle.vme_audit.specs.Parts.{named_break}
 use Rattle.vme_listing.specs.Recorded.{recorded_rows}
 use Rattle.vme_monitor.specs.OverStretches.{has_started}
-use Rattle.vme_monitor.specs.Whole.{has_span}
-use Rattle.vme_trace.specs.Judged.{judged_spans}
+use Rattle.vme_monitor.specs.Whole.{has_any_stretch}
+use Rattle.vme_trace.specs.Judged.{judged_stretches}
 use Rattle.vme_trace.specs.Levels.{Levels}
 use Rattle.vme_trace.specs.Trace.{Trace}
 use Rattle.vme_trace.specs.Verdict.{verdict}
@@ -61,7 +61,8 @@ last_kept a = a.running.value.kept.end
 pub record IsAccountOf (a : Account) (t : Trace) : Type 0 where
   pub opening : a.opening ≡ t.opening
   pub found : found_break a ≡ named_break (verdict t)
-  pub started : found_break a ≡ None → has_started a.running.value.judged.memories.known ≡ has_span (judged_spans t)
+  pub started : found_break a ≡ None → has_started a.running.value.judged.memories.known
+      ≡ has_any_stretch (judged_stretches t)
   pub unended : (p : Part) → open_in a.opened p ≡ open_row p (recorded_rows t)
   pub counts : (k : RowKind) → is_counted k ≡ true → count_in a.counts k ≡ count_by (is_of k) (recorded_rows t)
   pub kept : AreStored t.opening t.steps a.running.value.kept

@@ -4,14 +4,15 @@ use Rattle.std.specs.Prelude.{◌==◌, filter, Option, None, Some, Result, Ok, 
 use Rattle.vme_trace.specs.Streams.{Reading, Writing}
 use Rattle.vme_trace.specs.Trace.{Trace}
 use Rattle.vme_trace.specs.Verdict.{rules_in_force, verdict_by}
-use Rattle.vme_stream.specs.Inputs.{TellsWhole}
+use Rattle.vme_stream.specs.Inputs.{IsReadWhole}
 use Rattle.vme_listing.specs.Listed.{Listed}
 use Rattle.vme_listing.specs.Recorded.{recorded_rows}
 use Rattle.vme_stream.specs.Answers.{AnswerGives}
-use Rattle.vme_stream.specs.Ends.{Ends, Tells}
+use Rattle.vme_stream.specs.Ends.{Ends, WritesAnswer}
 use Rattle.vme_stream.specs.declared.refusal.Refusal.{Refusal}
 use Rattle.vme_stream.specs.declared.refusal.Refusal.TheVariants.{Memory}
-use Rattle.vme_stream.proofs.EndLemmas.{Does-exact, Does-unwritten, given_is, not_both, read_is, refusal_status-small}
+use Rattle.vme_stream.proofs.EndLemmas.{AnswersInputs-exact, AnswersInputs-unwritten, given_is, not_both, read_is}
+use Rattle.vme_stream.proofs.EndLemmas.{refusal_status-small}
 use Rattle.vme_stream.proofs.EndLemmas.{unwritten_by, verdict_status-small}
 use Rattle.vme_commands.specs.Settled.{settled_recording}
 use Rattle.vme_commands.proofs.ListLemmas.{ReadAgreesWith}
@@ -62,13 +63,14 @@ module _ (skew : ℕ) (binding dump : Reading × Reading) (block : ℕ) (out err
   pub WritesTimes-unwritten : WritesTimes skew binding dump block out err status
       → (status ≡ 5) ↔ (out.1.failures ≡ suc out.0.failures)
   WritesTimes-unwritten =
-      Does-unwritten timed_answer_by timed_answer-small (ReadAgreesWith skew block) binding dump out err status
+      AnswersInputs-unwritten timed_answer_by timed_answer-small (ReadAgreesWith skew block) binding dump out err status
 
   pub WritesTimes-exact : WritesTimes skew binding dump block out err status → (b d : List ℕ)
-      → TellsWhole binding.0 binding.1 b → TellsWhole dump.0 dump.1 d → out.1.failures ≡ out.0.failures
-      → (status ≡ 4 → ⊥) → Tells (timed_answer_of skew (Some b) (Some d) block) out err status
+      → IsReadWhole binding.0 binding.1 b → IsReadWhole dump.0 dump.1 d → out.1.failures ≡ out.0.failures
+      → (status ≡ 4 → ⊥) → WritesAnswer (timed_answer_of skew (Some b) (Some d) block) out err status
   WritesTimes-exact writes b d =
-      Does-exact timed_answer_by timed_answer-small (ReadAgreesWith skew block) binding dump out err status writes b d
+      AnswersInputs-exact timed_answer_by timed_answer-small (ReadAgreesWith skew block) binding dump out err status
+      writes b d
       (timed_answer_of skew (Some b) (Some d) block)
       (λ found. given_is timed_answer_by refl found (settled_recording skew (Some b) (Some d) block))
 
@@ -88,12 +90,12 @@ found-is_defined text (Err r) defined given memory = sym given
 told_exactly : (text dump : List ℕ) (found defined : Result Trace Refusal) (out err : Writing × Writing) (status : ℕ)
     → Ends (annotation_answer_by text found) out err status → AnswerGives (λ (t : Trace). t) found defined
     → IsAnnotationOf (Some dump) found text → out.1.failures ≡ out.0.failures → (status ≡ 4 → ⊥)
-    → IsAnnotationOf (Some dump) defined text × Tells (annotation_answer_by text defined) out err status
+    → IsAnnotationOf (Some dump) defined text × WritesAnswer (annotation_answer_by text defined) out err status
 told_exactly text dump found defined out err status (inl told) given annotation same memory =
     let is : found ≡ defined =
     found-is_defined text found defined given (λ is_memory. memory (told.status_is ∙ is_memory)) in (
       subst (λ (r : Result Trace Refusal). IsAnnotationOf (Some dump) r text) is annotation,
-      subst (λ (r : Result Trace Refusal). Tells (annotation_answer_by text r) out err status) is told,
+      subst (λ (r : Result Trace Refusal). WritesAnswer (annotation_answer_by text r) out err status) is told,
     )
 told_exactly text dump found defined out err status (inr failed) given annotation same memory =
     absurd (not_both out.1.failures out.0.failures same failed.out_is.1)
@@ -106,7 +108,7 @@ module _ (skew : ℕ) (binding dump : Reading × Reading) (out err : Writing × 
       unwritten_by (annotation_answer_by text) (annotation_answer-small text) found out err status end
 
   pub Annotates-exact : Annotates skew binding dump out err status → (b d : List ℕ)
-      → TellsWhole binding.0 binding.1 b → TellsWhole dump.0 dump.1 d → out.1.failures ≡ out.0.failures
+      → IsReadWhole binding.0 binding.1 b → IsReadWhole dump.0 dump.1 d → out.1.failures ≡ out.0.failures
       → (status ≡ 4 → ⊥) → TellsAnnotation skew b d out err status
   Annotates-exact does b d told_b told_d same memory =
       let (binding_bytes, dump_bytes, found, text, binding_read, dump_read, given, annotation, end) = does in

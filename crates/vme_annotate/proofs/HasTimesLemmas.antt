@@ -87,11 +87,11 @@ module _ (dump : List ℕ) where
   trace_in other (Ok t) = t
   trace_in other (Err fault) = other
 
-  pub recorded_reached : (bound : BoundLines) (contents : Contents) (t : Trace) → recording_of bound contents ≡ Ok t
+  pub recorded_reached : (binding : BoundLines) (contents : Contents) (t : Trace) → recording_of binding contents ≡ Ok t
       → AllReached contents.instants → EachReached t.steps
   unfolding recording_of recording step_at
-  recorded_reached bound contents t e each =
-      let read = both_read (bound_groups_in contents.variables bound.assignments) _ t e in
+  recorded_reached binding contents t e each =
+      let read = both_read (bound_groups_in contents.variables binding.assignments) _ t e in
       subst (λ (r : Trace). EachReached r.steps) (ap (trace_in t) read.2) (map_reached _ _ each)
 
 -- ---- times that don't go back

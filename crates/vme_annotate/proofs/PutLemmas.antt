@@ -13,8 +13,8 @@ use Rattle.std.specs.Result.{is_err}
 use Rattle.vme_annotate.specs.Outputs.{HasPutBy, IsHeld}
 
 -- a prefix of `x` is a prefix of `x ++ y`
-front_of : (x y : List ℕ) (n : ℕ) → take n x ≡ take (length (take n x)) (x ++ y)
-front_of x y n =
+take-of_longer : (x y : List ℕ) (n : ℕ) → take n x ≡ take (length (take n x)) (x ++ y)
+take-of_longer x y n =
     let split : x ++ y ≡ take n x ++ (drop n x ++ y) =
     ap (λ (l : List ℕ). l ++ y) (sym (take-append-drop n x)) ∙ append_assoc (take n x) (drop n x) y in
     sym (ap (take (length (take n x))) split ∙ take-append_seam (take n x) (drop n x ++ y))
@@ -25,7 +25,7 @@ writes_both a b c x y one two = (Appends-trans a.taken b.taken c.taken x y one.0
 pub fails_longer : (a b : Writing) (x y : List ℕ) → FailsToWrite a b x → FailsToWrite a b (x ++ y)
 fails_longer a b x y one =
     let ((n, appends), more) = one in
-    ((length (take n x), subst (Appends a.taken b.taken) (front_of x y n) appends), more)
+    ((length (take n x), subst (Appends a.taken b.taken) (take-of_longer x y n) appends), more)
 
 fails_after : (a b c : Writing) (x y : List ℕ) → Writes a b x → FailsToWrite b c y → FailsToWrite a c (x ++ y)
 fails_after a b c x y one two =

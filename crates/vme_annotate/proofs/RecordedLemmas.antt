@@ -62,46 +62,46 @@ bound_is (Err fault) t e = absurd cc
 
 -- ---- what is listed is the deskewed recording of a dump
 
-pub record IsRecorded (skew : ℕ) (bound : BoundLines) (dump : List ℕ) (t : Trace) : Type 0 where
+pub record IsRecorded (skew : ℕ) (binding : BoundLines) (dump : List ℕ) (t : Trace) : Type 0 where
   pub contents : Contents
   pub read_is : dump_of dump ≡ Ok contents
   pub raw : Trace
-  pub raw_is : recording_of bound contents ≡ Ok raw
+  pub raw_is : recording_of binding contents ≡ Ok raw
   pub settles : settled skew raw ≡ t
 
-pub recorded : (skew : ℕ) (bound : BoundLines) (dump : List ℕ) (block : ℕ) (t : Trace)
-    → recording_to_list skew bound (or_bad_dump (dump_of dump)) block ≡ Ok t → IsRecorded skew bound dump t
-recorded skew bound dump block t e =
+pub recorded : (skew : ℕ) (binding : BoundLines) (dump : List ℕ) (block : ℕ) (t : Trace)
+    → recording_to_list skew binding (or_bad_dump (dump_of dump)) block ≡ Ok t → IsRecorded skew binding dump t
+recorded skew binding dump block t e =
     let read : Result Contents Refusal = or_bad_dump (dump_of dump) in
-    let (u, settled_as, cut) = both_read (settled_or skew (capture_by bound read)) (in_blocks block) t e in
+    let (u, settled_as, cut) = both_read (settled_or skew (capture_by binding read)) (in_blocks block) t e in
     let same : u ≡ t = or_refused_is _ _ u t cut in
-    let (raw, captured, settles) = settled_is skew (capture_by bound read) u settled_as in
-    let (whole, taken, short) = both_read (recording_by bound read) or_too_long raw
-    (sym (capture_by-short bound read) ∙ captured) in
+    let (raw, captured, settles) = settled_is skew (capture_by binding read) u settled_as in
+    let (whole, taken, short) = both_read (recording_by binding read) or_too_long raw
+    (sym (capture_by-short binding read) ∙ captured) in
     let all : whole ≡ raw = limited_is _ _ whole raw short in
     let (contents, dumped, made) = both_read read _ whole taken in
     record {
       contents = contents;
       read_is = dump_read_is (dump_of dump) contents dumped;
       raw = raw;
-      raw_is = bound_is (recording_of bound contents) raw (made ∙ ap (λ (r : Trace). Ok r) all);
+      raw_is = bound_is (recording_of binding contents) raw (made ∙ ap (λ (r : Trace). Ok r) all);
       settles = settles ∙ same;
     }
 
-module _ (skew : ℕ) (bound : BoundLines) (dump : List ℕ) (t : Trace) (is : IsRecorded skew bound dump t) where
-  text_is : recording_of_text bound dump ≡ Ok is.raw
+module _ (skew : ℕ) (binding : BoundLines) (dump : List ℕ) (t : Trace) (is : IsRecorded skew binding dump t) where
+  text_is : recording_of_text binding dump ≡ Ok is.raw
   unfolding recording_of_text
   text_is =
-      ap (recording_read bound) is.read_is ∙ ap (λ (r : Result Trace BindFault). or_binding r) is.raw_is
+      ap (recording_read binding) is.read_is ∙ ap (λ (r : Result Trace BindFault). or_binding r) is.raw_is
 
   raw_recording : IsRecording is.raw
   unfolding recording_of recording levels_after
   raw_recording =
-      let read = both_read (bound_groups_in is.contents.variables bound.assignments) _ is.raw is.raw_is in
+      let read = both_read (bound_groups_in is.contents.variables binding.assignments) _ is.raw is.raw_is in
       record {
         whole = subst (λ (r : Trace). length r.opening.levels ≡ line_count) (ap (trace_in is.raw) read.2)
-            (levels-all bound.slots read.0 is.contents.instants 0);
-        formed = recorded-formed bound dump is.raw text_is;
+            (levels-all binding.slots read.0 is.contents.instants 0);
+        formed = recorded-formed binding dump is.raw text_is;
       }
 
   formed : malformed_step t ≡ None
@@ -115,7 +115,7 @@ module _ (skew : ℕ) (bound : BoundLines) (dump : List ℕ) (t : Trace) (is : I
   pub has_times : HasTimes dump t
   has_times =
       let read : IsDump dump is.contents = dump_is dump is.contents is.read_is in
-      let each = recorded_reached dump bound is.contents is.raw is.raw_is
+      let each = recorded_reached dump binding is.contents is.raw is.raw_is
       (each_instant dump is.contents is.read_is) in
       record {
         defined = subst (λ (o : Option (List Token)). IsSome o) (sym read.ends) refl;

@@ -4,12 +4,12 @@ use Rattle.vme_trace.specs.Streams.{Reading, Writing}
 use Rattle.vme_trace.specs.Trace.{Trace}
 use Rattle.vme_trace.specs.Verdict.{verdict_by, rules_in_force}
 use Rattle.vme_stream.specs.Answers.{AnswerGives, CommandAnswer, refusal_answer}
-use Rattle.vme_stream.specs.Ends.{Does, Ends, Tells}
+use Rattle.vme_stream.specs.Ends.{AnswersInputs, Ends, WritesAnswer}
 use Rattle.vme_stream.specs.Texts.{verdict_status}
 use Rattle.vme_stream.specs.declared.refusal.Refusal.{Refusal}
 use Rattle.vme_commands.specs.Settled.{settled_recording}
 use Rattle.vme_commands.specs.declared.built_in.TheConstants.{BLOCK}
-use Rattle.vme_stream.specs.Inputs.{IsReading, TellsWhole}
+use Rattle.vme_stream.specs.Inputs.{IsReading, IsReadWhole}
 use Rattle.vme_annotation.specs.Annotated.{IsAnnotated}
 use Rattle.vme_annotate.specs.TimedListings.{timed_text}
 
@@ -30,7 +30,7 @@ timed_answer_of skew binding dump block = timed_answer_by (settled_recording ske
 abbrev pub WritesTimes : ℕ → Reading × Reading → Reading × Reading → ℕ → Writing × Writing → Writing × Writing → ℕ
     → Type 0
 WritesTimes skew binding dump block out err status =
-    Does timed_answer_by (λ b d recording. AnswerGives (λ t. t) recording (settled_recording skew b d block))
+    AnswersInputs timed_answer_by (λ b d recording. AnswerGives (λ t. t) recording (settled_recording skew b d block))
     binding dump out err status
 
 -- ---- annotated dumps
@@ -62,11 +62,11 @@ abbrev pub TellsAnnotation : ℕ → List ℕ → List ℕ → Writing × Writin
 TellsAnnotation skew binding dump out err status =
     (text : List ℕ)
     × IsAnnotationOf (Some dump) (settled_recording skew (Some binding) (Some dump) BLOCK) text
-    × Tells (annotation_answer_by text (settled_recording skew (Some binding) (Some dump) BLOCK)) out err status
+    × WritesAnswer (annotation_answer_by text (settled_recording skew (Some binding) (Some dump) BLOCK)) out err status
 
 -- if both inputs are read whole, no write to `out` fails and memory suffices, exactly their answer is written
 abbrev pub AnnotatesExactly : ℕ → Reading × Reading → Reading × Reading → Writing × Writing → Writing × Writing → ℕ
     → Type 0
 AnnotatesExactly skew binding dump out err status =
-    (b d : List ℕ) → TellsWhole binding.0 binding.1 b → TellsWhole dump.0 dump.1 d → out.1.failures ≡ out.0.failures
+    (b d : List ℕ) → IsReadWhole binding.0 binding.1 b → IsReadWhole dump.0 dump.1 d → out.1.failures ≡ out.0.failures
     → status ≢ 4 → TellsAnnotation skew b d out err status

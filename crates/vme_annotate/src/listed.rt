@@ -92,39 +92,39 @@ fn verdict_row_status(outcome: ListedVerdict) -> u8
     }
 }
 
-/// The listing of the recording that the binding `bound` makes of a dump's text, settled, i.e. deskewed, by `skew`,
+/// The listing of the recording that `binding` makes of a dump's text, settled, i.e. deskewed, by `skew`,
 /// with the times of its steps; or why there is none. The text is read once.
 pub(crate) fn listed_in(
     alloc: Global,
-    bound: &Binding,
+    binding: &Binding,
     text: &[u8],
     skew: u64,
     block: u32,
 ) -> Result<TimedListing, Refusal>
     requires { (1 ≤ block) × (block ≤ 65536) }
-    ensures { GivesTimedListing result (recording_to_list skew bound.now (or_bad_dump (dump_of text.now)) block) }
+    ensures { GivesTimedListing result (recording_to_list skew binding.now (or_bad_dump (dump_of text.now)) block) }
 {
-    listed_by_skew::<Brand>(alloc, bound, text, skew, block)
+    listed_by_skew::<Brand>(alloc, binding, text, skew, block)
 }
 
 /// `listed_in`, where the type `K` stands for `skew`.
 fn listed_by_skew<K: GhostSkew>(
     alloc: Global,
-    bound: &Binding,
+    binding: &Binding,
     text: &[u8],
     skew: u64,
     block: u32,
 ) -> Result<TimedListing, Refusal>
     requires block { (1 ≤ block) × (block ≤ 65536) }
     requires skew { skew ≡ K.skew }
-    ensures { GivesTimedListing result (recording_to_list K.skew bound.now (or_bad_dump (dump_of text.now)) block) }
+    ensures { GivesTimedListing result (recording_to_list K.skew binding.now (or_bad_dump (dump_of text.now)) block) }
 {
-    let lines = bound.lines();
+    let lines = binding.lines();
     let timed = StepTimes::new(alloc, lines, Lister::new(alloc, lines));
     let settling: SettlingVisitor<K, StepTimes<Lister>> = SettlingVisitor::new(
         alloc, lines, skew, timed,
     );
-    match bound.record_text(alloc, text, settling) {
+    match binding.record_text(alloc, text, settling) {
         Ok(settling) => settled_listing(alloc, settling, block),
         Err(fault) => Err(Refusal::of_capture(fault)),
     }

@@ -1,7 +1,7 @@
 //! The listing of a recording, with the times of its instants.
 
 ghost use Rattle.std.specs.Prelude.{◌≡◌, ◌≤◌, ◌↔◌, ℕ, suc, List, MatchResult, Ok, Option, Some};
-ghost use Rattle.vme_stream.specs.Ends.{Ends, TellsExactly};
+ghost use Rattle.vme_stream.specs.Ends.{Ends, WritesAnswerExactly};
 ghost use Rattle.vme_stream.specs.Inputs.{IsReading};
 ghost use Rattle.vme_stream.specs.Outputs.{FailsToWrite, Writes};
 ghost use Rattle.vme_commands.specs.Settled.{settled_recording};
@@ -39,7 +39,7 @@ pub fn list_times<B: Source, D: Source, O: Sink, E: Sink>(
     ensures unwritten { (result ≡ 5) ↔ ((O.writing out.new).failures ≡ suc (O.writing out.old).failures) }
 
     // If both inputs are read whole, no write to `out` fails and memory suffices, the answer is exactly as defined.
-    ensures exact { TellsExactly (λ b d. timed_answer_of skew (Some b) (Some d) block)
+    ensures exact { WritesAnswerExactly (λ b d. timed_answer_of skew (Some b) (Some d) block)
         (B.reading binding.old, B.reading binding.new) (D.reading dump.old, D.reading dump.new)
         (O.writing out.old, O.writing out.new) (E.writing err.old, E.writing err.new) result }
 {

@@ -286,24 +286,24 @@ binding_is : {A : Type 0} (r : Result A BindFault) (a : A) → or_binding r ≡ 
 binding_is (Ok b) a e = cc
 binding_is (Err fault) a e = absurd cc
 
-contents_of : (bound : BoundLines) (r : Result Contents VcdFault) (t : Trace) → recording_read bound r ≡ Ok t
-    → (contents : Contents) × (r ≡ Ok contents) × (recording_of bound contents ≡ Ok t)
-contents_of bound (Ok contents) t e = (contents, refl, binding_is (recording_of bound contents) t e)
-contents_of bound (Err fault) t e = absurd cc
+contents_of : (binding : BoundLines) (r : Result Contents VcdFault) (t : Trace) → recording_read binding r ≡ Ok t
+    → (contents : Contents) × (r ≡ Ok contents) × (recording_of binding contents ≡ Ok t)
+contents_of binding (Ok contents) t e = (contents, refl, binding_is (recording_of binding contents) t e)
+contents_of binding (Err fault) t e = absurd cc
 
-recorded_more : (bound : BoundLines) (contents : Contents) (more : List Variable) (t : Trace)
-    → recording_of bound contents ≡ Ok t
-    → bound_groups_in (contents.variables ++ more) bound.assignments
-    ≡ bound_groups_in contents.variables bound.assignments
-    → recording_of bound (record { variables = contents.variables ++ more; instants = contents.instants }) ≡ Ok t
+recorded_more : (binding : BoundLines) (contents : Contents) (more : List Variable) (t : Trace)
+    → recording_of binding contents ≡ Ok t
+    → bound_groups_in (contents.variables ++ more) binding.assignments
+    ≡ bound_groups_in contents.variables binding.assignments
+    → recording_of binding (record { variables = contents.variables ++ more; instants = contents.instants }) ≡ Ok t
 unfolding recording_of
-recorded_more bound contents more t e stay = rw stay e
+recorded_more binding contents more t e stay = rw stay e
 
-groups_fine : (bound : BoundLines) (contents : Contents) (t : Trace) → recording_of bound contents ≡ Ok t
-    → is_fine (bound_groups_in contents.variables bound.assignments) ≡ true
+groups_fine : (binding : BoundLines) (contents : Contents) (t : Trace) → recording_of binding contents ≡ Ok t
+    → is_fine (bound_groups_in contents.variables binding.assignments) ≡ true
 unfolding recording_of
-groups_fine bound contents t e =
-    fine_first (bound_groups_in contents.variables bound.assignments) _ (ap is_fine e)
+groups_fine binding contents t e =
+    fine_first (bound_groups_in contents.variables binding.assignments) _ (ap is_fine e)
 
 four_of : (own : List (List ℕ)) → length own ≡ 4
     → (c0 : List ℕ) × (c1 : List ℕ) × (c2 : List ℕ) × (c3 : List ℕ) × (own ≡ c0 ∷ c1 ∷ c2 ∷ c3 ∷ [])
@@ -335,8 +335,8 @@ defined_in dump contents is defines e =
 
 pub says_the_same : SaysTheSame
 unfolding annotated recording_of_text
-says_the_same bound dump text shown t a e =
-    let read = contents_of bound (dump_of dump) t e in
+says_the_same binding dump text shown t a e =
+    let read = contents_of binding (dump_of dump) t e in
     let contents : Contents = read.0 in
     let is : IsDump dump contents = dump_is dump contents read.1 in
     let defines : a.defines ≡ headed is.declared is.body = defined_in dump contents is a.defines a.defines_are in
@@ -357,15 +357,15 @@ says_the_same bound dump text shown t a e =
     a.placed words are in
     let more : List Variable = inserted_variables (scope_name a.underscores) four.0 four.1 four.2 four.3 is.declared in
     let variables : contents.variables ≡ is.declared.variables = is.variables in
-    ap (λ (bytes : List ℕ). recording_read bound (dump_of bytes)) text_is
-    ∙ ap (recording_read bound) dumped
-    ∙ ap (λ (vs : List Variable). or_binding (recording_of bound (record {
+    ap (λ (bytes : List ℕ). recording_read binding (dump_of bytes)) text_is
+    ∙ ap (recording_read binding) dumped
+    ∙ ap (λ (vs : List Variable). or_binding (recording_of binding (record {
       variables = vs ++ more;
       instants = contents.instants;
     }))) (sym variables)
-    ∙ ap or_binding (recorded_more bound contents more t read.2
-    (ap (λ (vs : List Variable). bound_groups_in (vs ++ more) bound.assignments) variables
+    ∙ ap or_binding (recorded_more binding contents more t read.2
+    (ap (λ (vs : List Variable). bound_groups_in (vs ++ more) binding.assignments) variables
     ∙ groups_stay is.declared.variables more (four_apart a.underscores four.0 four.1 four.2 four.3 is.declared lacks)
-    bound.assignments (sym (ap (λ (vs : List Variable). is_fine (bound_groups_in vs bound.assignments)) variables)
-    ∙ groups_fine bound contents t read.2)
-    ∙ sym (ap (λ (vs : List Variable). bound_groups_in vs bound.assignments) variables)))
+    binding.assignments (sym (ap (λ (vs : List Variable). is_fine (bound_groups_in vs binding.assignments)) variables)
+    ∙ groups_fine binding contents t read.2)
+    ∙ sym (ap (λ (vs : List Variable). bound_groups_in vs binding.assignments) variables)))

@@ -8,7 +8,7 @@ use Rattle.vme_annotation.specs.Annotated.{IsAnnotated}
 -- A dump is annotated with the listing of some recording. Then any binding that makes a recording of the dump makes the
 -- same of the annotated one.
 abbrev pub SaysTheSame : Type 0
-SaysTheSame = (bound : BoundLines) (dump text : List ℕ) (shown t : Trace)
+SaysTheSame = (binding : BoundLines) (dump text : List ℕ) (shown t : Trace)
     → IsAnnotated dump shown text
-    → recording_of_text bound dump ≡ Ok t
-    → recording_of_text bound text ≡ Ok t
+    → recording_of_text binding dump ≡ Ok t
+    → recording_of_text binding text ≡ Ok t

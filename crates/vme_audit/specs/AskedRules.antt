@@ -6,12 +6,12 @@ use Rattle.vme_trace.specs.Instants.{any}
 use Rattle.vme_trace.specs.LineNumbers.{line_count, AS, DTACK, BERR, is_grant, is_slot_grant, is_slot_iack}
 use Rattle.vme_trace.specs.Trace.{Trace, last_instant}
 use Rattle.vme_trace.specs.Signals.{falls, rises}
-use Rattle.vme_trace.specs.Judged.{Stretch, judged_spans}
+use Rattle.vme_trace.specs.Judged.{Stretch, judged_stretches}
 use Rattle.vme_trace.specs.Transfers.{strobe_rises, strobe_falls, answer_falls, transfer_starts, is_write, in_transfer}
 use Rattle.vme_trace.specs.Transfers.{is_answer}
 use Rattle.vme_trace.specs.Cycles.{cycle_starts, class_at, in_cycle, answers_of}
 use Rattle.vme_trace.specs.Tenures.{grant_falls, tenure_starts}
-use Rattle.vme_trace.specs.Rules.{all_rules, ends_span, has_earlier_answer, is_single, is_block_class, is_interrupt}
+use Rattle.vme_trace.specs.Rules.{all_rules, ends_stretch, has_earlier_answer, is_single, is_block_class, is_interrupt}
 use Rattle.vme_trace.specs.declared.rule.Rule.{Rule}
 use Rattle.vme_trace.specs.declared.class.Class.{Class}
 use Rattle.vme_trace.specs.declared.verdict.Break.{Break}
@@ -42,36 +42,36 @@ module _ (t : Trace) where
   abbrev pub acknowledge_falls : ℕ → Bool
   acknowledge_falls j = falls_on is_slot_iack j
 
-module _ (t : Trace) (span : Stretch) where
+module _ (t : Trace) (stretch : Stretch) where
   abbrev pub write_starts : ℕ → Bool
-  write_starts j = transfer_starts t span j && is_write t span j
+  write_starts j = transfer_starts t stretch j && is_write t stretch j
 
   -- j is in a transfer that started before j
   abbrev pub within_transfer : ℕ → Bool
-  within_transfer j = in_transfer t span (λ i. nat_lt i j) j
+  within_transfer j = in_transfer t stretch (λ i. nat_lt i j) j
 
   -- a transfer is answered at j, in a cycle of a chosen class
   abbrev pub answered_in_class : (Class → Bool) → ℕ → Bool
-  answered_in_class chosen j = is_answer t span j && in_cycle t span (λ i. chosen (class_at t span i)) j
+  answered_in_class chosen j = is_answer t stretch j && in_cycle t stretch (λ i. chosen (class_at t stretch i)) j
 
   -- a transfer is answered at j, in a cycle of a chosen class, and another transfer of that cycle was answered before
   abbrev pub answered_again_in_class : (Class → Bool) → ℕ → Bool
   answered_again_in_class chosen j =
-      is_answer t span j
-      && in_cycle t span (λ i. chosen (class_at t span i) && has_earlier_answer (answers_of t span i j)) j
+      is_answer t stretch j
+      && in_cycle t stretch (λ i. chosen (class_at t stretch i) && has_earlier_answer (answers_of t stretch i j)) j
 
   -- the event happens at instant j of the stretch, after its start
   abbrev pub event_happens : Event → ℕ → Bool
   event_happens event.stretch j = false
-  event_happens event.cycle j = cycle_starts t span j
+  event_happens event.cycle j = cycle_starts t stretch j
   event_happens event.cycle_end j = rises t AS j
-  event_happens event.transfer j = transfer_starts t span j
+  event_happens event.transfer j = transfer_starts t stretch j
   event_happens event.write j = write_starts j
   event_happens event.strobe_rise j = strobe_rises t j && within_transfer j
   event_happens event.strobe_fall j = strobe_falls t j && within_transfer j
   event_happens event.answer_fall j = answer_falls t j
   event_happens event.answer_rise j = answer_rises t j
-  event_happens event.answer j = is_answer t span j
+  event_happens event.answer j = is_answer t stretch j
   event_happens event.single_again j = answered_again_in_class is_single j
   event_happens event.block_again j = answered_again_in_class is_block_class j
   event_happens event.interrupt j = answered_in_class is_interrupt j
@@ -80,7 +80,7 @@ module _ (t : Trace) (span : Stretch) where
   event_happens event.slot_grant_rise j = slot_grant_rises t j
   event_happens event.arbiter_fall j = grant_falls t j
   event_happens event.grant_fall j = any_grant_falls t j
-  event_happens event.tenure j = tenure_starts t span j
+  event_happens event.tenure j = tenure_starts t stretch j
   event_happens event.acknowledge_fall j = acknowledge_falls t j
 
   -- the event of a rule happens at an instant of the stretch: where it doesn't, the rule can't be broken. That of U1 is
@@ -95,11 +95,12 @@ asking_end t (Some b) = b.instant + 1
 
 -- a recording whose break is `found` asks rule r in the stretch
 unfoldable pub asks_in : Trace → Option Break → Rule → Stretch → Bool
-asks_in t found r span = ends_span r || any (happens t span r) (span.start + 1) (min span.end (asking_end t found))
+asks_in t found r stretch = ends_stretch r || any (happens t stretch r) (stretch.start + 1)
+    (min stretch.end (asking_end t found))
 
 -- part p asks rule r
 unfoldable pub asks : Rule → Part → Bool
-asks r p = list_any (asks_in p.trace (own_break p) r) (judged_spans p.trace)
+asks r p = list_any (asks_in p.trace (own_break p) r) (judged_stretches p.trace)
 
 -- recording t asks rule r
 unfoldable pub is_asked : Trace → Rule → Bool

@@ -231,13 +231,13 @@ all-from-rest None b done more read all = tt
 all-from-rest (Some x) None done more read all = absurd read
 all-from-rest (Some x) (Some y) done more read all = ap (λ (l : List ℕ). done ++ l) all ∙ sym read
 
-module _ (options : AuditOptions) (head : List ℕ) (bound : BoundLines) (source : Reading) (u : Writing) where
+module _ (options : AuditOptions) (head : List ℕ) (binding : BoundLines) (source : Reading) (u : Writing) where
   -- without memory nothing is written of a dump
-  pub unread-answers : AuditsDump options head bound source u u (Err (NotWritten Memory))
+  pub unread-answers : AuditsDump options head binding source u u (Err (NotWritten Memory))
   unread-answers = (left_of source.left, all-left source.left, prefix-of u _)
 
   pub unbegun-answers : (new : Reading) (left : List ℕ) (why : NoOutcome)
-      → ReadsDefinitions bound source new left (Err why) → AuditsDump options head bound source u u (Err why)
+      → ReadsDefinitions binding source new left (Err why) → AuditsDump options head binding source u u (Err why)
   unbegun-answers new left (Refused refusal) reads =
       let (text, all, (fault, is, same)) = reads in (
         text,
@@ -251,9 +251,9 @@ module _ (options : AuditOptions) (head : List ℕ) (bound : BoundLines) (source
 
   -- a dump with its definitions and its body was audited
   pub dump-answers : (new : Reading) (left : List ℕ) (r : StepReading) (is_more : Bool) (w : Writing)
-      (result : Result ℕ NoOutcome) → ReadsDefinitions bound source new left (Ok (r, is_more))
+      (result : Result ℕ NoOutcome) → ReadsDefinitions binding source new left (Ok (r, is_more))
       → (IsBodyBegun r → AnswersBody options head r left is_more new u w result)
-      → AuditsDump options head bound source u w result
+      → AuditsDump options head binding source u w result
   dump-answers new left r true w result reads behind =
       let (begun, (done, read, whole)) = reads in
       let (all, (more, are, is), ends) = behind begun in (

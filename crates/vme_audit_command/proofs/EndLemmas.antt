@@ -142,11 +142,11 @@ module _ (name : List ℕ) (answer : DumpAnswer) (out : List ℕ) (is_front : Is
 
 -- ---- a dump
 
-module _ (options : AuditOptions) (bound : BoundLines) (named : NamedReading) (u v e p : Writing) (status : ℕ) where
+module _ (options : AuditOptions) (binding : BoundLines) (named : NamedReading) (u v e p : Writing) (status : ℕ) where
   audits-named-by : (bytes : List ℕ) → AreAllBytesOf named.dump bytes → (out : List ℕ) → Writes u v out
-      → (is_front : IsTextPrefix out (answer_to options bound named.name bytes).out)
-      → MayEndWith named.name (answer_to options bound named.name bytes) out is_front e p status
-      → AuditsNamed options bound named (u, v) (e, p) status
+      → (is_front : IsTextPrefix out (answer_to options binding named.name bytes).out)
+      → MayEndWith named.name (answer_to options binding named.name bytes) out is_front e p status
+      → AuditsNamed options binding named (u, v) (e, p) status
   audits-named-by bytes all out writes is_front (errors, is, tries, other) = inl (record {
     end = record { out = out; errors = errors; status = status };
     may = (bytes, all, is);
@@ -157,27 +157,27 @@ module _ (options : AuditOptions) (bound : BoundLines) (named : NamedReading) (u
   })
 
   pub audits-named : (ended : Result ℕ NoOutcome)
-      → AuditsDump options (head_of named.name) bound named.dump u v ended → WritesEnd named.name ended e p status
-      → AuditsNamed options bound named (u, v) (e, p) status
+      → AuditsDump options (head_of named.name) binding named.dump u v ended → WritesEnd named.name ended e p status
+      → AuditsNamed options binding named (u, v) (e, p) status
   audits-named (Ok n) (bytes, all, (writes, is)) tells =
-      let answer = answer_to options bound named.name bytes in
+      let answer = answer_to options binding named.name bytes in
       audits-named-by bytes all answer.out writes (whole-is-front answer.out)
       (may-end-with-status named.name answer answer.out (whole-is-front answer.out) e p n status
       (inl (ap (end_by named.name answer.out) (sym is)))
-      (ended-other options (head_of named.name) (reading_of_text bound bytes) n is) tells)
+      (ended-other options (head_of named.name) (reading_of_text binding bytes) n is) tells)
   audits-named (Err (Refused why)) (bytes, all, (writes, is)) tells =
-      let answer = answer_to options bound named.name bytes in
+      let answer = answer_to options binding named.name bytes in
       audits-named-by bytes all answer.out writes (whole-is-front answer.out)
       (may-end-with-reason named.name answer answer.out (whole-is-front answer.out) why e p status
       (inl (ap (end_by named.name answer.out) (sym is))) tells)
   audits-named (Err CannotRead) (bytes, all, ((n, appends), same)) tells =
-      let answer = answer_to options bound named.name bytes in
+      let answer = answer_to options binding named.name bytes in
       let front = take n answer.out in
       audits-named-by bytes all front (appends, same) (n, refl)
       (may-end-with-reason named.name answer front (n, refl) (refusal.CannotRead Dump) e p status
       (inr (inl (front, (n, refl), refl))) tells)
   audits-named (Err (NotWritten Memory)) (bytes, all, ((n, appends), same)) tells =
-      let answer = answer_to options bound named.name bytes in
+      let answer = answer_to options binding named.name bytes in
       let front = take n answer.out in
       audits-named-by bytes all front (appends, same) (n, refl)
       (may-end-with-reason named.name answer front (n, refl) refusal.Memory e p status

@@ -9,8 +9,8 @@ use Rattle.vme_stream.specs.Outputs.{Writes, FailsToWrite}
 use Rattle.vme_audit_command.specs.DumpAudits.{WritesPrefix}
 
 -- a prefix of a text is a prefix of a longer one
-pub front_of : (x y : List ℕ) (n : ℕ) → take n x ≡ take (length (take n x)) (x ++ y)
-front_of x y n =
+pub take-of_longer : (x y : List ℕ) (n : ℕ) → take n x ≡ take (length (take n x)) (x ++ y)
+take-of_longer x y n =
     let split : x ++ y ≡ take n x ++ (drop n x ++ y) =
     ap (λ (l : List ℕ). l ++ y) (sym (take-append-drop n x)) ∙ append_assoc (take n x) (drop n x) y in
     sym (ap (take (length (take n x))) split ∙ take-append_seam (take n x) (drop n x ++ y))
@@ -27,12 +27,12 @@ writes-as-prefix a b x one = ((length x, subst (Appends a.taken b.taken) (sym (t
 pub prefix-longer : (a b : Writing) (x y : List ℕ) → WritesPrefix a b x → WritesPrefix a b (x ++ y)
 prefix-longer a b x y one =
     let ((n, appends), same) = one in
-    ((length (take n x), subst (Appends a.taken b.taken) (front_of x y n) appends), same)
+    ((length (take n x), subst (Appends a.taken b.taken) (take-of_longer x y n) appends), same)
 
 pub fails-longer : (a b : Writing) (x y : List ℕ) → FailsToWrite a b x → FailsToWrite a b (x ++ y)
 fails-longer a b x y one =
     let ((n, appends), more) = one in
-    ((length (take n x), subst (Appends a.taken b.taken) (front_of x y n) appends), more)
+    ((length (take n x), subst (Appends a.taken b.taken) (take-of_longer x y n) appends), more)
 
 pub prefix-after : (a b c : Writing) (x y : List ℕ) → Writes a b x → WritesPrefix b c y → WritesPrefix a c (x ++ y)
 prefix-after a b c x y one two =

@@ -49,15 +49,15 @@ NotBegun reading (NotWritten Memory) = Unit {0}
 
 -- The definitions of a dump end in `held`, of which `left` is left then; or they don't; or there is a fault.
 abbrev pub BeginsBody : BoundLines → List ℕ → List ℕ → Result (Option StepReading) NoOutcome → Type 0
-BeginsBody bound held left (Ok (Some r)) =
-    IsBodyBegun r × ((rest : List ℕ) → reading_of_text bound (held ++ rest) ≡ Ok (whole_reading r (left ++ rest)))
-BeginsBody bound held left (Ok None) = left ≡ held
-BeginsBody bound held left (Err why) = (rest : List ℕ) → NotBegun (reading_of_text bound (held ++ rest)) why
+BeginsBody binding held left (Ok (Some r)) =
+    IsBodyBegun r × ((rest : List ℕ) → reading_of_text binding (held ++ rest) ≡ Ok (whole_reading r (left ++ rest)))
+BeginsBody binding held left (Ok None) = left ≡ held
+BeginsBody binding held left (Err why) = (rest : List ℕ) → NotBegun (reading_of_text binding (held ++ rest)) why
 
 -- The definitions of a dump that ends with `held` end there, and `left` is left then; or there is a fault.
 abbrev pub BeginsLast : BoundLines → List ℕ → List ℕ → Result StepReading NoOutcome → Type 0
-BeginsLast bound held left (Ok r) = IsBodyBegun r × (reading_of_text bound held ≡ Ok (whole_reading r left))
-BeginsLast bound held left (Err why) = NotBegun (reading_of_text bound held) why
+BeginsLast binding held left (Ok r) = IsBodyBegun r × (reading_of_text binding held ≡ Ok (whole_reading r left))
+BeginsLast binding held left (Err why) = NotBegun (reading_of_text binding held) why
 
 -- `text` are all bytes of a source
 abbrev pub AreAllBytesOf : Reading → List ℕ → Type 0
@@ -65,12 +65,12 @@ AreAllBytesOf old text = IfSome old.left (λ told. text ≡ told)
 
 -- The definitions of a dump were read. If more of the dump may follow, whatever follows is the rest of the body.
 abbrev pub ReadsDefinitions : BoundLines → Reading → Reading → List ℕ → Result (StepReading × Bool) NoOutcome → Type 0
-ReadsDefinitions bound old new left (Ok (r, true)) =
+ReadsDefinitions binding old new left (Ok (r, true)) =
     IsBodyBegun r × ((done : List ℕ) × Consumes old.left new.left done
-    × ((rest : List ℕ) → reading_of_text bound (done ++ rest) ≡ Ok (whole_reading r (left ++ rest))))
-ReadsDefinitions bound old new left (Ok (r, false)) =
+    × ((rest : List ℕ) → reading_of_text binding (done ++ rest) ≡ Ok (whole_reading r (left ++ rest))))
+ReadsDefinitions binding old new left (Ok (r, false)) =
     IsBodyBegun r
-    × ((text : List ℕ) × AreAllBytesOf old text × (reading_of_text bound text ≡ Ok (whole_reading r left)))
-ReadsDefinitions bound old new left (Err CannotRead) = Unit {0}
-ReadsDefinitions bound old new left (Err why) =
-    (text : List ℕ) × AreAllBytesOf old text × NotBegun (reading_of_text bound text) why
+    × ((text : List ℕ) × AreAllBytesOf old text × (reading_of_text binding text ≡ Ok (whole_reading r left)))
+ReadsDefinitions binding old new left (Err CannotRead) = Unit {0}
+ReadsDefinitions binding old new left (Err why) =
+    (text : List ℕ) × AreAllBytesOf old text × NotBegun (reading_of_text binding text) why

@@ -89,6 +89,6 @@ AnswersBody options head r held is_more source old new result =
 
 -- the dump with the bytes of `source` was audited
 abbrev pub AuditsDump : AuditOptions → List ℕ → BoundLines → Reading → Writing → Writing → Result ℕ NoOutcome → Type 0
-AuditsDump options head bound source old new result =
+AuditsDump options head binding source old new result =
     (text : List ℕ) × AreAllBytesOf source text
-    × EndsAs (dump_answer options head (reading_of_text bound text)) old new result
+    × EndsAs (dump_answer options head (reading_of_text binding text)) old new result

@@ -43,12 +43,12 @@ WritesEnd name (Err (NotWritten Memory)) old new status = EndsWithReason name re
 WritesEnd name (Err (NotWritten CannotWrite)) old new status =
     TriesToWrite old new cannot_write_line × (status ≡ 5)
 
-module _ (options : AuditOptions) (bound : BoundLines) (named : NamedReading) (out err : Writing × Writing)
+module _ (options : AuditOptions) (binding : BoundLines) (named : NamedReading) (out err : Writing × Writing)
     (status : ℕ) where
   -- the output, the error lines and the status are those of a possible end of the dump
   pub record WritesDump : Type 0 where
     pub end : DumpEnd
-    pub may : MayEnd options bound named end
+    pub may : MayEnd options binding named end
     pub out_is : Writes out.0 out.1 end.out
     pub err_is : TriesEach err.0 err.1 end.errors
     pub status_is : status ≡ end.status
@@ -58,7 +58,7 @@ module _ (options : AuditOptions) (bound : BoundLines) (named : NamedReading) (o
   pub record CannotWriteDump : Type 0 where
     pub bytes : List ℕ
     pub all : AreAllBytesOf named.dump bytes
-    pub out_is : FailsToWrite out.0 out.1 (answer_to options bound named.name bytes).out
+    pub out_is : FailsToWrite out.0 out.1 (answer_to options binding named.name bytes).out
     pub err_is : TriesToWrite err.0 err.1 cannot_write_line
     pub status_is : status ≡ 5
 

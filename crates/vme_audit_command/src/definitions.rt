@@ -39,12 +39,12 @@ pub(crate) fn not_read(fault: ReadFault) -> NoOutcome
 /// Starts reading the body, if the definitions end in the held bytes.
 fn begin(
     alloc: Global,
-    bound: &Binding,
+    binding: &Binding,
     input: &mut DumpInput,
 ) -> Result<Option<StepReader>, NoOutcome>
-    ensures { BeginsBody bound.now input.old input.new result }
+    ensures { BeginsBody binding.now input.old input.new result }
 {
-    match begin_steps(alloc, bound, input.bytes()) {
+    match begin_steps(alloc, binding, input.bytes()) {
         Ok(Some((reader, count))) => {
             input.drop_first(count);
             Ok(Some(reader))
@@ -57,12 +57,12 @@ fn begin(
 /// Starts reading the body at the end of the dump.
 fn begin_last(
     alloc: Global,
-    bound: &Binding,
+    binding: &Binding,
     input: &mut DumpInput,
 ) -> Result<StepReader, NoOutcome>
-    ensures { BeginsLast bound.now input.old input.new result }
+    ensures { BeginsLast binding.now input.old input.new result }
 {
-    match begin_last_steps(alloc, bound, input.bytes()) {
+    match begin_last_steps(alloc, binding, input.bytes()) {
         Ok((reader, count)) => {
             input.drop_first(count);
             Ok(reader)
@@ -75,19 +75,19 @@ fn begin_last(
 /// held.
 pub(crate) fn read_definitions<D: Source>(
     alloc: Global,
-    bound: &Binding,
+    binding: &Binding,
     dump: &mut D,
     input: &mut DumpInput,
 ) -> Result<(StepReader, bool), NoOutcome>
     requires { input.old ≡ [] }
-    ensures { ReadsDefinitions bound.now (D.reading dump.old) (D.reading dump.new) input.new result }
+    ensures { ReadsDefinitions binding.now (D.reading dump.old) (D.reading dump.new) input.new result }
 {
     let mut search = DefinitionsEnd::new();
     for _ in 0..u64::MAX {
         match input.read(dump) {
             Ok(true) => {}
             Ok(false) => {
-                return match begin_last(alloc, bound, input) {
+                return match begin_last(alloc, binding, input) {
                     Ok(reader) => Ok((reader, false)),
                     Err(why) => Err(why),
                 };
@@ -96,7 +96,7 @@ pub(crate) fn read_definitions<D: Source>(
         }
         let held = input.bytes();
         if search.may_end(&held[..whole_tokens(held)]) {
-            match begin(alloc, bound, input) {
+            match begin(alloc, binding, input) {
                 Ok(Some(reader)) => return Ok((reader, true)),
                 Ok(None) => {}
                 Err(why) => return Err(why),

@@ -218,7 +218,7 @@ fn audit_after_definitions<D: Source, O: Sink>(
 /// Audits a dump by a binding, and writes its lines to `out`. Returns the exit status of its outcome.
 pub(crate) fn audit_dump<D: Source, O: Sink>(
     alloc: Global,
-    bound: &Binding,
+    binding: &Binding,
     dump: &mut D,
     name: &[u8],
     options: AuditOptions<'_>,
@@ -226,12 +226,12 @@ pub(crate) fn audit_dump<D: Source, O: Sink>(
     out: &mut O,
 ) -> Result<u8, NoOutcome>
     ensures { AuditsDump (given_options options.entry)
-        (head_of name.now) bound.now (D.reading dump.old) (O.writing out.old) (O.writing out.new) result }
+        (head_of name.now) binding.now (D.reading dump.old) (O.writing out.old) (O.writing out.new) result }
 {
     let (Ok(head), Ok(mut input)) = (dump_head(alloc, name), DumpInput::new(alloc)) else {
         return Err(NoOutcome::NotWritten(WriteFault::Memory));
     };
-    match read_definitions(alloc, bound, dump, &mut input) {
+    match read_definitions(alloc, binding, dump, &mut input) {
         Ok((reader, is_more)) => audit_after_definitions(
             alloc,
             dump,

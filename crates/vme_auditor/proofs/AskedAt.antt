@@ -27,14 +27,14 @@ use Rattle.vme_trace.specs.declared.class.Class.TheVariants as class
 use Rattle.vme_trace.specs.declared.rule.Rule.{Rule}
 use Rattle.vme_trace.specs.declared.step.Change.{Change}
 use Rattle.vme_trace.proofs.Ranges.{any-alike}
-use Rattle.vme_trace.proofs.SpanEnds.{slots_at}
+use Rattle.vme_trace.proofs.StretchEnds.{slots_at}
 use Rattle.vme_monitor.specs.Along.{changes_of}
 use Rattle.vme_monitor.specs.Tracking.{entered, is_unanswered, is_within}
 use Rattle.vme_monitor.specs.declared.mark.CycleStart.{CycleStart}
 use Rattle.vme_monitor.specs.declared.mark.StepMarks.{StepMarks}
 use Rattle.vme_monitor.specs.declared.tracking.TransferPhase.{TransferPhase}
 use Rattle.vme_monitor.proofs.Alongside.{changes_fit, levels_step}
-use Rattle.vme_monitor.proofs.SpanFacts.{IsSpan}
+use Rattle.vme_monitor.proofs.StretchFacts.{IsStretch}
 use Rattle.vme_dtb.specs.CycleState.{cycle_entered, is_interrupt_acknowledge, is_answered_interrupt_acknowledge}
 use Rattle.vme_dtb.specs.CycleState.{unanswered_of}
 use Rattle.vme_dtb.specs.Edge.{cycle_start_of, edges_between}
@@ -147,18 +147,18 @@ acknowledged_is BlockWriting = refl
 acknowledged_is Interrupt = refl
 acknowledged_is InterruptDone = refl
 
-module _ (t : Trace) (span : Stretch) where
+module _ (t : Trace) (stretch : Stretch) where
   single_later : (c : Class) (rs : List ℕ) → (is_single c && has_earlier_answer rs) ≡ is_single_answered
-      (told t span c rs)
+      (told t stretch c rs)
   single_later class.S [] = refl
-  single_later class.S (r ∷ []) = by_write (answers_write t span r)
+  single_later class.S (r ∷ []) = by_write (answers_write t stretch r)
     where
       by_write : (b : Bool) → true ≡ is_single_answered (cond b SingleDone SingleRead)
       by_write true = refl
       by_write false = refl
   single_later class.S (r ∷ q ∷ rs) = refl
   single_later class.K [] = refl
-  single_later class.K (r ∷ rs) = by_write (answers_write t span r)
+  single_later class.K (r ∷ rs) = by_write (answers_write t stretch r)
     where
       by_write : (b : Bool) → false ≡ is_single_answered (cond b BlockWriting BlockReading)
       by_write true = refl
@@ -168,16 +168,16 @@ module _ (t : Trace) (span : Stretch) where
   single_later class.F rs = refl
 
   block_later : (c : Class) (rs : List ℕ) → (is_block_class c && has_earlier_answer rs)
-      ≡ is_block_answered (told t span c rs)
+      ≡ is_block_answered (told t stretch c rs)
   block_later class.S [] = refl
-  block_later class.S (r ∷ []) = by_write (answers_write t span r)
+  block_later class.S (r ∷ []) = by_write (answers_write t stretch r)
     where
       by_write : (b : Bool) → false ≡ is_block_answered (cond b SingleDone SingleRead)
       by_write true = refl
       by_write false = refl
   block_later class.S (r ∷ q ∷ rs) = refl
   block_later class.K [] = refl
-  block_later class.K (r ∷ rs) = by_write (answers_write t span r)
+  block_later class.K (r ∷ rs) = by_write (answers_write t stretch r)
     where
       by_write : (b : Bool) → true ≡ is_block_answered (cond b BlockWriting BlockReading)
       by_write true = refl
@@ -186,35 +186,38 @@ module _ (t : Trace) (span : Stretch) where
   block_later class.I (r ∷ rs) = refl
   block_later class.F rs = refl
 
-  in_single : (j : ℕ) → in_cycle t span (λ i. is_single (class_at t span i) && has_earlier_answer
-      (answers_of t span i j)) j
-      ≡ is_single_answered (cycle_before t span j)
+  in_single : (j : ℕ) → in_cycle t stretch (λ i. is_single (class_at t stretch i) && has_earlier_answer
+      (answers_of t stretch i j)) j
+      ≡ is_single_answered (cycle_before t stretch j)
   unfolding in_cycle
-  in_single j = by_cycle (cycle_of t span j)
+  in_single j = by_cycle (cycle_of t stretch j)
     where
       by_cycle : (o : Option ℕ)
-          → option_map_or (λ i. is_single (class_at t span i) && has_earlier_answer (answers_of t span i j)) o false
-          ≡ is_single_answered (told_of t span o j)
-      by_cycle None = refl
-      by_cycle (Some i) = single_later (class_at t span i) (answers_of t span i j)
-
-  in_block : (j : ℕ) → in_cycle t span (λ i. is_block_class (class_at t span i) && has_earlier_answer
-      (answers_of t span i j)) j
-      ≡ is_block_answered (cycle_before t span j)
-  unfolding in_cycle
-  in_block j = by_cycle (cycle_of t span j)
-    where
-      by_cycle : (o : Option ℕ)
-          → option_map_or (λ i. is_block_class (class_at t span i) && has_earlier_answer (answers_of t span i j)) o
+          → option_map_or (λ i. is_single (class_at t stretch i) && has_earlier_answer (answers_of t stretch i j)) o
           false
-          ≡ is_block_answered (told_of t span o j)
+          ≡ is_single_answered (told_of t stretch o j)
       by_cycle None = refl
-      by_cycle (Some i) = block_later (class_at t span i) (answers_of t span i j)
+      by_cycle (Some i) = single_later (class_at t stretch i) (answers_of t stretch i j)
 
-module _ (t : Trace) (ok : malformed_step t ≡ None) (few : t.opening.slots ≤ 21) (span : Stretch)
-    (facts : IsSpan t span)
-    (n : ℕ) (from : span.start ≤ n) (before : suc n < span.end) (within : n < length t.steps) (m : HandshakeMemory)
-    (holds : Holds t span n m) where
+  in_block : (j : ℕ) → in_cycle t stretch (λ i. is_block_class (class_at t stretch i) && has_earlier_answer
+      (answers_of t stretch i j)) j
+      ≡ is_block_answered (cycle_before t stretch j)
+  unfolding in_cycle
+  in_block j = by_cycle (cycle_of t stretch j)
+    where
+      by_cycle : (o : Option ℕ)
+          → option_map_or (λ i. is_block_class (class_at t stretch i) && has_earlier_answer (answers_of t stretch i j))
+          o
+          false
+          ≡ is_block_answered (told_of t stretch o j)
+      by_cycle None = refl
+      by_cycle (Some i) = block_later (class_at t stretch i) (answers_of t stretch i j)
+
+module _ (t : Trace) (ok : malformed_step t ≡ None) (few : t.opening.slots ≤ 21) (stretch : Stretch)
+    (facts : IsStretch t stretch)
+    (n : ℕ) (from : stretch.start ≤ n) (before : suc n < stretch.end) (within : n < length t.steps)
+    (m : HandshakeMemory)
+    (holds : Holds t stretch n m) where
   abbrev v : Levels
   v = old t n
 
@@ -233,34 +236,35 @@ module _ (t : Trace) (ok : malformed_step t ≡ None) (few : t.opening.slots ≤
   abbrev inside : TransferPhase
   inside = entered m.transfer v w
 
-  cycle_event : is_some shown.cycle ≡ cycle_starts t span (suc n)
+  cycle_event : is_some shown.cycle ≡ cycle_starts t stretch (suc n)
   cycle_event =
-      some_if (falls_between v w AS) (cycle_start_of w) ∙ sym (cycle_starts_is t span facts.reads n from before m holds)
+      some_if (falls_between v w AS) (cycle_start_of w) ∙ sym (cycle_starts_is t stretch facts.reads n from before m
+      holds)
 
   cycle_end_event : rises_between v w AS ≡ rises t AS (suc n)
   cycle_end_event = sym (rises_is t n AS)
 
-  transfer_event : is_some shown.transfer ≡ transfer_starts t span (suc n)
+  transfer_event : is_some shown.transfer ≡ transfer_starts t stretch (suc n)
   transfer_event =
-      some_if (starts_between v w) (is_low (level_at w WRITE)) ∙ sym (starts_is t n span from before)
+      some_if (starts_between v w) (is_low (level_at w WRITE)) ∙ sym (starts_is t n stretch from before)
 
-  write_event : option_map_or (λ (w : Bool). w) shown.transfer false ≡ write_starts t span (suc n)
+  write_event : option_map_or (λ (w : Bool). w) shown.transfer false ≡ write_starts t stretch (suc n)
   unfolding is_write low
   write_event =
       true_if (starts_between v w) (is_low (level_at w WRITE))
-      ∙ ap (λ b. b && is_low (level_at w WRITE)) (sym (starts_is t n span from before))
+      ∙ ap (λ b. b && is_low (level_at w WRITE)) (sym (starts_is t n stretch from before))
 
-  within_event : is_within m.transfer ≡ within_transfer t span (suc n)
-  within_event = sym (started_is t span facts.reads n from before m.transfer holds.transfer)
+  within_event : is_within m.transfer ≡ within_transfer t stretch (suc n)
+  within_event = sym (started_is t stretch facts.reads n from before m.transfer holds.transfer)
 
   strobe_rise_event : (is_within m.transfer && strobe_rises_between v w)
-      ≡ (strobe_rises t (suc n) && within_transfer t span (suc n))
+      ≡ (strobe_rises t (suc n) && within_transfer t stretch (suc n))
   strobe_rise_event =
       and_comm (is_within m.transfer) (strobe_rises_between v w)
       ∙ and_both _ _ _ _ (or_both _ _ _ _ (sym (rises_is t n DS0)) (sym (rises_is t n DS1))) within_event
 
   strobe_fall_event : (is_within m.transfer && strobe_falls_between v w)
-      ≡ (strobe_falls t (suc n) && within_transfer t span (suc n))
+      ≡ (strobe_falls t (suc n) && within_transfer t stretch (suc n))
   strobe_fall_event =
       and_comm (is_within m.transfer) (strobe_falls_between v w)
       ∙ and_both _ _ _ _ (or_both _ _ _ _ (sym (falls_is t n DS0)) (sym (falls_is t n DS1))) within_event
@@ -271,33 +275,34 @@ module _ (t : Trace) (ok : malformed_step t ≡ None) (few : t.opening.slots ≤
   answer_rise_event : (rises_between v w DTACK || rises_between v w BERR) ≡ answer_rises t (suc n)
   answer_rise_event = or_both _ _ _ _ (sym (rises_is t n DTACK)) (sym (rises_is t n BERR))
 
-  answer_event : is_some shown.answer ≡ is_answer t span (suc n)
+  answer_event : is_some shown.answer ≡ is_answer t stretch (suc n)
   answer_event =
       map_some _ (answer_in inside seen) ∙ if_some (is_unanswered inside) seen.answer_fall
-      ∙ sym (answer_is t span facts.reads n from before m holds)
+      ∙ sym (answer_is t stretch facts.reads n from before m holds)
 
-  cycle_here : cycle_before t span (suc n) ≡ cycle_entered m.cycle shown.cycle
-  cycle_here = here_is t span facts.reads n from before m holds
+  cycle_here : cycle_before t stretch (suc n) ≡ cycle_entered m.cycle shown.cycle
+  cycle_here = here_is t stretch facts.reads n from before m holds
 
   interrupt_event : (is_some shown.answer && is_interrupt_entered m.cycle shown.cycle)
-      ≡ answered_in_class t span is_interrupt (suc n)
+      ≡ answered_in_class t stretch is_interrupt (suc n)
   interrupt_event =
       and_both _ _ _ _ answer_event
       (interrupt_entered m.cycle shown.cycle ∙ ap is_interrupt_acknowledge (sym cycle_here)
-      ∙ sym (in_interrupt_acknowledge t span (suc n)))
+      ∙ sym (in_interrupt_acknowledge t stretch (suc n)))
 
   -- an answer in a cycle that had one before
   again_event : (is : CyclePhase → Bool) (chosen : Class → Bool) → ((k : Class) → is (unanswered_of k) ≡ false)
-      → in_cycle t span (λ i. chosen (class_at t span i) && has_earlier_answer (answers_of t span i (suc n))) (suc n)
-      ≡ is (cycle_before t span (suc n))
-      → goes_on is m.cycle shown.cycle shown.answer ≡ answered_again_in_class t span chosen (suc n)
+      → in_cycle t stretch (λ i. chosen (class_at t stretch i) && has_earlier_answer (answers_of t stretch i (suc n)))
+      (suc n)
+      ≡ is (cycle_before t stretch (suc n))
+      → goes_on is m.cycle shown.cycle shown.answer ≡ answered_again_in_class t stretch chosen (suc n)
   again_event is chosen fresh so =
       and_both _ _ _ _ answer_event
       (entered_goes is fresh m.cycle shown.cycle ∙ ap is (sym cycle_here) ∙ sym so)
 
-  tenure_event : falls_between v w BBSY ≡ tenure_starts t span (suc n)
+  tenure_event : falls_between v w BBSY ≡ tenure_starts t stretch (suc n)
   unfolding tenure_starts
-  tenure_event = sym (falls_is t n BBSY) ∙ ap (λ b. b && falls t BBSY (suc n)) (sym (judged t n span from before))
+  tenure_event = sym (falls_is t n BBSY) ∙ ap (λ b. b && falls t BBSY (suc n)) (sym (judged t n stretch from before))
 
   -- edges of nets
   narrow : v.slots ≤ 21
@@ -340,7 +345,7 @@ module _ (t : Trace) (ok : malformed_step t ≡ None) (few : t.opening.slots ≤
     add : (a b c d : Bool) → a ≡ (b || c) → c ≡ d → a ≡ (b || d)
     add a b c d p q = p ∙ ap (λ x. b || x) q
 
-    by_event : (v : Event) → has_happened more v ≡ (has_happened e v || event_happens t span v (suc n))
+    by_event : (v : Event) → has_happened more v ≡ (has_happened e v || event_happens t stretch v (suc n))
     by_event event.stretch = on_stretch e m v w cs shown ∙ sym (or-false e.stretch)
     by_event event.cycle = add _ _ _ _ (on_cycle e m v w cs shown) cycle_event
     by_event event.cycle_end = add _ _ _ _ (on_cycle_end e m v w cs shown) cycle_end_event
@@ -353,15 +358,15 @@ module _ (t : Trace) (ok : malformed_step t ≡ None) (few : t.opening.slots ≤
     by_event event.answer = add _ _ _ _ (on_answer e m v w cs shown) answer_event
     by_event event.single_again =
         add _ _ _ _ (on_single_again e m v w cs shown)
-        (again_event is_single_answered is_single single_fresh (in_single t span (suc n)))
+        (again_event is_single_answered is_single single_fresh (in_single t stretch (suc n)))
     by_event event.block_again =
         add _ _ _ _ (on_block_again e m v w cs shown)
-        (again_event is_block_answered is_block_class block_fresh (in_block t span (suc n)))
+        (again_event is_block_answered is_block_class block_fresh (in_block t stretch (suc n)))
     by_event event.interrupt = add _ _ _ _ (on_interrupt e m v w cs shown) interrupt_event
     by_event event.interrupt_again =
         add _ _ _ _ (on_interrupt_again e m v w cs shown)
         (again_event is_interrupt_answered is_interrupt interrupt_fresh
-        (in_answered_interrupt_acknowledge t span (suc n) ∙ acknowledged_is (cycle_before t span (suc n))))
+        (in_answered_interrupt_acknowledge t stretch (suc n) ∙ acknowledged_is (cycle_before t stretch (suc n))))
     by_event event.slot_grant_fall = add _ _ _ _ (on_slot_grant_fall e m v w cs shown) (nets_fall is_slot_grant e)
     by_event event.slot_grant_rise = add _ _ _ _ (on_slot_grant_rise e m v w cs shown) (nets_rise is_slot_grant e)
     by_event event.arbiter_fall = add _ _ _ _ (on_arbiter_fall e m v w cs shown) (arbiter_event e)
@@ -373,6 +378,6 @@ module _ (t : Trace) (ok : malformed_step t ≡ None) (few : t.opening.slots ≤
     by_event event.tenure = add _ _ _ _ (on_tenure e m v w cs shown) tenure_event
     by_event event.acknowledge_fall = add _ _ _ _ (on_acknowledge_fall e m v w cs shown) (nets_fall is_slot_iack e)
 
-    pub asked_here : (r : Rule) → asks_by more r ≡ (asks_by e r || happens t span r (suc n))
+    pub asked_here : (r : Rule) → asks_by more r ≡ (asks_by e r || happens t stretch r (suc n))
     unfolding happens
     asked_here r = by_event (event_of r)

@@ -8,9 +8,9 @@ use Rattle.std.specs.List.{fold, list_any}
 use Rattle.std.specs.Option.{option_map, option_map_or}
 use Rattle.std.proofs.Math.Bool.{or-false, or_assoc}
 use Rattle.vme_trace.specs.Instants.{any}
-use Rattle.vme_trace.specs.Judged.{Stretch, judged_spans}
+use Rattle.vme_trace.specs.Judged.{Stretch, judged_stretches}
 use Rattle.vme_trace.specs.Levels.{Levels}
-use Rattle.vme_trace.specs.Rules.{all_rules, ends_span}
+use Rattle.vme_trace.specs.Rules.{all_rules, ends_stretch}
 use Rattle.vme_trace.specs.Trace.{Trace, changed, levels_after, levels_at}
 use Rattle.vme_trace.specs.Verdict.{judge, verdict, verdict_by}
 use Rattle.vme_trace.specs.WellFormed.{malformed_step}
@@ -25,12 +25,12 @@ use Rattle.vme_monitor.specs.KnownRules.{known_begin}
 use Rattle.vme_monitor.specs.Outcome.{BreakWithin, earlier, shifted_break}
 use Rattle.vme_monitor.specs.OverStretches.{has_started, start_in}
 use Rattle.vme_monitor.specs.Run.{break_of_fault}
-use Rattle.vme_monitor.specs.Whole.{has_span}
+use Rattle.vme_monitor.specs.Whole.{has_any_stretch}
 use Rattle.vme_monitor.specs.declared.known.Stateless.{Stateless}
 use Rattle.vme_monitor.specs.declared.mark.Fault.{Fault}
 use Rattle.vme_monitor.specs.declared.over_stretches.StretchPhase.{StretchPhase}
 use Rattle.vme_monitor.proofs.Alongside.{item, levels_step, levels_taken, run_at, taken}
-use Rattle.vme_monitor.proofs.SpanLists.{spans_started, started}
+use Rattle.vme_monitor.proofs.StretchLists.{stretches_started, started}
 use Rattle.vme_dtb.specs.Machine.{dtb_begin}
 use Rattle.vme_dtb.specs.declared.memory.HandshakeMemory.{HandshakeMemory}
 use Rattle.vme_summary.specs.Runs.{handshake_run, known_run}
@@ -221,7 +221,7 @@ module _ (o : Levels) (x : List Step) where
         (levels_at t n) w (changes_of (slice_get x n))) ahead
 
 -- a rule is asked by the start of a stretch (U1), or by another event
-by_stretch : (r : Rule) → (r ≡ rule.U1) ⊎ (ends_span r ≡ false)
+by_stretch : (r : Rule) → (r ≡ rule.U1) ⊎ (ends_stretch r ≡ false)
 by_stretch rule.U1 = inl refl
 by_stretch r = inr refl
 
@@ -235,40 +235,42 @@ module _ (o : Levels) (x : List Step) (ok : malformed_step (recorded o x) ≡ No
   whole = recorded o x
 
   -- a rule with an event of its own is asked where that event happens before the end of the asking
-  asks_happened : (r : Rule) (own : ends_span r ≡ false) → list_any (asks_in whole found r) (judged_spans whole)
+  asks_happened : (r : Rule) (own : ends_stretch r ≡ false) → list_any (asks_in whole found r) (judged_stretches whole)
       ≡ list_any (happened_by whole ok few r own k) (started whole k)
   unfolding asks_in
   asks_happened r own =
       let far : k + (length x - k) ≡ length x = omega arith in
-      any_alike (asks_in whole found r) (happened_by whole ok few r own k) (judged_spans whole)
-      (λ span. or_fails (ends_span r) (any (happens whole span r) (span.start + 1)
-      (min span.end (asking_end whole found))) own
-      ∙ ap (λ j. any (happens whole span r) (span.start + 1) (min span.end j)) asking)
-      ∙ ap (list_any (happened_by whole ok few r own k)) (spans_started whole
+      any_alike (asks_in whole found r) (happened_by whole ok few r own k) (judged_stretches whole)
+      (λ stretch. or_fails (ends_stretch r) (any (happens whole stretch r) (stretch.start + 1)
+      (min stretch.end (asking_end whole found))) own
+      ∙ ap (λ j. any (happens whole stretch r) (stretch.start + 1) (min stretch.end j)) asking)
+      ∙ ap (list_any (happened_by whole ok few r own k)) (stretches_started whole
       ∙ ap (started whole) (sym far))
       ∙ happened_last whole ok few r own k (length x - k)
 
-  asks_stretch : (spans : List Stretch) → list_any (asks_in whole found rule.U1) spans ≡ has_span spans
+  asks_stretch : (stretches : List Stretch) → list_any (asks_in whole found rule.U1) stretches
+      ≡ has_any_stretch stretches
   unfolding asks_in
   asks_stretch [] = refl
-  asks_stretch (span ∷ spans) = refl
+  asks_stretch (stretch ∷ stretches) = refl
 
-  module _ (e : AskedEvents) (begun : has_started (known_phase whole ok few k) ≡ has_span (judged_spans whole)) where
+  module _ (e : AskedEvents) (begun : has_started (known_phase whole ok few k)
+      ≡ has_any_stretch (judged_stretches whole)) where
     abbrev opened : AskedEvents
     opened = with_stretch e (has_started (memories_at o).known)
 
-    -- after the first `k` steps rule `r` is asked exactly if it was asked before, or a judged span asks it
+    -- after the first `k` steps rule `r` is asked exactly if it was asked before, or a judged stretch asks it
     abbrev Asks : Rule → Type 0
     Asks r = asks_by (quiet_events (memories_at o) o opened (take k x)) r
-        ≡ (asks_by e r || list_any (asks_in whole found r) (judged_spans whole))
+        ≡ (asks_by e r || list_any (asks_in whole found r) (judged_stretches whole))
 
     stretch_asked : Asks rule.U1
     stretch_asked =
         ap (λ (e : AskedEvents). e.stretch) (quiet_to o x ok few opened k within)
         ∙ stretch_to whole ok few e k within
-        ∙ ap (λ b. e.stretch || b) (begun ∙ sym (asks_stretch (judged_spans whole)))
+        ∙ ap (λ b. e.stretch || b) (begun ∙ sym (asks_stretch (judged_stretches whole)))
 
-    other_asked : (r : Rule) → ends_span r ≡ false → Asks r
+    other_asked : (r : Rule) → ends_stretch r ≡ false → Asks r
     other_asked r own =
         ap (λ (e : AskedEvents). asks_by e r) (quiet_to o x ok few opened k within)
         ∙ happened_to whole ok few r own opened k within
@@ -280,24 +282,26 @@ module _ (o : Levels) (x : List Step) (ok : malformed_step (recorded o x) ≡ No
     part_asked : (r : Rule) → Asks r
     part_asked r =
         elim (by_stretch r) [
-          | inl stretch ↦ subst Asks (sym stretch) stretch_asked
+          | inl is_u1 ↦ subst Asks (sym is_u1) stretch_asked
           | inr own ↦ other_asked r own
         ]
 
--- the monitors have started at the end of a recording exactly if it has a judged span
+-- the monitors have started at the end of a recording exactly if it has a judged stretch
 abbrev pub KnowsStart : Type 0
 KnowsStart = (t : Trace) → malformed_step t ≡ None → t.opening.slots ≤ 21
-    → has_started (known_run (start_in known_begin t.opening) t.opening t.steps).leaving ≡ has_span (judged_spans t)
+    → has_started (known_run (start_in known_begin t.opening) t.opening t.steps).leaving
+    ≡ has_any_stretch (judged_stretches t)
 
 -- where a break is named, something is judged
-spans_named : (t : Trace) (spans : List Stretch) (b : Break) → named_break (judge all_rules t spans) ≡ Some b
-    → has_span spans ≡ true
-spans_named t [] b e = absurd (cc)
-spans_named t (span ∷ spans) b e = refl
+stretches_named : (t : Trace) (stretches : List Stretch) (b : Break) → named_break (judge all_rules t stretches)
+    ≡ Some b
+    → has_any_stretch stretches ≡ true
+stretches_named t [] b e = absurd (cc)
+stretches_named t (stretch ∷ stretches) b e = refl
 
-break_judged : (t : Trace) (b : Break) → named_break (verdict t) ≡ Some b → has_span (judged_spans t) ≡ true
+break_judged : (t : Trace) (b : Break) → named_break (verdict t) ≡ Some b → has_any_stretch (judged_stretches t) ≡ true
 unfolding verdict_by
-break_judged t b e = spans_named t (judged_spans t) b e
+break_judged t b e = stretches_named t (judged_stretches t) b e
 
 -- the first break of all steps is the first break of the steps up to it
 module _ (s : Step) (x : List Step) (m next : Memories) (o after : Levels) (b : Break) where
@@ -330,8 +334,9 @@ first_cut (s ∷ x) m o b h =
 
 module _ (finds : FindsFirst) (starts : KnowsStart) where
   module _ (o : Levels) (x : List Step) (ok : malformed_step (recorded o x) ≡ None) (few : o.slots ≤ 21) where
-    -- at the end of a recording the monitors have started exactly if it has a judged span
-    begun_last : has_started (known_phase (recorded o x) ok few (length x)) ≡ has_span (judged_spans (recorded o x))
+    -- at the end of a recording the monitors have started exactly if it has a judged stretch
+    begun_last : has_started (known_phase (recorded o x) ok few (length x))
+        ≡ has_any_stretch (judged_stretches (recorded o x))
     unfolding known_run
     begun_last =
         ap has_started
@@ -340,16 +345,16 @@ module _ (finds : FindsFirst) (starts : KnowsStart) where
         (omega arith)))
         ∙ starts (recorded o x) ok few
 
-    -- at the first break of a recording the monitors have started exactly if it has a judged span
+    -- at the first break of a recording the monitors have started exactly if it has a judged stretch
     begun_break : (b : Break) → first_break_from (memories_at o) o x ≡ Some b → b.instant ≤ length x
-        → has_started (known_phase (recorded o x) ok few b.instant) ≡ has_span (judged_spans (recorded o x))
+        → has_started (known_phase (recorded o x) ok few b.instant) ≡ has_any_stretch (judged_stretches (recorded o x))
     unfolding known_run
     begun_break b e h =
         let front = take b.instant x in
         let both : malformed_step (recorded o (front ++ drop b.instant x)) ≡ None =
         subst (λ (y : List Step). malformed_step (recorded o y) ≡ None) (sym (take-append-drop b.instant x)) ok in
         let sound : malformed_step (recorded o front) ≡ None = (sound_apart o front (drop b.instant x) both).first in
-        let judged : has_span (judged_spans (recorded o front)) ≡ true = break_judged (recorded o front) b
+        let judged : has_any_stretch (judged_stretches (recorded o front)) ≡ true = break_judged (recorded o front) b
         (finds (recorded o front) sound few ∙ first_cut x (memories_at o) o b e) in
         ap has_started (sym (run_at known_at (recorded o x) (start_in known_begin o) b.instant h).leaving)
         ∙ starts (recorded o front) sound few ∙ judged
@@ -373,13 +378,13 @@ module _ (finds : FindsFirst) (starts : KnowsStart) where
 
       last_happened : first_break_from (memories_at o) o x ≡ None
           → asks_by (quiet_events (memories_at o) o fresh x) r
-          ≡ (asks_by e r || (list_any (asks_in (recorded o x) None r) (judged_spans (recorded o x)) || false))
+          ≡ (asks_by e r || (list_any (asks_in (recorded o x) None r) (judged_stretches (recorded o x)) || false))
       last_happened found =
           ap (λ (y : List Step). asks_by (quiet_events (memories_at o) o fresh y) r)
           (sym (take_all (length x) x (omega arith)))
           ∙ part_asked o x ok few None (length x) (omega arith) (add-one (length x)) e (begun_last o x ok few) r
           ∙ ap (λ b. asks_by e r || b)
-          (sym (or-false (list_any (asks_in (recorded o x) None r) (judged_spans (recorded o x)))))
+          (sym (or-false (list_any (asks_in (recorded o x) None r) (judged_stretches (recorded o x)))))
 
       module _ (n : ℕ) (short : length x ≤ suc n) (b : Break) (w : BreakWithin (length x) (Some b)) where
         abbrev left : Levels
@@ -390,7 +395,7 @@ module _ (finds : FindsFirst) (starts : KnowsStart) where
 
         broken_happened : HaveHappened n → first_break_from (memories_at o) o x ≡ Some b
             → asks_by (events_to (memories_at o) o fresh x (Some b)) r
-            ≡ (asks_by e r || (list_any (asks_in (recorded o x) (Some b) r) (judged_spans (recorded o x))
+            ≡ (asks_by e r || (list_any (asks_in (recorded o x) (Some b) r) (judged_stretches (recorded o x))
             || list_any (asks r) (parts_from n (part_after here b))))
         broken_happened happened_by found =
             happened_by (start + b.instant) left (drop b.instant x)
@@ -398,13 +403,13 @@ module _ (finds : FindsFirst) (starts : KnowsStart) where
             (subst (λ k. k ≤ 21) (sym (rest_slots (recorded o x) b.instant)) few)
             ∙ ap (λ c. c || list_any (asks r) (parts_from n (part_after here b)))
             (part_asked o x ok few (Some b) b.instant w.1 (add-one b.instant) e (begun_break o x ok few b found w.1) r)
-            ∙ or_assoc (asks_by e r) (list_any (asks_in (recorded o x) (Some b) r) (judged_spans (recorded o x)))
+            ∙ or_assoc (asks_by e r) (list_any (asks_in (recorded o x) (Some b) r) (judged_stretches (recorded o x)))
             (list_any (asks r) (parts_from n (part_after here b)))
 
       happened_for : (n : ℕ) → length x ≤ suc n → HaveHappened n → (found : Option Break) → BreakWithin (length x) found
           → first_break_from (memories_at o) o x ≡ found
           → asks_by (events_to (memories_at o) o fresh x found) r
-          ≡ (asks_by e r || (list_any (asks_in (recorded o x) found r) (judged_spans (recorded o x))
+          ≡ (asks_by e r || (list_any (asks_in (recorded o x) found r) (judged_stretches (recorded o x))
           || list_any (asks r) (option_map_or (λ b. parts_from n (part_after here b)) found [])))
       happened_for n short happened_by None w found = last_happened found
       happened_for n short happened_by (Some b) w found = broken_happened n short b w happened_by found

@@ -1,4 +1,4 @@
--- What is asked up to an instant of a recording, by its steps and by what happens in the spans that have started.
+-- What is asked up to an instant of a recording, by its steps and by what happens in the stretches that have started.
 use Rattle.std.proofs.Common.{◌≡◌, ℕ, zero, suc, ◌+◌, ◌<◌, ◌≤◌, Bool, true, false, ◌||◌, List, [], ◌∷◌, ◌++◌, length}
 use Rattle.std.proofs.Common.{refl}
 use Rattle.std.proofs.Common.{sym, ◌∙◌, ap, subst, arith, cond, inl, inr, Option, None, Some}
@@ -8,15 +8,15 @@ use Rattle.std.specs.Option.{option_map_or}
 use Rattle.std.proofs.Math.Bool.{or-false, or_assoc}
 use Rattle.vme_trace.specs.Changes.{touches_control}
 use Rattle.vme_trace.specs.Instants.{any}
-use Rattle.vme_trace.specs.Judged.{IsSpanOf, Stretch, span_from, span_starts}
+use Rattle.vme_trace.specs.Judged.{IsStretchOf, Stretch, stretch_from, stretch_starts}
 use Rattle.vme_trace.specs.Levels.{Levels, is_idle}
-use Rattle.vme_trace.specs.Rules.{ends_span}
+use Rattle.vme_trace.specs.Rules.{ends_stretch}
 use Rattle.vme_trace.specs.Trace.{Trace, levels_at}
 use Rattle.vme_trace.specs.WellFormed.{malformed_step}
 use Rattle.vme_trace.specs.declared.rule.Rule.{Rule}
 use Rattle.vme_trace.specs.declared.rule.Rule.TheVariants as rule
 use Rattle.vme_trace.specs.declared.step.Change.{Change}
-use Rattle.vme_trace.proofs.JudgedSpans.{spans_kept, spans_more}
+use Rattle.vme_trace.proofs.JudgedStretches.{stretches_kept, stretches_more}
 use Rattle.vme_trace.proofs.Ranges.{fails-any, any-next}
 use Rattle.vme_monitor.specs.Along.{changes_of, memory_from, next_at}
 use Rattle.vme_monitor.specs.Ends.{end_among}
@@ -32,9 +32,10 @@ use Rattle.vme_monitor.specs.declared.over_stretches.StretchPhase.TheVariants as
 use Rattle.vme_monitor.specs.declared.view.End.{End}
 use Rattle.vme_monitor.specs.declared.view.End.TheVariants as end
 use Rattle.vme_monitor.proofs.Alongside.{not_before}
-use Rattle.vme_monitor.proofs.SpanFacts.{IsSpan, span_facts}
-use Rattle.vme_monitor.proofs.SpanLists.{AreOver, started, started_none, started_one}
-use Rattle.vme_monitor.proofs.Spans.{IsAtWork, JudgesOn, Loses, Resets, Stands, inner_at, moves, outer_next, stands}
+use Rattle.vme_monitor.proofs.StretchFacts.{IsStretch, stretch_facts}
+use Rattle.vme_monitor.proofs.StretchLists.{AreOver, started, started_none, started_one}
+use Rattle.vme_monitor.proofs.OuterMachine.{IsAtWork, JudgesOn, Loses, Resets, Stands, inner_at, moves, outer_next}
+use Rattle.vme_monitor.proofs.OuterMachine.{stands}
 use Rattle.vme_monitor.proofs.Transitions.{outer_judging, waits}
 use Rattle.vme_dtb.specs.Machine.{dtb_begin, dtb_end_fault, dtb_start_marks, dtb_observation, dtb_step}
 use Rattle.vme_dtb.specs.declared.memory.HandshakeMemory.{HandshakeMemory}
@@ -54,7 +55,7 @@ any_both p [] ys = refl
 any_both p (x ∷ xs) ys = ap (λ b. p x || b) (any_both p xs ys) ∙ sym (or_assoc (p x) (list_any p xs) (list_any p ys))
 
 -- the start of a stretch changes no other event than that of U1
-pub stretch_alone : (r : Rule) (e : AskedEvents) (b : Bool) → ends_span r ≡ false → asks_by (with_stretch e b) r
+pub stretch_alone : (r : Rule) (e : AskedEvents) (b : Bool) → ends_stretch r ≡ false → asks_by (with_stretch e b) r
     ≡ asks_by e r
 stretch_alone rule.U1 e b h = absurd (cc)
 stretch_alone r e b h = refl
@@ -150,9 +151,9 @@ goes_here p v w (Some end.Reset) s h = absurd (cc)
 goes_here p v w (Some (end.Lost l)) s h = absurd (cc)
 goes_here p v w None s h = refl
 
-last_over : (n : ℕ) (past : List Stretch) (span : Stretch) → AreOver n (past ++ span ∷ []) → span.end ≤ n
-last_over n [] span h = h.0
-last_over n (s ∷ past) span h = last_over n past span h.1
+last_over : (n : ℕ) (past : List Stretch) (stretch : Stretch) → AreOver n (past ++ stretch ∷ []) → stretch.end ≤ n
+last_over n [] stretch h = h.0
+last_over n (s ∷ past) stretch h = last_over n past stretch h.1
 
 module _ (t : Trace) (ok : malformed_step t ≡ None) (few : t.opening.slots ≤ 21) where
   abbrev pub cs_at : ℕ → List Change
@@ -192,51 +193,53 @@ module _ (t : Trace) (ok : malformed_step t ≡ None) (few : t.opening.slots ≤
       ∙ ap (λ b. e.stretch || b)
       (sym (rw (not_before n) (starts_shown (known_phase n) (levels_at t n) (levels_at t (suc n)) (cs_at n))))
 
-  module _ (r : Rule) (own : ends_span r ≡ false) where
-    -- the event of rule `r` happens in the span, up to instant `n`
+  module _ (r : Rule) (own : ends_stretch r ≡ false) where
+    -- the event of rule `r` happens in the stretch, up to instant `n`
     abbrev pub happened_by : ℕ → Stretch → Bool
-    happened_by n span = any (happens t span r) (span.start + 1) (min span.end (suc n))
+    happened_by n stretch = any (happens t stretch r) (stretch.start + 1) (min stretch.end (suc n))
 
-    not_happened : (n : ℕ) (span : Stretch) → n ≤ span.start → happened_by n span ≡ false
-    not_happened n span h =
-        fails-any (happens t span r) (span.start + 1) (min span.end (suc n)) (λ i a b. absurd (omega arith))
+    not_happened : (n : ℕ) (stretch : Stretch) → n ≤ stretch.start → happened_by n stretch ≡ false
+    not_happened n stretch h =
+        fails-any (happens t stretch r) (stretch.start + 1) (min stretch.end (suc n)) (λ i a b. absurd (omega arith))
 
-    happened_over : (n : ℕ) (span : Stretch) → span.end ≤ suc n → happened_by (suc n) span ≡ happened_by n span
-    happened_over n span h =
-        let same : min span.end (suc (suc n)) ≡ min span.end (suc n) = omega arith in
-        ap (any (happens t span r) (span.start + 1)) same
+    happened_over : (n : ℕ) (stretch : Stretch) → stretch.end ≤ suc n → happened_by (suc n) stretch
+        ≡ happened_by n stretch
+    happened_over n stretch h =
+        let same : min stretch.end (suc (suc n)) ≡ min stretch.end (suc n) = omega arith in
+        ap (any (happens t stretch r) (stretch.start + 1)) same
 
-    happened_on : (n : ℕ) (span : Stretch) → span.start ≤ n → suc n < span.end → happened_by (suc n) span
-        ≡ (happened_by n span || happens t span r (suc n))
-    happened_on n span from before =
-        let later : min span.end (suc (suc n)) ≡ suc (suc n) = omega arith in
-        let now : suc n ≡ min span.end (suc n) = omega arith in
-        ap (any (happens t span r) (span.start + 1)) later
-        ∙ any-next (happens t span r) (span.start + 1) (suc n) (omega arith)
-        ∙ ap (λ k. any (happens t span r) (span.start + 1) k || happens t span r (suc n)) now
+    happened_on : (n : ℕ) (stretch : Stretch) → stretch.start ≤ n → suc n < stretch.end → happened_by (suc n) stretch
+        ≡ (happened_by n stretch || happens t stretch r (suc n))
+    happened_on n stretch from before =
+        let later : min stretch.end (suc (suc n)) ≡ suc (suc n) = omega arith in
+        let now : suc n ≡ min stretch.end (suc n) = omega arith in
+        ap (any (happens t stretch r) (stretch.start + 1)) later
+        ∙ any-next (happens t stretch r) (stretch.start + 1) (suc n) (omega arith)
+        ∙ ap (λ k. any (happens t stretch r) (stretch.start + 1) k || happens t stretch r (suc n)) now
 
-    all_over : (n : ℕ) (spans : List Stretch) → AreOver n spans → list_any (happened_by (suc n)) spans
-        ≡ list_any (happened_by n) spans
+    all_over : (n : ℕ) (stretches : List Stretch) → AreOver n stretches → list_any (happened_by (suc n)) stretches
+        ≡ list_any (happened_by n) stretches
     all_over n [] h = refl
-    all_over n (span ∷ spans) h =
-        ap (λ b. b || list_any (happened_by (suc n)) spans) (happened_over n span (omega (arith, h.0)))
-        ∙ ap (λ b. happened_by n span || b) (all_over n spans h.1)
+    all_over n (stretch ∷ stretches) h =
+        ap (λ b. b || list_any (happened_by (suc n)) stretches) (happened_over n stretch (omega (arith, h.0)))
+        ∙ ap (λ b. happened_by n stretch || b) (all_over n stretches h.1)
 
-    -- a span that starts at instant `n + 1` adds no event up to an instant `k ≤ n + 1`
+    -- a stretch that starts at instant `n + 1` adds no event up to an instant `k ≤ n + 1`
     happened_more : (k n : ℕ) → k ≤ suc n → list_any (happened_by k) (started t (suc n))
         ≡ list_any (happened_by k) (started t n)
-    happened_more k n h = by_start (span_starts t (suc n)) refl
+    happened_more k n h = by_start (stretch_starts t (suc n)) refl
       where
-        by_start : (b : Bool) → span_starts t (suc n) ≡ b → list_any (happened_by k) (started t (suc n))
+        by_start : (b : Bool) → stretch_starts t (suc n) ≡ b → list_any (happened_by k) (started t (suc n))
             ≡ list_any (happened_by k) (started t n)
         by_start true e =
-            ap (list_any (happened_by k)) (spans_more t (suc n) e)
-            ∙ any_both (happened_by k) (started t n) (span_from t (suc n) ∷ [])
-            ∙ ap (λ b. list_any (happened_by k) (started t n) || (b || false)) (not_happened k (span_from t (suc n)) h)
+            ap (list_any (happened_by k)) (stretches_more t (suc n) e)
+            ∙ any_both (happened_by k) (started t n) (stretch_from t (suc n) ∷ [])
+            ∙ ap (λ b. list_any (happened_by k) (started t n) || (b || false))
+            (not_happened k (stretch_from t (suc n)) h)
             ∙ or-false (list_any (happened_by k) (started t n))
-        by_start false e = ap (list_any (happened_by k)) (spans_kept t (suc n) e)
+        by_start false e = ap (list_any (happened_by k)) (stretches_kept t (suc n) e)
 
-    -- up to instant `n` rule `r` is asked exactly if it was asked before, or its event happens in a started span
+    -- up to instant `n` rule `r` is asked exactly if it was asked before, or its event happens in a started stretch
     abbrev HaveHappened : AskedEvents → ℕ → Type 0
     HaveHappened e n = asks_by (asked_to e n) r ≡ (asks_by e r || list_any (happened_by n) (started t n))
 
@@ -276,14 +279,14 @@ module _ (t : Trace) (ok : malformed_step t ≡ None) (few : t.opening.slots ≤
       step_of p at = rw at (outer_judging dtb_begin dtb_start_marks no_step_marks dtb_end_fault dtb_observation dtb_step
           v w (cs_at n) p)
 
-      -- the step ends the span
+      -- the step ends the stretch
       ended : (p : HandshakeMemory) (l : End) → phase_at n ≡ phase.InStretch p → ends ≡ Some l → now ≡ before
       ended p l at e = rw (at, e) refl
 
       module _ (work : IsAtWork dtb_begin dtb_start_marks no_step_marks dtb_end_fault dtb_observation dtb_step t few ok
           n) where
         abbrev here : Stretch
-        here = span_from t work.start
+        here = stretch_from t work.start
 
         abbrev p : HandshakeMemory
         p = inner_at dtb_begin dtb_start_marks no_step_marks dtb_end_fault dtb_observation dtb_step t few ok work.start
@@ -292,7 +295,7 @@ module _ (t : Trace) (ok : malformed_step t ≡ None) (few : t.opening.slots ≤
         past_and_here : (k : ℕ) → list_any (happened_by k) (started t n)
             ≡ (list_any (happened_by k) work.past || happened_by k here)
         past_and_here k =
-            ap (list_any (happened_by k)) work.spans ∙ any_both (happened_by k) work.past (here ∷ [])
+            ap (list_any (happened_by k)) work.stretches ∙ any_both (happened_by k) work.past (here ∷ [])
             ∙ ap (λ b. list_any (happened_by k) work.past || b) (or-false (happened_by k here))
 
         stopped : (l : End) → ends ≡ Some l → here.end ≤ suc n → HaveHappened e (suc n)
@@ -303,8 +306,8 @@ module _ (t : Trace) (ok : malformed_step t ≡ None) (few : t.opening.slots ≤
             ∙ ap (λ b. list_any (happened_by n) work.past || b) (happened_over n here last)
             ∙ sym (past_and_here n))
 
-        is_span : IsSpanOf t here
-        is_span = record {
+        is_stretch : IsStretchOf t here
+        is_stretch = record {
           within = omega (arith, work.running.from, within);
           starts = work.running.starts;
           ends = refl;
@@ -318,8 +321,8 @@ module _ (t : Trace) (ok : malformed_step t ≡ None) (few : t.opening.slots ≤
               (ap (λ (x : Next (StretchPhase HandshakeMemory)). is_judging x.memory)
               (sym (step_of p work.memory) ∙ on.step))
 
-          facts : IsSpan t here
-          facts = span_facts t here is_span
+          facts : IsStretch t here
+          facts = stretch_facts t here is_stretch
 
           holds : Holds t here n p
           holds = holds_at t here facts n work.running.from (omega (arith, on.before))
@@ -365,14 +368,14 @@ module _ (t : Trace) (ok : malformed_step t ≡ None) (few : t.opening.slots ≤
             (sym (step_of p work.memory) ∙ loses.step)) in
             stopped end.0 end.1 (omega (arith, loses.last))
 
-      -- at instant `n` the bus is in no judged span
+      -- at instant `n` the bus is in no judged stretch
       idle_on : AreOver n (started t n)
           → Stands dtb_begin dtb_start_marks no_step_marks dtb_end_fault dtb_observation dtb_step t few ok n
           → HaveHappened e (suc n)
       idle_on over (inl rest) =
           unjudged (waits_on before (phase_at n) ends v w (cs_at n) kinds rest.waiting) (all_over n (started t n) over)
       idle_on over (inr (inl work)) =
-          let past_end = last_over n work.past (span_from t work.start) (subst (AreOver n) work.spans over) in
+          let past_end = last_over n work.past (stretch_from t work.start) (subst (AreOver n) work.stretches over) in
           absurd (omega (arith, past_end, work.running.before))
       idle_on over (inr (inr ended)) = unjudged (rw ended.ended refl) (all_over n (started t n) over)
 
@@ -401,11 +404,12 @@ module _ (t : Trace) (ok : malformed_step t ≡ None) (few : t.opening.slots ≤
           ]
 
     happened_first : (e : AskedEvents) → HaveHappened e 0
-    happened_first e = sym (ap (λ b. asks_by e r || b) (none_happened (span_starts t 0) refl) ∙ or-false (asks_by e r))
+    happened_first e = sym (ap (λ b. asks_by e r || b) (none_happened (stretch_starts t 0) refl)
+        ∙ or-false (asks_by e r))
       where
-        none_happened : (b : Bool) → span_starts t 0 ≡ b → list_any (happened_by 0) (started t 0) ≡ false
+        none_happened : (b : Bool) → stretch_starts t 0 ≡ b → list_any (happened_by 0) (started t 0) ≡ false
         none_happened true e = ap (list_any (happened_by 0)) (started_one t e)
-            ∙ ap (λ b. b || false) (not_happened 0 (span_from t 0) (omega arith))
+            ∙ ap (λ b. b || false) (not_happened 0 (stretch_from t 0) (omega arith))
         none_happened false e = ap (list_any (happened_by 0)) (started_none t e)
 
     -- the invariant holds up to instant `n`
@@ -413,7 +417,7 @@ module _ (t : Trace) (ok : malformed_step t ≡ None) (few : t.opening.slots ≤
     happened_to e zero h = happened_first e
     happened_to e (suc n) h = happened_next e n (omega arith) (happened_to e n (omega arith))
 
-    -- spans that start after instant `k` add no event up to `k`
+    -- stretches that start after instant `k` add no event up to `k`
     pub happened_last : (k d : ℕ) → list_any (happened_by k) (started t (k + d))
         ≡ list_any (happened_by k) (started t k)
     happened_last k zero =

@@ -3,7 +3,7 @@ use Rattle.std.proofs.Common.{◌≡◌, ℕ, suc, Bool, true, false, List, [], 
 use Rattle.std.proofs.Common.{arith, cond, Option, None, Some}
 use Rattle.std.specs.Option.{option_map}
 use Rattle.vme_trace.specs.Levels.{Levels}
-use Rattle.vme_trace.specs.Judged.{Stretch, judged_spans}
+use Rattle.vme_trace.specs.Judged.{Stretch, judged_stretches}
 use Rattle.vme_trace.specs.Rules.{all_rules, is_unreadable}
 use Rattle.vme_trace.specs.Trace.{Trace, changed}
 use Rattle.vme_trace.specs.Verdict.{judge, least_of, verdict, verdict_by, verdict_on}
@@ -133,10 +133,11 @@ named_on (Some b) = by_rule (is_unreadable b.rule)
     by_rule true = refl
     by_rule false = refl
 
-named_of : (t : Trace) (spans : List Stretch) → named_break (judge all_rules t spans) ≡ least_of all_rules t spans
+named_of : (t : Trace) (stretches : List Stretch) → named_break (judge all_rules t stretches)
+    ≡ least_of all_rules t stretches
 named_of t [] = refl
-named_of t (span ∷ spans) = named_on (least_of all_rules t (span ∷ spans))
+named_of t (stretch ∷ stretches) = named_on (least_of all_rules t (stretch ∷ stretches))
 
-pub named_is_least : (t : Trace) → named_break (verdict t) ≡ least_of all_rules t (judged_spans t)
+pub named_is_least : (t : Trace) → named_break (verdict t) ≡ least_of all_rules t (judged_stretches t)
 unfolding verdict_by
-named_is_least t = named_of t (judged_spans t)
+named_is_least t = named_of t (judged_stretches t)

@@ -5,7 +5,7 @@ use Rattle.std.proofs.Common.{sym, ◌∙◌, ap, subst, arith, add-one, append-
 use Rattle.std.proofs.lemmas.List.{length-drop}
 use Rattle.std.specs.List.{fold}
 use Rattle.std.specs.Option.{option_map, option_map_or}
-use Rattle.vme_trace.specs.Judged.{Stretch, judged_spans}
+use Rattle.vme_trace.specs.Judged.{Stretch, judged_stretches}
 use Rattle.vme_trace.specs.Levels.{Levels}
 use Rattle.vme_trace.specs.Trace.{changed, levels_at}
 use Rattle.vme_trace.specs.WellFormed.{malformed_step}
@@ -14,7 +14,7 @@ use Rattle.vme_trace.specs.declared.verdict.Break.{Break}
 use Rattle.vme_monitor.specs.Outcome.{BreakWithin, earlier, shifted_break}
 use Rattle.vme_monitor.specs.OverStretches.{has_started}
 use Rattle.vme_monitor.specs.Run.{break_of_fault}
-use Rattle.vme_monitor.specs.Whole.{has_span}
+use Rattle.vme_monitor.specs.Whole.{has_any_stretch}
 use Rattle.vme_monitor.specs.declared.mark.Fault.{Fault}
 use Rattle.vme_audit.specs.Covered.{has_stretch, is_judged_part}
 use Rattle.vme_audit.specs.Parts.{Part, last_from, own_break, part_after, parts_from}
@@ -82,9 +82,9 @@ memories_first (s ∷ x) m o =
     to_stepped m o s x (first_fault_of m o (changed o s.changes) s.changes) s.time
     (memories_first x (next m o s x) (after m o s x))
 
-same_started : (spans : List Stretch) → has_span spans ≡ has_stretch spans
+same_started : (stretches : List Stretch) → has_any_stretch stretches ≡ has_stretch stretches
 same_started [] = refl
-same_started (span ∷ spans) = refl
+same_started (stretch ∷ stretches) = refl
 
 module _ (finds : FindsFirst) (starts : KnowsStart) where
   -- after steps `x` the monitors have started exactly if the last part is judged
@@ -103,7 +103,7 @@ module _ (finds : FindsFirst) (starts : KnowsStart) where
     unfolding is_judged_part
     judged_last =
         ap has_started (known_left x (memories_at o) o) ∙ starts (recorded o x) ok few
-        ∙ same_started (judged_spans (recorded o x))
+        ∙ same_started (judged_stretches (recorded o x))
 
     judged_by : (n : ℕ) → length x ≤ suc n → AreJudged n → (found : Option Break) → BreakWithin (length x) found
         → has_started (memories_to (memories_at o) o x found).known

@@ -8,7 +8,7 @@ use Rattle.std.proofs.lemmas.List.Elements.{filter-append}
 use Rattle.std.proofs.lemmas.Bool.{le-ltb, lt-ltb}
 use Rattle.vme_trace.specs.LineNumbers.{BBSY}
 use Rattle.vme_trace.specs.Levels.{Levels, is_idle, is_low, level_at}
-use Rattle.vme_trace.specs.Judged.{Stretch, judged_spans}
+use Rattle.vme_trace.specs.Judged.{Stretch, judged_stretches}
 use Rattle.vme_trace.specs.Trace.{Trace, changed}
 use Rattle.vme_trace.specs.Verdict.{least_of, rules_in_force, verdict}
 use Rattle.vme_trace.specs.WellFormed.{malformed_step}
@@ -23,7 +23,7 @@ use Rattle.vme_listing.specs.declared.row.Row.TheVariants as row
 use Rattle.vme_monitor.specs.Outcome.{shifted_mark}
 use Rattle.vme_monitor.specs.Run.{mark_at}
 use Rattle.vme_monitor.specs.Shows.{marks_over}
-use Rattle.vme_monitor.specs.Whole.{has_span}
+use Rattle.vme_monitor.specs.Whole.{has_any_stretch}
 use Rattle.vme_monitor.specs.declared.mark.Mark.{Mark}
 use Rattle.vme_monitor.specs.declared.mark.MarkKind.{MarkKind}
 use Rattle.vme_monitor.specs.declared.mark.MarkKind.TheVariants as kind
@@ -131,9 +131,10 @@ rows_alike v false first_break ms silent =
     no_rows None = record { counted = refl; hangs = refl }
     no_rows (Some b) = record { counted = refl; hangs = refl }
 
-no_marks_unstarted : (t : Trace) (spans : List Stretch) → has_span spans ≡ false → marks_over (all_over t) t spans ≡ []
+no_marks_unstarted : (t : Trace) (stretches : List Stretch) → has_any_stretch stretches ≡ false
+    → marks_over (all_over t) t stretches ≡ []
 no_marks_unstarted t [] e = refl
-no_marks_unstarted t (span ∷ spans) e = absurd (cc)
+no_marks_unstarted t (stretch ∷ stretches) e = absurd (cc)
 
 -- the joined marks of the monitors are the marks of the recording
 abbrev pub ShowsMarks : Type 0
@@ -145,16 +146,17 @@ pub part_rows : ShowsMarks → (start : ℕ) (t : Trace) → malformed_step t �
     → CountAlike (rows_of (record { start = start; trace = t }))
     (marked_rows None (marks_listed first_break (joined_marks (memories_at t.opening) t.opening t.steps)))
 part_rows shows start t ok few first_break e =
-    let least : least_of rules_in_force t (judged_spans t) ≡ first_break = sym (named_is_least t) ∙ e in
-    let rows = rows_alike t.opening (has_span (judged_spans t)) first_break (all_marks t)
-    (no_marks_unstarted t (judged_spans t)) in
+    let least : least_of rules_in_force t (judged_stretches t) ≡ first_break = sym (named_is_least t) ∙ e in
+    let rows = rows_alike t.opening (has_any_stretch (judged_stretches t)) first_break (all_marks t)
+    (no_marks_unstarted t (judged_stretches t)) in
     alike (rows_of (record { start = start; trace = t }))
-    (filter is_no_verdict (listed t.opening (has_span (judged_spans t)) first_break (all_marks t)))
+    (filter is_no_verdict (listed t.opening (has_any_stretch (judged_stretches t)) first_break (all_marks t)))
     (marked_rows None (marks_listed first_break (joined_marks (memories_at t.opening) t.opening t.steps)))
     (ap (filter is_no_verdict) (sym (marked_is_listed t)
-    ∙ ap (λ (first_break : Option Break). listed t.opening (has_span (judged_spans t)) first_break (all_marks t))
+    ∙ ap (λ (first_break : Option Break). listed t.opening (has_any_stretch (judged_stretches t)) first_break
+    (all_marks t))
     least)) (subst (λ (ms : List Mark). CountAlike
-    (filter is_no_verdict (listed t.opening (has_span (judged_spans t)) first_break (all_marks t)))
+    (filter is_no_verdict (listed t.opening (has_any_stretch (judged_stretches t)) first_break (all_marks t)))
     (marked_rows None (marks_listed first_break ms))) (sym (shows t ok few)) rows)
 
 -- ---- the marks before a break

@@ -3,7 +3,7 @@ use Rattle.std.proofs.Common.{◌≡◌, ℕ, zero, suc, ◌+◌, Bool, true, fa
 use Rattle.std.proofs.Common.{sym, ◌∙◌, ap, arith, append-nil, cond, Option, None, Some}
 use Rattle.std.specs.Prelude.{flat_map, slice_get}
 use Rattle.std.specs.Option.{option_map, option_map_or, option_to_list}
-use Rattle.vme_trace.specs.Judged.{Stretch, judged_spans}
+use Rattle.vme_trace.specs.Judged.{Stretch, judged_stretches}
 use Rattle.vme_trace.specs.Rules.{all_rules, is_unreadable}
 use Rattle.vme_trace.specs.Trace.{Trace}
 use Rattle.vme_trace.specs.Verdict.{judge, least_of, verdict, verdict_by, verdict_on}
@@ -65,13 +65,13 @@ module _ (t : Trace) where
   pub first_determines_verdict : (b : Break) → slice_get (breaks t) 0 ≡ Some b
       → verdict t ≡ cond (is_unreadable b.rule) (Unreadable b) (Broken b)
   unfolding verdict_by
-  first_determines_verdict b e = determined_by (judged_spans t) (sym first_is ∙ e)
+  first_determines_verdict b e = determined_by (judged_stretches t) (sym first_is ∙ e)
     where
-      determined_by : (spans : List Stretch) → named_break (judge all_rules t spans) ≡ Some b
-          → judge all_rules t spans ≡ cond (is_unreadable b.rule) (Unreadable b) (Broken b)
+      determined_by : (stretches : List Stretch) → named_break (judge all_rules t stretches) ≡ Some b
+          → judge all_rules t stretches ≡ cond (is_unreadable b.rule) (Unreadable b) (Broken b)
       determined_by [] e = absurd (cc)
-      determined_by (span ∷ spans) e =
-          ap verdict_on (sym (named_on (least_of all_rules t (span ∷ spans))) ∙ e)
+      determined_by (stretch ∷ stretches) e =
+          ap verdict_on (sym (named_on (least_of all_rules t (stretch ∷ stretches))) ∙ e)
 
   -- a recording without a break is its only part
   one_part : (n : ℕ) → named_break (verdict t) ≡ None → parts_from n here ≡ here ∷ []
@@ -87,15 +87,15 @@ module _ (t : Trace) where
       → verdict t ≡ cond (is_judged_part (last_part t)) Conforming NeverIdle
   unfolding parts verdict_by is_judged_part
   unbroken_verdict e =
-      conforms (judged_spans t) e
+      conforms (judged_stretches t) e
       ∙ ap (λ (ps : List Part). cond (is_judged_part (last_from here ps)) Conforming NeverIdle)
       (sym (one_part (length t.steps) e))
     where
-      conforms : (spans : List Stretch) → named_break (judge all_rules t spans) ≡ None
-          → judge all_rules t spans ≡ cond (has_stretch spans) Conforming NeverIdle
+      conforms : (stretches : List Stretch) → named_break (judge all_rules t stretches) ≡ None
+          → judge all_rules t stretches ≡ cond (has_stretch stretches) Conforming NeverIdle
       conforms [] e = refl
-      conforms (span ∷ spans) e =
-          ap verdict_on (sym (named_on (least_of all_rules t (span ∷ spans))) ∙ e)
+      conforms (stretch ∷ stretches) e =
+          ap verdict_on (sym (named_on (least_of all_rules t (stretch ∷ stretches))) ∙ e)
 
   pub no_breaks : named_break (verdict t) ≡ None → breaks t ≡ []
   unfolding parts own_break

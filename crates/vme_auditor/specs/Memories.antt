@@ -22,7 +22,7 @@ use Rattle.vme_chains.specs.GrantRules.{grant_begin, grant_end_fault, grant_next
 use Rattle.vme_chains.specs.declared.grant_memory.Arbitration.{Arbitration}
 use Rattle.vme_chains.specs.AcknowledgeRules.{acknowledge_begin, acknowledge_end_fault, acknowledge_next}
 use Rattle.vme_chains.specs.AcknowledgeRules.{acknowledge_start_marks, acknowledge_observation}
-use Rattle.vme_chains.specs.declared.acknowledge.Acknowledgement.{Acknowledgement}
+use Rattle.vme_chains.specs.declared.acknowledge.AcknowledgeMemory.{AcknowledgeMemory}
 use Rattle.vme_auditor.specs.declared.memories.AllShown.{AllShown}
 use Rattle.vme_auditor.specs.declared.memories.Memories.{Memories}
 
@@ -45,8 +45,8 @@ abbrev pub grant_at : StretchPhase Arbitration → Levels → Levels → List Ch
 grant_at = machine_step (observed grant_observation) (phase_step grant_begin grant_start_marks no_step_marks
     grant_end_fault grant_next)
 
-abbrev pub acknowledge_at : StretchPhase Acknowledgement → Levels → Levels → List Change
-    → Next (StretchPhase Acknowledgement)
+abbrev pub acknowledge_at : StretchPhase AcknowledgeMemory → Levels → Levels → List Change
+    → Next (StretchPhase AcknowledgeMemory)
 acknowledge_at =
     machine_step (observed acknowledge_observation)
     (phase_step acknowledge_begin acknowledge_start_marks no_step_marks acknowledge_end_fault acknowledge_next)

@@ -7,7 +7,7 @@ ghost use Rattle.vme_monitor.specs.StepRuns.{seen_in};
 ghost use Rattle.vme_auditor.specs.Memories.{AllGoOn, comes_before as comes_before_by, first_fault as first_fault_by};
 ghost use Rattle.vme_auditor.specs.Memories.{memories_at};
 
-use vme_chains::acknowledge::{AcknowledgeRules, Acknowledgement};
+use vme_chains::acknowledge::{AcknowledgeMemory, AcknowledgeRules};
 use vme_chains::grant::GrantRules;
 use vme_chains::grant_memory::Arbitration;
 use vme_dtb::handshake::HandshakeRules;
@@ -40,7 +40,7 @@ pub struct Memories {
     pub handshake: StretchPhase<HandshakeMemory>,
     pub stability: StretchPhase<Holding>,
     pub grant: StretchPhase<Arbitration>,
-    pub acknowledge: StretchPhase<Acknowledgement>,
+    pub acknowledge: StretchPhase<AcknowledgeMemory>,
 }
 
 /// What one monitor shows at a step: its fault and its marks.

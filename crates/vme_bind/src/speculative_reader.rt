@@ -18,14 +18,14 @@ use crate::recorder::Recorder;
 use crate::text_state::TextPieces;
 use std::alloc::{AllocError, Global};
 use std::marker::Model;
-use vcd_read::{DetachedPiece, Pieces};
+use vcd_read::{BodyReader, DetachedPiece};
 use vme_trace::{LINE_COUNT, Line, Lines, Step, StepVisitor};
 
 /// The recording of a dump after some pieces of its text, without the visitor: it has the levels of the lines, and no
 /// steps.
 #[derive(Drop)]
 pub struct SpeculativeReader {
-    pieces: Pieces<ChangeDiscarder>,
+    pieces: BodyReader<ChangeDiscarder>,
     fault: Option<BindFault>,
     line_bits: NetLines,
     recorder: Recorder,

@@ -5,13 +5,13 @@ ghost use Rattle.vme_bind.specs.TextCapture.{IsOfBinding};
 
 use crate::capture_builder::CaptureBuilder;
 use crate::fault::BindFault;
-use vcd_read::Pieces;
+use vcd_read::BodyReader;
 use vme_trace::StepVisitor;
 
 /// The recording that a binding makes of a dump, after some pieces of the dump's text.
 #[derive(Drop)]
 pub struct TextPieces<F: StepVisitor> {
-    pub(crate) pieces: Pieces<CaptureBuilder<F>>,
+    pub(crate) pieces: BodyReader<CaptureBuilder<F>>,
     /// Why the binding makes no recording of the dump. It is reported at the end, if the dump has no fault.
     pub(crate) fault: Option<BindFault>,
     ghost own: { ForSome fault IsOfBinding },

@@ -10,10 +10,10 @@ use Rattle.vme_trace.specs.declared.class.Class.TheVariants as class
 use Rattle.vme_trace.proofs.EveryRule.{every-rule, same-rule}
 use Rattle.vme_trace.proofs.Ranges.{any-fails, fails-any, least-none}
 use Rattle.vme_trace.proofs.Changing.{level-kept}
-use Rattle.vme_trace.proofs.SpanEnds.{slots_at}
+use Rattle.vme_trace.proofs.StretchEnds.{slots_at}
 use Rattle.vme_cert.specs.Vocabulary.{A, BERR, Change, Class, DS0, DS1, DTACK, H1, High, LWORD, Level, Levels, Low}
 use Rattle.vme_cert.specs.Vocabulary.{Rule, S1, S3, Stretch, Trace, U1, U2, U3, U4, Unknown, WRITE, any, break_at}
-use Rattle.vme_cert.specs.Vocabulary.{breaks, class_of, cycle_runs, cycle_starts, ends_span, every, falls, has_edge}
+use Rattle.vme_cert.specs.Vocabulary.{breaks, class_of, cycle_runs, cycle_starts, ends_stretch, every, falls, has_edge}
 use Rattle.vme_cert.specs.Vocabulary.{has_line, high, highest_address, is_answer, is_broken, is_changed, is_extended}
 use Rattle.vme_cert.specs.Vocabulary.{is_high, is_judged, is_known_on, is_low, is_needed, is_selected, is_short}
 use Rattle.vme_cert.specs.Vocabulary.{is_standard, known, least, level, level_at, levels_at, line_count, low}
@@ -114,22 +114,23 @@ not_selected v l h =
     (is_low (level_at v LWORD)) (is_low (level_at v (A 1))) h
 
 abbrev holds : Trace → Stretch → ℕ → ℕ → ℕ → Bool
-holds t span j l i = cycle_starts t span i && cycle_runs t span i j && none (is_answer t span) i (j + 1) && is_needed
+holds t stretch j l i = cycle_starts t stretch i && cycle_runs t stretch i j && none (is_answer t stretch) i (j + 1)
+    && is_needed
     (levels_at t i) l
 
 -- a rule isn't broken on a line on which it can't be
-module _ (t : Trace) (span : Stretch) (j l : ℕ) where
-  pub unbroken_elsewhere : (r : Rule) → is_judged span j ≡ true → may_be_broken_on r l ≡ false
-      → is_broken t span r j l ≡ false
+module _ (t : Trace) (stretch : Stretch) (j l : ℕ) where
+  pub unbroken_elsewhere : (r : Rule) → is_judged stretch j ≡ true → may_be_broken_on r l ≡ false
+      → is_broken t stretch r j l ≡ false
   unfolding is_broken
-  unbroken_elsewhere U1 n h = rw (eq_fails j span.end
-      (ltb-true j span.end (and_parts (nat_lt span.start j) (nat_lt j span.end) n).1)) refl
+  unbroken_elsewhere U1 n h = rw (eq_fails j stretch.end
+      (ltb-true j stretch.end (and_parts (nat_lt stretch.start j) (nat_lt j stretch.end) n).1)) refl
   unbroken_elsewhere U2 n h = rw (not_needed (levels_at t j) l h, and-false) refl
   unbroken_elsewhere U4 n h = rw (not_selected (levels_at t j) l h) refl
   unbroken_elsewhere S1 n h = ap (λ b. has_edge t l j && b)
-      (fails-any (holds t span j l) (span.start + 1) j
+      (fails-any (holds t stretch j l) (stretch.start + 1) j
       (λ i a b. rw (not_needed (levels_at t i) l h)
-      (and-false (cycle_starts t span i && cycle_runs t span i j && none (is_answer t span) i (j + 1)))))
+      (and-false (cycle_starts t stretch i && cycle_runs t stretch i j && none (is_answer t stretch) i (j + 1)))))
       ∙ and-false (has_edge t l j)
   unbroken_elsewhere S3 n h = rw (not_selected (levels_at t (j - 1)) l h) refl
   unbroken_elsewhere r n h = rw h refl
@@ -158,15 +159,19 @@ module _ (t : Trace) (l j : ℕ) (still : level t l j ≡ level t l (j - 1)) whe
   unfolding has_edge
   no_edge = rw still (one_level (level t l (j - 1))).2
 
-  pub unbroken_without_edge : (span : Stretch) (r : Rule) → needs_edge r ≡ true → is_broken t span r j l ≡ false
+  pub unbroken_without_edge : (stretch : Stretch) (r : Rule) → needs_edge r ≡ true → is_broken t stretch r j l ≡ false
   unfolding is_broken
-  unbroken_without_edge span S1 e = rw no_edge refl
-  unbroken_without_edge span U1 e = absurd (cc)
-  unbroken_without_edge span U2 e = absurd (cc)
-  unbroken_without_edge span U3 e = absurd (cc)
-  unbroken_without_edge span U4 e = absurd (cc)
-  unbroken_without_edge span H1 e = absurd (cc)
-  unbroken_without_edge span r e = first_of (rw (no_fall, and-false), rw (no_rise, and-false), rw (no_edge, and-false))
+  unbroken_without_edge stretch S1 e = rw no_edge refl
+  unbroken_without_edge stretch U1 e = absurd (cc)
+  unbroken_without_edge stretch U2 e = absurd (cc)
+  unbroken_without_edge stretch U3 e = absurd (cc)
+  unbroken_without_edge stretch U4 e = absurd (cc)
+  unbroken_without_edge stretch H1 e = absurd (cc)
+  unbroken_without_edge stretch r e = first_of (
+    rw (no_fall, and-false),
+    rw (no_rise, and-false),
+    rw (no_edge, and-false),
+  )
 
 -- a line that isn't among the changes stays
 pub stays : (t : Trace) (bus : Bus) (cs : List Change) (l : ℕ) → IsBusOf t bus → LeadToInstant bus cs
@@ -178,52 +183,53 @@ stays t bus cs l at lead h =
 
 -- ---- `is_broken` against `breaks`, and the rules that are asked as a transfer or a cycle starts
 
-module _ (t : Trace) (span : Stretch) (j l : ℕ) where
-  pub breaks-off : (r : Rule) → is_broken t span r j l ≡ false → breaks t span r j l ≡ false
+module _ (t : Trace) (stretch : Stretch) (j l : ℕ) where
+  pub breaks-off : (r : Rule) → is_broken t stretch r j l ≡ false → breaks t stretch r j l ≡ false
   unfolding breaks
   breaks-off r h = rw h (and-false _)
 
   -- at a judged instant, on a line that the backplane has, `breaks` is `is_broken`
-  pub breaks-is : (r : Rule) → is_judged span j ≡ true → has_line t.opening.slots l ≡ true
-      → is_broken t span r j l ≡ breaks t span r j l
+  pub breaks-is : (r : Rule) → is_judged stretch j ≡ true → has_line t.opening.slots l ≡ true
+      → is_broken t stretch r j l ≡ breaks t stretch r j l
   unfolding breaks
-  breaks-is r judged has = rw (has, judged) (on (ends_span r) (is_broken t span r j l))
+  breaks-is r judged has = rw (has, judged) (on (ends_stretch r) (is_broken t stretch r j l))
     where
       on : (a b : Bool) → b ≡ ((a || true) && true && b)
       on true b = refl
       on false b = refl
 
-  pub breaks-absent : (r : Rule) → has_line t.opening.slots l ≡ false → false ≡ breaks t span r j l
+  pub breaks-absent : (r : Rule) → has_line t.opening.slots l ≡ false → false ≡ breaks t stretch r j l
   unfolding breaks
-  breaks-absent r h = rw h (none (ends_span r || is_judged span j) (is_broken t span r j l))
+  breaks-absent r h = rw h (none (ends_stretch r || is_judged stretch j) (is_broken t stretch r j l))
     where
       none : (a b : Bool) → false ≡ (a && false && b)
       none true b = refl
       none false b = refl
 
-  pub breaks-elsewhere : (r : Rule) → is_judged span j ≡ true → may_be_broken_on r l ≡ false
-      → false ≡ breaks t span r j l
-  breaks-elsewhere r judged h = sym (breaks-off r (unbroken_elsewhere t span j l r judged h))
+  pub breaks-elsewhere : (r : Rule) → is_judged stretch j ≡ true → may_be_broken_on r l ≡ false
+      → false ≡ breaks t stretch r j l
+  breaks-elsewhere r judged h = sym (breaks-off r (unbroken_elsewhere t stretch j l r judged h))
 
   -- U3 is broken on no line if it isn't broken on WRITE*
-  pub direction-only : is_judged span j ≡ true → is_broken t span U3 j WRITE ≡ false → is_broken t span U3 j l ≡ false
+  pub direction-only : is_judged stretch j ≡ true → is_broken t stretch U3 j WRITE ≡ false → is_broken t stretch U3 j l
+      ≡ false
   direction-only judged h = decide (l == WRITE)
-      (λ e. subst (λ k. is_broken t span U3 j k ≡ false) (sym (eqb-true l WRITE e)) h)
-      (λ e. unbroken_elsewhere t span j l U3 judged e)
+      (λ e. subst (λ k. is_broken t stretch U3 j k ≡ false) (sym (eqb-true l WRITE e)) h)
+      (λ e. unbroken_elsewhere t stretch j l U3 judged e)
 
   -- H1 is broken on no line if it isn't broken on DTACK* and BERR*
-  pub answers-only : is_judged span j ≡ true → is_broken t span H1 j DTACK ≡ false
-      → is_broken t span H1 j BERR ≡ false → is_broken t span H1 j l ≡ false
+  pub answers-only : is_judged stretch j ≡ true → is_broken t stretch H1 j DTACK ≡ false
+      → is_broken t stretch H1 j BERR ≡ false → is_broken t stretch H1 j l ≡ false
   answers-only judged h k = decide (l == DTACK)
-      (λ e. subst (λ k. is_broken t span H1 j k ≡ false) (sym (eqb-true l DTACK e)) h)
-      (λ e. decide (l == BERR) (λ f. subst (λ k. is_broken t span H1 j k ≡ false) (sym (eqb-true l BERR f)) k)
-      (λ f. unbroken_elsewhere t span j l H1 judged (rw (e, f) refl)))
+      (λ e. subst (λ k. is_broken t stretch H1 j k ≡ false) (sym (eqb-true l DTACK e)) h)
+      (λ e. decide (l == BERR) (λ f. subst (λ k. is_broken t stretch H1 j k ≡ false) (sym (eqb-true l BERR f)) k)
+      (λ f. unbroken_elsewhere t stretch j l H1 judged (rw (e, f) refl)))
 
-  pub unstarted-direction : transfer_starts t span j ≡ false → is_broken t span U3 j l ≡ false
+  pub unstarted-direction : transfer_starts t stretch j ≡ false → is_broken t stretch U3 j l ≡ false
   unfolding is_broken
   unstarted-direction h = rw (h, and-false) refl
 
-  pub unstarted-answers : transfer_starts t span j ≡ false → is_broken t span H1 j l ≡ false
+  pub unstarted-answers : transfer_starts t stretch j ≡ false → is_broken t stretch H1 j l ≡ false
   unfolding is_broken
   unstarted-answers h = rw (h, and-false) refl
 
@@ -239,60 +245,62 @@ known-within t j first last l all within =
 
 -- ---- where no rule is broken
 
-module _ (t : Trace) (span : Stretch) where
-  pub break_at-here : (r : Rule) (rs : List Rule) (j l : ℕ) → least (breaks t span r j) 0 line_count ≡ Some l
-      → break_at t span (r ∷ rs) j ≡ Some (record { instant = j; time = time_at t j; rule = r; line = l })
+module _ (t : Trace) (stretch : Stretch) where
+  pub break_at-here : (r : Rule) (rs : List Rule) (j l : ℕ) → least (breaks t stretch r j) 0 line_count ≡ Some l
+      → break_at t stretch (r ∷ rs) j ≡ Some (record { instant = j; time = time_at t j; rule = r; line = l })
   unfolding break_at rule_break
   break_at-here r rs j l e = rw e refl
 
-  pub break_at-next : (r : Rule) (rs : List Rule) (j : ℕ) → least (breaks t span r j) 0 line_count ≡ None
-      → break_at t span (r ∷ rs) j ≡ break_at t span rs j
+  pub break_at-next : (r : Rule) (rs : List Rule) (j : ℕ) → least (breaks t stretch r j) 0 line_count ≡ None
+      → break_at t stretch (r ∷ rs) j ≡ break_at t stretch rs j
   unfolding break_at rule_break
   break_at-next r rs j e = rw e refl
 
-  pub break_at-empty : (j : ℕ) → break_at t span [] j ≡ None
+  pub break_at-empty : (j : ℕ) → break_at t stretch [] j ≡ None
   unfolding break_at
   break_at-empty j = refl
 
-  pub break_at-none : (j : ℕ) → ((r : Rule) (l : ℕ) → l < line_count → breaks t span r j l ≡ false) → (rs : List Rule)
-      → break_at t span rs j ≡ None
+  pub break_at-none : (j : ℕ) → ((r : Rule) (l : ℕ) → l < line_count → breaks t stretch r j l ≡ false)
+      → (rs : List Rule)
+      → break_at t stretch rs j ≡ None
   break_at-none j none [] = break_at-empty j
   break_at-none j none (r ∷ rs) =
-      break_at-next r rs j (least-none (breaks t span r j) 0 line_count
-      (fails-any (breaks t span r j) 0 line_count (λ l a b. none r l b))) ∙ break_at-none j none rs
+      break_at-next r rs j (least-none (breaks t stretch r j) 0 line_count
+      (fails-any (breaks t stretch r j) 0 line_count (λ l a b. none r l b))) ∙ break_at-none j none rs
 
 -- no rule is broken on any line, if none is on the changed lines, and U2, U3, H1 and U4 aren't on any line
-module _ (t : Trace) (span : Stretch) (bus : Bus) (state : State) (cs : List Change) (h : IsStateOf t span bus state)
+module _ (t : Trace) (stretch : Stretch) (bus : Bus) (state : State) (cs : List Change)
+    (h : IsStateOf t stretch bus state)
     (lead : LeadToInstant bus cs) where
   j : ℕ
   j = bus.instant
 
   pub unbroken : ((r : Rule) (l : ℕ) → is_changed cs l ≡ true → may_be_broken_on r l ≡ true
-      → is_broken t span r bus.instant l ≡ false)
-      → ((l : ℕ) → breaks t span U2 bus.instant l ≡ false) → ((l : ℕ) → is_broken t span U3 bus.instant l ≡ false)
-      → ((l : ℕ) → is_broken t span H1 bus.instant l ≡ false) → ((l : ℕ) → breaks t span U4 bus.instant l ≡ false)
-      → (r : Rule) (l : ℕ) → l < line_count → breaks t span r bus.instant l ≡ false
+      → is_broken t stretch r bus.instant l ≡ false)
+      → ((l : ℕ) → breaks t stretch U2 bus.instant l ≡ false) → ((l : ℕ) → is_broken t stretch U3 bus.instant l ≡ false)
+      → ((l : ℕ) → is_broken t stretch H1 bus.instant l ≡ false) → ((l : ℕ) → breaks t stretch U4 bus.instant l ≡ false)
+      → (r : Rule) (l : ℕ) → l < line_count → breaks t stretch r bus.instant l ≡ false
   unbroken changes u2 u3 h1 u4 r l below = by_edge (needs_edge r) refl
     where
-      starts : (q : Rule) → needs_edge q ≡ false → breaks t span q bus.instant l ≡ false
-      starts U1 e = breaks-off t span bus.instant l U1 (unbroken_elsewhere t span bus.instant l U1 h.judged refl)
+      starts : (q : Rule) → needs_edge q ≡ false → breaks t stretch q bus.instant l ≡ false
+      starts U1 e = breaks-off t stretch bus.instant l U1 (unbroken_elsewhere t stretch bus.instant l U1 h.judged refl)
       starts U2 e = u2 l
-      starts U3 e = breaks-off t span bus.instant l U3 (u3 l)
+      starts U3 e = breaks-off t stretch bus.instant l U3 (u3 l)
       starts U4 e = u4 l
-      starts H1 e = breaks-off t span bus.instant l H1 (h1 l)
+      starts H1 e = breaks-off t stretch bus.instant l H1 (h1 l)
       starts q e = absurd (cc)
 
       by_line : needs_edge r ≡ true → is_changed cs l ≡ true → (b : Bool) → may_be_broken_on r l ≡ b
-          → is_broken t span r bus.instant l ≡ false
+          → is_broken t stretch r bus.instant l ≡ false
       by_line e c true s = changes r l c s
-      by_line e c false s = unbroken_elsewhere t span bus.instant l r h.judged s
+      by_line e c false s = unbroken_elsewhere t stretch bus.instant l r h.judged s
 
-      by_change : needs_edge r ≡ true → (b : Bool) → is_changed cs l ≡ b → is_broken t span r bus.instant l ≡ false
+      by_change : needs_edge r ≡ true → (b : Bool) → is_changed cs l ≡ b → is_broken t stretch r bus.instant l ≡ false
       by_change e true c = by_line e c (may_be_broken_on r l) refl
-      by_change e false c = unbroken_without_edge t l bus.instant (stays t bus cs l h.at lead c) span r e
+      by_change e false c = unbroken_without_edge t l bus.instant (stays t bus cs l h.at lead c) stretch r e
 
-      by_edge : (b : Bool) → needs_edge r ≡ b → breaks t span r bus.instant l ≡ false
-      by_edge true e = breaks-off t span bus.instant l r (by_change e (is_changed cs l) refl)
+      by_edge : (b : Bool) → needs_edge r ≡ b → breaks t stretch r bus.instant l ≡ false
+      by_edge true e = breaks-off t stretch bus.instant l r (by_change e (is_changed cs l) refl)
       by_edge false e = starts r e
 
 -- the backplane has the same lines at each instant

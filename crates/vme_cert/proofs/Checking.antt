@@ -9,26 +9,28 @@ use Rattle.std.proofs.lemmas.List.{append-nil, length-take-le, take_all}
 use Rattle.std.proofs.lemmas.Option.{slice_get_read, slice_get_within}
 use Rattle.std.proofs.Math.Seq.{get_or-append_seam}
 use Rattle.std.proofs.lemmas.Bool.{lt-ltb, le-ltb, and_parts, and_right, not-false, or_from, or_right}
-use Rattle.vme_trace.proofs.JudgedSpans.{AreInOrder, starts_before_end, ends_within, spans_in_order, span_unlost}
-use Rattle.vme_trace.proofs.JudgedSpans.{span_unreset, awaits-first, awaits-next, busy-no_start, end-after}
-use Rattle.vme_trace.proofs.JudgedSpans.{end-within, reset-unlost_at, span_reset, spans_from_first}
-use Rattle.vme_trace.proofs.JudgedSpans.{spans_next}
+use Rattle.vme_trace.proofs.JudgedStretches.{AreInOrder, starts_before_end, ends_within, stretches_in_order}
+use Rattle.vme_trace.proofs.JudgedStretches.{stretch_unlost}
+use Rattle.vme_trace.proofs.JudgedStretches.{stretch_unreset, awaits-first, awaits-next, busy-no_start, end-after}
+use Rattle.vme_trace.proofs.JudgedStretches.{end-within, reset-unlost_at, stretch_reset, stretches_from_first}
+use Rattle.vme_trace.proofs.JudgedStretches.{stretches_next}
 use Rattle.vme_trace.proofs.Changing.{lost-least}
 use Rattle.vme_trace.proofs.Ranges.{any-fails, any-holds, fails-any, least-alike, least-found, least-none-any}
 use Rattle.vme_trace.proofs.Ranges.{those-none, those-split}
 use Rattle.vme_trace.proofs.OpenTransfers.{suc-sub-one, is_judged-holds}
-use Rattle.vme_trace.proofs.SpanEnds.{break_before-stays, end-is, end-past, u1-lost, u1-unlost}
+use Rattle.vme_trace.proofs.StretchEnds.{break_before-stays, end-is, end-past, u1-lost, u1-unlost}
 use Rattle.vme_trace.proofs.CutBlocks.{levels_after-append, levels_at-taken, taken_more}
 use Rattle.vme_listing.proofs.FoundBreaks.{least_break-judged}
-use Rattle.vme_cert.specs.Vocabulary.{Break, Change, Conforming, IsSpanOf, ListedVerdict, NeverIdle, Row, Rule, Stretch}
+use Rattle.vme_cert.specs.Vocabulary.{Break, Change, Conforming, IsStretchOf, ListedVerdict, NeverIdle, Row, Rule}
+use Rattle.vme_cert.specs.Vocabulary.{Stretch}
 use Rattle.vme_cert.specs.Vocabulary.{Trace, U1, Verdict, all_rules, any, are_changes, break_at, break_before, breaks}
-use Rattle.vme_cert.specs.Vocabulary.{changed, has_line, is_broken, is_judged, is_lost, is_reset_at, judged_spans}
+use Rattle.vme_cert.specs.Vocabulary.{changed, has_line, is_broken, is_judged, is_lost, is_reset_at, judged_stretches}
 use Rattle.vme_cert.specs.Vocabulary.{last_instant, least, least_break, least_of, levels_at, line_count, listed_end}
-use Rattle.vme_cert.specs.Vocabulary.{listing_before, listing_by, listing_of_spans, loses_control, loses_control_at}
-use Rattle.vme_cert.specs.Vocabulary.{lost_among, outcome_of, recorded_rows, rows_before, rows_of_span, rule_break}
-use Rattle.vme_cert.specs.Vocabulary.{span_end, span_from, stops_at, time_at, AS, BBSY, Broken, IsCapture, Levels}
+use Rattle.vme_cert.specs.Vocabulary.{listing_before, listing_by, listing_of_stretches, loses_control, loses_control_at}
+use Rattle.vme_cert.specs.Vocabulary.{lost_among, outcome_of, recorded_rows, rows_before, rows_of_stretch, rule_break}
+use Rattle.vme_cert.specs.Vocabulary.{stretch_end, stretch_from, stops_at, time_at, AS, BBSY, Broken, IsCapture, Levels}
 use Rattle.vme_cert.specs.Vocabulary.{Reset, Step, Unreadable, Version, is_idle, is_idle_at, is_reset, is_step}
-use Rattle.vme_cert.specs.Vocabulary.{is_unreadable, Awaits, malformed_step, span_starts, spans_after, those}
+use Rattle.vme_cert.specs.Vocabulary.{is_unreadable, Awaits, malformed_step, stretch_starts, stretches_after, those}
 use Rattle.vme_cert.specs.Vocabulary.{with_steps}
 use Rattle.vme_cert.specs.Checking.{reset_at, rows_by, rows_from, Checks, HasCompared, HasFollowed, IsEnded}
 use Rattle.vme_cert.specs.Checking.{IsInStretch, IsPhase, IsWaiting, MayGoOn, last_levels}
@@ -50,125 +52,136 @@ use Rattle.vme_cert.proofs.Following.{open-last, transfer-last}
 
 module _ (t : Trace) where
   -- a stretch is listed whole, up to `limit`, or not at all
-  whole : (span : Stretch) (limit : ℕ) → span.start < span.end → span.end ≤ limit → nat_lt span.end limit
-      ≡ nat_lt span.end (last_instant t + 1) → rows_of_span t limit span ≡ rows_to t span span.end ++ reset_at t
-      span.end
-  unfolding rows_of_span
-  whole span limit order within same = rw (lt-ltb span.start limit (omega arith), min-eq_left within, same) refl
+  whole : (stretch : Stretch) (limit : ℕ) → stretch.start < stretch.end → stretch.end ≤ limit → nat_lt stretch.end limit
+      ≡ nat_lt stretch.end (last_instant t + 1) → rows_of_stretch t limit stretch ≡ rows_to t stretch stretch.end
+      ++ reset_at t
+      stretch.end
+  unfolding rows_of_stretch
+  whole stretch limit order within same = rw (lt-ltb stretch.start limit (omega arith), min-eq_left within, same) refl
 
-  cut : (span : Stretch) (limit : ℕ) → span.start < limit → limit ≤ span.end → rows_of_span t limit span
-      ≡ rows_to t span limit
-  unfolding rows_of_span
-  cut span limit order within =
+  cut : (stretch : Stretch) (limit : ℕ) → stretch.start < limit → limit ≤ stretch.end → rows_of_stretch t limit stretch
+      ≡ rows_to t stretch limit
+  unfolding rows_of_stretch
+  cut stretch limit order within =
       rw (
-        lt-ltb span.start limit order,
+        lt-ltb stretch.start limit order,
         min-eq_right within,
-        and_right (is_reset_at t span.end)
-            (nat_lt span.end limit) (le-ltb span.end limit within),
+        and_right (is_reset_at t stretch.end)
+            (nat_lt stretch.end limit) (le-ltb stretch.end limit within),
       )
-      (append-nil (rows_to t span limit))
+      (append-nil (rows_to t stretch limit))
 
-  past : (span : Stretch) (limit : ℕ) → limit ≤ span.start → rows_of_span t limit span ≡ []
-  unfolding rows_of_span
-  past span limit h = rw (le-ltb span.start limit h) refl
+  past : (stretch : Stretch) (limit : ℕ) → limit ≤ stretch.start → rows_of_stretch t limit stretch ≡ []
+  unfolding rows_of_stretch
+  past stretch limit h = rw (le-ltb stretch.start limit h) refl
 
-  is_first : (span : Stretch) (spans : List Stretch) → AreInOrder t (span ∷ spans) → IsSpanOf t span
-  is_first span [] order = order
-  is_first span (next ∷ spans) order = order.0
+  is_first : (stretch : Stretch) (stretches : List Stretch) → AreInOrder t (stretch ∷ stretches) → IsStretchOf t stretch
+  is_first stretch [] order = order
+  is_first stretch (next ∷ stretches) order = order.0
 
-  past_all : (span : Stretch) (spans : List Stretch) (limit : ℕ) → AreInOrder t (span ∷ spans) → limit ≤ span.end
-      → flat_map (rows_of_span t limit) spans ≡ []
-  past_all span [] limit order h = refl
-  past_all span (next ∷ spans) limit order h =
-      ap (λ (rows : List Row). rows ++ flat_map (rows_of_span t limit) spans)
+  past_all : (stretch : Stretch) (stretches : List Stretch) (limit : ℕ) → AreInOrder t (stretch ∷ stretches)
+      → limit ≤ stretch.end
+      → flat_map (rows_of_stretch t limit) stretches ≡ []
+  past_all stretch [] limit order h = refl
+  past_all stretch (next ∷ stretches) limit order h =
+      ap (λ (rows : List Row). rows ++ flat_map (rows_of_stretch t limit) stretches)
       (past next limit (omega (arith, h, order.2)))
-      ∙ past_all next spans limit order.3
-      (omega (arith, h, order.2, starts_before_end t next (is_first next spans order.3)))
+      ∙ past_all next stretches limit order.3
+      (omega (arith, h, order.2, starts_before_end t next (is_first next stretches order.3)))
 
   -- the least break of a stretch comes after its start, and at its end at the latest
-  broken_later : (span : Stretch) (b : Break) → IsSpanOf t span → least_break t span all_rules ≡ Some b
-      → (span.start < b.instant) × (b.instant ≤ span.end)
-  broken_later span b is e = least_break-judged t span all_rules b (starts_before_end t span is) e
+  broken_later : (stretch : Stretch) (b : Break) → IsStretchOf t stretch → least_break t stretch all_rules ≡ Some b
+      → (stretch.start < b.instant) × (b.instant ≤ stretch.end)
+  broken_later stretch b is e = least_break-judged t stretch all_rules b (starts_before_end t stretch is) e
 
   -- the listing ends after the start of the first of the stretches
-  ends_later : (span : Stretch) (spans : List Stretch) → AreInOrder t (span ∷ spans) → span.start < listed_end t
-      (least_of all_rules t (span ∷ spans))
-  ends_later span [] is = case_of (least_break t span all_rules) (λ e. rw e (omega (arith, is.within)))
-      (λ b e. rw e (broken_later span b is e).0)
-  ends_later span (next ∷ spans) order =
-      let later = ends_later next spans order.3 in
-      case_of (least_break t span all_rules)
-      (λ e. rw e (omega (arith, later, order.2, starts_before_end t span order.0)))
-      (λ b e. rw e (broken_later span b order.0 e).0)
+  ends_later : (stretch : Stretch) (stretches : List Stretch) → AreInOrder t (stretch ∷ stretches)
+      → stretch.start < listed_end t
+      (least_of all_rules t (stretch ∷ stretches))
+  ends_later stretch [] is = case_of (least_break t stretch all_rules) (λ e. rw e (omega (arith, is.within)))
+      (λ b e. rw e (broken_later stretch b is e).0)
+  ends_later stretch (next ∷ stretches) order =
+      let later = ends_later next stretches order.3 in
+      case_of (least_break t stretch all_rules)
+      (λ e. rw e (omega (arith, later, order.2, starts_before_end t stretch order.0)))
+      (λ b e. rw e (broken_later stretch b order.0 e).0)
 
-  listed_alone : (span : Stretch) → IsSpanOf t span → listing_before t (span ∷ []) (least_break t span all_rules)
-      ≡ rows_by t span (least_break t span all_rules) (Verdict Conforming ∷ [])
-  listed_alone span is = case_of (least_break t span all_rules)
+  listed_alone : (stretch : Stretch) → IsStretchOf t stretch → listing_before t (stretch ∷ [])
+      (least_break t stretch all_rules)
+      ≡ rows_by t stretch (least_break t stretch all_rules) (Verdict Conforming ∷ [])
+  listed_alone stretch is = case_of (least_break t stretch all_rules)
       (λ e. rw (
         e,
-        append-nil (rows_of_span t (last_instant t + 1) span),
-        whole span (last_instant t + 1) (starts_before_end t span is) (ends_within t span is) refl,
+        append-nil (rows_of_stretch t (last_instant t + 1) stretch),
+        whole stretch (last_instant t + 1) (starts_before_end t stretch is) (ends_within t stretch is) refl,
       )
-      (append_assoc (rows_to t span span.end) (reset_at t span.end) (Verdict Conforming ∷ [])))
-      (λ b e. let there = broken_later span b is e in
-      rw (e, append-nil (rows_of_span t b.instant span), cut span b.instant there.0 there.1) refl)
+      (append_assoc (rows_to t stretch stretch.end) (reset_at t stretch.end) (Verdict Conforming ∷ [])))
+      (λ b e. let there = broken_later stretch b is e in
+      rw (e, append-nil (rows_of_stretch t b.instant stretch), cut stretch b.instant there.0 there.1) refl)
 
-  listed : (outcome : ListedVerdict) (span : Stretch) (spans : List Stretch) → AreInOrder t (span ∷ spans)
-      → listing_before t (span ∷ spans) (least_of all_rules t (span ∷ spans)) ≡ rows_from t outcome (span ∷ spans)
-  listed outcome span [] is = listed_alone span is
-  listed outcome span (next ∷ spans) order = by_break (least_break t span all_rules) refl
-      (listed Conforming next spans order.3)
+  listed : (outcome : ListedVerdict) (stretch : Stretch) (stretches : List Stretch) → AreInOrder t (stretch ∷ stretches)
+      → listing_before t (stretch ∷ stretches) (least_of all_rules t (stretch ∷ stretches))
+      ≡ rows_from t outcome (stretch ∷ stretches)
+  listed outcome stretch [] is = listed_alone stretch is
+  listed outcome stretch (next ∷ stretches) order = by_break (least_break t stretch all_rules) refl
+      (listed Conforming next stretches order.3)
     where
       later : Option Break
-      later = least_of all_rules t (next ∷ spans)
+      later = least_of all_rules t (next ∷ stretches)
 
-      by_break : (o : Option Break) → least_break t span all_rules ≡ o → listing_before t (next ∷ spans) later
-          ≡ rows_from t Conforming (next ∷ spans)
-          → listing_before t (span ∷ next ∷ spans) (option_or o later)
-          ≡ rows_by t span o (rows_from t Conforming (next ∷ spans))
+      by_break : (o : Option Break) → least_break t stretch all_rules ≡ o → listing_before t (next ∷ stretches) later
+          ≡ rows_from t Conforming (next ∷ stretches)
+          → listing_before t (stretch ∷ next ∷ stretches) (option_or o later)
+          ≡ rows_by t stretch o (rows_from t Conforming (next ∷ stretches))
       by_break None e following =
           let limit = listed_end t later in
-          let starts = starts_before_end t span order.0 in
-          let below : span.end < limit = omega (arith, ends_later next spans order.3, order.2) in
-          let within : span.end < last_instant t + 1 = omega (arith, order.2, (is_first next spans order.3).within) in
-          let same : nat_lt span.end limit ≡ nat_lt span.end (last_instant t + 1) = lt-ltb span.end limit below
-          ∙ sym (lt-ltb span.end (last_instant t + 1) within) in
-          let rest = flat_map (rows_of_span t limit) (next ∷ spans) in
+          let starts = starts_before_end t stretch order.0 in
+          let below : stretch.end < limit = omega (arith, ends_later next stretches order.3, order.2) in
+          let within : stretch.end < last_instant t + 1 = omega (
+            arith,
+            order.2,
+            (is_first next stretches order.3).within,
+          ) in
+          let same : nat_lt stretch.end limit ≡ nat_lt stretch.end (last_instant t + 1) = lt-ltb stretch.end limit below
+          ∙ sym (lt-ltb stretch.end (last_instant t + 1) within) in
+          let rest = flat_map (rows_of_stretch t limit) (next ∷ stretches) in
           ap (λ (rows : List Row). rows ++ rest ++ Verdict (outcome_of later) ∷ [])
-          (whole span limit starts (omega (arith, below)) same)
-          ∙ (append_assoc (rows_to t span span.end ++ reset_at t span.end) rest (Verdict (outcome_of later) ∷ [])
-          ∙ (append_assoc (rows_to t span span.end) (reset_at t span.end) (rest ++ Verdict (outcome_of later) ∷ [])
-          ∙ ap (λ (rows : List Row). rows_to t span span.end ++ (reset_at t span.end ++ rows)) following))
+          (whole stretch limit starts (omega (arith, below)) same)
+          ∙ (append_assoc (rows_to t stretch stretch.end ++ reset_at t stretch.end) rest
+          (Verdict (outcome_of later) ∷ [])
+          ∙ (append_assoc (rows_to t stretch stretch.end) (reset_at t stretch.end)
+          (rest ++ Verdict (outcome_of later) ∷ [])
+          ∙ ap (λ (rows : List Row). rows_to t stretch stretch.end ++ (reset_at t stretch.end ++ rows)) following))
       by_break (Some b) e following =
-          let there = broken_later span b order.0 e in
+          let there = broken_later stretch b order.0 e in
           rw (
-            cut span b.instant there.0 there.1,
-            past_all span (next ∷ spans) b.instant order there.1,
-            append-nil (rows_before t span b.instant b.instant),
+            cut stretch b.instant there.0 there.1,
+            past_all stretch (next ∷ stretches) b.instant order there.1,
+            append-nil (rows_before t stretch b.instant b.instant),
           ) refl
 
-  pub recorded-from : recorded_rows t ≡ rows_from t NeverIdle (judged_spans t)
+  pub recorded-from : recorded_rows t ≡ rows_from t NeverIdle (judged_stretches t)
   unfolding listing_by
-  recorded-from = by_spans (judged_spans t) (spans_in_order t)
+  recorded-from = by_stretches (judged_stretches t) (stretches_in_order t)
     where
-      by_spans : (spans : List Stretch) → AreInOrder t spans
-          → listing_of_spans all_rules t spans ≡ rows_from t NeverIdle
-          spans
-      by_spans [] order = refl
-      by_spans (span ∷ spans) order = listed NeverIdle span spans order
+      by_stretches : (stretches : List Stretch) → AreInOrder t stretches
+          → listing_of_stretches all_rules t stretches ≡ rows_from t NeverIdle
+          stretches
+      by_stretches [] order = refl
+      by_stretches (stretch ∷ stretches) order = listed NeverIdle stretch stretches order
 
 -- ---- The first break of a stretch: there is none before its start, after its end or at a reset, and where a line is
 -- lost it is U1.
 
-module _ (t : Trace) (span : Stretch) where
+module _ (t : Trace) (stretch : Stretch) where
   -- a break that is found at instant `j` has that instant
-  pub break-instant : (rules : List Rule) (j : ℕ) (b : Break) → break_at t span rules j ≡ Some b → b.instant ≡ j
+  pub break-instant : (rules : List Rule) (j : ℕ) (b : Break) → break_at t stretch rules j ≡ Some b → b.instant ≡ j
   unfolding break_at rule_break
   break-instant [] j b e = absurd (cc)
-  break-instant (r ∷ rs) j b e = by_line (least (breaks t span r j) 0 line_count) (break-instant rs j b) e
+  break-instant (r ∷ rs) j b e = by_line (least (breaks t stretch r j) 0 line_count) (break-instant rs j b) e
     where
-      by_line : (o : Option ℕ) → (break_at t span rs j ≡ Some b → b.instant ≡ j) → option_or (option_map
-          (λ l. record { instant = j; time = time_at t j; rule = r; line = l }) o) (break_at t span rs j) ≡ Some b
+      by_line : (o : Option ℕ) → (break_at t stretch rs j ≡ Some b → b.instant ≡ j) → option_or (option_map
+          (λ l. record { instant = j; time = time_at t j; rule = r; line = l }) o) (break_at t stretch rs j) ≡ Some b
           → b.instant ≡ j
       by_line None later f = later f
       by_line (Some l) later f =
@@ -176,24 +189,25 @@ module _ (t : Trace) (span : Stretch) where
           sym (ap (λ (x : Break). x.instant) same)
 
   -- no rule is broken at an instant that isn't judged, if no line is lost there
-  unjudged_unbroken : (j : ℕ) → is_judged span j ≡ false → ((l : ℕ) → l < line_count → breaks t span U1 j l ≡ false)
-      → (r : Rule) (l : ℕ) → l < line_count → breaks t span r j l ≡ false
+  unjudged_unbroken : (j : ℕ) → is_judged stretch j ≡ false → ((l : ℕ) → l < line_count → breaks t stretch U1 j l
+      ≡ false)
+      → (r : Rule) (l : ℕ) → l < line_count → breaks t stretch r j l ≡ false
   unfolding breaks
   unjudged_unbroken j out still U1 l below = still l below
   unjudged_unbroken j out still r l below = rw out refl
 
-  pub quiet : (j : ℕ) → is_judged span j ≡ false → ((l : ℕ) → l < line_count → breaks t span U1 j l ≡ false)
-      → (rules : List Rule) → break_at t span rules j ≡ None
-  quiet j out still rules = break_at-none t span j (λ r l below. unjudged_unbroken j out still r l below) rules
+  pub quiet : (j : ℕ) → is_judged stretch j ≡ false → ((l : ℕ) → l < line_count → breaks t stretch U1 j l ≡ false)
+      → (rules : List Rule) → break_at t stretch rules j ≡ None
+  quiet j out still rules = break_at-none t stretch j (λ r l below. unjudged_unbroken j out still r l below) rules
 
   -- without a break before `j` or at `j` there is none before `j + 1`
-  pub none-on : (rules : List Rule) (j : ℕ) → break_before t span rules j ≡ None → break_at t span rules j ≡ None
-      → break_before t span rules (j + 1) ≡ None
+  pub none-on : (rules : List Rule) (j : ℕ) → break_before t stretch rules j ≡ None → break_at t stretch rules j ≡ None
+      → break_before t stretch rules (j + 1) ≡ None
   unfolding break_before
   none-on rules j none here = rw (add-one, none, here) refl
 
-  pub none-after : (rules : List Rule) (m n : ℕ) → m ≤ n → break_before t span rules m ≡ None
-      → ((i : ℕ) → m ≤ i → i < n → break_at t span rules i ≡ None) → break_before t span rules n ≡ None
+  pub none-after : (rules : List Rule) (m n : ℕ) → m ≤ n → break_before t stretch rules m ≡ None
+      → ((i : ℕ) → m ≤ i → i < n → break_at t stretch rules i ≡ None) → break_before t stretch rules n ≡ None
   unfolding break_before
   none-after rules m zero order none later = let e : m ≡ 0 = omega arith in rw e at none
   none-after rules m (suc n) order none later =
@@ -205,36 +219,38 @@ module _ (t : Trace) (span : Stretch) where
         ) refl
       ]
 
-  pub found-first : (j : ℕ) (b : Break) → break_before t span all_rules j ≡ None → break_at t span all_rules j ≡ Some b
-      → j ≤ last_instant t → least_break t span all_rules ≡ Some b
+  pub found-first : (j : ℕ) (b : Break) → break_before t stretch all_rules j ≡ None → break_at t stretch all_rules j
+      ≡ Some b
+      → j ≤ last_instant t → least_break t stretch all_rules ≡ Some b
   unfolding least_break break_before
-  found-first j b none here within = break_before-stays t span all_rules b (suc j) (last_instant t + 1)
+  found-first j b none here within = break_before-stays t stretch all_rules b (suc j) (last_instant t + 1)
       (rw (none, here) refl) (omega arith)
 
   -- away from the end of a stretch U1 isn't broken
-  pub held : (j l : ℕ) → (j == span.end) ≡ false → breaks t span U1 j l ≡ false
+  pub held : (j l : ℕ) → (j == stretch.end) ≡ false → breaks t stretch U1 j l ≡ false
   unfolding breaks is_broken
   held j l other = rw other (and_right (has_line t.opening.slots l) false refl)
 
   -- no rule is broken up to the start of the stretch
-  pub none-first : (j : ℕ) → j ≤ span.start + 1 → span.start < span.end → break_before t span all_rules j ≡ None
+  pub none-first : (j : ℕ) → j ≤ stretch.start + 1 → stretch.start < stretch.end → break_before t stretch all_rules j
+      ≡ None
   unfolding break_before
   none-first j upto order = none-after all_rules 0 j (omega arith) refl
-      (λ i a b. quiet i (unjudged span i (omega arith)) (λ l below. held i l (eq_fails i span.end (omega arith)))
+      (λ i a b. quiet i (unjudged stretch i (omega arith)) (λ l below. held i l (eq_fails i stretch.end (omega arith)))
       all_rules)
 
 -- the instant after `j` of the stretch that starts at `s`: it ends there, or continues
-module _ (t : Trace) (s j : ℕ) (is : IsSpanOf t (span_from t s)) (from : s ≤ j) (before : j < span_end t s)
+module _ (t : Trace) (s j : ℕ) (is : IsStretchOf t (stretch_from t s)) (from : s ≤ j) (before : j < stretch_end t s)
     (within : suc j ≤ last_instant t) where
   ran : any (stops_at t) (s + 1) (j + 1) ≡ false
   ran = fails-any (stops_at t) (s + 1) (j + 1) (λ i a b. or_from _ _
-      (span_unreset t (span_from t s) i is (omega arith) (omega arith))
-      (span_unlost t (span_from t s) i is (omega arith) (omega arith)))
+      (stretch_unreset t (stretch_from t s) i is (omega arith) (omega arith))
+      (stretch_unlost t (stretch_from t s) i is (omega arith) (omega arith)))
 
-  pub ends-here : stops_at t (suc j) ≡ true → span_end t s ≡ suc j
+  pub ends-here : stops_at t (suc j) ≡ true → stretch_end t s ≡ suc j
   ends-here stops = end-is t s j ran from (omega arith) stops
 
-  pub goes-on : is_reset_at t (suc j) ≡ false → loses_control_at t (suc j) ≡ false → suc j < span_end t s
+  pub goes-on : is_reset_at t (suc j) ≡ false → loses_control_at t (suc j) ≡ false → suc j < stretch_end t s
   goes-on unreset unlost = end-past t s (suc j) (fails-any (stops_at t) (s + 1) (suc j + 1) (λ i a b. still i a
       (last_or_before i (suc j) b))) within
     where
@@ -243,29 +259,30 @@ module _ (t : Trace) (s j : ℕ) (is : IsSpanOf t (span_from t s)) (from : s ≤
       still i a (inr earlier) = any-fails (stops_at t) (s + 1) (j + 1) i ran a (omega arith)
 
 -- at an instant of a stretch, or at its end
-module _ (t : Trace) (s : ℕ) (is : IsSpanOf t (span_from t s)) where
-  abbrev stretch : Stretch
-  stretch = span_from t s
+module _ (t : Trace) (s : ℕ) (is : IsStretchOf t (stretch_from t s)) where
+  abbrev own_stretch : Stretch
+  own_stretch = stretch_from t s
 
-  pub at-reset : (n : ℕ) → s < n → n ≤ stretch.end → n ≤ last_instant t → is_reset_at t n ≡ true → stretch.end ≡ n
+  pub at-reset : (n : ℕ) → s < n → n ≤ own_stretch.end → n ≤ last_instant t → is_reset_at t n ≡ true → own_stretch.end
+      ≡ n
   at-reset zero after upto within reset = absurd (omega arith)
   at-reset (suc j) after upto within reset =
       ends-here t s j is (omega arith) (omega arith) within (rw reset refl)
 
   -- of the changes that lead to an instant the first lost control line is the least one
   module _ (cs : List Change) where
-    lost-is : (j : ℕ) → s ≤ j → j < stretch.end → (levels_at t j).slots ≤ 21
+    lost-is : (j : ℕ) → s ≤ j → j < own_stretch.end → (levels_at t j).slots ≤ 21
         → levels_at t (suc j) ≡ changed (levels_at t j) cs
         → are_changes (levels_at t j) 0 cs ≡ true
         → lost_among (levels_at t (suc j)) cs ≡ least (is_lost (levels_at t (suc j))) 0 line_count
     unfolding loses_control_at is_reset_at
     lost-is j from before few made sound = rw made (lost-least (levels_at t j) cs few sound
-        (span_unlost t stretch j is from before) (span_unreset t stretch j is from before))
+        (stretch_unlost t own_stretch j is from before) (stretch_unreset t own_stretch j is from before))
 
-    pub at-loss : (n l : ℕ) → s < n → n ≤ stretch.end → n ≤ last_instant t → (levels_at t (n - 1)).slots ≤ 21
+    pub at-loss : (n l : ℕ) → s < n → n ≤ own_stretch.end → n ≤ last_instant t → (levels_at t (n - 1)).slots ≤ 21
         → levels_at t n ≡ changed (levels_at t (n - 1)) cs → are_changes (levels_at t (n - 1)) 0 cs ≡ true
         → lost_among (levels_at t n) cs ≡ Some l
-        → break_at t stretch all_rules n ≡ Some (record { instant = n; time = time_at t n; rule = U1; line = l })
+        → break_at t own_stretch all_rules n ≡ Some (record { instant = n; time = time_at t n; rule = U1; line = l })
     unfolding break_at rule_break loses_control_at loses_control
     at-loss zero l after upto within few made sound lost = absurd (omega arith)
     at-loss (suc j) l after upto within few made sound lost =
@@ -277,12 +294,12 @@ module _ (t : Trace) (s : ℕ) (is : IsSpanOf t (span_from t s)) where
         found.first
         found.below found.holds in
         let ends = ends-here t s j is (omega arith) (omega arith) within (or_right (is_reset_at t (suc j)) _ loses) in
-        rw (least-alike (breaks t stretch U1 (suc j)) (is_lost (levels_at t (suc j))) 0 line_count
+        rw (least-alike (breaks t own_stretch U1 (suc j)) (is_lost (levels_at t (suc j))) 0 line_count
         (λ k a b. u1-lost t s j ends (omega arith) k) ∙ least_is) refl
 
-    pub at-rest : (n : ℕ) → s < n → n ≤ stretch.end → n ≤ last_instant t → (levels_at t (n - 1)).slots ≤ 21
+    pub at-rest : (n : ℕ) → s < n → n ≤ own_stretch.end → n ≤ last_instant t → (levels_at t (n - 1)).slots ≤ 21
         → levels_at t n ≡ changed (levels_at t (n - 1)) cs → are_changes (levels_at t (n - 1)) 0 cs ≡ true
-        → is_reset_at t n ≡ false → lost_among (levels_at t n) cs ≡ None → n < stretch.end
+        → is_reset_at t n ≡ false → lost_among (levels_at t n) cs ≡ None → n < own_stretch.end
     unfolding loses_control_at loses_control
     at-rest zero after upto within few made sound unreset lost = absurd (omega arith)
     at-rest (suc j) after upto within few made sound unreset lost =
@@ -291,36 +308,37 @@ module _ (t : Trace) (s : ℕ) (is : IsSpanOf t (span_from t s)) where
         (sym (lost-is j (omega arith) (omega arith) (rw back at few) (rw back at made) (rw back at sound)) ∙ lost))
 
 -- after the last instant no stretch starts, and none does at an instant that isn't idle
-no_spans : (t : Trace) (n : ℕ) → last_instant t + 1 ≤ n → spans_after t n ≡ []
-no_spans t n past = ap (map (span_from t)) (those-none (span_starts t) n (last_instant t + 1)
-    (fails-any (span_starts t) n (last_instant t + 1) (λ i a b. absurd (omega arith))))
+no_stretches : (t : Trace) (n : ℕ) → last_instant t + 1 ≤ n → stretches_after t n ≡ []
+no_stretches t n past = ap (map (stretch_from t)) (those-none (stretch_starts t) n (last_instant t + 1)
+    (fails-any (stretch_starts t) n (last_instant t + 1) (λ i a b. absurd (omega arith))))
 
-next_spans : (t : Trace) (n : ℕ) → n ≤ last_instant t → is_idle_at t n ≡ false → spans_after t n ≡ spans_after t (n + 1)
-next_spans t n within busy =
-    ap (map (span_from t)) (those-split (span_starts t) n (n + 1) (last_instant t + 1) (omega arith) (omega arith)
-    ∙ ap (λ (is : List ℕ). is ++ those (span_starts t) (n + 1) (last_instant t + 1))
-    (those-none (span_starts t) n (n + 1)
-    (fails-any (span_starts t) n (n + 1) (λ i a b. let here : i ≡ n = omega arith in
-    ap (span_starts t) here ∙ busy-no_start t n busy))))
+next_stretches : (t : Trace) (n : ℕ) → n ≤ last_instant t → is_idle_at t n ≡ false → stretches_after t n
+    ≡ stretches_after t (n + 1)
+next_stretches t n within busy =
+    ap (map (stretch_from t)) (those-split (stretch_starts t) n (n + 1) (last_instant t + 1) (omega arith) (omega arith)
+    ∙ ap (λ (is : List ℕ). is ++ those (stretch_starts t) (n + 1) (last_instant t + 1))
+    (those-none (stretch_starts t) n (n + 1)
+    (fails-any (stretch_starts t) n (n + 1) (λ i a b. let here : i ≡ n = omega arith in
+    ap (stretch_starts t) here ∙ busy-no_start t n busy))))
 
 module _ {Whole Source : Type 0} {gave : Whole → Source → List Row → Type 0} {is_over : Source → Type 0} {whole : Whole}
     {v : Version} {t : Trace} where
   -- open rows have no last edge where the listing ends
-  pub follows-close : {done : List Row} {span : Stretch} {n : ℕ} {rows : OpenRows Source}
-      → Follows gave is_over whole v done t span n rows → n ≤ span.end
-      → CanClose gave is_over whole v (done ++ rows_to t span n) rows
-  follows-close {done} {span} {n} {rows} h within =
+  pub follows-close : {done : List Row} {stretch : Stretch} {n : ℕ} {rows : OpenRows Source}
+      → Follows gave is_over whole v done t stretch n rows → n ≤ stretch.end
+      → CanClose gave is_over whole v (done ++ rows_to t stretch n) rows
+  follows-close {done} {stretch} {n} {rows} h within =
       let a = h.are_taken in
       let taken = rows.compared.taken in
       record {
         version_is = a.version_is;
-        taken_is = omega (arith, a.taken_is, length-append done (rows_to t span n));
+        taken_is = omega (arith, a.taken_is, length-append done (rows_to t stretch n));
         given = a.given;
         is_given = a.is_given;
         compared = a.compared n (omega arith) within;
-        tenure = open-last v done t span BBSY n a.given taken rows.tenure a.placed.tenure h.tenure within;
-        cycle = open-last v done t span AS n a.given taken rows.cycle a.placed.cycle h.cycle within;
-        transfer = transfer-last t span v done a.given taken n rows.transfer a.placed.transfer h.transfer within;
+        tenure = open-last v done t stretch BBSY n a.given taken rows.tenure a.placed.tenure h.tenure within;
+        cycle = open-last v done t stretch AS n a.given taken rows.cycle a.placed.cycle h.cycle within;
+        transfer = transfer-last t stretch v done a.given taken n rows.transfer a.placed.transfer h.transfer within;
       }
 
   -- at the opening the first stretch is awaited
@@ -329,7 +347,7 @@ module _ {Whole Source : Type 0} {gave : Whole → Source → List Row → Type 
   waits-first h = record {
     awaits = awaits-first t;
     done = [];
-    all = ap (rows_from t NeverIdle) (sym (spans_from_first t)) ∙ sym (recorded-from t);
+    all = ap (rows_from t NeverIdle) (sym (stretches_from_first t)) ∙ sym (recorded-from t);
     rows_are = h;
   }
 
@@ -340,18 +358,19 @@ module _ {Whole Source : Type 0} {gave : Whole → Source → List Row → Type 
     waits-on h busy = record {
       awaits = rw add-one (awaits-next t n h.awaits busy);
       done = h.done;
-      all = ap (λ (spans : List Stretch). h.done ++ rows_from t outcome spans) (sym (next_spans t n within busy))
+      all = ap (λ (stretches : List Stretch). h.done ++ rows_from t outcome stretches)
+          (sym (next_stretches t n within busy))
           ∙ h.all;
       rows_are = h.rows_are;
     }
 
     -- at an idle instant a stretch starts
     pub starts : (h : IsWaiting gave is_over whole v t n outcome rows) → is_idle_at t n ≡ true → {state : State}
-        → Holds t (span_from t n) (n + 1) (n + 1) state → {later : OpenRows Source}
-        → Follows gave is_over whole v h.done t (span_from t n) (n + 1) later
+        → Holds t (stretch_from t n) (n + 1) (n + 1) state → {later : OpenRows Source}
+        → Follows gave is_over whole v h.done t (stretch_from t n) (n + 1) later
         → IsInStretch gave is_over whole v t (n + 1) Conforming later state
     starts h idle holds follows =
-        let found = spans_next t n n h.awaits (omega arith) within idle
+        let found = stretches_next t n n h.awaits (omega arith) within idle
         (fails-any (is_idle_at t) n n (λ i a b. absurd (omega arith))) in
         let order = end-after t n within in
         record {
@@ -359,94 +378,94 @@ module _ {Whole Source : Type 0} {gave : Whole → Source → List Row → Type 
           is = found.0;
           after = omega arith;
           upto = omega (arith, order);
-          unbroken = none-first t (span_from t n) (n + 1) (omega arith) order;
+          unbroken = none-first t (stretch_from t n) (n + 1) (omega arith) order;
           holds = holds;
           conforms = refl;
           done = h.done;
-          all = ap (λ (spans : List Stretch). h.done ++ rows_from t outcome spans) (sym found.1) ∙ h.all;
+          all = ap (λ (stretches : List Stretch). h.done ++ rows_from t outcome stretches) (sym found.1) ∙ h.all;
           rows_are = follows;
         }
 
     module _ {state : State} (h : IsInStretch gave is_over whole v t n outcome rows state) where
-      abbrev span : Stretch
-      span = span_from t h.start
+      abbrev stretch : Stretch
+      stretch = stretch_from t h.start
 
       abbrev later : List Row
-      later = rows_from t Conforming (spans_after t (span.end + 1))
+      later = rows_from t Conforming (stretches_after t (stretch.end + 1))
 
       abbrev so_far : List Row
-      so_far = h.done ++ rows_to t span n
+      so_far = h.done ++ rows_to t stretch n
 
       -- a reset ends the stretch, and the next one is awaited
-      pub resets : span_end t h.start ≡ n → is_reset_at t n ≡ true → {new : OpenRows Source}
-          → CanClose gave is_over whole v (h.done ++ rows_to t span n ++ Reset n ∷ []) new
+      pub resets : stretch_end t h.start ≡ n → is_reset_at t n ≡ true → {new : OpenRows Source}
+          → CanClose gave is_over whole v (h.done ++ rows_to t stretch n ++ Reset n ∷ []) new
           → IsWaiting gave is_over whole v t (n + 1) outcome new
       unfolding least_break
       resets ends reset closed = record {
         awaits = rw add-one (subst (λ m. Awaits t (suc m)) ends
-            (span_reset t span h.is (ap (is_reset_at t) ends ∙ reset)));
-        done = h.done ++ rows_to t span n ++ Reset n ∷ [];
+            (stretch_reset t stretch h.is (ap (is_reset_at t) ends ∙ reset)));
+        done = h.done ++ rows_to t stretch n ++ Reset n ∷ [];
         all =
-            ap (λ (o : ListedVerdict). (h.done ++ rows_to t span n ++ Reset n ∷ []) ++ rows_from t o
-            (spans_after t (n + 1))) h.conforms
-            ∙ (regroup h.done (rows_to t span n) (Reset n ∷ []) (rows_from t Conforming (spans_after t (n + 1)))
-            ∙ (ap (λ (xs : List Row). h.done ++ xs) (sym whole_span) ∙ h.all));
+            ap (λ (o : ListedVerdict). (h.done ++ rows_to t stretch n ++ Reset n ∷ []) ++ rows_from t o
+            (stretches_after t (n + 1))) h.conforms
+            ∙ (regroup h.done (rows_to t stretch n) (Reset n ∷ []) (rows_from t Conforming (stretches_after t (n + 1)))
+            ∙ (ap (λ (xs : List Row). h.done ++ xs) (sym whole_stretch) ∙ h.all));
         rows_are = closed;
       }
         where
           regroup : (a b c d : List Row) → (a ++ b ++ c) ++ d ≡ a ++ (b ++ (c ++ d))
           regroup a b c d = simp append_assoc
 
-          none : least_break t span all_rules ≡ None
-          none = none-after t span all_rules n (last_instant t + 1) (omega arith) h.unbroken
-              (λ i a b. quiet t span i (past i a) (λ l below. by_order i l below (order i a)) all_rules)
+          none : least_break t stretch all_rules ≡ None
+          none = none-after t stretch all_rules n (last_instant t + 1) (omega arith) h.unbroken
+              (λ i a b. quiet t stretch i (past i a) (λ l below. by_order i l below (order i a)) all_rules)
             where
-              past : (i : ℕ) → n ≤ i → is_judged span i ≡ false
-              past i a = and_right (nat_lt span.start i) (nat_lt i span.end)
-                  (le-ltb i span.end (omega (arith, ends)))
+              past : (i : ℕ) → n ≤ i → is_judged stretch i ≡ false
+              past i a = and_right (nat_lt stretch.start i) (nat_lt i stretch.end)
+                  (le-ltb i stretch.end (omega (arith, ends)))
 
               order : (i : ℕ) → n ≤ i → (i ≡ n) ⊎ (n < i)
               order i a = grind arith
 
               u1_at : (n l : ℕ) → h.start < n → l < line_count → loses_control_at t n ≡ false
-                  → breaks t span U1 n l ≡ false
+                  → breaks t stretch U1 n l ≡ false
               u1_at (suc m) l after below unlost = u1-unlost t h.start m unlost l below
               u1_at zero l after below unlost = absurd (omega arith)
 
-              by_order : (i l : ℕ) → l < line_count → (i ≡ n) ⊎ (n < i) → breaks t span U1 i l ≡ false
+              by_order : (i l : ℕ) → l < line_count → (i ≡ n) ⊎ (n < i) → breaks t stretch U1 i l ≡ false
               by_order i l below (inl e) = rw e (u1_at n l h.after below (reset-unlost_at t n reset))
-              by_order i l below (inr after) = held t span i l (eq_past i span.end (omega (arith, after, ends)))
+              by_order i l below (inr after) = held t stretch i l (eq_past i stretch.end (omega (arith, after, ends)))
 
-          whole_span : rows_by t span (least_break t span all_rules) later ≡ rows_to t span n
-              ++ (Reset n ∷ [] ++ rows_from t Conforming (spans_after t (n + 1)))
-          whole_span = rw (none, ends, reset, lt-ltb n (last_instant t + 1) (omega arith)) refl
+          whole_stretch : rows_by t stretch (least_break t stretch all_rules) later ≡ rows_to t stretch n
+              ++ (Reset n ∷ [] ++ rows_from t Conforming (stretches_after t (n + 1)))
+          whole_stretch = rw (none, ends, reset, lt-ltb n (last_instant t + 1) (omega arith)) refl
 
       -- a break ends judging
-      pub breaks-off : (b : Break) → break_at t span all_rules n ≡ Some b
+      pub breaks-off : (b : Break) → break_at t stretch all_rules n ≡ Some b
           → IsEnded gave is_over whole v t (outcome_of (Some b)) rows
       breaks-off b here =
-          let at : b.instant ≡ n = break-instant t span all_rules n b here in
-          let found = found-first t span n b h.unbroken here within in
+          let at : b.instant ≡ n = break-instant t stretch all_rules n b here in
+          let found = found-first t stretch n b h.unbroken here within in
           record {
             done = so_far;
             all =
-                append_assoc h.done (rows_to t span n) (Verdict (outcome_of (Some b)) ∷ [])
-                ∙ (ap (λ i. h.done ++ (rows_to t span i ++ Verdict (outcome_of (Some b)) ∷ [])) (sym at)
-                ∙ (ap (λ (o : Option Break). h.done ++ rows_by t span o later) (sym found) ∙ h.all));
+                append_assoc h.done (rows_to t stretch n) (Verdict (outcome_of (Some b)) ∷ [])
+                ∙ (ap (λ i. h.done ++ (rows_to t stretch i ++ Verdict (outcome_of (Some b)) ∷ [])) (sym at)
+                ∙ (ap (λ (o : Option Break). h.done ++ rows_by t stretch o later) (sym found) ∙ h.all));
             rows_are = follows-close h.rows_are h.upto;
           }
 
       -- without a break the stretch continues
-      pub goes-later : n < span_end t h.start → break_at t span all_rules n ≡ None → {new : State}
-          → Holds t span (n + 1) (n + 1) new → {taken : OpenRows Source}
-          → Follows gave is_over whole v h.done t span (n + 1) taken
+      pub goes-later : n < stretch_end t h.start → break_at t stretch all_rules n ≡ None → {new : State}
+          → Holds t stretch (n + 1) (n + 1) new → {taken : OpenRows Source}
+          → Follows gave is_over whole v h.done t stretch (n + 1) taken
           → IsInStretch gave is_over whole v t (n + 1) outcome taken new
       goes-later before here holds follows = record {
         start = h.start;
         is = h.is;
         after = omega (arith, h.after);
         upto = omega (arith, before);
-        unbroken = none-on t span all_rules n h.unbroken here;
+        unbroken = none-on t stretch all_rules n h.unbroken here;
         holds = holds;
         conforms = h.conforms;
         done = h.done;
@@ -512,7 +531,8 @@ module _ {Whole Source : Type 0} {gave : Whole → Source → List Row → Type 
   lost_is o e = ap (λ (w : Levels). lost_among w cs) (sym at.levels) ∙ sym e
 
   pub judge-resets : is_reset bus.levels ≡ true → {new : OpenRows Source}
-      → CanClose gave is_over whole v (h.done ++ rows_to t (span_from t h.start) bus.instant ++ Reset bus.instant ∷ [])
+      → CanClose gave is_over whole v (h.done ++ rows_to t (stretch_from t h.start) bus.instant ++ Reset bus.instant
+      ∷ [])
       new
       → IsWaiting gave is_over whole v t (bus.instant + 1) outcome new
   judge-resets reset closed =
@@ -525,20 +545,20 @@ module _ {Whole Source : Type 0} {gave : Whole → Source → List Row → Type 
       (at-loss t h.start h.is cs bus.instant line h.after h.upto within few_slots made sound (lost_is (Some line) e))
 
   pub judge-breaks : (rule : Rule) (line : ℕ)
-      → Some (rule, line) ≡ named (break_at t (span_from t h.start) all_rules bus.instant)
+      → Some (rule, line) ≡ named (break_at t (stretch_from t h.start) all_rules bus.instant)
       → IsEnded gave is_over whole v t
       (if is_unreadable rule then Unreadable rule bus.instant line else Broken rule bus.instant line) rows
   judge-breaks rule line e =
-      let (b, here, same_rule, same_line) = named-break (break_at t (span_from t h.start) all_rules bus.instant) rule
+      let (b, here, same_rule, same_line) = named-break (break_at t (stretch_from t h.start) all_rules bus.instant) rule
       line e in
-      let same_instant = break-instant t (span_from t h.start) all_rules bus.instant b here in
+      let same_instant = break-instant t (stretch_from t h.start) all_rules bus.instant b here in
       subst (λ (o : ListedVerdict). IsEnded gave is_over whole v t o rows)
       (ap (λ (r : Rule). if is_unreadable r then Unreadable r b.instant b.line else Broken r b.instant b.line) same_rule
       ∙ (ap (λ i. if is_unreadable rule then Unreadable rule i b.line else Broken rule i b.line) same_instant
       ∙ ap (λ l. if is_unreadable rule then Unreadable rule bus.instant l else Broken rule bus.instant l) same_line))
       (breaks-off within h b here)
 
-  pub judge-within : is_reset bus.levels ≡ false → None ≡ lost_among bus.levels cs → bus.instant < span_end t h.start
+  pub judge-within : is_reset bus.levels ≡ false → None ≡ lost_among bus.levels cs → bus.instant < stretch_end t h.start
   judge-within unreset e = at-rest t h.start h.is cs bus.instant h.after h.upto within few_slots made sound
       (reset-is t bus.levels bus.instant at.levels ∙ unreset) (lost_is None e)
 
@@ -546,12 +566,12 @@ module _ {Whole Source : Type 0} {gave : Whole → Source → List Row → Type 
 pub judge-state : {Whole Source : Type 0} {gave : Whole → Source → List Row → Type 0} {is_over : Source → Type 0}
     {whole : Whole} {v : Version} {t : Trace} {bus : Bus} {outcome : ListedVerdict} {rows : OpenRows Source}
     {state opened : State} → IsBusOf t bus → (h : IsInStretch gave is_over whole v t bus.instant outcome rows state)
-    → bus.instant < span_end t h.start
-    → (is_judged (span_from t h.start) bus.instant ≡ true
-    → Holds t (span_from t h.start) (bus.instant + 1) bus.instant opened)
-    → IsStateOf t (span_from t h.start) bus opened
+    → bus.instant < stretch_end t h.start
+    → (is_judged (stretch_from t h.start) bus.instant ≡ true
+    → Holds t (stretch_from t h.start) (bus.instant + 1) bus.instant opened)
+    → IsStateOf t (stretch_from t h.start) bus opened
 judge-state {t = t} {bus = bus} at h before holds =
-    let judged = is_judged-holds (span_from t h.start) bus.instant h.after before in
+    let judged = is_judged-holds (stretch_from t h.start) bus.instant h.after before in
     record { at = at; is = h.is; judged = judged; holds = holds judged }
 
 -- a bus that the changes of a step advance has the levels of the recording one instant later
@@ -686,29 +706,30 @@ module _ {Whole Source : Type 0} (gave : Whole → Source → List Row → Type 
   ended outcome rows Ended h = h
   ended outcome rows Waiting h = record {
     done = h.done;
-    all = ap (λ (spans : List Stretch). h.done ++ rows_from t outcome spans)
-        (sym (no_spans t (last_instant t + 1) (omega arith))) ∙ h.all;
+    all = ap (λ (stretches : List Stretch). h.done ++ rows_from t outcome stretches)
+        (sym (no_stretches t (last_instant t + 1) (omega arith))) ∙ h.all;
     rows_are = h.rows_are;
   }
   ended outcome rows (InStretch state) h =
-      let span = span_from t h.start in
-      let ends : span.end ≡ last_instant t + 1 = omega (arith, h.upto, end-within t h.start) in
+      let stretch = stretch_from t h.start in
+      let ends : stretch.end ≡ last_instant t + 1 = omega (arith, h.upto, end-within t h.start) in
       record {
-        done = h.done ++ rows_to t span (last_instant t + 1);
+        done = h.done ++ rows_to t stretch (last_instant t + 1);
         all =
-            append_assoc h.done (rows_to t span (last_instant t + 1)) (Verdict outcome ∷ [])
-            ∙ (ap (λ (rows : List Row). h.done ++ rows) (sym (whole_span h.start h.unbroken ends)) ∙ h.all);
+            append_assoc h.done (rows_to t stretch (last_instant t + 1)) (Verdict outcome ∷ [])
+            ∙ (ap (λ (rows : List Row). h.done ++ rows) (sym (whole_stretch h.start h.unbroken ends)) ∙ h.all);
         rows_are = follows-close h.rows_are h.upto;
       }
     where
-      whole_span : (s : ℕ) → break_before t (span_from t s) all_rules (last_instant t + 1) ≡ None
-          → span_end t s ≡ last_instant t + 1
-          → rows_by t (span_from t s) (least_break t (span_from t s) all_rules) (rows_from t Conforming
-          (spans_after t (span_end t s + 1))) ≡ rows_to t (span_from t s) (last_instant t + 1) ++ Verdict outcome ∷ []
-      whole_span s none ends = rw (
+      whole_stretch : (s : ℕ) → break_before t (stretch_from t s) all_rules (last_instant t + 1) ≡ None
+          → stretch_end t s ≡ last_instant t + 1
+          → rows_by t (stretch_from t s) (least_break t (stretch_from t s) all_rules) (rows_from t Conforming
+          (stretches_after t (stretch_end t s + 1))) ≡ rows_to t (stretch_from t s) (last_instant t + 1)
+          ++ Verdict outcome ∷ []
+      whole_stretch s none ends = rw (
         none,
         ends,
-        no_spans t (last_instant t + 1 + 1) (omega arith),
+        no_stretches t (last_instant t + 1 + 1) (omega arith),
         h.conforms,
         le-ltb (last_instant t + 1) (last_instant t + 1) (omega arith),
         and_right (is_reset_at t (last_instant t + 1)) false refl,

@@ -56,11 +56,11 @@ without-false : (open_at : ℕ → Bool) (row : OpenRow) (n : ℕ) → without o
 without-false open_at row n off = decide (n == row.place) (λ f. inl (eqb-true n row.place f)) (λ f. decide (open_at n)
     (λ e. let h : (true && not false) ≡ false = rw (e, f) at off in absurd (cc)) (λ e. inr e))
 
-module _ (given right : List Row) (taken : ℕ) (open_at : ℕ → Bool) (row : OpenRow) where
+module _ (given expected : List Row) (taken : ℕ) (open_at : ℕ → Bool) (row : OpenRow) where
   -- an open row that differs is the least that does, if the least so far doesn't come before it
-  pub compare_row-other : (wrong : Option ℕ) → IsCompared given right taken open_at wrong → row.place < taken
-      → row.place ≤ same_to taken wrong → (IsSame given right row.place → ⊥)
-      → IsCompared given right taken (without open_at (Some row)) (Some (row.place + 1))
+  pub compare_row-other : (wrong : Option ℕ) → IsCompared given expected taken open_at wrong → row.place < taken
+      → row.place ≤ same_to taken wrong → (IsSame given expected row.place → ⊥)
+      → IsCompared given expected taken (without open_at (Some row)) (Some (row.place + 1))
   compare_row-other wrong h within sooner other =
       let back : row.place + 1 - 1 ≡ row.place = omega arith in
       record {
@@ -72,8 +72,8 @@ module _ (given right : List Row) (taken : ℕ) (open_at : ℕ → Bool) (row : 
       }
 
   -- an open row that doesn't come before the least that differs leaves it as it is
-  pub compare_row-later : (wrong : Option ℕ) → IsCompared given right taken open_at wrong
-      → same_to taken wrong ≤ row.place → IsCompared given right taken (without open_at (Some row)) wrong
+  pub compare_row-later : (wrong : Option ℕ) → IsCompared given expected taken open_at wrong
+      → same_to taken wrong ≤ row.place → IsCompared given expected taken (without open_at (Some row)) wrong
   compare_row-later wrong h later = record {
     same = λ n below off. elim (without-false open_at row n off) [
       | inl e ↦ absurd (omega arith)
@@ -83,15 +83,16 @@ module _ (given right : List Row) (taken : ℕ) (open_at : ℕ → Bool) (row : 
   }
 
 -- `IsCompared` stays if more rows are given and taken, each of them open, and each open row stays open
-pub compared-on : (given more right rights : List Row) (taken next : ℕ) (open_at now : ℕ → Bool) (wrong : Option ℕ)
-    → taken ≤ next → Extends given more taken → Extends right rights taken
+pub compared-on : (given more expected expected_rows : List Row) (taken next : ℕ) (open_at now : ℕ → Bool)
+    (wrong : Option ℕ)
+    → taken ≤ next → Extends given more taken → Extends expected expected_rows taken
     → ((n : ℕ) → n < next → now n ≡ false → (n < taken) × (open_at n ≡ false))
-    → IsCompared given right taken open_at wrong → IsCompared more rights next now wrong
-compared-on given more right rights taken next open_at now None order extends all kept h = record {
+    → IsCompared given expected taken open_at wrong → IsCompared more expected_rows next now wrong
+compared-on given more expected expected_rows taken next open_at now None order extends all kept h = record {
   same = λ n below off. let was = kept n below off in extends n was.0 ∙ h.same n was.0 was.1 ∙ sym (all n was.0);
   differs = tt;
 }
-compared-on given more right rights taken next open_at now (Some row) order extends all kept h =
+compared-on given more expected expected_rows taken next open_at now (Some row) order extends all kept h =
     let (first, within, other) = h.differs in
     let taken_before : (n : ℕ) → n < row - 1 → n < taken = λ n below. omega (arith, first, within) in
     let last : row - 1 < taken = omega (arith, first, within) in
@@ -107,9 +108,9 @@ compared-on given more right rights taken next open_at now (Some row) order exte
     }
 
 -- `IsCompared` stays if each open row stays open, and others may be open
-pub compared-fewer : {given right : List Row} {taken : ℕ} {open_at : ℕ → Bool} {wrong : Option ℕ} (now : ℕ → Bool)
-    → IsCompared given right taken open_at wrong → ((n : ℕ) → now n ≡ false → open_at n ≡ false)
-    → IsCompared given right taken now wrong
+pub compared-fewer : {given expected : List Row} {taken : ℕ} {open_at : ℕ → Bool} {wrong : Option ℕ} (now : ℕ → Bool)
+    → IsCompared given expected taken open_at wrong → ((n : ℕ) → now n ≡ false → open_at n ≡ false)
+    → IsCompared given expected taken now wrong
 compared-fewer now h kept = record {
   same = λ n below off. h.same n below (kept n off);
   differs = h.differs;
@@ -118,12 +119,12 @@ compared-fewer now h kept = record {
 -- after one row was compared
 module _ {Source : Type 0} {o : Option OpenRow} {edge : Option ℕ} {old new : Comparison Source}
     (s : HasComparedRow o edge old new) where
-  pub compare_row-compared : {given right : List Row} {open_at : ℕ → Bool}
-      → IsCompared given right old.taken open_at old.wrong → IsDue given right old.taken edge o
-      → IsCompared given right new.taken (without open_at o) new.wrong
-  compare_row-compared {given} {right} {open_at} h due =
-      subst (λ n. IsCompared given right n (without open_at o) new.wrong) (sym s.taken)
-      (s.wrong given right open_at h due)
+  pub compare_row-compared : {given expected : List Row} {open_at : ℕ → Bool}
+      → IsCompared given expected old.taken open_at old.wrong → IsDue given expected old.taken edge o
+      → IsCompared given expected new.taken (without open_at o) new.wrong
+  compare_row-compared {given} {expected} {open_at} h due =
+      subst (λ n. IsCompared given expected n (without open_at o) new.wrong) (sym s.taken)
+      (s.wrong given expected open_at h due)
 
   pub compare_row-given : {Whole : Type 0} {gave : Whole → Source → List Row → Type 0} {is_over : Source → Type 0}
       {whole : Whole} {given : List Row} → IsGiven gave is_over whole given old.source old.taken
@@ -133,17 +134,19 @@ module _ {Source : Type 0} {o : Option OpenRow} {edge : Option ℕ} {old new : C
       (subst (λ (c : Source). IsGiven gave is_over whole given c old.taken) (sym s.source) h)
 
 -- after one more row was taken
-module _ {Whole Source : Type 0} {gave : Whole → Source → List Row → Type 0} {is_over : Source → Type 0} {right : Row}
-    {old new : Comparison Source} {row : OpenRow} (b : IsBegun gave is_over right old new row) where
-  pub begun-compared : {given rights : List Row} {open_at : ℕ → Bool} (more all : List Row) (now : ℕ → Bool)
-      → IsCompared given rights old.taken open_at old.wrong → Extends given more old.taken
-      → Extends rights all old.taken
+module _ {Whole Source : Type 0} {gave : Whole → Source → List Row → Type 0} {is_over : Source → Type 0}
+    {expected : Row}
+    {old new : Comparison Source} {row : OpenRow} (b : IsBegun gave is_over expected old new row) where
+  pub begun-compared : {given expected_rows : List Row} {open_at : ℕ → Bool} (more all : List Row) (now : ℕ → Bool)
+      → IsCompared given expected_rows old.taken open_at old.wrong → Extends given more old.taken
+      → Extends expected_rows all old.taken
       → ((n : ℕ) → now n ≡ false → (open_at n ≡ false) × ((n == row.place) ≡ false))
       → IsCompared more all new.taken now new.wrong
-  begun-compared {given} {rights} {open_at} more all now h extends others kept =
+  begun-compared {given} {expected_rows} {open_at} more all now h extends others kept =
       subst (λ n. IsCompared more all n now new.wrong) (sym b.taken)
       (subst (λ (w : Option ℕ). IsCompared more all (old.taken + 1) now w) (sym b.wrong)
-      (compared-on given more rights all old.taken (old.taken + 1) open_at now old.wrong (omega arith) extends others
+      (compared-on given more expected_rows all old.taken (old.taken + 1) open_at now old.wrong (omega arith) extends
+      others
       (λ n below off. (below_last n b.place below (kept n off).1, (kept n off).0)) h))
     where
       below_last : (n : ℕ) → row.place ≡ old.taken → n < old.taken + 1 → (n == row.place) ≡ false → n < old.taken
@@ -181,59 +184,60 @@ module _ {Whole Source : Type 0} {gave : Whole → Source → List Row → Type 
       whole_taken (inr short) = absurd (none_some row (sym (stays short.0)))
 
 -- at the end no row is open
-module _ {Source : Type 0} (is_over : Source → Type 0) (given right : List Row) (taken : ℕ)
-    (all : taken ≡ length right) where
+module _ {Source : Type 0} (is_over : Source → Type 0) (given expected : List Row) (taken : ℕ)
+    (all : taken ≡ length expected) where
   -- a row that was compared differs
-  pub finish-other : (source : Source) (row : ℕ) → IsCompared given right taken (λ n. false) (Some row)
-      → (length given ≡ taken) ⊎ (is_over source × (length given ≤ taken)) → Decides is_over given right source (No row)
+  pub finish-other : (source : Source) (row : ℕ) → IsCompared given expected taken (λ n. false) (Some row)
+      → (length given ≡ taken) ⊎ (is_over source × (length given ≤ taken))
+      → Decides is_over given expected source (No row)
   finish-other source row h count =
       let (first, within, other) = h.differs in (
-        record { first = first; before = take-same (row - 1) given right (λ i b. h.same i b refl); here = other },
+        record { first = first; before = take-same (row - 1) given expected (λ i b. h.same i b refl); here = other },
         elim count [ inl e ↦ inl (omega (arith, within)) | inr short ↦ inr short.0 ],
       )
 
   module _ (more : List Row) (extends : Extends given more taken)
-      (h : IsCompared given right taken (λ n. false) None) where
+      (h : IsCompared given expected taken (λ n. false) None) where
     -- the source gives one more row
     pub finish-longer : (source : Source) (row : Row) → Some row ≡ slice_get more taken
-        → Decides is_over more right source (No (taken + 1))
+        → Decides is_over more expected source (No (taken + 1))
     finish-longer source row is =
         let back : taken + 1 - 1 ≡ taken = omega arith in
         let long : taken < length more = slice_get_within more taken row (sym is) in (
           record {
             first = omega arith;
-            before = rw back (take-same taken more right (λ i b. extends i b ∙ h.same i b refl));
+            before = rw back (take-same taken more expected (λ i b. extends i b ∙ h.same i b refl));
             here = rw back (λ same. none_some row
-                (sym (is ∙ same ∙ slice_get_past right taken (omega (arith, all)))));
+                (sym (is ∙ same ∙ slice_get_past expected taken (omega (arith, all)))));
           },
           inl (omega arith),
         )
 
     -- the source gives no more row
     pub finish-same : (source : Source) → None ≡ slice_get more taken → is_over source
-        → Decides is_over more right source
+        → Decides is_over more expected source
         Yes
     finish-same source is over = (
-      list-same more right (λ n. elim (cases_lt n taken) [
+      list-same more expected (λ n. elim (cases_lt n taken) [
         | inl below ↦ extends n below ∙ h.same n below refl
         | inr from ↦
             slice_get_past more n (omega (arith, past more taken (sym is)))
-            ∙ sym (slice_get_past right n (omega (arith, all)))
+            ∙ sym (slice_get_past expected n (omega (arith, all)))
       ]),
       over,
     )
 
 -- ---- The answer to all rows that are given, by those that were asked for.
 
-pub decides-all : {Source : Type 0} (is_over : Source → Type 0) (given more right : List Row) (source : Source)
-    (answer : Answer) → Decides is_over given right source answer → (is_over source → more ≡ [])
-    → DecidesListing (given ++ more) right answer
-decides-all is_over given more right source Yes (same, over) none =
+pub decides-all : {Source : Type 0} (is_over : Source → Type 0) (given more expected : List Row) (source : Source)
+    (answer : Answer) → Decides is_over given expected source answer → (is_over source → more ≡ [])
+    → DecidesListing (given ++ more) expected answer
+decides-all is_over given more expected source Yes (same, over) none =
     ap (λ (rows : List Row). given ++ rows) (none over) ∙ (append-nil given ∙ same)
-decides-all is_over given more right source (No row) (differs, known) none = by_count known
+decides-all is_over given more expected source (No row) (differs, known) none = by_count known
   where
-    by_count : (row ≤ length given) ⊎ is_over source → DiffersAt (given ++ more) right row
-    by_count (inr over) = subst (λ (rows : List Row). DiffersAt rows right row)
+    by_count : (row ≤ length given) ⊎ is_over source → DiffersAt (given ++ more) expected row
+    by_count (inr over) = subst (λ (rows : List Row). DiffersAt rows expected row)
         (sym (ap (λ (rows : List Row). given ++ rows) (none over) ∙ append-nil given)) differs
     by_count (inl within) =
         let first = differs.first in

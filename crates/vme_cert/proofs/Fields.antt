@@ -10,17 +10,17 @@ use Rattle.std.proofs.lemmas.Bool.{cases_lt}
 use Rattle.vme_trace.proofs.OpenTransfers.{in_transfer-is, ReadsStrobes}
 use Rattle.vme_trace.proofs.Ranges.{any-holds, fails-any, any-step, any-fails, clash, any-least, least-found}
 use Rattle.vme_trace.proofs.Ranges.{greatest-empty, not_or, those-empty}
-use Rattle.vme_trace.proofs.JudgedSpans.{span_reads}
+use Rattle.vme_trace.proofs.JudgedStretches.{stretch_reads}
 use Rattle.vme_cert.specs.Vocabulary.{AS, DS0, DS1, DTACK, High, Level, Low, Stretch, Trace, Unknown, WRITE}
 use Rattle.vme_cert.specs.Vocabulary.{answer_falls, answers, answers_of, answers_write, any, class_at, cycle_starts}
 use Rattle.vme_cert.specs.Vocabulary.{differ, falls, greatest, high, in_transfer, is_answer, is_answered, is_high}
 use Rattle.vme_cert.specs.Vocabulary.{is_judged, is_known, has_earlier_answer, is_low, is_write, known, last_before}
 use Rattle.vme_cert.specs.Vocabulary.{lasts, level, levels_at, low, needs_of, none, rises, breaks_read_modify_write}
 use Rattle.vme_cert.specs.Vocabulary.{strobe_rises, strobes_high, those, transfer_starts, changes_direction, BERR}
-use Rattle.vme_cert.specs.Vocabulary.{IsSpanOf, Needs, cycle_of, cycle_runs, in_cycle, is_block_class, is_interrupt}
+use Rattle.vme_cert.specs.Vocabulary.{IsStretchOf, Needs, cycle_of, cycle_runs, in_cycle, is_block_class, is_interrupt}
 use Rattle.vme_cert.specs.Vocabulary.{is_needed, is_single, is_within}
 use Rattle.vme_cert.specs.State.{is_many, writes_first, AreClosed, IsOpenTransfer, IsTransfer, IsCycle, IsLastCycle}
-use Rattle.vme_cert.specs.State.{is_acknowledged, is_data_held, is_unanswered}
+use Rattle.vme_cert.specs.State.{is_answered_by_dtack, is_data_held, is_unanswered}
 use Rattle.vme_cert.specs.Instant.{starts_transfer}
 use Rattle.vme_cert.specs.declared.state.Transfer.{Transfer}
 use Rattle.vme_cert.specs.declared.state.Cycle.{Cycle}
@@ -39,15 +39,15 @@ high-and-low High Unknown h k = cc
 high-and-low Low y h k = cc
 high-and-low Unknown y h k = cc
 
-module _ (t : Trace) (span : Stretch) where
+module _ (t : Trace) (stretch : Stretch) where
   -- between the starts of two transfers both strobes are high
-  pub high-between : (i k : ℕ) → i < k → transfer_starts t span i ≡ true → transfer_starts t span k ≡ true
+  pub high-between : (i k : ℕ) → i < k → transfer_starts t stretch i ≡ true → transfer_starts t stretch k ≡ true
       → any (strobes_high t) (i + 1) k ≡ true
   unfolding transfer_starts low high
   high-between i k order first second =
       elim (just-or-later i k order) [
         | inl e ↦ absurd (high-and-low (level t DS0 i) (level t DS1 i) (ap (strobes_high t) (sym e) ∙ before)
-            (and_parts (is_judged span i && strobes_high t (i - 1)) _ first).1)
+            (and_parts (is_judged stretch i && strobes_high t (i - 1)) _ first).1)
         | inr later ↦ any-holds (strobes_high t) (i + 1) k (k - 1) (omega arith) (omega arith) before
       ]
     where
@@ -55,65 +55,67 @@ module _ (t : Trace) (span : Stretch) where
       just-or-later i k h = grind arith
 
       before : strobes_high t (k - 1) ≡ true
-      before = (and_parts (is_judged span k) (strobes_high t (k - 1))
-          (and_parts (is_judged span k && strobes_high t (k - 1)) _ second).0).1
+      before = (and_parts (is_judged stretch k) (strobes_high t (k - 1))
+          (and_parts (is_judged stretch k && strobes_high t (k - 1)) _ second).0).1
 
-  module _ (j : ℕ) (judged : is_judged span j ≡ true) where
-    lasts-not : (i : ℕ) → any (strobes_high t) (i + 1) j ≡ true → lasts t span i j ≡ false
+  module _ (j : ℕ) (judged : is_judged stretch j ≡ true) where
+    lasts-not : (i : ℕ) → any (strobes_high t) (i + 1) j ≡ true → lasts t stretch i j ≡ false
     unfolding lasts
-    lasts-not i h = rw h (and-false (nat_le i j && is_judged span j))
+    lasts-not i h = rw h (and-false (nat_le i j && is_judged stretch j))
 
-    pub lasts-on : (i : ℕ) → i ≤ j → none (strobes_high t) (i + 1) j ≡ true → lasts t span i j ≡ true
+    pub lasts-on : (i : ℕ) → i ≤ j → none (strobes_high t) (i + 1) j ≡ true → lasts t stretch i j ≡ true
     unfolding lasts
     lasts-on i order h = rw (le-leb i j order, judged, h) refl
 
     -- if each transfer has closed, none is open at the instant
-    pub in-none : (p : ℕ → Bool) → ((i : ℕ) → i < j + 1 → transfer_starts t span i ≡ true
-        → any (strobes_high t) (i + 1) j ≡ true) → in_transfer t span p j ≡ false
+    pub in-none : (p : ℕ → Bool) → ((i : ℕ) → i < j + 1 → transfer_starts t stretch i ≡ true
+        → any (strobes_high t) (i + 1) j ≡ true) → in_transfer t stretch p j ≡ false
     unfolding in_transfer
-    in-none p closed = fails-any (λ i. transfer_starts t span i && lasts t span i j && p i) (span.start + 1) (j + 1)
-        (λ i a b. decide (transfer_starts t span i) (λ e. rw (e, lasts-not i (closed i b e)) refl) (λ e. rw e refl))
+    in-none p closed = fails-any (λ i. transfer_starts t stretch i && lasts t stretch i j && p i) (stretch.start + 1)
+        (j + 1)
+        (λ i a b. decide (transfer_starts t stretch i) (λ e. rw (e, lasts-not i (closed i b e)) refl) (λ e. rw e refl))
 
-    module _ (i : ℕ) (last : greatest (transfer_starts t span) (span.start + 1) (j + 1) ≡ Some i) where
-      found : IsGreatest (transfer_starts t span) (span.start + 1) (j + 1) i
-      found = greatest-found (transfer_starts t span) (span.start + 1) (j + 1) i last
+    module _ (i : ℕ) (last : greatest (transfer_starts t stretch) (stretch.start + 1) (j + 1) ≡ Some i) where
+      found : IsGreatest (transfer_starts t stretch) (stretch.start + 1) (j + 1) i
+      found = greatest-found (transfer_starts t stretch) (stretch.start + 1) (j + 1) i last
 
       -- if the last transfer is open, a condition on the transfer of the instant is one on it
-      pub in-last : (p : ℕ → Bool) → none (strobes_high t) (i + 1) j ≡ true → in_transfer t span p j ≡ p i
+      pub in-last : (p : ℕ → Bool) → none (strobes_high t) (i + 1) j ≡ true → in_transfer t stretch p j ≡ p i
       in-last p still =
           let from = found.from in
           let before = found.before in
-          in_transfer-is t span p i j (omega arith) (omega arith) found.holds (lasts-on i (omega arith) still)
+          in_transfer-is t stretch p i j (omega arith) (omega arith) found.holds (lasts-on i (omega arith) still)
 
 -- ---- The answer of the transfer of an instant, and those of the cycle, by the state.
 
-module _ (t : Trace) (span : Stretch) (j i : ℕ) (judged : is_judged span j ≡ true)
-    (last : greatest (transfer_starts t span) (span.start + 1) (j + 1) ≡ Some i)
+module _ (t : Trace) (stretch : Stretch) (j i : ℕ) (judged : is_judged stretch j ≡ true)
+    (last : greatest (transfer_starts t stretch) (stretch.start + 1) (j + 1) ≡ Some i)
     (still : none (strobes_high t) (i + 1) j ≡ true) where
   within : i ≤ j
-  within = let before = (greatest-found (transfer_starts t span) (span.start + 1) (j + 1) i last).before in omega arith
+  within = let before = (greatest-found (transfer_starts t stretch) (stretch.start + 1) (j + 1) i last).before
+      in omega arith
 
-  here : lasts t span i j ≡ true
-  here = lasts-on t span j judged i within still
+  here : lasts t stretch i j ≡ true
+  here = lasts-on t stretch j judged i within still
 
   -- whether the transfer is answered before `j + 1`, by whether it is before `j`
-  pub answered-step : is_answered t span i (j + 1) ≡ (is_answered t span i j || answer_falls t j)
+  pub answered-step : is_answered t stretch i (j + 1) ≡ (is_answered t stretch i j || answer_falls t j)
   unfolding is_answered
-  answered-step = any-step (λ r. lasts t span i r && answer_falls t r) i j ∙ rw (le-leb i j within, here) refl
+  answered-step = any-step (λ r. lasts t stretch i r && answer_falls t r) i j ∙ rw (le-leb i j within, here) refl
 
-  pub answers-is : answers t span i j ≡ (answer_falls t j && not (is_answered t span i j))
+  pub answers-is : answers t stretch i j ≡ (answer_falls t j && not (is_answered t stretch i j))
   unfolding answers
   answers-is = rw here refl
 
-  pub is_answer-is : is_answer t span j ≡ (answer_falls t j && not (is_answered t span i j))
+  pub is_answer-is : is_answer t stretch j ≡ (answer_falls t j && not (is_answered t stretch i j))
   unfolding is_answer
-  is_answer-is = in-last t span j judged i last (λ k. answers t span k j) still ∙ answers-is
+  is_answer-is = in-last t stretch j judged i last (λ k. answers t stretch k j) still ∙ answers-is
 
 -- the answers before `j + 1` of a cycle that started at `j` or before: those before `j`, and that at `j`, if any
-pub answers-step : (t : Trace) (span : Stretch) (i j : ℕ) → i ≤ j → answers_of t span i (j + 1)
-    ≡ answers_of t span i j ++ (if is_answer t span j then j ∷ [] else [])
+pub answers-step : (t : Trace) (stretch : Stretch) (i j : ℕ) → i ≤ j → answers_of t stretch i (j + 1)
+    ≡ answers_of t stretch i j ++ (if is_answer t stretch j then j ∷ [] else [])
 unfolding answers_of those
-answers-step t span i j order = rw (add-one, le-leb i j order) refl
+answers-step t stretch i j order = rw (add-one, le-leb i j order) refl
 
 -- ---- The answers of a cycle, with at most one more, and what rules ask of them.
 
@@ -131,12 +133,12 @@ many-with (q ∷ []) r true = refl
 many-with (q ∷ []) r false = refl
 many-with (q ∷ p ∷ rs) r b = refl
 
-module _ (t : Trace) (span : Stretch) where
-  pub first-with : (rs : List ℕ) (r : ℕ) (b : Bool) → writes_first t span (rs ++ (if b then r ∷ [] else []))
-      ≡ (writes_first t span rs || (b && not (has_earlier_answer rs) && answers_write t span r))
+module _ (t : Trace) (stretch : Stretch) where
+  pub first-with : (rs : List ℕ) (r : ℕ) (b : Bool) → writes_first t stretch (rs ++ (if b then r ∷ [] else []))
+      ≡ (writes_first t stretch rs || (b && not (has_earlier_answer rs) && answers_write t stretch r))
   first-with [] r true = refl
   first-with [] r false = refl
-  first-with (q ∷ rs) r b = stays (answers_write t span q) b (answers_write t span r)
+  first-with (q ∷ rs) r b = stays (answers_write t stretch q) b (answers_write t stretch r)
     where
       stays : (a b w : Bool) → a ≡ (a || (b && false && w))
       stays true b w = refl
@@ -145,19 +147,19 @@ module _ (t : Trace) (span : Stretch) where
 
   -- what rules C1 and C2 ask of the answers of a cycle, by the fields of the state
   pub breaks_read_modify_write-is : (rs : List ℕ) (r : ℕ)
-      → (has_earlier_answer rs && (is_many rs || writes_first t span rs || not (answers_write t span r)))
-      ≡ breaks_read_modify_write t span rs r
+      → (has_earlier_answer rs && (is_many rs || writes_first t stretch rs || not (answers_write t stretch r)))
+      ≡ breaks_read_modify_write t stretch rs r
   unfolding breaks_read_modify_write
   breaks_read_modify_write-is [] r = refl
   breaks_read_modify_write-is (q ∷ []) r = refl
   breaks_read_modify_write-is (q ∷ p ∷ rs) r = refl
 
   pub changes_direction-is : (rs : List ℕ) (r : ℕ)
-      → (has_earlier_answer rs && not (beq (writes_first t span rs) (answers_write t span r)))
-      ≡ changes_direction t span rs r
+      → (has_earlier_answer rs && not (beq (writes_first t stretch rs) (answers_write t stretch r)))
+      ≡ changes_direction t stretch rs r
   unfolding changes_direction
   changes_direction-is [] r = refl
-  changes_direction-is (q ∷ rs) r = differ-is (answers_write t span q) (answers_write t span r)
+  changes_direction-is (q ∷ rs) r = differ-is (answers_write t stretch q) (answers_write t stretch r)
     where
       differ-is : (a b : Bool) → not (beq a b) ≡ differ a b
       differ-is true true = refl
@@ -171,13 +173,13 @@ pub longer : (p : ℕ → Bool) (f m n : ℕ) → m ≤ n → any p f m ≡ true
 longer p f m n order h =
     decide (any p f n) (λ e. e) (λ e. absurd (clash (any p f m) h (none-shorter p f m n order e)))
 
-module _ (t : Trace) (span : Stretch) (j : ℕ) (judged : is_judged span j ≡ true) where
-  pub starts-is : transfer_starts t span j ≡ starts_transfer t j
+module _ (t : Trace) (stretch : Stretch) (j : ℕ) (judged : is_judged stretch j ≡ true) where
+  pub starts-is : transfer_starts t stretch j ≡ starts_transfer t j
   unfolding transfer_starts
   starts-is = rw judged refl
 
   -- a transfer starts
-  pub open-here : starts_transfer t j ≡ true → (w : Bool) → w ≡ low t WRITE j → IsTransfer t span (j + 1) j (record {
+  pub open-here : starts_transfer t j ≡ true → (w : Bool) → w ≡ low t WRITE j → IsTransfer t stretch (j + 1) j (record {
     is_open = true;
     start = j;
     is_write = w;
@@ -187,20 +189,22 @@ module _ (t : Trace) (span : Stretch) (j : ℕ) (judged : is_judged span j ≡ t
   unfolding is_write is_answered
   open-here here w is = record {
     here = λ e. record {
-      last = greatest-here (transfer_starts t span) (span.start + 1) j (after_start span j judged) (starts-is ∙ here);
+      last = greatest-here (transfer_starts t stretch) (stretch.start + 1) j (after_start stretch j judged)
+          (starts-is ∙ here);
       still = ap not (any-start (strobes_high t) (j + 1) j (omega arith));
       direction = is;
-      answered = sym (any-start (λ r. lasts t span j r && answer_falls t r) j j (omega arith));
+      answered = sym (any-start (λ r. lasts t stretch j r && answer_falls t r) j j (omega arith));
       rose = sym (any-start (strobe_rises t) (j + 1) j (omega arith));
     };
     absent = λ e. absurd (cc);
   }
 
   -- no transfer starts
-  pub open-not : starts_transfer t j ≡ false → (c : Transfer) → IsTransfer t span j j c → IsTransfer t span (j + 1) j c
+  pub open-not : starts_transfer t j ≡ false → (c : Transfer) → IsTransfer t stretch j j c
+      → IsTransfer t stretch (j + 1) j c
   open-not here c is = record {
     here = λ e. let w = is.here e in record {
-      last = greatest-not (transfer_starts t span) (span.start + 1) j (starts-is ∙ here) ∙ w.last;
+      last = greatest-not (transfer_starts t stretch) (stretch.start + 1) j (starts-is ∙ here) ∙ w.last;
       still = w.still;
       direction = w.direction;
       answered = w.answered;
@@ -208,24 +212,24 @@ module _ (t : Trace) (span : Stretch) (j : ℕ) (judged : is_judged span j ≡ t
     };
     absent = λ e i before start. elim (last_or_before i j before) [
       | inl same ↦ absurd
-          (clash (transfer_starts t span j) (ap (transfer_starts t span) (sym same) ∙ start) (starts-is ∙ here))
+          (clash (transfer_starts t stretch j) (ap (transfer_starts t stretch) (sym same) ∙ start) (starts-is ∙ here))
       | inr earlier ↦ is.absent e i earlier start
     ];
   }
 
   -- one instant later
-  closed-on : AreClosed t span (j + 1) j → AreClosed t span (j + 1) (j + 1)
+  closed-on : AreClosed t stretch (j + 1) j → AreClosed t stretch (j + 1) (j + 1)
   closed-on is i before start = longer (strobes_high t) (i + 1) j (j + 1) (omega arith) (is i before start)
 
-  module _ (c : Transfer) (is : IsOpenTransfer t span (j + 1) j c) where
-    found-transfer : IsGreatest (transfer_starts t span) (span.start + 1) (j + 1) c.start
-    found-transfer = greatest-found (transfer_starts t span) (span.start + 1) (j + 1) c.start is.last
+  module _ (c : Transfer) (is : IsOpenTransfer t stretch (j + 1) j c) where
+    found-transfer : IsGreatest (transfer_starts t stretch) (stretch.start + 1) (j + 1) c.start
+    found-transfer = greatest-found (transfer_starts t stretch) (stretch.start + 1) (j + 1) c.start is.last
 
-    closes : c.start < j → strobes_high t j ≡ true → AreClosed t span (j + 1) (j + 1)
+    closes : c.start < j → strobes_high t j ≡ true → AreClosed t stretch (j + 1) (j + 1)
     closes later there i before start =
         any-holds (strobes_high t) (i + 1) (j + 1) j (elim (cases_lt c.start i) [
-          | inl past ↦ absurd (clash (transfer_starts t span i) start
-              (any-fails (transfer_starts t span) (c.start + 1) (j + 1) i found-transfer.last (omega arith) before))
+          | inl past ↦ absurd (clash (transfer_starts t stretch i) start
+              (any-fails (transfer_starts t stretch) (c.start + 1) (j + 1) i found-transfer.last (omega arith) before))
           | inr earlier ↦ omega arith
         ]) (omega arith) there
 
@@ -246,7 +250,7 @@ module _ (t : Trace) (span : Stretch) (j : ℕ) (judged : is_judged span j ≡ t
         alike : (i k : ℕ) → nat_le (i + 1) k ≡ nat_lt i k
         alike i k = grind (arith, nat_tests)
 
-    stays-open : (nat_lt c.start j && strobes_high t j) ≡ false → IsOpenTransfer t span (j + 1) (j + 1) (record c {
+    stays-open : (nat_lt c.start j && strobes_high t j) ≡ false → IsOpenTransfer t stretch (j + 1) (j + 1) (record c {
       is_open = true;
       answered = c.answered || answer_falls t j;
       rose = any (strobe_rises t) (c.start + 1) (j + 1);
@@ -256,13 +260,13 @@ module _ (t : Trace) (span : Stretch) (j : ℕ) (judged : is_judged span j ≡ t
       still = still-on h;
       direction = is.direction;
       answered = ap (λ b. b || answer_falls t j) is.answered
-          ∙ sym (answered-step t span j c.start judged is.last is.still);
+          ∙ sym (answered-step t stretch j c.start judged is.last is.still);
       rose = refl;
     }
 
-  pub transfer-later : (c : Transfer) → IsTransfer t span (j + 1) j c → (hi fa ro : Bool) → hi ≡ strobes_high t j
-      → fa ≡ answer_falls t j → (IsOpenTransfer t span (j + 1) j c → ro ≡ any (strobe_rises t) (c.start + 1) (j + 1))
-      → IsTransfer t span (j + 1) (j + 1) (record c {
+  pub transfer-later : (c : Transfer) → IsTransfer t stretch (j + 1) j c → (hi fa ro : Bool) → hi ≡ strobes_high t j
+      → fa ≡ answer_falls t j → (IsOpenTransfer t stretch (j + 1) j c → ro ≡ any (strobe_rises t) (c.start + 1) (j + 1))
+      → IsTransfer t stretch (j + 1) (j + 1) (record c {
         is_open = c.is_open && not (nat_lt c.start j && hi);
         answered = c.answered || fa;
         rose = ro;
@@ -270,7 +274,7 @@ module _ (t : Trace) (span : Stretch) (j : ℕ) (judged : is_judged span j ≡ t
   transfer-later c is hi fa ro h f r = rw (h, f) (by_flags c.is_open (nat_lt c.start j && strobes_high t j) refl refl)
     where
       by_flags : (a b : Bool) → c.is_open ≡ a → (nat_lt c.start j && strobes_high t j) ≡ b
-          → IsTransfer t span (j + 1) (j + 1) (record c {
+          → IsTransfer t stretch (j + 1) (j + 1) (record c {
             is_open = a && not b;
             answered = c.answered || answer_falls t j;
             rose = ro;
@@ -282,7 +286,7 @@ module _ (t : Trace) (span : Stretch) (j : ℕ) (judged : is_judged span j ≡ t
             absent = λ k. closes c (is.here e) (ltb-true c.start j parts.0) parts.1;
           }
       by_flags true false e g = record {
-        here = λ k. subst (λ b. IsOpenTransfer t span (j + 1) (j + 1) (record c {
+        here = λ k. subst (λ b. IsOpenTransfer t stretch (j + 1) (j + 1) (record c {
           is_open = true;
           answered = c.answered || answer_falls t j;
           rose = b;
@@ -291,12 +295,12 @@ module _ (t : Trace) (span : Stretch) (j : ℕ) (judged : is_judged span j ≡ t
       }
 
 -- no transfer starts up to the start of a stretch
-pub none-started : (t : Trace) (span : Stretch) → AreClosed t span (span.start + 1) (span.start + 1)
+pub none-started : (t : Trace) (stretch : Stretch) → AreClosed t stretch (stretch.start + 1) (stretch.start + 1)
 unfolding transfer_starts
-none-started t span i before start =
-    let judged = (and_parts (is_judged span i) (strobes_high t (i - 1))
-    (and_parts (is_judged span i && strobes_high t (i - 1)) _ start).0).0 in
-    let after = after_start span i judged in
+none-started t stretch i before start =
+    let judged = (and_parts (is_judged stretch i) (strobes_high t (i - 1))
+    (and_parts (is_judged stretch i && strobes_high t (i - 1)) _ start).0).0 in
+    let after = after_start stretch i judged in
     absurd (omega arith)
 
 -- for the goals of the open transfer as it starts, and one instant later
@@ -344,65 +348,69 @@ module _ (t : Trace) (l j : ℕ) where
 pub stays-ended : (p : ℕ → Bool) (i j : ℕ) → none p (i + 1) j ≡ false → none p (i + 1) (j + 1) ≡ false
 stays-ended p i j h = rw (any-step p (i + 1) j, not-false (any p (i + 1) j) h) refl
 
-starts-after : (t : Trace) (span : Stretch) (i : ℕ) → cycle_starts t span i ≡ true → span.start + 1 ≤ i
+starts-after : (t : Trace) (stretch : Stretch) (i : ℕ) → cycle_starts t stretch i ≡ true → stretch.start + 1 ≤ i
 unfolding cycle_starts
-starts-after t span i h = after_start span i (and_parts (is_judged span i) (falls t AS i) h).0
+starts-after t stretch i h = after_start stretch i (and_parts (is_judged stretch i) (falls t AS i) h).0
 
-starts-low : (t : Trace) (span : Stretch) (i : ℕ) → cycle_starts t span i ≡ true → low t AS i ≡ true
+starts-low : (t : Trace) (stretch : Stretch) (i : ℕ) → cycle_starts t stretch i ≡ true → low t AS i ≡ true
 unfolding cycle_starts
-starts-low t span i h = fall-low t AS i (and_parts (is_judged span i) (falls t AS i) h).1
+starts-low t stretch i h = fall-low t AS i (and_parts (is_judged stretch i) (falls t AS i) h).1
 
 -- where AS* falls each earlier cycle has ended
-all-ended : (t : Trace) (span : Stretch) (j : ℕ) (c : Cycle) → IsCycle t span j j c → falls t AS j ≡ true → (i : ℕ)
-    → cycle_starts t span i ≡ true → i < j → none (rises t AS) (i + 1) j ≡ false
-all-ended t span j c is here i start before = decide c.has_started (λ e. by_last (is.here e))
-    (λ e. absurd (clash (cycle_starts t span i) start (any-fails (cycle_starts t span) (span.start + 1) j i
-    (greatest-none-any (cycle_starts t span) (span.start + 1) j (is.absent e)) (starts-after t span i start) before)))
+all-ended : (t : Trace) (stretch : Stretch) (j : ℕ) (c : Cycle) → IsCycle t stretch j j c → falls t AS j ≡ true
+    → (i : ℕ)
+    → cycle_starts t stretch i ≡ true → i < j → none (rises t AS) (i + 1) j ≡ false
+all-ended t stretch j c is here i start before = decide c.has_started (λ e. by_last (is.here e))
+    (λ e. absurd (clash (cycle_starts t stretch i) start (any-fails (cycle_starts t stretch) (stretch.start + 1) j i
+    (greatest-none-any (cycle_starts t stretch) (stretch.start + 1) j (is.absent e)) (starts-after t stretch i start)
+    before)))
   where
-    by_last : IsLastCycle t span j j c → none (rises t AS) (i + 1) j ≡ false
+    by_last : IsLastCycle t stretch j j c → none (rises t AS) (i + 1) j ≡ false
     by_last w =
-        let found = greatest-found (cycle_starts t span) (span.start + 1) j c.start w.last in
+        let found = greatest-found (cycle_starts t stretch) (stretch.start + 1) j c.start w.last in
         let stopped : c.runs ≡ false = decide c.runs
         (λ e. absurd (clash (falls t AS j) here (low-no_fall t AS j (w.is_low e found.before)))) (λ e. e) in
         elim (order_of i c.start) [
           | inl earlier ↦ w.others i start earlier
           | inr (inl e) ↦ ap (λ k. none (rises t AS) (k + 1) j) e ∙ (sym w.runs ∙ stopped)
-          | inr (inr later) ↦ absurd (clash (cycle_starts t span i) start
-              (any-fails (cycle_starts t span) (c.start + 1) j i found.last (omega arith) before))
+          | inr (inr later) ↦ absurd (clash (cycle_starts t stretch i) start
+              (any-fails (cycle_starts t stretch) (c.start + 1) j i found.last (omega arith) before))
         ]
 
-module _ (t : Trace) (span : Stretch) (j : ℕ) (judged : is_judged span j ≡ true) where
-  pub cycle-starts-is : cycle_starts t span j ≡ falls t AS j
+module _ (t : Trace) (stretch : Stretch) (j : ℕ) (judged : is_judged stretch j ≡ true) where
+  pub cycle-starts-is : cycle_starts t stretch j ≡ falls t AS j
   unfolding cycle_starts
   cycle-starts-is = rw judged refl
 
   -- a cycle starts
-  pub cycle-here : (o : Cycle) → IsCycle t span j j o → falls t AS j ≡ true → (c : Cycle) → c.start ≡ j
-      → c.class ≡ class_at t span j → c.needs ≡ needs_of (levels_at t j) → c.runs ≡ true → c.answered ≡ false
-      → c.first_writes ≡ false → c.answered_again ≡ false → c.acknowledged ≡ false → IsLastCycle t span (j + 1) j c
+  pub cycle-here : (o : Cycle) → IsCycle t stretch j j o → falls t AS j ≡ true → (c : Cycle) → c.start ≡ j
+      → c.class ≡ class_at t stretch j → c.needs ≡ needs_of (levels_at t j) → c.runs ≡ true → c.answered ≡ false
+      → c.first_writes ≡ false → c.answered_again ≡ false → c.answered_by_dtack ≡ false
+      → IsLastCycle t stretch (j + 1) j c
   unfolding answers_of
-  cycle-here o was here c at class needs runs answered first again acknowledged =
-      let none_yet = ap (λ k. those (is_answer t span) k j) at ∙ those-empty (is_answer t span) j j (omega arith) in
+  cycle-here o was here c at class needs runs answered first again answered_by_dtack =
+      let none_yet = ap (λ k. those (is_answer t stretch) k j) at ∙ those-empty (is_answer t stretch) j j (omega arith)
+      in
       record {
-        last = greatest-here (cycle_starts t span) (span.start + 1) j (after_start span j judged)
+        last = greatest-here (cycle_starts t stretch) (stretch.start + 1) j (after_start stretch j judged)
             (cycle-starts-is ∙ here) ∙ ap (λ k. Some k) (sym at);
-        class = class ∙ sym (ap (class_at t span) at);
+        class = class ∙ sym (ap (class_at t stretch) at);
         needs = needs ∙ sym (ap (λ k. needs_of (levels_at t k)) at);
         runs = runs ∙ sym (ap (λ k. none (rises t AS) (k + 1) j) at
             ∙ ap not (any-start (rises t AS) (j + 1) j (omega arith)));
         is_low = λ on before. absurd (omega arith);
-        others = λ i start before. all-ended t span j o was here i start (omega arith);
+        others = λ i start before. all-ended t stretch j o was here i start (omega arith);
         answered = answered ∙ sym (ap has_earlier_answer none_yet);
-        first_writes = first ∙ sym (ap (writes_first t span) none_yet);
+        first_writes = first ∙ sym (ap (writes_first t stretch) none_yet);
         answered_again = again ∙ sym (ap is_many none_yet);
-        acknowledged = acknowledged ∙ sym (ap (λ k. is_acknowledged t span k j) at
-            ∙ any-start (λ r. is_answer t span r && falls t DTACK r) j j (omega arith));
+        answered_by_dtack = answered_by_dtack ∙ sym (ap (λ k. is_answered_by_dtack t stretch k j) at
+            ∙ any-start (λ r. is_answer t stretch r && falls t DTACK r) j j (omega arith));
       }
 
   -- no cycle starts
-  pub cycle-not : falls t AS j ≡ false → (c : Cycle) → IsCycle t span j j c → IsCycle t span (j + 1) j c
+  pub cycle-not : falls t AS j ≡ false → (c : Cycle) → IsCycle t stretch j j c → IsCycle t stretch (j + 1) j c
   cycle-not here c is =
-      let same = greatest-not (cycle_starts t span) (span.start + 1) j (cycle-starts-is ∙ here) in
+      let same = greatest-not (cycle_starts t stretch) (stretch.start + 1) j (cycle-starts-is ∙ here) in
       record {
         here = λ e. let w = is.here e in record {
           last = same ∙ w.last;
@@ -414,14 +422,14 @@ module _ (t : Trace) (span : Stretch) (j : ℕ) (judged : is_judged span j ≡ t
           answered = w.answered;
           first_writes = w.first_writes;
           answered_again = w.answered_again;
-          acknowledged = w.acknowledged;
+          answered_by_dtack = w.answered_by_dtack;
         };
         absent = λ e. same ∙ is.absent e;
       }
 
-  module _ (c : Cycle) (is : IsLastCycle t span (j + 1) j c) where
-    found-cycle : IsGreatest (cycle_starts t span) (span.start + 1) (j + 1) c.start
-    found-cycle = greatest-found (cycle_starts t span) (span.start + 1) (j + 1) c.start is.last
+  module _ (c : Cycle) (is : IsLastCycle t stretch (j + 1) j c) where
+    found-cycle : IsGreatest (cycle_starts t stretch) (stretch.start + 1) (j + 1) c.start
+    found-cycle = greatest-found (cycle_starts t stretch) (stretch.start + 1) (j + 1) c.start is.last
 
     pub cycle-within : c.start ≤ j
     cycle-within = let before = found-cycle.before in omega arith
@@ -434,7 +442,7 @@ module _ (t : Trace) (span : Stretch) (j : ℕ) (judged : is_judged span j ≡ t
         by_order (inl e) = ap not (any-start (rises t AS) (c.start + 1) (j + 1) (omega arith))
             ∙ (sym (is.runs ∙ ap not (any-start (rises t AS) (c.start + 1) j (omega arith)))
             ∙ (sym (and-true c.runs) ∙ ap (λ b. c.runs && not b) (sym (no-rise t AS j
-            (sym cycle-starts-is ∙ (ap (cycle_starts t span) (sym e) ∙ found-cycle.holds))))))
+            (sym cycle-starts-is ∙ (ap (cycle_starts t stretch) (sym e) ∙ found-cycle.holds))))))
         by_order (inr before) = none-step (rises t AS) (c.start + 1) j (omega arith)
             ∙ ap (λ b. b && not (rises t AS j)) (sym is.runs)
 
@@ -445,28 +453,28 @@ module _ (t : Trace) (span : Stretch) (j : ℕ) (judged : is_judged span j ≡ t
         parts = and_parts c.runs (not (rises t AS j)) on
 
         by_order : (c.start ≡ j) ⊎ (c.start < j) → low t AS j ≡ true
-        by_order (inl e) = starts-low t span j (ap (cycle_starts t span) (sym e) ∙ found-cycle.holds)
+        by_order (inl e) = starts-low t stretch j (ap (cycle_starts t stretch) (sym e) ∙ found-cycle.holds)
         by_order (inr before) = stays-low t AS j (is.is_low parts.0 before) (not-true (rises t AS j) parts.1) knows
 
-    answers-later : answers_of t span c.start (j + 1)
-        ≡ answers_of t span c.start j ++ (if is_answer t span j then j ∷ [] else [])
-    answers-later = answers-step t span c.start j cycle-within
+    answers-later : answers_of t stretch c.start (j + 1)
+        ≡ answers_of t stretch c.start j ++ (if is_answer t stretch j then j ∷ [] else [])
+    answers-later = answers-step t stretch c.start j cycle-within
 
-    acknowledged-step : is_acknowledged t span c.start (j + 1)
-        ≡ (is_acknowledged t span c.start j || (is_answer t span j && falls t DTACK j))
-    acknowledged-step = any-step (λ r. is_answer t span r && falls t DTACK r) c.start j
+    answered_by_dtack-step : is_answered_by_dtack t stretch c.start (j + 1)
+        ≡ (is_answered_by_dtack t stretch c.start j || (is_answer t stretch j && falls t DTACK j))
+    answered_by_dtack-step = any-step (λ r. is_answer t stretch r && falls t DTACK r) c.start j
         ∙ rw (le-leb c.start j cycle-within) refl
 
-    later-last : known t AS j ≡ true → IsLastCycle t span (j + 1) (j + 1) (record c {
+    later-last : known t AS j ≡ true → IsLastCycle t stretch (j + 1) (j + 1) (record c {
       runs = c.runs && not (rises t AS j);
-      answered = c.answered || is_answer t span j;
-      first_writes = c.first_writes || (is_answer t span j && not c.answered && answers_write t span j);
-      answered_again = c.answered_again || (is_answer t span j && c.answered);
-      acknowledged = c.acknowledged || (is_answer t span j && falls t DTACK j);
+      answered = c.answered || is_answer t stretch j;
+      first_writes = c.first_writes || (is_answer t stretch j && not c.answered && answers_write t stretch j);
+      answered_again = c.answered_again || (is_answer t stretch j && c.answered);
+      answered_by_dtack = c.answered_by_dtack || (is_answer t stretch j && falls t DTACK j);
     })
     later-last knows =
-        let rs = answers_of t span c.start j in
-        let an = is_answer t span j in
+        let rs = answers_of t stretch c.start j in
+        let an = is_answer t stretch j in
         let back : j + 1 - 1 ≡ j = omega arith in
         record {
           last = is.last;
@@ -476,23 +484,23 @@ module _ (t : Trace) (span : Stretch) (j : ℕ) (judged : is_judged span j ≡ t
           is_low = λ on before. ap (low t AS) back ∙ low-now knows on;
           others = λ i start before. stays-ended (rises t AS) i j (is.others i start before);
           answered = ap (λ b. b || an) is.answered ∙ sym (ap has_earlier_answer answers-later ∙ later-with rs j an);
-          first_writes = ap (λ b. b || (an && not c.answered && answers_write t span j)) is.first_writes
-              ∙ (ap (λ b. writes_first t span rs || (an && not b && answers_write t span j)) is.answered
-              ∙ sym (ap (writes_first t span) answers-later ∙ first-with t span rs j an));
+          first_writes = ap (λ b. b || (an && not c.answered && answers_write t stretch j)) is.first_writes
+              ∙ (ap (λ b. writes_first t stretch rs || (an && not b && answers_write t stretch j)) is.answered
+              ∙ sym (ap (writes_first t stretch) answers-later ∙ first-with t stretch rs j an));
           answered_again = ap (λ b. b || (an && c.answered)) is.answered_again
               ∙ (ap (λ b. is_many rs || (an && b)) is.answered ∙ sym (ap is_many answers-later ∙ many-with rs j an));
-          acknowledged = ap (λ b. b || (an && falls t DTACK j)) is.acknowledged ∙ sym acknowledged-step;
+          answered_by_dtack = ap (λ b. b || (an && falls t DTACK j)) is.answered_by_dtack ∙ sym answered_by_dtack-step;
         }
 
   -- one instant later
-  pub cycle-later : known t AS j ≡ true → (c : Cycle) → IsCycle t span (j + 1) j c → (ri an wr fa : Bool)
-      → ri ≡ rises t AS j → an ≡ is_answer t span j → wr ≡ answers_write t span j → fa ≡ falls t DTACK j
-      → IsCycle t span (j + 1) (j + 1) (record c {
+  pub cycle-later : known t AS j ≡ true → (c : Cycle) → IsCycle t stretch (j + 1) j c → (ri an wr fa : Bool)
+      → ri ≡ rises t AS j → an ≡ is_answer t stretch j → wr ≡ answers_write t stretch j → fa ≡ falls t DTACK j
+      → IsCycle t stretch (j + 1) (j + 1) (record c {
         runs = c.runs && not ri;
         answered = c.answered || an;
         first_writes = c.first_writes || (an && not c.answered && wr);
         answered_again = c.answered_again || (an && c.answered);
-        acknowledged = c.acknowledged || (an && fa);
+        answered_by_dtack = c.answered_by_dtack || (an && fa);
       })
   cycle-later knows c is ri an wr fa r a w f =
       rw (r, a, w, f) (record { here = λ e. later-last c (is.here e) knows; absent = λ e. is.absent e })
@@ -502,110 +510,114 @@ pub ruleset cycles = (cycle-here, cycle-not, cycle-later, address-known)
 
 -- ---- Whether `q` held since `p` last did: the fields that rules H6, G5 and B2 ask for.
 
-module _ (t : Trace) (span : Stretch) (p q : ℕ → Bool) (j : ℕ) (judged : is_judged span j ≡ true) where
-  last-here : p j ≡ true → last_before t span p (j + 1) ≡ j
+module _ (t : Trace) (stretch : Stretch) (p q : ℕ → Bool) (j : ℕ) (judged : is_judged stretch j ≡ true) where
+  last-here : p j ≡ true → last_before t stretch p (j + 1) ≡ j
   unfolding last_before
-  last-here here = ap (λ o. unwrap_or o span.start)
-      (greatest-here p (span.start + 1) j (after_start span j judged) here)
+  last-here here = ap (λ o. unwrap_or o stretch.start)
+      (greatest-here p (stretch.start + 1) j (after_start stretch j judged) here)
 
-  last-not : p j ≡ false → last_before t span p (j + 1) ≡ last_before t span p j
+  last-not : p j ≡ false → last_before t stretch p (j + 1) ≡ last_before t stretch p j
   unfolding last_before
-  last-not here = ap (λ o. unwrap_or o span.start) (greatest-not p (span.start + 1) j here)
+  last-not here = ap (λ o. unwrap_or o stretch.start) (greatest-not p (stretch.start + 1) j here)
 
   -- the last instant with `p`, or else the start of the stretch, is before `j`
-  last-within : last_before t span p j + 1 ≤ j
+  last-within : last_before t stretch p j + 1 ≤ j
   unfolding last_before
-  last-within = case_of (greatest p (span.start + 1) j) (λ e. rw e (after_start span j judged))
-      (λ i e. let found = (greatest-found p (span.start + 1) j i e).before in rw e (omega arith))
+  last-within = case_of (greatest p (stretch.start + 1) j) (λ e. rw e (after_start stretch j judged))
+      (λ i e. let found = (greatest-found p (stretch.start + 1) j i e).before in rw e (omega arith))
 
   -- what a rule asks up to `j`, by the field and by what happens at `j`
-  pub since-asks : any q (last_before t span p j) (j + 1) ≡ (any q (last_before t span p j) j || q j)
-  since-asks = any-step q (last_before t span p j) j
-      ∙ rw (le-leb (last_before t span p j) j (omega (arith, last-within))) refl
+  pub since-asks : any q (last_before t stretch p j) (j + 1) ≡ (any q (last_before t stretch p j) j || q j)
+  since-asks = any-step q (last_before t stretch p j) j
+      ∙ rw (le-leb (last_before t stretch p j) j (omega (arith, last-within))) refl
 
-  pub since-later-asks : any q (last_before t span p j + 1) (j + 1) ≡ (any q (last_before t span p j + 1) j || q j)
-  since-later-asks = any-step q (last_before t span p j + 1) j
-      ∙ rw (le-leb (last_before t span p j + 1) j last-within) refl
+  pub since-later-asks : any q (last_before t stretch p j + 1) (j + 1)
+      ≡ (any q (last_before t stretch p j + 1) j || q j)
+  since-later-asks = any-step q (last_before t stretch p j + 1) j
+      ∙ rw (le-leb (last_before t stretch p j + 1) j last-within) refl
 
   -- the field one instant later
-  pub since-step : {a b c : Bool} → a ≡ any q (last_before t span p j) j → b ≡ p j → c ≡ q j
-      → ((a && not b) || c) ≡ any q (last_before t span p (j + 1)) (j + 1)
+  pub since-step : {a b c : Bool} → a ≡ any q (last_before t stretch p j) j → b ≡ p j → c ≡ q j
+      → ((a && not b) || c) ≡ any q (last_before t stretch p (j + 1)) (j + 1)
   since-step e f g = rw (e, f, g) (decide (p j) (λ e. rw (last-here e, e, here_only, and-false) refl)
       (λ e. rw (last-not e, e, since-asks, and-true) refl))
     where
       here_only : any q j (j + 1) ≡ q j
       here_only = any-step q j j ∙ rw (any-start q j j (omega arith), le-leb j j (omega arith)) refl
 
-  pub since-later-step : {a b c : Bool} → a ≡ any q (last_before t span p j + 1) j → b ≡ p j → c ≡ q j
-      → ((a || c) && not b) ≡ any q (last_before t span p (j + 1) + 1) (j + 1)
+  pub since-later-step : {a b c : Bool} → a ≡ any q (last_before t stretch p j + 1) j → b ≡ p j → c ≡ q j
+      → ((a || c) && not b) ≡ any q (last_before t stretch p (j + 1) + 1) (j + 1)
   since-later-step e f g = rw (e, f, g) (decide (p j)
       (λ e. rw (last-here e, e, and-false) (sym (any-start q (j + 1) (j + 1) (omega arith))))
       (λ e. rw (last-not e, e, and-true) (sym since-later-asks)))
 
 -- the fields after the start of a stretch
-module _ (t : Trace) (span : Stretch) (p q : ℕ → Bool) where
-  last-start : last_before t span p (span.start + 1) ≡ span.start
+module _ (t : Trace) (stretch : Stretch) (p q : ℕ → Bool) where
+  last-start : last_before t stretch p (stretch.start + 1) ≡ stretch.start
   unfolding last_before
-  last-start = ap (λ o. unwrap_or o span.start) (greatest-empty p (span.start + 1) (span.start + 1) (omega arith))
+  last-start = ap (λ o. unwrap_or o stretch.start) (greatest-empty p (stretch.start + 1) (stretch.start + 1)
+      (omega arith))
 
-  pub since-start : any q (last_before t span p (span.start + 1)) (span.start + 1) ≡ q span.start
-  since-start = ap (λ k. any q k (span.start + 1)) last-start
-      ∙ (any-step q span.start span.start
-      ∙ rw (any-start q span.start span.start (omega arith), le-leb span.start span.start (omega arith)) refl)
+  pub since-start : any q (last_before t stretch p (stretch.start + 1)) (stretch.start + 1) ≡ q stretch.start
+  since-start = ap (λ k. any q k (stretch.start + 1)) last-start
+      ∙ (any-step q stretch.start stretch.start
+      ∙ rw (any-start q stretch.start stretch.start (omega arith), le-leb stretch.start stretch.start (omega arith))
+      refl)
 
-  pub since-later-start : any q (last_before t span p (span.start + 1) + 1) (span.start + 1) ≡ false
-  since-later-start = ap (λ k. any q (k + 1) (span.start + 1)) last-start
-      ∙ any-start q (span.start + 1) (span.start + 1) (omega arith)
+  pub since-later-start : any q (last_before t stretch p (stretch.start + 1) + 1) (stretch.start + 1) ≡ false
+  since-later-start = ap (λ k. any q (k + 1) (stretch.start + 1)) last-start
+      ∙ any-start q (stretch.start + 1) (stretch.start + 1) (omega arith)
 
-module _ (t : Trace) (span : Stretch) (j : ℕ) (judged : is_judged span j ≡ true) where
-  module _ (c : Transfer) (is : IsTransfer t span (j + 1) j c) where
+module _ (t : Trace) (stretch : Stretch) (j : ℕ) (judged : is_judged stretch j ≡ true) where
+  module _ (c : Transfer) (is : IsTransfer t stretch (j + 1) j c) where
     -- a condition on the open transfer, which is false if none is open, is that condition on the transfer of the
     -- instant
-    ask : (x : Bool) (p : ℕ → Bool) → (IsOpenTransfer t span (j + 1) j c → x ≡ p c.start)
-        → (c.is_open && x) ≡ in_transfer t span p j
+    ask : (x : Bool) (p : ℕ → Bool) → (IsOpenTransfer t stretch (j + 1) j c → x ≡ p c.start)
+        → (c.is_open && x) ≡ in_transfer t stretch p j
     ask x p here = decide c.is_open
-        (λ e. let w = is.here e in rw e (here w ∙ sym (in-last t span j judged c.start w.last p w.still)))
-        (λ e. rw e (sym (in-none t span j judged p (is.absent e))))
+        (λ e. let w = is.here e in rw e (here w ∙ sym (in-last t stretch j judged c.start w.last p w.still)))
+        (λ e. rw e (sym (in-none t stretch j judged p (is.absent e))))
 
-    answered-by : IsOpenTransfer t span (j + 1) j c
-        → (c.answered || answer_falls t j) ≡ is_answered t span c.start (j + 1)
+    answered-by : IsOpenTransfer t stretch (j + 1) j c
+        → (c.answered || answer_falls t j) ≡ is_answered t stretch c.start (j + 1)
     answered-by w =
-        ap (λ b. b || answer_falls t j) w.answered ∙ sym (answered-step t span j c.start judged w.last w.still)
+        ap (λ b. b || answer_falls t j) w.answered ∙ sym (answered-step t stretch j c.start judged w.last w.still)
 
-    answers-here : IsOpenTransfer t span (j + 1) j c → (answer_falls t j && not c.answered) ≡ answers t span c.start j
+    answers-here : IsOpenTransfer t stretch (j + 1) j c → (answer_falls t j && not c.answered)
+        ≡ answers t stretch c.start j
     answers-here w =
-        ap (λ b. answer_falls t j && not b) w.answered ∙ sym (answers-is t span j c.start judged w.last w.still)
+        ap (λ b. answer_falls t j && not b) w.answered ∙ sym (answers-is t stretch j c.start judged w.last w.still)
 
-    pub has-is : c.is_open ≡ in_transfer t span (λ i. true) j
+    pub has-is : c.is_open ≡ in_transfer t stretch (λ i. true) j
     has-is = sym (and-true c.is_open) ∙ ask true (λ i. true) (λ w. refl)
 
-    pub answer-is : (c.is_open && (answer_falls t j && not c.answered)) ≡ is_answer t span j
+    pub answer-is : (c.is_open && (answer_falls t j && not c.answered)) ≡ is_answer t stretch j
     unfolding is_answer
-    answer-is = ask (answer_falls t j && not c.answered) (λ i. answers t span i j) (λ w. answers-here w)
+    answer-is = ask (answer_falls t j && not c.answered) (λ i. answers t stretch i j) (λ w. answers-here w)
 
-    pub write-is : (is_answer t span j && c.is_write) ≡ answers_write t span j
+    pub write-is : (is_answer t stretch j && c.is_write) ≡ answers_write t stretch j
     unfolding answers_write
     write-is =
         ap (λ b. b && c.is_write) (sym answer-is) ∙ (and_assoc c.is_open (answer_falls t j && not c.answered) c.is_write
-        ∙ ask ((answer_falls t j && not c.answered) && c.is_write) (λ i. answers t span i j && is_write t span i)
-        (λ w. ap (λ b. b && c.is_write) (answers-here w) ∙ ap (λ b. answers t span c.start j && b) w.direction))
+        ∙ ask ((answer_falls t j && not c.answered) && c.is_write) (λ i. answers t stretch i j && is_write t stretch i)
+        (λ w. ap (λ b. b && c.is_write) (answers-here w) ∙ ap (λ b. answers t stretch c.start j && b) w.direction))
 
     pub unanswered-is : (c.is_open && (nat_lt c.start j && not (c.answered || answer_falls t j)))
-        ≡ is_unanswered t span j
+        ≡ is_unanswered t stretch j
     unanswered-is = ask (nat_lt c.start j && not (c.answered || answer_falls t j)) _
         (λ w. ap (λ b. nat_lt c.start j && not b) (answered-by w))
 
     pub was-answered-is : (c.is_open && (nat_lt c.start j && c.answered))
-        ≡ in_transfer t span (λ i. nat_lt i j && is_answered t span i j) j
+        ≡ in_transfer t stretch (λ i. nat_lt i j && is_answered t stretch i j) j
     was-answered-is = ask (nat_lt c.start j && c.answered) _ (λ w. ap (λ b. nat_lt c.start j && b) w.answered)
 
     pub twice-is : (c.is_open && (c.answered || (falls t DTACK j && falls t BERR j)))
-        ≡ in_transfer t span
-        (λ i. is_answered t span i j || (answers t span i j && falls t DTACK j && falls t BERR j)) j
+        ≡ in_transfer t stretch
+        (λ i. is_answered t stretch i j || (answers t stretch i j && falls t DTACK j && falls t BERR j)) j
     twice-is = ask (c.answered || (falls t DTACK j && falls t BERR j)) _
         (λ w. by_values c.answered (falls t DTACK j) (falls t BERR j)
         ∙ (ap (λ b. c.answered || (b && falls t DTACK j && falls t BERR j)) (answers-here w)
-        ∙ ap (λ b. b || (answers t span c.start j && falls t DTACK j && falls t BERR j)) w.answered))
+        ∙ ap (λ b. b || (answers t stretch c.start j && falls t DTACK j && falls t BERR j)) w.answered))
       where
         by_values : (a d b : Bool) → (a || (d && b)) ≡ (a || (((d || b) && not a) && d && b))
         by_values true d b = refl
@@ -615,65 +627,68 @@ module _ (t : Trace) (span : Stretch) (j : ℕ) (judged : is_judged span j ≡ t
         by_values false false false = refl
 
     pub open-write-is : (c.is_open && (c.is_write && not c.answered))
-        ≡ in_transfer t span (λ i. is_write t span i && not (is_answered t span i j)) j
+        ≡ in_transfer t stretch (λ i. is_write t stretch i && not (is_answered t stretch i j)) j
     open-write-is = ask (c.is_write && not c.answered) _ (λ w. rw (w.direction, w.answered) refl)
 
-    pub data-is : (r : Bool) → (IsOpenTransfer t span (j + 1) j c → r ≡ any (strobe_rises t) (c.start + 1) (j + 1))
+    pub data-is : (r : Bool) → (IsOpenTransfer t stretch (j + 1) j c → r ≡ any (strobe_rises t) (c.start + 1) (j + 1))
         → (c.is_open && (nat_lt c.start j && c.is_write && not (c.answered || answer_falls t j) && not r))
-        ≡ is_data_held t span j
+        ≡ is_data_held t stretch j
     data-is r rose = ask (nat_lt c.start j && c.is_write && not (c.answered || answer_falls t j) && not r) _
         (λ w. rw (w.direction, answered-by w, rose w) refl)
 
-  module _ (c : Cycle) (is : IsCycle t span (j + 1) j c) where
+  module _ (c : Cycle) (is : IsCycle t stretch (j + 1) j c) where
     -- a condition on the last cycle, which is false if none has started, is that condition on the cycle of the instant
-    ask-cycle : (x : Bool) (p : ℕ → Bool) → (IsLastCycle t span (j + 1) j c → x ≡ p c.start)
-        → (c.has_started && x) ≡ in_cycle t span p j
+    ask-cycle : (x : Bool) (p : ℕ → Bool) → (IsLastCycle t stretch (j + 1) j c → x ≡ p c.start)
+        → (c.has_started && x) ≡ in_cycle t stretch p j
     unfolding in_cycle cycle_of
     ask-cycle x p here = decide c.has_started (λ e. rw (e, (is.here e).last) (here (is.here e)))
         (λ e. rw (e, is.absent e) refl)
 
-    pub breaks_read_modify_write-cycle-is : (w : Bool) → w ≡ answers_write t span j
+    pub breaks_read_modify_write-cycle-is : (w : Bool) → w ≡ answers_write t stretch j
         → (c.has_started && (is_single c.class && (c.answered && (c.answered_again || c.first_writes || not w))))
-        ≡ in_cycle t span (λ i. is_single (class_at t span i) && breaks_read_modify_write t span (answers_of t span i j)
+        ≡ in_cycle t stretch (λ i. is_single (class_at t stretch i)
+        && breaks_read_modify_write t stretch (answers_of t stretch i j)
         j) j
     breaks_read_modify_write-cycle-is w e =
         ask-cycle (is_single c.class && (c.answered && (c.answered_again || c.first_writes || not w))) _
         (λ k. rw (k.class, k.answered, k.answered_again, k.first_writes, e)
-        (ap (λ b. is_single (class_at t span c.start) && b)
-        (breaks_read_modify_write-is t span (answers_of t span c.start j) j)))
+        (ap (λ b. is_single (class_at t stretch c.start) && b)
+        (breaks_read_modify_write-is t stretch (answers_of t stretch c.start j) j)))
 
-    pub changes_direction-cycle-is : (w : Bool) → w ≡ answers_write t span j
+    pub changes_direction-cycle-is : (w : Bool) → w ≡ answers_write t stretch j
         → (c.has_started && (is_block_class c.class && (c.answered && not (beq c.first_writes w))))
-        ≡ in_cycle t span (λ i. is_block_class (class_at t span i) && changes_direction t span (answers_of t span i j)
+        ≡ in_cycle t stretch (λ i. is_block_class (class_at t stretch i)
+        && changes_direction t stretch (answers_of t stretch i j)
         j) j
     changes_direction-cycle-is w e = ask-cycle (is_block_class c.class && (c.answered && not (beq c.first_writes w))) _
         (λ k. rw (k.class, k.answered, k.first_writes, e)
-        (ap (λ b. is_block_class (class_at t span c.start) && b)
-        (changes_direction-is t span (answers_of t span c.start j) j)))
+        (ap (λ b. is_block_class (class_at t stretch c.start) && b)
+        (changes_direction-is t stretch (answers_of t stretch c.start j) j)))
 
-    pub interrupt-is : (c.has_started && is_interrupt c.class) ≡ in_cycle t span
-        (λ i. is_interrupt (class_at t span i)) j
+    pub interrupt-is : (c.has_started && is_interrupt c.class) ≡ in_cycle t stretch
+        (λ i. is_interrupt (class_at t stretch i)) j
     interrupt-is = ask-cycle (is_interrupt c.class) _ (λ k. ap is_interrupt k.class)
 
     pub answered-interrupt-is : (c.has_started && (is_interrupt c.class && c.answered))
-        ≡ in_cycle t span (λ i. is_interrupt (class_at t span i) && has_earlier_answer (answers_of t span i j)) j
+        ≡ in_cycle t stretch (λ i. is_interrupt (class_at t stretch i) && has_earlier_answer (answers_of t stretch i j))
+        j
     answered-interrupt-is = ask-cycle (is_interrupt c.class && c.answered) _ (λ k. rw (k.class, k.answered) refl)
 
     -- the cycle of the instant is that of the instant before, if none starts here
-    before-is : falls t AS j ≡ false → (p : ℕ → Bool) → in_cycle t span p j ≡ in_cycle t span p (j - 1)
+    before-is : falls t AS j ≡ false → (p : ℕ → Bool) → in_cycle t stretch p j ≡ in_cycle t stretch p (j - 1)
     unfolding in_cycle cycle_of
     before-is still p =
-        let some = later span j judged in
+        let some = later stretch j judged in
         let back : j ≡ j - 1 + 1 = omega arith in
         ap (λ o. option_map_or p o false)
-        (greatest-not (cycle_starts t span) (span.start + 1) j (cycle-starts-is t span j judged ∙ still)
-        ∙ ap (greatest (cycle_starts t span) (span.start + 1)) back)
+        (greatest-not (cycle_starts t stretch) (stretch.start + 1) j (cycle-starts-is t stretch j judged ∙ still)
+        ∙ ap (greatest (cycle_starts t stretch) (stretch.start + 1)) back)
 
-    pub acknowledged-is : falls t AS j ≡ false → (c.has_started && c.acknowledged)
-        ≡ in_cycle t span (λ i. is_acknowledged t span i j) (j - 1)
-    acknowledged-is still =
-        ask-cycle c.acknowledged (λ i. is_acknowledged t span i j) (λ k. k.acknowledged)
-        ∙ before-is still (λ i. is_acknowledged t span i j)
+    pub answered_by_dtack-is : falls t AS j ≡ false → (c.has_started && c.answered_by_dtack)
+        ≡ in_cycle t stretch (λ i. is_answered_by_dtack t stretch i j) (j - 1)
+    answered_by_dtack-is still =
+        ask-cycle c.answered_by_dtack (λ i. is_answered_by_dtack t stretch i j) (λ k. k.answered_by_dtack)
+        ∙ before-is still (λ i. is_answered_by_dtack t stretch i j)
 
 -- for the goals of the questions that the state answers
 pub ruleset questions = (answer-is, write-is, unanswered-is, data-is)
@@ -714,23 +729,23 @@ module _ (t : Trace) (start : ℕ) where
   unfolding is_needed
   needed-at needs l e = ap (λ (n : Needs). is_within n l) e
 
-module _ (t : Trace) (span : Stretch) (is : IsSpanOf t span) where
+module _ (t : Trace) (stretch : Stretch) (is : IsStretchOf t stretch) where
   -- from the start of a transfer to where both strobes are high, one rises
-  strobe-rose : (i k : ℕ) → transfer_starts t span i ≡ true → i < k → k < span.end → strobes_high t k ≡ true
+  strobe-rose : (i k : ℕ) → transfer_starts t stretch i ≡ true → i < k → k < stretch.end → strobes_high t k ≡ true
       → any (strobe_rises t) (i + 1) (k + 1) ≡ true
   unfolding transfer_starts low high
   strobe-rose i k start before end high_there = decide (any (strobe_rises t) (i + 1) (k + 1)) (λ e. e) (λ none. absurd
       (high-and-low (level t DS0 k) (level t DS1 k) high_there
       (by_low (low t DS0 i) (low t DS1 i) parts.1 refl refl (quiet none))))
     where
-      reads : ReadsStrobes t span
-      reads = span_reads t span is
+      reads : ReadsStrobes t stretch
+      reads = stretch_reads t stretch is
 
-      parts : ((is_judged span i && strobes_high t (i - 1)) ≡ true) × ((low t DS0 i || low t DS1 i) ≡ true)
-      parts = and_parts (is_judged span i && strobes_high t (i - 1)) (low t DS0 i || low t DS1 i) start
+      parts : ((is_judged stretch i && strobes_high t (i - 1)) ≡ true) × ((low t DS0 i || low t DS1 i) ≡ true)
+      parts = and_parts (is_judged stretch i && strobes_high t (i - 1)) (low t DS0 i || low t DS1 i) start
 
-      from : span.start + 1 ≤ i
-      from = after_start span i (and_parts (is_judged span i) (strobes_high t (i - 1)) parts.0).0
+      from : stretch.start + 1 ≤ i
+      from = after_start stretch i (and_parts (is_judged stretch i) (strobes_high t (i - 1)) parts.0).0
 
       quiet : any (strobe_rises t) (i + 1) (k + 1) ≡ false → (r : ℕ) → i < r → r ≤ k
           → (rises t DS0 r ≡ false) × (rises t DS1 r ≡ false)
@@ -747,16 +762,17 @@ module _ (t : Trace) (span : Stretch) (is : IsSpanOf t span) where
           (or-true (low t DS0 k))
       by_low false false h e f still = absurd (cc)
 
-  module _ (j : ℕ) (judged : is_judged span j ≡ true) where
-    before_end : j < span.end
-    before_end = ltb-true j span.end (and_parts (nat_lt span.start j) (nat_lt j span.end) judged).1
+  module _ (j : ℕ) (judged : is_judged stretch j ≡ true) where
+    before_end : j < stretch.end
+    before_end = ltb-true j stretch.end (and_parts (nat_lt stretch.start j) (nat_lt j stretch.end) judged).1
 
     -- ---- the direction of a transfer
     abbrev directs : ℕ → Bool
-    directs i = transfer_starts t span i && none (strobe_rises t) (i + 1) (j + 1)
+    directs i = transfer_starts t stretch i && none (strobe_rises t) (i + 1) (j + 1)
 
     -- a transfer doesn't hold the direction if both strobes were high since its start
-    closed-not : (i : ℕ) → any (strobes_high t) (i + 1) j ≡ true → transfer_starts t span i ≡ true → directs i ≡ false
+    closed-not : (i : ℕ) → any (strobes_high t) (i + 1) j ≡ true → transfer_starts t stretch i ≡ true → directs i
+        ≡ false
     closed-not i closed start =
         let some = any-least (strobes_high t) (i + 1) j closed in
         let found = least-found (strobes_high t) (i + 1) j some.0 some.1 in
@@ -768,23 +784,23 @@ module _ (t : Trace) (span : Stretch) (is : IsSpanOf t span) where
           start,
         ) refl
 
-    direction-none : AreClosed t span (j + 1) j → any directs (span.start + 1) j ≡ false
-    direction-none closed = fails-any directs (span.start + 1) j
-        (λ i a b. unless (transfer_starts t span i) _ (λ e. closed-not i (closed i (omega arith) e) e))
+    direction-none : AreClosed t stretch (j + 1) j → any directs (stretch.start + 1) j ≡ false
+    direction-none closed = fails-any directs (stretch.start + 1) j
+        (λ i a b. unless (transfer_starts t stretch i) _ (λ e. closed-not i (closed i (omega arith) e) e))
 
-    direction-last : (c : Transfer) → IsOpenTransfer t span (j + 1) j c
-        → any directs (span.start + 1) j ≡ (nat_lt c.start j && none (strobe_rises t) (c.start + 1) (j + 1))
+    direction-last : (c : Transfer) → IsOpenTransfer t stretch (j + 1) j c
+        → any directs (stretch.start + 1) j ≡ (nat_lt c.start j && none (strobe_rises t) (c.start + 1) (j + 1))
     direction-last c h =
-        let found = greatest-found (transfer_starts t span) (span.start + 1) (j + 1) c.start h.last in
+        let found = greatest-found (transfer_starts t stretch) (stretch.start + 1) (j + 1) c.start h.last in
         let within = found.before in
-        only-last (transfer_starts t span) directs (span.start + 1) j c.start found (λ i e. rw e refl)
+        only-last (transfer_starts t stretch) directs (stretch.start + 1) j c.start found (λ i e. rw e refl)
         (λ i before e. closed-not i (longer (strobes_high t) (i + 1) c.start j (omega arith)
-        (high-between t span i c.start before e found.holds)) e)
+        (high-between t stretch i c.start before e found.holds)) e)
         ∙ ap (λ b. nat_lt c.start j && (b && none (strobe_rises t) (c.start + 1) (j + 1))) found.holds
 
-    pub direction-is : (c : Transfer) → IsTransfer t span (j + 1) j c → (r : Bool)
-        → (IsOpenTransfer t span (j + 1) j c → r ≡ any (strobe_rises t) (c.start + 1) (j + 1))
-        → (c.is_open && nat_lt c.start j && not r) ≡ any directs (span.start + 1) j
+    pub direction-is : (c : Transfer) → IsTransfer t stretch (j + 1) j c → (r : Bool)
+        → (IsOpenTransfer t stretch (j + 1) j c → r ≡ any (strobe_rises t) (c.start + 1) (j + 1))
+        → (c.is_open && nat_lt c.start j && not r) ≡ any directs (stretch.start + 1) j
     direction-is c is r rose = decide c.is_open
         (λ e. rw e (ap (λ b. nat_lt c.start j && not b) (rose (is.here e)) ∙ sym (direction-last c (is.here e))))
         (λ e. rw e (sym (direction-none (is.absent e))))
@@ -792,33 +808,36 @@ module _ (t : Trace) (span : Stretch) (is : IsSpanOf t span) where
     -- ---- a line that a cycle needs
     module _ (l : ℕ) where
       abbrev needs : ℕ → Bool
-      needs i = cycle_starts t span i && cycle_runs t span i j && none (is_answer t span) i (j + 1) && is_needed
+      needs i = cycle_starts t stretch i && cycle_runs t stretch i j && none (is_answer t stretch) i (j + 1)
+          && is_needed
           (levels_at t i) l
 
-      not-there : (i : ℕ) → cycle_starts t span i ≡ false → needs i ≡ false
+      not-there : (i : ℕ) → cycle_starts t stretch i ≡ false → needs i ≡ false
       not-there i h = rw h refl
 
       ended : (i : ℕ) → none (rises t AS) (i + 1) j ≡ false → needs i ≡ false
       unfolding cycle_runs
-      ended i h = rw (stays-ended (rises t AS) i j h) (off (cycle_starts t span i))
+      ended i h = rw (stays-ended (rises t AS) i j h) (off (cycle_starts t stretch i))
         where
-          off : (a : Bool) → (a && false && none (is_answer t span) i (j + 1) && is_needed (levels_at t i) l) ≡ false
+          off : (a : Bool) → (a && false && none (is_answer t stretch) i (j + 1) && is_needed (levels_at t i) l) ≡ false
           off true = refl
           off false = refl
 
-      held-none : greatest (cycle_starts t span) (span.start + 1) (j + 1) ≡ None → any needs (span.start + 1) j ≡ false
-      held-none nowhere = fails-any needs (span.start + 1) j
+      held-none : greatest (cycle_starts t stretch) (stretch.start + 1) (j + 1) ≡ None → any needs (stretch.start + 1) j
+          ≡ false
+      held-none nowhere = fails-any needs (stretch.start + 1) j
           (λ i a b. not-there i
-          (any-fails (cycle_starts t span) (span.start + 1) (j + 1) i (greatest-none-any _ _ _ nowhere) a
+          (any-fails (cycle_starts t stretch) (stretch.start + 1) (j + 1) i (greatest-none-any _ _ _ nowhere) a
           (omega arith)))
 
-      held-last : (c : Cycle) → IsLastCycle t span (j + 1) j c
-          → any needs (span.start + 1) j ≡
-          (nat_lt c.start j && (c.runs && not (rises t AS j)) && not (has_earlier_answer (answers_of t span c.start j))
-          && not (is_answer t span j) && is_needed (levels_at t c.start) l)
+      held-last : (c : Cycle) → IsLastCycle t stretch (j + 1) j c
+          → any needs (stretch.start + 1) j ≡
+          (nat_lt c.start j && (c.runs && not (rises t AS j)) && not
+          (has_earlier_answer (answers_of t stretch c.start j))
+          && not (is_answer t stretch j) && is_needed (levels_at t c.start) l)
       unfolding answers_of cycle_runs
       held-last c h =
-          only-last (cycle_starts t span) needs (span.start + 1) j c.start found (λ i e. not-there i e)
+          only-last (cycle_starts t stretch) needs (stretch.start + 1) j c.start found (λ i e. not-there i e)
           (λ i before e. ended i (h.others i e before))
           ∙ (ap (λ b. nat_lt c.start j && b) step ∙ grouped (nat_lt c.start j) _ _ _ _)
         where
@@ -826,35 +845,35 @@ module _ (t : Trace) (span : Stretch) (is : IsSpanOf t span) where
           grouped true a b x y = refl
           grouped false a b x y = refl
 
-          found : IsGreatest (cycle_starts t span) (span.start + 1) (j + 1) c.start
-          found = greatest-found (cycle_starts t span) (span.start + 1) (j + 1) c.start h.last
+          found : IsGreatest (cycle_starts t stretch) (stretch.start + 1) (j + 1) c.start
+          found = greatest-found (cycle_starts t stretch) (stretch.start + 1) (j + 1) c.start h.last
 
-          unanswered : none (is_answer t span) c.start (j + 1) ≡
-              (not (has_earlier_answer (answers_of t span c.start j)) && not (is_answer t span j))
+          unanswered : none (is_answer t stretch) c.start (j + 1) ≡
+              (not (has_earlier_answer (answers_of t stretch c.start j)) && not (is_answer t stretch j))
           unanswered = rw (
-            any-step (is_answer t span) c.start j,
-            le-leb c.start j (cycle-within t span j judged c h),
+            any-step (is_answer t stretch) c.start j,
+            le-leb c.start j (cycle-within t stretch j judged c h),
             any-later
-                (is_answer t span) c.start j,
+                (is_answer t stretch) c.start j,
           )
-              (not_or (has_earlier_answer (those (is_answer t span) c.start j)) (is_answer t span j))
+              (not_or (has_earlier_answer (those (is_answer t stretch) c.start j)) (is_answer t stretch j))
 
           step : needs c.start ≡
-              ((c.runs && not (rises t AS j)) && not (has_earlier_answer (answers_of t span c.start j)) && not
-              (is_answer t span j) && is_needed (levels_at t c.start) l)
-          step = rw (found.holds, unanswered, runs-on t span j judged c h)
-              (regroup (c.runs && not (rises t AS j)) (not (has_earlier_answer (answers_of t span c.start j)))
-              (not (is_answer t span j)) (is_needed (levels_at t c.start) l))
+              ((c.runs && not (rises t AS j)) && not (has_earlier_answer (answers_of t stretch c.start j)) && not
+              (is_answer t stretch j) && is_needed (levels_at t c.start) l)
+          step = rw (found.holds, unanswered, runs-on t stretch j judged c h)
+              (regroup (c.runs && not (rises t AS j)) (not (has_earlier_answer (answers_of t stretch c.start j)))
+              (not (is_answer t stretch j)) (is_needed (levels_at t c.start) l))
             where
               regroup : (a b x y : Bool) → (true && a && (b && x) && y) ≡ (a && b && x && y)
               regroup true true x y = refl
               regroup true false x y = refl
               regroup false b x y = refl
 
-      pub held-is : (c : Cycle) → IsCycle t span (j + 1) j c → (ri an ne : Bool) → ri ≡ rises t AS j
-          → an ≡ is_answer t span j → ne ≡ is_within c.needs l
+      pub held-is : (c : Cycle) → IsCycle t stretch (j + 1) j c → (ri an ne : Bool) → ri ≡ rises t AS j
+          → an ≡ is_answer t stretch j → ne ≡ is_within c.needs l
           → (c.has_started && nat_lt c.start j && (c.runs && not ri) && not c.answered && not an && ne)
-          ≡ any needs (span.start + 1) j
+          ≡ any needs (stretch.start + 1) j
       held-is c is ri an ne r a n = rw (r, a, n) (decide c.has_started
           (λ e. let w = is.here e in
           rw (e, w.answered, needed-at t c.start c.needs l w.needs) (sym (held-last c w)))
@@ -890,7 +909,7 @@ pub ruleset asked = (
   needed-at,
   starts-is,
   held-is,
-  acknowledged-is,
+  answered_by_dtack-is,
   low-no_fall,
   since-asks,
   since-later-asks,

@@ -15,12 +15,13 @@ use Rattle.vme_cert.specs.Vocabulary.{Stretch, Three, Trace, Two, Version, Write
 use Rattle.vme_cert.specs.Vocabulary.{any, cycle_of, cycle_starts, data_at, data_of, falls, greatest, high, is_answer}
 use Rattle.vme_cert.specs.Vocabulary.{is_answered, is_judged, known, lanes_at, lasts, least, level, levels_at, low}
 use Rattle.vme_cert.specs.Vocabulary.{rises, row_in, rows_in, strobes_high, transfer_row, transfer_starts, without_data}
-use Rattle.vme_cert.specs.Vocabulary.{AS, BBSY, Class, IsSpanOf, Levels, OpenTenure, PendingTransfer, Tenure, class_of}
+use Rattle.vme_cert.specs.Vocabulary.{AS, BBSY, Class, IsStretchOf, Levels, OpenTenure, PendingTransfer, Tenure}
+use Rattle.vme_cert.specs.Vocabulary.{class_of}
 use Rattle.vme_cert.specs.Vocabulary.{cycle_row, cycle_rows, rows_before, tenure_level, tenure_row, tenure_rows}
 use Rattle.vme_cert.specs.Vocabulary.{tenure_slot, tenure_starts, WRITE, is_write, transfer_rows}
 use Rattle.vme_cert.specs.Comparing.{Extends, HasComparedRow, IsBegun, IsCompared, IsDue, IsGiven, is_at, without}
 use Rattle.vme_cert.specs.WithEdge.{with_edge}
-use Rattle.vme_cert.specs.Following.{AreAtPlaces, CanClose, IsOpenAt, IsTakenAt, IsTransferAt, is_open, right_to}
+use Rattle.vme_cert.specs.Following.{AreAtPlaces, CanClose, IsOpenAt, IsTakenAt, IsTransferAt, is_open, expected_to}
 use Rattle.vme_cert.specs.Following.{AreOpen, AreTaken, Follows, NoneIsOpen, WithAnswer, WithCycle, WithTenure}
 use Rattle.vme_cert.specs.Following.{WithTransfer, count_before, count_with_cycle, count_with_tenure}
 use Rattle.vme_cert.specs.declared.comparison.Comparison.{Comparison}
@@ -85,9 +86,9 @@ placed-more given more taken many rows grows extends h = record {
   transfer = taken-more given more taken many grows extends rows.transfer h.transfer;
 }
 
-module _ (v : Version) (done : List Row) (t : Trace) (span : Stretch) (l j : ℕ) where
+module _ (v : Version) (done : List Row) (t : Trace) (stretch : Stretch) (l j : ℕ) where
   abbrev EdgeAt : ℕ → Option OpenRow → Type 0
-  EdgeAt i o = IsOpenAt v done t span l i o
+  EdgeAt i o = IsOpenAt v done t stretch l i o
 
   -- where the line doesn't rise the row stays open
   pub open-stays : (o : Option OpenRow) → rises t l j ≡ false → known t l j ≡ true → EdgeAt j o → EdgeAt (j + 1) o
@@ -99,29 +100,29 @@ module _ (v : Version) (done : List Row) (t : Trace) (span : Stretch) (l j : ℕ
         before = omega (arith, h.before);
         still = any-more (rises t l) (h.start + 1) j h.still held;
         is_low = rw back (stays-low t l j h.is_low held is_known);
-        right = h.right;
+        expected = h.expected;
       }
 
   -- where the line rises the row's end is known
   pub open-due : (given : List Row) (taken : ℕ) (o : Option OpenRow) → rises t l j ≡ true → IsTakenAt given taken o
-      → EdgeAt j o → (end : ℕ) → j + 1 ≤ end → end ≤ span.end
-      → IsDue given (right_to v done t span end) taken (Some j) o
+      → EdgeAt j o → (end : ℕ) → j + 1 ≤ end → end ≤ stretch.end
+      → IsDue given (expected_to v done t stretch end) taken (Some j) o
   open-due given taken None here placed h end after within = tt
   open-due given taken (Some row) here placed h end after within = (
     placed.below,
     placed.given_is,
-    h.right end (omega (arith, h.before)) within ∙ ap (λ (e : Option ℕ). Some (with_edge row.right e))
+    h.expected end (omega (arith, h.before)) within ∙ ap (λ (e : Option ℕ). Some (with_edge row.expected e))
         (least-is (rises t l) (h.start + 1) end j (omega (arith, h.before)) (omega arith) here h.still),
   )
 
   -- where the listing ends the row has no end
   pub open-last : (given : List Row) (taken : ℕ) (o : Option OpenRow) → IsTakenAt given taken o → EdgeAt j o
-      → j ≤ span.end → IsDue given (right_to v done t span j) taken None o
+      → j ≤ stretch.end → IsDue given (expected_to v done t stretch j) taken None o
   open-last given taken None placed h within = tt
   open-last given taken (Some row) placed h within = (
     placed.below,
     placed.given_is,
-    h.right j (omega (arith, h.before)) within ∙ ap (λ (e : Option ℕ). Some (with_edge row.right e))
+    h.expected j (omega (arith, h.before)) within ∙ ap (λ (e : Option ℕ). Some (with_edge row.expected e))
         (least-none (rises t l) (h.start + 1) j h.still),
   )
 
@@ -131,30 +132,31 @@ module _ (v : Version) (done : List Row) (t : Trace) (span : Stretch) (l j : ℕ
   open-none (Some row) here h = absurd (clash (falls t l j) here (low-no_fall t l j h.is_low))
 
   -- a row that starts where the line is low is open
-  pub open-new : (row : OpenRow) (right : Row) → low t l j ≡ true → row.right ≡ row_in v right
-      → ((end : ℕ) → j + 1 ≤ end → end ≤ span.end → slice_get (right_to v done t span end) row.place
-      ≡ Some (row_in v (with_edge right (least (rises t l) (j + 1) end)))) → EdgeAt (j + 1) (Some row)
-  open-new row right is_low is places =
+  pub open-new : (row : OpenRow) (expected : Row) → low t l j ≡ true → row.expected ≡ row_in v expected
+      → ((end : ℕ) → j + 1 ≤ end → end ≤ stretch.end → slice_get (expected_to v done t stretch end) row.place
+      ≡ Some (row_in v (with_edge expected (least (rises t l) (j + 1) end)))) → EdgeAt (j + 1) (Some row)
+  open-new row expected is_low is places =
       let back : j + 1 - 1 ≡ j = omega arith in
       record {
         start = j;
         before = omega arith;
         still = any-start (rises t l) (j + 1) (j + 1) (omega arith);
         is_low = rw back is_low;
-        right = λ end from within. places end from within ∙ ap (λ (r : Row). Some r)
+        expected = λ end from within. places end from within ∙ ap (λ (r : Row). Some r)
             (sym (ap (λ (r : Row). with_edge r (least (rises t l) (j + 1) end)) is
-            ∙ with_edge-in v right (least (rises t l) (j + 1) end)));
+            ∙ with_edge-in v expected (least (rises t l) (j + 1) end)));
       }
 
 -- the open rows are compared without a last edge, and then one more row, which has no last edge
 module _ {Whole Source : Type 0} {gave : Whole → Source → List Row → Type 0} {is_over : Source → Type 0} {whole : Whole}
-    {v : Version} {rights : List Row} {old : OpenRows Source} (h : CanClose gave is_over whole v rights old)
-    {c1 c2 c3 c4 c5 : Comparison Source} {row : OpenRow} {right : Row} (edge : with_edge right None ≡ right)
+    {v : Version} {expected_rows : List Row} {old : OpenRows Source}
+    (h : CanClose gave is_over whole v expected_rows old)
+    {c1 c2 c3 c4 c5 : Comparison Source} {row : OpenRow} {expected : Row} (edge : with_edge expected None ≡ expected)
     (s1 : HasComparedRow old.tenure None old.compared c1) (s2 : HasComparedRow old.cycle None c1 c2)
-    (s3 : HasComparedRow old.transfer None c2 c3) (b : IsBegun gave is_over right c3 c4 row)
+    (s3 : HasComparedRow old.transfer None c2 c3) (b : IsBegun gave is_over expected c3 c4 row)
     (s4 : HasComparedRow (Some row) None c4 c5) where
   abbrev all : List Row
-  all = rows_in v rights
+  all = rows_in v expected_rows
 
   abbrev open_at : ℕ → Bool
   open_at = without (without (without (is_open old) old.tenure) old.cycle) old.transfer
@@ -165,28 +167,28 @@ module _ {Whole Source : Type 0} {gave : Whole → Source → List Row → Type 
       (subst (λ n. IsDue h.given all n None old.cycle) (sym s1.taken) h.cycle))
       (subst (λ n. IsDue h.given all n None old.transfer) (sym (s2.taken ∙ s1.taken)) h.transfer)
 
-  pub closes : CanClose gave is_over whole v (rights ++ right ∷ [])
+  pub closes : CanClose gave is_over whole v (expected_rows ++ expected ∷ [])
       (record { compared = c5; tenure = None; cycle = None; transfer = None })
   closes =
       let g = b.given whole h.given (compare_row-given s3 (compare_row-given s2 (compare_row-given s1 h.is_given))) in
-      let upto : c3.taken ≡ length rights = s3.taken ∙ (s2.taken ∙ (s1.taken ∙ h.taken_is)) in
-      let more = rows_in v (rights ++ right ∷ []) in
+      let upto : c3.taken ≡ length expected_rows = s3.taken ∙ (s2.taken ∙ (s1.taken ∙ h.taken_is)) in
+      let more = rows_in v (expected_rows ++ expected ∷ []) in
       let begun = begun-compared b g.more more (λ n. n == row.place) closed_all g.extends
-      (λ n below. ap (λ (xs : List Row). slice_get xs n) (rows_in-append v rights (right ∷ []))
-      ∙ slice_get-front all (rows_in v (right ∷ [])) n (omega (arith, below, upto, rows_in-length v rights)))
+      (λ n below. ap (λ (xs : List Row). slice_get xs n) (rows_in-append v expected_rows (expected ∷ []))
+      ∙ slice_get-front all (rows_in v (expected ∷ [])) n (omega (arith, below, upto, rows_in-length v expected_rows)))
       (λ n off. (each_off (is_at old.tenure n) (is_at old.cycle n) (is_at old.transfer n), off)) in
-      let is : row.right ≡ row_in v right = b.right_is ∙ ap (λ (w : Version). row_in w right)
+      let is : row.expected ≡ row_in v expected = b.expected_is ∙ ap (λ (w : Version). row_in w expected)
       (s3.version ∙ (s2.version ∙ (s1.version ∙ h.version_is))) in
       record {
         version_is = s4.version ∙ (b.version ∙ (s3.version ∙ (s2.version ∙ (s1.version ∙ h.version_is))));
-        taken_is = omega (arith, s4.taken, b.taken, upto, length-append rights (right ∷ []));
+        taken_is = omega (arith, s4.taken, b.taken, upto, length-append expected_rows (expected ∷ []));
         given = g.more;
         is_given = compare_row-given s4 (subst (IsGiven gave is_over whole g.more c4.source) (sym b.taken) g.is_given);
         compared = compared-fewer (λ n. false) (compare_row-compared s4 begun (
           omega (arith, b.place, b.taken),
           g.given_is ∙ ap (slice_get g.more) (sym b.place),
-          ap (slice_get more) (b.place ∙ upto) ∙ (row_after v rights [] right ∙ ap (λ (r : Row). Some r)
-              (sym (ap (λ (r : Row). with_edge r None) is ∙ (with_edge-in v right None ∙ ap (row_in v) edge)))),
+          ap (slice_get more) (b.place ∙ upto) ∙ (row_after v expected_rows [] expected ∙ ap (λ (r : Row). Some r)
+              (sym (ap (λ (r : Row). with_edge r None) is ∙ (with_edge-in v expected None ∙ ap (row_in v) edge)))),
         )) (λ n off. and-not_self (n == row.place));
         tenure = tt;
         cycle = tt;
@@ -211,198 +213,205 @@ least-longer p f m n order later = case_of (least p f m)
     (λ i e. let found = least-found p f m i e in
     rw e (least-is p f n i found.first (omega (arith, found.below)) found.holds found.least))
 
-module _ (t : Trace) (span : Stretch) where
+module _ (t : Trace) (stretch : Stretch) where
   -- a transfer that is answered at `j` wasn't answered before
-  answers-once : (i j : ℕ) → answers t span i j ≡ true → any (answers t span i) i j ≡ false
+  answers-once : (i j : ℕ) → answers t stretch i j ≡ true → any (answers t stretch i) i j ≡ false
   unfolding answers is_answered
   answers-once i j h =
-      let none : any (λ r. lasts t span i r && answer_falls t r) i j ≡ false = not-true (is_answered t span i j)
-      (and_parts (lasts t span i j && answer_falls t j) (not (is_answered t span i j)) h).1 in
-      fails-any (answers t span i) i j (λ r a b. and_left (lasts t span i r && answer_falls t r)
-      (not (is_answered t span i r)) (any-fails (λ r. lasts t span i r && answer_falls t r) i j r none a b))
+      let none : any (λ r. lasts t stretch i r && answer_falls t r) i j ≡ false = not-true (is_answered t stretch i j)
+      (and_parts (lasts t stretch i j && answer_falls t j) (not (is_answered t stretch i j)) h).1 in
+      fails-any (answers t stretch i) i j (λ r a b. and_left (lasts t stretch i r && answer_falls t r)
+      (not (is_answered t stretch i r)) (any-fails (λ r. lasts t stretch i r && answer_falls t r) i j r none a b))
 
-  answer-not : (i j : ℕ) → answers t span i j ≡ false → least (answers t span i) i (j + 1) ≡ least (answers t span i) i
+  answer-not : (i j : ℕ) → answers t stretch i j ≡ false → least (answers t stretch i) i (j + 1)
+      ≡ least (answers t stretch i) i
       j
-  answer-not i j h = least-longer (answers t span i) i j (j + 1) (omega arith)
+  answer-not i j h = least-longer (answers t stretch i) i j (j + 1) (omega arith)
       (λ r from below. let here : r ≡ j = omega arith in rw here h)
 
   -- a transfer doesn't last after both strobes were high, so no answer comes
-  lasts-no_more : (i j r : ℕ) → i < j → j < r → strobes_high t j ≡ true → lasts t span i r ≡ false
+  lasts-no_more : (i j r : ℕ) → i < j → j < r → strobes_high t j ≡ true → lasts t stretch i r ≡ false
   unfolding lasts
   lasts-no_more i j r order later high =
       rw (any-holds (strobes_high t) (i + 1) r j (omega arith) (omega arith) high)
-      (and_right (nat_le i r && is_judged span r) false refl)
+      (and_right (nat_le i r && is_judged stretch r) false refl)
 
   answer-last : (i j end : ℕ) → i < j → strobes_high t j ≡ true → j + 1 ≤ end
-      → least (answers t span i) i end ≡ least (answers t span i) i (j + 1)
+      → least (answers t stretch i) i end ≡ least (answers t stretch i) i (j + 1)
   unfolding answers
   answer-last i j end order high later =
-      least-longer (answers t span i) i (j + 1) end later (λ r from below.
-      and_left (lasts t span i r && answer_falls t r) (not (is_answered t span i r))
-      (and_left (lasts t span i r) (answer_falls t r) (lasts-no_more i j r order (omega arith) high)))
+      least-longer (answers t stretch i) i (j + 1) end later (λ r from below.
+      and_left (lasts t stretch i r && answer_falls t r) (not (is_answered t stretch i r))
+      (and_left (lasts t stretch i r) (answer_falls t r) (lasts-no_more i j r order (omega arith) high)))
 
   -- the row of a transfer already has its close as its last edge
-  edge-own : (end i : ℕ) (answer : Option ℕ) → with_edge (transfer_row t span end i answer)
-      (least (strobes_high t) (i + 1) end) ≡ transfer_row t span end i answer
+  edge-own : (end i : ℕ) (answer : Option ℕ) → with_edge (transfer_row t stretch end i answer)
+      (least (strobes_high t) (i + 1) end) ≡ transfer_row t stretch end i answer
   edge-own end i None = refl
-  edge-own end i (Some r) = by_cycle (cycle_of t span r)
+  edge-own end i (Some r) = by_cycle (cycle_of t stretch r)
     where
-      by_cycle : (o : Option ℕ) → with_edge (answered_row t span end i r o) (least (strobes_high t) (i + 1) end)
-          ≡ answered_row t span end i r o
+      by_cycle : (o : Option ℕ) → with_edge (answered_row t stretch end i r o) (least (strobes_high t) (i + 1) end)
+          ≡ answered_row t stretch end i r o
       by_cycle None = refl
       by_cycle (Some k) = refl
 
   edge-in : (v : Version) (end i : ℕ) (answer edge : Option ℕ) → least (strobes_high t) (i + 1) end ≡ edge
-      → row_in v (transfer_row t span end i answer) ≡ with_edge (row_in v (transfer_row t span end i answer)) edge
+      → row_in v (transfer_row t stretch end i answer) ≡ with_edge (row_in v (transfer_row t stretch end i answer)) edge
   edge-in v end i answer edge e =
-      sym (with_edge-in v (transfer_row t span end i answer) edge ∙ ap (row_in v)
-      (ap (with_edge (transfer_row t span end i answer)) (sym e) ∙ edge-own end i answer))
+      sym (with_edge-in v (transfer_row t stretch end i answer) edge ∙ ap (row_in v)
+      (ap (with_edge (transfer_row t stretch end i answer)) (sym e) ∙ edge-own end i answer))
 
   -- where the listing ends the row has no close
   pub transfer-last : (v : Version) (done given : List Row) (taken j : ℕ) (o : Option OpenRow)
-      → IsTakenAt given taken o → IsTransferAt v done t span j j j o → j ≤ span.end
-      → IsDue given (right_to v done t span j) taken None o
+      → IsTakenAt given taken o → IsTransferAt v done t stretch j j j o → j ≤ stretch.end
+      → IsDue given (expected_to v done t stretch j) taken None o
   transfer-last v done given taken j None placed h within = tt
   transfer-last v done given taken j (Some row) placed h within =
-      let before = (greatest-found (transfer_starts t span) (span.start + 1) j h.start h.last).before in (
+      let before = (greatest-found (transfer_starts t stretch) (stretch.start + 1) j h.start h.last).before in (
         placed.below,
         placed.given_is,
-        h.right j (omega arith) within ∙ ap (λ (r : Row). Some r)
-            (edge-in v j h.start (least (answers t span h.start) h.start j) None
+        h.expected j (omega arith) within ∙ ap (λ (r : Row). Some r)
+            (edge-in v j h.start (least (answers t stretch h.start) h.start j) None
             (least-none (strobes_high t) (h.start + 1) j h.still) ∙ sym (h.known j None)),
       )
 
-  module _ (v : Version) (done : List Row) (j : ℕ) (judged : is_judged span j ≡ true) where
+  module _ (v : Version) (done : List Row) (j : ℕ) (judged : is_judged stretch j ≡ true) where
     abbrev At : ℕ → ℕ → ℕ → Option OpenRow → Type 0
-    At i k c o = IsTransferAt v done t span i k c o
+    At i k c o = IsTransferAt v done t stretch i k c o
 
     -- where a transfer starts no transfer is open
     pub transfer-none : (o : Option OpenRow) → starts_transfer t j ≡ true → At j j j o → o ≡ None
     transfer-none None here h = refl
     transfer-none (Some row) here h =
-        let found = greatest-found (transfer_starts t span) (span.start + 1) j h.start h.last in
-        absurd (clash _ (high-between t span h.start j found.before found.holds (starts-is t span j judged ∙ here))
+        let found = greatest-found (transfer_starts t stretch) (stretch.start + 1) j h.start h.last in
+        absurd (clash _ (high-between t stretch h.start j found.before found.holds
+        (starts-is t stretch j judged ∙ here))
         h.still)
 
-    pub transfer-new : (row : OpenRow) (right : (end : ℕ) → row.right ≡ row_in v (transfer_row t span end j None))
+    pub transfer-new : (row : OpenRow) (expected : (end : ℕ) → row.expected
+        ≡ row_in v (transfer_row t stretch end j None))
         → starts_transfer t j ≡ true
-        → ((end : ℕ) → j + 1 ≤ end → end ≤ span.end → slice_get (right_to v done t span end) row.place
-        ≡ Some (row_in v (transfer_row t span end j (least (answers t span j) j end)))) → At (j + 1) j j (Some row)
-    transfer-new row right here places = record {
+        → ((end : ℕ) → j + 1 ≤ end → end ≤ stretch.end → slice_get (expected_to v done t stretch end) row.place
+        ≡ Some (row_in v (transfer_row t stretch end j (least (answers t stretch j) j end))))
+        → At (j + 1) j j (Some row)
+    transfer-new row expected here places = record {
       start = j;
-      last = greatest-here (transfer_starts t span) (span.start + 1) j (after_start span j judged)
-          (starts-is t span j judged ∙ here);
+      last = greatest-here (transfer_starts t stretch) (stretch.start + 1) j (after_start stretch j judged)
+          (starts-is t stretch j judged ∙ here);
       still = any-start (strobes_high t) (j + 1) j (omega arith);
-      right = places;
-      known = λ end edge. rw (least-none (answers t span j) j j (any-start (answers t span j) j j (omega arith)))
-          (ap (λ (r : Row). with_edge r edge) (right end));
+      expected = places;
+      known = λ end edge. rw (least-none (answers t stretch j) j j (any-start (answers t stretch j) j j (omega arith)))
+          (ap (λ (r : Row). with_edge r edge) (expected end));
     }
 
     pub transfer-kept : (o : Option OpenRow) → starts_transfer t j ≡ false → At j j j o → At (j + 1) j j o
     transfer-kept None here h = tt
     transfer-kept (Some row) here h = record {
       start = h.start;
-      last = greatest-not (transfer_starts t span) (span.start + 1) j (starts-is t span j judged ∙ here) ∙ h.last;
+      last = greatest-not (transfer_starts t stretch) (stretch.start + 1) j (starts-is t stretch j judged ∙ here)
+          ∙ h.last;
       still = h.still;
-      right = h.right;
+      expected = h.expected;
       known = h.known;
     }
 
     -- whether the last transfer is answered at the instant
-    asked : (i : ℕ) → greatest (transfer_starts t span) (span.start + 1) (j + 1) ≡ Some i
-        → any (strobes_high t) (i + 1) j ≡ false → answers t span i j ≡ is_answer t span j
-    asked i last still = answers-is t span j i judged last (ap not still)
-        ∙ sym (is_answer-is t span j i judged last (ap not still))
+    asked : (i : ℕ) → greatest (transfer_starts t stretch) (stretch.start + 1) (j + 1) ≡ Some i
+        → any (strobes_high t) (i + 1) j ≡ false → answers t stretch i j ≡ is_answer t stretch j
+    asked i last still = answers-is t stretch j i judged last (ap not still)
+        ∙ sym (is_answer-is t stretch j i judged last (ap not still))
 
-    pub transfer-unanswered : (o : Option OpenRow) → is_answer t span j ≡ false → At (j + 1) j j o
+    pub transfer-unanswered : (o : Option OpenRow) → is_answer t stretch j ≡ false → At (j + 1) j j o
         → At (j + 1) (j + 1) j o
     transfer-unanswered None h is = tt
     transfer-unanswered (Some row) h is = record {
       start = is.start;
       last = is.last;
       still = is.still;
-      right = is.right;
+      expected = is.expected;
       known = λ end edge. rw (answer-not is.start j (asked is.start is.last is.still ∙ h)) (is.known end edge);
     }
 
     -- a transfer that is answered is the open one of the state
-    pub is-opened : (c : Transfer) → IsTransfer t span (j + 1) j c → is_answer t span j ≡ true
-        → IsOpenTransfer t span (j + 1) j c
-    is-opened c is here = decide c.is_open is.here (λ e. absurd (clash (is_answer t span j) here
-        (sym (answer-is t span j judged c is) ∙ ap (λ b. b && (answer_falls t j && not c.answered)) e)))
+    pub is-opened : (c : Transfer) → IsTransfer t stretch (j + 1) j c → is_answer t stretch j ≡ true
+        → IsOpenTransfer t stretch (j + 1) j c
+    is-opened c is here = decide c.is_open is.here (λ e. absurd (clash (is_answer t stretch j) here
+        (sym (answer-is t stretch j judged c is) ∙ ap (λ b. b && (answer_falls t j && not c.answered)) e)))
 
     -- if no cycle has started, the answer isn't listed
-    pub transfer-outside : (o : Option OpenRow) → is_answer t span j ≡ true
-        → greatest (cycle_starts t span) (span.start + 1) (j + 1) ≡ None → At (j + 1) j j o → At (j + 1) (j + 1) j o
+    pub transfer-outside : (o : Option OpenRow) → is_answer t stretch j ≡ true
+        → greatest (cycle_starts t stretch) (stretch.start + 1) (j + 1) ≡ None → At (j + 1) j j o
+        → At (j + 1) (j + 1) j o
     unfolding cycle_of
     transfer-outside None here none h = tt
     transfer-outside (Some row) here none h =
         let answered = asked h.start h.last h.still ∙ here in
         let before = answers-once h.start j answered in
-        let found = greatest-found (transfer_starts t span) (span.start + 1) (j + 1) h.start h.last in
-        let answer = least-is (answers t span h.start) h.start (j + 1) j (omega (arith, found.before)) (omega arith)
+        let found = greatest-found (transfer_starts t stretch) (stretch.start + 1) (j + 1) h.start h.last in
+        let answer = least-is (answers t stretch h.start) h.start (j + 1) j (omega (arith, found.before)) (omega arith)
         answered before in
         record {
           start = h.start;
           last = h.last;
           still = h.still;
-          right = h.right;
-          known = λ end edge. rw (answer, none) (rw (least-none (answers t span h.start) h.start j before) at
+          expected = h.expected;
+          known = λ end edge. rw (answer, none) (rw (least-none (answers t stretch h.start) h.start j before) at
               (h.known end edge));
         }
 
-    pub transfer-answered : (row : OpenRow) (c : Transfer) → is_answer t span j ≡ true
-        → IsOpenTransfer t span (j + 1) j c
+    pub transfer-answered : (row : OpenRow) (c : Transfer) → is_answer t stretch j ≡ true
+        → IsOpenTransfer t stretch (j + 1) j c
         → At (j + 1) j j (Some row) → (later : OpenRow) → later.place ≡ row.place
-        → ((end : ℕ) (edge : Option ℕ) → with_edge later.right edge
-        ≡ with_edge (row_in v (transfer_row t span end c.start (Some j))) edge) → At (j + 1) (j + 1) j (Some later)
+        → ((end : ℕ) (edge : Option ℕ) → with_edge later.expected edge
+        ≡ with_edge (row_in v (transfer_row t stretch end c.start (Some j))) edge) → At (j + 1) (j + 1) j (Some later)
     transfer-answered row c here opened h later same_place known =
         let answered = asked h.start h.last h.still ∙ here in
-        let found = greatest-found (transfer_starts t span) (span.start + 1) (j + 1) h.start h.last in
-        let answer = least-is (answers t span h.start) h.start (j + 1) j (omega (arith, found.before)) (omega arith)
+        let found = greatest-found (transfer_starts t stretch) (stretch.start + 1) (j + 1) h.start h.last in
+        let answer = least-is (answers t stretch h.start) h.start (j + 1) j (omega (arith, found.before)) (omega arith)
         answered (answers-once h.start j answered) in
         record {
           start = h.start;
           last = h.last;
           still = h.still;
-          right = λ end from within. ap (slice_get (right_to v done t span end)) same_place ∙ h.right end from within;
+          expected = λ end from within. ap (slice_get (expected_to v done t stretch end)) same_place
+              ∙ h.expected end from within;
           known = λ end edge. rw answer (known end edge
-              ∙ ap (λ i. with_edge (row_in v (transfer_row t span end i (Some j))) edge)
+              ∙ ap (λ i. with_edge (row_in v (transfer_row t stretch end i (Some j))) edge)
               (same_value c.start h.start (sym opened.last ∙ h.last)));
         }
 
     -- where both strobes are high the close of the transfer is known
     pub transfer-due : (given : List Row) (taken : ℕ) (o : Option OpenRow) → strobes_high t j ≡ true
-        → IsTakenAt given taken o → At (j + 1) (j + 1) j o → (end : ℕ) → j + 1 ≤ end → end ≤ span.end
-        → IsDue given (right_to v done t span end) taken (Some j) o
+        → IsTakenAt given taken o → At (j + 1) (j + 1) j o → (end : ℕ) → j + 1 ≤ end → end ≤ stretch.end
+        → IsDue given (expected_to v done t stretch end) taken (Some j) o
     unfolding transfer_starts low high
     transfer-due given taken None high placed h end after within = tt
     transfer-due given taken (Some row) high placed h end after within =
-        let found = greatest-found (transfer_starts t span) (span.start + 1) (j + 1) h.start h.last in
+        let found = greatest-found (transfer_starts t stretch) (stretch.start + 1) (j + 1) h.start h.last in
         let order = started found.before found.holds in
         let close = least-is (strobes_high t) (h.start + 1) end j (omega (arith, order)) (omega arith) high h.still in (
           placed.below,
           placed.given_is,
-          h.right end (omega (arith, order)) within ∙ ap (λ (r : Row). Some r)
+          h.expected end (omega (arith, order)) within ∙ ap (λ (r : Row). Some r)
               (by_edge end (Some j) close (answer-last h.start j end order high after)),
         )
       where
-        started : h.start < j + 1 → transfer_starts t span h.start ≡ true → h.start < j
+        started : h.start < j + 1 → transfer_starts t stretch h.start ≡ true → h.start < j
         started before starts = by_order (cases_lt h.start j)
           where
             by_order : (h.start < j) ⊎ (j ≤ h.start) → h.start < j
             by_order (inl less) = less
             by_order (inr from) = let e : h.start ≡ j = omega arith in
                 absurd (high-and-low (level t DS0 j) (level t DS1 j) high (ap (λ k. low t DS0 k || low t DS1 k) (sym e)
-                ∙ (and_parts (is_judged span h.start && strobes_high t (h.start - 1)) _ starts).1))
+                ∙ (and_parts (is_judged stretch h.start && strobes_high t (h.start - 1)) _ starts).1))
 
         by_edge : (end : ℕ) (edge : Option ℕ) → least (strobes_high t) (h.start + 1) end ≡ edge
-            → least (answers t span h.start) h.start end ≡ least (answers t span h.start) h.start (j + 1)
-            → row_in v (transfer_row t span end h.start (least (answers t span h.start) h.start end))
-            ≡ with_edge row.right edge
+            → least (answers t stretch h.start) h.start end ≡ least (answers t stretch h.start) h.start (j + 1)
+            → row_in v (transfer_row t stretch end h.start (least (answers t stretch h.start) h.start end))
+            ≡ with_edge row.expected edge
         by_edge end edge e same =
-            ap (λ (a : Option ℕ). row_in v (transfer_row t span end h.start a)) same
-            ∙ (edge-in v end h.start (least (answers t span h.start) h.start (j + 1)) edge e
+            ap (λ (a : Option ℕ). row_in v (transfer_row t stretch end h.start a)) same
+            ∙ (edge-in v end h.start (least (answers t stretch h.start) h.start (j + 1)) edge e
             ∙ sym (h.known end edge))
 
     pub transfer-open : (o : Option OpenRow) → strobes_high t j ≡ false → At (j + 1) (j + 1) j o
@@ -412,26 +421,26 @@ module _ (t : Trace) (span : Stretch) where
       start = h.start;
       last = h.last;
       still = any-more (strobes_high t) (h.start + 1) j h.still not_here;
-      right = h.right;
+      expected = h.expected;
       known = h.known;
     }
 
   -- the data that the answer at `j` of the open transfer gives
-  module _ (j : ℕ) (c : Transfer) (is : IsOpenTransfer t span (j + 1) j c) (end : ℕ) where
-    pub data-here : c.is_write ≡ true → c.start ≡ j → Some (lanes_at (levels_at t j)) ≡ data_of t span end c.start j
+  module _ (j : ℕ) (c : Transfer) (is : IsOpenTransfer t stretch (j + 1) j c) (end : ℕ) where
+    pub data-here : c.is_write ≡ true → c.start ≡ j → Some (lanes_at (levels_at t j)) ≡ data_of t stretch end c.start j
     unfolding data_at
     data-here write here =
-        let found = greatest-found (transfer_starts t span) (span.start + 1) (j + 1) c.start is.last in
-        rw (sym is.direction ∙ write, ap (transfer_starts t span) (sym here) ∙ found.holds) refl
+        let found = greatest-found (transfer_starts t stretch) (stretch.start + 1) (j + 1) c.start is.last in
+        rw (sym is.direction ∙ write, ap (transfer_starts t stretch) (sym here) ∙ found.holds) refl
 
     pub data-before : c.is_write ≡ true → (c.start ≡ j → ⊥)
-        → Some (lanes_at (levels_at t (j - 1))) ≡ data_of t span end c.start j
+        → Some (lanes_at (levels_at t (j - 1))) ≡ data_of t stretch end c.start j
     unfolding data_at
     data-before write other =
-        let found = greatest-found (transfer_starts t span) (span.start + 1) (j + 1) c.start is.last in
+        let found = greatest-found (transfer_starts t stretch) (stretch.start + 1) (j + 1) c.start is.last in
         rw (
           sym is.direction ∙ write,
-          any-fails (transfer_starts t span) (c.start + 1) (j + 1) j found.last
+          any-fails (transfer_starts t stretch) (c.start + 1) (j + 1) j found.last
               (earlier found.before other) (omega arith),
         ) refl
       where
@@ -439,9 +448,10 @@ module _ (t : Trace) (span : Stretch) where
         earlier before other = grind arith
 
     pub answered-is : (d : Direction) (l : AnswerLine) (k : ℕ) (x : Option Lanes) (edge : Option ℕ)
-        → greatest (cycle_starts t span) (span.start + 1) (j + 1) ≡ Some k → d ≡ (if c.is_write then Write else Read)
-        → l ≡ (if falls t DTACK j then Dtack else Berr) → x ≡ data_of t span end c.start j
-        → variant.Transfer d l c.start k j edge x ≡ with_edge (transfer_row t span end c.start (Some j)) edge
+        → greatest (cycle_starts t stretch) (stretch.start + 1) (j + 1) ≡ Some k → d
+        ≡ (if c.is_write then Write else Read)
+        → l ≡ (if falls t DTACK j then Dtack else Berr) → x ≡ data_of t stretch end c.start j
+        → variant.Transfer d l c.start k j edge x ≡ with_edge (transfer_row t stretch end c.start (Some j)) edge
     unfolding cycle_of
     answered-is d l k x edge cycle same_direction same_line same_data =
         rw (cycle, same_direction ∙ ap (λ b. if b then Write else Read) is.direction, same_line, same_data) refl
@@ -502,9 +512,9 @@ at-place Transfers p = p.transfer
 
 -- one row of a kind is compared, starts, or gets its answer, and the others stay as they are
 module _ {Whole Source : Type 0} {gave : Whole → Source → List Row → Type 0} {is_over : Source → Type 0} {whole : Whole}
-    {v : Version} {done : List Row} {t : Trace} {span : Stretch} {first taken : ℕ} {old : OpenRows Source}
-    (h : AreTaken gave is_over whole v done t span first taken old) (next : ℕ) (order : first ≤ next) where
-  rests : {many : ℕ} → taken ≡ many → AreTaken gave is_over whole v done t span next many old
+    {v : Version} {done : List Row} {t : Trace} {stretch : Stretch} {first taken : ℕ} {old : OpenRows Source}
+    (h : AreTaken gave is_over whole v done t stretch first taken old) (next : ℕ) (order : first ≤ next) where
+  rests : {many : ℕ} → taken ≡ many → AreTaken gave is_over whole v done t stretch next many old
   rests e = record {
     version_is = h.version_is;
     taken_is = h.taken_is ∙ e;
@@ -516,9 +526,9 @@ module _ {Whole Source : Type 0} {gave : Whole → Source → List Row → Type 
 
   module _ (k : OpenRowKind) {new : Comparison Source} where
     compares_row : {many : ℕ} {edge : Option ℕ} → HasComparedRow (at k old) edge old.compared new
-        → ((end : ℕ) → next ≤ end → end ≤ span.end
-        → IsDue h.given (right_to v done t span end) old.compared.taken edge (at k old))
-        → taken ≡ many → AreTaken gave is_over whole v done t span next many (put k old new None)
+        → ((end : ℕ) → next ≤ end → end ≤ stretch.end
+        → IsDue h.given (expected_to v done t stretch end) old.compared.taken edge (at k old))
+        → taken ≡ many → AreTaken gave is_over whole v done t stretch next many (put k old new None)
     compares_row s due e = record {
       version_is = s.version ∙ h.version_is;
       taken_is = s.taken ∙ (h.taken_is ∙ e);
@@ -530,9 +540,9 @@ module _ {Whole Source : Type 0} {gave : Whole → Source → List Row → Type 
       placed = put-placed old new None k (subst (λ n. AreAtPlaces h.given n old) (sym s.taken) h.placed) tt;
     }
 
-    begins : {right : Row} {row : OpenRow} {many : ℕ} → at k old ≡ None
-        → IsBegun gave is_over right old.compared new row → taken + 1 ≡ many
-        → AreTaken gave is_over whole v done t span next many (put k old new (Some row))
+    begins : {expected : Row} {row : OpenRow} {many : ℕ} → at k old ≡ None
+        → IsBegun gave is_over expected old.compared new row → taken + 1 ≡ many
+        → AreTaken gave is_over whole v done t stretch next many (put k old new (Some row))
     begins {row = row} none b e =
         let g = b.given whole h.given h.is_given in
         let now = is_open (put k old new (Some row)) in
@@ -541,7 +551,7 @@ module _ {Whole Source : Type 0} {gave : Whole → Source → List Row → Type 
           taken_is = b.taken ∙ (ap (λ n. n + 1) h.taken_is ∙ e);
           given = g.more;
           is_given = subst (IsGiven gave is_over whole g.more new.source) (sym b.taken) g.is_given;
-          compared = λ end from within. begun-compared b g.more (right_to v done t span end) now
+          compared = λ end from within. begun-compared b g.more (expected_to v done t stretch end) now
               (h.compared end (omega arith) within) g.extends (λ n below. refl)
               (λ n off. let parts = put-off old new (Some row) k n off in
               (parts.1 (none-at (at k old) n none), parts.0));
@@ -553,61 +563,63 @@ module _ {Whole Source : Type 0} {gave : Whole → Source → List Row → Type 
               });
         }
 
-    right-is : {right : Row} {row : OpenRow} → IsBegun gave is_over right old.compared new row
-        → row.right ≡ row_in v right
-    right-is {right} b = b.right_is ∙ ap (λ (w : Version). row_in w right) h.version_is
+    expected-is : {expected : Row} {row : OpenRow} → IsBegun gave is_over expected old.compared new row
+        → row.expected ≡ row_in v expected
+    expected-is {expected} b = b.expected_is ∙ ap (λ (w : Version). row_in w expected) h.version_is
 
   -- a tenure or a cycle
   module _ (k : OpenRowKind) (l : ℕ) {new : Comparison Source} where
-    line-begins : {right : Row} {row : OpenRow} {many : ℕ} (j : ℕ) → next ≡ j + 1 → at k old ≡ None → low t l j ≡ true
-        → IsBegun gave is_over right old.compared new row → taken + 1 ≡ many
-        → ((end : ℕ) → j + 1 ≤ end → slice_get (right_to v done t span end) taken
-        ≡ Some (row_in v (with_edge right (least (rises t l) (j + 1) end))))
-        → AreTaken gave is_over whole v done t span next many (put k old new (Some row))
-        × IsOpenAt v done t span l (j + 1) (Some row)
-    line-begins {right} {row} j here none is_low b e places = (
+    line-begins : {expected : Row} {row : OpenRow} {many : ℕ} (j : ℕ) → next ≡ j + 1 → at k old ≡ None → low t l j
+        ≡ true
+        → IsBegun gave is_over expected old.compared new row → taken + 1 ≡ many
+        → ((end : ℕ) → j + 1 ≤ end → slice_get (expected_to v done t stretch end) taken
+        ≡ Some (row_in v (with_edge expected (least (rises t l) (j + 1) end))))
+        → AreTaken gave is_over whole v done t stretch next many (put k old new (Some row))
+        × IsOpenAt v done t stretch l (j + 1) (Some row)
+    line-begins {expected} {row} j here none is_low b e places = (
       begins k none b e,
-      open-new v done t span l j row right is_low (right-is k b)
-          (λ end from within. ap (slice_get (right_to v done t span end)) (b.place ∙ h.taken_is) ∙ places end from),
+      open-new v done t stretch l j row expected is_low (expected-is k b)
+          (λ end from within. ap (slice_get (expected_to v done t stretch end)) (b.place ∙ h.taken_is)
+          ∙ places end from),
     )
 
-    line-ends : {many : ℕ} (j : ℕ) → next ≡ j + 1 → IsOpenAt v done t span l j (at k old) → rises t l j ≡ true
+    line-ends : {many : ℕ} (j : ℕ) → next ≡ j + 1 → IsOpenAt v done t stretch l j (at k old) → rises t l j ≡ true
         → HasComparedRow (at k old) (Some j) old.compared new → taken ≡ many
-        → AreTaken gave is_over whole v done t span next many (put k old new None)
-    line-ends j here opened high s = compares_row k s (λ end from within. open-due v done t span l j h.given
+        → AreTaken gave is_over whole v done t stretch next many (put k old new None)
+    line-ends j here opened high s = compares_row k s (λ end from within. open-due v done t stretch l j h.given
         old.compared.taken (at k old) high (at-place k h.placed) opened end (omega arith) within)
 
 -- which rows start at an instant
-module _ (t : Trace) (span : Stretch) (j : ℕ) (judged : is_judged span j ≡ true) (end : ℕ) where
-  not_start : (j == span.start) ≡ false
+module _ (t : Trace) (stretch : Stretch) (j : ℕ) (judged : is_judged stretch j ≡ true) (end : ℕ) where
+  not_start : (j == stretch.start) ≡ false
   not_start = grind (arith, nat_tests)
 
-  pub tenure-rows-at : falls t BBSY j ≡ true → tenure_rows t span end j
+  pub tenure-rows-at : falls t BBSY j ≡ true → tenure_rows t stretch end j
       ≡ tenure_row j (tenure_level t j) (tenure_slot t j) (least (rises t BBSY) (j + 1) end)
   unfolding tenure_rows tenure_starts
   tenure-rows-at here = rw (not_start, judged, here) refl
 
-  pub tenure-rows-not : falls t BBSY j ≡ false → tenure_rows t span end j ≡ []
+  pub tenure-rows-not : falls t BBSY j ≡ false → tenure_rows t stretch end j ≡ []
   unfolding tenure_rows tenure_starts
   tenure-rows-not here = rw (not_start, judged, here) refl
 
-  pub cycle-rows-at : falls t AS j ≡ true → cycle_rows t span end j
+  pub cycle-rows-at : falls t AS j ≡ true → cycle_rows t stretch end j
       ≡ cycle_row j (levels_at t j) (least (rises t AS) (j + 1) end) (class_of (levels_at t j)) ∷ []
   unfolding cycle_rows cycle_starts
   cycle-rows-at here = rw (judged, here) refl
 
-  pub cycle-rows-not : falls t AS j ≡ false → cycle_rows t span end j ≡ []
+  pub cycle-rows-not : falls t AS j ≡ false → cycle_rows t stretch end j ≡ []
   unfolding cycle_rows cycle_starts
   cycle-rows-not here = rw (judged, here) refl
 
-  pub transfer-rows-at : starts_transfer t j ≡ true → transfer_rows t span end j
-      ≡ transfer_row t span end j (least (answers t span j) j end) ∷ []
+  pub transfer-rows-at : starts_transfer t j ≡ true → transfer_rows t stretch end j
+      ≡ transfer_row t stretch end j (least (answers t stretch j) j end) ∷ []
   unfolding transfer_rows
-  transfer-rows-at here = rw (starts-is t span j judged ∙ here) refl
+  transfer-rows-at here = rw (starts-is t stretch j judged ∙ here) refl
 
-  pub transfer-rows-not : starts_transfer t j ≡ false → transfer_rows t span end j ≡ []
+  pub transfer-rows-not : starts_transfer t j ≡ false → transfer_rows t stretch end j ≡ []
   unfolding transfer_rows
-  transfer-rows-not here = rw (starts-is t span j judged ∙ here) refl
+  transfer-rows-not here = rw (starts-is t stretch j judged ∙ here) refl
 
 cycle_row-with_edge : (i : ℕ) (v : Levels) (edge : Option ℕ) (c : Class)
     → with_edge (cycle_row i v None c) edge ≡ cycle_row i v edge c
@@ -619,12 +631,12 @@ same-length e = ap (λ (rows : List Row). length rows) e
 
 -- the open rows stay, where the instants up to which they are described change
 are-still : {Whole Source : Type 0} {gave : Whole → Source → List Row → Type 0} {is_over : Source → Type 0}
-    {whole : Whole} {v : Version} {done : List Row} {t : Trace} {span : Stretch} {rows : OpenRows Source}
+    {whole : Whole} {v : Version} {done : List Row} {t : Trace} {stretch : Stretch} {rows : OpenRows Source}
     {first next taken many a b i k c a' b' i' k' c' : ℕ}
-    → AreOpen gave is_over whole v done t span first taken a b i k c rows → first ≤ next → taken ≡ many
-    → IsOpenAt v done t span BBSY a' rows.tenure → IsOpenAt v done t span AS b' rows.cycle
-    → IsTransferAt v done t span i' k' c' rows.transfer
-    → AreOpen gave is_over whole v done t span next many a' b' i' k' c' rows
+    → AreOpen gave is_over whole v done t stretch first taken a b i k c rows → first ≤ next → taken ≡ many
+    → IsOpenAt v done t stretch BBSY a' rows.tenure → IsOpenAt v done t stretch AS b' rows.cycle
+    → IsTransferAt v done t stretch i' k' c' rows.transfer
+    → AreOpen gave is_over whole v done t stretch next many a' b' i' k' c' rows
 are-still {next = next} h order e tenure cycle transfer = record {
   are_taken = rests h.are_taken next order e;
   tenure = tenure;
@@ -633,38 +645,38 @@ are-still {next = next} h order e tenure cycle transfer = record {
 }
 
 module _ {Whole Source : Type 0} {gave : Whole → Source → List Row → Type 0} {is_over : Source → Type 0} {whole : Whole}
-    {v : Version} {done : List Row} {t : Trace} {span : Stretch} {old : OpenRows Source} (j : ℕ)
-    (is : IsSpanOf t span) (judged : is_judged span j ≡ true) where
+    {v : Version} {done : List Row} {t : Trace} {stretch : Stretch} {old : OpenRows Source} (j : ℕ)
+    (is : IsStretchOf t stretch) (judged : is_judged stretch j ≡ true) where
   -- a tenure
-  module _ (h : Follows gave is_over whole v done t span j old) where
+  module _ (h : Follows gave is_over whole v done t stretch j old) where
     pub tenure-begins : falls t BBSY j ≡ true → {level slot : ℕ} → tenure_level t j ≡ Some level
         → tenure_slot t j ≡ Some slot → {new : Comparison Source} {row : OpenRow}
         → IsBegun gave is_over (Tenure j level slot None) old.compared new row
-        → WithTenure gave is_over whole v done t span j (put Tenures old new (Some row))
+        → WithTenure gave is_over whole v done t stretch j (put Tenures old new (Some row))
     tenure-begins here {level} {slot} e f b =
-        let starts : (end : ℕ) → tenure_rows t span end j ≡ Tenure j level slot
+        let starts : (end : ℕ) → tenure_rows t stretch end j ≡ Tenure j level slot
         (least (rises t BBSY) (j + 1) end) ∷ [] =
-        λ end. tenure-rows-at t span j judged end here ∙ rw (e, f) refl in
+        λ end. tenure-rows-at t stretch j judged end here ∙ rw (e, f) refl in
         let (taken, opened) = line-begins h.are_taken (j + 1) (omega arith) Tenures BBSY j refl
-        (open-none v done t span BBSY j old.tenure here h.tenure) (fall-low t BBSY j here) b
-        (ap (λ n. count_before v done t span j + n) (sym (same-length (starts j))))
-        (λ end from. tenure-place t span v done end j from _ (starts end)) in
+        (open-none v done t stretch BBSY j old.tenure here h.tenure) (fall-low t BBSY j here) b
+        (ap (λ n. count_before v done t stretch j + n) (sym (same-length (starts j))))
+        (λ end from. tenure-place t stretch v done end j from _ (starts end)) in
         record { are_taken = taken; tenure = opened; cycle = h.cycle; transfer = h.transfer }
 
     -- a tenure without a grant isn't listed
     unlisted : falls t BBSY j ≡ true → tenure_row j (tenure_level t j) (tenure_slot t j)
-        (least (rises t BBSY) (j + 1) j) ≡ [] → WithTenure gave is_over whole v done t span j old
+        (least (rises t BBSY) (j + 1) j) ≡ [] → WithTenure gave is_over whole v done t stretch j old
     unlisted here none = are-still h (omega arith)
-        (omega (arith, same-length (tenure-rows-at t span j judged j here ∙ none)))
-        (subst (IsOpenAt v done t span BBSY (j + 1))
-        (sym (open-none v done t span BBSY j old.tenure here h.tenure)) tt) h.cycle h.transfer
+        (omega (arith, same-length (tenure-rows-at t stretch j judged j here ∙ none)))
+        (subst (IsOpenAt v done t stretch BBSY (j + 1))
+        (sym (open-none v done t stretch BBSY j old.tenure here h.tenure)) tt) h.cycle h.transfer
 
     pub tenure-no_level : falls t BBSY j ≡ true → tenure_level t j ≡ None
-        → WithTenure gave is_over whole v done t span j old
+        → WithTenure gave is_over whole v done t stretch j old
     tenure-no_level here e = unlisted here (rw e refl)
 
     pub tenure-no_slot : falls t BBSY j ≡ true → tenure_slot t j ≡ None
-        → WithTenure gave is_over whole v done t span j old
+        → WithTenure gave is_over whole v done t stretch j old
     tenure-no_slot here e = unlisted here (rw e (none_of (tenure_level t j)))
       where
         none_of : (o : Option ℕ) → tenure_row j o None (least (rises t BBSY) (j + 1) j) ≡ []
@@ -673,11 +685,11 @@ module _ {Whole Source : Type 0} {gave : Whole → Source → List Row → Type 
 
     pub tenure-ends : rises t BBSY j ≡ true → {new : Comparison Source}
         → HasComparedRow old.tenure (Some j) old.compared new
-        → WithTenure gave is_over whole v done t span j (put Tenures old new None)
+        → WithTenure gave is_over whole v done t stretch j (put Tenures old new None)
     tenure-ends here s = record {
       are_taken =
-          let none = same-length (tenure-rows-not t span j judged j (no-fall t BBSY j here)) in
-          let count : count_before v done t span j ≡ count_with_tenure v done t span j = omega (arith, none) in
+          let none = same-length (tenure-rows-not t stretch j judged j (no-fall t BBSY j here)) in
+          let count : count_before v done t stretch j ≡ count_with_tenure v done t stretch j = omega (arith, none) in
           line-ends h.are_taken (j + 1) (omega arith) Tenures BBSY j refl h.tenure here s count;
       tenure = tt;
       cycle = h.cycle;
@@ -685,81 +697,85 @@ module _ {Whole Source : Type 0} {gave : Whole → Source → List Row → Type 
     }
 
     pub tenure-stays : falls t BBSY j ≡ false → rises t BBSY j ≡ false
-        → WithTenure gave is_over whole v done t span j old
+        → WithTenure gave is_over whole v done t stretch j old
     tenure-stays not_here held = are-still h (omega arith)
-        (omega (arith, same-length (tenure-rows-not t span j judged j not_here)))
-        (open-stays v done t span BBSY j old.tenure held
-        (control-known t span is j judged BBSY (omega arith) refl) h.tenure) h.cycle h.transfer
+        (omega (arith, same-length (tenure-rows-not t stretch j judged j not_here)))
+        (open-stays v done t stretch BBSY j old.tenure held
+        (control-known t stretch is j judged BBSY (omega arith) refl) h.tenure) h.cycle h.transfer
 
   -- a cycle
-  module _ (h : WithTenure gave is_over whole v done t span j old) where
+  module _ (h : WithTenure gave is_over whole v done t stretch j old) where
     pub cycle-begins : falls t AS j ≡ true → {levels : Levels} → levels ≡ levels_at t j
-        → {new : Comparison Source} {right : Row} {row : OpenRow} → IsBegun gave is_over right old.compared new row
-        → right ≡ cycle_row j levels None (class_of levels)
-        → WithCycle gave is_over whole v done t span j (put Cycles old new (Some row))
-    cycle-begins here {levels} same {right = right} b is =
+        → {new : Comparison Source} {expected : Row} {row : OpenRow}
+        → IsBegun gave is_over expected old.compared new row
+        → expected ≡ cycle_row j levels None (class_of levels)
+        → WithCycle gave is_over whole v done t stretch j (put Cycles old new (Some row))
+    cycle-begins here {levels} same {expected = expected} b is =
         let (taken, opened) = line-begins h.are_taken (j + 1) (omega arith) Cycles AS j refl
-        (open-none v done t span AS j old.cycle here h.cycle) (fall-low t AS j here) b
-        (ap (λ n. count_with_tenure v done t span j + n) (sym (same-length (cycle-rows-at t span j judged j here))))
-        (λ end from. cycle-place t span v done end j from _ (cycle-rows-at t span j judged end here)
+        (open-none v done t stretch AS j old.cycle here h.cycle) (fall-low t AS j here) b
+        (ap (λ n. count_with_tenure v done t stretch j + n) (sym (same-length
+        (cycle-rows-at t stretch j judged j here))))
+        (λ end from. cycle-place t stretch v done end j from _ (cycle-rows-at t stretch j judged end here)
         ∙ ap (λ (r : Row). Some (row_in v r)) (sym (ap (λ (r : Row). with_edge r (least (rises t AS) (j + 1) end)) is
         ∙ (cycle_row-with_edge j levels (least (rises t AS) (j + 1) end) (class_of levels)
         ∙ ap (λ (w : Levels). cycle_row j w (least (rises t AS) (j + 1) end) (class_of w)) same)))) in
         record { are_taken = taken; tenure = h.tenure; cycle = opened; transfer = h.transfer }
 
     pub cycle-ends : rises t AS j ≡ true → {new : Comparison Source} → HasComparedRow old.cycle (Some j)
-        old.compared new → WithCycle gave is_over whole v done t span j (put Cycles old new None)
+        old.compared new → WithCycle gave is_over whole v done t stretch j (put Cycles old new None)
     cycle-ends here s = record {
       are_taken =
-          let none = same-length (cycle-rows-not t span j judged j (no-fall t AS j here)) in
-          let count : count_with_tenure v done t span j ≡ count_with_cycle v done t span j = omega (arith, none) in
+          let none = same-length (cycle-rows-not t stretch j judged j (no-fall t AS j here)) in
+          let count : count_with_tenure v done t stretch j ≡ count_with_cycle v done t stretch j = omega (arith, none)
+          in
           line-ends h.are_taken (j + 1) (omega arith) Cycles AS j refl h.cycle here s count;
       tenure = h.tenure;
       cycle = tt;
       transfer = h.transfer;
     }
 
-    pub cycle-stays : falls t AS j ≡ false → rises t AS j ≡ false → WithCycle gave is_over whole v done t span j old
+    pub cycle-stays : falls t AS j ≡ false → rises t AS j ≡ false → WithCycle gave is_over whole v done t stretch j old
     cycle-stays not_here held = are-still h (omega arith)
-        (omega (arith, same-length (cycle-rows-not t span j judged j not_here))) h.tenure
-        (open-stays v done t span AS j old.cycle held (address-known t span is j judged) h.cycle) h.transfer
+        (omega (arith, same-length (cycle-rows-not t stretch j judged j not_here))) h.tenure
+        (open-stays v done t stretch AS j old.cycle held (address-known t stretch is j judged) h.cycle) h.transfer
 
   -- a transfer starts
-  module _ (h : WithCycle gave is_over whole v done t span j old) where
-    pub transfer-begins : starts_transfer t j ≡ true → {new : Comparison Source} {right : Row} {row : OpenRow}
-        → IsBegun gave is_over right old.compared new row
-        → right ≡ PendingTransfer j (if low t WRITE j then Write else Read)
-        → WithTransfer gave is_over whole v done t span j (put Transfers old new (Some row))
+  module _ (h : WithCycle gave is_over whole v done t stretch j old) where
+    pub transfer-begins : starts_transfer t j ≡ true → {new : Comparison Source} {expected : Row} {row : OpenRow}
+        → IsBegun gave is_over expected old.compared new row
+        → expected ≡ PendingTransfer j (if low t WRITE j then Write else Read)
+        → WithTransfer gave is_over whole v done t stretch j (put Transfers old new (Some row))
     unfolding is_write
     transfer-begins here {row = row} b is = record {
       are_taken = begins h.are_taken (j + 1) (omega arith) Transfers
-          (transfer-none t span v done j judged old.transfer here h.transfer) b
-          (ap (λ n. count_with_cycle v done t span j + n) (sym (same-length (transfer-rows-at t span j judged j here)))
-          ∙ sym (next-count t span v done j));
+          (transfer-none t stretch v done j judged old.transfer here h.transfer) b
+          (ap (λ n. count_with_cycle v done t stretch j + n) (sym (same-length
+          (transfer-rows-at t stretch j judged j here)))
+          ∙ sym (next-count t stretch v done j));
       tenure = h.tenure;
       cycle = h.cycle;
-      transfer = transfer-new t span v done j judged row
-          (λ end. right-is h.are_taken (j + 1) (omega arith) Transfers b ∙ ap (row_in v) is) here
-          (λ end from within. ap (slice_get (right_to v done t span end)) (b.place ∙ h.are_taken.taken_is)
-          ∙ transfer-place t span v done end j from _ (transfer-rows-at t span j judged end here));
+      transfer = transfer-new t stretch v done j judged row
+          (λ end. expected-is h.are_taken (j + 1) (omega arith) Transfers b ∙ ap (row_in v) is) here
+          (λ end from within. ap (slice_get (expected_to v done t stretch end)) (b.place ∙ h.are_taken.taken_is)
+          ∙ transfer-place t stretch v done end j from _ (transfer-rows-at t stretch j judged end here));
     }
 
-    pub transfer-idle : starts_transfer t j ≡ false → WithTransfer gave is_over whole v done t span j old
+    pub transfer-idle : starts_transfer t j ≡ false → WithTransfer gave is_over whole v done t stretch j old
     transfer-idle not_here =
-        let none = same-length (transfer-rows-not t span j judged j not_here) in
-        are-still h (omega arith) (omega (arith, next-count t span v done j, none)) h.tenure h.cycle
-        (transfer-kept t span v done j judged old.transfer not_here h.transfer)
+        let none = same-length (transfer-rows-not t stretch j judged j not_here) in
+        are-still h (omega arith) (omega (arith, next-count t stretch v done j, none)) h.tenure h.cycle
+        (transfer-kept t stretch v done j judged old.transfer not_here h.transfer)
 
-  module _ (h : WithTransfer gave is_over whole v done t span j old) where
+  module _ (h : WithTransfer gave is_over whole v done t stretch j old) where
     -- no answer is listed at the instant
-    pub transfer-rests : IsTransferAt v done t span (j + 1) (j + 1) j old.transfer
-        → WithAnswer gave is_over whole v done t span j old
+    pub transfer-rests : IsTransferAt v done t stretch (j + 1) (j + 1) j old.transfer
+        → WithAnswer gave is_over whole v done t stretch j old
     transfer-rests known = are-still h (omega arith) refl h.tenure h.cycle known
 
     -- an answer gives the transfer another row at its place
     pub transfer-replies : (first later : OpenRow) → old.transfer ≡ Some first → later.place ≡ first.place
-        → later.given ≡ first.given → IsTransferAt v done t span (j + 1) (j + 1) j (Some later)
-        → WithAnswer gave is_over whole v done t span j (put Transfers old old.compared (Some later))
+        → later.given ≡ first.given → IsTransferAt v done t stretch (j + 1) (j + 1) j (Some later)
+        → WithAnswer gave is_over whole v done t stretch j (put Transfers old old.compared (Some later))
     transfer-replies first later was same_place same_given known =
         let h1 = h.are_taken in
         let placed = subst (IsTakenAt h1.given old.compared.taken) was h1.placed.transfer in
@@ -785,46 +801,47 @@ module _ {Whole Source : Type 0} {gave : Whole → Source → List Row → Type 
         }
 
   -- where both strobes are high the transfer closes, elsewhere it stays open
-  module _ (h : WithAnswer gave is_over whole v done t span j old) where
+  module _ (h : WithAnswer gave is_over whole v done t stretch j old) where
     pub transfer-closes : strobes_high t j ≡ true → {new : Comparison Source}
         → HasComparedRow old.transfer (Some j) old.compared new
-        → Follows gave is_over whole v done t span (j + 1) (put Transfers old new None)
+        → Follows gave is_over whole v done t stretch (j + 1) (put Transfers old new None)
     transfer-closes here s = record {
       are_taken = compares_row h.are_taken (j + 1) (omega arith) Transfers s
-          (λ end from within. transfer-due t span v done j judged h.are_taken.given old.compared.taken old.transfer here
+          (λ end from within. transfer-due t stretch v done j judged h.are_taken.given old.compared.taken old.transfer
+          here
           h.are_taken.placed.transfer h.transfer end from within) refl;
       tenure = h.tenure;
       cycle = h.cycle;
       transfer = tt;
     }
 
-    pub transfer-lasts : strobes_high t j ≡ false → Follows gave is_over whole v done t span (j + 1) old
+    pub transfer-lasts : strobes_high t j ≡ false → Follows gave is_over whole v done t stretch (j + 1) old
     transfer-lasts not_here = are-still h (omega arith) refl h.tenure h.cycle
-        (transfer-open t span v done j judged old.transfer not_here h.transfer)
+        (transfer-open t stretch v done j judged old.transfer not_here h.transfer)
 
 -- for the goals of a tenure, a cycle or a transfer that ends
 pub ruleset ends = (tenure-ends, cycle-ends, transfer-closes)
 
 -- ---- The open rows as a stretch starts.
 
-module _ (t : Trace) (span : Stretch) where
+module _ (t : Trace) (stretch : Stretch) where
   -- no row starts before the stretch, and at its start only a tenure
-  cycles-none : (end i : ℕ) → i ≤ span.start → cycle_rows t span end i ≡ []
+  cycles-none : (end i : ℕ) → i ≤ stretch.start → cycle_rows t stretch end i ≡ []
   unfolding cycle_rows cycle_starts
-  cycles-none end i h = rw (unjudged span i h) refl
+  cycles-none end i h = rw (unjudged stretch i h) refl
 
-  transfers-none : (end i : ℕ) → i ≤ span.start → transfer_rows t span end i ≡ []
+  transfers-none : (end i : ℕ) → i ≤ stretch.start → transfer_rows t stretch end i ≡ []
   unfolding transfer_rows transfer_starts
-  transfers-none end i h = rw (unjudged span i h) refl
+  transfers-none end i h = rw (unjudged stretch i h) refl
 
-  tenures-none : (end i : ℕ) → i < span.start → tenure_rows t span end i ≡ []
+  tenures-none : (end i : ℕ) → i < stretch.start → tenure_rows t stretch end i ≡ []
   unfolding tenure_rows tenure_starts
-  tenures-none end i h = rw (other i h, unjudged span i (omega arith)) refl
+  tenures-none end i h = rw (other i h, unjudged stretch i (omega arith)) refl
     where
-      other : (i : ℕ) → i < span.start → (i == span.start) ≡ false
+      other : (i : ℕ) → i < stretch.start → (i == stretch.start) ≡ false
       other i h = grind (arith, nat_tests)
 
-  none-before : (end i : ℕ) → i ≤ span.start → rows_before t span end i ≡ []
+  none-before : (end i : ℕ) → i ≤ stretch.start → rows_before t stretch end i ≡ []
   unfolding rows_before
   none-before end zero h = refl
   none-before end (suc i) h = rw (
@@ -834,44 +851,44 @@ module _ (t : Trace) (span : Stretch) where
     transfers-none end i (omega arith),
   ) refl
 
-  same : (span.start == span.start) ≡ true
+  same : (stretch.start == stretch.start) ≡ true
   same = grind (arith, nat_tests)
 
-  open-there : (end : ℕ) → low t BBSY span.start ≡ true → tenure_rows t span end span.start
-      ≡ OpenTenure span.start (least (rises t BBSY) (span.start + 1) end) ∷ []
+  open-there : (end : ℕ) → low t BBSY stretch.start ≡ true → tenure_rows t stretch end stretch.start
+      ≡ OpenTenure stretch.start (least (rises t BBSY) (stretch.start + 1) end) ∷ []
   unfolding tenure_rows
   open-there end busy = rw (same, busy) refl
 
-  free-there : (end : ℕ) → low t BBSY span.start ≡ false → tenure_rows t span end span.start ≡ []
+  free-there : (end : ℕ) → low t BBSY stretch.start ≡ false → tenure_rows t stretch end stretch.start ≡ []
   unfolding tenure_rows tenure_starts
-  free-there end free = rw (same, free, unjudged span span.start (omega arith)) refl
+  free-there end free = rw (same, free, unjudged stretch stretch.start (omega arith)) refl
 
-  counted : (v : Version) (done : List Row) → count_before v done t span (span.start + 1)
-      ≡ length done + 1 + length (tenure_rows t span span.start span.start)
+  counted : (v : Version) (done : List Row) → count_before v done t stretch (stretch.start + 1)
+      ≡ length done + 1 + length (tenure_rows t stretch stretch.start stretch.start)
   counted v done =
-      let from : span.start ≤ span.start = omega arith in
+      let from : stretch.start ≤ stretch.start = omega arith in
       omega (
         arith,
-        next-count t span v done span.start,
-        same-length (none-before span.start span.start from),
-        same-length (cycles-none span.start span.start from),
-        same-length (transfers-none span.start span.start from),
+        next-count t stretch v done stretch.start,
+        same-length (none-before stretch.start stretch.start from),
+        same-length (cycles-none stretch.start stretch.start from),
+        same-length (transfers-none stretch.start stretch.start from),
       )
 
 module _ {Whole Source : Type 0} {gave : Whole → Source → List Row → Type 0} {is_over : Source → Type 0} {whole : Whole}
-    {v : Version} (done : List Row) (t : Trace) (span : Stretch) {old : OpenRows Source} (closed : NoneIsOpen old)
-    (h : CanClose gave is_over whole v (done ++ Start span.start ∷ []) old) where
+    {v : Version} (done : List Row) (t : Trace) (stretch : Stretch) {old : OpenRows Source} (closed : NoneIsOpen old)
+    (h : CanClose gave is_over whole v (done ++ Start stretch.start ∷ []) old) where
   abbrev front : List Row
-  front = done ++ Start span.start ∷ []
+  front = done ++ Start stretch.start ∷ []
 
   -- the row of the start was taken: the rows of the stretch follow it
-  start_taken : AreTaken gave is_over whole v done t span (span.start + 1) (length done + 1) old
+  start_taken : AreTaken gave is_over whole v done t stretch (stretch.start + 1) (length done + 1) old
   start_taken = record {
     version_is = h.version_is;
-    taken_is = h.taken_is ∙ length-append done (Start span.start ∷ []);
+    taken_is = h.taken_is ∙ length-append done (Start stretch.start ∷ []);
     given = h.given;
     is_given = h.is_given;
-    compared = λ end from within. compared-on h.given h.given (rows_in v front) (right_to v done t span end)
+    compared = λ end from within. compared-on h.given h.given (rows_in v front) (expected_to v done t stretch end)
         old.compared.taken old.compared.taken (is_open old) (is_open old) old.compared.wrong (omega arith)
         (λ n below. refl) (λ n below. longer end n below) (λ n below off. (below, off)) h.compared;
     placed = record {
@@ -881,40 +898,46 @@ module _ {Whole Source : Type 0} {gave : Whole → Source → List Row → Type 
     };
   }
     where
-      longer : (end n : ℕ) → n < old.compared.taken → slice_get (right_to v done t span end) n
+      longer : (end n : ℕ) → n < old.compared.taken → slice_get (expected_to v done t stretch end) n
           ≡ slice_get (rows_in v front) n
       longer end n below =
-          let rest = rows_before t span end end in
-          ap (λ (rows : List Row). slice_get (rows_in v rows) n) (sym (append_assoc done (Start span.start ∷ []) rest))
+          let rest = rows_before t stretch end end in
+          ap (λ (rows : List Row). slice_get (rows_in v rows) n) (sym
+          (append_assoc done (Start stretch.start ∷ []) rest))
           ∙ (ap (λ (rows : List Row). slice_get rows n) (rows_in-append v front rest)
           ∙ slice_get-front (rows_in v front) (rows_in v rest) n
           (omega (arith, below, h.taken_is, rows_in-length v front)))
 
-  no_cycle : IsOpenAt v done t span AS (span.start + 1) old.cycle
-  no_cycle = subst (IsOpenAt v done t span AS (span.start + 1)) (sym closed.cycle) tt
+  no_cycle : IsOpenAt v done t stretch AS (stretch.start + 1) old.cycle
+  no_cycle = subst (IsOpenAt v done t stretch AS (stretch.start + 1)) (sym closed.cycle) tt
 
-  none_pending : IsTransferAt v done t span (span.start + 1) (span.start + 1) (span.start + 1) old.transfer
+  none_pending : IsTransferAt v done t stretch (stretch.start + 1) (stretch.start + 1) (stretch.start + 1) old.transfer
   none_pending =
-      let first = span.start + 1 in
-      subst (IsTransferAt v done t span first first first) (sym closed.transfer) tt
+      let first = stretch.start + 1 in
+      subst (IsTransferAt v done t stretch first first first) (sym closed.transfer) tt
 
-  pub starts-free : low t BBSY span.start ≡ false → Follows gave is_over whole v done t span (span.start + 1) old
+  pub starts-free : low t BBSY stretch.start ≡ false → Follows gave is_over whole v done t stretch (stretch.start + 1)
+      old
   starts-free free = record {
-    are_taken = rests start_taken (span.start + 1) (omega arith)
-        (omega (arith, counted t span v done, same-length (free-there t span span.start free)));
-    tenure = subst (IsOpenAt v done t span BBSY (span.start + 1)) (sym closed.tenure) tt;
+    are_taken = rests start_taken (stretch.start + 1) (omega arith)
+        (omega (arith, counted t stretch v done, same-length (free-there t stretch stretch.start free)));
+    tenure = subst (IsOpenAt v done t stretch BBSY (stretch.start + 1)) (sym closed.tenure) tt;
     cycle = no_cycle;
     transfer = none_pending;
   }
 
-  pub starts-busy : low t BBSY span.start ≡ true → {new : Comparison Source} {row : OpenRow}
-      → IsBegun gave is_over (OpenTenure span.start None) old.compared new row
-      → Follows gave is_over whole v done t span (span.start + 1) (put Tenures old new (Some row))
+  pub starts-busy : low t BBSY stretch.start ≡ true → {new : Comparison Source} {row : OpenRow}
+      → IsBegun gave is_over (OpenTenure stretch.start None) old.compared new row
+      → Follows gave is_over whole v done t stretch (stretch.start + 1) (put Tenures old new (Some row))
   starts-busy busy b =
-      let there : count_before v done t span span.start ≡ length done + 1 =
-      omega (arith, same-length (none-before t span span.start span.start (omega arith))) in
-      let (taken, opened) = line-begins start_taken (span.start + 1) (omega arith) Tenures BBSY span.start refl
-      closed.tenure busy b (omega (arith, counted t span v done, same-length (open-there t span span.start busy)))
-      (λ end from. ap (slice_get (right_to v done t span end)) (sym there)
-      ∙ tenure-place t span v done end span.start from _ (open-there t span end busy)) in
+      let there : count_before v done t stretch stretch.start ≡ length done + 1 =
+      omega (arith, same-length (none-before t stretch stretch.start stretch.start (omega arith))) in
+      let (taken, opened) = line-begins start_taken (stretch.start + 1) (omega arith) Tenures BBSY stretch.start refl
+      closed.tenure busy b (omega (
+        arith,
+        counted t stretch v done,
+        same-length (open-there t stretch stretch.start busy),
+      ))
+      (λ end from. ap (slice_get (expected_to v done t stretch end)) (sym there)
+      ∙ tenure-place t stretch v done end stretch.start from _ (open-there t stretch end busy)) in
       record { are_taken = taken; tenure = opened; cycle = no_cycle; transfer = none_pending }

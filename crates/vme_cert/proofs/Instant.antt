@@ -5,8 +5,8 @@ use Rattle.std.specs.Prelude.{None, is_some, Option, Some, option_map, unwrap_or
 use Rattle.std.proofs.lemmas.Bool.{ltb-true, and_parts}
 use Rattle.std.proofs.Math.Bool.{or-false, or-true}
 use Rattle.vme_trace.proofs.Ranges.{any-holds, fails-any, least-found, least-none-any, any-fails}
-use Rattle.vme_trace.proofs.JudgedSpans.{span_unlost, span_unreset}
-use Rattle.vme_cert.specs.Vocabulary.{AS, IsSpanOf, Stretch, Trace, any, every, falls, grant, greatest, has_edge}
+use Rattle.vme_trace.proofs.JudgedStretches.{stretch_unlost, stretch_unreset}
+use Rattle.vme_cert.specs.Vocabulary.{AS, IsStretchOf, Stretch, Trace, any, every, falls, grant, greatest, has_edge}
 use Rattle.vme_cert.specs.Vocabulary.{has_reached, high, is_control, is_granting, is_judged, is_known_on, is_lost}
 use Rattle.vme_cert.specs.Vocabulary.{is_reset, is_reset_at, known, least, levels_at, line_count, loses_control}
 use Rattle.vme_cert.specs.Vocabulary.{loses_control_at, low, near, rises, taken_grant, tenure_level, tenure_slot}
@@ -105,21 +105,22 @@ module _ (t : Trace) (j level : ℕ) (is : tenure_level t j ≡ Some level) wher
 
 -- ---- Within a stretch every control line is known.
 
-module _ (t : Trace) (span : Stretch) (is : IsSpanOf t span) (j : ℕ) (judged : is_judged span j ≡ true) where
-  after : span.start < j
-  after = ltb-true span.start j (and_parts (nat_lt span.start j) (nat_lt j span.end) judged).0
+module _ (t : Trace) (stretch : Stretch) (is : IsStretchOf t stretch) (j : ℕ)
+    (judged : is_judged stretch j ≡ true) where
+  after : stretch.start < j
+  after = ltb-true stretch.start j (and_parts (nat_lt stretch.start j) (nat_lt j stretch.end) judged).0
 
-  before : j < span.end
-  before = ltb-true j span.end (and_parts (nat_lt span.start j) (nat_lt j span.end) judged).1
+  before : j < stretch.end
+  before = ltb-true j stretch.end (and_parts (nat_lt stretch.start j) (nat_lt j stretch.end) judged).1
 
   none_lost : (l : ℕ) → l < line_count → is_lost (levels_at t j) l ≡ false
   unfolding loses_control_at loses_control
   none_lost l below = any-fails (is_lost (levels_at t j)) 0 line_count l
-      (span_unlost t span j is (omega (arith, after)) before) (omega arith) below
+      (stretch_unlost t stretch j is (omega (arith, after)) before) (omega arith) below
 
   unreset : is_reset (levels_at t j) ≡ false
   unfolding is_reset_at
-  unreset = span_unreset t span j is (omega (arith, after)) before
+  unreset = stretch_unreset t stretch j is (omega (arith, after)) before
 
   pub control-known : (l : ℕ) → l < line_count → is_control (levels_at t j).slots l ≡ true → known t l j ≡ true
   unfolding known

@@ -1,4 +1,4 @@
--- The row of a cycle, and the place of a right row among the others.
+-- The row of a cycle, and the place of an expected row among the others.
 use Rattle.std.proofs.Common.{◌≡◌, ℕ, zero, suc, ◌+◌, ◌*◌, ◌%◌, ◌^◌, ◌<◌, ◌≤◌, Bool, true, false, refl, ap, arith}
 use Rattle.std.proofs.Common.{add-one, add-zero, lit<, ◌&&◌, ◌==◌, List, [], ◌∷◌, ◌++◌, length, cond, sym, ◌∙◌, inl}
 use Rattle.std.proofs.Common.{inr, length-append, append_assoc}
@@ -12,7 +12,7 @@ use Rattle.vme_cert.specs.Vocabulary.{Trace, Two, Version, address_to, class_of,
 use Rattle.vme_cert.specs.Vocabulary.{is_high, is_within, least, level_at, low, modifier_of, needs_of, rises, row_in}
 use Rattle.vme_cert.specs.Vocabulary.{rows_before, rows_in, tenure_level, tenure_row, tenure_rows, tenure_slot}
 use Rattle.vme_cert.specs.Vocabulary.{tenure_starts, transfer_rows, transfer_starts, without_data}
-use Rattle.vme_cert.specs.Following.{count_before, count_with_cycle, count_with_tenure, right_to}
+use Rattle.vme_cert.specs.Following.{count_before, count_with_cycle, count_with_tenure, expected_to}
 use Rattle.vme_cert.proofs.Comparing.{slice_get-here}
 use Rattle.vme_cert.proofs.Ranges.{last_or_before}
 
@@ -79,9 +79,10 @@ pub interrupt-highest : (v : Levels) → class_of v ≡ class.I → (needs_of v)
 unfolding needs_of
 interrupt-highest v e = rw e refl
 
--- ---- The place of a right row: how many rows start before an instant doesn't depend on the end, and they come first.
+-- ---- The place of an expected row: how many rows start before an instant doesn't depend on the
+-- end, and they come first.
 
--- the right rows in the version of a listing
+-- the expected rows in the version of a listing
 pub rows_in-append : (v : Version) (xs ys : List Row) → rows_in v (xs ++ ys) ≡ rows_in v xs ++ rows_in v ys
 unfolding rows_in
 rows_in-append One xs ys = map-append without_data xs ys
@@ -116,11 +117,11 @@ same_length false x y = refl
 regroup : (a b c d e : List Row) → a ++ b ++ c ++ d ++ e ≡ a ++ (b ++ (c ++ (d ++ e)))
 regroup a b c d e = simp append_assoc
 
-module _ (t : Trace) (span : Stretch) where
+module _ (t : Trace) (stretch : Stretch) where
   module _ (e f : ℕ) where
-    pub tenure-count : (i : ℕ) → length (tenure_rows t span e i) ≡ length (tenure_rows t span f i)
+    pub tenure-count : (i : ℕ) → length (tenure_rows t stretch e i) ≡ length (tenure_rows t stretch f i)
     unfolding tenure_rows
-    tenure-count i = by_test ((i == span.start) && low t BBSY i) (tenure_starts t span i) _ _ _ _
+    tenure-count i = by_test ((i == stretch.start) && low t BBSY i) (tenure_starts t stretch i) _ _ _ _
         (by_place (tenure_level t i) (tenure_slot t i))
       where
         by_test : (a b : Bool) (x y : Row) (xs ys : List Row) → length xs ≡ length ys
@@ -135,107 +136,113 @@ module _ (t : Trace) (span : Stretch) where
         by_place (Some level) None = refl
         by_place (Some level) (Some slot) = refl
 
-    pub cycle-count : (i : ℕ) → length (cycle_rows t span e i) ≡ length (cycle_rows t span f i)
+    pub cycle-count : (i : ℕ) → length (cycle_rows t stretch e i) ≡ length (cycle_rows t stretch f i)
     unfolding cycle_rows
-    cycle-count i = same_length (cycle_starts t span i) _ _
+    cycle-count i = same_length (cycle_starts t stretch i) _ _
 
-    pub transfer-count : (i : ℕ) → length (transfer_rows t span e i) ≡ length (transfer_rows t span f i)
+    pub transfer-count : (i : ℕ) → length (transfer_rows t stretch e i) ≡ length (transfer_rows t stretch f i)
     unfolding transfer_rows
-    transfer-count i = same_length (transfer_starts t span i) _ _
+    transfer-count i = same_length (transfer_starts t stretch i) _ _
 
     -- how many rows start before an instant doesn't depend on the end
-    pub rows-count : (j : ℕ) → length (rows_before t span e j) ≡ length (rows_before t span f j)
+    pub rows-count : (j : ℕ) → length (rows_before t stretch e j) ≡ length (rows_before t stretch f j)
     unfolding rows_before
     rows-count zero = refl
     rows-count (suc j) = simp (length-append, rows-count j, tenure-count j, cycle-count j, transfer-count j)
 
-  rows-next : (end j : ℕ) → rows_before t span end (j + 1) ≡ rows_before t span end j ++ tenure_rows t span end j
-      ++ cycle_rows t span end j ++ transfer_rows t span end j
+  rows-next : (end j : ℕ) → rows_before t stretch end (j + 1) ≡ rows_before t stretch end j
+      ++ tenure_rows t stretch end j
+      ++ cycle_rows t stretch end j ++ transfer_rows t stretch end j
   unfolding rows_before
   rows-next end j = rw add-one refl
 
   -- the rows that start before `j` are the first of those that start before `n`
-  front : (end j n : ℕ) → j ≤ n → (rest : List Row) × (rows_before t span end n ≡ rows_before t span end j ++ rest)
+  front : (end j n : ℕ) → j ≤ n → (rest : List Row) × (rows_before t stretch end n ≡ rows_before t stretch end j
+      ++ rest)
   unfolding rows_before
   front end j zero h = let e : j ≡ 0 = omega arith in ([], rw e refl)
   front end j (suc n) h =
       elim (last_or_before j (suc n) (omega arith)) [
-        | inl e ↦ ([], ap (rows_before t span end) (sym e) ∙ sym (append-nil (rows_before t span end j)))
+        | inl e ↦ ([], ap (rows_before t stretch end) (sym e) ∙ sym (append-nil (rows_before t stretch end j)))
         | inr before ↦
             let (rest, is) = front end j n (omega arith) in
-            let new = tenure_rows t span end n ++ (cycle_rows t span end n ++ transfer_rows t span end n) in
+            let new = tenure_rows t stretch end n ++ (cycle_rows t stretch end n ++ transfer_rows t stretch end n) in
             (rest ++ new, simp (is, append_assoc))
       ]
 
   -- the rows are those that start before `j`, those that start at `j`, and then the rest
-  all_rows : (end j : ℕ) → j + 1 ≤ end → (rest : List Row) × (rows_before t span end end ≡ rows_before t span end j
-      ++ (tenure_rows t span end j ++ (cycle_rows t span end j ++ (transfer_rows t span end j ++ rest))))
+  all_rows : (end j : ℕ) → j + 1 ≤ end → (rest : List Row) × (rows_before t stretch end end
+      ≡ rows_before t stretch end j
+      ++ (tenure_rows t stretch end j ++ (cycle_rows t stretch end j ++ (transfer_rows t stretch end j ++ rest))))
   all_rows end j h =
       let (rest, is) = front end (j + 1) end h in (
         rest,
         is ∙ (ap (λ (rows : List Row). rows ++ rest) (rows-next end j)
-            ∙ regroup (rows_before t span end j) (tenure_rows t span end j) (cycle_rows t span end j)
-            (transfer_rows t span end j) rest),
+            ∙ regroup (rows_before t stretch end j) (tenure_rows t stretch end j) (cycle_rows t stretch end j)
+            (transfer_rows t stretch end j) rest),
       )
 
   module _ (v : Version) (done : List Row) where
-    -- a row of the stretch after the rows `xs` is the right row at `place`, which counts all rows before it
-    row_at : (end : ℕ) (xs ys : List Row) (row : Row) (place : ℕ) → rows_before t span end end ≡ xs ++ row ∷ ys
-        → length done + 1 + length xs ≡ place → slice_get (right_to v done t span end) place ≡ Some (row_in v row)
+    -- a row of the stretch after the rows `xs` is the expected row at `place`, which counts all rows before it
+    row_at : (end : ℕ) (xs ys : List Row) (row : Row) (place : ℕ) → rows_before t stretch end end ≡ xs ++ row ∷ ys
+        → length done + 1 + length xs ≡ place → slice_get (expected_to v done t stretch end) place ≡ Some (row_in v row)
     row_at end xs ys row place is at =
-        let all : done ++ (Start span.start ∷ rows_before t span end end) ≡
-        (done ++ Start span.start ∷ xs) ++ row ∷ ys =
-        ap (λ (rows : List Row). done ++ (Start span.start ∷ rows)) is
-        ∙ sym (append_assoc done (Start span.start ∷ xs) (row ∷ ys)) in
+        let all : done ++ (Start stretch.start ∷ rows_before t stretch end end) ≡
+        (done ++ Start stretch.start ∷ xs) ++ row ∷ ys =
+        ap (λ (rows : List Row). done ++ (Start stretch.start ∷ rows)) is
+        ∙ sym (append_assoc done (Start stretch.start ∷ xs) (row ∷ ys)) in
         ap (λ (rows : List Row). slice_get (rows_in v rows) place) all
-        ∙ (ap (slice_get (rows_in v ((done ++ Start span.start ∷ xs) ++ row ∷ ys)))
-        (sym (length-append done (Start span.start ∷ xs) ∙ counted) ∙ refl)
-        ∙ row_after v (done ++ Start span.start ∷ xs) ys row)
+        ∙ (ap (slice_get (rows_in v ((done ++ Start stretch.start ∷ xs) ++ row ∷ ys)))
+        (sym (length-append done (Start stretch.start ∷ xs) ∙ counted) ∙ refl)
+        ∙ row_after v (done ++ Start stretch.start ∷ xs) ys row)
       where
-        counted : length done + length (Start span.start ∷ xs) ≡ place
+        counted : length done + length (Start stretch.start ∷ xs) ≡ place
         counted = omega (arith, at)
 
     module _ (end j : ℕ) (h : j + 1 ≤ end) (row : Row) where
-      -- the place of a row that starts at `j` is the number of the right rows before it
-      pub tenure-place : tenure_rows t span end j ≡ row ∷ []
-          → slice_get (right_to v done t span end) (count_before v done t span j) ≡ Some (row_in v row)
+      -- the place of a row that starts at `j` is the number of the expected rows before it
+      pub tenure-place : tenure_rows t stretch end j ≡ row ∷ []
+          → slice_get (expected_to v done t stretch end) (count_before v done t stretch j) ≡ Some (row_in v row)
       tenure-place is =
           let (rest, all) = all_rows end j h in
-          row_at end (rows_before t span end j) (cycle_rows t span end j ++ (transfer_rows t span end j ++ rest)) row _
+          row_at end (rows_before t stretch end j) (cycle_rows t stretch end j
+          ++ (transfer_rows t stretch end j ++ rest)) row _
           (rw is at all) (ap (λ n. length done + 1 + n) (rows-count end j j))
 
-      pub cycle-place : cycle_rows t span end j ≡ row ∷ []
-          → slice_get (right_to v done t span end) (count_with_tenure v done t span j) ≡ Some (row_in v row)
+      pub cycle-place : cycle_rows t stretch end j ≡ row ∷ []
+          → slice_get (expected_to v done t stretch end) (count_with_tenure v done t stretch j) ≡ Some (row_in v row)
       cycle-place is =
           let (rest, all) = all_rows end j h in
-          row_at end (rows_before t span end j ++ tenure_rows t span end j) (transfer_rows t span end j ++ rest) row _
-          (rw is at all ∙ sym (append_assoc (rows_before t span end j) (tenure_rows t span end j)
-          (row ∷ (transfer_rows t span end j ++ rest))))
+          row_at end (rows_before t stretch end j ++ tenure_rows t stretch end j)
+          (transfer_rows t stretch end j ++ rest) row _
+          (rw is at all ∙ sym (append_assoc (rows_before t stretch end j) (tenure_rows t stretch end j)
+          (row ∷ (transfer_rows t stretch end j ++ rest))))
           (omega (
             arith,
-            length-append (rows_before t span end j) (tenure_rows t span end j),
+            length-append (rows_before t stretch end j) (tenure_rows t stretch end j),
             rows-count end j j,
             tenure-count end j j,
           ))
 
-      pub transfer-place : transfer_rows t span end j ≡ row ∷ []
-          → slice_get (right_to v done t span end) (count_with_cycle v done t span j) ≡ Some (row_in v row)
+      pub transfer-place : transfer_rows t stretch end j ≡ row ∷ []
+          → slice_get (expected_to v done t stretch end) (count_with_cycle v done t stretch j) ≡ Some (row_in v row)
       transfer-place is =
           let (rest, all) = all_rows end j h in
-          row_at end (rows_before t span end j ++ tenure_rows t span end j ++ cycle_rows t span end j) rest row _
+          row_at end (rows_before t stretch end j ++ tenure_rows t stretch end j ++ cycle_rows t stretch end j) rest row
+          _
           (rw is at all ∙ simp append_assoc)
           (omega (
             arith,
-            length-append (rows_before t span end j ++ tenure_rows t span end j) (cycle_rows t span end j),
-            length-append (rows_before t span end j) (tenure_rows t span end j),
+            length-append (rows_before t stretch end j ++ tenure_rows t stretch end j) (cycle_rows t stretch end j),
+            length-append (rows_before t stretch end j) (tenure_rows t stretch end j),
             rows-count end j j,
             tenure-count end j j,
             cycle-count end j j,
           ))
 
     -- the rows that start before `j + 1` are those before `j` and those at `j`
-    pub next-count : (j : ℕ) → count_before v done t span (j + 1) ≡ count_with_cycle v done t span j + length
-        (transfer_rows t span j j)
+    pub next-count : (j : ℕ) → count_before v done t stretch (j + 1) ≡ count_with_cycle v done t stretch j + length
+        (transfer_rows t stretch j j)
     next-count j = simp (
       rows-next,
       length-append,

@@ -167,12 +167,12 @@ pub ruleset steps = (searches, any-start, any-more, none-shorter)
 
 -- ---- A range that is longer by one.
 
-pub after_start : (span : Stretch) (j : ℕ) → is_judged span j ≡ true → span.start + 1 ≤ j
-after_start span j judged = let after =
-    ltb-true span.start j (and_parts (nat_lt span.start j) (nat_lt j span.end) judged).0 in omega arith
+pub after_start : (stretch : Stretch) (j : ℕ) → is_judged stretch j ≡ true → stretch.start + 1 ≤ j
+after_start stretch j judged = let after =
+    ltb-true stretch.start j (and_parts (nat_lt stretch.start j) (nat_lt j stretch.end) judged).0 in omega arith
 
-pub unjudged : (span : Stretch) (i : ℕ) → i ≤ span.start → is_judged span i ≡ false
-unjudged span i h = grind (arith, nat_tests)
+pub unjudged : (stretch : Stretch) (i : ℕ) → i ≤ stretch.start → is_judged stretch i ≡ false
+unjudged stretch i h = grind (arith, nat_tests)
 
 pub greatest-here : (p : ℕ → Bool) (f n : ℕ) → f ≤ n → p n ≡ true → greatest p f (n + 1) ≡ Some n
 unfolding greatest
@@ -185,5 +185,5 @@ greatest-not p f n not_here = rw (add-one, and_right (nat_le f n) (p n) not_here
 pub none-step : (p : ℕ → Bool) (f n : ℕ) → f ≤ n → none p f (n + 1) ≡ (none p f n && not (p n))
 none-step p f n from = ap not (any-step p f n) ∙ rw (le-leb f n from) (not_or (any p f n) (p n))
 
-pub later : (span : Stretch) (j : ℕ) → is_judged span j ≡ true → 1 ≤ j
-later span j judged = let after = after_start span j judged in omega arith
+pub later : (stretch : Stretch) (j : ℕ) → is_judged stretch j ≡ true → 1 ≤ j
+later stretch j judged = let after = after_start stretch j judged in omega arith

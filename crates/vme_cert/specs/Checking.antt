@@ -1,10 +1,10 @@
 -- The rows of a recording, stretch by stretch, and how far a checker has followed them after an instant.
 use Rattle.std.specs.Prelude.{◌≡◌, ℕ, ◌+◌, ◌*◌, ◌<◌, ◌≤◌, ◌&&◌, true, List, [], ◌∷◌, ◌++◌, Option, None, Some, nat_lt}
 use Rattle.std.specs.Prelude.{if◌then◌else◌}
-use Rattle.vme_cert.specs.Vocabulary.{Awaits, Break, Conforming, IsSpanOf, Levels, ListedVerdict, Reset, Row, Step}
+use Rattle.vme_cert.specs.Vocabulary.{Awaits, Break, Conforming, IsStretchOf, Levels, ListedVerdict, Reset, Row, Step}
 use Rattle.vme_cert.specs.Vocabulary.{Stretch, Trace, Verdict, Version, all_rules, are_changes, break_before}
 use Rattle.vme_cert.specs.Vocabulary.{capture_limit, is_reset_at, last_instant, least_break, levels_after, outcome_of}
-use Rattle.vme_cert.specs.Vocabulary.{recorded_rows, rows_in, span_end, span_from, spans_after, with_steps}
+use Rattle.vme_cert.specs.Vocabulary.{recorded_rows, rows_in, stretch_end, stretch_from, stretches_after, with_steps}
 use Rattle.vme_cert.specs.Comparing.{Decides}
 use Rattle.vme_cert.specs.Following.{CanClose, Follows, rows_to}
 use Rattle.vme_cert.specs.Instant.{IsBusOf}
@@ -21,15 +21,16 @@ module _ (t : Trace) where
   abbrev pub reset_at : ℕ → List Row
   reset_at i = if is_reset_at t i && nat_lt i (last_instant t + 1) then Reset i ∷ [] else []
 
-  -- the rows from `span` on, by its least break: without one `later` follows, with one the verdict
+  -- the rows from `stretch` on, by its least break: without one `later` follows, with one the verdict
   abbrev pub rows_by : Stretch → Option Break → List Row → List Row
-  rows_by span None later = rows_to t span span.end ++ (reset_at span.end ++ later)
-  rows_by span (Some b) later = rows_to t span b.instant ++ Verdict (outcome_of (Some b)) ∷ []
+  rows_by stretch None later = rows_to t stretch stretch.end ++ (reset_at stretch.end ++ later)
+  rows_by stretch (Some b) later = rows_to t stretch b.instant ++ Verdict (outcome_of (Some b)) ∷ []
 
   -- the rows of the stretches in order, up to the verdict: it is `outcome` if there is no stretch
   abbrev pub rows_from : ListedVerdict → List Stretch → List Row
   rows_from outcome [] = Verdict outcome ∷ []
-  rows_from outcome (span ∷ spans) = rows_by span (least_break t span all_rules) (rows_from Conforming spans)
+  rows_from outcome (stretch ∷ stretches) = rows_by stretch (least_break t stretch all_rules)
+      (rows_from Conforming stretches)
 
   -- `rows` are the rows of the recording after `done`
   abbrev pub AreRemainingRows : List Row → List Row → Type 0
@@ -41,22 +42,22 @@ module _ {Whole Source : Type 0} (gave : Whole → Source → List Row → Type 
   pub record IsWaiting (n : ℕ) (outcome : ListedVerdict) (rows : OpenRows Source) : Type 0 where
     pub awaits : Awaits t n
     pub done : List Row
-    pub all : AreRemainingRows t done (rows_from t outcome (spans_after t n))
+    pub all : AreRemainingRows t done (rows_from t outcome (stretches_after t n))
     pub rows_are : CanClose gave is_over whole version done rows
 
   -- instant `n` is in the stretch from `start`, or is its end, and no rule was broken in it before `n`
   pub record IsInStretch (n : ℕ) (outcome : ListedVerdict) (rows : OpenRows Source) (state : State) : Type 0 where
     pub start : ℕ
-    pub is : IsSpanOf t (span_from t start)
+    pub is : IsStretchOf t (stretch_from t start)
     pub after : start < n
-    pub upto : n ≤ span_end t start
-    pub unbroken : break_before t (span_from t start) all_rules n ≡ None
-    pub holds : Holds t (span_from t start) n n state
+    pub upto : n ≤ stretch_end t start
+    pub unbroken : break_before t (stretch_from t start) all_rules n ≡ None
+    pub holds : Holds t (stretch_from t start) n n state
     pub conforms : outcome ≡ Conforming
     pub done : List Row
-    pub all : AreRemainingRows t done (rows_by t (span_from t start) (least_break t (span_from t start) all_rules)
-        (rows_from t Conforming (spans_after t (span_end t start + 1))))
-    pub rows_are : Follows gave is_over whole version done t (span_from t start) n rows
+    pub all : AreRemainingRows t done (rows_by t (stretch_from t start) (least_break t (stretch_from t start) all_rules)
+        (rows_from t Conforming (stretches_after t (stretch_end t start + 1))))
+    pub rows_are : Follows gave is_over whole version done t (stretch_from t start) n rows
 
   -- judging has ended: all rows but the verdict have started
   pub record IsEnded (outcome : ListedVerdict) (rows : OpenRows Source) : Type 0 where

@@ -1,4 +1,4 @@
--- Which of the right rows were compared with the given ones, and the least that differs.
+-- Which of the expected rows were compared with the given ones, and the least that differs.
 use Rattle.std.specs.Prelude.{ℕ, Option, ◌≡◌, ◌+◌, ◌-◌, ◌<◌, ◌≤◌, ◌==◌, ◌&&◌, ◌⊎◌, not, Bool, false, List, length}
 use Rattle.std.specs.Prelude.{slice_get, None, Some}
 use Rattle.vme_cert.specs.Vocabulary.{Row, row_in}
@@ -23,9 +23,9 @@ abbrev pub same_to : ℕ → Option ℕ → ℕ
 same_to taken None = taken
 same_to taken (Some row) = row - 1
 
-module _ (given right : List Row) where
+module _ (given expected : List Row) where
   abbrev pub IsSame : ℕ → Type 0
-  IsSame n = slice_get given n ≡ slice_get right n
+  IsSame n = slice_get given n ≡ slice_get expected n
 
   abbrev pub Differs : ℕ → Option ℕ → Type 0
   Differs taken None = Unit {0}
@@ -37,11 +37,11 @@ module _ (given right : List Row) where
     pub same : (n : ℕ) → n < same_to taken wrong → open_at n ≡ false → IsSame n
     pub differs : Differs taken wrong
 
-  -- the open row was taken, and with `edge` it is the right one at its place
+  -- the open row was taken, and with `edge` it is the expected one at its place
   abbrev pub IsDue : ℕ → Option ℕ → Option OpenRow → Type 0
   IsDue taken edge None = Unit {0}
   IsDue taken edge (Some row) = (row.place < taken) × (row.given ≡ slice_get given row.place)
-      × (slice_get right row.place ≡ Some (with_edge row.right edge))
+      × (slice_get expected row.place ≡ Some (with_edge row.expected edge))
 
 -- `more` has the same first `taken` rows as `given`
 abbrev pub Extends : List Row → List Row → ℕ → Type 0
@@ -62,13 +62,13 @@ module _ {Whole Source : Type 0} (gave : Whole → Source → List Row → Type 
     pub given_is : row ≡ slice_get more taken
 
 module _ {Whole Source : Type 0} (gave : Whole → Source → List Row → Type 0) (is_over : Source → Type 0) where
-  -- `right` has started as the open row `row`, and the next given row was taken
-  pub record IsBegun (right : Row) (old new : Comparison Source) (row : OpenRow) : Type 0 where
+  -- `expected` has started as the open row `row`, and the next given row was taken
+  pub record IsBegun (expected : Row) (old new : Comparison Source) (row : OpenRow) : Type 0 where
     pub version : new.version ≡ old.version
     pub wrong : new.wrong ≡ old.wrong
     pub taken : new.taken ≡ old.taken + 1
     pub place : row.place ≡ old.taken
-    pub right_is : row.right ≡ row_in old.version right
+    pub expected_is : row.expected ≡ row_in old.version expected
     pub given : (whole : Whole) (given : List Row) → IsGiven gave is_over whole given old.source old.taken
         → IsGivenNext gave is_over whole given row.given new.source old.taken
 
@@ -78,11 +78,11 @@ pub record HasComparedRow {Source : Type 0} (row : Option OpenRow) (edge : Optio
   pub source : new.source ≡ old.source
   pub version : new.version ≡ old.version
   pub taken : new.taken ≡ old.taken
-  pub wrong : (given right : List Row) (open_at : ℕ → Bool) → IsCompared given right old.taken open_at old.wrong
-      → IsDue given right old.taken edge row → IsCompared given right old.taken (without open_at row) new.wrong
+  pub wrong : (given expected : List Row) (open_at : ℕ → Bool) → IsCompared given expected old.taken open_at old.wrong
+      → IsDue given expected old.taken edge row → IsCompared given expected old.taken (without open_at row) new.wrong
 
 module _ {Source : Type 0} (is_over : Source → Type 0) where
   -- `answer` is right for the rows in `given` and all that the source gives after them
   abbrev pub Decides : List Row → List Row → Source → Answer → Type 0
-  Decides given right source Yes = (given ≡ right) × is_over source
-  Decides given right source (No row) = DiffersAt given right row × ((row ≤ length given) ⊎ is_over source)
+  Decides given expected source Yes = (given ≡ expected) × is_over source
+  Decides given expected source (No row) = DiffersAt given expected row × ((row ≤ length given) ⊎ is_over source)

@@ -12,9 +12,15 @@ pub use Rattle.vme_trace.specs.Edges.{strobe_falls_between, strobe_rises_between
 pub use Rattle.vme_trace.specs.Followed.{with_steps}
 unfoldable pub use Rattle.vme_trace.specs.Instants.{any, greatest, least, those}
 pub use Rattle.vme_trace.specs.Instants.{every, none}
-unfoldable pub use Rattle.vme_trace.specs.Judged.{is_idle_at, is_reset_at, judged_spans, loses_control_at, span_end}
-unfoldable pub use Rattle.vme_trace.specs.Judged.{span_starts}
-pub use Rattle.vme_trace.specs.Judged.{Awaits, IsSpanOf, Stretch, is_judged, span_from, spans_after, stops_at}
+unfoldable pub use Rattle.vme_trace.specs.Judged.{
+  is_idle_at,
+  is_reset_at,
+  judged_stretches,
+  loses_control_at,
+  stretch_end,
+}
+unfoldable pub use Rattle.vme_trace.specs.Judged.{stretch_starts}
+pub use Rattle.vme_trace.specs.Judged.{Awaits, IsStretchOf, Stretch, is_judged, stretch_from, stretches_after, stops_at}
 unfoldable pub use Rattle.vme_trace.specs.Lanes.{lanes_at}
 unfoldable pub use Rattle.vme_trace.specs.Levels.{is_idle, loses_control}
 pub use Rattle.vme_trace.specs.Levels.{Levels, is_high, is_known, is_known_on, is_lost, is_low, is_reset, level_at}
@@ -25,7 +31,7 @@ pub use Rattle.vme_trace.specs.LineNumbers.{is_control, is_data, is_grant, is_sl
 pub use Rattle.vme_trace.specs.LineNumbers.{line_count}
 pub use Rattle.vme_trace.specs.Names.{rule_number}
 unfoldable pub use Rattle.vme_trace.specs.Rules.{breaks, is_broken, breaks_read_modify_write, changes_direction}
-pub use Rattle.vme_trace.specs.Rules.{all_rules, differ, ends_span, is_block_class, is_interrupt, has_earlier_answer}
+pub use Rattle.vme_trace.specs.Rules.{all_rules, differ, ends_stretch, is_block_class, is_interrupt, has_earlier_answer}
 pub use Rattle.vme_trace.specs.Rules.{is_option_equal, is_single, is_unreadable}
 unfoldable pub use Rattle.vme_trace.specs.Signals.{falls, has_edge, high, known, low, rises}
 pub use Rattle.vme_trace.specs.Signals.{level, near}
@@ -53,10 +59,10 @@ pub use Rattle.vme_trace.specs.declared.step.Step.{Step}
 pub use Rattle.vme_trace.specs.declared.verdict.Break.{Break}
 pub use Rattle.vme_listing.specs.Places.{ends_listing}
 pub use Rattle.vme_listing.specs.Reading.{HasRead, IsFaultOfText, IsTextOfListing, Unread, listed}
-unfoldable pub use Rattle.vme_listing.specs.Recorded.{cycle_rows, listing_by, rows_before, rows_in, rows_of_span}
+unfoldable pub use Rattle.vme_listing.specs.Recorded.{cycle_rows, listing_by, rows_before, rows_in, rows_of_stretch}
 unfoldable pub use Rattle.vme_listing.specs.Recorded.{tenure_rows, transfer_rows}
 pub use Rattle.vme_listing.specs.Recorded.{address_to, answered_row, cycle_row, data_of, listed_end, listing_before}
-pub use Rattle.vme_listing.specs.Recorded.{listing_of_spans, outcome_of, recorded_rows, row_in, tenure_row}
+pub use Rattle.vme_listing.specs.Recorded.{listing_of_stretches, outcome_of, recorded_rows, row_in, tenure_row}
 pub use Rattle.vme_listing.specs.Recorded.{transfer_row, without_data}
 pub use Rattle.vme_listing.specs.declared.fault.ListFault.{ListFault}
 pub use Rattle.vme_listing.specs.declared.row.AnswerLine.{AnswerLine}

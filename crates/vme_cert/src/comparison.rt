@@ -1,4 +1,4 @@
-//! The given rows, taken one by one as the right ones start, and the least row that differs.
+//! The given rows, taken one by one as the expected ones start, and the least row that differs.
 
 ghost use Rattle.std.specs.Prelude.{◌≡◌, ◌<◌, ◌^◌, true, false, List, length, Some, None};
 ghost use Rattle.vme_cert.specs.Vocabulary.{Row};
@@ -8,13 +8,13 @@ use crate::compare::Answer;
 use crate::source::RowSource;
 use vme_listing::{Row, Version};
 
-/// A right row that has started: its place, counted from 0, the given row at that place, and the right row but for its
-/// last edge.
+/// An expected row that has started: its place, counted from 0, the given row at that place, and the expected row but
+/// for its last edge.
 #[derive(Clone, Copy)]
 pub(crate) struct OpenRow {
     pub(crate) place: usize,
     pub(crate) given: Option<Row>,
-    pub(crate) right: Row,
+    pub(crate) expected: Row,
     ghost within: { place < 2 ^ 62 },
 }
 
@@ -24,7 +24,7 @@ pub(crate) struct Comparison<S: RowSource> {
     pub(crate) source: S,
     /// The version in which the rows are given.
     pub(crate) version: Version,
-    /// How many right rows have started.
+    /// How many expected rows have started.
     pub(crate) taken: usize,
     /// The least row that was compared and differs, counted from 1.
     pub(crate) wrong: Option<usize>,
@@ -69,17 +69,17 @@ fn is_given(given: Option<Row>, row: Row) -> bool
 impl<S: RowSource> Comparison<S> {
     ghost use Rattle.vme_cert.specs.Comparing.{Decides, HasComparedRow, IsBegun, IsCompared, IsGiven};
 
-    /// The next right row starts, and the next given one is taken.
-    pub(crate) fn begin(&mut self, right: Row) -> OpenRow
+    /// The next expected row starts, and the next given one is taken.
+    pub(crate) fn begin(&mut self, expected: Row) -> OpenRow
         requires { self.old.taken < 2 ^ 62 }
-        ensures { IsBegun S.gave S.is_over right self.old self.new result }
+        ensures { IsBegun S.gave S.is_over expected self.old self.new result }
     {
         let place = self.taken;
         self.taken += 1;
         OpenRow {
             place,
             given: self.source.next(),
-            right: right.in_version(self.version),
+            expected: expected.in_version(self.version),
         }
     }
 
@@ -90,7 +90,7 @@ impl<S: RowSource> Comparison<S> {
         let Some(row) = row else {
             return;
         };
-        if is_given(row.given, with_edge(row.right, edge)) {
+        if is_given(row.given, with_edge(row.expected, edge)) {
             return;
         }
         self.wrong = match self.wrong {
@@ -99,13 +99,13 @@ impl<S: RowSource> Comparison<S> {
         };
     }
 
-    /// The answer, where no right row follows; and the source of the rows.
+    /// The answer, where no expected row follows; and the source of the rows.
     pub(crate) fn finish(self) -> (Answer, S)
         requires { self.taken < 2 ^ 63 }
-        ensures { (whole : S.Whole) (given rights : List Row)
+        ensures { (whole : S.Whole) (given expected_rows : List Row)
             → IsGiven S.gave S.is_over whole given self.source self.taken
-            → IsCompared given rights self.taken (λ n. false) self.wrong → self.taken ≡ length rights
-            → (more : List Row) × S.gave whole result.1 more × Decides S.is_over more rights result.1 result.0 }
+            → IsCompared given expected_rows self.taken (λ n. false) self.wrong → self.taken ≡ length expected_rows
+            → (more : List Row) × S.gave whole result.1 more × Decides S.is_over more expected_rows result.1 result.0 }
     {
         let Comparison {
             mut source,

@@ -23,8 +23,8 @@
 //!
 //! # How it works
 //!
-//! A *right* row is one of the recording's own listing. As it starts, the next given row is taken
-//! and kept beside it. All of the right row is then known but its last edge, and a transfer's
+//! An *expected* row is one of the recording's own listing. As it starts, the next given row is taken
+//! and kept beside it. All of the expected row is then known but its last edge, and a transfer's
 //! answer. When that edge comes, or can no longer come, the two rows are compared. At most one
 //! tenure, one cycle and one transfer are open. Nothing stops at the first difference: the least
 //! row that differs is kept, and the pass continues to the end or to the first break (the first

@@ -39,13 +39,13 @@ impl<S: RowSource> OpenRows<S> {
         }
     }
 
-    /// Compares the open rows, without a last edge, and then `row`, the next right row, which has no edge: the start of
-    /// a stretch, a reset, or the verdict.
+    /// Compares the open rows, without a last edge, and then `row`, the next expected row, which has no edge: the start
+    /// of a stretch, a reset, or the verdict.
     pub(crate) fn close_before(&mut self, row: Row)
         requires { self.old.compared.taken < 2 ^ 62 }
-        ensures rows { (whole : S.Whole) (version : Version) (rights : List Row) → with_edge row None ≡ row
-            → CanClose S.gave S.is_over whole version rights self.old
-            → CanClose S.gave S.is_over whole version (rights ++ row ∷ []) self.new }
+        ensures rows { (whole : S.Whole) (version : Version) (expected_rows : List Row) → with_edge row None ≡ row
+            → CanClose S.gave S.is_over whole version expected_rows self.old
+            → CanClose S.gave S.is_over whole version (expected_rows ++ row ∷ []) self.new }
         ensures closed { NoneIsOpen self.new }
         ensures taken { self.new.compared.taken ≡ self.old.compared.taken + 1 }
     {

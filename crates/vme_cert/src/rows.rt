@@ -92,9 +92,9 @@ fn answer_line(bus: &Bus) -> AnswerLine
 /// The data of a write that is answered at the instant: by the levels of the instant before, or by those of the
 /// instant if the transfer starts there. `None` for a read.
 fn answer_data(bus: &Bus, transfer: &Transfer) -> Option<Lanes>
-    ensures { (t : Trace) (span : Stretch) (end : ℕ) → IsBusOf t bus.now
-        → IsOpenTransfer t span (bus.now.instant + 1) bus.now.instant transfer.now
-        → result ≡ data_of t span end transfer.now.start bus.now.instant }
+    ensures { (t : Trace) (stretch : Stretch) (end : ℕ) → IsBusOf t bus.now
+        → IsOpenTransfer t stretch (bus.now.instant + 1) bus.now.instant transfer.now
+        → result ≡ data_of t stretch end transfer.now.start bus.now.instant }
 {
     if !transfer.is_write {
         return None;
@@ -107,10 +107,11 @@ fn answer_data(bus: &Bus, transfer: &Transfer) -> Option<Lanes>
 
 /// The row of a transfer that is answered at the instant, in a cycle, but for its close.
 fn answered_row(bus: &Bus, transfer: &Transfer, cycle: &Cycle) -> Row
-    ensures { (t : Trace) (span : Stretch) (end : ℕ) (edge : Option ℕ) → IsBusOf t bus.now
-        → IsOpenTransfer t span (bus.now.instant + 1) bus.now.instant transfer.now
-        → IsLastCycle t span (bus.now.instant + 1) bus.now.instant cycle.now
-        → with_edge result edge ≡ with_edge (transfer_row t span end transfer.now.start (Some bus.now.instant)) edge }
+    ensures { (t : Trace) (stretch : Stretch) (end : ℕ) (edge : Option ℕ) → IsBusOf t bus.now
+        → IsOpenTransfer t stretch (bus.now.instant + 1) bus.now.instant transfer.now
+        → IsLastCycle t stretch (bus.now.instant + 1) bus.now.instant cycle.now
+        → with_edge result edge ≡ with_edge (transfer_row t stretch end transfer.now.start (Some bus.now.instant))
+        edge }
 {
     Row::Transfer {
         direction: direction(transfer.is_write),
@@ -127,10 +128,10 @@ impl<S: RowSource> OpenRows<S> {
     /// Starts a stretch, and the tenure that is open there, if the bus is busy.
     pub(crate) fn start(&mut self, bus: &Bus)
         requires { self.old.compared.taken < 2 ^ 61 }
-        ensures rows { (whole : S.Whole) (version : Version) (done : List Row) (t : Trace) (span : Stretch)
-            → IsBusOf t bus.now → bus.now.instant ≡ span.start
+        ensures rows { (whole : S.Whole) (version : Version) (done : List Row) (t : Trace) (stretch : Stretch)
+            → IsBusOf t bus.now → bus.now.instant ≡ stretch.start
             → CanClose S.gave S.is_over whole version done self.old
-            → Follows S.gave S.is_over whole version done t span (span.start + 1) self.new }
+            → Follows S.gave S.is_over whole version done t stretch (stretch.start + 1) self.new }
         ensures taken { self.new.compared.taken ≤ self.old.compared.taken + 2 }
     {
         let start = bus.instant;
@@ -210,10 +211,10 @@ impl<S: RowSource> OpenRows<S> {
 
     /// Puts the answer in the row of the open transfer, if it is answered at the instant and a cycle has started.
     fn answer_transfer(&mut self, bus: &Bus, state: &State)
-        ensures rows { (whole : S.Whole) (version : Version) (done : List Row) (t : Trace) (span : Stretch)
-            → IsStateOf t span bus.now state.now
-            → WithTransfer S.gave S.is_over whole version done t span bus.now.instant self.old
-            → WithAnswer S.gave S.is_over whole version done t span bus.now.instant self.new }
+        ensures rows { (whole : S.Whole) (version : Version) (done : List Row) (t : Trace) (stretch : Stretch)
+            → IsStateOf t stretch bus.now state.now
+            → WithTransfer S.gave S.is_over whole version done t stretch bus.now.instant self.old
+            → WithAnswer S.gave S.is_over whole version done t stretch bus.now.instant self.new }
         ensures taken { self.new.compared.taken ≡ self.old.compared.taken }
     {
         if !state.is_answer(bus) {
@@ -230,17 +231,17 @@ impl<S: RowSource> OpenRows<S> {
         self.transfer = Some(OpenRow {
             place: open.place,
             given: open.given,
-            right: row.in_version(self.compared.version),
+            expected: row.in_version(self.compared.version),
         });
     }
 
     /// Closes the open transfer, if both strobes are high.
     #[tactic(auto, using(crate::proofs::Following::ends))]
     fn close_transfer(&mut self, bus: &Bus)
-        ensures rows { (whole : S.Whole) (version : Version) (done : List Row) (t : Trace) (span : Stretch)
-            → IsInStretch t span bus.now
-            → WithAnswer S.gave S.is_over whole version done t span bus.now.instant self.old
-            → Follows S.gave S.is_over whole version done t span (bus.now.instant + 1) self.new }
+        ensures rows { (whole : S.Whole) (version : Version) (done : List Row) (t : Trace) (stretch : Stretch)
+            → IsInStretch t stretch bus.now
+            → WithAnswer S.gave S.is_over whole version done t stretch bus.now.instant self.old
+            → Follows S.gave S.is_over whole version done t stretch (bus.now.instant + 1) self.new }
         ensures taken { self.new.compared.taken ≡ self.old.compared.taken }
     {
         if !bus.strobes_high() {
@@ -253,10 +254,10 @@ impl<S: RowSource> OpenRows<S> {
     /// Starts and ends the rows that do so at a judged instant without a break.
     pub(crate) fn follow_instant(&mut self, bus: &Bus, state: &State)
         requires { self.old.compared.taken < 2 ^ 61 }
-        ensures rows { (whole : S.Whole) (version : Version) (done : List Row) (t : Trace) (span : Stretch)
-            → IsStateOf t span bus.now state.now
-            → Follows S.gave S.is_over whole version done t span bus.now.instant self.old
-            → Follows S.gave S.is_over whole version done t span (bus.now.instant + 1) self.new }
+        ensures rows { (whole : S.Whole) (version : Version) (done : List Row) (t : Trace) (stretch : Stretch)
+            → IsStateOf t stretch bus.now state.now
+            → Follows S.gave S.is_over whole version done t stretch bus.now.instant self.old
+            → Follows S.gave S.is_over whole version done t stretch (bus.now.instant + 1) self.new }
         ensures taken { self.new.compared.taken ≤ self.old.compared.taken + 3 }
     {
         self.follow_tenure(bus);

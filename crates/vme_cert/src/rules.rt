@@ -139,7 +139,7 @@ impl Bus {
     }
 
     /// Whether the grant that a tenure takes here went past the last slot, so that no slot took it.
-    #[tactic(auto, using(vme_trace::proofs::SpanEnds::slots_at))]
+    #[tactic(auto, using(vme_trace::proofs::StretchEnds::slots_at))]
     fn is_past_last(&self) -> bool
         ensures { (t : Trace) → IsBusOf t self.now
             → result ≡ is_option_equal (tenure_slot t self.now.instant) (t.opening.slots + 1) }
@@ -158,8 +158,8 @@ impl State {
     fn is_broken(&self, bus: &Bus, rule: Rule, line: Line) -> bool
         requires has { IsTrue (has_line bus.now.levels.slots line) }
         requires its_line { IsTrue (may_be_broken_on rule line) }
-        ensures { (t : Trace) (span : Stretch) → IsStateOf t span bus.now self.now
-            → result ≡ is_broken t span rule bus.now.instant line }
+        ensures { (t : Trace) (stretch : Stretch) → IsStateOf t stretch bus.now self.now
+            → result ≡ is_broken t stretch rule bus.now.instant line }
     {
         match rule {
             U1 => false,
@@ -238,8 +238,8 @@ impl State {
                 bus.falls(line) & !(bus.low_near(Line::AS) & strobed)
             }
             I3 => {
-                let acknowledged = self.cycle.has_started & self.cycle.acknowledged;
-                bus.falls(line) & bus.was_low(Line::AS) & bus.low(Line::AS) & acknowledged
+                let answered_by_dtack = self.cycle.has_started & self.cycle.answered_by_dtack;
+                bus.falls(line) & bus.was_low(Line::AS) & bus.low(Line::AS) & answered_by_dtack
             }
             I4 => {
                 let acknowledges = self.cycle.has_started & is_interrupt(self.cycle.class);
@@ -256,8 +256,8 @@ impl State {
     /// line.
     #[tactic(auto, using(crate::proofs::Breaks::asked_breaks))]
     fn breaks(&self, bus: &Bus, rule: Rule, line: Line) -> bool
-        ensures { (t : Trace) (span : Stretch) → IsStateOf t span bus.now self.now
-            → result ≡ breaks t span rule bus.now.instant line }
+        ensures { (t : Trace) (stretch : Stretch) → IsStateOf t stretch bus.now self.now
+            → result ≡ breaks t stretch rule bus.now.instant line }
     {
         if !bus.levels.has(line) {
             return false;
@@ -272,8 +272,8 @@ impl State {
     #[tactic(auto, using(crate::proofs::Ranges::steps))]
     fn least_line(&self, bus: &Bus, rule: Rule, first: u8, end: u8) -> Option<Line>
         requires { end ≤ line_count }
-        ensures { (t : Trace) (span : Stretch) → IsStateOf t span bus.now self.now
-            → result ≡ least (breaks t span rule bus.now.instant) first end }
+        ensures { (t : Trace) (stretch : Stretch) → IsStateOf t stretch bus.now self.now
+            → result ≡ least (breaks t stretch rule bus.now.instant) first end }
     {
         for number in first..end {
             let line = nth_line(number);
@@ -287,8 +287,9 @@ impl State {
     /// Whether some rule is broken on a line.
     fn is_line_broken(&self, bus: &Bus, line: Line) -> bool
         requires { IsTrue (has_line bus.now.levels.slots line) }
-        ensures { (t : Trace) (span : Stretch) (rule : BusRule) → IsStateOf t span bus.now self.now → result ≡ false
-            → may_be_broken_on rule line ≡ true → is_broken t span rule bus.now.instant line ≡ false }
+        ensures { (t : Trace) (stretch : Stretch) (rule : BusRule) → IsStateOf t stretch bus.now self.now → result
+            ≡ false
+            → may_be_broken_on rule line ≡ true → is_broken t stretch rule bus.now.instant line ≡ false }
     {
         for rule in rules_on(line) {
             if self.is_broken(bus, *rule, line) {
@@ -301,9 +302,9 @@ impl State {
     /// Whether some rule is broken on a line that changes.
     fn is_change_broken(&self, bus: &Bus, changes: &[Change]) -> bool
         requires { LeadToInstant bus.now changes.now }
-        ensures { (t : Trace) (span : Stretch) (rule : BusRule) (l : ℕ) → IsStateOf t span bus.now self.now
+        ensures { (t : Trace) (stretch : Stretch) (rule : BusRule) (l : ℕ) → IsStateOf t stretch bus.now self.now
             → result ≡ false → is_changed changes.now l ≡ true → may_be_broken_on rule l ≡ true
-            → is_broken t span rule bus.now.instant l ≡ false }
+            → is_broken t stretch rule bus.now.instant l ≡ false }
     {
         for change in changes {
             if self.is_line_broken(bus, change.line) {
@@ -316,10 +317,12 @@ impl State {
     /// Whether a transfer starts with an unknown direction, or before both answers are high.
     #[tactic(auto, using(crate::proofs::Breaks::started))]
     fn is_transfer_start_broken(&self, bus: &Bus) -> bool
-        ensures direction { (t : Trace) (span : Stretch) (l : ℕ) → IsStateOf t span bus.now self.now → result ≡ false
-            → is_broken t span U3 bus.now.instant l ≡ false }
-        ensures answers { (t : Trace) (span : Stretch) (l : ℕ) → IsStateOf t span bus.now self.now → result ≡ false
-            → is_broken t span H1 bus.now.instant l ≡ false }
+        ensures direction { (t : Trace) (stretch : Stretch) (l : ℕ) → IsStateOf t stretch bus.now self.now → result
+            ≡ false
+            → is_broken t stretch U3 bus.now.instant l ≡ false }
+        ensures answers { (t : Trace) (stretch : Stretch) (l : ℕ) → IsStateOf t stretch bus.now self.now → result
+            ≡ false
+            → is_broken t stretch H1 bus.now.instant l ≡ false }
     {
         if !bus.transfer_starts() {
             return false;
@@ -335,11 +338,11 @@ impl State {
     #[tactic(auto, using(crate::proofs::Breaks::within))]
     fn is_broken_within(&self, bus: &Bus, asked: bool, rule: Rule, first: Line, last: Line) -> bool
         requires { first ≤ last }
-        ensures { (t : Trace) (span : Stretch) (l : ℕ) → IsStateOf t span bus.now self.now → result ≡ false
-            → (asked ≡ false → breaks t span rule bus.now.instant l ≡ false)
-            → (known t l bus.now.instant ≡ true → breaks t span rule bus.now.instant l ≡ false)
-            → ((nat_le first l && nat_le l last) ≡ false → breaks t span rule bus.now.instant l ≡ false)
-            → breaks t span rule bus.now.instant l ≡ false }
+        ensures { (t : Trace) (stretch : Stretch) (l : ℕ) → IsStateOf t stretch bus.now self.now → result ≡ false
+            → (asked ≡ false → breaks t stretch rule bus.now.instant l ≡ false)
+            → (known t l bus.now.instant ≡ true → breaks t stretch rule bus.now.instant l ≡ false)
+            → ((nat_le first l && nat_le l last) ≡ false → breaks t stretch rule bus.now.instant l ≡ false)
+            → breaks t stretch rule bus.now.instant l ≡ false }
     {
         if !asked {
             return false;
@@ -355,8 +358,8 @@ impl State {
     /// All rules are asked in order only where one is broken.
     pub(crate) fn break_at(&self, bus: &Bus, changes: &[Change]) -> Option<(Rule, Line)>
         requires { LeadToInstant bus.now changes.now }
-        ensures { (t : Trace) (span : Stretch) → IsStateOf t span bus.now self.now
-            → result ≡ named (break_at t span all_rules bus.now.instant) }
+        ensures { (t : Trace) (stretch : Stretch) → IsStateOf t stretch bus.now self.now
+            → result ≡ named (break_at t stretch all_rules bus.now.instant) }
     {
         let change = self.is_change_broken(bus, changes);
         let transfer = self.is_transfer_start_broken(bus);

@@ -29,7 +29,7 @@ pub(crate) struct Cycle {
     /// It was answered twice or more.
     pub(crate) answered_again: bool,
     /// One of its answers was by DTACK*.
-    pub(crate) acknowledged: bool,
+    pub(crate) answered_by_dtack: bool,
 }
 
 /// The last transfer to start, if `is_open`: it hasn't closed.
@@ -62,9 +62,9 @@ pub(crate) struct State {
 impl Cycle {
     /// The cycle that starts at the instant, or else this one.
     fn opened(self, bus: &Bus) -> Cycle
-        ensures { (t : Trace) (span : Stretch) → IsBusOf t bus.now → is_judged span bus.now.instant ≡ true
-            → IsCycle t span bus.now.instant bus.now.instant self
-            → IsCycle t span (bus.now.instant + 1) bus.now.instant result }
+        ensures { (t : Trace) (stretch : Stretch) → IsBusOf t bus.now → is_judged stretch bus.now.instant ≡ true
+            → IsCycle t stretch bus.now.instant bus.now.instant self
+            → IsCycle t stretch (bus.now.instant + 1) bus.now.instant result }
     {
         if !bus.falls(Line::AS) {
             return self;
@@ -78,24 +78,25 @@ impl Cycle {
             answered: false,
             first_writes: false,
             answered_again: false,
-            acknowledged: false,
+            answered_by_dtack: false,
         }
     }
 
     /// The cycle one instant later. `answers`: a transfer is answered at the instant; `writes`: it is a write, too.
     fn later(self, bus: &Bus, answers: bool, writes: bool) -> Cycle
-        ensures { (t : Trace) (span : Stretch) (state : State) → IsStateOf t span bus.now state → self ≡ state.cycle
-            → answers ≡ is_answer t span bus.now.instant → writes ≡ answers_write t span bus.now.instant
-            → IsCycle t span (bus.now.instant + 1) (bus.now.instant + 1) result }
+        ensures { (t : Trace) (stretch : Stretch) (state : State) → IsStateOf t stretch bus.now state → self
+            ≡ state.cycle
+            → answers ≡ is_answer t stretch bus.now.instant → writes ≡ answers_write t stretch bus.now.instant
+            → IsCycle t stretch (bus.now.instant + 1) (bus.now.instant + 1) result }
     {
         let rises = bus.rises(Line::AS);
-        let acknowledges = bus.falls(Line::DTACK);
+        let dtack_falls = bus.falls(Line::DTACK);
         Cycle {
             runs: self.runs & !rises,
             answered: self.answered | answers,
             first_writes: self.first_writes | (answers & !self.answered & writes),
             answered_again: self.answered_again | (answers & self.answered),
-            acknowledged: self.acknowledged | (answers & acknowledges),
+            answered_by_dtack: self.answered_by_dtack | (answers & dtack_falls),
             ..self
         }
     }
@@ -105,9 +106,9 @@ impl Cycle {
 impl Transfer {
     /// The transfer that starts at the instant, or else this one.
     fn opened(self, bus: &Bus) -> Transfer
-        ensures { (t : Trace) (span : Stretch) → IsBusOf t bus.now → is_judged span bus.now.instant ≡ true
-            → IsTransfer t span bus.now.instant bus.now.instant self
-            → IsTransfer t span (bus.now.instant + 1) bus.now.instant result }
+        ensures { (t : Trace) (stretch : Stretch) → IsBusOf t bus.now → is_judged stretch bus.now.instant ≡ true
+            → IsTransfer t stretch bus.now.instant bus.now.instant self
+            → IsTransfer t stretch (bus.now.instant + 1) bus.now.instant result }
     {
         if !bus.transfer_starts() {
             return self;
@@ -123,9 +124,9 @@ impl Transfer {
 
     /// The transfer one instant later.
     fn later(self, bus: &Bus) -> Transfer
-        ensures { (t : Trace) (span : Stretch) → IsBusOf t bus.now → is_judged span bus.now.instant ≡ true
-            → IsTransfer t span (bus.now.instant + 1) bus.now.instant self
-            → IsTransfer t span (bus.now.instant + 1) (bus.now.instant + 1) result }
+        ensures { (t : Trace) (stretch : Stretch) → IsBusOf t bus.now → is_judged stretch bus.now.instant ≡ true
+            → IsTransfer t stretch (bus.now.instant + 1) bus.now.instant self
+            → IsTransfer t stretch (bus.now.instant + 1) (bus.now.instant + 1) result }
     {
         let is_high = bus.strobes_high();
         let falls = bus.answer_falls();
@@ -140,8 +141,8 @@ impl Transfer {
 
     /// Whether a strobe rose after the transfer's start, up to the instant.
     pub(crate) fn rose_by(&self, bus: &Bus) -> bool
-        ensures { (t : Trace) (span : Stretch) → IsBusOf t bus.now → is_judged span bus.now.instant ≡ true
-            → IsOpenTransfer t span (bus.now.instant + 1) bus.now.instant self.now
+        ensures { (t : Trace) (stretch : Stretch) → IsBusOf t bus.now → is_judged stretch bus.now.instant ≡ true
+            → IsOpenTransfer t stretch (bus.now.instant + 1) bus.now.instant self.now
             → result ≡ any (strobe_rises t) (self.now.start + 1) (bus.now.instant + 1) }
     {
         self.rose | ((self.start < bus.instant) & bus.strobe_rises())
@@ -151,8 +152,8 @@ impl Transfer {
 impl State {
     /// The state after the start of a stretch.
     pub(crate) fn starting(bus: &Bus) -> State
-        ensures { (t : Trace) (span : Stretch) → IsBusOf t bus.now → bus.now.instant ≡ span.start
-            → Holds t span (span.start + 1) (span.start + 1) result }
+        ensures { (t : Trace) (stretch : Stretch) → IsBusOf t bus.now → bus.now.instant ≡ stretch.start
+            → Holds t stretch (stretch.start + 1) (stretch.start + 1) result }
     {
         let rises = bus.strobe_rises();
         State {
@@ -165,7 +166,7 @@ impl State {
                 answered: false,
                 first_writes: false,
                 answered_again: false,
-                acknowledged: false,
+                answered_by_dtack: false,
             },
             transfer: Transfer {
                 is_open: false,
@@ -188,9 +189,9 @@ impl State {
 
     /// The state with the cycle and the transfer that start at the instant.
     pub(crate) fn opened(&self, bus: &Bus) -> State
-        ensures { (t : Trace) (span : Stretch) → IsBusOf t bus.now → is_judged span bus.now.instant ≡ true
-            → Holds t span bus.now.instant bus.now.instant self.now
-            → Holds t span (bus.now.instant + 1) bus.now.instant result }
+        ensures { (t : Trace) (stretch : Stretch) → IsBusOf t bus.now → is_judged stretch bus.now.instant ≡ true
+            → Holds t stretch bus.now.instant bus.now.instant self.now
+            → Holds t stretch (bus.now.instant + 1) bus.now.instant result }
     {
         State {
             cycle: self.cycle.opened(bus),
@@ -201,9 +202,9 @@ impl State {
 
     /// Which levels were requested since the last grant, one instant later.
     fn requested_later(&self, bus: &Bus) -> [bool; 4]
-        ensures { (t : Trace) (span : Stretch) → IsBusOf t bus.now → is_judged span bus.now.instant ≡ true
-            → AreRequested t span bus.now.instant self.now.requested
-            → AreRequested t span (bus.now.instant + 1) result }
+        ensures { (t : Trace) (stretch : Stretch) → IsBusOf t bus.now → is_judged stretch bus.now.instant ≡ true
+            → AreRequested t stretch bus.now.instant self.now.requested
+            → AreRequested t stretch (bus.now.instant + 1) result }
     {
         let keeps = !bus.grant_falls();
         [
@@ -216,8 +217,8 @@ impl State {
 
     /// The state one instant later.
     pub(crate) fn later(&self, bus: &Bus) -> State
-        ensures { (t : Trace) (span : Stretch) → IsStateOf t span bus.now self.now
-            → Holds t span (bus.now.instant + 1) (bus.now.instant + 1) result }
+        ensures { (t : Trace) (stretch : Stretch) → IsStateOf t stretch bus.now self.now
+            → Holds t stretch (bus.now.instant + 1) (bus.now.instant + 1) result }
     {
         let is_answer = self.is_answer(bus);
         let writes = self.answers_write(bus);
@@ -275,8 +276,8 @@ impl State {
     /// Whether a strobe rose since the answer line `line` last fell.
     pub(crate) fn is_freed(&self, line: Line) -> bool
         requires { IsTrue (is_answer_line line) }
-        ensures { (t : Trace) (span : Stretch) (opened j : ℕ) → Holds t span opened j self.now
-            → result ≡ is_freed t span line j }
+        ensures { (t : Trace) (stretch : Stretch) (opened j : ℕ) → Holds t stretch opened j self.now
+            → result ≡ is_freed t stretch line j }
     {
         if line == Line::DTACK {
             self.acknowledge_freed

@@ -1,4 +1,4 @@
--- The memory (state of the automaton) is right of each instant of the span, so the machine's faults are the breaks.
+-- The memory (state of the automaton) is right of each instant of the stretch, so the machine's faults are the breaks.
 use Rattle.std.proofs.Common.{◌≡◌, ℕ, zero, suc, ◌<◌, ◌≤◌, Bool, true, false, ◌&&◌, ◌||◌, not, List, refl, sym, ◌∙◌, ap}
 use Rattle.std.proofs.Common.{arith, cond, length, subst, inl, inr, ◌⊎◌, Option, Some, None}
 use Rattle.std.specs.Prelude.{option_map, slice_get}
@@ -13,36 +13,36 @@ use Rattle.vme_trace.specs.Judged.{Stretch}
 use Rattle.vme_trace.specs.Verdict.{break_at, rule_break}
 use Rattle.vme_trace.specs.declared.rule.Rule.TheVariants.{I1, I2, I3}
 use Rattle.vme_trace.specs.declared.step.Change.{Change}
-use Rattle.vme_trace.proofs.SpanEnds.{slots_at}
+use Rattle.vme_trace.proofs.StretchEnds.{slots_at}
 use Rattle.vme_monitor.specs.Along.{changes_of, next_at, memory_from}
 use Rattle.vme_monitor.specs.Run.{break_of_fault, machine_step, no_step_marks, run_of}
 use Rattle.vme_monitor.specs.OverStretches.{observed, phase_step, start_in}
 use Rattle.vme_monitor.specs.Whole.{FindsLeast, ShowsAll}
 use Rattle.vme_monitor.specs.declared.mark.Next.{Next}
 use Rattle.vme_monitor.proofs.InsideRules.{inside_first_break, inside_marks}
-use Rattle.vme_monitor.proofs.SpanFacts.{IsSpan}
+use Rattle.vme_monitor.proofs.StretchFacts.{IsStretch}
 use Rattle.vme_monitor.proofs.Alongside.{levels_step, changes_fit, memory_early}
 use Rattle.vme_chains.specs.AcknowledgeRules.{acknowledge_begin, acknowledge_end_fault, acknowledge_next}
 use Rattle.vme_chains.specs.AcknowledgeRules.{acknowledge_start_marks, acknowledge_rules, acknowledge_shown}
 use Rattle.vme_chains.specs.AcknowledgeRules.{acknowledge_observation, fault_among, fault_on, changes_memory}
 use Rattle.vme_chains.specs.AcknowledgeRules.{first_changed, memory_after, passes_on, passes_unasked, is_strobed}
 use Rattle.vme_chains.specs.AcknowledgeRules.{is_addressed}
-use Rattle.vme_chains.specs.declared.acknowledge.Acknowledgement.{Acknowledgement}
+use Rattle.vme_chains.specs.declared.acknowledge.AcknowledgeMemory.{AcknowledgeMemory}
 use Rattle.vme_chains.specs.declared.acknowledge.PassingSlots.{PassingSlots}
 use Rattle.vme_chains.proofs.AcknowledgeBreaks.{least_input, least_strobes, least_answer}
 use Rattle.vme_chains.proofs.AcknowledgeChanges.{first-least, none_of, passes_not, unasked_none, unasked_not}
-use Rattle.vme_chains.proofs.AcknowledgeMemory.{Holds, holds_start, holds_next, memory_same}
+use Rattle.vme_chains.proofs.AcknowledgeMeaning.{Holds, holds_start, holds_next, memory_same}
 
-module _ (t : Trace) (span : Stretch) (ok : malformed_step t ≡ None) (few : t.opening.slots ≤ 21)
-    (facts : IsSpan t span) where
-  abbrev step : Acknowledgement → Levels → Levels → List Change → Next Acknowledgement
+module _ (t : Trace) (stretch : Stretch) (ok : malformed_step t ≡ None) (few : t.opening.slots ≤ 21)
+    (facts : IsStretch t stretch) where
+  abbrev step : AcknowledgeMemory → Levels → Levels → List Change → Next AcknowledgeMemory
   step = machine_step acknowledge_observation acknowledge_next
 
-  -- the memory at instant n of the span
-  abbrev memory_at : ℕ → Acknowledgement
-  memory_at n = memory_from step t (acknowledge_begin (levels_at t span.start)) span.start n
+  -- the memory at instant n of the stretch
+  abbrev memory_at : ℕ → AcknowledgeMemory
+  memory_at n = memory_from step t (acknowledge_begin (levels_at t stretch.start)) stretch.start n
 
-  module _ (n : ℕ) (from : span.start ≤ n) (before : suc n < span.end) (within : n < length t.steps) where
+  module _ (n : ℕ) (from : stretch.start ≤ n) (before : suc n < stretch.end) (within : n < length t.steps) where
     abbrev old : Levels
     old = levels_at t n
 
@@ -70,7 +70,7 @@ module _ (t : Trace) (span : Stretch) (ok : malformed_step t ≡ None) (few : t.
         (unasked_not old cs))
 
     -- the machine's step from n, with an observation or without
-    next_is : (m : Acknowledgement) → Holds t span n m
+    next_is : (m : AcknowledgeMemory) → Holds t stretch n m
         → next_at step t m n ≡ record {
           memory = memory_after m old new;
           fault = fault_among m old new
@@ -98,23 +98,24 @@ module _ (t : Trace) (span : Stretch) (ok : malformed_step t ≡ None) (few : t.
             rw (
               unasked_none old new cs still.0,
               none_of (first_changed (passes_on old new) cs) still.0,
-              memory_same t span facts n from before m h still.1,
+              memory_same t stretch facts n from before m h still.1,
             ) refl
 
-    holds_after : (m : Acknowledgement) → Holds t span n m → Holds t span (suc n) (next_at step t m n).memory
-    holds_after m h = subst (λ (x : Next Acknowledgement). Holds t span (suc n) x.memory) (sym (next_is m h))
-        (holds_next t span facts n from before m h)
+    holds_after : (m : AcknowledgeMemory) → Holds t stretch n m → Holds t stretch (suc n) (next_at step t m n).memory
+    holds_after m h = subst (λ (x : Next AcknowledgeMemory). Holds t stretch (suc n) x.memory) (sym (next_is m h))
+        (holds_next t stretch facts n from before m h)
 
     -- the machine's fault at instant n + 1 is the first broken rule
-    fault_is : (m : Acknowledgement) → Holds t span n m → option_map (break_of_fault (suc n) (time_at t (suc n)))
-        (next_at step t m n).fault ≡ break_at t span acknowledge_rules (suc n)
+    fault_is : (m : AcknowledgeMemory) → Holds t stretch n m → option_map (break_of_fault (suc n) (time_at t (suc n)))
+        (next_at step t m n).fault ≡ break_at t stretch acknowledge_rules (suc n)
     unfolding break_at rule_break
     fault_is m h =
-        ap (λ (x : Next Acknowledgement). option_map (break_of_fault (suc n) (time_at t (suc n))) x.fault) (next_is m h)
+        ap (λ (x : Next AcknowledgeMemory). option_map (break_of_fault (suc n) (time_at t (suc n))) x.fault)
+        (next_is m h)
         ∙ rw (
-          least_input t span n from before,
-          least_strobes t span n from before,
-          least_answer t span n from before m
+          least_input t stretch n from before,
+          least_strobes t stretch n from before,
+          least_answer t stretch n from before m
               h,
           unasked_is,
           first_is,
@@ -150,30 +151,32 @@ module _ (t : Trace) (span : Stretch) (ok : malformed_step t ≡ None) (few : t.
             (option_or (option_map (λ l. record { instant = suc n; time = time_at t (suc n); rule = I2; line = l })
             (cond (not (is_strobed old new)) first None))
             (option_or (option_map (λ l. record { instant = suc n; time = time_at t (suc n); rule = I3; line = l })
-            (cond (is_addressed old new && m.acknowledged) first None)) None))
+            (cond (is_addressed old new && m.answered_by_dtack) first None)) None))
         by_lines (Some l) first = refl
-        by_lines None (Some l) = by_tests l (is_strobed old new) (is_addressed old new && m.acknowledged)
-        by_lines None None = none_left (is_strobed old new) (is_addressed old new && m.acknowledged)
+        by_lines None (Some l) = by_tests l (is_strobed old new) (is_addressed old new && m.answered_by_dtack)
+        by_lines None None = none_left (is_strobed old new) (is_addressed old new && m.answered_by_dtack)
 
   first_or_later : (s n : ℕ) → s ≤ suc n → (suc n ≤ s) ⊎ (s ≤ n)
   first_or_later s n h = grind arith
 
-  -- the memory is right of each instant of the span
-  holds_at : (n : ℕ) → span.start ≤ n → n < span.end → n ≤ length t.steps → Holds t span n (memory_at n)
-  holds_at zero from before within = let e : span.start ≡ 0 = omega arith in
-      subst (λ k. Holds t span k (acknowledge_begin (levels_at t span.start))) e (holds_start t span facts)
+  -- the memory is right of each instant of the stretch
+  holds_at : (n : ℕ) → stretch.start ≤ n → n < stretch.end → n ≤ length t.steps → Holds t stretch n (memory_at n)
+  holds_at zero from before within = let e : stretch.start ≡ 0 = omega arith in
+      subst (λ k. Holds t stretch k (acknowledge_begin (levels_at t stretch.start))) e (holds_start t stretch facts)
   holds_at (suc n) from before within =
-      elim (first_or_later span.start n from) [
+      elim (first_or_later stretch.start n from) [
         | inl first ↦
-            let e : span.start ≡ suc n = omega arith in
-            rw (memory_early step t (acknowledge_begin (levels_at t span.start)) span.start (suc n) first)
-            (subst (λ k. Holds t span k (acknowledge_begin (levels_at t span.start))) e (holds_start t span facts))
-        | inr later ↦ rw (le-ltb n span.start later) (holds_after n later before (omega arith) (memory_at n)
+            let e : stretch.start ≡ suc n = omega arith in
+            rw (memory_early step t (acknowledge_begin (levels_at t stretch.start)) stretch.start (suc n) first)
+            (subst (λ k. Holds t stretch k (acknowledge_begin (levels_at t stretch.start))) e
+            (holds_start t stretch facts))
+        | inr later ↦ rw (le-ltb n stretch.start later) (holds_after n later before (omega arith) (memory_at n)
             (holds_at n later (omega arith) (omega arith)))
       ]
 
-  pub acknowledge_inside : (n : ℕ) → span.start ≤ n → suc n < span.end → n < length t.steps
-      → option_map (break_of_fault (suc n) (time_at t (suc n))) (next_at step t (memory_at n) n).fault ≡ break_at t span
+  pub acknowledge_inside : (n : ℕ) → stretch.start ≤ n → suc n < stretch.end → n < length t.steps
+      → option_map (break_of_fault (suc n) (time_at t (suc n))) (next_at step t (memory_at n) n).fault
+      ≡ break_at t stretch
       acknowledge_rules (suc n)
   acknowledge_inside n from before within = fault_is n from before within (memory_at n)
       (holds_at n from (omega arith) (omega arith))
@@ -184,7 +187,8 @@ pub acknowledge_first_break : FindsLeast
     acknowledge_next))) (start_in acknowledge_begin) acknowledge_rules
 acknowledge_first_break = inside_first_break acknowledge_begin acknowledge_start_marks acknowledge_observation
     acknowledge_next acknowledge_rules
-    refl (λ t span ok few facts n from before within unbroken. acknowledge_inside t span ok few facts n from before
+    refl (λ t stretch ok few facts n from before within unbroken. acknowledge_inside t stretch ok few facts n from
+    before
     within)
 
 pub acknowledge_marks : ShowsAll
@@ -194,14 +198,14 @@ pub acknowledge_marks : ShowsAll
 acknowledge_marks =
     inside_marks acknowledge_begin acknowledge_start_marks acknowledge_observation acknowledge_next
     acknowledge_end_fault acknowledge_shown
-    (λ t span ok few facts. record {
+    (λ t stretch ok few facts. record {
       at_start = refl;
       inside = λ n from before within. by_observation (acknowledge_observation (levels_at t n) (levels_at t (suc n))
           (changes_of (slice_get t.steps n))) (memory_from (machine_step acknowledge_observation acknowledge_next) t
-          (acknowledge_begin (levels_at t span.start)) span.start n) (levels_at t n) (levels_at t (suc n));
+          (acknowledge_begin (levels_at t stretch.start)) stretch.start n) (levels_at t n) (levels_at t (suc n));
     })
   where
-    by_observation : (o : Option PassingSlots) (m : Acknowledgement) (v w : Levels)
+    by_observation : (o : Option PassingSlots) (m : AcknowledgeMemory) (v w : Levels)
         → (option_map_or (acknowledge_next m v w) o (record { memory = m; fault = None; shown = no_step_marks })).shown
         ≡ no_step_marks
     by_observation None m v w = refl

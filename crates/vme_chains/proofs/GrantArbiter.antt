@@ -75,35 +75,36 @@ in_union a b (suc (suc zero)) h = refl
 in_union a b (suc (suc (suc zero))) h = refl
 in_union a b (suc (suc (suc (suc l)))) h = absurd (omega arith)
 
-module _ (t : Trace) (span : Stretch) (few : t.opening.slots ≤ 21) (n : ℕ) (from : span.start ≤ n)
-    (before : suc n < span.end) (m : Arbitration) (held : Holds t span n m) where
+module _ (t : Trace) (stretch : Stretch) (few : t.opening.slots ≤ 21) (n : ℕ) (from : stretch.start ≤ n)
+    (before : suc n < stretch.end) (m : Arbitration) (held : Holds t stretch n m) where
   requests_are : (l : ℕ) → l < 4 → is_in (union m.requests (requested_in (levels_at t (suc n)))) l ≡ any (low t (BR l))
-      (last_before t span (grant_falls t) (suc n)) (suc n + 1)
+      (last_before t stretch (grant_falls t) (suc n)) (suc n + 1)
   requests_are l h =
       in_union m.requests (requested_in (levels_at t (suc n))) l h
-      ∙ rw (held.requests l h, requested-is t (suc n) l h) (sym (requested-more t span n l from))
-      ∙ ap (any (low t (BR l)) (last_before t span (grant_falls t) (suc n))) (sym (one_more n))
+      ∙ rw (held.requests l h, requested-is t (suc n) l h) (sym (requested-more t stretch n l from))
+      ∙ ap (any (low t (BR l)) (last_before t stretch (grant_falls t) (suc n))) (sym (one_more n))
 
-  elsewhere : (l : ℕ) → is_arbiter_grant l ≡ false → breaks t span G5 (suc n) l ≡ false
+  elsewhere : (l : ℕ) → is_arbiter_grant l ≡ false → breaks t stretch G5 (suc n) l ≡ false
   unfolding breaks is_broken
   elsewhere l h = off_kind _ (has_line t.opening.slots l) (is_arbiter_grant l) (falls t l (suc n)) _ h
 
-  g5_on : (i : ℕ) → i < 4 → breaks t span G5 (suc n) (grant i 0) ≡ (falls_between (levels_at t n) (levels_at t (suc n))
+  g5_on : (i : ℕ) → i < 4 → breaks t stretch G5 (suc n) (grant i 0)
+      ≡ (falls_between (levels_at t n) (levels_at t (suc n))
       (grant i 0) && not (is_in (union m.requests (requested_in (levels_at t (suc n)))) i))
   unfolding breaks is_broken
   g5_on i h =
       let exists = net_exists t.opening.slots i 0 h (omega arith) few in
-      on_kind (is_judged span (suc n)) (has_line t.opening.slots (grant i 0)) (is_arbiter_grant (grant i 0))
+      on_kind (is_judged stretch (suc n)) (has_line t.opening.slots (grant i 0)) (is_arbiter_grant (grant i 0))
       (falls t (grant i 0) (suc n)) (falls_between (levels_at t n) (levels_at t (suc n)) (grant i 0))
-      (none (low t (BR (grant_level (grant i 0)))) (last_before t span (grant_falls t) (suc n)) (suc n + 1))
+      (none (low t (BR (grant_level (grant i 0)))) (last_before t stretch (grant_falls t) (suc n)) (suc n + 1))
       (not (is_in (union m.requests (requested_in (levels_at t (suc n)))) i))
-      (is_judged-holds span (suc n) (omega arith) before) exists (arbiter_net i h) (falls-is t n (grant i 0) exists)
-      (ap not (requests_are i h) ∙ ap (λ l. none (low t (BR l)) (last_before t span (grant_falls t) (suc n))
+      (is_judged-holds stretch (suc n) (omega arith) before) exists (arbiter_net i h) (falls-is t n (grant i 0) exists)
+      (ap not (requests_are i h) ∙ ap (λ l. none (low t (BR l)) (last_before t stretch (grant_falls t) (suc n))
       (suc n + 1)) (sym (level_of_net i h)))
 
-  g5_least : least (breaks t span G5 (suc n)) 0 line_count ≡ option_map (λ n. grant n 0)
+  g5_least : least (breaks t stretch G5 (suc n)) 0 line_count ≡ option_map (λ n. grant n 0)
       (unrequested (levels_at t n) (levels_at t (suc n)) (union m.requests (requested_in (levels_at t (suc n)))))
-  g5_least = least_arbiter (breaks t span G5 (suc n)) elsewhere ∙ ap (option_map (λ n. grant n 0))
+  g5_least = least_arbiter (breaks t stretch G5 (suc n)) elsewhere ∙ ap (option_map (λ n. grant n 0))
       (least-alike _ _ 0 4 (λ i a b. g5_on i b))
 
   by_begin : (b : Bool) → grant_begins (levels_at t n) (levels_at t (suc n)) ≡ b → (requests : LevelSet)
@@ -116,7 +117,7 @@ module _ (t : Trace) (span : Stretch) (few : t.opening.slots ≤ 21) (n : ℕ) (
       (fails-any _ 0 4 (λ i a b. and_left (falls_between (levels_at t n) (levels_at t (suc n)) (grant i 0)) _
       (any-fails (λ n'. falls_between (levels_at t n) (levels_at t (suc n)) (grant n' 0)) 0 4 i e a b))))
 
-  pub g5-is : least (breaks t span G5 (suc n)) 0 line_count
+  pub g5-is : least (breaks t stretch G5 (suc n)) 0 line_count
       ≡ cond (grant_begins (levels_at t n) (levels_at t (suc n)))
       (option_map (λ n. grant n 0) (unrequested (levels_at t n) (levels_at t (suc n))
       (union m.requests (requested_in (levels_at t (suc n)))))) None

@@ -12,7 +12,7 @@ use Rattle.vme_trace.specs.Tenures.{is_granting, grant_falls, taken_grant, tenur
 use Rattle.vme_trace.specs.declared.level.Level.TheVariants.{Unknown}
 use Rattle.vme_trace.proofs.Ranges.{any-alike, every-alike, least-alike, least-found, any-holds, least-none-any}
 use Rattle.vme_trace.proofs.OpenTransfers.{suc-sub-one}
-use Rattle.vme_trace.proofs.SpanEnds.{slots_at}
+use Rattle.vme_trace.proofs.StretchEnds.{slots_at}
 use Rattle.vme_chains.specs.GrantLevels.{shown, is_low_in, is_high_in, falls_between, rises_between, low_near}
 use Rattle.vme_chains.specs.GrantLevels.{high_near, requested_in, grant_begins, granted_level, reaches, reached_slot}
 use Rattle.vme_chains.specs.GrantLevels.{taken_at, taken_in, taken_between, is_ungranted}

@@ -59,20 +59,21 @@ first_of_nine j time None None None None None None None (Some l) b4 = refl
 first_of_nine j time None None None None None None None None (Some l) = refl
 first_of_nine j time None None None None None None None None None = refl
 
-module _ (t : Trace) (span : Stretch) where
+module _ (t : Trace) (stretch : Stretch) where
   rules_first : (j : ℕ) (g1 g2 g3 g4 g5 b1 b2 b3 b4 : Option ℕ)
-      → least (breaks t span G1 j) 0 line_count ≡ g1 → least (breaks t span G2 j) 0 line_count ≡ g2
-      → least (breaks t span G3 j) 0 line_count ≡ g3 → least (breaks t span G4 j) 0 line_count ≡ g4
-      → least (breaks t span G5 j) 0 line_count ≡ g5 → least (breaks t span B1 j) 0 line_count ≡ b1
-      → least (breaks t span B2 j) 0 line_count ≡ b2 → least (breaks t span B3 j) 0 line_count ≡ b3
-      → least (breaks t span B4 j) 0 line_count ≡ b4
-      → break_at t span grant_rules j ≡ first_broken j (time_at t j) g1 g2 g3 g4 g5 b1 b2 b3 b4
+      → least (breaks t stretch G1 j) 0 line_count ≡ g1 → least (breaks t stretch G2 j) 0 line_count ≡ g2
+      → least (breaks t stretch G3 j) 0 line_count ≡ g3 → least (breaks t stretch G4 j) 0 line_count ≡ g4
+      → least (breaks t stretch G5 j) 0 line_count ≡ g5 → least (breaks t stretch B1 j) 0 line_count ≡ b1
+      → least (breaks t stretch B2 j) 0 line_count ≡ b2 → least (breaks t stretch B3 j) 0 line_count ≡ b3
+      → least (breaks t stretch B4 j) 0 line_count ≡ b4
+      → break_at t stretch grant_rules j ≡ first_broken j (time_at t j) g1 g2 g3 g4 g5 b1 b2 b3 b4
   unfolding break_at rule_break
   rules_first j g1 g2 g3 g4 g5 b1 b2 b3 b4 e1 e2 e3 e4 e5 f1 f2 f3 f4 = rw (e1, e2, e3, e4, e5, f1, f2, f3, f4) refl
 
-  module _ (few : t.opening.slots ≤ 21) (n : ℕ) (from : span.start ≤ n) (before : suc n < span.end) (cs : List Change)
+  module _ (few : t.opening.slots ≤ 21) (n : ℕ) (from : stretch.start ≤ n) (before : suc n < stretch.end)
+      (cs : List Change)
       (step : levels_at t (suc n) ≡ changed (levels_at t n) cs) (fit : are_changes (levels_at t n) 0 cs ≡ true)
-      (m : Arbitration) (held : Holds t span n m) where
+      (m : Arbitration) (held : Holds t stretch n m) where
     abbrev old : Levels
     old = levels_at t n
 
@@ -85,7 +86,7 @@ module _ (t : Trace) (span : Stretch) where
 
     pub fault-is : option_map (break_of_fault (suc n) (time_at t (suc n)))
         (step_fault old new (union m.requests (requested_in new)) (m.granted || grant_begins old new)
-        (seen_between old new cs)) ≡ break_at t span grant_rules (suc n)
+        (seen_between old new cs)) ≡ break_at t stretch grant_rules (suc n)
     fault-is =
         first_of_nine (suc n) (time_at t (suc n)) (first_changed (is_net_broken G1 old new) cs)
         (first_changed (is_net_broken G2 old new) cs) (first_changed (is_net_broken G3 old new) cs)
@@ -96,8 +97,9 @@ module _ (t : Trace) (span : Stretch) where
         (line_if (is_option_equal (slot_of (cond (falls_between old new BBSY) (taken_between old new) None))
         (new.slots + 1)) BBSY)
         ∙ sym
-        (rules_first (suc n) _ _ _ _ _ _ _ _ _ (g1-is t span few n from before cs step fit)
-        (g2-is t span few n from before cs step fit) (g3-is t span few n from before cs step fit)
-        (g4-is t span few n from before cs step fit)
-        (g5-is t span few n from before m held) (b1-is t span few n from before) (b2-is t span few n from before m held)
-        (b3-is t span few n from before) (b4-is t span few n from before))
+        (rules_first (suc n) _ _ _ _ _ _ _ _ _ (g1-is t stretch few n from before cs step fit)
+        (g2-is t stretch few n from before cs step fit) (g3-is t stretch few n from before cs step fit)
+        (g4-is t stretch few n from before cs step fit)
+        (g5-is t stretch few n from before m held) (b1-is t stretch few n from before)
+        (b2-is t stretch few n from before m held)
+        (b3-is t stretch few n from before) (b4-is t stretch few n from before))

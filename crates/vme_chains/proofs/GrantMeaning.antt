@@ -17,68 +17,72 @@ use Rattle.vme_chains.proofs.GrantRanges.{last-start, last-here, last-kept, last
 any_one : (p : ℕ → Bool) (n : ℕ) → any p n (suc n) ≡ p n
 any_one p n = any-next p n n (omega arith) ∙ ap (λ b. b || p n) (fails-any p n n (λ i a b. absurd (omega arith)))
 
-module _ (t : Trace) (span : Stretch) where
-  -- level l was requested at some instant up to n, from the last grant or the start of the span on, that instant
+module _ (t : Trace) (stretch : Stretch) where
+  -- level l was requested at some instant up to n, from the last grant or the start of the stretch on, that instant
   -- included
   abbrev pub requested_since : ℕ → ℕ → Bool
-  requested_since n l = any (low t (BR l)) (last_before t span (grant_falls t) (suc n)) (suc n)
+  requested_since n l = any (low t (BR l)) (last_before t stretch (grant_falls t) (suc n)) (suc n)
 
-  -- a grant fell at some instant up to n, after the last fall of BBSY* or the start of the span
+  -- a grant fell at some instant up to n, after the last fall of BBSY* or the start of the stretch
   abbrev pub granted_since : ℕ → Bool
-  granted_since n = any (grant_falls t) (last_before t span (falls t BBSY) (suc n) + 1) (suc n)
+  granted_since n = any (grant_falls t) (last_before t stretch (falls t BBSY) (suc n) + 1) (suc n)
 
   -- the memory m is right of instant n
   pub record Holds (n : ℕ) (m : Arbitration) : Type 0 where
     pub requests : (l : ℕ) → l < 4 → is_in m.requests l ≡ requested_since n l
     pub granted : m.granted ≡ granted_since n
 
-  pub requested-start : (l : ℕ) → requested_since span.start l ≡ low t (BR l) span.start
-  requested-start l = ap (λ f. any (low t (BR l)) f (suc span.start)) (last-start t span (grant_falls t))
-      ∙ any_one (low t (BR l)) span.start
+  pub requested-start : (l : ℕ) → requested_since stretch.start l ≡ low t (BR l) stretch.start
+  requested-start l = ap (λ f. any (low t (BR l)) f (suc stretch.start)) (last-start t stretch (grant_falls t))
+      ∙ any_one (low t (BR l)) stretch.start
 
-  pub granted-start : granted_since span.start ≡ false
-  granted-start = ap (λ f. any (grant_falls t) (f + 1) (suc span.start)) (last-start t span (falls t BBSY))
-      ∙ fails-any (grant_falls t) (span.start + 1) (suc span.start) (λ i a b. absurd (omega arith))
+  pub granted-start : granted_since stretch.start ≡ false
+  granted-start = ap (λ f. any (grant_falls t) (f + 1) (suc stretch.start)) (last-start t stretch (falls t BBSY))
+      ∙ fails-any (grant_falls t) (stretch.start + 1) (suc stretch.start) (λ i a b. absurd (omega arith))
 
   -- a request from the last grant before n + 1 on, up to n + 1
-  pub requested-more : (n l : ℕ) → span.start ≤ n → any (low t (BR l)) (last_before t span (grant_falls t) (suc n))
+  pub requested-more : (n l : ℕ) → stretch.start ≤ n → any (low t (BR l))
+      (last_before t stretch (grant_falls t) (suc n))
       (suc (suc n)) ≡ (requested_since n l || low t (BR l) (suc n))
   requested-more n l from =
-      let h = last-within t span (grant_falls t) n from in
-      any-next (low t (BR l)) (last_before t span (grant_falls t) (suc n)) (suc n) (omega arith)
+      let h = last-within t stretch (grant_falls t) n from in
+      any-next (low t (BR l)) (last_before t stretch (grant_falls t) (suc n)) (suc n) (omega arith)
 
-  pub granted-more : (n : ℕ) → span.start ≤ n → any (grant_falls t) (last_before t span (falls t BBSY) (suc n) + 1)
+  pub granted-more : (n : ℕ) → stretch.start ≤ n → any (grant_falls t)
+      (last_before t stretch (falls t BBSY) (suc n) + 1)
       (suc (suc n)) ≡ (granted_since n || grant_falls t (suc n))
   granted-more n from =
-      let h = last-within t span (falls t BBSY) n from in
-      any-next (grant_falls t) (last_before t span (falls t BBSY) (suc n) + 1) (suc n) (omega arith)
+      let h = last-within t stretch (falls t BBSY) n from in
+      any-next (grant_falls t) (last_before t stretch (falls t BBSY) (suc n) + 1) (suc n) (omega arith)
 
   -- `requested_since` at n + 1, by what it is at n
-  pub requested-next : (n l : ℕ) → span.start ≤ n → requested_since (suc n) l ≡ cond (grant_falls t (suc n))
+  pub requested-next : (n l : ℕ) → stretch.start ≤ n → requested_since (suc n) l ≡ cond (grant_falls t (suc n))
       (low t (BR l) (suc n)) (requested_since n l || low t (BR l) (suc n))
   requested-next n l from = by_grant (grant_falls t (suc n)) refl
     where
       by_grant : (b : Bool) → grant_falls t (suc n) ≡ b → requested_since (suc n) l ≡ cond b (low t (BR l) (suc n))
           (requested_since n l || low t (BR l) (suc n))
-      by_grant true e = ap (λ f. any (low t (BR l)) f (suc (suc n))) (last-here t span (grant_falls t) (suc n)
+      by_grant true e = ap (λ f. any (low t (BR l)) f (suc (suc n))) (last-here t stretch (grant_falls t) (suc n)
           (omega arith) e) ∙ any_one (low t (BR l)) (suc n)
-      by_grant false e = ap (λ f. any (low t (BR l)) f (suc (suc n))) (last-kept t span (grant_falls t) (suc n) e)
+      by_grant false e = ap (λ f. any (low t (BR l)) f (suc (suc n))) (last-kept t stretch (grant_falls t) (suc n) e)
           ∙ requested-more n l from
 
-  pub granted-next : (n : ℕ) → span.start ≤ n → granted_since (suc n)
+  pub granted-next : (n : ℕ) → stretch.start ≤ n → granted_since (suc n)
       ≡ (not (falls t BBSY (suc n)) && (granted_since n || grant_falls t (suc n)))
   granted-next n from = by_fall (falls t BBSY (suc n)) refl
     where
       by_fall : (b : Bool) → falls t BBSY (suc n) ≡ b → granted_since (suc n)
           ≡ (not b && (granted_since n || grant_falls t (suc n)))
       by_fall true e =
-          ap (λ f. any (grant_falls t) (f + 1) (suc (suc n))) (last-here t span (falls t BBSY) (suc n) (omega arith) e)
+          ap (λ f. any (grant_falls t) (f + 1) (suc (suc n))) (last-here t stretch (falls t BBSY) (suc n) (omega arith)
+          e)
           ∙ fails-any (grant_falls t) (suc n + 1) (suc (suc n)) (λ i a b. absurd (omega arith))
-      by_fall false e = ap (λ f. any (grant_falls t) (f + 1) (suc (suc n))) (last-kept t span (falls t BBSY) (suc n) e)
+      by_fall false e = ap (λ f. any (grant_falls t) (f + 1) (suc (suc n)))
+          (last-kept t stretch (falls t BBSY) (suc n) e)
           ∙ granted-more n from
 
   -- a level that is requested at n is one requested since the last grant
-  pub requested-now : (n l : ℕ) → span.start ≤ n → (requested_since n l || low t (BR l) n) ≡ requested_since n l
+  pub requested-now : (n l : ℕ) → stretch.start ≤ n → (requested_since n l || low t (BR l) n) ≡ requested_since n l
   requested-now n l from = by_level (low t (BR l) n) refl
     where
       or_true : (a : Bool) → a ≡ true → (a || true) ≡ a
@@ -86,7 +90,8 @@ module _ (t : Trace) (span : Stretch) where
 
       by_level : (b : Bool) → low t (BR l) n ≡ b → (requested_since n l || b) ≡ requested_since n l
       by_level true e =
-          let h = last-within t span (grant_falls t) n from in
-          or_true (requested_since n l) (any-holds (low t (BR l)) (last_before t span (grant_falls t) (suc n)) (suc n) n
+          let h = last-within t stretch (grant_falls t) n from in
+          or_true (requested_since n l) (any-holds (low t (BR l)) (last_before t stretch (grant_falls t) (suc n))
+          (suc n) n
           (omega arith) (omega arith) e)
       by_level false e = or-false (requested_since n l)

@@ -48,37 +48,37 @@ greatest-alike p q f (suc n) alike =
     rw (both_alike p q f n (λ a. alike n a (omega arith)), greatest-alike p q f n (λ i a b. alike i a (omega arith)))
     refl
 
-module _ (t : Trace) (span : Stretch) (p : ℕ → Bool) where
-  -- up to the start of the span there is none, so the answer is the start
-  pub last-start : last_before t span p (suc span.start) ≡ span.start
+module _ (t : Trace) (stretch : Stretch) (p : ℕ → Bool) where
+  -- up to the start of the stretch there is none, so the answer is the start
+  pub last-start : last_before t stretch p (suc stretch.start) ≡ stretch.start
   unfolding last_before
-  last-start = rw (greatest-empty p (span.start + 1) (suc span.start) (omega arith)) refl
+  last-start = rw (greatest-empty p (stretch.start + 1) (suc stretch.start) (omega arith)) refl
 
-  pub last-here : (n : ℕ) → span.start < n → p n ≡ true → last_before t span p (suc n) ≡ n
+  pub last-here : (n : ℕ) → stretch.start < n → p n ≡ true → last_before t stretch p (suc n) ≡ n
   unfolding last_before
-  last-here n after h = rw (greatest-here p (span.start + 1) n (omega arith) h) refl
+  last-here n after h = rw (greatest-here p (stretch.start + 1) n (omega arith) h) refl
 
-  pub last-kept : (n : ℕ) → p n ≡ false → last_before t span p (suc n) ≡ last_before t span p n
+  pub last-kept : (n : ℕ) → p n ≡ false → last_before t stretch p (suc n) ≡ last_before t stretch p n
   unfolding last_before
-  last-kept n h = rw (greatest-before p (span.start + 1) n h) refl
+  last-kept n h = rw (greatest-before p (stretch.start + 1) n h) refl
 
   -- the last instant before n + 1 is at most n
-  pub last-within : (n : ℕ) → span.start ≤ n → last_before t span p (suc n) ≤ n
+  pub last-within : (n : ℕ) → stretch.start ≤ n → last_before t stretch p (suc n) ≤ n
   last-within n from = by_test n (p n) refl from
     where
-      zero_start : (n : ℕ) → span.start ≤ n → (span.start ≡ n) ⊎ (span.start < n)
+      zero_start : (n : ℕ) → stretch.start ≤ n → (stretch.start ≡ n) ⊎ (stretch.start < n)
       zero_start n h = grind arith
 
-      at_start : (n : ℕ) → span.start ≡ n → last_before t span p (suc n) ≤ n
+      at_start : (n : ℕ) → stretch.start ≡ n → last_before t stretch p (suc n) ≤ n
       at_start n e = rw (← e) (rw last-start (omega arith))
 
-      by_test : (n : ℕ) (b : Bool) → p n ≡ b → span.start ≤ n → last_before t span p (suc n) ≤ n
+      by_test : (n : ℕ) (b : Bool) → p n ≡ b → stretch.start ≤ n → last_before t stretch p (suc n) ≤ n
       by_test n true e from = elim (zero_start n from) [
         | inl s ↦ at_start n s
         | inr after ↦ rw (last-here n after e) (omega arith)
       ]
       by_test zero false e from = at_start zero (omega arith)
-      by_test (suc n) false e from = elim (start_or_after span.start n from) [
+      by_test (suc n) false e from = elim (start_or_after stretch.start n from) [
         | inl s ↦ at_start (suc n) s
         | inr earlier ↦ rw (last-kept (suc n) e) (let h = by_test n (p n) refl earlier in omega arith)
       ]

@@ -62,18 +62,18 @@ net_arbitration n h = grind (arith, nat_tests)
 pub request_arbitration : (n : ℕ) → n < 4 → is_arbitration (BR n) ≡ true
 request_arbitration n h = grind (arith, nat_tests)
 
-module _ (t : Trace) (span : Stretch) (few : t.opening.slots ≤ 21) (n : ℕ) (from : span.start ≤ n)
-    (before : suc n < span.end) (cs : List Change) (step : levels_at t (suc n) ≡ changed (levels_at t n) cs)
+module _ (t : Trace) (stretch : Stretch) (few : t.opening.slots ≤ 21) (n : ℕ) (from : stretch.start ≤ n)
+    (before : suc n < stretch.end) (cs : List Change) (step : levels_at t (suc n) ≡ changed (levels_at t n) cs)
     (fit : are_changes (levels_at t n) 0 cs ≡ true) (h : touches_arbitration cs ≡ false) where
   pub grants-none : grant_begins (levels_at t n) (levels_at t (suc n)) ≡ false
-  grants-none = fails-any _ 0 4 (λ i a b. falls-kept t span few n from before cs step fit (grant i 0)
+  grants-none = fails-any _ 0 4 (λ i a b. falls-kept t stretch few n from before cs step fit (grant i 0)
       (untouched cs (grant i 0) h (net_arbitration i b)))
 
   pub takes-none : falls_between (levels_at t n) (levels_at t (suc n)) BBSY ≡ false
-  takes-none = falls-kept t span few n from before cs step fit BBSY (untouched cs BBSY h refl)
+  takes-none = falls-kept t stretch few n from before cs step fit BBSY (untouched cs BBSY h refl)
 
   pub ends-none : rises_between (levels_at t n) (levels_at t (suc n)) BBSY ≡ false
-  ends-none = rises-kept t span few n from before cs step fit BBSY (untouched cs BBSY h refl)
+  ends-none = rises-kept t stretch few n from before cs step fit BBSY (untouched cs BBSY h refl)
 
 -- no rule is broken at a step that breaks none of G1 to G4, in which the arbiter begins no grant, BBSY* doesn't fall,
 -- and no cycle starts while the bus isn't busy

@@ -12,6 +12,6 @@ pub mod GrantFaults
 pub mod GrantJudges
 pub mod AcknowledgeChanges
 pub mod PassedNets
-pub mod AcknowledgeMemory
+pub mod AcknowledgeMeaning
 pub mod AcknowledgeBreaks
 pub mod AcknowledgeJudges

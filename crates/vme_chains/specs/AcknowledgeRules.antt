@@ -18,13 +18,13 @@ use Rattle.vme_monitor.specs.declared.mark.StepMarks.{StepMarks}
 use Rattle.vme_monitor.specs.declared.mark.Next.{Next}
 use Rattle.vme_monitor.specs.declared.tracking.TransferPhase.{TransferPhase}
 use Rattle.vme_monitor.specs.declared.tracking.TransferPhase.TheVariants.{Closed, Reading, Writing, Answered}
-use Rattle.vme_chains.specs.declared.acknowledge.Acknowledgement.{Acknowledgement}
+use Rattle.vme_chains.specs.declared.acknowledge.AcknowledgeMemory.{AcknowledgeMemory}
 use Rattle.vme_chains.specs.declared.acknowledge.PassingSlots.{PassingSlots}
 
 abbrev pub acknowledge_rules : List Rule
 acknowledge_rules = I1 ∷ I2 ∷ I3 ∷ []
 
--- the place of each memory (state of the monitor's automaton): first those of a cycle that wasn't acknowledged
+-- the place of each memory (state of the monitor's automaton): first those of a cycle that DTACK* hasn't answered
 abbrev pub transfer_phase_place : TransferPhase → ℕ
 transfer_phase_place Closed = 0
 transfer_phase_place Reading = 1
@@ -34,16 +34,16 @@ transfer_phase_place Answered = 3
 abbrev pub transfer_phase_nth : ℕ → TransferPhase
 transfer_phase_nth k = if k == 0 then Closed else if k == 1 then Reading else if k == 2 then Writing else Answered
 
-abbrev pub acknowledgement_place : Acknowledgement → ℕ
-acknowledgement_place m = if m.acknowledged then 4 + transfer_phase_place m.transfer else transfer_phase_place
+abbrev pub acknowledge_memory_place : AcknowledgeMemory → ℕ
+acknowledge_memory_place m = if m.answered_by_dtack then 4 + transfer_phase_place m.transfer else transfer_phase_place
     m.transfer
 
-abbrev pub acknowledgement_nth : ℕ → Acknowledgement
-acknowledgement_nth k =
-    if nat_lt k 4 then record { transfer = transfer_phase_nth k; acknowledged = false } else record {
+abbrev pub acknowledge_memory_nth : ℕ → AcknowledgeMemory
+acknowledge_memory_nth k =
+    if nat_lt k 4 then record { transfer = transfer_phase_nth k; answered_by_dtack = false } else record {
       transfer = transfer_phase_nth
           (k - 4);
-      acknowledged = true;
+      answered_by_dtack = true;
     }
 
 -- the line is the acknowledge output of a slot, and falls
@@ -76,33 +76,33 @@ abbrev pub changes_memory : Levels → Levels → Bool
 changes_memory v w = changes_strobes v w || answer_between v w || (is_low (level_at v AS) && is_high (level_at w AS))
 
 -- a transfer is answered by DTACK*
-abbrev pub is_acknowledged : TransferPhase → Levels → Levels → Bool
-is_acknowledged m v w = is_unanswered (entered m v w) && falls_between v w DTACK
+abbrev pub is_answered_by_dtack : TransferPhase → Levels → Levels → Bool
+is_answered_by_dtack m v w = is_unanswered (entered m v w) && falls_between v w DTACK
 
 -- whether AS* is low after the step, and a transfer of the cycle was answered by DTACK*
-abbrev pub acknowledged_after : Acknowledgement → Levels → Levels → Bool
-acknowledged_after m v w = is_low (level_at w AS) && (m.acknowledged || is_acknowledged m.transfer v w)
+abbrev pub answered_by_dtack_after : AcknowledgeMemory → Levels → Levels → Bool
+answered_by_dtack_after m v w = is_low (level_at w AS) && (m.answered_by_dtack || is_answered_by_dtack m.transfer v w)
 
-abbrev pub memory_after : Acknowledgement → Levels → Levels → Acknowledgement
-memory_after m v w = record { transfer = tracked m.transfer v w; acknowledged = acknowledged_after m v w }
+abbrev pub memory_after : AcknowledgeMemory → Levels → Levels → AcknowledgeMemory
+memory_after m v w = record { transfer = tracked m.transfer v w; answered_by_dtack = answered_by_dtack_after m v w }
 
 abbrev pub fault_on : Rule → ℕ → Fault
 fault_on r l = record { rule = r; line = l }
 
 -- the rule I2 or I3, if the first slot that passes an acknowledge on breaks it
-abbrev pub fault_of_first : Acknowledgement → Levels → Levels → Option ℕ → Option Fault
+abbrev pub fault_of_first : AcknowledgeMemory → Levels → Levels → Option ℕ → Option Fault
 fault_of_first m v w None = None
 fault_of_first m v w (Some l) = if not (is_strobed v w) then Some (fault_on I2 l) else if is_addressed v w
-    && m.acknowledged then Some (fault_on I3 l) else None
+    && m.answered_by_dtack then Some (fault_on I3 l) else None
 
 -- the first broken rule: I1 on l, the first acknowledge output that falls while the slot's input isn't low, if there is
 -- one; else I2 or I3 on `first`
-abbrev pub fault_among : Acknowledgement → Levels → Levels → Option ℕ → Option ℕ → Option Fault
+abbrev pub fault_among : AcknowledgeMemory → Levels → Levels → Option ℕ → Option ℕ → Option Fault
 fault_among m v w (Some l) first = Some (fault_on I1 l)
 fault_among m v w None first = fault_of_first m v w first
 
-abbrev pub acknowledge_begin : Levels → Acknowledgement
-acknowledge_begin v = record { transfer = Closed; acknowledged = false }
+abbrev pub acknowledge_begin : Levels → AcknowledgeMemory
+acknowledge_begin v = record { transfer = Closed; answered_by_dtack = false }
 
 abbrev pub acknowledge_start_marks : Levels → StepMarks
 acknowledge_start_marks v = no_step_marks
@@ -119,7 +119,7 @@ acknowledge_observation v w cs =
           (passes_unasked v w) cs;
     }) else None
 
-abbrev pub acknowledge_next : Acknowledgement → Levels → Levels → PassingSlots → Next Acknowledgement
+abbrev pub acknowledge_next : AcknowledgeMemory → Levels → Levels → PassingSlots → Next AcknowledgeMemory
 acknowledge_next m v w seen = record {
   memory = memory_after m v w;
   fault = fault_among m v w seen.unasked seen.first;
@@ -128,10 +128,10 @@ acknowledge_next m v w seen = record {
 
 -- the monitor of acknowledges has no marks
 abbrev pub acknowledge_shown : Trace → Stretch → ℕ → StepMarks
-acknowledge_shown t span j = no_step_marks
+acknowledge_shown t stretch j = no_step_marks
 
-pub acknowledgement_placed : (m : Acknowledgement) → acknowledgement_place m < 8
-acknowledgement_placed m = placed_at m.transfer m.acknowledged
+pub acknowledge_memory_placed : (m : AcknowledgeMemory) → acknowledge_memory_place m < 8
+acknowledge_memory_placed m = placed_at m.transfer m.answered_by_dtack
   where
     placed_at : (p : TransferPhase) (b : Bool) → (if b then 4 + transfer_phase_place p else transfer_phase_place p) < 8
     placed_at Closed true = lit< tt
@@ -143,12 +143,12 @@ acknowledgement_placed m = placed_at m.transfer m.acknowledged
     placed_at Writing false = lit< tt
     placed_at Answered false = lit< tt
 
-pub acknowledgement_found : (m : Acknowledgement) → acknowledgement_nth (acknowledgement_place m) ≡ m
-acknowledgement_found m = found_at m.transfer m.acknowledged
+pub acknowledge_memory_found : (m : AcknowledgeMemory) → acknowledge_memory_nth (acknowledge_memory_place m) ≡ m
+acknowledge_memory_found m = found_at m.transfer m.answered_by_dtack
   where
-    found_at : (p : TransferPhase) (b : Bool) → acknowledgement_nth
+    found_at : (p : TransferPhase) (b : Bool) → acknowledge_memory_nth
         (if b then 4 + transfer_phase_place p else transfer_phase_place p)
-        ≡ record { transfer = p; acknowledged = b }
+        ≡ record { transfer = p; answered_by_dtack = b }
     found_at Closed true = refl
     found_at Reading true = refl
     found_at Writing true = refl

@@ -9,7 +9,7 @@ ghost use Rattle.vme_monitor.specs.Whole.{FindsLeast, ShowsAll};
 ghost use Rattle.vme_chains.specs.AcknowledgeRules.{acknowledge_rules, acknowledge_shown};
 ghost use Rattle.vme_chains.specs.AcknowledgeRules.{changes_memory as changes_memory_of};
 ghost use Rattle.vme_chains.specs.AcknowledgeRules.{changes_strobes as changes_strobes_of, fault_among, first_changed};
-ghost use Rattle.vme_chains.specs.AcknowledgeRules.{is_acknowledged, is_addressed as addressed_near};
+ghost use Rattle.vme_chains.specs.AcknowledgeRules.{is_answered_by_dtack, is_addressed as addressed_near};
 ghost use Rattle.vme_chains.specs.AcknowledgeRules.{is_strobed as strobed_near, memory_after};
 ghost use Rattle.vme_chains.specs.AcknowledgeRules.{passes_on as passes, passes_unasked, transfer_phase_nth};
 ghost use Rattle.vme_chains.specs.AcknowledgeRules.{transfer_phase_place};
@@ -25,9 +25,9 @@ use vme_trace::{Change, Line, Lines, Rule};
 /// The memory of `Iack`, i.e. the state of its automaton: the phase of the transfer, and whether AS* is low and a
 /// transfer of the cycle was answered by DTACK*.
 #[derive(Clone, Copy, PartialEq, Eq, Debug)]
-pub struct Acknowledgement {
+pub struct AcknowledgeMemory {
     pub transfer: TransferPhase,
-    pub acknowledged: bool,
+    pub answered_by_dtack: bool,
 }
 
 fn transfer_place(transfer: TransferPhase) -> usize
@@ -56,58 +56,62 @@ fn nth_transfer(k: usize) -> TransferPhase
     }
 }
 
-impl Enumerable for Acknowledgement {
-    ghost use Rattle.vme_chains.specs.AcknowledgeRules.{acknowledgement_found, acknowledgement_nth};
-    ghost use Rattle.vme_chains.specs.AcknowledgeRules.{acknowledgement_place, acknowledgement_placed};
+impl Enumerable for AcknowledgeMemory {
+    ghost use Rattle.vme_chains.specs.AcknowledgeRules.{acknowledge_memory_found, acknowledge_memory_nth};
+    ghost use Rattle.vme_chains.specs.AcknowledgeRules.{acknowledge_memory_place, acknowledge_memory_placed};
 
     ghost COUNT = { 8 };
 
-    ghost place_of = { acknowledgement_place };
+    ghost place_of = { acknowledge_memory_place };
 
-    ghost nth_of = { acknowledgement_nth };
+    ghost nth_of = { acknowledge_memory_nth };
 
-    ghost placed = { acknowledgement_placed };
+    ghost placed = { acknowledge_memory_placed };
 
-    ghost found = { acknowledgement_found };
+    ghost found = { acknowledge_memory_found };
 
     const COUNT: usize = 8;
 
     fn place(self) -> usize {
         let place = transfer_place(self.transfer);
-        if self.acknowledged { 4 + place } else { place }
+        if self.answered_by_dtack {
+            4 + place
+        } else {
+            place
+        }
     }
 
-    fn nth(k: usize) -> Acknowledgement {
+    fn nth(k: usize) -> AcknowledgeMemory {
         if k < 4 {
-            Acknowledgement {
+            AcknowledgeMemory {
                 transfer: nth_transfer(k),
-                acknowledged: false,
+                answered_by_dtack: false,
             }
         } else {
-            Acknowledgement {
+            AcknowledgeMemory {
                 transfer: nth_transfer(k - 4),
-                acknowledged: true,
+                answered_by_dtack: true,
             }
         }
     }
 }
 
-impl Small for Acknowledgement {
+impl Small for AcknowledgeMemory {
     ghost use Rattle.std.proofs.Common.{lit≤};
 
     ghost small = { lit≤ tt };
 }
 
-impl Acknowledgement {
+impl AcknowledgeMemory {
     /// The memory after a step.
     #[inline(always)]
-    fn after(self, before: &Lines, after: &Lines) -> Acknowledgement
+    fn after(self, before: &Lines, after: &Lines) -> AcknowledgeMemory
         ensures { result ≡ memory_after self before.now after.now }
     {
-        Acknowledgement {
+        AcknowledgeMemory {
             transfer: self.transfer.tracked(before, after),
-            acknowledged: after.level(Line::AS).is_low()
-                && (self.acknowledged || acknowledges(self.transfer, before, after)),
+            answered_by_dtack: after.level(Line::AS).is_low()
+                && (self.answered_by_dtack || answers_by_dtack(self.transfer, before, after)),
         }
     }
 }
@@ -235,8 +239,8 @@ fn is_addressed(before: &Lines, after: &Lines) -> bool
 
 /// Whether a transfer is answered by DTACK*.
 #[inline(always)]
-fn acknowledges(transfer: TransferPhase, before: &Lines, after: &Lines) -> bool
-    ensures { result ≡ is_acknowledged transfer before.now after.now }
+fn answers_by_dtack(transfer: TransferPhase, before: &Lines, after: &Lines) -> bool
+    ensures { result ≡ is_answered_by_dtack transfer before.now after.now }
 {
     falls(before, after, Line::DTACK)
         && matches!(
@@ -248,7 +252,7 @@ fn acknowledges(transfer: TransferPhase, before: &Lines, after: &Lines) -> bool
 /// The first rule that is broken, on its first line.
 #[inline(always)]
 fn fault_of(
-    memory: Acknowledgement,
+    memory: AcknowledgeMemory,
     before: &Lines,
     after: &Lines,
     seen: &PassingSlots,
@@ -266,7 +270,7 @@ fn fault_of(
                     rule: Rule::I2,
                     line,
                 })
-            } else if is_addressed(before, after) && memory.acknowledged {
+            } else if is_addressed(before, after) && memory.answered_by_dtack {
                 Some(Fault {
                     rule: Rule::I3,
                     line,
@@ -287,7 +291,7 @@ impl Rules for AcknowledgeRules {
     ghost use Rattle.vme_chains.specs.AcknowledgeRules.{acknowledge_begin, acknowledge_end_fault, acknowledge_next};
     ghost use Rattle.vme_chains.specs.AcknowledgeRules.{acknowledge_start_marks, acknowledge_observation};
 
-    type Memory = Acknowledgement;
+    type Memory = AcknowledgeMemory;
 
     type Observation = PassingSlots;
 
@@ -303,10 +307,10 @@ impl Rules for AcknowledgeRules {
 
     ghost next = { acknowledge_next };
 
-    fn at_start(_lines: &Lines) -> Acknowledgement {
-        Acknowledgement {
+    fn at_start(_lines: &Lines) -> AcknowledgeMemory {
+        AcknowledgeMemory {
             transfer: TransferPhase::Closed,
-            acknowledged: false,
+            answered_by_dtack: false,
         }
     }
 
@@ -334,11 +338,11 @@ impl Rules for AcknowledgeRules {
 
     #[inline(always)]
     fn step(
-        memory: Acknowledgement,
+        memory: AcknowledgeMemory,
         before: &Lines,
         after: &Lines,
         seen: &PassingSlots,
-    ) -> Next<Acknowledgement> {
+    ) -> Next<AcknowledgeMemory> {
         Next {
             memory: memory.after(before, after),
             fault: fault_of(memory, before, after, seen),

@@ -4,11 +4,11 @@ use Rattle.std.specs.Prelude.{Option, Some, Result, Ok, Err}
 use Rattle.vme_trace.specs.Streams.{Reading, Writing}
 use Rattle.vme_trace.specs.declared.verdict.Verdict.{Verdict}
 use Rattle.vme_stream.specs.Answers.{AnswerGives, answer_by}
-use Rattle.vme_stream.specs.Ends.{Checks, Tells}
+use Rattle.vme_stream.specs.Ends.{Checks, WritesAnswer}
 use Rattle.vme_stream.specs.declared.refusal.Refusal.{Refusal}
-use Rattle.vme_stream.proofs.EndLemmas.{Does-exact, Does-unwritten, given_is, refusal_status-small}
+use Rattle.vme_stream.proofs.EndLemmas.{AnswersInputs-exact, AnswersInputs-unwritten, given_is, refusal_status-small}
 use Rattle.vme_stream.proofs.EndLemmas.{verdict_status-small}
-use Rattle.vme_stream.specs.Inputs.{TellsWhole}
+use Rattle.vme_stream.specs.Inputs.{IsReadWhole}
 use Rattle.vme_commands.specs.Settled.{ChecksSettled, settled_answer_of, settled_judgement}
 use Rattle.vme_commands.proofs.SettledLemmas.{judgement-stays}
 
@@ -23,16 +23,16 @@ module _ (skew : ℕ) where
   pub ChecksSettled-unwritten : (binding dump : Reading × Reading) (block : ℕ) (out err : Writing × Writing)
       (status : ℕ) → ChecksSettled skew binding dump block out err status
       → (status ≡ 5) ↔ (out.1.failures ≡ suc out.0.failures)
-  ChecksSettled-unwritten binding dump block out err status = Does-unwritten answer_by answer_by-small
+  ChecksSettled-unwritten binding dump block out err status = AnswersInputs-unwritten answer_by answer_by-small
       (MayJudge skew block) binding dump out err status
 
   pub ChecksSettled-exact : (binding dump : Reading × Reading) (block : ℕ) (out err : Writing × Writing) (status : ℕ)
       → ChecksSettled skew binding dump block out err status
-      → (b d : List ℕ) → TellsWhole binding.0 binding.1 b → TellsWhole dump.0 dump.1 d
+      → (b d : List ℕ) → IsReadWhole binding.0 binding.1 b → IsReadWhole dump.0 dump.1 d
       → out.1.failures ≡ out.0.failures → (status ≡ 4 → ⊥)
-      → Tells (settled_answer_of skew (Some b) (Some d) block) out err status
+      → WritesAnswer (settled_answer_of skew (Some b) (Some d) block) out err status
   ChecksSettled-exact binding dump block out err status checks b d =
-      Does-exact answer_by answer_by-small (MayJudge skew block) binding dump out err status checks b d
+      AnswersInputs-exact answer_by answer_by-small (MayJudge skew block) binding dump out err status checks b d
       (settled_answer_of skew (Some b) (Some d) block)
       (λ found. given_is answer_by refl found (settled_judgement skew (Some b) (Some d) block))
 

@@ -6,7 +6,7 @@ use Rattle.std.specs.Prelude.{Option, Some, None, Result, Ok, Err, flat_map, sli
 use Rattle.std.specs.List.{last_or}
 use Rattle.std.specs.Option.{option_map_or}
 use Rattle.vcd_read.specs.Header.{◌>>=◌}
-use Rattle.vme_trace.specs.Judged.{Stretch, judged_spans}
+use Rattle.vme_trace.specs.Judged.{Stretch, judged_stretches}
 use Rattle.vme_trace.specs.Trace.{Trace}
 use Rattle.vme_trace.specs.Rules.{all_rules, is_unreadable}
 use Rattle.vme_trace.specs.Verdict.{rules_in_force, least_of, judge, verdict_by, verdict_on}
@@ -14,20 +14,21 @@ use Rattle.vme_trace.specs.declared.verdict.Break.{Break}
 use Rattle.vme_trace.specs.declared.verdict.Verdict.TheVariants as verdict
 use Rattle.vme_listing.specs.Listed.{Listed}
 use Rattle.vme_listing.specs.RowText.{text_of}
-use Rattle.vme_listing.specs.Recorded.{listing_by, listing_of, listing_of_spans, listed_end, outcome_of, rows_of_span}
+use Rattle.vme_listing.specs.Recorded.{listing_by, listing_of, listing_of_stretches, listed_end, outcome_of}
+use Rattle.vme_listing.specs.Recorded.{rows_of_stretch}
 use Rattle.vme_listing.specs.declared.row.ListedVerdict.TheVariants as outcome
 use Rattle.vme_listing.specs.declared.row.Row.{Row}
 use Rattle.vme_listing.specs.declared.row.Row.TheVariants.{Verdict}
 use Rattle.vme_stream.specs.declared.refusal.Refusal.{Refusal}
 use Rattle.vme_stream.specs.declared.refusal.Refusal.TheVariants.{Memory}
 use Rattle.vme_stream.specs.Answers.{AnswerGives, capture_read, recording_read}
-use Rattle.vme_stream.specs.Ends.{Tells}
+use Rattle.vme_stream.specs.Ends.{WritesAnswer}
 use Rattle.vme_stream.specs.Texts.{verdict_status}
 use Rattle.vme_stream.proofs.AnswerLemmas.{capture_read-recorded}
-use Rattle.vme_stream.proofs.EndLemmas.{Does-exact, Does-unwritten, given_is, refusal_status-small}
+use Rattle.vme_stream.proofs.EndLemmas.{AnswersInputs-exact, AnswersInputs-unwritten, given_is, refusal_status-small}
 use Rattle.vme_stream.proofs.EndLemmas.{verdict_status-small}
 use Rattle.vme_listing.specs.Written.{AppendsFront}
-use Rattle.vme_stream.specs.Inputs.{TellsWhole}
+use Rattle.vme_stream.specs.Inputs.{IsReadWhole}
 use Rattle.vme_trace.specs.Streams.{Reading, Writing}
 use Rattle.vme_stream.proofs.OutputLemmas.{front_is}
 use Rattle.vme_commands.specs.Judged.{in_blocks, limited_in_blocks}
@@ -68,19 +69,19 @@ status_on (Some b) = status_by b (is_unreadable b.rule)
 abbrev pub status_of_last : Option Row → ℕ
 status_of_last row = option_map_or row_status row 2
 
-status_over : (t : Trace) (spans : List Stretch)
-    → rows_status (listing_of_spans all_rules t spans) ≡ verdict_status (judge rules_in_force t spans)
+status_over : (t : Trace) (stretches : List Stretch)
+    → rows_status (listing_of_stretches all_rules t stretches) ≡ verdict_status (judge rules_in_force t stretches)
 status_over t [] = refl
-status_over t (span ∷ spans) =
-    let found : Option Break = least_of all_rules t (span ∷ spans) in
-    ap status_of_last (last_is None (flat_map (rows_of_span t (listed_end t found)) (span ∷ spans))
+status_over t (stretch ∷ stretches) =
+    let found : Option Break = least_of all_rules t (stretch ∷ stretches) in
+    ap status_of_last (last_is None (flat_map (rows_of_stretch t (listed_end t found)) (stretch ∷ stretches))
     (Verdict (outcome_of found)))
     ∙ status_on found
 
 -- a listing ends with the status of the verdict
 pub listing_status-is : (t : Trace) → listing_status (listing_of t) ≡ verdict_status (verdict_by rules_in_force t)
 unfolding listing_by verdict_by
-listing_status-is t = status_over t (judged_spans t)
+listing_status-is t = status_over t (judged_stretches t)
 
 -- ---- what is given
 
@@ -142,15 +143,16 @@ ReadAgreesWith skew block b d recording = AnswerGives (λ (t : Trace). t) record
 pub WritesListing-unwritten : (skew : ℕ) (binding dump : Reading × Reading) (block : ℕ) (out err : Writing × Writing)
     (status : ℕ) → WritesListing skew binding dump block out err status
     → (status ≡ 5) ↔ (out.1.failures ≡ suc out.0.failures)
-WritesListing-unwritten skew binding dump block out err status = Does-unwritten listing_answer_by
+WritesListing-unwritten skew binding dump block out err status = AnswersInputs-unwritten listing_answer_by
     listing_answer_by-small (ReadAgreesWith skew block) binding dump out err status
 
 pub WritesListing-exact : (skew : ℕ) (binding dump : Reading × Reading) (block : ℕ) (out err : Writing × Writing)
     (status : ℕ) → WritesListing skew binding dump block out err status
-    → (b d : List ℕ) → TellsWhole binding.0 binding.1 b → TellsWhole dump.0 dump.1 d
+    → (b d : List ℕ) → IsReadWhole binding.0 binding.1 b → IsReadWhole dump.0 dump.1 d
     → out.1.failures ≡ out.0.failures → (status ≡ 4 → ⊥)
-    → Tells (listing_answer_of skew (Some b) (Some d) block) out err status
+    → WritesAnswer (listing_answer_of skew (Some b) (Some d) block) out err status
 WritesListing-exact skew binding dump block out err status lists b d =
-    Does-exact listing_answer_by listing_answer_by-small (ReadAgreesWith skew block) binding dump out err status lists
+    AnswersInputs-exact listing_answer_by listing_answer_by-small (ReadAgreesWith skew block) binding dump out err
+    status lists
     b d (listing_answer_of skew (Some b) (Some d) block)
     (λ found. given_is listing_answer_by refl found (settled_recording skew (Some b) (Some d) block))

@@ -61,29 +61,29 @@ or_bad-settles : (skew : ℕ) (r : Result Trace BindFault) → settled_or skew (
 or_bad-settles skew (Ok t) = refl
 or_bad-settles skew (Err fault) = refl
 
-captured-stays : (bound : BoundLines) (read : Result Contents Refusal) → OfText read → settled_or 0
-    (capture_by bound read) ≡ capture_by bound read
-captured-stays bound (Ok contents) of =
-    or_bad-settles 0 (capture_of bound contents) ∙ ap (λ (r : Result Trace BindFault). or_bad_binding r)
-    (capture-stays bound of.0 contents of.1)
-captured-stays bound (Err r) of = refl
+captured-stays : (binding : BoundLines) (read : Result Contents Refusal) → OfText read → settled_or 0
+    (capture_by binding read) ≡ capture_by binding read
+captured-stays binding (Ok contents) of =
+    or_bad-settles 0 (capture_of binding contents) ∙ ap (λ (r : Result Trace BindFault). or_bad_binding r)
+    (capture-stays binding of.0 contents of.1)
+captured-stays binding (Err r) of = refl
 
 -- deskewing by 0 doesn't change what a binding makes of a dump
-pub dump-unsettled : (skew : ℕ) → skew ≡ 0 → (bound : BoundLines) (d : Option (List ℕ))
-    → settled_or skew (capture_by bound (dump_read d)) ≡ capture_by bound (dump_read d)
-dump-unsettled skew none bound d =
-    ap (λ (s : ℕ). settled_or s (capture_by bound (dump_read d))) none
-    ∙ captured-stays bound (dump_read d) (of_text d)
+pub dump-unsettled : (skew : ℕ) → skew ≡ 0 → (binding : BoundLines) (d : Option (List ℕ))
+    → settled_or skew (capture_by binding (dump_read d)) ≡ capture_by binding (dump_read d)
+dump-unsettled skew none binding d =
+    ap (λ (s : ℕ). settled_or s (capture_by binding (dump_read d))) none
+    ∙ captured-stays binding (dump_read d) (of_text d)
 
 abbrev captured_by : Option (List ℕ) → BoundLines → Result Trace Refusal
-captured_by d bound = capture_by bound (dump_read d)
+captured_by d binding = capture_by binding (dump_read d)
 
 pub read-stays : (b d : Option (List ℕ)) → settled_read 0 b d ≡ capture_read b d
 unfolding settled_read capture_read
 read-stays b d = by_binding (binding_read b)
   where
     by_binding : (r : Result BoundLines Refusal) → settled_or 0 (r >>= captured_by d) ≡ (r >>= captured_by d)
-    by_binding (Ok bound) = captured-stays bound (dump_read d) (of_text d)
+    by_binding (Ok binding) = captured-stays binding (dump_read d) (of_text d)
     by_binding (Err r) = refl
 
 pub judgement-stays : (b d : Option (List ℕ)) (block : ℕ) → settled_judgement 0 b d block ≡ judgement_of b d block

@@ -10,8 +10,8 @@ use Rattle.vme_listing.specs.Listed.{Listed, in_newest_version}
 use Rattle.vme_listing.specs.Recorded.{listing_of}
 use Rattle.vme_listing.specs.RowText.{text_of}
 use Rattle.vme_stream.specs.Answers.{CommandAnswer, AnswerGives, capture_read, refusal_answer}
-use Rattle.vme_stream.specs.Ends.{Does}
-use Rattle.vme_stream.specs.Inputs.{TellsWhole}
+use Rattle.vme_stream.specs.Ends.{AnswersInputs}
+use Rattle.vme_stream.specs.Inputs.{IsReadWhole}
 use Rattle.vme_stream.specs.Outputs.{Writes}
 use Rattle.vme_split.specs.Split.{Splits}
 use Rattle.vme_stream.specs.Texts.{verdict_status}
@@ -83,7 +83,7 @@ listing_answer_of skew binding dump block = listing_answer_by (settled_recording
 abbrev pub WritesListing : ℕ → Reading × Reading → Reading × Reading → ℕ → Writing × Writing → Writing × Writing → ℕ
     → Type 0
 WritesListing skew binding dump block out err status =
-    Does listing_answer_by (λ b d recording. AnswerGives (λ t. t) recording (settled_recording skew b d block))
+    AnswersInputs listing_answer_by (λ b d recording. AnswerGives (λ t. t) recording (settled_recording skew b d block))
     binding dump out err status
 
 -- what was written is the text of rows that split the judged edges of the recording: each edge belongs to one row
@@ -95,6 +95,6 @@ WritesSplit t out =
 -- judged edges of the deskewed recording
 abbrev pub WritesSplitExactly : ℕ → Reading × Reading → Reading × Reading → ℕ → Writing × Writing → ℕ → Type 0
 WritesSplitExactly skew binding dump block out status =
-    (b d : List ℕ) (t : Trace) → TellsWhole binding.0 binding.1 b → TellsWhole dump.0 dump.1 d
+    (b d : List ℕ) (t : Trace) → IsReadWhole binding.0 binding.1 b → IsReadWhole dump.0 dump.1 d
     → out.1.failures ≡ out.0.failures → status ≢ 4 → settled_recording skew (Some b) (Some d) block ≡ Ok t
     → WritesSplit t out

@@ -7,7 +7,7 @@ use Rattle.vme_trace.specs.Trace.{Trace}
 use Rattle.vme_trace.specs.declared.verdict.Verdict.{Verdict}
 use Rattle.vme_skew.specs.Settled.{settled_or}
 use Rattle.vme_stream.specs.Answers.{CommandAnswer, AnswerGives, answer_by, capture_read, verdict_in_blocks}
-use Rattle.vme_stream.specs.Ends.{Does}
+use Rattle.vme_stream.specs.Ends.{AnswersInputs}
 use Rattle.vme_stream.specs.declared.refusal.Refusal.{Refusal}
 use Rattle.vme_commands.specs.Judged.{in_blocks}
 
@@ -35,5 +35,5 @@ settled_answer_of skew binding dump block = answer_by (settled_judgement skew bi
 abbrev pub ChecksSettled : ℕ → Reading × Reading → Reading × Reading → ℕ → Writing × Writing → Writing × Writing → ℕ
     → Type 0
 ChecksSettled skew binding dump block out err status =
-    Does answer_by (λ b d judged. AnswerGives (λ v. v) judged (settled_judgement skew b d block))
+    AnswersInputs answer_by (λ b d judged. AnswerGives (λ v. v) judged (settled_judgement skew b d block))
     binding dump out err status

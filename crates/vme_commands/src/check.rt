@@ -2,7 +2,7 @@
 
 ghost use Rattle.std.specs.Prelude.{◌≡◌, ◌≤◌, ◌↔◌, ℕ, suc, List, Option, Some, None};
 ghost use Rattle.vme_stream.specs.Answers.{AnswerGives, answer_of, judgement_of};
-ghost use Rattle.vme_stream.specs.Ends.{Checks, TellsExactly};
+ghost use Rattle.vme_stream.specs.Ends.{Checks, WritesAnswerExactly};
 ghost use Rattle.vme_stream.specs.Inputs.{IsReading, longest_input};
 ghost use Rattle.vme_trace.specs.WellFormed.{malformed_step};
 ghost use Rattle.vme_commands.specs.Judged.{judged_in_blocks};
@@ -49,10 +49,10 @@ pub fn check<R: Threads + Sync, B: Source, D: Source, O: Sink, E: Sink>(
     ensures unwritten { (result ≡ 5) ↔ ((O.writing out.new).failures ≡ suc (O.writing out.old).failures) }
 
     // If both inputs are read whole, no write to `out` fails and memory suffices, the answer is exactly as defined.
-    ensures exact { TellsExactly (λ b d. settled_answer_of skew (Some b) (Some d) block)
+    ensures exact { WritesAnswerExactly (λ b d. settled_answer_of skew (Some b) (Some d) block)
         (B.reading binding.old, B.reading binding.new) (D.reading dump.old, D.reading dump.new)
         (O.writing out.old, O.writing out.new) (E.writing err.old, E.writing err.new) result }
-    ensures exact_unsettled { skew ≡ 0 → TellsExactly (λ b d. answer_of (Some b) (Some d) block)
+    ensures exact_unsettled { skew ≡ 0 → WritesAnswerExactly (λ b d. answer_of (Some b) (Some d) block)
         (B.reading binding.old, B.reading binding.new) (D.reading dump.old, D.reading dump.new)
         (O.writing out.old, O.writing out.new) (E.writing err.old, E.writing err.new) result }
 {

@@ -4,7 +4,7 @@ ghost use Rattle.std.specs.Prelude.{◌≡◌, ◌≤◌, ◌↔◌, ℕ, suc, L
 ghost use Rattle.vme_listing.specs.Recorded.{listing_of};
 ghost use Rattle.vme_trace.specs.Trace.{Trace};
 ghost use Rattle.vme_trace.specs.WellFormed.{malformed_step};
-ghost use Rattle.vme_stream.specs.Ends.{Ends, TellsExactly};
+ghost use Rattle.vme_stream.specs.Ends.{Ends, WritesAnswerExactly};
 ghost use Rattle.vme_stream.specs.Inputs.{IsReading, longest_input};
 ghost use Rattle.vme_commands.specs.Judged.{limited_in_blocks};
 ghost use Rattle.vme_commands.specs.Listings.{GivesListing, WritesListing, listing_answer_by, listing_answer_of};
@@ -49,7 +49,7 @@ pub fn list<R: Threads + Sync, B: Source, D: Source, O: Sink, E: Sink>(
     ensures unwritten { (result ≡ 5) ↔ ((O.writing out.new).failures ≡ suc (O.writing out.old).failures) }
 
     // If both inputs are read whole, no write to `out` fails and memory suffices, the answer is exactly as defined.
-    ensures exact { TellsExactly (λ b d. listing_answer_of skew (Some b) (Some d) block)
+    ensures exact { WritesAnswerExactly (λ b d. listing_answer_of skew (Some b) (Some d) block)
         (B.reading binding.old, B.reading binding.new) (D.reading dump.old, D.reading dump.new)
         (O.writing out.old, O.writing out.new) (E.writing err.old, E.writing err.new) result }
 

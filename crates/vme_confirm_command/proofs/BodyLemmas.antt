@@ -20,7 +20,7 @@ use Rattle.vme_cert.specs.declared.compare.Answer.{Answer}
 use Rattle.vme_step_reader.specs.StepReading.{StepReading, whole_reading}
 use Rattle.vme_dump_input.specs.SettledReadings.{settled_whole, skew_of}
 use Rattle.vme_dump_input.specs.DumpBeginnings.{IsReadDump, IsSound}
-use Rattle.vme_confirm_command.specs.DumpChecks.{FindsOf}
+use Rattle.vme_confirm_command.specs.DumpChecks.{IsAnswerForDump}
 use Rattle.vme_confirm_command.specs.DumpChecks.{IsChecked}
 use Rattle.vme_dump_input.specs.BodyPieces.{IsAtEnd}
 use Rattle.vme_confirm_command.specs.StepChecks.{Finds, HasCheckedSteps}
@@ -51,13 +51,13 @@ settles zero t is = sym (by_zero t is)
 settles (suc n) t is = refl
 
 module _ {Whole Source : Type 0} (gave : Whole → Source → List Row → Type 0) (is_over : Source → Type 0) (whole : Whole)
-    (version : Version) (bound : BoundLines) (skew : ℕ) (source : Source) (old now : Reading) (bytes : List ℕ)
-    (r : StepReading) (end : IsAtEnd bound old now bytes r) (given : Trace)
+    (version : Version) (binding : BoundLines) (skew : ℕ) (source : Source) (old now : Reading) (bytes : List ℕ)
+    (r : StepReading) (end : IsAtEnd binding old now bytes r) (given : Trace)
     (recorded : (whole_reading r bytes).recorded ≡ given) (faultless : (whole_reading r bytes).fault ≡ None)
     (is : IsRecording given) where
-  found_of : (contents : Contents) → capture_of bound contents ≡ limited given → (found : Result Answer BindFault)
+  found_of : (contents : Contents) → capture_of binding contents ≡ limited given → (found : Result Answer BindFault)
       → Finds gave is_over whole version (skew_of skew) given found source
-      → FindsOf gave is_over whole version bound skew contents found source
+      → IsAnswerForDump gave is_over whole version binding skew contents found source
   found_of contents captured (Ok answer) finds =
       let (fits, rest) = finds in
       let (more, gives, decides) = rest in (
@@ -75,14 +75,14 @@ module _ {Whole Source : Type 0} (gave : Whole → Source → List Row → Type 
   pub finds-of : (found : Result Answer BindFault)
       → Finds gave is_over whole version (skew_of skew) given found source
       → (contents : Contents) × IsReadDump old now contents
-      × FindsOf gave is_over whole version bound skew contents found source
+      × IsAnswerForDump gave is_over whole version binding skew contents found source
   finds-of found finds =
-      let (contents, dump, same) = (agree bound end.text).whole (whole_reading r bytes) end.body faultless in (
+      let (contents, dump, same) = (agree binding end.text).whole (whole_reading r bytes) end.body faultless in (
         contents,
         record {
           text = end.text;
           reading = end.all.0;
           is = dump-is end.text end.all.1 (Ok contents) dump;
         },
-        found_of contents (captured-is bound contents given (same ∙ ap (λ (t : Trace). Ok t) recorded)) found finds,
+        found_of contents (captured-is binding contents given (same ∙ ap (λ (t : Trace). Ok t) recorded)) found finds,
       )

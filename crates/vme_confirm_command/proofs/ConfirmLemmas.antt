@@ -17,8 +17,8 @@ use Rattle.vme_confirm_command.specs.Confirmations.{IsListing}
 use Rattle.vme_confirm_command.specs.Confirmations.{compared_settled, confirmation_answer_by}
 use Rattle.vme_confirm_command.specs.Confirmations.{confirmation_status, listing_text, longest_listing}
 use Rattle.vme_confirm_command.specs.Confirmations.{TellsConfirmation}
-use Rattle.vme_stream.specs.Ends.{Tells, Ends}
-use Rattle.vme_stream.specs.Inputs.{TellsWhole}
+use Rattle.vme_stream.specs.Ends.{WritesAnswer, Ends}
+use Rattle.vme_stream.specs.Inputs.{IsReadWhole}
 use Rattle.vme_stream.specs.Refusals.{listing_refusal}
 use Rattle.vme_stream.specs.declared.refusal.Input.TheVariants.{Listing}
 use Rattle.vme_stream.specs.declared.refusal.Refusal.{Refusal}
@@ -116,14 +116,15 @@ is_confirmation skew (Ok bound) (Ok contents) text given found memory rows is =
     (given, none, is_listing text given none rows, said)
 
 was_told : (answer : CommandAnswer) (out err : Writing × Writing) (status : ℕ) → Ends answer out err status
-    → out.1.failures ≡ out.0.failures → Tells answer out err status
+    → out.1.failures ≡ out.0.failures → WritesAnswer answer out err status
 was_told answer out err status (inl told) same = told
 was_told answer out err status (inr failed) same = absurd (not_both out.1.failures out.0.failures same failed.out_is.1)
 
 -- if the inputs are read whole, no write to `out` fails and memory suffices, exactly their answer is written
 pub Confirms-exact : (skew : ℕ) (binding dump listing : Reading × Reading) (out err : Writing × Writing) (status : ℕ)
     → Confirms skew binding dump listing out err status
-    → (b d l : List ℕ) → TellsWhole binding.0 binding.1 b → TellsWhole dump.0 dump.1 d → TellsWhole listing.0 listing.1
+    → (b d l : List ℕ) → IsReadWhole binding.0 binding.1 b → IsReadWhole dump.0 dump.1 d
+    → IsReadWhole listing.0 listing.1
     l
     → out.1.failures ≡ out.0.failures → (status ≡ 4 → ⊥)
     → TellsConfirmation skew b d l out err status
@@ -141,7 +142,8 @@ Confirms-exact skew binding dump listing out err status confirms b d l told_b to
       answered,
       end,
     ) = confirms in
-    let told : Tells (confirmation_answer_by found) out err status = was_told (confirmation_answer_by found) out err
+    let told : WritesAnswer (confirmation_answer_by found) out err status =
+    was_told (confirmation_answer_by found) out err
     status end same in
     let none : (found ≡ Err Memory → ⊥) =
     λ lacks. memory (told.status_is ∙ ap (λ (f : Result Confirmation Refusal). (confirmation_answer_by f).status) lacks)

@@ -25,69 +25,72 @@ use Rattle.vme_stream.specs.declared.refusal.Refusal.TheVariants.{BadBinding, Me
 use Rattle.vme_skew.specs.Settled.{settled_or}
 use Rattle.vme_confirm_command.specs.Confirmations.{GivesConfirmation, GivesRows, compared_settled}
 use Rattle.vme_dump_input.specs.DumpBeginnings.{BeginsDump, IsDumpRefused, IsReadDump}
-use Rattle.vme_confirm_command.specs.DumpChecks.{Compares, FindsOf}
+use Rattle.vme_confirm_command.specs.DumpChecks.{Compares, IsAnswerForDump}
 use Rattle.vme_dump_input.specs.BufferedInputs.{InputSoFar}
-use Rattle.vme_dump_input.specs.declared.definitions.Begun.{Begun}
-use Rattle.vme_dump_input.specs.declared.definitions.Begun.TheVariants.{Body, Unusable}
+use Rattle.vme_dump_input.specs.declared.definitions.DumpAfterDefinitions.{DumpAfterDefinitions}
+use Rattle.vme_dump_input.specs.declared.definitions.DumpAfterDefinitions.TheVariants.{Body, Unusable}
 use Rattle.vme_dump_input.proofs.BufferedLemmas.{some-reading}
-use Rattle.vme_confirm_command.specs.FoundRows.{DecidesSoFar, FindsRows, IsAnswerTo, IsAnswerToListing}
+use Rattle.vme_confirm_command.specs.FoundRows.{DecidesSoFar, IsAnswerByRows, IsAnswerTo, IsAnswerToListing}
 use Rattle.vme_confirm_command.specs.RowsOfListing.{IsListingRead, rows_refusal}
 use Rattle.vme_confirm_command.proofs.ConfirmLemmas.{text-fits}
 use Rattle.vme_confirm_command.specs.declared.rows_fault.RowsFault.{RowsFault}
 
 -- ---- a listing that is read to its end
 
-module _ (version : Version) (right : List Row) (given more : List Row) (over : Type 0) (ends : over → more ≡ []) where
-  decided : (answer : Answer) → DecidesSoFar given right over answer → DecidesListing (given ++ more) right answer
-  decided Yes h = decides-all {Source = Unit {0}} (λ _. over) given more right tt Yes h ends
-  decided (No row) h = decides-all {Source = Unit {0}} (λ _. over) given more right tt (No row) h ends
+module _ (version : Version) (expected_rows : List Row) (given more : List Row) (over : Type 0)
+    (ends : over → more ≡ []) where
+  decided : (answer : Answer) → DecidesSoFar given expected_rows over answer
+      → DecidesListing (given ++ more) expected_rows answer
+  decided Yes h = decides-all {Source = Unit {0}} (λ _. over) given more expected_rows tt Yes h ends
+  decided (No row) h = decides-all {Source = Unit {0}} (λ _. over) given more expected_rows tt (No row) h ends
 
 -- the listing has no fault
 pub found-whole : (old : Reading) (version : Version) (now : Reading) (given : List Row) (over : Type 0)
-    (right : Result (List Row) BindFault) (found : Result Answer BindFault)
+    (expected_rows : Result (List Row) BindFault) (found : Result Answer BindFault)
     → IsListingRead old version now given over (Ok tt)
-    → FindsRows version right found given over → (result : Result Answer Refusal)
-    → result ≡ or_bad_binding found → IsAnswerToListing old version now right result
-found-whole old version now given over right found ends finds result is =
+    → IsAnswerByRows version expected_rows found given over → (result : Result Answer Refusal)
+    → result ≡ or_bad_binding found → IsAnswerToListing old version now expected_rows result
+found-whole old version now given over expected_rows found ends finds result is =
     let (text, more, reading, short, text_is, none) = ends in (
       Some text,
       Ok (listed version (given ++ more)),
       reading,
       subst (λ w. GivesRows w (Ok (listed version (given ++ more)))) (sym (text-fits text short))
           (text_is.0, text_is.1),
-      by_right right found finds (more) none is,
+      by_expected expected_rows found finds (more) none is,
     )
   where
-    by_right : (right : Result (List Row) BindFault) (found : Result Answer BindFault)
-        → FindsRows version right found given over → (more : List Row) → (over → more ≡ [])
+    by_expected : (expected_rows : Result (List Row) BindFault) (found : Result Answer BindFault)
+        → IsAnswerByRows version expected_rows found given over → (more : List Row) → (over → more ≡ [])
         → result ≡ or_bad_binding found
-        → IsAnswerTo version right (Ok (listed version (given ++ more))) result
-    by_right (Ok rights) (Ok answer) finds more none is =
-        (answer, is, refl, decided version rights given more over none answer finds)
-    by_right (Err own) (Err fault) finds more none is =
+        → IsAnswerTo version expected_rows (Ok (listed version (given ++ more))) result
+    by_expected (Ok expected) (Ok answer) finds more none is =
+        (answer, is, refl, decided version expected given more over none answer finds)
+    by_expected (Err own) (Err fault) finds more none is =
         is ∙ ap (λ (f : BindFault). Err (BadBinding f)) (sym finds)
-    by_right (Ok rights) (Err fault) finds more none is = absurd finds
-    by_right (Err own) (Ok answer) finds more none is = absurd finds
+    by_expected (Ok expected) (Err fault) finds more none is = absurd finds
+    by_expected (Err own) (Ok answer) finds more none is = absurd finds
 
 -- the listing has a fault
 pub found-faulty : (old : Reading) (version : Version) (now : Reading) (given : List Row) (over : Type 0)
-    (right : Result (List Row) BindFault) (fault : RowsFault) → IsListingRead old version now given over (Err fault)
+    (expected_rows : Result (List Row) BindFault) (fault : RowsFault)
+    → IsListingRead old version now given over (Err fault)
     → (result : Result Answer Refusal) → result ≡ Err (rows_refusal fault)
-    → IsAnswerToListing old version now right result
-found-faulty old version now given over right fault ends result is =
+    → IsAnswerToListing old version now expected_rows result
+found-faulty old version now given over expected_rows fault ends result is =
     let (bytes, reading, gives) = ends in
     (bytes, Err (rows_refusal fault), reading, gives, is)
 
 -- ---- the answer
 
-module _ (skew : ℕ) (bound : BoundLines) (contents : Contents) (dump : Option (List ℕ))
+module _ (skew : ℕ) (binding : BoundLines) (contents : Contents) (dump : Option (List ℕ))
     (dump_is : dump_read dump ≡ Ok contents) where
   said : Result Listed Refusal → Result (Listed × Trace) Refusal
-  said given = compared_settled skew (Ok bound) (dump_read dump) given
+  said given = compared_settled skew (Ok binding) (dump_read dump) given
 
-  said_is : (given : Result Listed Refusal) → said given ≡ compared_settled skew (Ok bound) (Ok contents) given
+  said_is : (given : Result Listed Refusal) → said given ≡ compared_settled skew (Ok binding) (Ok contents) given
   unfolding said
-  said_is given = ap (λ (w : Result Contents Refusal). compared_settled skew (Ok bound) w given) dump_is
+  said_is given = ap (λ (w : Result Contents Refusal). compared_settled skew (Ok binding) w given) dump_is
 
   lacks : (refusal : Refusal) (w : Result (Listed × Trace) Refusal) → w ≡ Err refusal
       → GivesConfirmation (Err refusal) w
@@ -98,10 +101,10 @@ module _ (skew : ℕ) (bound : BoundLines) (contents : Contents) (dump : Option 
   with_given given r = or_bad_binding r >>= λ t. Ok (given, t)
 
   -- the answer, if the binding makes a recording of the dump
-  pub confirms-found : (version : Version) (t : Trace) → settled_or skew (capture_of bound contents) ≡ Ok t
+  pub confirms-found : (version : Version) (t : Trace) → settled_or skew (capture_of binding contents) ≡ Ok t
       → (given : Result Listed Refusal) (found : Result Answer Refusal)
       → IsAnswerTo version (Ok (rows_in version (recorded_rows t))) given found
-      → GivesConfirmation found (compared_settled skew (Ok bound) (dump_read dump) given)
+      → GivesConfirmation found (compared_settled skew (Ok binding) (dump_read dump) given)
   unfolding said
   confirms-found version t is (Err refusal) found found_is =
       subst (λ f. GivesConfirmation f (said (Err refusal))) (sym found_is)
@@ -117,10 +120,10 @@ module _ (skew : ℕ) (bound : BoundLines) (contents : Contents) (dump : Option 
       )
 
   -- the answer, if the binding makes no recording of the dump
-  pub confirms-none : (version : Version) (fault : BindFault) → capture_of bound contents ≡ Err fault
+  pub confirms-none : (version : Version) (fault : BindFault) → capture_of binding contents ≡ Err fault
       → (given : Result Listed Refusal) (found : Result Answer Refusal)
       → IsAnswerTo version (Err fault) given found
-      → GivesConfirmation found (compared_settled skew (Ok bound) (dump_read dump) given)
+      → GivesConfirmation found (compared_settled skew (Ok binding) (dump_read dump) given)
   unfolding said
   confirms-none version fault is (Err refusal) found found_is =
       subst (λ f. GivesConfirmation f (said (Err refusal))) (sym found_is)
@@ -131,50 +134,55 @@ module _ (skew : ℕ) (bound : BoundLines) (contents : Contents) (dump : Option 
       (said_is (Ok given) ∙ ap (λ (r : Result Trace BindFault). with_given given (settled_or skew r)) is))
 
 -- the answer, if there is no dump
-pub confirms-refused : (skew : ℕ) (bound : BoundLines) (old now : Reading) (refusal : Refusal)
+pub confirms-refused : (skew : ℕ) (binding : BoundLines) (old now : Reading) (refusal : Refusal)
     → IsDumpRefused old now refusal
     → (dump : Option (List ℕ)) × IsReading old now dump
-    × GivesConfirmation (Err refusal) (compared_settled skew (Ok bound) (dump_read dump) (Err Memory))
-confirms-refused skew bound old now Memory is = (is.0, is.1, tt)
-confirms-refused skew bound old now refusal is = (
+    × GivesConfirmation (Err refusal) (compared_settled skew (Ok binding) (dump_read dump) (Err Memory))
+confirms-refused skew binding old now Memory is = (is.0, is.1, tt)
+confirms-refused skew binding old now refusal is = (
   is.0,
   is.1,
-  ap (λ (w : Result Contents Refusal). compared_settled skew (Ok bound) w (Err Memory)) is.2,
+  ap (λ (w : Result Contents Refusal). compared_settled skew (Ok binding) w (Err Memory)) is.2,
 )
 
 -- ---- what is found of a recording, or of none
 
-decides-so : {Source : Type 0} (is_over : Source → Type 0) (given right : List Row) (source : Source) (answer : Answer)
-    → Decides is_over given right source answer → DecidesSoFar given right (is_over source) answer
-decides-so is_over given right source Yes h = h
-decides-so is_over given right source (No row) h = h
+decides-so : {Source : Type 0} (is_over : Source → Type 0) (given expected_rows : List Row) (source : Source)
+    (answer : Answer)
+    → Decides is_over given expected_rows source answer → DecidesSoFar given expected_rows (is_over source) answer
+decides-so is_over given expected_rows source Yes h = h
+decides-so is_over given expected_rows source (No row) h = h
 
 module _ {Whole Source : Type 0} (whole : Whole) (source : Source) (gave : Whole → Source → List Row → Type 0)
-    (is_over : Source → Type 0) (version : Version) (bound : BoundLines) (skew : ℕ) (old now : Reading)
-    (r : Result (Result Answer BindFault) Refusal) (compares : Compares gave is_over whole version bound skew old now r
+    (is_over : Source → Type 0) (version : Version) (binding : BoundLines) (skew : ℕ) (old now : Reading)
+    (r : Result (Result Answer BindFault) Refusal) (compares : Compares gave is_over whole version binding skew old now
+    r
     source) where
   pub compares-found : (found : Result Answer BindFault) → r ≡ Ok found
       → (contents : Contents) × IsReadDump old now contents
-      × FindsOf gave is_over whole version bound skew contents found source
+      × IsAnswerForDump gave is_over whole version binding skew contents found source
   compares-found found is =
-      subst (λ (w : Result (Result Answer BindFault) Refusal). Compares gave is_over whole version bound skew old now w
+      subst (λ (w : Result (Result Answer BindFault) Refusal). Compares gave is_over whole version binding skew old now
+      w
       source) is compares
 
   pub compares-refused : (refusal : Refusal) → r ≡ Err refusal
       → IsDumpRefused old now refusal × ((rows : List Row) × gave whole source rows)
   compares-refused refusal is =
-      subst (λ (w : Result (Result Answer BindFault) Refusal). Compares gave is_over whole version bound skew old now w
+      subst (λ (w : Result (Result Answer BindFault) Refusal). Compares gave is_over whole version binding skew old now
+      w
       source) is compares
 
 module _ {Whole Source : Type 0} (whole : Whole) (source : Source) (gave : Whole → Source → List Row → Type 0)
-    (is_over : Source → Type 0) (version : Version) (bound : BoundLines) (skew : ℕ) (contents : Contents)
+    (is_over : Source → Type 0) (version : Version) (binding : BoundLines) (skew : ℕ) (contents : Contents)
     (dump : Option (List ℕ)) (dump_is : dump_read dump ≡ Ok contents) where
   pub found-of : (found : Result Answer BindFault)
-      → FindsOf gave is_over whole version bound skew contents found source
-      → (right : Result (List Row) BindFault) × (given : List Row) × gave whole source given
-      × FindsRows version right found given (is_over source)
-      × ((listing : Result Listed Refusal) (result : Result Answer Refusal) → IsAnswerTo version right listing result
-      → GivesConfirmation result (compared_settled skew (Ok bound) (dump_read dump) listing))
+      → IsAnswerForDump gave is_over whole version binding skew contents found source
+      → (expected_rows : Result (List Row) BindFault) × (given : List Row) × gave whole source given
+      × IsAnswerByRows version expected_rows found given (is_over source)
+      × ((listing : Result Listed Refusal) (result : Result Answer Refusal)
+      → IsAnswerTo version expected_rows listing result
+      → GivesConfirmation result (compared_settled skew (Ok binding) (dump_read dump) listing))
   found-of (Ok answer) finds =
       let (t, is, rest) = finds in
       let (more, gives, decides) = rest in (
@@ -182,16 +190,16 @@ module _ {Whole Source : Type 0} (whole : Whole) (source : Source) (gave : Whole
         more,
         gives,
         decides-so is_over more (rows_in version (recorded_rows t)) source answer decides,
-        confirms-found skew bound contents dump dump_is version t is,
+        confirms-found skew binding contents dump dump_is version t is,
       )
   found-of (Err fault) finds =
       let (rows, gives) = finds.1 in
-      (Err fault, rows, gives, refl, confirms-none skew bound contents dump dump_is version fault finds.0)
+      (Err fault, rows, gives, refl, confirms-none skew binding contents dump dump_is version fault finds.0)
 
 -- some reading of the dump leads to `now`
-pub begun-read : (bound : BoundLines) (old now : Reading) (input : InputSoFar) (begun : Begun)
-    → BeginsDump bound old now input (Ok begun) → (bytes : Option (List ℕ)) × IsReading old now bytes
-begun-read bound old now input (Body r count) at = some-reading old now [] input at.read
-begun-read bound old now input (Unusable fault) is =
+pub begun-read : (binding : BoundLines) (old now : Reading) (input : InputSoFar) (begun : DumpAfterDefinitions)
+    → BeginsDump binding old now input (Ok begun) → (bytes : Option (List ℕ)) × IsReading old now bytes
+begun-read binding old now input (Body r count) at = some-reading old now [] input at.read
+begun-read binding old now input (Unusable fault) is =
     let (contents, dump, fault_is) = is in
     (Some dump.text, dump.reading)

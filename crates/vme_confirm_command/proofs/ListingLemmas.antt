@@ -10,7 +10,8 @@ use Rattle.vme_listing.specs.declared.row.Version.{Version}
 use Rattle.vme_stream.specs.declared.input.InFault.{InFault}
 use Rattle.vme_confirm_command.specs.Confirmations.{longest_listing}
 use Rattle.vme_dump_input.specs.BufferedInputs.{FailsAs, InputSoFar, IsAllOf}
-use Rattle.vme_confirm_command.specs.RowsOfListing.{AreRead, GaveAllRows, GaveRows, HasTextFault, IsListingRead, IsOver}
+use Rattle.vme_confirm_command.specs.RowsOfListing.{AreRead, ListingGaveAllRows, ListingGaveRows, HasTextFault}
+use Rattle.vme_confirm_command.specs.RowsOfListing.{IsListingRead, IsOver}
 use Rattle.vme_confirm_command.specs.RowsOfListing.{IsWholeText, ReadsRow}
 use Rattle.vme_confirm_command.specs.declared.rows_fault.RowsFault.{RowsFault}
 use Rattle.vme_confirm_command.specs.declared.rows_fault.RowsFault.TheVariants.{Input, Text}
@@ -20,13 +21,13 @@ use Rattle.vme_confirm_command.proofs.RowLemmas.{ends-whole, input-refused, text
 -- ---- one row more
 
 module _ (old : Reading) (version : Version) (now : Reading) (input : InputSoFar) (rows : List Row) where
-  pub no-pieces : (fault : Option RowsFault) → GaveRows old version now input None fault rows
-      → GaveAllRows old version now input None fault rows
+  pub no-pieces : (fault : Option RowsFault) → ListingGaveRows old version now input None fault rows
+      → ListingGaveAllRows old version now input None fault rows
   no-pieces (Some fault) gave = gave
   no-pieces None gave = absurd gave
 
   pub rows-read : (so_far : RowsSoFar) (fault : Option RowsFault) → fault ≡ None
-      → GaveRows old version now input (Some so_far) fault rows
+      → ListingGaveRows old version now input (Some so_far) fault rows
       → (input.limit ≡ longest_listing) × (so_far.version ≡ version) × AreRead old now input (Ok so_far) rows
   rows-read so_far None none gave = gave
   rows-read so_far (Some fault) none gave = absurd (cc)
@@ -34,8 +35,8 @@ module _ (old : Reading) (version : Version) (now : Reading) (input : InputSoFar
   -- a row that is read is given; if none is read, the rows end
   pub gives-on : (so_far : RowsSoFar) (fault : Option RowsFault) → fault ≡ None → input.limit ≡ longest_listing
       → so_far.version ≡ version → (row : Option Row) → ReadsRow old now input so_far rows (Ok row)
-      → MatchOption row (GaveAllRows old version now input (Some so_far) fault rows)
-      (λ row. GaveRows old version now input (Some so_far) fault (rows ++ row ∷ []))
+      → MatchOption row (ListingGaveAllRows old version now input (Some so_far) fault rows)
+      (λ row. ListingGaveRows old version now input (Some so_far) fault (rows ++ row ∷ []))
   gives-on so_far (Some fault) none limit same row reads = absurd (cc)
   gives-on so_far None none limit same (Some row) reads = (limit, same, reads)
   gives-on so_far None none limit same None reads =
@@ -63,16 +64,16 @@ is-over-at so_far (Some fault) none over = absurd (cc)
 module _ (old : Reading) (version : Version) (now : Reading) (input : InputSoFar) (pieces : Option RowsSoFar)
     (fault : Option RowsFault) (given : List Row) where
   abbrev Gives : Option Row → Type 0
-  Gives row = MatchOption row (GaveAllRows old version now input pieces fault given)
-      (λ r. GaveRows old version now input pieces fault (given ++ r ∷ []))
+  Gives row = MatchOption row (ListingGaveAllRows old version now input pieces fault given)
+      (λ r. ListingGaveRows old version now input pieces fault (given ++ r ∷ []))
 
   pub one-more : (row : Option Row) → is_some row ≡ true → Gives row
-      → (r : Row) × GaveRows old version now input pieces fault (given ++ r ∷ [])
+      → (r : Row) × ListingGaveRows old version now input pieces fault (given ++ r ∷ [])
   one-more (Some r) some h = (r, h)
   one-more None some h = absurd (cc)
 
   pub no-more : (row : Option Row) → is_some row ≡ false → Gives row
-      → GaveAllRows old version now input pieces fault given
+      → ListingGaveAllRows old version now input pieces fault given
   no-more None none h = h
   no-more (Some r) none h = absurd (cc)
 
@@ -85,7 +86,8 @@ never-some (Some r) some none = cc
 -- the listing is whole
 pub whole-ends : (old : Reading) (version : Version) (now : Reading) (input : InputSoFar) (pieces : Option RowsSoFar)
     (fault : Option RowsFault) → fault ≡ None → (rows more : List Row) (over : Type 0) → (over → more ≡ [])
-    → GaveAllRows old version now input pieces fault (rows ++ more) → IsListingRead old version now rows over (Ok tt)
+    → ListingGaveAllRows old version now input pieces fault (rows ++ more)
+    → IsListingRead old version now rows over (Ok tt)
 whole-ends old version now input pieces (Some fault) none rows more over none_more ends = absurd (cc)
 whole-ends old version now input None None none rows more over none_more ends = absurd ends
 whole-ends old version now input (Some so_far) None none rows more over none_more ends =
@@ -102,10 +104,11 @@ whole-ends old version now input (Some so_far) None none rows more over none_mor
 -- there is a fault
 pub fault-gave : (old : Reading) (version : Version) (now : Reading) (input : InputSoFar) (pieces : Option RowsSoFar)
     (given : Option RowsFault) (fault : RowsFault) → given ≡ Some fault → (rows : List Row)
-    → GaveAllRows old version now input pieces given rows → GaveRows old version now input pieces (Some fault) rows
+    → ListingGaveAllRows old version now input pieces given rows
+    → ListingGaveRows old version now input pieces (Some fault) rows
 fault-gave old version now input pieces None fault is rows ends = absurd (cc)
 fault-gave old version now input pieces (Some own) fault is rows ends =
-    subst (λ (f : Option RowsFault). GaveRows old version now input pieces f rows) is ends
+    subst (λ (f : Option RowsFault). ListingGaveRows old version now input pieces f rows) is ends
 
 -- a listing that was read, and has `rows ++ more`, has `rows` and more rows after them
 pub more-after : (old : Reading) (version : Version) (now : Reading) (rows more : List Row) (over : Type 0)

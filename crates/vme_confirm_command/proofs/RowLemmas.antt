@@ -18,7 +18,7 @@ use Rattle.vme_stream.specs.declared.refusal.Input.TheVariants.{Listing}
 use Rattle.vme_stream.specs.declared.refusal.Refusal.TheVariants.{TooLong}
 use Rattle.vme_confirm_command.specs.Confirmations.{GivesRows, listing_text, longest_listing}
 use Rattle.vme_dump_input.specs.BufferedInputs.{FailsAs, InputSoFar, IsReadTo}
-use Rattle.vme_confirm_command.specs.RowsOfListing.{AreCounted, GaveRows, IsSomeReading, rows_refusal}
+use Rattle.vme_confirm_command.specs.RowsOfListing.{AreCounted, ListingGaveRows, IsSomeReading, rows_refusal}
 use Rattle.vme_confirm_command.specs.declared.rows_fault.RowsFault.{RowsFault}
 use Rattle.vme_confirm_command.specs.declared.rows_fault.RowsFault.TheVariants.{Input, Text}
 use Rattle.vme_confirm_command.proofs.ConfirmLemmas.{listing_fault, text-fits, text-long}
@@ -147,7 +147,7 @@ none-counted fault input x is = absurd (cc)
 
 -- what was read of a source is some reading of it
 pub read-some-how : (old : Reading) (version : Version) (now : Reading) (input : InputSoFar) (pieces : Option RowsSoFar)
-    (fault : Option RowsFault) (rows : List Row) → GaveRows old version now input pieces fault rows
+    (fault : Option RowsFault) (rows : List Row) → ListingGaveRows old version now input pieces fault rows
     → IsSomeReading old now
 read-some-how old version now input pieces (Some (Text fault)) rows gave =
     let (done, read, has) = gave.1 in

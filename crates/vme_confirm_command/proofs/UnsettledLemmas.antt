@@ -48,17 +48,17 @@ pub compared-stays : (b d : Option (List ℕ)) (given : Result Listed Refusal)
     → compared_settled 0 (binding_read b) (dump_read d) given ≡ compared (binding_read b) (dump_read d) given
 compared-stays b d given = by_binding (binding_read b)
   where
-    by_given : (bound : BoundLines) (contents : Contents) → OfText (Ok contents) → (given : Result Listed Refusal)
-        → compared_settled 0 (Ok bound) (Ok contents) given ≡ compared (Ok bound) (Ok contents) given
-    by_given bound contents of (Ok listing) = ap (with_listed listing) (capture-stays bound of.0 contents of.1)
-    by_given bound contents of (Err r) = refl
+    by_given : (binding : BoundLines) (contents : Contents) → OfText (Ok contents) → (given : Result Listed Refusal)
+        → compared_settled 0 (Ok binding) (Ok contents) given ≡ compared (Ok binding) (Ok contents) given
+    by_given binding contents of (Ok listing) = ap (with_listed listing) (capture-stays binding of.0 contents of.1)
+    by_given binding contents of (Err r) = refl
 
-    by_dump : (bound : BoundLines) (read : Result Contents Refusal) → OfText read
-        → compared_settled 0 (Ok bound) read given ≡ compared (Ok bound) read given
-    by_dump bound (Ok contents) of = by_given bound contents of given
-    by_dump bound (Err r) of = refl
+    by_dump : (binding : BoundLines) (read : Result Contents Refusal) → OfText read
+        → compared_settled 0 (Ok binding) read given ≡ compared (Ok binding) read given
+    by_dump binding (Ok contents) of = by_given binding contents of given
+    by_dump binding (Err r) of = refl
 
     by_binding : (r : Result BoundLines Refusal) → compared_settled 0 r (dump_read d) given
         ≡ compared r (dump_read d) given
-    by_binding (Ok bound) = by_dump bound (dump_read d) (of_text d)
+    by_binding (Ok binding) = by_dump binding (dump_read d) (of_text d)
     by_binding (Err r) = refl

@@ -18,8 +18,8 @@ use Rattle.vme_cert.specs.Agreement.{DecidesListing}
 use Rattle.vme_cert.specs.declared.compare.Answer.{Answer as Confirmation}
 use Rattle.vme_cert.specs.declared.compare.Answer.TheVariants.{Yes, No}
 use Rattle.vme_stream.specs.Answers.{CommandAnswer, binding_read, dump_read, or_bad_binding, refusal_answer}
-use Rattle.vme_stream.specs.Ends.{Ends, Tells}
-use Rattle.vme_stream.specs.Inputs.{IsReading, TellsWhole}
+use Rattle.vme_stream.specs.Ends.{Ends, WritesAnswer}
+use Rattle.vme_stream.specs.Inputs.{IsReading, IsReadWhole}
 use Rattle.vme_stream.specs.Refusals.{listing_refusal}
 use Rattle.vme_stream.specs.Texts.{line_of}
 use Rattle.vme_stream.specs.declared.refusal.Input.TheVariants.{Listing}
@@ -127,12 +127,12 @@ abbrev pub TellsConfirmation : ℕ → List ℕ → List ℕ → List ℕ → Wr
 TellsConfirmation skew binding dump listing out err status =
     (found : Result Confirmation Refusal)
     × IsConfirmation skew (binding_read (Some binding)) (dump_read (Some dump)) (listing_text (Some listing)) found
-    × Tells (confirmation_answer_by found) out err status
+    × WritesAnswer (confirmation_answer_by found) out err status
 
 -- if the inputs are read whole, no write to `out` fails and memory suffices, exactly their answer is written
 abbrev pub ConfirmsExactly : ℕ → Reading × Reading → Reading × Reading → Reading × Reading
     → Writing × Writing → Writing × Writing → ℕ → Type 0
 ConfirmsExactly skew binding dump listing out err status =
-    (b d l : List ℕ) → TellsWhole binding.0 binding.1 b → TellsWhole dump.0 dump.1 d
-    → TellsWhole listing.0 listing.1 l → out.1.failures ≡ out.0.failures → status ≢ 4
+    (b d l : List ℕ) → IsReadWhole binding.0 binding.1 b → IsReadWhole dump.0 dump.1 d
+    → IsReadWhole listing.0 listing.1 l → out.1.failures ≡ out.0.failures → status ≢ 4
     → TellsConfirmation skew b d l out err status

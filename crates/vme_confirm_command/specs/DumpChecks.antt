@@ -25,16 +25,16 @@ pub record IsChecked {Source : Type 0} (skew : Option ℕ) (r : StepReading) (t 
       check.is_too_long
 
 module _ {Whole Source : Type 0} (gave : Whole → Source → List Row → Type 0) (is_over : Source → Type 0) (whole : Whole)
-    (version : Version) (bound : BoundLines) (skew : ℕ) where
+    (version : Version) (binding : BoundLines) (skew : ℕ) where
   -- the answer about the rows, for the recording that the binding makes of a dump, or why it makes none
-  abbrev pub FindsOf : Contents → Result Answer BindFault → Source → Type 0
-  FindsOf contents (Ok answer) source =
-      (t : Trace) × (settled_or skew (capture_of bound contents) ≡ Ok t)
+  abbrev pub IsAnswerForDump : Contents → Result Answer BindFault → Source → Type 0
+  IsAnswerForDump contents (Ok answer) source =
+      (t : Trace) × (settled_or skew (capture_of binding contents) ≡ Ok t)
       × HasDecided gave is_over whole version t source answer
-  FindsOf contents (Err fault) source =
-      (capture_of bound contents ≡ Err fault) × ((rows : List Row) × gave whole source rows)
+  IsAnswerForDump contents (Err fault) source =
+      (capture_of binding contents ≡ Err fault) × ((rows : List Row) × gave whole source rows)
 
   abbrev pub Compares : Reading → Reading → Result (Result Answer BindFault) Refusal → Source → Type 0
   Compares old now (Ok found) source =
-      (contents : Contents) × IsReadDump old now contents × FindsOf contents found source
+      (contents : Contents) × IsReadDump old now contents × IsAnswerForDump contents found source
   Compares old now (Err refusal) source = IsDumpRefused old now refusal × ((rows : List Row) × gave whole source rows)

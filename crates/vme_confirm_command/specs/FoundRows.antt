@@ -15,27 +15,27 @@ use Rattle.vme_confirm_command.specs.Confirmations.{GivesRows, listing_text}
 
 -- the answer by the rows `given`, which holds whatever rows follow them; `over` says that none do
 abbrev pub DecidesSoFar : List Row → List Row → Type 0 → Answer → Type 0
-DecidesSoFar given right over Yes = (given ≡ right) × over
-DecidesSoFar given right over (No row) = DiffersAt given right row × ((row ≤ length given) ⊎ over)
+DecidesSoFar given expected_rows over Yes = (given ≡ expected_rows) × over
+DecidesSoFar given expected_rows over (No row) = DiffersAt given expected_rows row × ((row ≤ length given) ⊎ over)
 
--- by the rows that were given, the answer for the right rows, or the fault for which there are no right rows
-abbrev pub FindsRows : Version → Result (List Row) BindFault → Result Answer BindFault → List Row → Type 0 → Type 0
-FindsRows version (Ok right) (Ok answer) given over = DecidesSoFar given right over answer
-FindsRows version (Err own) (Err fault) given over = own ≡ fault
-FindsRows version (Ok right) (Err fault) given over = ⊥
-FindsRows version (Err own) (Ok answer) given over = ⊥
+-- by the rows that were given, the answer for the expected rows, or the fault for which there are no expected rows
+abbrev pub IsAnswerByRows : Version → Result (List Row) BindFault → Result Answer BindFault → List Row → Type 0 → Type 0
+IsAnswerByRows version (Ok expected_rows) (Ok answer) given over = DecidesSoFar given expected_rows over answer
+IsAnswerByRows version (Err own) (Err fault) given over = own ≡ fault
+IsAnswerByRows version (Ok expected_rows) (Err fault) given over = ⊥
+IsAnswerByRows version (Err own) (Ok answer) given over = ⊥
 
--- `found` is the answer to the listing; or the reason that there is none, or the fault for which there are no right
+-- `found` is the answer to the listing; or the reason that there is none, or the fault for which there are no expected
 -- rows
 abbrev pub IsAnswerTo : Version → Result (List Row) BindFault → Result Listed Refusal → Result Answer Refusal → Type 0
-IsAnswerTo version right (Err refusal) found = found ≡ Err refusal
+IsAnswerTo version expected_rows (Err refusal) found = found ≡ Err refusal
 IsAnswerTo version (Err fault) (Ok given) found = found ≡ Err (BadBinding fault)
-IsAnswerTo version (Ok right) (Ok given) found =
-    (answer : Answer) × (found ≡ Ok answer) × (given.version ≡ version) × DecidesListing given.rows right answer
+IsAnswerTo version (Ok expected_rows) (Ok given) found =
+    (answer : Answer) × (found ≡ Ok answer) × (given.version ≡ version) × DecidesListing given.rows expected_rows answer
 
 -- a listing was read to its end, and `found` is the answer to it, or why there is no answer
 abbrev pub IsAnswerToListing : Reading → Version → Reading → Result (List Row) BindFault → Result Answer Refusal
     → Type 0
-IsAnswerToListing old version now right found =
+IsAnswerToListing old version now expected_rows found =
     (bytes : Option (List ℕ)) × (given : Result Listed Refusal) × IsReading old now bytes
-    × GivesRows (listing_text bytes) given × IsAnswerTo version right given found
+    × GivesRows (listing_text bytes) given × IsAnswerTo version expected_rows given found

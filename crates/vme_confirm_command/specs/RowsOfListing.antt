@@ -66,22 +66,24 @@ ReadsRow old now input so_far rows (Ok None) =
 ReadsRow old now input so_far rows (Err fault) = AreRead old now input (Err fault) rows
 
 -- these rows of a listing in this version were given so far, or reading ended with the fault
-abbrev pub GaveRows : Reading → Version → Reading → InputSoFar → Option RowsSoFar → Option RowsFault → List Row
+abbrev pub ListingGaveRows : Reading → Version → Reading → InputSoFar → Option RowsSoFar → Option RowsFault → List Row
     → Type 0
-GaveRows old version now input pieces (Some fault) rows =
+ListingGaveRows old version now input pieces (Some fault) rows =
     (input.limit ≡ longest_listing) × AreRead old now input (Err fault) rows
-GaveRows old version now input (Some so_far) None rows =
+ListingGaveRows old version now input (Some so_far) None rows =
     (input.limit ≡ longest_listing) × (so_far.version ≡ version) × AreRead old now input (Ok so_far) rows
-GaveRows old version now input None None rows = ⊥
+ListingGaveRows old version now input None None rows = ⊥
 
 -- these rows were given, and no more are: the listing is whole, or there is a fault
-abbrev pub GaveAllRows : Reading → Version → Reading → InputSoFar → Option RowsSoFar → Option RowsFault → List Row
+abbrev pub ListingGaveAllRows : Reading → Version → Reading → InputSoFar → Option RowsSoFar → Option RowsFault
+    → List Row
     → Type 0
-GaveAllRows old version now input pieces (Some fault) rows = GaveRows old version now input pieces (Some fault) rows
-GaveAllRows old version now input (Some so_far) None rows =
-    GaveRows old version now input (Some so_far) None rows
+ListingGaveAllRows old version now input pieces (Some fault) rows =
+    ListingGaveRows old version now input pieces (Some fault) rows
+ListingGaveAllRows old version now input (Some so_far) None rows =
+    ListingGaveRows old version now input (Some so_far) None rows
     × ((done : List ℕ) × IsReadTo old now done input × IsWholeText done input version rows)
-GaveAllRows old version now input None None rows = ⊥
+ListingGaveAllRows old version now input None None rows = ⊥
 
 -- a bound for the bytes that may still be taken: those that are held, and those that may still be read
 abbrev pub bytes_left : InputSoFar → ℕ

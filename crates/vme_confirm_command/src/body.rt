@@ -20,7 +20,9 @@ use std::alloc::Global;
 use vcd_read::VcdFault;
 use vme_bind::BindFault;
 use vme_cert::{Answer, RowSource};
-use vme_dump_input::{Begun, BufferedInput, fault_of, opening_of, refused_in_body, unread};
+use vme_dump_input::{
+    BufferedInput, DumpAfterDefinitions, fault_of, opening_of, refused_in_body, unread,
+};
 use vme_listing::Version;
 use vme_step_reader::{StepReader, given_is_a_prefix, times_go_on};
 use vme_stream::Refusal;
@@ -35,8 +37,8 @@ fn check_piece<S: RowSource>(
     check: &mut StepCheck<S>,
 ) -> Result<StepReader, Option<VcdFault>>
     requires { (skew : Option ℕ) × (t : Trace) × IsChecked skew reader t check.old }
-    ensures reads { (bound : BoundLines) (old now : Reading) → IsAtBody bound old now input.old reader
-        → ReadsPiece bound old now input.new result }
+    ensures reads { (binding : BoundLines) (old now : Reading) → IsAtBody binding old now input.old reader
+        → ReadsPiece binding old now input.new result }
     ensures checks { (skew : Option ℕ) (t : Trace) → IsChecked skew reader t check.old
         → IfOk result (ChecksOn S.gave S.is_over skew t check.old check.new) }
     ensures comparing { (whole : S.Whole) (version : Version)
@@ -68,11 +70,11 @@ fn check_last<S: RowSource>(
     check: StepCheck<S>,
 ) -> (Result<Result<Answer, BindFault>, Refusal>, S)
     requires { (skew : Option ℕ) × (t : Trace) × IsChecked skew reader t check }
-    ensures { (bound : BoundLines) (old now : Reading) (skew : ℕ) (t : Trace) (whole : S.Whole) (version : Version)
+    ensures { (binding : BoundLines) (old now : Reading) (skew : ℕ) (t : Trace) (whole : S.Whole) (version : Version)
         → IsChecked (skew_of skew) reader t check
         → HasCompared S.gave S.is_over whole version t check.checker
-        → IsAtEnd bound old now bytes.now reader
-        → Compares S.gave S.is_over whole version bound skew old now result.0 result.1 }
+        → IsAtEnd binding old now bytes.now reader
+        → Compares S.gave S.is_over whole version binding skew old now result.0 result.1 }
 {
     given_is_a_prefix();
     times_go_on();
@@ -100,11 +102,11 @@ fn compare_body<D: Source, S: RowSource>(
     check: StepCheck<S>,
 ) -> (Result<Result<Answer, BindFault>, Refusal>, S)
     requires { (skew : Option ℕ) × (t : Trace) × IsChecked skew reader t check }
-    ensures { (bound : BoundLines) (old : Reading) (skew : ℕ) (t : Trace) (whole : S.Whole) (version : Version)
+    ensures { (binding : BoundLines) (old : Reading) (skew : ℕ) (t : Trace) (whole : S.Whole) (version : Version)
         → IsChecked (skew_of skew) reader t check
         → HasCompared S.gave S.is_over whole version t check.checker
-        → IsAtBody bound old (D.reading dump.old) input.old reader → input.old.limit ≡ longest_input
-        → Compares S.gave S.is_over whole version bound skew old (D.reading dump.new) result.0 result.1 }
+        → IsAtBody binding old (D.reading dump.old) input.old reader → input.old.limit ≡ longest_input
+        → Compares S.gave S.is_over whole version binding skew old (D.reading dump.new) result.0 result.1 }
 {
     let mut reader = reader;
     let mut check = check;
@@ -141,27 +143,27 @@ fn first_check<S: RowSource>(
 
 /// Compares rows with those of the recording that a binding makes of a dump whose definitions were read, deskewed by
 /// `skew`. Returns what was found or why there is no recording, and the source of the rows.
-pub(crate) fn compare_begun<D: Source, S: RowSource>(
+pub(crate) fn compare_with_rows<D: Source, S: RowSource>(
     alloc: Global,
     dump: &mut D,
     input: &mut BufferedInput,
-    begun: Begun,
+    begun: DumpAfterDefinitions,
     skew: u64,
     version: Version,
     rows: S,
 ) -> (Result<Result<Answer, BindFault>, Refusal>, S)
     requires begun { MayBeRead begun }
     requires held { HoldsDefinitions input.old begun }
-    ensures { (bound : BoundLines) (old : Reading) (whole : S.Whole) → S.gave whole rows []
-        → BeginsDump bound old (D.reading dump.old) input.old (Ok begun) → input.old.limit ≡ longest_input
-        → Compares S.gave S.is_over whole version bound skew old (D.reading dump.new) result.0 result.1 }
+    ensures { (binding : BoundLines) (old : Reading) (whole : S.Whole) → S.gave whole rows []
+        → BeginsDump binding old (D.reading dump.old) input.old (Ok begun) → input.old.limit ≡ longest_input
+        → Compares S.gave S.is_over whole version binding skew old (D.reading dump.new) result.0 result.1 }
 {
     match begun {
-        Begun::Body(reader, count) => {
+        DumpAfterDefinitions::Body(reader, count) => {
             input.take_first(count);
             let check = first_check(alloc, &reader, skew, version, rows);
             compare_body(alloc, dump, input, reader, check)
         }
-        Begun::Unusable(fault) => (Ok(Err(fault)), rows),
+        DumpAfterDefinitions::Unusable(fault) => (Ok(Err(fault)), rows),
     }
 }

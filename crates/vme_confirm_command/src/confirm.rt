@@ -15,16 +15,16 @@ ghost use Rattle.vme_bind.specs.declared.fault.BindFault.{BindFault};
 ghost use Rattle.vme_listing.specs.declared.row.Row.{Row};
 ghost use Rattle.vme_listing.specs.declared.row.Version.{Version};
 ghost use Rattle.vme_dump_input.specs.DumpBeginnings.{BeginsDump, HoldsDefinitions, MayBeRead};
-ghost use Rattle.vme_confirm_command.specs.FoundRows.{FindsRows, IsAnswerToListing};
-ghost use Rattle.vme_confirm_command.specs.RowsOfListing.{GaveRows, IsOver};
+ghost use Rattle.vme_confirm_command.specs.FoundRows.{IsAnswerByRows, IsAnswerToListing};
+ghost use Rattle.vme_confirm_command.specs.RowsOfListing.{ListingGaveRows, IsOver};
 ghost use Rattle.vme_stream.specs.declared.refusal.Refusal.{Refusal};
 
-use crate::body::compare_begun;
+use crate::body::compare_with_rows;
 use crate::listing_rows::{ListingRows, listing_input};
 use std::alloc::Global;
 use vme_bind::{BindFault, Binding};
 use vme_cert::Answer;
-use vme_dump_input::{Begun, BufferedInput, dump_input, read_definitions};
+use vme_dump_input::{BufferedInput, DumpAfterDefinitions, dump_input, read_definitions};
 use vme_stream::{
     Message, Refusal, binding_from, cannot_write_line, complain, refusal_line, write_message,
 };
@@ -155,17 +155,17 @@ fn comparison_bound<D: Source, L: Source + Drop>(
         return (Err(Refusal::Memory), listing);
     };
     match read_definitions(alloc, bound, dump, &mut input) {
-        Ok(begun) => comparison_begun(alloc, dump, &mut input, begun, listing, skew),
+        Ok(begun) => compare_with_listing(alloc, dump, &mut input, begun, listing, skew),
         Err(refusal) => (Err(refusal), listing),
     }
 }
 
 /// Compares a listing with that of the recording that the binding makes of the dump, whose definitions were read.
-fn comparison_begun<D: Source, L: Source + Drop>(
+fn compare_with_listing<D: Source, L: Source + Drop>(
     alloc: Global,
     dump: &mut D,
     input: &mut BufferedInput,
-    begun: Begun,
+    begun: DumpAfterDefinitions,
     listing: L,
     skew: u64,
 ) -> (Result<Answer, Refusal>, L)
@@ -184,7 +184,7 @@ fn comparison_begun<D: Source, L: Source + Drop>(
     };
     let rows = ListingRows::begin(listing, text);
     let version = rows.version();
-    let (found, rows) = compare_begun(alloc, dump, input, begun, skew, version, rows);
+    let (found, rows) = compare_with_rows(alloc, dump, input, begun, skew, version, rows);
     match found {
         Ok(found) => comparison_found(found, rows),
         Err(refusal) => (Err(refusal), rows.into_source()),
@@ -196,10 +196,10 @@ fn comparison_found<L: Source + Drop>(
     found: Result<Answer, BindFault>,
     rows: ListingRows<L>,
 ) -> (Result<Answer, Refusal>, L)
-    ensures { (old : Reading) (version : Version) (given : List Row) (right : Result (List Row) BindFault)
-        → GaveRows old version (L.reading rows.source) rows.input rows.pieces rows.fault given
-        → FindsRows version right found given (IsOver rows.pieces rows.fault)
-        → IsAnswerToListing old version (L.reading result.1) right result.0 }
+    ensures { (old : Reading) (version : Version) (given : List Row) (expected_rows : Result (List Row) BindFault)
+        → ListingGaveRows old version (L.reading rows.source) rows.input rows.pieces rows.fault given
+        → IsAnswerByRows version expected_rows found given (IsOver rows.pieces rows.fault)
+        → IsAnswerToListing old version (L.reading result.1) expected_rows result.0 }
 {
     let (ended, listing) = rows.finish();
     match ended {

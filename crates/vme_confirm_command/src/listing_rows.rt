@@ -6,7 +6,8 @@ ghost use Rattle.vme_trace.specs.Streams.{Reading};
 ghost use Rattle.vme_listing.specs.declared.row.Row.{Row};
 ghost use Rattle.vme_listing.specs.declared.row.Version.{Version};
 ghost use Rattle.vme_dump_input.specs.BufferedInputs.{not_read};
-ghost use Rattle.vme_confirm_command.specs.RowsOfListing.{AreCounted, GaveAllRows, GaveRows, IsListingRead, IsOver};
+ghost use Rattle.vme_confirm_command.specs.RowsOfListing.{AreCounted, ListingGaveAllRows, ListingGaveRows};
+ghost use Rattle.vme_confirm_command.specs.RowsOfListing.{IsListingRead, IsOver};
 ghost use Rattle.vme_confirm_command.specs.RowsOfListing.{IsSomeReading, bytes_left};
 
 use crate::row_reading::{begin_rows, next_row};
@@ -47,7 +48,8 @@ impl<L: Source + Drop> ListingRows<L> {
     pub fn begin(source: L, input: BufferedInput) -> ListingRows<L>
         requires { input ≡ not_read LONGEST_LISTING LISTING_ROOM }
         ensures gave { (version : Version) → IfSome result.pieces (λ so_far. so_far.version ≡ version)
-            → GaveRows (L.reading source) version (L.reading result.source) result.input result.pieces result.fault [] }
+            → ListingGaveRows (L.reading source) version (L.reading result.source) result.input result.pieces
+            result.fault [] }
     {
         let mut source = source;
         let mut input = input;
@@ -83,9 +85,10 @@ impl<L: Source + Drop> ListingRows<L> {
     /// The next row, if there is one.
     fn give(&mut self) -> Option<Row>
         ensures gave { (old : Reading) (version : Version) (rows : List Row)
-            → GaveRows old version (L.reading self.old.source) self.old.input self.old.pieces self.old.fault rows
-            → MatchOption result (GaveAllRows old version (L.reading self.new.source) self.new.input self.new.pieces
-            self.new.fault rows) (λ row. GaveRows old version (L.reading self.new.source) self.new.input
+            → ListingGaveRows old version (L.reading self.old.source) self.old.input self.old.pieces self.old.fault rows
+            → MatchOption result (ListingGaveAllRows old version (L.reading self.new.source) self.new.input
+            self.new.pieces
+            self.new.fault rows) (λ row. ListingGaveRows old version (L.reading self.new.source) self.new.input
             self.new.pieces self.new.fault (rows ++ row ∷ [])) }
         ensures over { result ≡ None → IsOver self.new.pieces self.new.fault }
         ensures stays { IsOver self.old.pieces self.old.fault → result ≡ None }
@@ -109,7 +112,7 @@ impl<L: Source + Drop> ListingRows<L> {
     /// Reads the rest. Returns the first fault of the listing, if it has one, and the source of the listing.
     pub fn finish(self) -> (Result<(), RowsFault>, L)
         ensures { (old : Reading) (version : Version) (rows : List Row)
-            → GaveRows old version (L.reading self.source) self.input self.pieces self.fault rows
+            → ListingGaveRows old version (L.reading self.source) self.input self.pieces self.fault rows
             → IsListingRead old version (L.reading result.1) rows (IsOver self.pieces self.fault) result.0 }
     {
         let mut rows = self;
@@ -129,7 +132,7 @@ impl<L: Source + Drop> ListingRows<L> {
     /// The source of the listing.
     pub fn into_source(self) -> L
         ensures { (old : Reading) (version : Version) (rows : List Row)
-            → GaveRows old version (L.reading self.source) self.input self.pieces self.fault rows
+            → ListingGaveRows old version (L.reading self.source) self.input self.pieces self.fault rows
             → IsSomeReading old (L.reading result) }
     {
         let ListingRows {
@@ -149,7 +152,7 @@ fn read_to_end<L: Source + Drop>(
     fault: RowsFault,
 ) -> (Result<(), RowsFault>, L)
     ensures { (old : Reading) (version : Version) (rows : List Row) (pieces : Option RowsSoFar)
-        → GaveRows old version (L.reading source) input pieces (Some fault) rows
+        → ListingGaveRows old version (L.reading source) input pieces (Some fault) rows
         → IsListingRead old version (L.reading result.1) rows (Unit {0}) result.0 }
 {
     let mut source = source;
@@ -167,11 +170,11 @@ impl<L: Source + Drop> RowSource for ListingRows<L> {
     ghost use Rattle.std.specs.Prelude.{List};
     ghost use Rattle.vme_trace.specs.Streams.{Reading};
     ghost use Rattle.vme_listing.specs.declared.row.Version.{Version};
-    ghost use Rattle.vme_confirm_command.specs.RowsOfListing.{GaveRows, IsOver};
+    ghost use Rattle.vme_confirm_command.specs.RowsOfListing.{ListingGaveRows, IsOver};
 
     ghost Whole = { Reading × Version };
 
-    ghost gave = { λ whole s rows. GaveRows whole.0 whole.1 (L.reading s.source) s.input s.pieces s.fault rows };
+    ghost gave = { λ whole s rows. ListingGaveRows whole.0 whole.1 (L.reading s.source) s.input s.pieces s.fault rows };
 
     ghost is_over = { λ s. IsOver s.pieces s.fault };
 

@@ -20,7 +20,7 @@
 //!   [`surveys_are_of_dumps`]). The prefix that is kept declares the variables of the dump, and the
 //!   number of instants is that of the dump (`IsSurveyOf`).
 //! - [`has_scope`] says whether the variables of the dump have a scope.
-//! - [`front_of`] is the path and a dot, or nothing for the empty path.
+//! - [`dotted_path`] is the path and a dot, or nothing for the empty path.
 //! - The answers of [`DeclaredNames`], [`DeclaredVariable`], [`LevelsSeen`] and [`FoundLines`] are
 //!   defined over what these keep, in `specs/Names`, `specs/Levels` and `specs/Found`: a name, a
 //!   path, the number of a bit, whether one moves, the bit of a line, the groups and the slots that
@@ -60,6 +60,6 @@ pub use found_lines::{FoundLines, VariableBit};
 pub use groups::{BUS_GROUPS, Groups, count, group_of, has_cycle, has_handshake};
 pub use hash::{EMPTY_HASH, hash_of};
 pub use levels_seen::{LevelsSeen, MOST_BITS};
-pub use scope_paths::{front_of, offsets_after_scopes, scopes_have_path};
+pub use scope_paths::{dotted_path, offsets_after_scopes, scopes_have_path};
 pub use scope_search::has_scope;
 pub use survey::{DumpSurvey, SurveyedDump, surveys_are_of_dumps};

@@ -9,7 +9,7 @@ use crate::declared::{DeclaredNames, NOWHERE, Scope};
 use std::alloc::{AllocError, Global};
 
 /// What the paths of the variables in the scope `path` begin with: `path` and a dot, or nothing where `path` is empty.
-pub fn front_of(alloc: Global, path: &[u8]) -> Result<Vec<u8>, AllocError>
+pub fn dotted_path(alloc: Global, path: &[u8]) -> Result<Vec<u8>, AllocError>
     ensures { IfOk result (λ front. front.items ≡ with_dot path.now) }
 {
     let mut front = Vec::new(alloc);
@@ -77,7 +77,7 @@ pub fn scopes_have_path(
 ) -> Result<Vec<bool>, AllocError>
     ensures { IfOk result (λ found. found.items ≡ scopes_have_path declared.now path.now) }
 {
-    let dotted = front_of(alloc, path)?;
+    let dotted = dotted_path(alloc, path)?;
     let offsets = offsets_after_scopes(alloc, declared, &dotted)?;
     let length = dotted.len();
     offsets.iter().map(|count| *count == length).collect(alloc)

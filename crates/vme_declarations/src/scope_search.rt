@@ -4,7 +4,7 @@ ghost use Rattle.std.specs.Prelude.{◌≡◌, ◌++◌, IfOk, nat_eq};
 ghost use Rattle.std.specs.List.{starts_with};
 ghost use Rattle.vme_declarations.specs.Scopes.{has_scope};
 
-use crate::scope_paths::front_of;
+use crate::scope_paths::dotted_path;
 use crate::survey::SurveyedDump;
 use std::alloc::{AllocError, Global};
 use vcd_read::{Declaration, DeclarationVisitor, Scopes, read_definitions};
@@ -62,7 +62,7 @@ pub fn has_scope(alloc: Global, dump: &SurveyedDump, path: &[u8]) -> Result<bool
 {
     let search = ScopeSearch {
         open: Scopes::new(alloc),
-        front: front_of(alloc, path)?,
+        front: dotted_path(alloc, path)?,
         is_found: false,
     };
     match read_definitions(alloc, dump.front(), search) {

@@ -18,7 +18,7 @@ use crate::non_memory_fault::NonMemoryFault;
 use crate::reading::read_declarations;
 use std::alloc::{AllocError, Global};
 use std::marker::Model;
-use vcd_read::{FaultKind, Pieces, VcdFault, read_front, whole_tokens};
+use vcd_read::{BodyReader, FaultKind, VcdFault, read_front, whole_tokens};
 
 /// A dump whose definitions are read, and some pieces of its body.
 #[derive(Drop)]
@@ -26,7 +26,7 @@ pub(crate) struct SurveyedBody {
     /// The prefix of the text in which the definitions end.
     front: Vec<u8>,
     names: DeclaredNames,
-    pieces: Pieces<LevelsSeen>,
+    pieces: BodyReader<LevelsSeen>,
 }
 
 /// How far a dump is surveyed.

@@ -16,29 +16,30 @@ use Rattle.vme_trace.proofs.Ranges.{fails-any, any-next}
 use Rattle.vme_trace.proofs.OpenTransfers.{suc-sub-one}
 use Rattle.vme_dtb.proofs.Searches.{greatest_more, greatest_within}
 
-module _ (t : Trace) (span : Stretch) where
+module _ (t : Trace) (stretch : Stretch) where
   -- the line l is low at n, and a strobe rose at its last fall or after it
   abbrev pub may_rise_at : ℕ → ℕ → Bool
-  may_rise_at l n = low t l n && any (strobe_rises t) (last_before t span (falls t l) (suc n)) (suc n)
+  may_rise_at l n = low t l n && any (strobe_rises t) (last_before t stretch (falls t l) (suc n)) (suc n)
 
-  last_suc : (p : ℕ → Bool) (n : ℕ) → span.start ≤ n → last_before t span p (suc (suc n)) ≡ cond (p (suc n)) (suc n)
-      (last_before t span p (suc n))
+  last_suc : (p : ℕ → Bool) (n : ℕ) → stretch.start ≤ n → last_before t stretch p (suc (suc n))
+      ≡ cond (p (suc n)) (suc n)
+      (last_before t stretch p (suc n))
   unfolding last_before
-  last_suc p n from = ap (λ o. unwrap_or o span.start) (greatest_more p (span.start + 1) (suc n) (omega arith))
-      ∙ by_test (p (suc n)) (greatest p (span.start + 1) (suc n))
+  last_suc p n from = ap (λ o. unwrap_or o stretch.start) (greatest_more p (stretch.start + 1) (suc n) (omega arith))
+      ∙ by_test (p (suc n)) (greatest p (stretch.start + 1) (suc n))
     where
-      by_test : (b : Bool) (o : Option ℕ) → unwrap_or (cond b (Some (suc n)) o) span.start
-          ≡ cond b (suc n) (unwrap_or o span.start)
+      by_test : (b : Bool) (o : Option ℕ) → unwrap_or (cond b (Some (suc n)) o) stretch.start
+          ≡ cond b (suc n) (unwrap_or o stretch.start)
       by_test true o = refl
       by_test false o = refl
 
-  last_within : (p : ℕ → Bool) (n : ℕ) → span.start ≤ n → last_before t span p (suc n) ≤ n
+  last_within : (p : ℕ → Bool) (n : ℕ) → stretch.start ≤ n → last_before t stretch p (suc n) ≤ n
   unfolding last_before
-  last_within p n from = by_found (greatest p (span.start + 1) (suc n)) refl
+  last_within p n from = by_found (greatest p (stretch.start + 1) (suc n)) refl
     where
-      by_found : (o : Option ℕ) → greatest p (span.start + 1) (suc n) ≡ o → unwrap_or o span.start ≤ n
+      by_found : (o : Option ℕ) → greatest p (stretch.start + 1) (suc n) ≡ o → unwrap_or o stretch.start ≤ n
       by_found None e = from
-      by_found (Some i) e = let found = greatest_within p (span.start + 1) (suc n) i e in omega (arith, found.1)
+      by_found (Some i) e = let found = greatest_within p (stretch.start + 1) (suc n) i e in omega (arith, found.1)
 
   pub may_rise_start : (l n : ℕ) → is_high (level_at (levels_at t n) l) ≡ true → false ≡ may_rise_at l n
   unfolding low
@@ -61,14 +62,15 @@ module _ (t : Trace) (span : Stretch) where
   falls_here l n = rw (suc-sub-one n) refl
 
   -- `may_rise_at` one instant later, by what it was
-  pub may_rise_suc : (l n : ℕ) → span.start ≤ n → is_known (level_at (levels_at t n) l) ≡ true → may_rise_at l (suc n)
+  pub may_rise_suc : (l n : ℕ) → stretch.start ≤ n → is_known (level_at (levels_at t n) l) ≡ true
+      → may_rise_at l (suc n)
       ≡ (low t l (suc n) && (may_rise_at l n || strobe_rises t (suc n)))
   unfolding low
   may_rise_suc l n from readable =
       by_levels (level t l n) (level t l (suc n)) _ _ (strobe_rises t (suc n)) readable
       (λ e. ap (λ k. any (strobe_rises t) k (suc (suc n))) (last_suc (falls t l) n from ∙ kept e)
-      ∙ any-next (strobe_rises t) (last_before t span (falls t l) (suc n)) (suc n)
-      (later n (last_before t span (falls t l) (suc n)) (last_within (falls t l) n from)))
+      ∙ any-next (strobe_rises t) (last_before t stretch (falls t l) (suc n)) (suc n)
+      (later n (last_before t stretch (falls t l) (suc n)) (last_within (falls t l) n from)))
       (λ e. ap (λ k. any (strobe_rises t) k (suc (suc n))) (last_suc (falls t l) n from ∙ anew e)
       ∙ any-next (strobe_rises t) (suc n) (suc n) (omega arith) ∙ false_first (any (strobe_rises t) (suc n) (suc n))
       (strobe_rises t (suc n)) (fails-any (strobe_rises t) (suc n) (suc n) (λ i a b. absurd (omega arith))))
@@ -77,11 +79,11 @@ module _ (t : Trace) (span : Stretch) where
       later n k h = omega arith
 
       kept : (is_high (level t l n) && is_low (level t l (suc n))) ≡ false → cond (falls t l (suc n)) (suc n)
-          (last_before t span (falls t l) (suc n)) ≡ last_before t span (falls t l) (suc n)
+          (last_before t stretch (falls t l) (suc n)) ≡ last_before t stretch (falls t l) (suc n)
       kept e = rw (falls_here l n, e) refl
 
       anew : (is_high (level t l n) && is_low (level t l (suc n))) ≡ true → cond (falls t l (suc n)) (suc n)
-          (last_before t span (falls t l) (suc n)) ≡ suc n
+          (last_before t stretch (falls t l) (suc n)) ≡ suc n
       anew e = rw (falls_here l n, e) refl
 
   rises_here : (l n : ℕ) → rises t l (suc n) ≡ (is_low (level t l n) && is_high (level t l (suc n)))
@@ -90,15 +92,15 @@ module _ (t : Trace) (span : Stretch) where
 
   -- a line that rises was low before, so no strobe has risen since its last fall exactly if `may_rise_at` was false and
   -- no strobe rises now
-  pub held_is : (l n : ℕ) → span.start ≤ n
-      → (rises t l (suc n) && none (strobe_rises t) (last_before t span (falls t l) (suc n)) (suc n + 1))
+  pub held_is : (l n : ℕ) → stretch.start ≤ n
+      → (rises t l (suc n) && none (strobe_rises t) (last_before t stretch (falls t l) (suc n)) (suc n + 1))
       ≡ (rises t l (suc n) && not (may_rise_at l n || strobe_rises t (suc n)))
   unfolding low
   held_is l n from =
-      let more = any-next (strobe_rises t) (last_before t span (falls t l) (suc n)) (suc n)
-      (later n (last_before t span (falls t l) (suc n)) (last_within (falls t l) n from)) in
+      let more = any-next (strobe_rises t) (last_before t stretch (falls t l) (suc n)) (suc n)
+      (later n (last_before t stretch (falls t l) (suc n)) (last_within (falls t l) n from)) in
       rw (rises_here l n, add-one (suc n), more) (by_level (level t l n) (is_high (level t l (suc n)))
-      (any (strobe_rises t) (last_before t span (falls t l) (suc n)) (suc n)) (strobe_rises t (suc n)))
+      (any (strobe_rises t) (last_before t stretch (falls t l) (suc n)) (suc n)) (strobe_rises t (suc n)))
     where
       later : (n k : ℕ) → k ≤ n → k ≤ suc n
       later n k h = omega arith

@@ -61,38 +61,38 @@ off_line j h e a b x = grind (arith, nat_tests)
 on_line : (j a b : Bool) → j ≡ true → (j && true && (true && a && b)) ≡ (a && b)
 on_line j a b x = rw x refl
 
-module _ (t : Trace) (span : Stretch) (reads : ReadsStrobes t span) (n : ℕ) (from : span.start ≤ n)
-    (before : suc n < span.end) where
+module _ (t : Trace) (stretch : Stretch) (reads : ReadsStrobes t stretch) (n : ℕ) (from : stretch.start ≤ n)
+    (before : suc n < stretch.end) where
   abbrev old : Levels
   old = levels_at t n
 
   abbrev new : Levels
   new = levels_at t (suc n)
 
-  address_asked : (l : ℕ) → breaks t span U2 (suc n) l ≡ (falls_between old new AS && lacks new l)
+  address_asked : (l : ℕ) → breaks t stretch U2 (suc n) l ≡ (falls_between old new AS && lacks new l)
   unfolding breaks is_broken known is_needed
   address_asked l =
-      asked (is_judged span (suc n)) (has_line t.opening.slots l) (cycle_starts t span (suc n))
+      asked (is_judged stretch (suc n)) (has_line t.opening.slots l) (cycle_starts t stretch (suc n))
       (falls_between old new AS) (is_within (needs_of new) l) (is_known_on new l)
-      (judged t span reads n from before) (cycle_starts_is t span reads n from before)
+      (judged t stretch reads n from before) (cycle_starts_is t stretch reads n from before)
       (λ e. bused_line t.opening.slots l (omega (arith, needed_below new l e)))
 
   -- the least line that breaks U2 is the least unknown line that the starting cycle needs
-  pub address_least : least (breaks t span U2 (suc n)) 0 line_count ≡ unknown_address old new
-  address_least = least-alike (breaks t span U2 (suc n)) (λ l. falls_between old new AS && lacks new l) 0 line_count
+  pub address_least : least (breaks t stretch U2 (suc n)) 0 line_count ≡ unknown_address old new
+  address_least = least-alike (breaks t stretch U2 (suc n)) (λ l. falls_between old new AS && lacks new l) 0 line_count
       (λ l a b. address_asked l) ∙ least_and (falls_between old new AS) (lacks new)
 
-  direction_elsewhere : (l : ℕ) → (l == WRITE) ≡ false → breaks t span U3 (suc n) l ≡ false
+  direction_elsewhere : (l : ℕ) → (l == WRITE) ≡ false → breaks t stretch U3 (suc n) l ≡ false
   unfolding breaks is_broken
-  direction_elsewhere l h = off_line (is_judged span (suc n)) (has_line t.opening.slots l) (l == WRITE)
-      (transfer_starts t span (suc n)) (not (known t l (suc n))) h
+  direction_elsewhere l h = off_line (is_judged stretch (suc n)) (has_line t.opening.slots l) (l == WRITE)
+      (transfer_starts t stretch (suc n)) (not (known t l (suc n))) h
 
-  direction_asked : breaks t span U3 (suc n) WRITE ≡ (starts_between old new && not (is_known_on new WRITE))
+  direction_asked : breaks t stretch U3 (suc n) WRITE ≡ (starts_between old new && not (is_known_on new WRITE))
   unfolding breaks is_broken known
-  direction_asked = rw (transfer_starts_is t span reads n from before)
-      (on_line (is_judged span (suc n)) (starts_between old new) (not (is_known_on new WRITE))
-      (judged t span reads n from before))
+  direction_asked = rw (transfer_starts_is t stretch reads n from before)
+      (on_line (is_judged stretch (suc n)) (starts_between old new) (not (is_known_on new WRITE))
+      (judged t stretch reads n from before))
 
   -- the least line that breaks U3 is WRITE*, if it is unknown as a transfer starts
-  pub direction_least : least (breaks t span U3 (suc n)) 0 line_count ≡ unknown_direction old new
-  direction_least = least_write (breaks t span U3 (suc n)) direction_elsewhere ∙ rw direction_asked refl
+  pub direction_least : least (breaks t stretch U3 (suc n)) 0 line_count ≡ unknown_direction old new
+  direction_least = least_write (breaks t stretch U3 (suc n)) direction_elsewhere ∙ rw direction_asked refl

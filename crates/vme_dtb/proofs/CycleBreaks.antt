@@ -69,8 +69,8 @@ by_write Writing false (Some l) = refl
 by_write Answered true o = refl
 by_write Answered false o = refl
 
-module _ (t : Trace) (span : Stretch) (reads : ReadsStrobes t span) (n : ℕ) (from : span.start ≤ n)
-    (before : suc n < span.end) (m : HandshakeMemory) (holds : Holds t span n m) where
+module _ (t : Trace) (stretch : Stretch) (reads : ReadsStrobes t stretch) (n : ℕ) (from : stretch.start ≤ n)
+    (before : suc n < stretch.end) (m : HandshakeMemory) (holds : Holds t stretch n m) where
   abbrev seen : Edges
   seen = edges_between (old t n) (new t n)
 
@@ -81,14 +81,14 @@ module _ (t : Trace) (span : Stretch) (reads : ReadsStrobes t span) (n : ℕ) (f
   abbrev here : CyclePhase
   here = cycle_entered m.cycle seen.shown.cycle
 
-  pub cycle_starts_is : cycle_starts t span (suc n) ≡ falls_between (old t n) (new t n) AS
+  pub cycle_starts_is : cycle_starts t stretch (suc n) ≡ falls_between (old t n) (new t n) AS
   unfolding cycle_starts
-  cycle_starts_is = rw (judged t n span from before, falls_is t n AS) refl
+  cycle_starts_is = rw (judged t n stretch from before, falls_is t n AS) refl
 
-  pub here_is : cycle_before t span (suc n) ≡ here
+  pub here_is : cycle_before t stretch (suc n) ≡ here
   here_is =
-      before_is t span n from
-      ∙ same_entered _ _ (cycle_starts t span (suc n)) (falls_between (old t n) (new t n) AS) (sym holds.cycle)
+      before_is t stretch n from
+      ∙ same_entered _ _ (cycle_starts t stretch (suc n)) (falls_between (old t n) (new t n) AS) (sym holds.cycle)
       cycle_starts_is
     where
       same_entered : (c d : CyclePhase) (a b : Bool) → c ≡ d → a ≡ b
@@ -97,24 +97,25 @@ module _ (t : Trace) (span : Stretch) (reads : ReadsStrobes t span) (n : ℕ) (f
       same_entered c d a b e f = rw (e, f) refl
 
   -- whether instant n + 1 is the answer of a write, by the phase of the transfer and the edges
-  pub write_is : answers_write t span (suc n) ≡ (is_writing within && is_some seen.answer_fall)
+  pub write_is : answers_write t stretch (suc n) ≡ (is_writing within && is_some seen.answer_fall)
   write_is =
-      answers_write_is t span reads n from before m.transfer holds.transfer
+      answers_write_is t stretch reads n from before m.transfer holds.transfer
       ∙ ap (λ b. is_writing within && b) (some_of (falls_between (old t n) (new t n) DTACK)
       (falls_between (old t n) (new t n) BERR) DTACK BERR)
 
   -- a rule that an answer breaks, if f of the phase of its cycle and of its direction says so
   from_cycle : (r : Rule) (x : Bool) (f : CyclePhase → Bool → Bool)
-      → ((l : ℕ) → breaks t span r (suc n) l ≡ (is_judged span (suc n) && has_line t.opening.slots l
-      && (is_answer_line l && falls t l (suc n) && (is_answer t span (suc n) && x))))
-      → x ≡ f (cycle_before t span (suc n)) (answers_write t span (suc n))
+      → ((l : ℕ) → breaks t stretch r (suc n) l ≡ (is_judged stretch (suc n) && has_line t.opening.slots l
+      && (is_answer_line l && falls t l (suc n) && (is_answer t stretch (suc n) && x))))
+      → x ≡ f (cycle_before t stretch (suc n)) (answers_write t stretch (suc n))
       → option_map (break_of_fault (suc n) (time_at t (suc n))) (fault_if r (f here (is_writing within))
-      (answer_in within seen)) ≡ rule_break t span (suc n) r
+      (answer_in within seen)) ≡ rule_break t stretch (suc n) r
   from_cycle r x f form e =
-      rule_from t n span from before r (f here (is_writing within)) (answer_in within seen)
-      (on_answers t n span from before r (λ l. falls t l (suc n)) (is_answer t span (suc n) && x) form
-      ∙ same_cond _ _ _ _ (same_and (is_answer t span (suc n)) x _ _ (answer_is t span reads n from before m holds)
-      (e ∙ same_test (cycle_before t span (suc n)) (answers_write t span (suc n)) here_is write_is))
+      rule_from t n stretch from before r (f here (is_writing within)) (answer_in within seen)
+      (on_answers t n stretch from before r (λ l. falls t l (suc n)) (is_answer t stretch (suc n) && x) form
+      ∙ same_cond _ _ _ _ (same_and (is_answer t stretch (suc n)) x
+      _ _ (answer_is t stretch reads n from before m holds)
+      (e ∙ same_test (cycle_before t stretch (suc n)) (answers_write t stretch (suc n)) here_is write_is))
       (answer_fall_is t n)
       ∙ by_direction (f here) (is_unanswered within) (is_writing within) seen.answer_fall)
     where
@@ -126,71 +127,72 @@ module _ (t : Trace) (span : Stretch) (reads : ReadsStrobes t span) (n : ℕ) (f
       same_test c w e g = rw (e, g) refl
 
   abbrev read_modify_write_broken : Bool
-  read_modify_write_broken = in_cycle t span (λ i. is_single (class_at t span i) && breaks_read_modify_write t span
-      (answers_of t span i (suc n)) (suc n)) (suc n)
+  read_modify_write_broken = in_cycle t stretch (λ i. is_single (class_at t stretch i)
+      && breaks_read_modify_write t stretch
+      (answers_of t stretch i (suc n)) (suc n)) (suc n)
 
-  form_c1 : (l : ℕ) → breaks t span C1 (suc n) l ≡ (is_judged span (suc n) && has_line t.opening.slots l
-      && (is_answer_line l && falls t l (suc n) && (is_answer t span (suc n) && read_modify_write_broken)))
+  form_c1 : (l : ℕ) → breaks t stretch C1 (suc n) l ≡ (is_judged stretch (suc n) && has_line t.opening.slots l
+      && (is_answer_line l && falls t l (suc n) && (is_answer t stretch (suc n) && read_modify_write_broken)))
   unfolding breaks is_broken
-  form_c1 l = ap (λ b. is_judged span (suc n) && has_line t.opening.slots l && b)
-      (and_assoc (is_answer_line l && falls t l (suc n)) (is_answer t span (suc n)) read_modify_write_broken)
+  form_c1 l = ap (λ b. is_judged stretch (suc n) && has_line t.opening.slots l && b)
+      (and_assoc (is_answer_line l && falls t l (suc n)) (is_answer t stretch (suc n)) read_modify_write_broken)
 
   c1 : option_map (break_of_fault (suc n) (time_at t (suc n)))
       (fault_if C1 (is_read_modify_write_broken here (is_writing within))
-      (answer_in within seen)) ≡ rule_break t span (suc n) C1
+      (answer_in within seen)) ≡ rule_break t stretch (suc n) C1
   c1 = from_cycle C1 read_modify_write_broken is_read_modify_write_broken form_c1
-      (in_broken_read_modify_write t span (suc n))
+      (in_broken_read_modify_write t stretch (suc n))
 
   abbrev direction_changed : Bool
-  direction_changed = in_cycle t span (λ i. is_block_class (class_at t span i) && changes_direction t span
-      (answers_of t span i (suc n)) (suc n)) (suc n)
+  direction_changed = in_cycle t stretch (λ i. is_block_class (class_at t stretch i) && changes_direction t stretch
+      (answers_of t stretch i (suc n)) (suc n)) (suc n)
 
-  form_c2 : (l : ℕ) → breaks t span C2 (suc n) l ≡ (is_judged span (suc n) && has_line t.opening.slots l
-      && (is_answer_line l && falls t l (suc n) && (is_answer t span (suc n) && direction_changed)))
+  form_c2 : (l : ℕ) → breaks t stretch C2 (suc n) l ≡ (is_judged stretch (suc n) && has_line t.opening.slots l
+      && (is_answer_line l && falls t l (suc n) && (is_answer t stretch (suc n) && direction_changed)))
   unfolding breaks is_broken
-  form_c2 l = ap (λ b. is_judged span (suc n) && has_line t.opening.slots l && b)
-      (and_assoc (is_answer_line l && falls t l (suc n)) (is_answer t span (suc n)) direction_changed)
+  form_c2 l = ap (λ b. is_judged stretch (suc n) && has_line t.opening.slots l && b)
+      (and_assoc (is_answer_line l && falls t l (suc n)) (is_answer t stretch (suc n)) direction_changed)
 
   c2 : option_map (break_of_fault (suc n) (time_at t (suc n)))
       (fault_if C2 (is_direction_changed here (is_writing within))
-      (answer_in within seen)) ≡ rule_break t span (suc n) C2
-  c2 = from_cycle C2 direction_changed is_direction_changed form_c2 (in_changed_direction t span (suc n))
+      (answer_in within seen)) ≡ rule_break t stretch (suc n) C2
+  c2 = from_cycle C2 direction_changed is_direction_changed form_c2 (in_changed_direction t stretch (suc n))
 
   abbrev answered_interrupt_acknowledge : Bool
-  answered_interrupt_acknowledge = in_cycle t span (λ i. is_interrupt (class_at t span i) && has_earlier_answer
-      (answers_of t span i (suc n))) (suc n)
+  answered_interrupt_acknowledge = in_cycle t stretch (λ i. is_interrupt (class_at t stretch i) && has_earlier_answer
+      (answers_of t stretch i (suc n))) (suc n)
 
-  form_i5 : (l : ℕ) → breaks t span I5 (suc n) l ≡ (is_judged span (suc n) && has_line t.opening.slots l
-      && (is_answer_line l && falls t l (suc n) && (is_answer t span (suc n) && answered_interrupt_acknowledge)))
+  form_i5 : (l : ℕ) → breaks t stretch I5 (suc n) l ≡ (is_judged stretch (suc n) && has_line t.opening.slots l
+      && (is_answer_line l && falls t l (suc n) && (is_answer t stretch (suc n) && answered_interrupt_acknowledge)))
   unfolding breaks is_broken
-  form_i5 l = ap (λ b. is_judged span (suc n) && has_line t.opening.slots l && b)
-      (and_assoc (is_answer_line l && falls t l (suc n)) (is_answer t span (suc n)) answered_interrupt_acknowledge)
+  form_i5 l = ap (λ b. is_judged stretch (suc n) && has_line t.opening.slots l && b)
+      (and_assoc (is_answer_line l && falls t l (suc n)) (is_answer t stretch (suc n)) answered_interrupt_acknowledge)
 
   i5 : option_map (break_of_fault (suc n) (time_at t (suc n))) (fault_if I5 (is_answered_interrupt_acknowledge here)
       (answer_in within seen))
-      ≡ rule_break t span (suc n) I5
+      ≡ rule_break t stretch (suc n) I5
   i5 = from_cycle I5 answered_interrupt_acknowledge (λ c w. is_answered_interrupt_acknowledge c) form_i5
-      (in_answered_interrupt_acknowledge t span (suc n))
+      (in_answered_interrupt_acknowledge t stretch (suc n))
 
   abbrev interrupt_acknowledge : Bool
-  interrupt_acknowledge = in_cycle t span (λ i. is_interrupt (class_at t span i)) (suc n)
+  interrupt_acknowledge = in_cycle t stretch (λ i. is_interrupt (class_at t stretch i)) (suc n)
 
-  form_i4 : (l : ℕ) → breaks t span I4 (suc n) l ≡ (is_judged span (suc n) && has_line t.opening.slots l
-      && (is_answer_line l && falls t l (suc n) && (answers_write t span (suc n) && interrupt_acknowledge)))
+  form_i4 : (l : ℕ) → breaks t stretch I4 (suc n) l ≡ (is_judged stretch (suc n) && has_line t.opening.slots l
+      && (is_answer_line l && falls t l (suc n) && (answers_write t stretch (suc n) && interrupt_acknowledge)))
   unfolding breaks is_broken
-  form_i4 l = ap (λ b. is_judged span (suc n) && has_line t.opening.slots l && b)
-      (and_assoc (is_answer_line l && falls t l (suc n)) (answers_write t span (suc n)) interrupt_acknowledge)
+  form_i4 l = ap (λ b. is_judged stretch (suc n) && has_line t.opening.slots l && b)
+      (and_assoc (is_answer_line l && falls t l (suc n)) (answers_write t stretch (suc n)) interrupt_acknowledge)
 
   i4 : option_map (break_of_fault (suc n) (time_at t (suc n)))
       (fault_if I4 (is_interrupt_acknowledge here && is_writing within)
-      (answer_in within seen)) ≡ rule_break t span (suc n) I4
+      (answer_in within seen)) ≡ rule_break t stretch (suc n) I4
   i4 =
-      rule_from t n span from before I4 (is_interrupt_acknowledge here && is_writing within) (answer_in within seen)
-      (on_answers t n span from before I4 (λ l. falls t l (suc n))
-      (answers_write t span (suc n) && interrupt_acknowledge)
+      rule_from t n stretch from before I4 (is_interrupt_acknowledge here && is_writing within) (answer_in within seen)
+      (on_answers t n stretch from before I4 (λ l. falls t l (suc n))
+      (answers_write t stretch (suc n) && interrupt_acknowledge)
       form_i4
-      ∙ same_cond _ _ _ _ (same_and (answers_write t span (suc n)) interrupt_acknowledge (is_writing within
-      && is_some seen.answer_fall) (is_interrupt_acknowledge here) write_is (in_interrupt_acknowledge t span (suc n)
+      ∙ same_cond _ _ _ _ (same_and (answers_write t stretch (suc n)) interrupt_acknowledge (is_writing within
+      && is_some seen.answer_fall) (is_interrupt_acknowledge here) write_is (in_interrupt_acknowledge t stretch (suc n)
       ∙ ap is_interrupt_acknowledge here_is)) (answer_fall_is t n)
       ∙ by_write within (is_interrupt_acknowledge here) seen.answer_fall)
     where
@@ -198,6 +200,6 @@ module _ (t : Trace) (span : Stretch) (reads : ReadsStrobes t span) (n : ℕ) (f
       same_and a b c d e f = rw (e, f) refl
 
   -- each fault is the break of its rule
-  pub cycle_faults-are-breaks : AreBreaksOf (break_of_fault (suc n) (time_at t (suc n))) (rule_break t span (suc n))
+  pub cycle_faults-are-breaks : AreBreaksOf (break_of_fault (suc n) (time_at t (suc n))) (rule_break t stretch (suc n))
       cycle_rules (cycle_faults here (is_writing within) (answer_in within seen))
   cycle_faults-are-breaks = (c1, (c2, (i4, (i5, tt))))

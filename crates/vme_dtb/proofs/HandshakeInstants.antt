@@ -15,7 +15,7 @@ use Rattle.vme_monitor.specs.Run.{machine_step}
 use Rattle.vme_monitor.specs.Tracking.{entered, is_unanswered, is_writing}
 use Rattle.vme_monitor.specs.declared.mark.Next.{Next}
 use Rattle.vme_monitor.specs.declared.tracking.TransferPhase.{TransferPhase}
-use Rattle.vme_monitor.proofs.SpanFacts.{IsSpan}
+use Rattle.vme_monitor.proofs.StretchFacts.{IsStretch}
 use Rattle.vme_monitor.proofs.Alongside.{memory_early}
 use Rattle.vme_monitor.proofs.TrackedTransfers.{says_start, tracked_is}
 use Rattle.vme_dtb.specs.CycleState.{after_answer, cycle_entered}
@@ -50,17 +50,20 @@ counted false w o c = refl
 start_or_after : (s n : ℕ) → s ≤ suc n → (s ≡ suc n) ⊎ (s ≤ n)
 start_or_after s n h = grind arith
 
-module _ (t : Trace) (span : Stretch) (facts : IsSpan t span) where
-  pub holds_start : Holds t span span.start (dtb_begin (levels_at t span.start))
+module _ (t : Trace) (stretch : Stretch) (facts : IsStretch t stretch) where
+  pub holds_start : Holds t stretch stretch.start (dtb_begin (levels_at t stretch.start))
   holds_start =
       record {
-        transfer = says_start t span facts.reads;
-        cycle = sym (cycle_start t span);
-        dtack = may_rise_start t span DTACK span.start (idle_line (levels_at t span.start) 3 (lit< tt) facts.idle);
-        berr = may_rise_start t span BERR span.start (idle_line (levels_at t span.start) 4 (lit< tt) facts.idle);
+        transfer = says_start t stretch facts.reads;
+        cycle = sym (cycle_start t stretch);
+        dtack = may_rise_start t stretch DTACK stretch.start (idle_line (levels_at t stretch.start) 3 (lit< tt)
+            facts.idle);
+        berr = may_rise_start t stretch BERR stretch.start (idle_line (levels_at t stretch.start) 4 (lit< tt)
+            facts.idle);
       }
 
-  module _ (n : ℕ) (from : span.start ≤ n) (before : suc n < span.end) (m : HandshakeMemory) (holds : Holds t span n m)
+  module _ (n : ℕ) (from : stretch.start ≤ n) (before : suc n < stretch.end) (m : HandshakeMemory)
+      (holds : Holds t stretch n m)
     where
       abbrev seen : Edges
       seen = edges_between (old t n) (new t n)
@@ -72,15 +75,15 @@ module _ (t : Trace) (span : Stretch) (facts : IsSpan t span) where
       here = cycle_entered m.cycle seen.shown.cycle
 
       cycle_next : cond (is_some (answer_in within seen)) (after_answer here (is_writing within)) here
-          ≡ cycle_after t span (suc n)
+          ≡ cycle_after t stretch (suc n)
       cycle_next =
           sym
-          (after_is t span (suc n)
-          ∙ same_counted (is_answer t span (suc n)) (is_unanswered within && is_some seen.answer_fall)
-          (cycle_before t span (suc n)) here (answers_write t span (suc n)) (is_writing within
+          (after_is t stretch (suc n)
+          ∙ same_counted (is_answer t stretch (suc n)) (is_unanswered within && is_some seen.answer_fall)
+          (cycle_before t stretch (suc n)) here (answers_write t stretch (suc n)) (is_writing within
           && is_some seen.answer_fall)
-          (answer_is t span facts.reads n from before m holds) (here_is t span facts.reads n from before m holds)
-          (write_is t span facts.reads n from before m holds)
+          (answer_is t stretch facts.reads n from before m holds) (here_is t stretch facts.reads n from before m holds)
+          (write_is t stretch facts.reads n from before m holds)
           ∙ counted (is_unanswered within) (is_writing within) seen.answer_fall here)
         where
           same_counted : (a b : Bool) (c d : CyclePhase) (w x : Bool) → a ≡ b → c ≡ d → w ≡ x
@@ -88,21 +91,21 @@ module _ (t : Trace) (span : Stretch) (facts : IsSpan t span) where
               ≡ cond b (after_answer d x) d
           same_counted a b c d w x e f g = rw (e, f, g) refl
 
-      may_rise_next : (l : ℕ) (was : Bool) → was ≡ may_rise_at t span l n → is_known (level_at (old t n) l) ≡ true
-          → (is_low (level_at (new t n) l) && may_rise was seen) ≡ may_rise_at t span l (suc n)
+      may_rise_next : (l : ℕ) (was : Bool) → was ≡ may_rise_at t stretch l n → is_known (level_at (old t n) l) ≡ true
+          → (is_low (level_at (new t n) l) && may_rise was seen) ≡ may_rise_at t stretch l (suc n)
       unfolding low
       may_rise_next l was e readable =
-          same_may_rise (is_low (level_at (new t n) l)) was (may_rise_at t span l n) (is_some seen.strobe_rise)
+          same_may_rise (is_low (level_at (new t n) l)) was (may_rise_at t stretch l n) (is_some seen.strobe_rise)
           (strobe_rises t (suc n)) e (sym (strobe_rises_is t n))
-          ∙ sym (may_rise_suc t span l n from readable)
+          ∙ sym (may_rise_suc t stretch l n from readable)
         where
           same_may_rise : (a b c d f : Bool) → b ≡ c → d ≡ f → (a && (b || d)) ≡ (a && (c || f))
           same_may_rise a b c d f x y = rw (x, y) refl
 
-      pub holds_next : Holds t span (suc n) (memory_after m (old t n) (new t n) (edges_between (old t n) (new t n)))
+      pub holds_next : Holds t stretch (suc n) (memory_after m (old t n) (new t n) (edges_between (old t n) (new t n)))
       holds_next =
           record {
-            transfer = tracked_is t span facts.reads n from before m.transfer holds.transfer;
+            transfer = tracked_is t stretch facts.reads n from before m.transfer holds.transfer;
             cycle = cycle_next;
             dtack = may_rise_next DTACK m.dtack_may_rise holds.dtack
                 (facts.known n 3 from (omega (arith, before)) (lit< tt)
@@ -112,24 +115,26 @@ module _ (t : Trace) (span : Stretch) (facts : IsSpan t span) where
           }
 
   abbrev pub memory_at : ℕ → HandshakeMemory
-  memory_at k = memory_from (machine_step dtb_observation dtb_step) t (dtb_begin (levels_at t span.start)) span.start k
+  memory_at k = memory_from (machine_step dtb_observation dtb_step) t (dtb_begin (levels_at t stretch.start))
+      stretch.start k
 
-  held_start : Holds t span span.start (memory_at span.start)
-  held_start = subst (Holds t span span.start)
-      (sym (memory_early (machine_step dtb_observation dtb_step) t (dtb_begin (levels_at t span.start)) span.start
-      span.start
+  held_start : Holds t stretch stretch.start (memory_at stretch.start)
+  held_start = subst (Holds t stretch stretch.start)
+      (sym (memory_early (machine_step dtb_observation dtb_step) t (dtb_begin (levels_at t stretch.start)) stretch.start
+      stretch.start
       (omega arith))) holds_start
 
-  pub holds_at : (k : ℕ) → span.start ≤ k → k < span.end → Holds t span k (memory_at k)
-  holds_at zero from before = let e : span.start ≡ 0 = omega arith in subst (λ (k : ℕ). Holds t span k (memory_at k)) e
+  pub holds_at : (k : ℕ) → stretch.start ≤ k → k < stretch.end → Holds t stretch k (memory_at k)
+  holds_at zero from before = let e : stretch.start ≡ 0 = omega arith
+      in subst (λ (k : ℕ). Holds t stretch k (memory_at k)) e
       held_start
   holds_at (suc n) from before =
-      elim (start_or_after span.start n from) [
-        | inl e ↦ subst (λ (k : ℕ). Holds t span k (memory_at k)) e held_start
+      elim (start_or_after stretch.start n from) [
+        | inl e ↦ subst (λ (k : ℕ). Holds t stretch k (memory_at k)) e held_start
         | inr earlier ↦
             let so_far = holds_at n earlier (omega arith) in
-            rw (le-ltb n span.start earlier)
-            (subst (Holds t span (suc n)) (ap (λ (x : Next HandshakeMemory). x.memory)
-            (sym (machine_step_is t span n (memory_at n) so_far (changes_of (slice_get t.steps n)))))
+            rw (le-ltb n stretch.start earlier)
+            (subst (Holds t stretch (suc n)) (ap (λ (x : Next HandshakeMemory). x.memory)
+            (sym (machine_step_is t stretch n (memory_at n) so_far (changes_of (slice_get t.steps n)))))
             (holds_next n earlier before (memory_at n) so_far))
       ]

@@ -1,4 +1,4 @@
--- The first broken rule of the handshake, and the marks, over one span and over whole recordings.
+-- The first broken rule of the handshake, and the marks, over one stretch and over whole recordings.
 use Rattle.std.proofs.Common.{◌≡◌, ℕ, suc, ◌+◌, ◌<◌, ◌≤◌, Bool, true, false, ◌&&◌, not, refl, sym, ◌∙◌, ap, arith}
 use Rattle.std.proofs.Common.{Option, Some, None, cond}
 use Rattle.std.specs.Prelude.{option_map, is_some, slice_get, nat_lt}
@@ -32,7 +32,7 @@ use Rattle.vme_monitor.specs.declared.tracking.TransferPhase.{TransferPhase}
 use Rattle.vme_monitor.specs.declared.tracking.TransferPhase.TheVariants.{Closed, Reading, Writing, Answered}
 use Rattle.vme_monitor.proofs.LeastLines.{least_answer}
 use Rattle.vme_monitor.proofs.InsideRules.{inside_first_break, inside_marks}
-use Rattle.vme_monitor.proofs.SpanFacts.{IsSpan}
+use Rattle.vme_monitor.proofs.StretchFacts.{IsStretch}
 use Rattle.vme_dtb.specs.Edge.{cycle_start_of, edges_between}
 use Rattle.vme_dtb.specs.Machine.{answer_in, answered_in, cycle_faults, cycle_rules, dtb_begin, dtb_end_fault, dtb_next}
 use Rattle.vme_dtb.specs.Machine.{dtb_start_marks, dtb_observation, dtb_step, fault_in, handshake_rules, strobe_faults}
@@ -69,8 +69,8 @@ answer_by_write Writing None d = refl
 answer_by_write Writing (Some l) d = refl
 answer_by_write Answered o d = refl
 
-module _ (t : Trace) (span : Stretch) (facts : IsSpan t span) (n : ℕ) (from : span.start ≤ n)
-    (before : suc n < span.end) (m : HandshakeMemory) (holds : Holds t span n m) where
+module _ (t : Trace) (stretch : Stretch) (facts : IsStretch t stretch) (n : ℕ) (from : stretch.start ≤ n)
+    (before : suc n < stretch.end) (m : HandshakeMemory) (holds : Holds t stretch n m) where
   abbrev seen : Edges
   seen = edges_between (old t n) (new t n)
 
@@ -82,49 +82,49 @@ module _ (t : Trace) (span : Stretch) (facts : IsSpan t span) (n : ℕ) (from : 
 
   -- the machine's fault at instant n + 1 is the first broken rule
   breaks_are : option_map (break_of_fault (suc n) (time_at t (suc n))) (fault_in m (old t n) (new t n) seen)
-      ≡ break_at t span handshake_rules (suc n)
+      ≡ break_at t stretch handshake_rules (suc n)
   unfolding break_at
   breaks_are =
-      both-first (break_of_fault (suc n) (time_at t (suc n))) (rule_break t span (suc n)) strobe_rules cycle_rules
+      both-first (break_of_fault (suc n) (time_at t (suc n))) (rule_break t stretch (suc n)) strobe_rules cycle_rules
       (strobe_faults m within seen) (cycle_faults here (is_writing within) (answer_in within seen))
-      (handshake_faults-are-breaks t span facts.reads n from before m holds)
-      (cycle_faults-are-breaks t span facts.reads n from before m holds)
+      (handshake_faults-are-breaks t stretch facts.reads n from before m holds)
+      (cycle_faults-are-breaks t stretch facts.reads n from before m holds)
 
   pub dtb_inside : option_map (break_of_fault (suc n) (time_at t (suc n)))
       (next_at (machine_step dtb_observation dtb_step) t m n).fault
-      ≡ break_at t span handshake_rules (suc n)
+      ≡ break_at t stretch handshake_rules (suc n)
   dtb_inside = ap (λ (x : Next HandshakeMemory). option_map (break_of_fault (suc n) (time_at t (suc n))) x.fault)
-      (machine_step_is t span n m holds (changes_of (slice_get t.steps n))) ∙ breaks_are
+      (machine_step_is t stretch n m holds (changes_of (slice_get t.steps n))) ∙ breaks_are
 
   least_fall : least (λ l. is_answer_line l && falls t l (suc n)) 0 line_count ≡ seen.answer_fall
   least_fall = least_answer (λ l. is_answer_line l && falls t l (suc n)) (λ l h. rw h refl) ∙ answer_fall_is t n
 
-  answer_line_is : answer_line t span (suc n) ≡ answer_in within seen
+  answer_line_is : answer_line t stretch (suc n) ≡ answer_in within seen
   unfolding answer_line
   answer_line_is =
-      same_answer (is_answer t span (suc n)) (is_unanswered within && is_some seen.answer_fall)
+      same_answer (is_answer t stretch (suc n)) (is_unanswered within && is_some seen.answer_fall)
       (least (λ l. is_answer_line l && falls t l (suc n)) 0 line_count) seen.answer_fall
-      (answer_is t span facts.reads n from before m holds) least_fall
+      (answer_is t stretch facts.reads n from before m holds) least_fall
       ∙ answered_line (is_unanswered within) seen.answer_fall
     where
       same_answer : (a b : Bool) (o q : Option ℕ) → a ≡ b → o ≡ q → cond a o None ≡ cond b q None
       same_answer a b o q e f = rw (e, f) refl
 
-  data_is : data_at t span (suc n) ≡ lanes_at (cond (starts_between (old t n) (new t n)) (new t n) (old t n))
+  data_is : data_at t stretch (suc n) ≡ lanes_at (cond (starts_between (old t n) (new t n)) (new t n) (old t n))
   unfolding data_at
-  data_is = rw (starts_is t n span from before, suc-sub-one n) (by_start (starts_between (old t n) (new t n)))
+  data_is = rw (starts_is t n stretch from before, suc-sub-one n) (by_start (starts_between (old t n) (new t n)))
     where
       by_start : (b : Bool) → lanes_at (levels_at t (cond b (suc n) n)) ≡ lanes_at (cond b (new t n) (old t n))
       by_start true = refl
       by_start false = refl
 
-  answered_is : answered t span (suc n) ≡ answered_in within (old t n) (new t n) seen
+  answered_is : answered t stretch (suc n) ≡ answered_in within (old t n) (new t n) seen
   unfolding answered
   answered_is =
-      same_answer_on (answers_write t span (suc n)) (is_writing within && is_some seen.answer_fall)
-      (data_at t span (suc n)) (lanes_at (cond (starts_between (old t n) (new t n)) (new t n) (old t n)))
-      (answer_line t span (suc n)) (answer_in within seen)
-      (write_is t span facts.reads n from before m holds) data_is answer_line_is
+      same_answer_on (answers_write t stretch (suc n)) (is_writing within && is_some seen.answer_fall)
+      (data_at t stretch (suc n)) (lanes_at (cond (starts_between (old t n) (new t n)) (new t n) (old t n)))
+      (answer_line t stretch (suc n)) (answer_in within seen)
+      (write_is t stretch facts.reads n from before m holds) data_is answer_line_is
       ∙ answer_by_write within seen.answer_fall
       (lanes_at (cond (starts_between (old t n) (new t n)) (new t n) (old t n)))
     where
@@ -132,28 +132,29 @@ module _ (t : Trace) (span : Stretch) (facts : IsSpan t span) (n : ℕ) (from : 
           → answer_on (cond a (Some d) None) o ≡ answer_on (cond b (Some e) None) q
       same_answer_on a b d e o q x y z = rw (x, y, z) refl
 
-  open_unless : (p : TransferPhase) → IsTransferPhase t span n p → is_within p ≡ not (strobes_high t n)
+  open_unless : (p : TransferPhase) → IsTransferPhase t stretch n p → is_within p ≡ not (strobes_high t n)
   open_unless Closed h = rw h refl
   open_unless Reading o = rw (o.1.still n o.1.within (omega arith)) refl
   open_unless Writing o = rw (o.1.still n o.1.within (omega arith)) refl
   open_unless Answered o = rw (o.2.still n o.2.within (omega arith)) refl
 
-  closes_is : closes t span (suc n) ≡ (strobes_high_in (new t n) && not (strobes_high_in (old t n)))
+  closes_is : closes t stretch (suc n) ≡ (strobes_high_in (new t n) && not (strobes_high_in (old t n)))
   unfolding closes high
-  closes_is = ap (λ b. strobes_high t (suc n) && b) (started_is t span facts.reads n from before m.transfer
+  closes_is = ap (λ b. strobes_high t (suc n) && b) (started_is t stretch facts.reads n from before m.transfer
       holds.transfer ∙ open_unless m.transfer holds.transfer)
 
-  cycle_end_is : (is_judged span (suc n) && rises t AS (suc n)) ≡ rises_between (old t n) (new t n) AS
-  cycle_end_is = rw (judged t n span from before, rises_is t n AS) refl
+  cycle_end_is : (is_judged stretch (suc n) && rises t AS (suc n)) ≡ rises_between (old t n) (new t n) AS
+  cycle_end_is = rw (judged t n stretch from before, rises_is t n AS) refl
 
-  transfer_is : cond (transfer_starts t span (suc n)) (Some (is_write t span (suc n))) None
+  transfer_is : cond (transfer_starts t stretch (suc n)) (Some (is_write t stretch (suc n))) None
       ≡ cond (starts_between (old t n) (new t n)) (Some (is_low (level_at (new t n) WRITE))) None
   unfolding is_write low
-  transfer_is = ap (λ b. cond b (Some (is_low (level_at (new t n) WRITE))) None) (starts_is t n span from before)
+  transfer_is = ap (λ b. cond b (Some (is_low (level_at (new t n) WRITE))) None) (starts_is t n stretch from before)
 
-  cycle_is : cond (cycle_starts t span (suc n)) (Some (cycle_start_of (new t n))) None
+  cycle_is : cond (cycle_starts t stretch (suc n)) (Some (cycle_start_of (new t n))) None
       ≡ cond (falls_between (old t n) (new t n) AS) (Some (cycle_start_of (new t n))) None
-  cycle_is = ap (λ b. cond b (Some (cycle_start_of (new t n))) None) (cycle_starts_is t span facts.reads n from before m
+  cycle_is = ap (λ b. cond b (Some (cycle_start_of (new t n))) None)
+      (cycle_starts_is t stretch facts.reads n from before m
       holds)
 
   same_kinds : (a b : Option CycleStart) (c d : Bool) (e f : Option Bool) (g h : Option Answer) (i j : Bool) → a ≡ b → c
@@ -162,30 +163,30 @@ module _ (t : Trace) (span : Stretch) (facts : IsSpan t span) (n : ℕ) (from : 
       ≡ record no_step_marks { cycle = b; cycle_end = d; transfer = f; answer = h; close = j }
   same_kinds a b c d e f g h i j x y z u v = rw (x, y, z, u, v) refl
 
-  kinds_are : (dtb_next m (old t n) (new t n) seen).shown ≡ handshake_shown t span (suc n)
+  kinds_are : (dtb_next m (old t n) (new t n) seen).shown ≡ handshake_shown t stretch (suc n)
   kinds_are = same_kinds _ _ _ _ _ _ _ _ _ _ (sym cycle_is) (sym cycle_end_is) (sym transfer_is) (sym answered_is)
       (sym closes_is)
 
-  pub dtb_kinds : (next_at (machine_step dtb_observation dtb_step) t m n).shown ≡ handshake_shown t span (suc n)
+  pub dtb_kinds : (next_at (machine_step dtb_observation dtb_step) t m n).shown ≡ handshake_shown t stretch (suc n)
   dtb_kinds = ap (λ (x : Next HandshakeMemory). x.shown)
-      (machine_step_is t span n m holds (changes_of (slice_get t.steps n))) ∙ kinds_are
+      (machine_step_is t stretch n m holds (changes_of (slice_get t.steps n))) ∙ kinds_are
 
-module _ (t : Trace) (span : Stretch) where
-  unjudged : is_judged span span.start ≡ false
-  unjudged = rw (le-ltb span.start span.start (omega arith)) refl
+module _ (t : Trace) (stretch : Stretch) where
+  unjudged : is_judged stretch stretch.start ≡ false
+  unjudged = rw (le-ltb stretch.start stretch.start (omega arith)) refl
 
-  in_none : (p : ℕ → Bool) → in_transfer t span p span.start ≡ false
+  in_none : (p : ℕ → Bool) → in_transfer t stretch p stretch.start ≡ false
   unfolding in_transfer
-  in_none p = fails-any (λ i. transfer_starts t span i && lasts t span i span.start && p i) (span.start + 1)
-      (span.start + 1) (λ i a b. absurd (omega arith))
+  in_none p = fails-any (λ i. transfer_starts t stretch i && lasts t stretch i stretch.start && p i) (stretch.start + 1)
+      (stretch.start + 1) (λ i a b. absurd (omega arith))
 
-  shown_start : no_step_marks ≡ handshake_shown t span span.start
+  shown_start : no_step_marks ≡ handshake_shown t stretch stretch.start
   unfolding cycle_starts transfer_starts answered answer_line is_answer closes
   shown_start = rw (
     unjudged,
-    in_none (λ i. answers t span i span.start),
-    in_none (λ i. nat_lt i span.start),
-    and-false (strobes_high t span.start),
+    in_none (λ i. answers t stretch i stretch.start),
+    in_none (λ i. nat_lt i stretch.start),
+    and-false (strobes_high t stretch.start),
   ) refl
 
 pub dtb_first_break : FindsLeast
@@ -194,16 +195,16 @@ pub dtb_first_break : FindsLeast
     handshake_rules
 dtb_first_break =
     inside_first_break dtb_begin dtb_start_marks dtb_observation dtb_step handshake_rules refl
-    (λ t span ok few facts n from before within unbroken. dtb_inside t span facts n from before
-    (memory_at t span facts n) (holds_at t span facts n from (omega (arith, before))))
+    (λ t stretch ok few facts n from before within unbroken. dtb_inside t stretch facts n from before
+    (memory_at t stretch facts n) (holds_at t stretch facts n from (omega (arith, before))))
 
 pub dtb_marks : ShowsAll
     (run_of (machine_step (observed dtb_observation) (phase_step dtb_begin dtb_start_marks no_step_marks dtb_end_fault
     dtb_step))) (start_in dtb_begin) no_step_marks handshake_shown
 dtb_marks =
     inside_marks dtb_begin dtb_start_marks dtb_observation dtb_step dtb_end_fault handshake_shown
-    (λ t span ok few facts. record {
-      at_start = shown_start t span;
-      inside = λ n from before within. dtb_kinds t span facts n from before (memory_at t span facts n)
-          (holds_at t span facts n from (omega (arith, before)));
+    (λ t stretch ok few facts. record {
+      at_start = shown_start t stretch;
+      inside = λ n from before within. dtb_kinds t stretch facts n from before (memory_at t stretch facts n)
+          (holds_at t stretch facts n from (omega (arith, before)));
     })

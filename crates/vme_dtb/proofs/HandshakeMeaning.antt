@@ -10,8 +10,8 @@ use Rattle.vme_dtb.proofs.CycleMemory.{cycle_after}
 use Rattle.vme_dtb.proofs.AnswerRises.{may_rise_at}
 
 -- the memory m is right of instant n
-pub record Holds (t : Trace) (span : Stretch) (n : ℕ) (m : HandshakeMemory) : Type 0 where
-  pub transfer : IsTransferPhase t span n m.transfer
-  pub cycle : m.cycle ≡ cycle_after t span n
-  pub dtack : m.dtack_may_rise ≡ may_rise_at t span DTACK n
-  pub berr : m.berr_may_rise ≡ may_rise_at t span BERR n
+pub record Holds (t : Trace) (stretch : Stretch) (n : ℕ) (m : HandshakeMemory) : Type 0 where
+  pub transfer : IsTransferPhase t stretch n m.transfer
+  pub cycle : m.cycle ≡ cycle_after t stretch n
+  pub dtack : m.dtack_may_rise ≡ may_rise_at t stretch DTACK n
+  pub berr : m.berr_may_rise ≡ may_rise_at t stretch BERR n

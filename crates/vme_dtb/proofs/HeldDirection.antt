@@ -24,29 +24,31 @@ off_line j h e a b x = grind (arith, nat_tests)
 on_line : (j a b c d : Bool) → j ≡ true → a ≡ d → b ≡ c → (j && true && (true && a && b)) ≡ (c && d)
 on_line j a b c d x y z = rw (x, y, z) (and_comm d c)
 
-module _ (t : Trace) (span : Stretch) (reads : ReadsStrobes t span) (n : ℕ) (from : span.start ≤ n)
-    (before : suc n < span.end) (m : Holding) (holds : Holds t span n m) where
+module _ (t : Trace) (stretch : Stretch) (reads : ReadsStrobes t stretch) (n : ℕ) (from : stretch.start ≤ n)
+    (before : suc n < stretch.end) (m : Holding) (holds : Holds t stretch n m) where
   abbrev old : Levels
   old = levels_at t n
 
   abbrev new : Levels
   new = levels_at t (suc n)
 
-  elsewhere : (l : ℕ) → (l == WRITE) ≡ false → breaks t span S2 (suc n) l ≡ false
+  elsewhere : (l : ℕ) → (l == WRITE) ≡ false → breaks t stretch S2 (suc n) l ≡ false
   unfolding breaks is_broken
-  elsewhere l h = off_line (is_judged span (suc n)) (has_line t.opening.slots l) (l == WRITE) (has_edge t l (suc n)) _ h
+  elsewhere l h = off_line (is_judged stretch (suc n)) (has_line t.opening.slots l) (l == WRITE) (has_edge t l (suc n))
+      _ h
 
   turns : has_edge t WRITE (suc n) ≡ direction_turned old new
   unfolding has_edge
   turns = rw (suc-sub-one n) refl
 
-  on_write : breaks t span S2 (suc n) WRITE ≡ (keeps_direction m old new && direction_turned old new)
+  on_write : breaks t stretch S2 (suc n) WRITE ≡ (keeps_direction m old new && direction_turned old new)
   unfolding breaks is_broken
   on_write =
-      on_line (is_judged span (suc n)) (has_edge t WRITE (suc n)) (any (holds_direction t span (suc n)) (span.start + 1)
+      on_line (is_judged stretch (suc n)) (has_edge t WRITE (suc n))
+      (any (holds_direction t stretch (suc n)) (stretch.start + 1)
       (suc n)) (keeps_direction m old new) (direction_turned old new)
-      (judged t span reads n from before) turns (sym (keeps_direction_is t span reads n from before m holds))
+      (judged t stretch reads n from before) turns (sym (keeps_direction_is t stretch reads n from before m holds))
 
-  pub turned_least : (cs : List Change) → least (breaks t span S2 (suc n)) 0 line_count ≡ turned_fault m old new
+  pub turned_least : (cs : List Change) → least (breaks t stretch S2 (suc n)) 0 line_count ≡ turned_fault m old new
       (observation_of old new cs)
-  turned_least cs = least_write (breaks t span S2 (suc n)) elsewhere ∙ rw on_write refl
+  turned_least cs = least_write (breaks t stretch S2 (suc n)) elsewhere ∙ rw on_write refl

@@ -22,7 +22,7 @@ use Rattle.vme_monitor.specs.OverStretches.{observed, phase_step, start_in}
 use Rattle.vme_monitor.specs.Whole.{FindsLeast, ShowsAll}
 use Rattle.vme_monitor.specs.declared.mark.Next.{Next}
 use Rattle.vme_monitor.proofs.InsideRules.{inside_first_break, inside_marks}
-use Rattle.vme_monitor.proofs.SpanFacts.{IsSpan}
+use Rattle.vme_monitor.proofs.StretchFacts.{IsStretch}
 use Rattle.vme_monitor.proofs.Alongside.{changes_fit, levels_step, memory_early}
 use Rattle.vme_dtb.specs.StabilityRules.{fault_on, is_observed, shifted_fault, undriven_fault, keeps_direction}
 use Rattle.vme_dtb.specs.StabilityRules.{direction_turned, moved_fault, observation_of, stability_begin}
@@ -59,15 +59,15 @@ first_fault n time None None None None (Some l) f = refl
 first_fault n time None None None None None (Some l) = refl
 first_fault n time None None None None None None = refl
 
-module _ (t : Trace) (span : Stretch) (ok : malformed_step t ≡ None) (facts : IsSpan t span) where
+module _ (t : Trace) (stretch : Stretch) (ok : malformed_step t ≡ None) (facts : IsStretch t stretch) where
   abbrev memory_at : ℕ → Holding
-  memory_at n = memory_from step t (stability_begin (levels_at t span.start)) span.start n
+  memory_at n = memory_from step t (stability_begin (levels_at t stretch.start)) stretch.start n
 
   abbrev changes_at : ℕ → List Change
   changes_at n = changes_of (slice_get t.steps n)
 
-  module _ (n : ℕ) (from : span.start ≤ n) (before : suc n < span.end) (within : n < length t.steps) (m : Holding)
-      (holds : Holds t span n m) where
+  module _ (n : ℕ) (from : stretch.start ≤ n) (before : suc n < stretch.end) (within : n < length t.steps) (m : Holding)
+      (holds : Holds t stretch n m) where
     abbrev full : Next Holding
     full = stability_next m (levels_at t n) (levels_at t (suc n)) (observation_of (levels_at t n) (levels_at t (suc n))
         (changes_at n))
@@ -80,21 +80,21 @@ module _ (t : Trace) (span : Stretch) (ok : malformed_step t ≡ None) (facts : 
             → option_map_or (stability_next m (levels_at t n) (levels_at t (suc n)))
             (cond b (Some (observation_of (levels_at t n) (levels_at t (suc n)) (changes_at n))) None) (quiet m) ≡ full
         by_test true e = refl
-        by_test false e = sym (quiet_there t span facts n from before m (changes_at n) holds e)
+        by_test false e = sym (quiet_there t stretch facts n from before m (changes_at n) holds e)
 
-    fault_is : break_before t span stability_rules (suc n) ≡ None
+    fault_is : break_before t stretch stability_rules (suc n) ≡ None
         → option_map (break_of_fault (suc n) (time_at t (suc n)))
-        full.fault ≡ break_at t span stability_rules (suc n)
+        full.fault ≡ break_at t stretch stability_rules (suc n)
     unfolding break_at rule_break
     fault_is unbroken =
         rw (
-          address_least t span facts.reads n from before,
-          direction_least t span facts.reads n from before,
-          undriven_least t span facts.reads n from before m holds unbroken (changes_at n),
-          moved_least t span facts n from before unbroken (changes_at n) (levels_step t n within)
+          address_least t stretch facts.reads n from before,
+          direction_least t stretch facts.reads n from before,
+          undriven_least t stretch facts.reads n from before m holds unbroken (changes_at n),
+          moved_least t stretch facts n from before unbroken (changes_at n) (levels_step t n within)
               (changes_fit t n ok within) m holds,
-          turned_least t span facts.reads n from before m holds (changes_at n),
-          shifted_least t span facts.reads n from before m holds unbroken (changes_at n) (levels_step t n within)
+          turned_least t stretch facts.reads n from before m holds (changes_at n),
+          shifted_least t stretch facts.reads n from before m holds unbroken (changes_at n) (levels_step t n within)
               (changes_fit t n ok within),
         )
         (first_fault (suc n) (time_at t (suc n)) (unknown_address (levels_at t n) (levels_at t (suc n)))
@@ -108,9 +108,10 @@ module _ (t : Trace) (span : Stretch) (ok : malformed_step t ≡ None) (facts : 
         (shifted_fault m (levels_at t n) (levels_at t (suc n)) (observation_of (levels_at t n) (levels_at t (suc n))
         (changes_at n))))
 
-  earlier : (n : ℕ) → break_before t span stability_rules (suc (suc n)) ≡ None → break_before t span stability_rules
+  earlier : (n : ℕ) → break_before t stretch stability_rules (suc (suc n)) ≡ None
+      → break_before t stretch stability_rules
       (suc n) ≡ None
-  earlier n h = (before_last t span (suc n) h).0
+  earlier n h = (before_last t stretch (suc n) h).0
 
   unturned : (b c : Bool) → b ≡ true → cond (b && c) (Some WRITE) None ≡ None → c ≡ false
   unturned true true e h = absurd (cc)
@@ -129,17 +130,18 @@ module _ (t : Trace) (span : Stretch) (ok : malformed_step t ≡ None) (facts : 
   same_low Unknown Unknown h = refl
 
   -- while the direction is held, WRITE* stays low, or stays not low, if no rule is broken
-  stays : (n : ℕ) → span.start ≤ n → suc n < span.end → (m : Holding) → Holds t span n m → break_before t span
+  stays : (n : ℕ) → stretch.start ≤ n → suc n < stretch.end → (m : Holding) → Holds t stretch n m
+      → break_before t stretch
       stability_rules (suc (suc n)) ≡ None → keeps_direction m (levels_at t n) (levels_at t (suc n)) ≡ true
       → is_low (level_at (levels_at t (suc n)) WRITE) ≡ is_low (level_at (levels_at t n) WRITE)
   stays n from before m holds unbroken keeps =
       same_low (level_at (levels_at t n) WRITE) (level_at (levels_at t (suc n)) WRITE)
       (unturned (keeps_direction m (levels_at t n) (levels_at t (suc n)))
       (direction_turned (levels_at t n) (levels_at t (suc n))) keeps
-      (no_fault t span (suc n) (turned_fault m (levels_at t n) (levels_at t (suc n))
+      (no_fault t stretch (suc n) (turned_fault m (levels_at t n) (levels_at t (suc n))
       (observation_of (levels_at t n) (levels_at t (suc n)) []))
-      (turned_least t span facts.reads n from before m holds [])
-      (S2_least t span (suc n) (before_last t span (suc n) unbroken).1)))
+      (turned_least t stretch facts.reads n from before m holds [])
+      (S2_least t stretch (suc n) (before_last t stretch (suc n) unbroken).1)))
 
   strobe_control : (s l : ℕ) → l < 3 → is_control s l ≡ true
   strobe_control s l h = grind (arith, nat_tests)
@@ -147,11 +149,11 @@ module _ (t : Trace) (span : Stretch) (ok : malformed_step t ≡ None) (facts : 
   first_or_later : (s n : ℕ) → s ≤ suc n → (s ≡ suc n) ⊎ (s ≤ n)
   first_or_later s n h = grind arith
 
-  -- AS* isn't low at the start of the span
-  address_high : is_low (level_at (levels_at t span.start) AS) ≡ false
+  -- AS* isn't low at the start of the stretch
+  address_high : is_low (level_at (levels_at t stretch.start) AS) ≡ false
   unfolding is_idle
-  address_high = not_low (level_at (levels_at t span.start) AS)
-      (any-fails (λ k. not (is_idle_on (levels_at t span.start) k)) 0 line_count AS (not-true _ facts.idle)
+  address_high = not_low (level_at (levels_at t stretch.start) AS)
+      (any-fails (λ k. not (is_idle_on (levels_at t stretch.start) k)) 0 line_count AS (not-true _ facts.idle)
       (omega arith) (lit< tt))
     where
       not_low : (x : Level) → not (is_high x) ≡ false → is_low x ≡ false
@@ -160,30 +162,32 @@ module _ (t : Trace) (span : Stretch) (ok : malformed_step t ≡ None) (facts : 
       not_low Unknown h = refl
 
   -- the memory is right of each judged instant
-  holds_at : (n : ℕ) → span.start ≤ n → n < span.end → n ≤ length t.steps → Holds t span n (memory_at n)
-  holds_at zero from before within = let e : span.start ≡ 0 = omega arith in
-      subst (λ k. Holds t span k (stability_begin (levels_at t span.start))) e
-      (holds_start t span facts.reads address_high (levels_at t span.start))
+  holds_at : (n : ℕ) → stretch.start ≤ n → n < stretch.end → n ≤ length t.steps → Holds t stretch n (memory_at n)
+  holds_at zero from before within = let e : stretch.start ≡ 0 = omega arith in
+      subst (λ k. Holds t stretch k (stability_begin (levels_at t stretch.start))) e
+      (holds_start t stretch facts.reads address_high (levels_at t stretch.start))
   holds_at (suc n) from before within =
-      elim (first_or_later span.start n from) [
+      elim (first_or_later stretch.start n from) [
         | inl e ↦ at_start e
         | inr later ↦ let holds = holds_at n later (omega arith) (omega arith) in
-            rw (le-ltb n span.start later, next_is n later before (omega arith) (memory_at n) holds)
-            (holds_next t span facts.reads n later before (earlier n) (stays n later before)
+            rw (le-ltb n stretch.start later, next_is n later before (omega arith) (memory_at n) holds)
+            (holds_next t stretch facts.reads n later before (earlier n) (stays n later before)
             (λ l below. facts.known n l later (omega arith) (omega arith) (strobe_control t.opening.slots l below))
             (λ l below. facts.known (suc n) l (omega arith) before (omega arith)
             (strobe_control t.opening.slots l below)) (memory_at n) holds)
       ]
     where
-      at_start : span.start ≡ suc n → Holds t span (suc n) (memory_at (suc n))
+      at_start : stretch.start ≡ suc n → Holds t stretch (suc n) (memory_at (suc n))
       at_start e = rw (
-        memory_early step t (stability_begin (levels_at t span.start)) span.start (suc n) (omega arith),
+        memory_early step t (stability_begin (levels_at t stretch.start)) stretch.start (suc n) (omega arith),
         ← e,
-      ) (holds_start t span facts.reads address_high (levels_at t span.start))
+      ) (holds_start t stretch facts.reads address_high (levels_at t stretch.start))
 
-  judges_inside : (n : ℕ) → span.start ≤ n → suc n < span.end → n < length t.steps → break_before t span stability_rules
+  judges_inside : (n : ℕ) → stretch.start ≤ n → suc n < stretch.end → n < length t.steps
+      → break_before t stretch stability_rules
       (suc n) ≡ None
-      → option_map (break_of_fault (suc n) (time_at t (suc n))) (next_at step t (memory_at n) n).fault ≡ break_at t span
+      → option_map (break_of_fault (suc n) (time_at t (suc n))) (next_at step t (memory_at n) n).fault
+      ≡ break_at t stretch
       stability_rules (suc n)
   judges_inside n from before within unbroken =
       let holds = holds_at n from (omega arith) (omega arith) in
@@ -196,7 +200,8 @@ pub stability_first_break : FindsLeast
     stability_next))) (start_in stability_begin) stability_rules
 stability_first_break = inside_first_break stability_begin stability_start_marks stability_observation stability_next
     stability_rules refl
-    (λ t span ok few facts n from before within unbroken. judges_inside t span ok facts n from before within unbroken)
+    (λ t stretch ok few facts n from before within unbroken. judges_inside t stretch ok facts n from before within
+    unbroken)
 
 pub stability_marks : ShowsAll
     (run_of (machine_step (observed stability_observation)
@@ -204,10 +209,11 @@ pub stability_marks : ShowsAll
     stability_next))) (start_in stability_begin) no_step_marks stability_shown
 stability_marks =
     inside_marks stability_begin stability_start_marks stability_observation stability_next stability_end_fault
-    stability_shown (λ t span ok few facts. record {
+    stability_shown (λ t stretch ok few facts. record {
       at_start = refl;
       inside = λ n from before within. by_observation (stability_observation (levels_at t n) (levels_at t (suc n))
-          (changes_of (slice_get t.steps n))) (memory_from step t (stability_begin (levels_at t span.start)) span.start
+          (changes_of (slice_get t.steps n))) (memory_from step t (stability_begin (levels_at t stretch.start))
+          stretch.start
           n)
           (levels_at t n) (levels_at t (suc n));
     })

@@ -117,62 +117,64 @@ unturned_next false false l true false fresh still low back = refl
 unturned_next false false l false true fresh still low back = refl
 unturned_next false false l false false fresh still low back = refl
 
-module _ (t : Trace) (span : Stretch) where
+module _ (t : Trace) (stretch : Stretch) where
   -- a cycle that started at i runs at n, and has had no answer
   abbrev pub holds_address : ℕ → ℕ → Bool
-  holds_address n i = cycle_starts t span i && cycle_runs t span i n && none (is_answer t span) i (n + 1)
+  holds_address n i = cycle_starts t stretch i && cycle_runs t stretch i n && none (is_answer t stretch) i (n + 1)
 
   -- a transfer started at i, and no strobe has risen since
   abbrev pub holds_direction : ℕ → ℕ → Bool
-  holds_direction n i = transfer_starts t span i && none (strobe_rises t) (i + 1) (n + 1)
+  holds_direction n i = transfer_starts t stretch i && none (strobe_rises t) (i + 1) (n + 1)
 
   -- the memory m is right of instant n, at which the phase of the transfer is `state`
   pub record Holds (n : ℕ) (m : Holding) : Type 0 where
     pub state : TransferPhase
-    pub says : IsTransferPhase t span n state
+    pub says : IsTransferPhase t stretch n state
     pub transfer : is_answered_state state ≡ was_answered m.transfer
     pub closed : strobes_high_in (levels_at t n) ≡ true → has_risen m.transfer ≡ false
-    pub fresh : (i : ℕ) → i ≤ n → transfer_starts t span i ≡ true → ((r : ℕ) → i ≤ r → r ≤ n → strobes_high t r ≡ false)
+    pub fresh : (i : ℕ) → i ≤ n → transfer_starts t stretch i ≡ true
+        → ((r : ℕ) → i ≤ r → r ≤ n → strobes_high t r ≡ false)
         → none (strobe_rises t) (i + 1) (n + 1) ≡ not (has_risen m.transfer)
-    pub directed : break_before t span stability_rules (suc n) ≡ None → strobes_high_in (levels_at t n) ≡ false
+    pub directed : break_before t stretch stability_rules (suc n) ≡ None → strobes_high_in (levels_at t n) ≡ false
         → writes_of m.transfer (is_low (level_at (levels_at t n) WRITE)) ≡ is_writing state
     pub idle : is_low (level_at (levels_at t n) AS) ≡ false → m.cycle_answered ≡ false
-    pub address : awaits_answer m (levels_at t n) ≡ any (holds_address n) (span.start + 1) (n + 1)
-    pub direction : holds_direction_of m (levels_at t n) ≡ any (holds_direction n) (span.start + 1) (n + 1)
+    pub address : awaits_answer m (levels_at t n) ≡ any (holds_address n) (stretch.start + 1) (n + 1)
+    pub direction : holds_direction_of m (levels_at t n) ≡ any (holds_direction n) (stretch.start + 1) (n + 1)
 
-  -- at the start of a span nothing is held
-  pub holds_start : ReadsStrobes t span → is_low (level_at (levels_at t span.start) AS) ≡ false → (v : Levels)
-      → Holds span.start (stability_begin v)
+  -- at the start of a stretch nothing is held
+  pub holds_start : ReadsStrobes t stretch → is_low (level_at (levels_at t stretch.start) AS) ≡ false → (v : Levels)
+      → Holds stretch.start (stability_begin v)
   unfolding high
   holds_start reads off v =
       record {
         state = Closed;
-        says = says_start t span reads;
+        says = says_start t stretch reads;
         transfer = refl;
         closed = λ h. refl;
-        fresh = λ i a s low. absurd (clash (strobes_high t span.start) reads.opens (low_there i a low));
-        directed = λ unbroken low. absurd (clash (strobes_high t span.start) reads.opens low);
+        fresh = λ i a s low. absurd (clash (strobes_high t stretch.start) reads.opens (low_there i a low));
+        directed = λ unbroken low. absurd (clash (strobes_high t stretch.start) reads.opens low);
         idle = λ h. refl;
-        address = rw off (sym (fails-any (holds_address span.start) (span.start + 1) (span.start + 1)
+        address = rw off (sym (fails-any (holds_address stretch.start) (stretch.start + 1) (stretch.start + 1)
             (λ i a b. absurd (omega arith))));
-        direction = rw reads.opens (sym (fails-any (holds_direction span.start) (span.start + 1) (span.start + 1)
+        direction = rw reads.opens (sym (fails-any (holds_direction stretch.start) (stretch.start + 1)
+            (stretch.start + 1)
             (λ i a b. absurd (omega arith))));
       }
     where
-      low_there : (i : ℕ) → i ≤ span.start → ((r : ℕ) → i ≤ r → r ≤ span.start → strobes_high t r ≡ false)
-          → strobes_high t span.start ≡ false
-      low_there i a low = low span.start a (omega arith)
+      low_there : (i : ℕ) → i ≤ stretch.start → ((r : ℕ) → i ≤ r → r ≤ stretch.start → strobes_high t r ≡ false)
+          → strobes_high t stretch.start ≡ false
+      low_there i a low = low stretch.start a (omega arith)
 
   -- the levels before and after the step to n + 1
-  module _ (reads : ReadsStrobes t span) (n : ℕ) (from : span.start ≤ n) (before : suc n < span.end) where
+  module _ (reads : ReadsStrobes t stretch) (n : ℕ) (from : stretch.start ≤ n) (before : suc n < stretch.end) where
     abbrev pub old : Levels
     old = levels_at t n
 
     abbrev pub new : Levels
     new = levels_at t (suc n)
 
-    pub judged : is_judged span (suc n) ≡ true
-    judged = is_judged-holds span (suc n) (omega arith) before
+    pub judged : is_judged stretch (suc n) ≡ true
+    judged = is_judged-holds stretch (suc n) (omega arith) before
 
     pub falls_is : (l : ℕ) → falls t l (suc n) ≡ falls_between old new l
     unfolding falls high low
@@ -185,45 +187,46 @@ module _ (t : Trace) (span : Stretch) where
     pub strobe_rises_is : strobe_rises t (suc n) ≡ strobe_rises_between old new
     strobe_rises_is = rw (rises_is DS0, rises_is DS1) refl
 
-    pub transfer_starts_is : transfer_starts t span (suc n) ≡ starts_between old new
+    pub transfer_starts_is : transfer_starts t stretch (suc n) ≡ starts_between old new
     unfolding transfer_starts high low
     transfer_starts_is = rw (judged, suc-sub-one n) refl
 
-    pub cycle_starts_is : cycle_starts t span (suc n) ≡ falls_between old new AS
+    pub cycle_starts_is : cycle_starts t stretch (suc n) ≡ falls_between old new AS
     unfolding cycle_starts
     cycle_starts_is = rw (judged, falls_is AS) refl
 
     -- both strobes are high exactly if no transfer is open
-    pub high_is : (p : TransferPhase) → IsTransferPhase t span n p → strobes_high_in old ≡ is_closed p
+    pub high_is : (p : TransferPhase) → IsTransferPhase t stretch n p → strobes_high_in old ≡ is_closed p
     unfolding high
     high_is Closed says = says
     high_is Reading says = says.1.still n says.1.within (omega arith)
     high_is Writing says = says.1.still n says.1.within (omega arith)
     high_is Answered says = says.2.still n says.2.within (omega arith)
 
-    pub answer_is : (m : Holding) → Holds n m → is_answer t span (suc n) ≡ answers_in m old new
+    pub answer_is : (m : Holding) → Holds n m → is_answer t stretch (suc n) ≡ answers_in m old new
     answer_is m h =
-        is_answer_is t span reads n from before h.state h.says
+        is_answer_is t stretch reads n from before h.state h.says
         ∙ rw (
           unanswered_is h.state (strobes_high_in old) (strobe_low_in new) (is_low (level_at new WRITE))
               (high_is h.state h.says),
           h.transfer,
         ) refl
 
-    runs_more : (i : ℕ) → i ≤ n → cycle_runs t span i (suc n) ≡ (cycle_runs t span i n && not (rises t AS (suc n)))
+    runs_more : (i : ℕ) → i ≤ n → cycle_runs t stretch i (suc n)
+        ≡ (cycle_runs t stretch i n && not (rises t AS (suc n)))
     unfolding cycle_runs
     runs_more i h = none_more (rises t AS) (i + 1) n (omega arith)
 
-    runs_here : cycle_runs t span (suc n) (suc n) ≡ true
+    runs_here : cycle_runs t stretch (suc n) (suc n) ≡ true
     unfolding cycle_runs
     runs_here = none_empty (rises t AS) (suc n + 1)
 
     -- the lines of a cycle are held at n + 1 if they were at n, AS* doesn't rise, and no answer comes
-    pub address_more : (i : ℕ) → span.start + 1 ≤ i → i ≤ n → holds_address (suc n) i
-        ≡ (holds_address n i && (not (rises t AS (suc n)) && not (is_answer t span (suc n))))
-    address_more i a b = rw (runs_more i b, none_more (is_answer t span) i n (omega arith))
-        (regroup (cycle_starts t span i) (cycle_runs t span i n) (not (rises t AS (suc n)))
-        (none (is_answer t span) i (n + 1)) (not (is_answer t span (suc n))))
+    pub address_more : (i : ℕ) → stretch.start + 1 ≤ i → i ≤ n → holds_address (suc n) i
+        ≡ (holds_address n i && (not (rises t AS (suc n)) && not (is_answer t stretch (suc n))))
+    address_more i a b = rw (runs_more i b, none_more (is_answer t stretch) i n (omega arith))
+        (regroup (cycle_starts t stretch i) (cycle_runs t stretch i n) (not (rises t AS (suc n)))
+        (none (is_answer t stretch) i (n + 1)) (not (is_answer t stretch (suc n))))
       where
         regroup : (a b c d e : Bool) → (a && (b && c) && (d && e)) ≡ ((a && b && d) && (c && e))
         regroup false b c d e = refl
@@ -232,18 +235,18 @@ module _ (t : Trace) (span : Stretch) where
         regroup true true false true e = refl
         regroup true true false false e = refl
 
-    address_here : holds_address (suc n) (suc n) ≡ (falls_between old new AS && not (is_answer t span (suc n)))
-    address_here = rw (cycle_starts_is, runs_here, none_one (is_answer t span) (suc n))
-        (no_test (falls_between old new AS) (not (is_answer t span (suc n))))
+    address_here : holds_address (suc n) (suc n) ≡ (falls_between old new AS && not (is_answer t stretch (suc n)))
+    address_here = rw (cycle_starts_is, runs_here, none_one (is_answer t stretch) (suc n))
+        (no_test (falls_between old new AS) (not (is_answer t stretch (suc n))))
       where
         no_test : (a b : Bool) → (a && true && b) ≡ (a && b)
         no_test true b = refl
         no_test false b = refl
 
-    pub direction_more : (i : ℕ) → span.start + 1 ≤ i → i ≤ n → holds_direction (suc n) i
+    pub direction_more : (i : ℕ) → stretch.start + 1 ≤ i → i ≤ n → holds_direction (suc n) i
         ≡ (holds_direction n i && not (strobe_rises t (suc n)))
     direction_more i a b = rw (none_more (strobe_rises t) (i + 1) n (omega arith)) (sym (and_assoc
-        (transfer_starts t span i) (none (strobe_rises t) (i + 1) (n + 1)) (not (strobe_rises t (suc n)))))
+        (transfer_starts t stretch i) (none (strobe_rises t) (i + 1) (n + 1)) (not (strobe_rises t (suc n)))))
 
     direction_here : holds_direction (suc n) (suc n) ≡ starts_between old new
     direction_here = rw (transfer_starts_is, none_empty (strobe_rises t) (suc n + 1))
@@ -251,25 +254,25 @@ module _ (t : Trace) (span : Stretch) where
 
     -- whether the lines that a cycle needs are still held at n + 1
     pub keeps_address_is : (m : Holding) → Holds n m → keeps_address m old new ≡ any (holds_address (suc n))
-        (span.start + 1) (suc n)
+        (stretch.start + 1) (suc n)
     keeps_address_is m h =
         and_assoc (awaits_answer m old) (not (rises_between old new AS)) (not (answers_in m old new))
         ∙ sym (lasts_on (holds_address n) (holds_address (suc n)) (not (rises t AS (suc n))
-        && not (is_answer t span (suc n))) (span.start + 1) n (omega arith) address_more
+        && not (is_answer t stretch (suc n))) (stretch.start + 1) n (omega arith) address_more
         ∙ rw (rises_is AS, answer_is m h, ← h.address) refl)
 
     pub keeps_direction_is : (m : Holding) → Holds n m → keeps_direction m old new ≡ any (holds_direction (suc n))
-        (span.start + 1) (suc n)
+        (stretch.start + 1) (suc n)
     keeps_direction_is m h =
-        sym (lasts_on (holds_direction n) (holds_direction (suc n)) (not (strobe_rises t (suc n))) (span.start + 1) n
+        sym (lasts_on (holds_direction n) (holds_direction (suc n)) (not (strobe_rises t (suc n))) (stretch.start + 1) n
         (omega arith) direction_more ∙ rw (strobe_rises_is, ← h.direction) refl)
 
     address_next : (m : Holding) → Holds n m
         → (keeps_address m old new || (falls_between old new AS && not (answers_in m old new)))
-        ≡ any (holds_address (suc n)) (span.start + 1) (suc n + 1)
+        ≡ any (holds_address (suc n)) (stretch.start + 1) (suc n + 1)
     address_next m h =
-        rw (keeps_address_is m h, ← answer_is m h) (sym (any-step (holds_address (suc n)) (span.start + 1) (suc n)
-        ∙ rw (le-leb (span.start + 1) (suc n) (omega arith), address_here) refl))
+        rw (keeps_address_is m h, ← answer_is m h) (sym (any-step (holds_address (suc n)) (stretch.start + 1) (suc n)
+        ∙ rw (le-leb (stretch.start + 1) (suc n) (omega arith), address_here) refl))
 
     awaits_next : (x y : Level) (a u : Bool) → is_known x ≡ true → is_known y ≡ true → (is_low x ≡ false → a ≡ false)
         → (is_low y && not (is_low y && (a || u))) ≡ (((is_low x && not a) && not (is_low x && is_high y) && not u) ||
@@ -287,10 +290,10 @@ module _ (t : Trace) (span : Stretch) where
     awaits_next High Unknown a u k j idle = absurd (cc)
 
     direction_next : (m : Holding) → Holds n m → (keeps_direction m old new || starts_between old new)
-        ≡ any (holds_direction (suc n)) (span.start + 1) (suc n + 1)
+        ≡ any (holds_direction (suc n)) (stretch.start + 1) (suc n + 1)
     direction_next m h =
-        rw (keeps_direction_is m h) (sym (any-step (holds_direction (suc n)) (span.start + 1) (suc n)
-        ∙ rw (le-leb (span.start + 1) (suc n) (omega arith), direction_here) refl))
+        rw (keeps_direction_is m h) (sym (any-step (holds_direction (suc n)) (stretch.start + 1) (suc n)
+        ∙ rw (le-leb (stretch.start + 1) (suc n) (omega arith), direction_here) refl))
 
     abbrev answered_now : Holding → Bool
     answered_now m = not (strobes_high_in new) && (was_answered m.transfer || answer_between old new)
@@ -301,14 +304,14 @@ module _ (t : Trace) (span : Stretch) where
     abbrev writing_now : Holding → Bool
     writing_now m = writes_of m.transfer (is_low (level_at old WRITE))
 
-    high_old : transfer_starts t span (suc n) ≡ true → strobes_high_in old ≡ true
+    high_old : transfer_starts t stretch (suc n) ≡ true → strobes_high_in old ≡ true
     high_old s = (and_parts (strobes_high_in old) (strobe_low_in new) (sym transfer_starts_is ∙ s)).0
 
     last_or_before : (i : ℕ) → i ≤ suc n → (i ≡ suc n) ⊎ (i ≤ n)
     last_or_before i h = grind arith
 
     -- whether no strobe has risen up to n + 1 in the transfer that is open
-    fresh_next : (m : Holding) → Holds n m → (i : ℕ) → i ≤ suc n → transfer_starts t span i ≡ true
+    fresh_next : (m : Holding) → Holds n m → (i : ℕ) → i ≤ suc n → transfer_starts t stretch i ≡ true
         → ((r : ℕ) → i ≤ r → r ≤ suc n → strobes_high t r ≡ false) → none (strobe_rises t) (i + 1) (suc n + 1)
         ≡ not (risen_now m)
     unfolding high
@@ -329,9 +332,11 @@ module _ (t : Trace) (span : Stretch) where
         ]
 
     -- the memory is right of n + 1, if the direction stays while it is held
-    pub holds_next : (break_before t span stability_rules (suc (suc n)) ≡ None → break_before t span stability_rules
+    pub holds_next : (break_before t stretch stability_rules (suc (suc n)) ≡ None
+        → break_before t stretch stability_rules
         (suc n) ≡ None)
-        → ((m : Holding) → Holds n m → break_before t span stability_rules (suc (suc n)) ≡ None → keeps_direction m old
+        → ((m : Holding) → Holds n m → break_before t stretch stability_rules (suc (suc n)) ≡ None
+        → keeps_direction m old
         new ≡ true → is_low (level_at new WRITE) ≡ is_low (level_at old WRITE))
         → ((l : ℕ) → l < 3 → is_known (level_at old l) ≡ true) → ((l : ℕ) → l < 3 → is_known (level_at new l) ≡ true)
         → (m : Holding) → Holds n m → Holds (suc n) (stepped m old new)
@@ -340,7 +345,7 @@ module _ (t : Trace) (span : Stretch) where
         (known_new DS1 (omega arith)) in
         record {
           state = tracked h.state old new;
-          says = tracked_is t span reads n from before h.state h.says;
+          says = tracked_is t stretch reads n from before h.state h.says;
           transfer = answered_next h.state (strobes_high_in old) (strobe_low_in new) (is_low (level_at new WRITE))
               (strobes_high_in new) (answer_between old new) (high_is h.state h.says) low_new
               ∙ rw h.transfer (sym (was_passed (answered_now m) (risen_now m) (writing_now m)));

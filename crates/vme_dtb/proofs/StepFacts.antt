@@ -116,51 +116,52 @@ module _ (t : Trace) (n : ℕ) where
       ≡ first_of (falls_between old new DTACK) DTACK (falls_between old new BERR) BERR
   answer_fall_is = same_first _ _ _ _ DTACK BERR (falls_is DTACK) (falls_is BERR)
 
-  module _ (span : Stretch) (from : span.start ≤ n) (before : suc n < span.end) where
-    pub judged : is_judged span (suc n) ≡ true
-    judged = is_judged-holds span (suc n) (omega arith) before
+  module _ (stretch : Stretch) (from : stretch.start ≤ n) (before : suc n < stretch.end) where
+    pub judged : is_judged stretch (suc n) ≡ true
+    judged = is_judged-holds stretch (suc n) (omega arith) before
 
-    pub starts_is : transfer_starts t span (suc n) ≡ starts_between old new
+    pub starts_is : transfer_starts t stretch (suc n) ≡ starts_between old new
     unfolding transfer_starts high low
     starts_is = rw (judged, suc-sub-one n) refl
 
     -- a rule on the answer lines is broken on the first of them that has the edge
-    pub on_answers : (r : Rule) (edge : ℕ → Bool) (c : Bool) → ((l : ℕ) → breaks t span r (suc n) l
-        ≡ (is_judged span (suc n) && has_line t.opening.slots l && (is_answer_line l && edge l && c)))
-        → least (breaks t span r (suc n)) 0 line_count ≡ cond c (first_of (edge DTACK) DTACK (edge BERR) BERR) None
+    pub on_answers : (r : Rule) (edge : ℕ → Bool) (c : Bool) → ((l : ℕ) → breaks t stretch r (suc n) l
+        ≡ (is_judged stretch (suc n) && has_line t.opening.slots l && (is_answer_line l && edge l && c)))
+        → least (breaks t stretch r (suc n)) 0 line_count ≡ cond c (first_of (edge DTACK) DTACK (edge BERR) BERR) None
     on_answers r edge c form =
-        least_answer (breaks t span r (suc n)) (λ l h. form l ∙ unapplied (is_judged span (suc n))
+        least_answer (breaks t stretch r (suc n)) (λ l h. form l ∙ unapplied (is_judged stretch (suc n))
         (has_line t.opening.slots l) (is_answer_line l) (edge l) c h)
         ∙ rw (on_line DTACK refl, on_line BERR refl) (by_condition c (edge DTACK) (edge BERR) DTACK BERR)
       where
-        on_line : (l : ℕ) → is_answer_line l ≡ true → breaks t span r (suc n) l ≡ (edge l && c)
-        on_line l h = form l ∙ applied (is_judged span (suc n)) (has_line t.opening.slots l) (is_answer_line l) (edge l)
+        on_line : (l : ℕ) → is_answer_line l ≡ true → breaks t stretch r (suc n) l ≡ (edge l && c)
+        on_line l h = form l ∙ applied (is_judged stretch (suc n)) (has_line t.opening.slots l) (is_answer_line l)
+            (edge l)
             c judged (answer_exists l t.opening.slots h) h
 
-    pub on_strobes : (r : Rule) (edge : ℕ → Bool) (c : Bool) → ((l : ℕ) → breaks t span r (suc n) l
-        ≡ (is_judged span (suc n) && has_line t.opening.slots l && (is_strobe l && edge l && c)))
-        → least (breaks t span r (suc n)) 0 line_count ≡ cond c (first_of (edge DS0) DS0 (edge DS1) DS1) None
+    pub on_strobes : (r : Rule) (edge : ℕ → Bool) (c : Bool) → ((l : ℕ) → breaks t stretch r (suc n) l
+        ≡ (is_judged stretch (suc n) && has_line t.opening.slots l && (is_strobe l && edge l && c)))
+        → least (breaks t stretch r (suc n)) 0 line_count ≡ cond c (first_of (edge DS0) DS0 (edge DS1) DS1) None
     on_strobes r edge c form =
-        least_strobe (breaks t span r (suc n)) (λ l h. form l ∙ unapplied (is_judged span (suc n))
+        least_strobe (breaks t stretch r (suc n)) (λ l h. form l ∙ unapplied (is_judged stretch (suc n))
         (has_line t.opening.slots l) (is_strobe l) (edge l) c h)
         ∙ rw (on_line DS0 refl, on_line DS1 refl) (by_condition c (edge DS0) (edge DS1) DS0 DS1)
       where
-        on_line : (l : ℕ) → is_strobe l ≡ true → breaks t span r (suc n) l ≡ (edge l && c)
-        on_line l h = form l ∙ applied (is_judged span (suc n)) (has_line t.opening.slots l) (is_strobe l) (edge l) c
+        on_line : (l : ℕ) → is_strobe l ≡ true → breaks t stretch r (suc n) l ≡ (edge l && c)
+        on_line l h = form l ∙ applied (is_judged stretch (suc n)) (has_line t.opening.slots l) (is_strobe l) (edge l) c
             judged (strobe_exists l t.opening.slots h) h
 
-    pub on_address : (r : Rule) (edge : ℕ → Bool) (c : Bool) → ((l : ℕ) → breaks t span r (suc n) l
-        ≡ (is_judged span (suc n) && has_line t.opening.slots l && ((l == AS) && edge l && c)))
-        → least (breaks t span r (suc n)) 0 line_count ≡ cond (edge AS && c) (Some AS) None
+    pub on_address : (r : Rule) (edge : ℕ → Bool) (c : Bool) → ((l : ℕ) → breaks t stretch r (suc n) l
+        ≡ (is_judged stretch (suc n) && has_line t.opening.slots l && ((l == AS) && edge l && c)))
+        → least (breaks t stretch r (suc n)) 0 line_count ≡ cond (edge AS && c) (Some AS) None
     on_address r edge c form =
-        least_address (breaks t span r (suc n)) (λ l h. form l ∙ unapplied (is_judged span (suc n))
+        least_address (breaks t stretch r (suc n)) (λ l h. form l ∙ unapplied (is_judged stretch (suc n))
         (has_line t.opening.slots l) (l == AS) (edge l) c h)
-        ∙ ap (λ b. cond b (Some AS) None) (form AS ∙ applied (is_judged span (suc n)) (has_line t.opening.slots AS)
+        ∙ ap (λ b. cond b (Some AS) None) (form AS ∙ applied (is_judged stretch (suc n)) (has_line t.opening.slots AS)
         (AS == AS) (edge AS) c judged refl refl)
 
-    pub rule_from : (r : Rule) (c : Bool) (line : Option ℕ) → least (breaks t span r (suc n)) 0 line_count
+    pub rule_from : (r : Rule) (c : Bool) (line : Option ℕ) → least (breaks t stretch r (suc n)) 0 line_count
         ≡ cond c line None → option_map (break_of_fault (suc n) (time_at t (suc n))) (fault_if r c line)
-        ≡ rule_break t span (suc n) r
+        ≡ rule_break t stretch (suc n) r
     unfolding rule_break
     rule_from r c line e = rw e (by_case c line)
       where

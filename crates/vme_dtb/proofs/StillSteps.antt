@@ -195,8 +195,8 @@ module _ (v w : Levels) (still : is_still v w ≡ true) where
   tracked_still p = same_tracked (strobes_high_in w) (answer_between v w) (starts_between v w) (strobes_high_in v) p
       (cond (is_low (level_at w WRITE)) Writing Reading) high_kept no_answer no_start
 
-module _ (t : Trace) (span : Stretch) (n : ℕ) (m : HandshakeMemory) (holds : Holds t span n m) where
-  transfer_kept : (p : TransferPhase) → IsTransferPhase t span n p → cond (strobes_high_in (old t n)) Closed p ≡ p
+module _ (t : Trace) (stretch : Stretch) (n : ℕ) (m : HandshakeMemory) (holds : Holds t stretch n m) where
+  transfer_kept : (p : TransferPhase) → IsTransferPhase t stretch n p → cond (strobes_high_in (old t n)) Closed p ≡ p
   unfolding high
   transfer_kept Closed h = rw h refl
   transfer_kept Reading o = rw (o.1.still n o.1.within (omega arith)) refl

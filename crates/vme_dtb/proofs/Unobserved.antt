@@ -17,7 +17,7 @@ use Rattle.vme_trace.proofs.Ranges.{clash}
 use Rattle.vme_monitor.specs.Run.{quiet}
 use Rattle.vme_monitor.specs.declared.tracking.TransferPhase.{TransferPhase}
 use Rattle.vme_monitor.specs.declared.tracking.TransferPhase.TheVariants.{Closed, Reading, Writing, Answered}
-use Rattle.vme_monitor.proofs.SpanFacts.{IsSpan}
+use Rattle.vme_monitor.proofs.StretchFacts.{IsStretch}
 use Rattle.vme_dtb.specs.StabilityRules.{address_moved, changes_holding, direction_turned, fault_on}
 use Rattle.vme_dtb.specs.StabilityRules.{faults_unknown, held_fault, is_observed, keeps_address, keeps_direction}
 use Rattle.vme_dtb.specs.StabilityRules.{observation_of, shifted_line, stability_next, stepped, undriven_line}
@@ -74,8 +74,8 @@ none_held v w m cs moved turned = rw (moved, turned) (by_tests (keeps_address m 
     by_tests false true = refl
     by_tests false false = refl
 
-module _ (t : Trace) (span : Stretch) (facts : IsSpan t span) (n : ℕ) (from : span.start ≤ n)
-    (before : suc n < span.end) where
+module _ (t : Trace) (stretch : Stretch) (facts : IsStretch t stretch) (n : ℕ) (from : stretch.start ≤ n)
+    (before : suc n < stretch.end) where
   abbrev old : Levels
   old = levels_at t n
 
@@ -91,7 +91,7 @@ module _ (t : Trace) (span : Stretch) (facts : IsSpan t span) (n : ℕ) (from : 
   closed_there Writing e h = refl
   closed_there Answered e h = absurd (clash (strobes_high_in old) h e)
 
-  pub quiet_there : (m : Holding) (cs : List Change) → Holds t span n m → is_observed old new cs ≡ false
+  pub quiet_there : (m : Holding) (cs : List Change) → Holds t stretch n m → is_observed old new cs ≡ false
       → stability_next m old new (observation_of old new cs) ≡ quiet m
   quiet_there m cs holds h =
       let all = or_parts (is_some (faults_unknown old new) || is_some (address_moved old cs) || direction_turned old new
@@ -114,7 +114,7 @@ module _ (t : Trace) (span : Stretch) (facts : IsSpan t span) (n : ℕ) (from : 
         none_of (shifted_line old new cs) all.1,
         none_held old new m cs (none_of (address_moved old cs) moved.1) turned.1,
         same_memory old new m strobe.0 strobe.1 address.1
-            (λ h. sym holds.transfer ∙ closed_there holds.state (high_is t span facts.reads n from before holds.state
+            (λ h. sym holds.transfer ∙ closed_there holds.state (high_is t stretch facts.reads n from before holds.state
             holds.says) (highs h))
             (λ h. holds.closed (highs h)) holds.idle (facts.known (suc n) AS (omega arith) before (lit< tt) refl),
       )

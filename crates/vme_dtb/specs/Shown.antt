@@ -13,28 +13,28 @@ use Rattle.vme_monitor.specs.declared.mark.TransferAnswer.{TransferAnswer}
 use Rattle.vme_monitor.specs.declared.mark.StepMarks.{StepMarks}
 use Rattle.vme_dtb.specs.Edge.{cycle_start_of}
 
-module _ (t : Trace) (span : Stretch) where
+module _ (t : Trace) (stretch : Stretch) where
   -- a transfer closes: the first instant after its start at which both strobes are high
   unfoldable pub closes : ℕ → Bool
-  closes j = strobes_high t j && in_transfer t span (λ i. nat_lt i j) j
+  closes j = strobes_high t j && in_transfer t stretch (λ i. nat_lt i j) j
 
   -- the line that answers a transfer, the first one where both fall
   unfoldable pub answer_line : ℕ → Option ℕ
-  answer_line j = if is_answer t span j then least (λ l. is_answer_line l && falls t l j) 0 line_count else None
+  answer_line j = if is_answer t stretch j then least (λ l. is_answer_line l && falls t l j) 0 line_count else None
 
   -- the answer of a transfer, which takes data if the transfer is a write
   unfoldable pub answered : ℕ → Option TransferAnswer
   answered j =
-      let lanes = if answers_write t span j then Some (data_at t span j) else None in
+      let lanes = if answers_write t stretch j then Some (data_at t stretch j) else None in
       option_map (λ l. record { line = l; lanes = lanes }) (answer_line j)
 
 -- cycles that start and end, and transfers that start, are answered and close
 abbrev pub handshake_shown : Trace → Stretch → ℕ → StepMarks
-handshake_shown t span j =
+handshake_shown t stretch j =
     record no_step_marks {
-      cycle = (if cycle_starts t span j then Some (cycle_start_of (levels_at t j)) else None);
-      cycle_end = (is_judged span j && rises t AS j);
-      transfer = (if transfer_starts t span j then Some (is_write t span j) else None);
-      answer = answered t span j;
-      close = closes t span j;
+      cycle = (if cycle_starts t stretch j then Some (cycle_start_of (levels_at t j)) else None);
+      cycle_end = (is_judged stretch j && rises t AS j);
+      transfer = (if transfer_starts t stretch j then Some (is_write t stretch j) else None);
+      answer = answered t stretch j;
+      close = closes t stretch j;
     }

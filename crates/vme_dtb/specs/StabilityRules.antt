@@ -201,4 +201,4 @@ stability_next m v w seen = record { memory = stepped m v w; fault = fault_in m 
 
 -- nothing is shown
 abbrev pub stability_shown : Trace → Stretch → ℕ → StepMarks
-stability_shown t span j = no_step_marks
+stability_shown t stretch j = no_step_marks

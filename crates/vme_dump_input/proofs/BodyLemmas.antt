@@ -25,17 +25,18 @@ use Rattle.vme_dump_input.proofs.BufferedLemmas.{split-at}
 
 -- ---- a fault
 
-pub stops-fault : (bound : BoundLines) (text : List ℕ) (reading : TextReading) (line : ℕ) (kind : FaultKind) (t : Trace)
-    (time : ℕ) → reading_of_text bound text ≡ Ok reading → StopsAs line kind t time reading → HasFault text line kind
-stops-fault bound text reading line vcd.Memory t time is stops = tt
-stops-fault bound text reading line kind t time is stops =
-    (agree bound text).faulty reading (record { line = line; kind = kind }) is
+pub stops-fault : (binding : BoundLines) (text : List ℕ) (reading : TextReading) (line : ℕ) (kind : FaultKind)
+    (t : Trace)
+    (time : ℕ) → reading_of_text binding text ≡ Ok reading → StopsAs line kind t time reading → HasFault text line kind
+stops-fault binding text reading line vcd.Memory t time is stops = tt
+stops-fault binding text reading line kind t time is stops =
+    (agree binding text).faulty reading (record { line = line; kind = kind }) is
     (ap (λ (x : TextReading). x.fault) stops)
 
 -- ---- a piece
 
-module _ (bound : BoundLines) (old now : Reading) (input : InputSoFar) (r : StepReading)
-    (at : IsAtBody bound old now input r) where
+module _ (binding : BoundLines) (old now : Reading) (input : InputSoFar) (r : StepReading)
+    (at : IsAtBody binding old now input r) where
   module _ (next : StepReading) (n : ℕ) (within : n ≤ length input.held)
       (taken : (rest : List ℕ) → whole_reading r (take n input.held ++ rest) ≡ whole_reading next rest) where
     goes : (rest : List ℕ) → whole_reading r (input.held ++ rest) ≡ whole_reading next (drop n input.held ++ rest)
@@ -45,12 +46,12 @@ module _ (bound : BoundLines) (old now : Reading) (input : InputSoFar) (r : Step
         ∙ taken (drop n input.held ++ rest)
 
     -- the first `n` held bytes are taken
-    pub body-taken : IsAtBody bound old now (record input { held = drop n input.held }) next
+    pub body-taken : IsAtBody binding old now (record input { held = drop n input.held }) next
     body-taken = record {
       done = at.done ++ take n input.held;
       read = taken-first old now at.done input at.read n within;
       body = λ rest ends.
-          ap (reading_of_text bound) (split-at at.done input.held n rest) ∙ at.body rest ends
+          ap (reading_of_text binding) (split-at at.done input.held n rest) ∙ at.body rest ends
           ∙ ap (λ (x : TextReading). Ok x) (goes rest);
     }
 
@@ -59,29 +60,29 @@ module _ (bound : BoundLines) (old now : Reading) (input : InputSoFar) (r : Step
       → ((rest : List ℕ) → StopsAs line kind t time (whole_reading r (input.held ++ rest)))
       → HasFaultBefore at.done input (record { line = line; kind = kind })
   body-stops line kind t time stops rest ends =
-      stops-fault bound (at.done ++ (input.held ++ rest)) (whole_reading r (input.held ++ rest)) line kind t time
+      stops-fault binding (at.done ++ (input.held ++ rest)) (whole_reading r (input.held ++ rest)) line kind t time
       (at.body rest ends) (stops rest)
 
   -- more bytes follow
   pub body-grown : (later : Reading) (after : InputSoFar) → input.is_whole ≡ false → IsGrown input after
-      → IsReadTo old later at.done after → IsAtBody bound old later after r
+      → IsReadTo old later at.done after → IsAtBody binding old later after r
   body-grown later after going grown read = record {
     done = at.done;
     read = read;
     body = λ rest ends.
         let same : after.held ++ rest ≡ input.held ++ (grown.more ++ rest) =
         ap (λ l. l ++ rest) grown.held ∙ append_assoc input.held grown.more rest in
-        ap (λ l. reading_of_text bound (at.done ++ l)) same
+        ap (λ l. reading_of_text binding (at.done ++ l)) same
         ∙ at.body (grown.more ++ rest) (λ whole. absurd (both_ways input.is_whole going whole))
         ∙ ap (λ l. Ok (whole_reading r l)) (sym same);
   }
 
   -- no more bytes follow
-  pub body-ends : input.is_whole ≡ true → input.limit ≡ longest_input → IsAtEnd bound old now input.held r
+  pub body-ends : input.is_whole ≡ true → input.limit ≡ longest_input → IsAtEnd binding old now input.held r
   body-ends whole limit = record {
     text = at.done ++ input.held;
     all = subst (IsAllOf old now (at.done ++ input.held)) limit (all-read old now at.done input at.read whole);
-    body = ap (λ l. reading_of_text bound (at.done ++ l)) (sym (append-nil input.held))
+    body = ap (λ l. reading_of_text binding (at.done ++ l)) (sym (append-nil input.held))
         ∙ at.body [] (λ _. refl) ∙ ap (λ l. Ok (whole_reading r l)) (append-nil input.held);
   }
 

@@ -26,54 +26,54 @@ use Rattle.vme_dump_input.proofs.BufferedLemmas.{split-at}
 
 -- ---- a fault of the dump
 
-capture_fault : (bound : BoundLines) (text : List ℕ) (line : ℕ) (kind : FaultKind)
-    → DumpFails line kind (reading_of_text bound text) → HasFault text line kind
-capture_fault bound text line vcd.Memory fails = tt
-capture_fault bound text line kind fails = (agree bound text).fails (record { line = line; kind = kind }) fails
+capture_fault : (binding : BoundLines) (text : List ℕ) (line : ℕ) (kind : FaultKind)
+    → DumpFails line kind (reading_of_text binding text) → HasFault text line kind
+capture_fault binding text line vcd.Memory fails = tt
+capture_fault binding text line kind fails = (agree binding text).fails (record { line = line; kind = kind }) fails
 
-pub faulty-before : (bound : BoundLines) (input : InputSoFar) (fault : VcdFault)
+pub faulty-before : (binding : BoundLines) (input : InputSoFar) (fault : VcdFault)
     → ((rest : List ℕ) → IsFollowedBy input.is_whole rest
-    → CaptureFailsBy (Dump fault) (reading_of_text bound (input.held ++ rest)))
+    → CaptureFailsBy (Dump fault) (reading_of_text binding (input.held ++ rest)))
     → HasFaultBefore [] input fault
-faulty-before bound input fault fails rest ends =
-    capture_fault bound (input.held ++ rest) fault.line fault.kind (fails rest ends)
+faulty-before binding input fault fails rest ends =
+    capture_fault binding (input.held ++ rest) fault.line fault.kind (fails rest ends)
 
 -- if nothing follows, a fault of the held bytes is that of the text
-pub fails-last : (bound : BoundLines) (input : InputSoFar) (fault : CaptureFault) → input.is_whole ≡ true
-    → CaptureFailsBy fault (reading_of_text bound input.held) → (rest : List ℕ) → IsFollowedBy input.is_whole rest
-    → CaptureFailsBy fault (reading_of_text bound (input.held ++ rest))
-fails-last bound input fault whole fails rest ends =
-    subst (λ (l : List ℕ). CaptureFailsBy fault (reading_of_text bound l))
+pub fails-last : (binding : BoundLines) (input : InputSoFar) (fault : CaptureFault) → input.is_whole ≡ true
+    → CaptureFailsBy fault (reading_of_text binding input.held) → (rest : List ℕ) → IsFollowedBy input.is_whole rest
+    → CaptureFailsBy fault (reading_of_text binding (input.held ++ rest))
+fails-last binding input fault whole fails rest ends =
+    subst (λ (l : List ℕ). CaptureFailsBy fault (reading_of_text binding l))
     (sym (ap (λ (l : List ℕ). input.held ++ l) (ends whole) ∙ append-nil input.held)) fails
 
 -- ---- the body is begun
 
-module _ (bound : BoundLines) (old now : Reading) (input : InputSoFar) (h : IsReadTo old now [] input) (n : ℕ)
+module _ (binding : BoundLines) (old now : Reading) (input : InputSoFar) (h : IsReadTo old now [] input) (n : ℕ)
     (within : n ≤ length input.held) (r : StepReading) where
   pub begun-body : ((rest : List ℕ) → IsFollowedBy input.is_whole rest
-      → reading_of_text bound (input.held ++ rest) ≡ Ok (whole_reading r (drop n input.held ++ rest)))
-      → IsAtDefinitions bound old now input r n
+      → reading_of_text binding (input.held ++ rest) ≡ Ok (whole_reading r (drop n input.held ++ rest)))
+      → IsAtDefinitions binding old now input r n
   begun-body begins = record { read = h; within = within; body = begins }
 
   pub begun-last : input.is_whole ≡ true
-      → reading_of_text bound input.held ≡ Ok (whole_reading r (drop n input.held))
-      → IsAtDefinitions bound old now input r n
+      → reading_of_text binding input.held ≡ Ok (whole_reading r (drop n input.held))
+      → IsAtDefinitions binding old now input r n
   begun-last whole begins = begun-body (λ rest ends.
       let none : rest ≡ [] = ends whole in
-      subst (λ (l : List ℕ). reading_of_text bound (input.held ++ l) ≡ Ok (whole_reading r (drop n input.held ++ l)))
+      subst (λ (l : List ℕ). reading_of_text binding (input.held ++ l) ≡ Ok (whole_reading r (drop n input.held ++ l)))
       (sym none)
-      (ap (reading_of_text bound) (append-nil input.held) ∙ begins
+      (ap (reading_of_text binding) (append-nil input.held) ∙ begins
       ∙ ap (λ l. Ok (whole_reading r l)) (sym (append-nil (drop n input.held)))))
 
-module _ (bound : BoundLines) (old now : Reading) (input : InputSoFar) (r : StepReading) (n : ℕ)
-    (at : IsAtDefinitions bound old now input r n) where
+module _ (binding : BoundLines) (old now : Reading) (input : InputSoFar) (r : StepReading) (n : ℕ)
+    (at : IsAtDefinitions binding old now input r n) where
   -- the definitions are taken
-  pub definitions-taken : IsAtBody bound old now (record input { held = drop n input.held }) r
+  pub definitions-taken : IsAtBody binding old now (record input { held = drop n input.held }) r
   definitions-taken = record {
     done = take n input.held;
     read = taken-first old now [] input at.read n at.within;
     body = λ rest ends.
-        ap (reading_of_text bound) (split-at [] input.held n rest) ∙ at.body rest ends;
+        ap (reading_of_text binding) (split-at [] input.held n rest) ∙ at.body rest ends;
   }
 
   module _ (after : InputSoFar) (on : IsReadOn input after) where
@@ -82,9 +82,9 @@ module _ (bound : BoundLines) (old now : Reading) (input : InputSoFar) (r : Step
     held-on = omega (arith, at.within, ap (λ (l : List ℕ). length l) on.held, length-append input.held on.more)
 
     pub body-on : (rest : List ℕ) → IsFollowedBy after.is_whole rest
-        → reading_of_text bound (after.held ++ rest) ≡ Ok (whole_reading r (drop n after.held ++ rest))
+        → reading_of_text binding (after.held ++ rest) ≡ Ok (whole_reading r (drop n after.held ++ rest))
     body-on rest ends =
-        ap (reading_of_text bound) (ap (λ (l : List ℕ). l ++ rest) on.held ∙ append_assoc input.held on.more rest)
+        ap (reading_of_text binding) (ap (λ (l : List ℕ). l ++ rest) on.held ∙ append_assoc input.held on.more rest)
         ∙ at.body (on.more ++ rest) (on.follows rest ends)
         ∙ ap (λ (l : List ℕ). Ok (whole_reading r l)) (sym behind)
       where

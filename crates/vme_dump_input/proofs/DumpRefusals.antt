@@ -59,15 +59,15 @@ some-read old now refusal is = (is.0, is.1)
 
 -- ---- a binding that can't be used
 
-module _ (bound : BoundLines) (old now : Reading) (text : List ℕ) (all : IsAllOf old now text longest_input) where
+module _ (binding : BoundLines) (old now : Reading) (text : List ℕ) (all : IsAllOf old now text longest_input) where
   abbrev recorded : Result Contents VcdFault → Result (Result Trace BindFault) Refusal
-  recorded dump = recorded_by bound (or_bad_dump dump)
+  recorded dump = recorded_by binding (or_bad_dump dump)
 
   pub unusable-is : (dump : Result Contents VcdFault) → dump_of text ≡ dump → (fault : BindFault)
       → recorded dump ≡ Ok (Err fault)
-      → (contents : Contents) × IsReadDump old now contents × (capture_of bound contents ≡ Err fault)
+      → (contents : Contents) × IsReadDump old now contents × (capture_of binding contents ≡ Err fault)
   unusable-is (Ok contents) is fault gives =
-      let same : capture_of bound contents ≡ Err fault = cc in (
+      let same : capture_of binding contents ≡ Err fault = cc in (
         contents,
         record { text = text; reading = all.0; is = dump-is text all.1 (Ok contents) is },
         same,

@@ -17,11 +17,11 @@ FailsPiece old now input (Some fault) =
 
 -- after a piece the body is read on by `r`, or it isn't read on
 abbrev pub ReadsPiece : BoundLines → Reading → Reading → InputSoFar → Result StepReading (Option VcdFault) → Type 0
-ReadsPiece bound old now input (Ok r) = IsAtBody bound old now input r
-ReadsPiece bound old now input (Err fault) = FailsPiece old now input fault
+ReadsPiece binding old now input (Ok r) = IsAtBody binding old now input r
+ReadsPiece binding old now input (Err fault) = FailsPiece old now input fault
 
 -- `bytes` are the last bytes of a body, and all of the dump was read
-pub record IsAtEnd (bound : BoundLines) (old now : Reading) (bytes : List ℕ) (r : StepReading) : Type 0 where
+pub record IsAtEnd (binding : BoundLines) (old now : Reading) (bytes : List ℕ) (r : StepReading) : Type 0 where
   pub text : List ℕ
   pub all : IsAllOf old now text longest_input
-  pub body : reading_of_text bound text ≡ Ok (whole_reading r bytes)
+  pub body : reading_of_text binding text ≡ Ok (whole_reading r bytes)

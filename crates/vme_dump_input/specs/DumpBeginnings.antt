@@ -18,8 +18,8 @@ use Rattle.vme_stream.specs.declared.refusal.Refusal.{Refusal}
 use Rattle.vme_stream.specs.declared.refusal.Refusal.TheVariants.{Memory}
 use Rattle.vme_step_reader.specs.StepReading.{StepReading, whole_reading}
 use Rattle.vme_dump_input.specs.BufferedInputs.{InputSoFar, IsReadTo}
-use Rattle.vme_dump_input.specs.declared.definitions.Begun.{Begun}
-use Rattle.vme_dump_input.specs.declared.definitions.Begun.TheVariants.{Body, Unusable}
+use Rattle.vme_dump_input.specs.declared.definitions.DumpAfterDefinitions.{DumpAfterDefinitions}
+use Rattle.vme_dump_input.specs.declared.definitions.DumpAfterDefinitions.TheVariants.{Body, Unusable}
 
 -- the dump is refused for this, unless there was no memory
 abbrev pub IsDumpRefused : Reading → Reading → Refusal → Type 0
@@ -43,20 +43,20 @@ HasFaultBefore done input fault = (rest : List ℕ) → IsFollowedBy input.is_wh
     → HasFault (done ++ (input.held ++ rest)) fault.line fault.kind
 
 -- the body of a dump was read up to the bytes that are held, and `r` reads on with these
-pub record IsAtBody (bound : BoundLines) (old now : Reading) (input : InputSoFar) (r : StepReading) : Type 0 where
+pub record IsAtBody (binding : BoundLines) (old now : Reading) (input : InputSoFar) (r : StepReading) : Type 0 where
   pub done : List ℕ
   pub read : IsReadTo old now done input
   pub body : (rest : List ℕ) → IsFollowedBy input.is_whole rest
-      → reading_of_text bound (done ++ (input.held ++ rest)) ≡ Ok (whole_reading r (input.held ++ rest))
+      → reading_of_text binding (done ++ (input.held ++ rest)) ≡ Ok (whole_reading r (input.held ++ rest))
 
 -- no byte of a dump was taken: its definitions are the first `count` bytes of those that are held, and `r` reads on
 -- after them
-pub record IsAtDefinitions (bound : BoundLines) (old now : Reading) (input : InputSoFar) (r : StepReading) (count : ℕ)
+pub record IsAtDefinitions (binding : BoundLines) (old now : Reading) (input : InputSoFar) (r : StepReading) (count : ℕ)
     : Type 0 where
   pub read : IsReadTo old now [] input
   pub within : count ≤ length input.held
   pub body : (rest : List ℕ) → IsFollowedBy input.is_whole rest
-      → reading_of_text bound (input.held ++ rest) ≡ Ok (whole_reading r (drop count input.held ++ rest))
+      → reading_of_text binding (input.held ++ rest) ≡ Ok (whole_reading r (drop count input.held ++ rest))
 
 -- whatever follows, all that is recorded is a well-formed recording of a backplane with at most 21 slots
 pub record IsSound (r : StepReading) : Type 0 where
@@ -69,32 +69,33 @@ pub record IsBodyUnread (r : StepReading) : Type 0 where
   pub none : r.given.steps ≡ []
   pub formed : (rest : List ℕ) → malformed_step (whole_reading r rest).recorded ≡ None
 
-abbrev pub MayBeRead : Begun → Type 0
+abbrev pub MayBeRead : DumpAfterDefinitions → Type 0
 MayBeRead (Body r count) = IsBodyUnread r
 MayBeRead (Unusable fault) = Unit {0}
 
-abbrev pub MayBeReadIfSome : Option Begun → Type 0
+abbrev pub MayBeReadIfSome : Option DumpAfterDefinitions → Type 0
 MayBeReadIfSome None = Unit {0}
 MayBeReadIfSome (Some begun) = MayBeRead begun
 
 -- the bytes of the definitions are held
-abbrev pub HoldsDefinitions : InputSoFar → Begun → Type 0
+abbrev pub HoldsDefinitions : InputSoFar → DumpAfterDefinitions → Type 0
 HoldsDefinitions input (Body r count) = count ≤ length input.held
 HoldsDefinitions input (Unusable fault) = Unit {0}
 
-abbrev pub HoldsDefinitionsIfSome : InputSoFar → Option Begun → Type 0
+abbrev pub HoldsDefinitionsIfSome : InputSoFar → Option DumpAfterDefinitions → Type 0
 HoldsDefinitionsIfSome input None = Unit {0}
 HoldsDefinitionsIfSome input (Some begun) = HoldsDefinitions input begun
 
 -- the definitions of a dump were read; or the binding can't be used on it, and all of it was; or it is refused
-abbrev pub BeginsDump : BoundLines → Reading → Reading → InputSoFar → Result Begun Refusal → Type 0
-BeginsDump bound old now input (Ok (Body r count)) = IsAtDefinitions bound old now input r count
-BeginsDump bound old now input (Ok (Unusable fault)) =
-    (contents : Contents) × IsReadDump old now contents × (capture_of bound contents ≡ Err fault)
-BeginsDump bound old now input (Err refusal) = IsDumpRefused old now refusal
+abbrev pub BeginsDump : BoundLines → Reading → Reading → InputSoFar → Result DumpAfterDefinitions Refusal → Type 0
+BeginsDump binding old now input (Ok (Body r count)) = IsAtDefinitions binding old now input r count
+BeginsDump binding old now input (Ok (Unusable fault)) =
+    (contents : Contents) × IsReadDump old now contents × (capture_of binding contents ≡ Err fault)
+BeginsDump binding old now input (Err refusal) = IsDumpRefused old now refusal
 
 -- as `BeginsDump`, or the definitions don't end in what is held, and nothing was read or taken
-abbrev pub MayBegin : BoundLines → Reading → Reading → InputSoFar → InputSoFar → Result (Option Begun) Refusal → Type 0
-MayBegin bound old now held input (Ok (Some begun)) = BeginsDump bound old now input (Ok begun)
-MayBegin bound old now held input (Ok None) = (input ≡ held) × IsReadTo old now [] input
-MayBegin bound old now held input (Err refusal) = IsDumpRefused old now refusal
+abbrev pub MayBegin : BoundLines → Reading → Reading → InputSoFar → InputSoFar
+    → Result (Option DumpAfterDefinitions) Refusal → Type 0
+MayBegin binding old now held input (Ok (Some begun)) = BeginsDump binding old now input (Ok begun)
+MayBegin binding old now held input (Ok None) = (input ≡ held) × IsReadTo old now [] input
+MayBegin binding old now held input (Err refusal) = IsDumpRefused old now refusal

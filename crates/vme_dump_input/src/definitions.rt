@@ -9,7 +9,7 @@ ghost use Rattle.vme_stream.specs.Inputs.{longest_input};
 ghost use Rattle.vme_stream.specs.Refusals.{refused};
 ghost use Rattle.vme_stream.specs.declared.refusal.Input.TheVariants.{Dump};
 ghost use Rattle.vme_bind.specs.declared.fault.BindFault.{BindFault};
-ghost use Rattle.vme_dump_input.specs.declared.definitions.Begun.TheVariants.{Body, Unusable};
+ghost use Rattle.vme_dump_input.specs.declared.definitions.DumpAfterDefinitions.TheVariants.{Body, Unusable};
 ghost use Rattle.vme_dump_input.specs.BufferedInputs.{IsReadTo, not_read};
 ghost use Rattle.vme_dump_input.specs.DumpBeginnings.{BeginsDump, HasFaultBefore, HoldsDefinitions};
 ghost use Rattle.vme_dump_input.specs.DumpBeginnings.{HoldsDefinitionsIfSome, IsDumpRefused, MayBeRead};
@@ -40,7 +40,7 @@ pub fn dump_input(alloc: Global) -> Result<BufferedInput, AllocError>
 
 /// The definitions of a dump were read, and none of their bytes taken.
 #[derive(Drop)]
-pub enum Begun {
+pub enum DumpAfterDefinitions {
     /// The reader of its body, and how many bytes its definitions have.
     Body(StepReader, usize),
     /// The binding can't be used on it.
@@ -71,14 +71,14 @@ pub fn refused_for<D: Source>(dump: &mut D, input: &mut BufferedInput, fault: Vc
 /// comes before one of the binding.
 fn unusable<D: Source>(
     alloc: Global,
-    bound: &Binding,
+    binding: &Binding,
     dump: &mut D,
     input: &mut BufferedInput,
-) -> Result<Begun, Refusal>
+) -> Result<DumpAfterDefinitions, Refusal>
     ensures begun { IfOk result MayBeRead }
     ensures unusable { IfOk result (λ begun. (fault : BindFault) × (begun ≡ Unusable fault)) }
     ensures read { (old : Reading) → IsReadTo old (D.reading dump.old) [] input.old → input.old.limit ≡ longest_input
-        → BeginsDump bound.now old (D.reading dump.new) input.new result }
+        → BeginsDump binding.now old (D.reading dump.new) input.new result }
     ensures limit { input.old.limit ≡ longest_input → input.new.limit ≡ longest_input }
 {
     while !input.is_whole() {
@@ -86,9 +86,9 @@ fn unusable<D: Source>(
             return Err(unread(fault));
         }
     }
-    match recorded_in(alloc, bound, input.bytes()) {
+    match recorded_in(alloc, binding, input.bytes()) {
         Ok(Ok(_recording)) => Err(Refusal::Memory),
-        Ok(Err(fault)) => Ok(Begun::Unusable(fault)),
+        Ok(Err(fault)) => Ok(DumpAfterDefinitions::Unusable(fault)),
         Err(refusal) => Err(refusal),
     }
 }
@@ -96,71 +96,71 @@ fn unusable<D: Source>(
 /// The result for a fault that is found before the body.
 fn not_begun<D: Source>(
     alloc: Global,
-    bound: &Binding,
+    binding: &Binding,
     dump: &mut D,
     input: &mut BufferedInput,
     fault: CaptureFault,
-) -> Result<Begun, Refusal>
+) -> Result<DumpAfterDefinitions, Refusal>
     ensures begun { IfOk result MayBeRead }
     ensures unusable { IfOk result (λ begun. (fault : BindFault) × (begun ≡ Unusable fault)) }
     ensures read { (old : Reading) → IsReadTo old (D.reading dump.old) [] input.old → input.old.limit ≡ longest_input
         → ((rest : List ℕ) → IsFollowedBy input.old.is_whole rest
-        → CaptureFailsBy fault (reading_of_text bound.now (input.old.held ++ rest)))
-        → BeginsDump bound.now old (D.reading dump.new) input.new result }
+        → CaptureFailsBy fault (reading_of_text binding.now (input.old.held ++ rest)))
+        → BeginsDump binding.now old (D.reading dump.new) input.new result }
     ensures limit { input.old.limit ≡ longest_input → input.new.limit ≡ longest_input }
 {
     match fault {
         CaptureFault::Dump(fault) => Err(refused_for(dump, input, fault)),
-        CaptureFault::Binding(_) => unusable(alloc, bound, dump, input),
+        CaptureFault::Binding(_) => unusable(alloc, binding, dump, input),
     }
 }
 
 /// Begins with the body, where all of the dump is held.
 fn begin_last<D: Source>(
     alloc: Global,
-    bound: &Binding,
+    binding: &Binding,
     dump: &mut D,
     input: &mut BufferedInput,
-) -> Result<Begun, Refusal>
+) -> Result<DumpAfterDefinitions, Refusal>
     requires { input.old.is_whole ≡ true }
     ensures begun { IfOk result MayBeRead }
     ensures held { IfOk result (HoldsDefinitions input.new) }
     ensures read { (old : Reading) → IsReadTo old (D.reading dump.old) [] input.old → input.old.limit ≡ longest_input
-        → BeginsDump bound.now old (D.reading dump.new) input.new result }
+        → BeginsDump binding.now old (D.reading dump.new) input.new result }
     ensures limit { input.old.limit ≡ longest_input → input.new.limit ≡ longest_input }
 {
-    match begin_last_steps(alloc, bound, input.bytes()) {
-        Ok((reader, count)) => Ok(Begun::Body(reader, count)),
-        Err(fault) => not_begun(alloc, bound, dump, input, fault),
+    match begin_last_steps(alloc, binding, input.bytes()) {
+        Ok((reader, count)) => Ok(DumpAfterDefinitions::Body(reader, count)),
+        Err(fault) => not_begun(alloc, binding, dump, input, fault),
     }
 }
 
 /// The reader of the body, and after how many bytes the body begins.
-fn body_after(found: (StepReader, usize)) -> Begun
+fn body_after(found: (StepReader, usize)) -> DumpAfterDefinitions
     ensures { result ≡ Body found.0 found.1 }
 {
     let (reader, count) = found;
-    Begun::Body(reader, count)
+    DumpAfterDefinitions::Body(reader, count)
 }
 
 /// Begins with the body, if the definitions end in what is held.
 fn begin<D: Source>(
     alloc: Global,
-    bound: &Binding,
+    binding: &Binding,
     dump: &mut D,
     input: &mut BufferedInput,
-) -> Result<Option<Begun>, Refusal>
+) -> Result<Option<DumpAfterDefinitions>, Refusal>
     ensures begun { IfOk result MayBeReadIfSome }
     ensures held { IfOk result (HoldsDefinitionsIfSome input.new) }
     ensures read { (old : Reading) → IsReadTo old (D.reading dump.old) [] input.old → input.old.limit ≡ longest_input
-        → MayBegin bound.now old (D.reading dump.new) input.old input.new result }
+        → MayBegin binding.now old (D.reading dump.new) input.old input.new result }
     ensures left { result ≡ Ok None → input.new ≡ input.old }
     ensures limit { input.old.limit ≡ longest_input → input.new.limit ≡ longest_input }
 {
-    match begin_steps(alloc, bound, input.bytes()) {
+    match begin_steps(alloc, binding, input.bytes()) {
         Ok(Some(found)) => Ok(Some(body_after(found))),
         Ok(None) => Ok(None),
-        Err(fault) => match not_begun(alloc, bound, dump, input, fault) {
+        Err(fault) => match not_begun(alloc, binding, dump, input, fault) {
             Ok(begun) => Ok(Some(begun)),
             Err(refusal) => Err(refusal),
         },
@@ -170,14 +170,14 @@ fn begin<D: Source>(
 /// Reads the definitions of a dump, and takes none of their bytes: they are still held.
 pub fn read_definitions<D: Source>(
     alloc: Global,
-    bound: &Binding,
+    binding: &Binding,
     dump: &mut D,
     input: &mut BufferedInput,
-) -> Result<Begun, Refusal>
+) -> Result<DumpAfterDefinitions, Refusal>
     ensures begun { IfOk result MayBeRead }
     ensures held { IfOk result (HoldsDefinitions input.new) }
     ensures read { (old : Reading) → IsReadTo old (D.reading dump.old) [] input.old → input.old.limit ≡ longest_input
-        → BeginsDump bound.now old (D.reading dump.new) input.new result }
+        → BeginsDump binding.now old (D.reading dump.new) input.new result }
     ensures limit { input.old.limit ≡ longest_input → input.new.limit ≡ longest_input }
 {
     let mut search = DefinitionsEnd::new();
@@ -187,12 +187,12 @@ pub fn read_definitions<D: Source>(
         }
         let held = input.bytes();
         if search.may_end(&held[..whole_tokens(held)]) {
-            match begin(alloc, bound, dump, input) {
+            match begin(alloc, binding, dump, input) {
                 Ok(Some(begun)) => return Ok(begun),
                 Ok(None) => {}
                 Err(refusal) => return Err(refusal),
             }
         }
     }
-    begin_last(alloc, bound, dump, input)
+    begin_last(alloc, binding, dump, input)
 }

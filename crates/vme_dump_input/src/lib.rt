@@ -47,6 +47,6 @@ mod settling;
 
 pub use body::{fault_of, opening_of, refused_in_body};
 pub use buffered_input::BufferedInput;
-pub use definitions::{Begun, dump_input, read_definitions, refused_for, unread};
+pub use definitions::{DumpAfterDefinitions, dump_input, read_definitions, refused_for, unread};
 pub use definitions_end::DefinitionsEnd;
 pub use settling::{last_steps, settled_steps, settler_for};

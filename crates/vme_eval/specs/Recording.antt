@@ -1,6 +1,6 @@
 -- A worked recording: its steps, and what the definitions say of it.
 use Rattle.std.specs.Prelude.{◌≡◌, ℕ, List, [], ◌∷◌, None, map}
-use Rattle.vme_trace.specs.Judged.{Stretch, judged_spans}
+use Rattle.vme_trace.specs.Judged.{Stretch, judged_stretches}
 use Rattle.vme_trace.specs.Trace.{Trace}
 use Rattle.vme_trace.specs.Verdict.{verdict}
 use Rattle.vme_trace.specs.WellFormed.{malformed_step}
@@ -14,7 +14,7 @@ listed_rows t = map row_text (recorded_rows t)
 
 -- the stretches of a recording that are judged, each by its start and its end
 abbrev pub judged : Trace → List (ℕ × ℕ)
-judged t = map (λ (span : Stretch). (span.start, span.end)) (judged_spans t)
+judged t = map (λ (stretch : Stretch). (stretch.start, stretch.end)) (judged_stretches t)
 
 -- a recording with the verdict and the rows that it should get
 pub record Recording : Type 0 where

@@ -19,7 +19,7 @@ use Rattle.vme_monitor.specs.Runs.{levels_after-append}
 use Rattle.vme_dtb.specs.MemoryNumbers.{memory_place}
 use Rattle.vme_dtb.specs.HoldingNumbers.{holding_place}
 use Rattle.vme_chains.specs.GrantMemory.{arbitration_place}
-use Rattle.vme_chains.specs.AcknowledgeRules.{acknowledgement_place}
+use Rattle.vme_chains.specs.AcknowledgeRules.{acknowledge_memory_place}
 use Rattle.vme_summary.specs.Joins.{block_of, first_time, last_time}
 use Rattle.vme_summary.specs.Runs.{known_run, handshake_run, stability_run, grant_run, acknowledge_run}
 use Rattle.vme_summary.proofs.Sound.{sound_apart}
@@ -95,9 +95,9 @@ module _ (listing : Bool) (s : SegmentValue) (b : Block) (a : StandsForFile list
   file_grant : AgreesWithRuns listing 35 (phase_place arbitration_place) s.grant (λ p. grant_run p b.opening b.steps)
   file_grant = moved grant_run (phase_place arbitration_place) 35 s.grant a.stands.grant
 
-  file_acknowledge : AgreesWithRuns listing 11 (phase_place acknowledgement_place) s.acknowledge
+  file_acknowledge : AgreesWithRuns listing 11 (phase_place acknowledge_memory_place) s.acknowledge
       (λ p. acknowledge_run p b.opening b.steps)
-  file_acknowledge = moved acknowledge_run (phase_place acknowledgement_place) 11 s.acknowledge a.stands.acknowledge
+  file_acknowledge = moved acknowledge_run (phase_place acknowledge_memory_place) 11 s.acknowledge a.stands.acknowledge
 
 -- ---- more of its steps
 
@@ -179,7 +179,7 @@ module _ (listing : Bool) (s t r : SegmentValue) (number : ℕ) (o : Levels) (x 
         s.grant t.grant r.grant refl fits
         (subst (λ (n : ℕ). IsComposition n s.grant t.grant r.grant) steps_first e.grant)
         (file_grant listing s before a) (file_grant listing t behind b))
-        (tables_of_both acknowledge_run acknowledge_is_run (phase_place acknowledgement_place) listing 11 o
+        (tables_of_both acknowledge_run acknowledge_is_run (phase_place acknowledge_memory_place) listing 11 o
         (levels_after o x) x y s.acknowledge t.acknowledge r.acknowledge refl fits
         (subst (λ (n : ℕ). IsComposition n s.acknowledge t.acknowledge r.acknowledge) steps_first e.acknowledge)
         (file_acknowledge listing s before a) (file_acknowledge listing t behind b));

@@ -4,8 +4,8 @@ use memchr::memmem;
 use std::alloc::{AllocError, Global};
 use vcd_read::{FaultKind, VcdFault};
 use vme_declarations::{
-    DeclaredNames, DumpSurvey, EMPTY_HASH, Groups, SurveyedDump, VariableBit, front_of, group_of,
-    has_scope, hash_of, scopes_have_path,
+    DeclaredNames, DumpSurvey, EMPTY_HASH, Groups, SurveyedDump, VariableBit, dotted_path,
+    group_of, has_scope, hash_of, scopes_have_path,
 };
 use vme_find::{FindFault, FoundBinding, write_binding};
 use vme_line_names::find_lines;
@@ -134,7 +134,7 @@ fn declarations_are_read(rt: HostRuntime) {
 
 /// Whether the paths of the variables in the scope `path` begin with `wanted`.
 fn has_front(alloc: Global, path: &[u8], wanted: &[u8]) -> bool {
-    match front_of(alloc, path) {
+    match dotted_path(alloc, path) {
         Ok(front) => front.as_slice() == wanted,
         Err(_) => false,
     }

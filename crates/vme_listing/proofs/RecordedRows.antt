@@ -63,10 +63,12 @@ not_past true false past h e = absurd (cc)
 not_past false falls past h e = absurd (cc)
 
 -- a tenure that breaks no rule by its slot has one of the backplane
-slot_exists : (t : Trace) (span : Stretch) (i : ℕ) → tenure_starts t span i ≡ true → breaks t span B4 i BBSY ≡ false
+slot_exists : (t : Trace) (stretch : Stretch) (i : ℕ) → tenure_starts t stretch i ≡ true → breaks t stretch B4 i BBSY
+    ≡ false
     → is_option_equal (tenure_slot t i) (t.opening.slots + 1) ≡ false
 unfolding breaks is_broken tenure_starts
-slot_exists t span i starts unbroken = not_past (is_judged span i) (falls t BBSY i) (is_option_equal (tenure_slot t i)
+slot_exists t stretch i starts unbroken = not_past (is_judged stretch i) (falls t BBSY i)
+    (is_option_equal (tenure_slot t i)
     (t.opening.slots + 1)) starts unbroken
 
 bused : (slots l : ℕ) → l < 50 → has_line slots l ≡ true
@@ -85,17 +87,17 @@ lacking : (judged starts has needed known : Bool) → (judged && starts) ≡ tru
 lacking judged starts has needed known s h n k e = grind (arith, nat_tests)
 
 -- a cycle that breaks no rule by a line that it needs, and is of class F, has a code whose bits are known
-code_known : (t : Trace) (span : Stretch) (i : ℕ) → cycle_starts t span i ≡ true
-    → ((l : ℕ) → l < line_count → breaks t span U2 i l ≡ false) → class_of (levels_at t i) ≡ class.F
+code_known : (t : Trace) (stretch : Stretch) (i : ℕ) → cycle_starts t stretch i ≡ true
+    → ((l : ℕ) → l < line_count → breaks t stretch U2 i l ≡ false) → class_of (levels_at t i) ≡ class.F
     → has_known_modifier
     (levels_at t i) ≡ false → ⊥
 unfolding breaks is_broken cycle_starts known
-code_known t span i starts unbroken free unknown =
+code_known t stretch i starts unbroken free unknown =
     let v = levels_at t i in
     let found = any-least (λ n. not (is_modifier_bit_known v n)) 0 6 (not-false _ unknown) in
     let n = found.0 in
     let is = least-found (λ n. not (is_modifier_bit_known v n)) 0 6 n found.1 in
-    lacking (is_judged span i) (falls t AS i) (has_line t.opening.slots (AM n)) (is_needed v (AM n))
+    lacking (is_judged stretch i) (falls t AS i) (has_line t.opening.slots (AM n)) (is_needed v (AM n))
     (is_known_on v (AM n))
     starts (bused t.opening.slots (AM n) (omega (arith, is.below))) (needs_modifier v n free is.below) is.holds
     (unbroken (AM n) (omega (arith, is.below)))
@@ -106,17 +108,18 @@ data_by true lanes h = h
 data_by false lanes h = refl
 
 -- the data of a transfer is data that the row of its direction may have
-data_form : (t : Trace) (span : Stretch) (end i r : ℕ) → has_data Three (direction_of t span end i)
-    (data_of t span end i r) ≡ true
+data_form : (t : Trace) (stretch : Stretch) (end i r : ℕ) → has_data Three (direction_of t stretch end i)
+    (data_of t stretch end i r) ≡ true
 unfolding data_at
-data_form t span end i r = data_by (is_write t span i) (data_at t span r)
-    (lanes_form (levels_at t (if transfer_starts t span r then r else r - 1)))
+data_form t stretch end i r = data_by (is_write t stretch i) (data_at t stretch r)
+    (lanes_form (levels_at t (if transfer_starts t stretch r then r else r - 1)))
 
-module _ (t : Trace) (span : Stretch) (end : ℕ) (few : end ≤ 2 ^ 32) (i : ℕ) (listed : i < end) where
+module _ (t : Trace) (stretch : Stretch) (end : ℕ) (few : end ≤ 2 ^ 32) (i : ℕ) (listed : i < end) where
   -- at instant i at most one tenure has a row, if B4 isn't broken there
-  pub tenure_one : t.opening.slots ≤ 21 → breaks t span B4 i BBSY ≡ false → AtMostOne i 2 (tenure_rows t span end i)
+  pub tenure_one : t.opening.slots ≤ 21 → breaks t stretch B4 i BBSY ≡ false
+      → AtMostOne i 2 (tenure_rows t stretch end i)
   unfolding tenure_rows is_row
-  tenure_one slots unbroken = by_tests ((i == span.start) && low t BBSY i) (tenure_starts t span i) refl
+  tenure_one slots unbroken = by_tests ((i == stretch.start) && low t BBSY i) (tenure_starts t stretch i) refl
     where
       taken : (level slot : Option ℕ) → tenure_level t i ≡ level → tenure_slot t i ≡ slot → is_option_equal slot
           (t.opening.slots + 1) ≡ false → AtMostOne i 2 (tenure_row i level slot (least (rises t BBSY) (i + 1) end))
@@ -128,7 +131,7 @@ module _ (t : Trace) (span : Stretch) (end : ℕ) (few : end ≤ 2 ^ 32) (i : �
           tenure_form i level slot (least (rises t BBSY) (i + 1) end) (number i end listed few)
           (level_within t i level l) within.0 (omega (arith, within.1, other)) (edge (rises t BBSY) (i + 1) end few)
 
-      by_tests : (opened starts : Bool) → tenure_starts t span i ≡ starts
+      by_tests : (opened starts : Bool) → tenure_starts t stretch i ≡ starts
           → AtMostOne i 2 (cond opened (OpenTenure i (least (rises t BBSY) (i + 1) end) ∷ [])
           (cond starts (tenure_row i (tenure_level t i) (tenure_slot t i) (least (rises t BBSY) (i + 1) end)) []))
       by_tests true starts e = record {
@@ -138,50 +141,52 @@ module _ (t : Trace) (span : Stretch) (end : ℕ) (few : end ≤ 2 ^ 32) (i : �
         no_start = refl;
         no_reset = refl;
       }
-      by_tests false true e = taken (tenure_level t i) (tenure_slot t i) refl refl (slot_exists t span i e unbroken)
+      by_tests false true e = taken (tenure_level t i) (tenure_slot t i) refl refl (slot_exists t stretch i e unbroken)
       by_tests false false e = tt
 
   -- at instant i at most one cycle has a row, if U2 isn't broken there
-  pub cycle_one : ((l : ℕ) → l < line_count → breaks t span U2 i l ≡ false) → AtMostOne i 3 (cycle_rows t span end i)
+  pub cycle_one : ((l : ℕ) → l < line_count → breaks t stretch U2 i l ≡ false)
+      → AtMostOne i 3 (cycle_rows t stretch end i)
   unfolding cycle_rows
-  cycle_one unbroken = by_test (cycle_starts t span i) refl
+  cycle_one unbroken = by_test (cycle_starts t stretch i) refl
     where
-      by_test : (starts : Bool) → cycle_starts t span i ≡ starts
+      by_test : (starts : Bool) → cycle_starts t stretch i ≡ starts
           → AtMostOne i 3 (cond starts (cycle_row i (levels_at t i) (least (rises t AS) (i + 1) end)
           (class_of (levels_at t i)) ∷ []) [])
       by_test true e = cycle_form i (levels_at t i) (least (rises t AS) (i + 1) end) (number i end listed few)
-          (edge (rises t AS) (i + 1) end few) (code_known t span i e unbroken)
+          (edge (rises t AS) (i + 1) end few) (code_known t stretch i e unbroken)
       by_test false e = tt
 
-  pub transfer_one : AtMostOne i 4 (transfer_rows t span end i)
+  pub transfer_one : AtMostOne i 4 (transfer_rows t stretch end i)
   unfolding transfer_rows is_row cycle_of
-  transfer_one = by_test (transfer_starts t span i)
+  transfer_one = by_test (transfer_starts t stretch i)
     where
-      pending : IsMiddle i 4 (PendingTransfer i (direction_of t span end i))
+      pending : IsMiddle i 4 (PendingTransfer i (direction_of t stretch end i))
       pending = record { allowed = number i end listed few; place = refl; no_start = refl; no_reset = refl }
 
-      answered : (r : ℕ) → r < end → (cycle : Option ℕ) → cycle_of t span r ≡ cycle
-          → IsMiddle i 4 (answered_row t span end i r cycle)
+      answered : (r : ℕ) → r < end → (cycle : Option ℕ) → cycle_of t stretch r ≡ cycle
+          → IsMiddle i 4 (answered_row t stretch end i r cycle)
       answered r below None e = pending
       answered r below (Some cycle) e =
-          let first = greatest-below (cycle_starts t span) (span.start + 1) (r + 1) cycle e in
+          let first = greatest-below (cycle_starts t stretch) (stretch.start + 1) (r + 1) cycle e in
           record {
             allowed =
                 and_from _ _
                 (and_from _ _ (and_from _ _ (and_from _ _ (number i end listed few)
                 (number cycle end (omega (arith, first)) few)) (number r end below few))
-                (edge (strobes_high t) (i + 1) end few)) (data_form t span end i r);
+                (edge (strobes_high t) (i + 1) end few)) (data_form t stretch end i r);
             place = refl;
             no_start = refl;
             no_reset = refl;
           }
 
-      by_answer : (o : Option ℕ) → ((r : ℕ) → o ≡ Some r → r < end) → IsMiddle i 4 (transfer_row t span end i o)
+      by_answer : (o : Option ℕ) → ((r : ℕ) → o ≡ Some r → r < end) → IsMiddle i 4 (transfer_row t stretch end i o)
       by_answer None h = pending
-      by_answer (Some r) h = answered r (h r refl) (cycle_of t span r) refl
+      by_answer (Some r) h = answered r (h r refl) (cycle_of t stretch r) refl
 
-      by_test : (starts : Bool) → AtMostOne i 4 (cond starts (transfer_row t span end i (least (answers t span i) i end)
+      by_test : (starts : Bool) → AtMostOne i 4 (cond starts (transfer_row t stretch end i
+          (least (answers t stretch i) i end)
           ∷ []) [])
-      by_test true = by_answer (least (answers t span i) i end)
-          (λ r e. (least-found (answers t span i) i end r e).below)
+      by_test true = by_answer (least (answers t stretch i) i end)
+          (λ r e. (least-found (answers t stretch i) i end r e).below)
       by_test false = tt

@@ -8,7 +8,7 @@ use Rattle.std.proofs.lemmas.Bool.Decides.{nat_tests}
 use Rattle.std.proofs.lemmas.Bool.{and_from, le-ltb, lt-ltb}
 use Rattle.vme_trace.specs.LineNumbers.{BBSY, line_count}
 use Rattle.vme_trace.specs.Trace.{Trace, last_instant}
-use Rattle.vme_trace.specs.Judged.{Stretch, IsSpanOf, is_judged, is_reset_at, judged_spans}
+use Rattle.vme_trace.specs.Judged.{Stretch, IsStretchOf, is_judged, is_reset_at, judged_stretches}
 use Rattle.vme_trace.specs.Transfers.{transfer_starts}
 use Rattle.vme_trace.specs.Cycles.{cycle_starts}
 use Rattle.vme_trace.specs.Tenures.{tenure_starts}
@@ -18,11 +18,12 @@ use Rattle.vme_trace.specs.Verdict.{least_break, least_of}
 use Rattle.vme_trace.specs.declared.rule.Rule.{Rule}
 use Rattle.vme_trace.specs.declared.rule.Rule.TheVariants.{U2, B4}
 use Rattle.vme_trace.specs.declared.verdict.Break.{Break}
-use Rattle.vme_trace.proofs.JudgedSpans.{AreInOrder, spans_in_order, starts_before_end}
+use Rattle.vme_trace.proofs.JudgedStretches.{AreInOrder, stretches_in_order, starts_before_end}
 use Rattle.vme_listing.specs.Places.{follows, is_allowed_outcome, is_later_place, is_never_idle, is_reset, is_rest}
 use Rattle.vme_listing.specs.Places.{is_row, is_start, is_verdict, is_well_placed, never_idles, place_of}
 use Rattle.vme_listing.specs.Recorded.{cycle_rows, listed_end, listing_before, listing_by, recorded_rows}
-use Rattle.vme_listing.specs.Recorded.{listing_of_spans, outcome_of, reset_rows, rows_before, rows_of_span, tenure_rows}
+use Rattle.vme_listing.specs.Recorded.{listing_of_stretches, outcome_of, reset_rows, rows_before, rows_of_stretch}
+use Rattle.vme_listing.specs.Recorded.{tenure_rows}
 use Rattle.vme_listing.specs.Recorded.{transfer_rows}
 use Rattle.vme_listing.specs.declared.row.Version.TheVariants.{Three}
 use Rattle.vme_listing.specs.declared.row.Row.{Row}
@@ -156,27 +157,27 @@ last_or_before : (i s : ℕ) → s < suc i → (s ≡ i) ⊎ (s < i)
 last_or_before i s h = grind arith
 
 module _ (t : Trace) (slots : t.opening.slots ≤ 21) (few : length t.steps < 2 ^ 32) where
-  module _ (span : Stretch) (end : ℕ) (within : end ≤ 2 ^ 32) where
-    -- no instant at the start of the span or before is judged
-    early : (i : ℕ) → i ≤ span.start → is_judged span i ≡ false
+  module _ (stretch : Stretch) (end : ℕ) (within : end ≤ 2 ^ 32) where
+    -- no instant at the start of the stretch or before is judged
+    early : (i : ℕ) → i ≤ stretch.start → is_judged stretch i ≡ false
     early i h = grind (arith, nat_tests)
 
-    early_tenures : (i : ℕ) → i < span.start → tenure_rows t span end i ≡ []
+    early_tenures : (i : ℕ) → i < stretch.start → tenure_rows t stretch end i ≡ []
     unfolding tenure_rows tenure_starts
-    early_tenures i h = rw (unlike i span.start h, early i (omega arith)) refl
+    early_tenures i h = rw (unlike i stretch.start h, early i (omega arith)) refl
       where
         unlike : (i s : ℕ) → i < s → (i == s) ≡ false
         unlike i s h = grind (arith, nat_tests)
 
-    early_cycles : (i : ℕ) → i ≤ span.start → cycle_rows t span end i ≡ []
+    early_cycles : (i : ℕ) → i ≤ stretch.start → cycle_rows t stretch end i ≡ []
     unfolding cycle_rows cycle_starts
     early_cycles i h = rw (early i h) refl
 
-    early_transfers : (i : ℕ) → i ≤ span.start → transfer_rows t span end i ≡ []
+    early_transfers : (i : ℕ) → i ≤ stretch.start → transfer_rows t stretch end i ≡ []
     unfolding transfer_rows transfer_starts
     early_transfers i h = rw (early i h) refl
 
-    none_before : (i : ℕ) → i ≤ span.start → rows_before t span end i ≡ []
+    none_before : (i : ℕ) → i ≤ stretch.start → rows_before t stretch end i ≡ []
     unfolding rows_before
     none_before zero h = refl
     none_before (suc i) h = rw (
@@ -187,10 +188,12 @@ module _ (t : Trace) (slots : t.opening.slots ≤ 21) (few : length t.steps < 2 
       early_transfers i (omega arith),
     ) refl
 
-    module _ (needed : (i l : ℕ) → i < end → l < line_count → breaks t span U2 i l ≡ false) (taken : (i l : ℕ) → i < end
-        → l < line_count → breaks t span B4 i l ≡ false) where
+    module _ (needed : (i l : ℕ) → i < end → l < line_count → breaks t stretch U2 i l ≡ false)
+        (taken : (i l : ℕ) → i < end
+        → l < line_count → breaks t stretch B4 i l ≡ false) where
       abbrev rows_at : ℕ → List Row → List Row
-      rows_at i more = tenure_rows t span end i ++ (cycle_rows t span end i ++ (transfer_rows t span end i ++ more))
+      rows_at i more = tenure_rows t stretch end i ++ (cycle_rows t stretch end i
+          ++ (transfer_rows t stretch end i ++ more))
 
       -- the rows that begin at instant i, and `more`, may follow `before`, if `more` may follow each row that precedes
       -- instant i + 1
@@ -198,78 +201,81 @@ module _ (t : Trace) (slots : t.opening.slots ≤ 21) (few : length t.steps < 2 
           → ((row : Row) → Precedes row (suc i) 0 → is_rest Three (Some row) more ≡ true) → is_rest Three (Some before)
           (rows_at i more) ≡ true
       placed_at i below before p more rest =
-          let cycles = cycle_rows t span end i in
-          let transfers = transfer_rows t span end i in
-          group before i 2 (tenure_rows t span end i) (cycles ++ (transfers ++ more))
-          (tenure_one t span end within i below slots (taken i BBSY below (omega arith))) p
-          (λ b pb. group b i 3 cycles (transfers ++ more) (cycle_one t span end within i below
+          let cycles = cycle_rows t stretch end i in
+          let transfers = transfer_rows t stretch end i in
+          group before i 2 (tenure_rows t stretch end i) (cycles ++ (transfers ++ more))
+          (tenure_one t stretch end within i below slots (taken i BBSY below (omega arith))) p
+          (λ b pb. group b i 3 cycles (transfers ++ more) (cycle_one t stretch end within i below
           (λ l there. needed i l below there)) pb
-          (λ c pc. group c i 4 transfers more (transfer_one t span end within i below) pc
+          (λ c pc. group c i 4 transfers more (transfer_one t stretch end within i below) pc
           (λ d pd. rest d (later d i (suc i) 5 0 (inl (omega arith)) pd))))
 
-      -- the rows that begin before instant n, and `more`, may follow the start of the span, if `more` may follow each
-      -- row that precedes instant n
-      placed_before : (n : ℕ) → span.start < n → n ≤ end → (more : List Row)
+      -- the rows that begin before instant n, and `more`, may follow the start of the stretch, if `more` may follow
+      -- each row that precedes instant n
+      placed_before : (n : ℕ) → stretch.start < n → n ≤ end → (more : List Row)
           → ((row : Row) → Precedes row n 0 → is_rest Three (Some row) more ≡ true)
-          → is_rest Three (Some (Start span.start)) (rows_before t span end n ++ more) ≡ true
+          → is_rest Three (Some (Start stretch.start)) (rows_before t stretch end n ++ more) ≡ true
       unfolding rows_before
       placed_before zero after below more rest = absurd (omega arith)
       placed_before (suc i) after below more rest =
-          let tenures = tenure_rows t span end i in
-          let cycles = cycle_rows t span end i in
-          let transfers = transfer_rows t span end i in
-          let split : rows_before t span end (suc i) ++ more ≡ rows_before t span end i ++ rows_at i more = simp
+          let tenures = tenure_rows t stretch end i in
+          let cycles = cycle_rows t stretch end i in
+          let transfers = transfer_rows t stretch end i in
+          let split : rows_before t stretch end (suc i) ++ more ≡ rows_before t stretch end i ++ rows_at i more = simp
           append_assoc in
-          subst (λ rows. is_rest Three (Some (Start span.start)) rows ≡ true) (sym split)
-          (elim (last_or_before i span.start after) [
+          subst (λ rows. is_rest Three (Some (Start stretch.start)) rows ≡ true) (sym split)
+          (elim (last_or_before i stretch.start after) [
             | inl same ↦
-                subst (λ rows. is_rest Three (Some (Start span.start)) (rows ++ rows_at i more) ≡ true)
+                subst (λ rows. is_rest Three (Some (Start stretch.start)) (rows ++ rows_at i more) ≡ true)
                 (sym (none_before i (omega arith)))
-                (placed_at i (omega arith) (Start span.start) (later (Start span.start) span.start i 2 2
-                (inr (same, omega arith)) (after_start span.start)) more rest)
+                (placed_at i (omega arith) (Start stretch.start) (later (Start stretch.start) stretch.start i 2 2
+                (inr (same, omega arith)) (after_start stretch.start)) more rest)
             | inr before ↦
                 placed_before i before (omega arith) (rows_at i more)
                 (λ a pa. placed_at i (omega arith) a (later a i i 0 2 (inr (refl, omega arith)) pa) more rest)
           ])
 
-  -- the instant and line of the least break of spans that follow one another, the first of which starts at `first`
+  -- the instant and line of the least break of stretches that follow one another, the first of which starts at `first`
   record IsNamed (first : ℕ) (b : Break) : Type 0 where
     after : first < b.instant
     below : b.instant < last_instant t + 1
     line : b.line < line_count
 
-  by_first : (span : Stretch) (spans : List Stretch) (b : Break) → IsSpanOf t span → least_break t span all_rules
-      ≡ Some b → IsNamed span.start b
-  by_first span spans b is e =
-      let there = least_break-within t span all_rules b e in
+  by_first : (stretch : Stretch) (stretches : List Stretch) (b : Break) → IsStretchOf t stretch
+      → least_break t stretch all_rules
+      ≡ Some b → IsNamed stretch.start b
+  by_first stretch stretches b is e =
+      let there = least_break-within t stretch all_rules b e in
       record {
-        after = (least_break-judged t span all_rules b (starts_before_end t span is) e).0;
+        after = (least_break-judged t stretch all_rules b (starts_before_end t stretch is) e).0;
         below = there.0;
         line
             = there.1;
       }
 
-  named : (span : Stretch) (spans : List Stretch) (b : Break) → AreInOrder t (span ∷ spans) → least_of all_rules t
-      (span ∷ spans) ≡ Some b → IsNamed span.start b
-  named span [] b order e = by_first span [] b order e
-  named span (next ∷ spans) b order e =
-      elim (either (least_break t span all_rules) (least_of all_rules t (next ∷ spans)) b e) [
-        | inl here ↦ by_first span (next ∷ spans) b order.0 here
+  named : (stretch : Stretch) (stretches : List Stretch) (b : Break) → AreInOrder t (stretch ∷ stretches)
+      → least_of all_rules t
+      (stretch ∷ stretches) ≡ Some b → IsNamed stretch.start b
+  named stretch [] b order e = by_first stretch [] b order e
+  named stretch (next ∷ stretches) b order e =
+      elim (either (least_break t stretch all_rules) (least_of all_rules t (next ∷ stretches)) b e) [
+        | inl here ↦ by_first stretch (next ∷ stretches) b order.0 here
         | inr later ↦
-            let is = named next spans b order.3 later.1 in
+            let is = named next stretches b order.3 later.1 in
             record {
-              after = omega (arith, starts_before_end t span order.0, order.2, is.after);
+              after = omega (arith, starts_before_end t stretch order.0, order.2, is.after);
               below = is.below;
               line
                   = is.line;
             }
       ]
 
-  outcome_form : (span : Stretch) (spans : List Stretch) → AreInOrder t (span ∷ spans) → (found : Option Break)
-      → least_of all_rules t (span ∷ spans) ≡ found → is_allowed_outcome (outcome_of found) ≡ true
-  outcome_form span spans order None e = refl
-  outcome_form span spans order (Some b) e =
-      let is = named span spans b order e in
+  outcome_form : (stretch : Stretch) (stretches : List Stretch) → AreInOrder t (stretch ∷ stretches)
+      → (found : Option Break)
+      → least_of all_rules t (stretch ∷ stretches) ≡ found → is_allowed_outcome (outcome_of found) ≡ true
+  outcome_form stretch stretches order None e = refl
+  outcome_form stretch stretches order (Some b) e =
+      let is = named stretch stretches b order e in
       by_rule (is_unreadable b.rule) refl (number b.instant (last_instant t + 1) is.below (omega arith))
       (lt-ltb b.line line_count is.line)
     where
@@ -278,93 +284,107 @@ module _ (t : Trace) (slots : t.opening.slots ≤ 21) (few : length t.steps < 2 
       by_rule true h n l = rw (h, h, n, l) refl
       by_rule false h n l = rw (h, h, n, l) refl
 
-  -- the limit is after the start of the first span, and at most one more than the last instant
-  record IsLimit (span : Stretch) (limit : ℕ) : Type 0 where
-    after : span.start < limit
+  -- the limit is after the start of the first stretch, and at most one more than the last instant
+  record IsLimit (stretch : Stretch) (limit : ℕ) : Type 0 where
+    after : stretch.start < limit
     most : limit ≤ last_instant t + 1
 
-  limit_form : (span : Stretch) (spans : List Stretch) → AreInOrder t (span ∷ spans) → (found : Option Break)
-      → least_of all_rules t (span ∷ spans) ≡ found → IsLimit span (listed_end t found)
-  limit_form span spans order None e = record { after = omega (arith, (first spans order).within); most = omega arith }
+  limit_form : (stretch : Stretch) (stretches : List Stretch) → AreInOrder t (stretch ∷ stretches)
+      → (found : Option Break)
+      → least_of all_rules t (stretch ∷ stretches) ≡ found → IsLimit stretch (listed_end t found)
+  limit_form stretch stretches order None e = record {
+    after = omega (arith, (first stretches order).within);
+    most =
+        omega arith;
+  }
     where
-      first : (spans : List Stretch) → AreInOrder t (span ∷ spans) → IsSpanOf t span
+      first : (stretches : List Stretch) → AreInOrder t (stretch ∷ stretches) → IsStretchOf t stretch
       first [] order = order
-      first (next ∷ spans) order = order.0
-  limit_form span spans order (Some b) e = let is = named span spans b order e in
+      first (next ∷ stretches) order = order.0
+  limit_form stretch stretches order (Some b) e = let is = named stretch stretches b order e in
       record { after = is.after; most = omega (arith, is.below) }
 
-  -- at each listed instant of the span U2 and B4 aren't broken: the lines that a cycle needs are known, and a tenure is
-  -- of a slot that exists
+  -- at each listed instant of the stretch U2 and B4 aren't broken: the lines that a cycle needs are known, and a tenure
+  -- is of a slot that exists
   abbrev IsUnbroken : ℕ → Stretch → Type 0
-  IsUnbroken limit span = (i l : ℕ) → span.start < limit → i < limit → l < line_count → (breaks t span U2 i l ≡ false)
-      × (breaks t span B4 i l ≡ false)
+  IsUnbroken limit stretch = (i l : ℕ) → stretch.start < limit → i < limit → l < line_count
+      → (breaks t stretch U2 i l ≡ false)
+      × (breaks t stretch B4 i l ≡ false)
 
   abbrev AreUnbroken : ℕ → List Stretch → Type 0
   AreUnbroken limit [] = Unit {0}
-  AreUnbroken limit (span ∷ spans) = IsUnbroken limit span × AreUnbroken limit spans
+  AreUnbroken limit (stretch ∷ stretches) = IsUnbroken limit stretch × AreUnbroken limit stretches
 
-  past_limit : (limit : ℕ) (span : Stretch) (spans : List Stretch) → AreInOrder t (span ∷ spans) → limit ≤ span.start
-      → AreUnbroken limit (span ∷ spans)
-  past_limit limit span [] order h = (λ i l first. absurd (omega arith), tt)
-  past_limit limit span (next ∷ spans) order h = (
+  past_limit : (limit : ℕ) (stretch : Stretch) (stretches : List Stretch) → AreInOrder t (stretch ∷ stretches)
+      → limit ≤ stretch.start
+      → AreUnbroken limit (stretch ∷ stretches)
+  past_limit limit stretch [] order h = (λ i l first. absurd (omega arith), tt)
+  past_limit limit stretch (next ∷ stretches) order h = (
     λ i l first. absurd (omega arith),
-    past_limit limit next spans order.3
-        (omega (arith, starts_before_end t span order.0, order.2)),
+    past_limit limit next stretches order.3
+        (omega (arith, starts_before_end t stretch order.0, order.2)),
   )
 
-  held_always : (span : Stretch) → least_break t span all_rules ≡ None → (limit : ℕ) → limit ≤ last_instant t + 1
-      → IsUnbroken limit span
-  held_always span e limit most i l first below there = (
-    unbroken_always t span (rules_before U2) (rules_after U2) U2 i l e (omega arith) there,
-    unbroken_always t span (rules_before B4)
+  held_always : (stretch : Stretch) → least_break t stretch all_rules ≡ None → (limit : ℕ) → limit ≤ last_instant t + 1
+      → IsUnbroken limit stretch
+  held_always stretch e limit most i l first below there = (
+    unbroken_always t stretch (rules_before U2) (rules_after U2) U2 i l e (omega arith) there,
+    unbroken_always t stretch (rules_before B4)
         (rules_after B4) B4 i l e (omega arith) there,
   )
 
-  held_before : (span : Stretch) (b : Break) → least_break t span all_rules ≡ Some b → IsUnbroken b.instant span
-  held_before span b e i l first below there = (
-    unbroken_before t span (rules_before U2) (rules_after U2) U2 b i l e below there,
-    unbroken_before t span (rules_before B4) (rules_after B4)
+  held_before : (stretch : Stretch) (b : Break) → least_break t stretch all_rules ≡ Some b
+      → IsUnbroken b.instant stretch
+  held_before stretch b e i l first below there = (
+    unbroken_before t stretch (rules_before U2) (rules_after U2) U2 b i l e below there,
+    unbroken_before t stretch (rules_before B4) (rules_after B4)
         B4 b i l e below there,
   )
 
-  unbroken : (span : Stretch) (spans : List Stretch) → AreInOrder t (span ∷ spans) → (found : Option Break)
-      → least_of all_rules t (span ∷ spans) ≡ found → AreUnbroken (listed_end t found) (span ∷ spans)
-  unbroken span [] order None e = (held_always span e (last_instant t + 1) (omega arith), tt)
-  unbroken span [] order (Some b) e = (held_before span b e, tt)
-  unbroken span (next ∷ spans) order None e =
-      let none = neither (least_break t span all_rules) (least_of all_rules t (next ∷ spans)) e in
-      (held_always span none.0 (last_instant t + 1) (omega arith), unbroken next spans order.3 None none.1)
-  unbroken span (next ∷ spans) order (Some b) e =
-      elim (either (least_break t span all_rules) (least_of all_rules t (next ∷ spans)) b e) [
+  unbroken : (stretch : Stretch) (stretches : List Stretch) → AreInOrder t (stretch ∷ stretches)
+      → (found : Option Break)
+      → least_of all_rules t (stretch ∷ stretches) ≡ found → AreUnbroken (listed_end t found) (stretch ∷ stretches)
+  unbroken stretch [] order None e = (held_always stretch e (last_instant t + 1) (omega arith), tt)
+  unbroken stretch [] order (Some b) e = (held_before stretch b e, tt)
+  unbroken stretch (next ∷ stretches) order None e =
+      let none = neither (least_break t stretch all_rules) (least_of all_rules t (next ∷ stretches)) e in
+      (held_always stretch none.0 (last_instant t + 1) (omega arith), unbroken next stretches order.3 None none.1)
+  unbroken stretch (next ∷ stretches) order (Some b) e =
+      elim (either (least_break t stretch all_rules) (least_of all_rules t (next ∷ stretches)) b e) [
         | inl here ↦
-            let judged = least_break-judged t span all_rules b (starts_before_end t span order.0) here in
-            (held_before span b here, past_limit b.instant next spans order.3 (omega (arith, judged.1, order.2)))
+            let judged = least_break-judged t stretch all_rules b (starts_before_end t stretch order.0) here in
+            (held_before stretch b here, past_limit b.instant next stretches order.3 (omega (arith, judged.1, order.2)))
         | inr later ↦
-            let is = named next spans b order.3 later.1 in
-            (held_always span later.0 b.instant (omega (arith, is.below)), unbroken next spans order.3 (Some b) later.1)
+            let is = named next stretches b order.3 later.1 in (
+              held_always stretch later.0 b.instant (omega (arith, is.below)),
+              unbroken next stretches order.3 (Some b) later.1,
+            )
       ]
 
   module _ (limit : ℕ) (most : limit ≤ last_instant t + 1) where
-    -- a span that starts at the limit or later has no rows
-    none_of : (span : Stretch) → limit ≤ span.start → rows_of_span t limit span ≡ []
-    unfolding rows_of_span
-    none_of span h = rw (le-ltb span.start limit h) refl
+    -- a stretch that starts at the limit or later has no rows
+    none_of : (stretch : Stretch) → limit ≤ stretch.start → rows_of_stretch t limit stretch ≡ []
+    unfolding rows_of_stretch
+    none_of stretch h = rw (le-ltb stretch.start limit h) refl
 
-    unlisted : (span : Stretch) (spans : List Stretch) → AreInOrder t (span ∷ spans) → limit ≤ span.start
-        → flat_map (rows_of_span t limit) (span ∷ spans) ≡ []
-    unlisted span [] order h = rw (none_of span h) refl
-    unlisted span (next ∷ spans) order h = rw (none_of span h)
-        (unlisted next spans order.3 (omega (arith, starts_before_end t span order.0, order.2)))
+    unlisted : (stretch : Stretch) (stretches : List Stretch) → AreInOrder t (stretch ∷ stretches)
+        → limit ≤ stretch.start
+        → flat_map (rows_of_stretch t limit) (stretch ∷ stretches) ≡ []
+    unlisted stretch [] order h = rw (none_of stretch h) refl
+    unlisted stretch (next ∷ stretches) order h = rw (none_of stretch h)
+        (unlisted next stretches order.3 (omega (arith, starts_before_end t stretch order.0, order.2)))
 
-    -- the rows of a span after its start, where the start is listed
+    -- the rows of a stretch after its start, where the start is listed
     abbrev rows_behind : Stretch → List Row
-    rows_behind span = rows_before t span (min span.end limit) (min span.end limit) ++ reset_rows t limit span
+    rows_behind stretch = rows_before t stretch (min stretch.end limit) (min stretch.end limit)
+        ++ reset_rows t limit stretch
 
-    all_of : (span : Stretch) → span.start < limit → rows_of_span t limit span ≡ Start span.start ∷ rows_behind span
-    unfolding rows_of_span
-    all_of span h = rw (lt-ltb span.start limit h) refl
+    all_of : (stretch : Stretch) → stretch.start < limit → rows_of_stretch t limit stretch ≡ Start stretch.start
+        ∷ rows_behind stretch
+    unfolding rows_of_stretch
+    all_of stretch h = rw (lt-ltb stretch.start limit h) refl
 
-    -- a reset may follow a row that precedes its place, and the start of a later span may follow the reset
+    -- a reset may follow a row that precedes its place, and the start of a later stretch may follow the reset
     reset_follows : (row : Row) (i : ℕ) → i < limit → Precedes row i 0 → follows Three (Some row) (Reset i) ≡ true
     unfolding is_row
     reset_follows row i below p = follows_on row (Reset i) i 0 p (number i limit below (omega arith)) refl refl
@@ -381,44 +401,51 @@ module _ (t : Trace) (slots : t.opening.slots ≤ 21) (few : length t.steps < 2 
       abbrev verdict : List Row
       verdict = Verdict (outcome_of found) ∷ []
 
-      -- the rows of spans that follow one another, and the verdict
+      -- the rows of stretches that follow one another, and the verdict
       abbrev rows_of : List Stretch → List Row
-      rows_of spans = flat_map (rows_of_span t limit) spans ++ verdict
+      rows_of stretches = flat_map (rows_of_stretch t limit) stretches ++ verdict
 
-      rows_split : (span : Stretch) (spans : List Stretch) → span.start < limit → rows_of (span ∷ spans)
-          ≡ Start span.start ∷ rows_behind span ++ rows_of spans
-      rows_split span spans h =
-          ap (λ rows. (rows ++ flat_map (rows_of_span t limit) spans) ++ verdict) (all_of span h)
-          ∙ ap (λ rows. Start span.start ∷ rows)
-          (append_assoc (rows_behind span) (flat_map (rows_of_span t limit) spans) verdict)
+      rows_split : (stretch : Stretch) (stretches : List Stretch) → stretch.start < limit
+          → rows_of (stretch ∷ stretches)
+          ≡ Start stretch.start ∷ rows_behind stretch ++ rows_of stretches
+      rows_split stretch stretches h =
+          ap (λ rows. (rows ++ flat_map (rows_of_stretch t limit) stretches) ++ verdict) (all_of stretch h)
+          ∙ ap (λ rows. Start stretch.start ∷ rows)
+          (append_assoc (rows_behind stretch) (flat_map (rows_of_stretch t limit) stretches) verdict)
 
-      -- where the reset of a span isn't listed, the later spans have no rows, and the verdict follows
-      only_verdict : (span : Stretch) (spans : List Stretch) → AreInOrder t (span ∷ spans)
-          → (is_reset_at t span.end && nat_lt span.end limit) ≡ false → rows_of spans ≡ verdict
-      only_verdict span [] order e = refl
-      only_verdict span (next ∷ spans) order e =
+      -- where the reset of a stretch isn't listed, the later stretches have no rows, and the verdict follows
+      only_verdict : (stretch : Stretch) (stretches : List Stretch) → AreInOrder t (stretch ∷ stretches)
+          → (is_reset_at t stretch.end && nat_lt stretch.end limit) ≡ false → rows_of stretches ≡ verdict
+      only_verdict stretch [] order e = refl
+      only_verdict stretch (next ∷ stretches) order e =
           ap (λ rows. rows ++ verdict)
-          (unlisted next spans order.3 (omega (arith, order.2, past (is_reset_at t span.end) span.end order.1 e)))
+          (unlisted next stretches order.3 (omega (
+            arith,
+            order.2,
+            past (is_reset_at t stretch.end) stretch.end order.1 e,
+          )))
         where
           past : (b : Bool) (n : ℕ) → b ≡ true → (b && nat_lt n limit) ≡ false → limit ≤ n
           past b n h e = grind (arith, nat_tests)
 
-      -- the rows of a span may follow its start, and after them what may follow its reset, where that is listed
-      span_placed : (span : Stretch) (spans : List Stretch) → AreInOrder t (span ∷ spans) → IsUnbroken limit span
-          → span.start < span.end → span.start < limit
-          → ((is_reset_at t span.end && nat_lt span.end limit) ≡ true → is_rest Three (Some (Reset span.end))
-          (rows_of spans) ≡ true)
-          → is_rest Three (Some (Start span.start)) (rows_behind span ++ rows_of spans) ≡ true
+      -- the rows of a stretch may follow its start, and after them what may follow its reset, where that is listed
+      stretch_placed : (stretch : Stretch) (stretches : List Stretch) → AreInOrder t (stretch ∷ stretches)
+          → IsUnbroken limit stretch
+          → stretch.start < stretch.end → stretch.start < limit
+          → ((is_reset_at t stretch.end && nat_lt stretch.end limit) ≡ true → is_rest Three (Some (Reset stretch.end))
+          (rows_of stretches) ≡ true)
+          → is_rest Three (Some (Start stretch.start)) (rows_behind stretch ++ rows_of stretches) ≡ true
       unfolding is_rest
-      span_placed span spans order held whole listed after =
-          let end = min span.end limit in
-          subst (λ rows. is_rest Three (Some (Start span.start)) rows ≡ true)
-          (sym (append_assoc (rows_before t span end end) (reset_rows t limit span) (rows_of spans)))
-          (placed_before span end (omega (arith, min-le_right span.end limit))
-          (λ i l below there. (held i l listed (omega (arith, min-le_right span.end limit)) there).0)
-          (λ i l below there. (held i l listed (omega (arith, min-le_right span.end limit)) there).1)
-          end (lesser span.start span.end limit whole listed) (omega arith) (reset_rows t limit span ++ rows_of spans)
-          (λ row p. by_reset row p (is_reset_at t span.end && nat_lt span.end limit) refl))
+      stretch_placed stretch stretches order held whole listed after =
+          let end = min stretch.end limit in
+          subst (λ rows. is_rest Three (Some (Start stretch.start)) rows ≡ true)
+          (sym (append_assoc (rows_before t stretch end end) (reset_rows t limit stretch) (rows_of stretches)))
+          (placed_before stretch end (omega (arith, min-le_right stretch.end limit))
+          (λ i l below there. (held i l listed (omega (arith, min-le_right stretch.end limit)) there).0)
+          (λ i l below there. (held i l listed (omega (arith, min-le_right stretch.end limit)) there).1)
+          end (lesser stretch.start stretch.end limit whole listed) (omega arith)
+          (reset_rows t limit stretch ++ rows_of stretches)
+          (λ row p. by_reset row p (is_reset_at t stretch.end && nat_lt stretch.end limit) refl))
         where
           lesser : (s a b : ℕ) → s < a → s < b → s < min a b
           lesser s a b h k = grind (arith, nat_tests)
@@ -426,59 +453,71 @@ module _ (t : Trace) (slots : t.opening.slots ≤ 21) (few : length t.steps < 2 
           below_limit : (b : Bool) (n : ℕ) → (b && nat_lt n limit) ≡ true → n < limit
           below_limit b n e = grind (arith, nat_tests)
 
-          by_reset : (row : Row) → Precedes row (min span.end limit) 0 → (b : Bool)
-              → (is_reset_at t span.end && nat_lt span.end limit) ≡ b
-              → is_rest Three (Some row) (cond b (Reset span.end ∷ []) [] ++ rows_of spans) ≡ true
+          by_reset : (row : Row) → Precedes row (min stretch.end limit) 0 → (b : Bool)
+              → (is_reset_at t stretch.end && nat_lt stretch.end limit) ≡ b
+              → is_rest Three (Some row) (cond b (Reset stretch.end ∷ []) [] ++ rows_of stretches) ≡ true
           by_reset row p true e =
-              let below = below_limit (is_reset_at t span.end) span.end e in
-              and_from _ _ (reset_follows row span.end below (subst (λ i. Precedes row i 0) (min-eq_left (omega arith))
+              let below = below_limit (is_reset_at t stretch.end) stretch.end e in
+              and_from _ _ (reset_follows row stretch.end below (subst (λ i. Precedes row i 0)
+              (min-eq_left (omega arith))
               p)) (after e)
           by_reset row p false e = subst (λ rows. is_rest Three (Some row) rows ≡ true)
-              (sym (only_verdict span spans order e)) (last_is row found is p.unfinished)
+              (sym (only_verdict stretch stretches order e)) (last_is row found is p.unfinished)
 
-      -- the rows of a span, those of the spans after it and the verdict may follow the start of the span
-      behind_start : (span : Stretch) (spans : List Stretch) → AreInOrder t (span ∷ spans) → AreUnbroken limit
-          (span ∷ spans) → span.start < limit → is_rest Three (Some (Start span.start)) (rows_behind span
-          ++ rows_of spans) ≡ true
+      -- the rows of a stretch, those of the stretches after it and the verdict may follow the start of the stretch
+      behind_start : (stretch : Stretch) (stretches : List Stretch) → AreInOrder t (stretch ∷ stretches)
+          → AreUnbroken limit
+          (stretch ∷ stretches) → stretch.start < limit → is_rest Three (Some (Start stretch.start))
+          (rows_behind stretch
+          ++ rows_of stretches) ≡ true
       unfolding is_rest
-      behind_start span [] order held listed =
-          span_placed span [] order held.0 (starts_before_end t span order) listed (λ reset. last_is (Reset span.end)
+      behind_start stretch [] order held listed =
+          stretch_placed stretch [] order held.0 (starts_before_end t stretch order) listed
+          (λ reset. last_is (Reset stretch.end)
           found is refl)
-      behind_start span (next ∷ spans) order held listed =
-          span_placed span (next ∷ spans) order held.0 (starts_before_end t span order.0) listed
+      behind_start stretch (next ∷ stretches) order held listed =
+          stretch_placed stretch (next ∷ stretches) order held.0 (starts_before_end t stretch order.0) listed
           (λ reset.
           elim (by_limit next.start) [
             | inl below ↦
-                subst (λ rows. is_rest Three (Some (Reset span.end)) rows ≡ true) (sym (rows_split next spans below))
-                (and_from _ _ (start_follows span.end next.start order.2 below) (behind_start next spans order.3 held.1
+                subst (λ rows. is_rest Three (Some (Reset stretch.end)) rows ≡ true)
+                (sym (rows_split next stretches below))
+                (and_from _ _ (start_follows stretch.end next.start order.2 below)
+                (behind_start next stretches order.3 held.1
                 below))
             | inr past ↦
-                subst (λ rows. is_rest Three (Some (Reset span.end)) rows ≡ true)
-                (sym (ap (λ rows. rows ++ verdict) (unlisted next spans order.3 past)))
-                (last_is (Reset span.end) found is refl)
+                subst (λ rows. is_rest Three (Some (Reset stretch.end)) rows ≡ true)
+                (sym (ap (λ rows. rows ++ verdict) (unlisted next stretches order.3 past)))
+                (last_is (Reset stretch.end) found is refl)
           ])
         where
           by_limit : (n : ℕ) → (n < limit) ⊎ (limit ≤ n)
           by_limit n = grind arith
 
-  all_placed : (span : Stretch) (spans : List Stretch) → AreInOrder t (span ∷ spans) → (found : Option Break)
-      → least_of all_rules t (span ∷ spans) ≡ found → is_rest Three None (listing_before t (span ∷ spans) found) ≡ true
+  all_placed : (stretch : Stretch) (stretches : List Stretch) → AreInOrder t (stretch ∷ stretches)
+      → (found : Option Break)
+      → least_of all_rules t (stretch ∷ stretches) ≡ found → is_rest Three None
+      (listing_before t (stretch ∷ stretches) found) ≡ true
   unfolding is_rest follows is_row
-  all_placed span spans order found e =
+  all_placed stretch stretches order found e =
       let limit = listed_end t found in
-      let form = limit_form span spans order found e in
-      let is = outcome_form span spans order found e in
-      subst (λ rows. is_rest Three None rows ≡ true) (sym (rows_split limit form.most found is span spans form.after))
-      (and_from _ _ (and_from _ _ (and_from _ _ (number span.start limit form.after (omega (arith, form.most))) refl)
-      refl) (behind_start limit form.most found is span spans order (unbroken span spans order found e) form.after))
+      let form = limit_form stretch stretches order found e in
+      let is = outcome_form stretch stretches order found e in
+      subst (λ rows. is_rest Three None rows ≡ true) (sym (rows_split limit form.most found is stretch stretches
+      form.after))
+      (and_from _ _ (and_from _ _ (and_from _ _ (number stretch.start limit form.after (omega (arith, form.most))) refl)
+      refl) (behind_start limit form.most found is stretch stretches order (unbroken stretch stretches order found e)
+      form.after))
 
 -- the listing of a recording of at most 21 slots and fewer than 2^32 steps is well placed
 pub listing_placed : (t : Trace) → t.opening.slots ≤ 21 → length t.steps < 2 ^ 32
     → is_well_placed (record { version = Three; rows = recorded_rows t }) ≡ true
 unfolding listing_by is_rest follows is_row
-listing_placed t slots few = by_spans (judged_spans t) (spans_in_order t)
+listing_placed t slots few = by_stretches (judged_stretches t) (stretches_in_order t)
   where
-    by_spans : (spans : List Stretch) → AreInOrder t spans → is_rest Three None (listing_of_spans all_rules t spans)
+    by_stretches : (stretches : List Stretch) → AreInOrder t stretches
+        → is_rest Three None (listing_of_stretches all_rules t stretches)
         ≡ true
-    by_spans [] order = refl
-    by_spans (span ∷ spans) order = all_placed t slots few span spans order (least_of all_rules t (span ∷ spans)) refl
+    by_stretches [] order = refl
+    by_stretches (stretch ∷ stretches) order = all_placed t slots few stretch stretches order
+        (least_of all_rules t (stretch ∷ stretches)) refl

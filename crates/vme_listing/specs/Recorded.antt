@@ -1,5 +1,5 @@
--- The listing of a recording: the starts and resets of the judged spans, the tenures, cycles and transfers, before the
--- least break; and the verdict.
+-- The listing of a recording: the starts and resets of the judged stretches, the tenures, cycles and transfers, before
+-- the least break; and the verdict.
 use Rattle.std.specs.Prelude.{ℕ, zero, suc, ◌+◌, ◌/◌, ◌^◌, ◌==◌, ◌&&◌, List, [], ◌∷◌, ◌++◌, map, flat_map}
 use Rattle.std.specs.Prelude.{min, nat_lt, Option, None, Some, if◌then◌else◌}
 use Rattle.vme_trace.specs.Instants.{least}
@@ -8,7 +8,7 @@ use Rattle.vme_trace.specs.Levels.{Levels, level_at, is_high}
 use Rattle.vme_trace.specs.Cycle.{modifier_of, highest_address, class_of}
 use Rattle.vme_trace.specs.Trace.{Trace, levels_at, last_instant}
 use Rattle.vme_trace.specs.Signals.{low, falls, rises}
-use Rattle.vme_trace.specs.Judged.{Stretch, is_reset_at, judged_spans}
+use Rattle.vme_trace.specs.Judged.{Stretch, is_reset_at, judged_stretches}
 use Rattle.vme_trace.specs.Transfers.{strobes_high, transfer_starts, answers, is_write, data_at}
 use Rattle.vme_trace.specs.Cycles.{cycle_starts, cycle_of}
 use Rattle.vme_trace.specs.Tenures.{tenure_starts, tenure_level, tenure_slot}
@@ -56,29 +56,29 @@ tenure_row i (Some level) None end = []
 tenure_row i (Some level) (Some slot) end = Tenure i level slot end ∷ []
 
 -- end: the first instant that isn't listed
-module _ (t : Trace) (span : Stretch) (end : ℕ) where
-  -- a tenure starts where the bus becomes busy, and is open at the start of the span where the bus is busy there; it
+module _ (t : Trace) (stretch : Stretch) (end : ℕ) where
+  -- a tenure starts where the bus becomes busy, and is open at the start of the stretch where the bus is busy there; it
   -- ends where the bus is next free
   unfoldable pub tenure_rows : ℕ → List Row
   tenure_rows i =
-      if (i == span.start) && low t BBSY i then OpenTenure i (least (rises t BBSY) (i + 1) end) ∷ []
-      else if tenure_starts t span i then tenure_row i (tenure_level t i) (tenure_slot t i)
+      if (i == stretch.start) && low t BBSY i then OpenTenure i (least (rises t BBSY) (i + 1) end) ∷ []
+      else if tenure_starts t stretch i then tenure_row i (tenure_level t i) (tenure_slot t i)
       (least (rises t BBSY) (i + 1) end)
       else []
 
   unfoldable pub cycle_rows : ℕ → List Row
-  cycle_rows i = if cycle_starts t span i then cycle_row i (levels_at t i) (least (rises t AS) (i + 1) end)
+  cycle_rows i = if cycle_starts t stretch i then cycle_row i (levels_at t i) (least (rises t AS) (i + 1) end)
       (class_of (levels_at t i)) ∷ [] else []
 
   abbrev pub direction_of : ℕ → Direction
-  direction_of i = if is_write t span i then Write else Read
+  direction_of i = if is_write t stretch i then Write else Read
 
   abbrev pub answer_line : ℕ → AnswerLine
   answer_line r = if falls t DTACK r then Dtack else Berr
 
   -- the data of a write, by its answer at r; None for a read
   abbrev pub data_of : ℕ → ℕ → Option Lanes
-  data_of i r = if is_write t span i then Some (data_at t span r) else None
+  data_of i r = if is_write t stretch i then Some (data_at t stretch r) else None
 
   -- an answer outside every cycle breaks a rule, so it isn't listed
   abbrev pub answered_row : ℕ → ℕ → Option ℕ → Row
@@ -88,10 +88,10 @@ module _ (t : Trace) (span : Stretch) (end : ℕ) where
 
   abbrev pub transfer_row : ℕ → Option ℕ → Row
   transfer_row i None = PendingTransfer i (direction_of i)
-  transfer_row i (Some r) = answered_row i r (cycle_of t span r)
+  transfer_row i (Some r) = answered_row i r (cycle_of t stretch r)
 
   unfoldable pub transfer_rows : ℕ → List Row
-  transfer_rows i = if transfer_starts t span i then transfer_row i (least (answers t span i) i end) ∷ [] else []
+  transfer_rows i = if transfer_starts t stretch i then transfer_row i (least (answers t stretch i) i end) ∷ [] else []
 
   -- the rows of the tenures, cycles and transfers that begin before an instant
   unfoldable pub rows_before : ℕ → List Row
@@ -99,19 +99,20 @@ module _ (t : Trace) (span : Stretch) (end : ℕ) where
   rows_before (suc i) = rows_before i ++ tenure_rows i ++ cycle_rows i ++ transfer_rows i
 
 -- limit: the first instant of the recording that isn't listed
-module _ (t : Trace) (limit : ℕ) (span : Stretch) where
-  -- the first instant of the span that isn't listed, or its end
+module _ (t : Trace) (limit : ℕ) (stretch : Stretch) where
+  -- the first instant of the stretch that isn't listed, or its end
   abbrev pub limit_in : ℕ
-  limit_in = min span.end limit
+  limit_in = min stretch.end limit
 
-  -- the reset that ends the span, where it is listed
+  -- the reset that ends the stretch, where it is listed
   abbrev pub reset_rows : List Row
-  reset_rows = if is_reset_at t span.end && nat_lt span.end limit then Reset span.end ∷ [] else []
+  reset_rows = if is_reset_at t stretch.end && nat_lt stretch.end limit then Reset stretch.end ∷ [] else []
 
-  -- the rows of a span: its start, what begins in the span, and its reset; none where the start isn't listed
-  unfoldable pub rows_of_span : List Row
-  rows_of_span =
-      if nat_lt span.start limit then Start span.start ∷ rows_before t span limit_in limit_in ++ reset_rows else []
+  -- the rows of a stretch: its start, what begins in the stretch, and its reset; none where the start isn't listed
+  unfoldable pub rows_of_stretch : List Row
+  rows_of_stretch =
+      if nat_lt stretch.start limit then Start stretch.start ∷ rows_before t stretch limit_in limit_in
+      ++ reset_rows else []
 
 -- the first instant that isn't listed: that of the break, or without a break one more than the last
 abbrev pub listed_end : Trace → Option Break → ℕ
@@ -123,18 +124,19 @@ outcome_of None = Conforming
 outcome_of (Some b) = if is_unreadable b.rule then Unreadable b.rule b.instant b.line
     else Broken b.rule b.instant b.line
 
--- the rows of the spans and the verdict, where `found` is the least break of the spans
+-- the rows of the stretches and the verdict, where `found` is the least break of the stretches
 abbrev pub listing_before : Trace → List Stretch → Option Break → List Row
-listing_before t spans found =
-    flat_map (rows_of_span t (listed_end t found)) spans ++ Verdict (outcome_of found) ∷ []
+listing_before t stretches found =
+    flat_map (rows_of_stretch t (listed_end t found)) stretches ++ Verdict (outcome_of found) ∷ []
 
-abbrev pub listing_of_spans : List Rule → Trace → List Stretch → List Row
-listing_of_spans rules t [] = Verdict NeverIdle ∷ []
-listing_of_spans rules t (span ∷ spans) = listing_before t (span ∷ spans) (least_of rules t (span ∷ spans))
+abbrev pub listing_of_stretches : List Rule → Trace → List Stretch → List Row
+listing_of_stretches rules t [] = Verdict NeverIdle ∷ []
+listing_of_stretches rules t (stretch ∷ stretches) = listing_before t (stretch ∷ stretches)
+    (least_of rules t (stretch ∷ stretches))
 
 -- the listing of a recording by some rules
 unfoldable pub listing_by : List Rule → Trace → List Row
-listing_by rules t = listing_of_spans rules t (judged_spans t)
+listing_by rules t = listing_of_stretches rules t (judged_stretches t)
 
 -- the rows of a recording's listing, in the newest version
 abbrev pub recorded_rows : Trace → List Row

@@ -1,4 +1,4 @@
--- What ends a span at a step.
+-- What ends a stretch at a step.
 use Rattle.std.specs.Prelude.{Option, None, Some, List, option_map, if◌then◌else◌}
 use Rattle.vme_trace.specs.Changes.{lost_among, touches_control}
 use Rattle.vme_trace.specs.Levels.{Levels, is_reset}

@@ -31,7 +31,7 @@ phase_nth nth (suc (suc (suc k))) = InStretch (nth k)
 abbrev pub start_in : {P : Type 0} → (Levels → P) → Levels → StretchPhase P
 start_in begin o = if is_idle o then InStretch (begin o) else Waiting
 
--- a span has started
+-- a stretch has started
 abbrev pub has_started : {P : Type 0} → StretchPhase P → Bool
 has_started Waiting = false
 has_started (InStretch p) = true
@@ -51,14 +51,15 @@ observed observation before after cs =
     else None
 
 -- a machine that waits reacts to each change of a control line, one that judges to what the rules see, and all to what
--- ends a span
+-- ends a stretch
 abbrev pub phase_sensitivity : {P : Type 0} → StretchPhase P → ℕ
 phase_sensitivity Waiting = 2
 phase_sensitivity (InStretch p) = 1
 phase_sensitivity Reset = 3
 phase_sensitivity Ended = 0
 
--- 0 for what ends a span, so that all react to it; 1 for what the rules see; 2 for any other change of a control line
+-- 0 for what ends a stretch, so that all react to it; 1 for what the rules see; 2 for any other
+-- change of a control line
 abbrev pub threshold_by : {S : Type 0} → Option End → Option S → ℕ
 threshold_by (Some ends) seen = 0
 threshold_by None (Some s) = 1
@@ -81,7 +82,7 @@ module _ {P S : Type 0} (begin : Levels → P) (start_marks : Levels → StepMar
   abbrev pub ending : ℕ → Next (StretchPhase P)
   ending l = record { memory = Ended; fault = end_fault l; shown = no_step_marks }
 
-  -- a step in the phase `InStretch p`, by what ends the span there and by what the rules see
+  -- a step in the phase `InStretch p`, by what ends the stretch there and by what the rules see
   abbrev pub judging : P → Levels → Levels → Option End → Option S → Next (StretchPhase P)
   judging p before after (Some end.Reset) s = resetting
   judging p before after (Some (end.Lost l)) s = ending l

@@ -74,7 +74,7 @@ module _ {P S : Type 0} (begin : Levels → P) (start_marks : Levels → StepMar
   judging_sensitivity p before after None None h = omega arith
   judging_sensitivity p before after None (Some s) h = omega arith
 
-  -- a step that doesn't end a span makes no phase more sensitive
+  -- a step that doesn't end a stretch makes no phase more sensitive
   pub phase_step_sensitivity : (m : StretchPhase P) (before after : Levels) (seen : StretchObservation S)
       → 0 < stretch_threshold
       seen

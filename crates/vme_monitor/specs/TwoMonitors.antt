@@ -23,6 +23,6 @@ module _ {P Q R : Type 0} (first : P → Levels → List Step → Outcome P) (be
   abbrev pub ShowsTogether : Type 0
   ShowsTogether =
       (a b : StepMarks) (f g : Trace → Stretch → ℕ → StepMarks) → ShareNoKind a b
-      → ((t : Trace) (span : Stretch) (j : ℕ) → ShareNoKind (f t span j) (g t span j))
+      → ((t : Trace) (stretch : Stretch) (j : ℕ) → ShareNoKind (f t stretch j) (g t stretch j))
       → ShowsAll first begin_first a f → ShowsAll second begin_second b g
-      → ShowsAll both begin_both (together a b) (λ t span j. together (f t span j) (g t span j))
+      → ShowsAll both begin_both (together a b) (λ t stretch j. together (f t stretch j) (g t stretch j))

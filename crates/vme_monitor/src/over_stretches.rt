@@ -4,10 +4,10 @@
 ghost use Rattle.std.specs.Prelude.{◌≡◌, ℕ, ◌≤◌, List, Option, None};
 ghost use Rattle.vme_trace.specs.Trace.{Trace, levels_at};
 ghost use Rattle.vme_trace.specs.WellFormed.{malformed_step};
-ghost use Rattle.vme_trace.specs.Judged.{judged_spans};
+ghost use Rattle.vme_trace.specs.Judged.{judged_stretches};
 ghost use Rattle.vme_monitor.specs.Judges.{Judges};
 ghost use Rattle.vme_monitor.specs.Shows.{Shows};
-ghost use Rattle.vme_monitor.specs.Whole.{FindsLeastWhere, RemembersWithin, ShowsAllWhere, has_span, run_whole};
+ghost use Rattle.vme_monitor.specs.Whole.{FindsLeastWhere, RemembersWithin, ShowsAllWhere, has_any_stretch, run_whole};
 ghost use Rattle.vme_monitor.specs.Along.{memory_from};
 ghost use Rattle.vme_monitor.specs.declared.over_stretches.StretchPhase.TheVariants.{InStretch};
 ghost use Rattle.vme_monitor.specs.Run.{machine_step};
@@ -26,7 +26,7 @@ use crate::view::{End, StepView};
 use std::marker::PhantomData;
 use vme_trace::{Change, Line, Lines};
 
-/// An automaton that judges by some rules, from the start of a span (a stretch of judged instants) to its end. Its
+/// An automaton that judges by some rules, from the start of a stretch of judged instants to its end. Its
 /// memory is its state.
 pub trait Rules {
     type Memory: Small;
@@ -45,14 +45,14 @@ pub trait Rules {
 
     ghost next: { Self.Memory → Levels → Levels → Self.Observation → Next Self.Memory };
 
-    /// The memory at the idle instant at which a span starts.
+    /// The memory at the idle instant at which a stretch starts.
     fn at_start(lines: &Lines) -> Self::Memory
         ensures { result ≡ begin lines.now };
 
     fn shown_at_start(lines: &Lines) -> StepMarks
         ensures { result ≡ start_marks lines.now };
 
-    /// What is shown where a span ends because the bus is reset.
+    /// What is shown where a stretch ends because the bus is reset.
     fn shown_at_reset() -> StepMarks
         ensures { result ≡ reset_marks };
 
@@ -72,15 +72,15 @@ pub trait Rules {
         ensures { result ≡ next memory before.now after.now seen.now };
 }
 
-/// Whether judging is before, within or after a span.
+/// Whether judging is before, within or after a stretch.
 #[derive(Clone, Copy, PartialEq, Eq, Debug)]
 pub enum StretchPhase<P> {
-    /// A reset has ended a span, and none has started since.
+    /// A reset has ended a stretch, and none has started since.
     Reset,
-    /// No span has started.
+    /// No stretch has started.
     Waiting,
     InStretch(P),
-    /// A lost control line has ended a span.
+    /// A lost control line has ended a stretch.
     Ended,
 }
 
@@ -124,7 +124,7 @@ impl<P: Small> Enumerable for StretchPhase<P> {
     }
 }
 
-/// The observation of a step: what ends a span there, and what the rules see.
+/// The observation of a step: what ends a stretch there, and what the rules see.
 #[derive(Drop)]
 pub struct StretchObservation<S> {
     pub end: Option<End>,
@@ -142,7 +142,7 @@ pub fn phase_at<R: Rules>(opening: &Lines) -> StretchPhase<R::Memory>
     }
 }
 
-/// The machine that judges by some rules within spans.
+/// The machine that judges by some rules within stretches.
 pub struct OverStretches<R> {
     of: PhantomData<R>,
 }
@@ -258,20 +258,24 @@ impl<R: Rules> Machine for OverStretches<R> {
 /// The monitor of some rules.
 pub type RuleMonitor<R> = TableMonitor<OverStretches<R>>;
 
-/// Over a whole recording, the first break is the least break of the rules, and the marks are what happens in the spans
-/// and at the resets that end them, if this holds for the rules' automaton in each span (`Judges`, `Shows`). After the
-/// recording, the phase says whether there was a span. Within a span the memory is the inner automaton's.
+/// Over a whole recording, the first break is the least break of the rules, and the marks are what happens in the
+/// stretches and at the resets that end them, if this holds for the rules' automaton in each stretch (`Judges`,
+/// `Shows`). After the recording, the phase says whether there was a stretch. Within a stretch the memory
+/// is the inner automaton's.
 pub fn rules_over_recordings<R: Rules>()
     ensures first_break { FindsLeastWhere ⟦<RuleMonitor<R> as Monitor>⟧.run ⟦<RuleMonitor<R> as Monitor>⟧.begin
-        (λ t span rules. Judges (machine_step R.observation R.next) (R.begin (levels_at t span.start)) R.end_fault t
-        span rules) }
+        (λ t stretch rules. Judges (machine_step R.observation R.next) (R.begin (levels_at t stretch.start)) R.end_fault
+        t
+        stretch rules) }
     ensures marks { ShowsAllWhere ⟦<RuleMonitor<R> as Monitor>⟧.run ⟦<RuleMonitor<R> as Monitor>⟧.begin R.reset_marks
-        (λ t span shown. Shows (machine_step R.observation R.next) (R.begin (levels_at t span.start)) R.start_marks t
-        span shown) }
+        (λ t stretch shown. Shows (machine_step R.observation R.next) (R.begin (levels_at t stretch.start))
+        R.start_marks t
+        stretch shown) }
     ensures started { (t : Trace) → malformed_step t ≡ None → t.opening.slots ≤ 21
         → has_started (run_whole ⟦<RuleMonitor<R> as Monitor>⟧.run ⟦<RuleMonitor<R> as Monitor>⟧.begin t).leaving
-        ≡ has_span (judged_spans t) }
+        ≡ has_any_stretch (judged_stretches t) }
     ensures memory { RemembersWithin ⟦<RuleMonitor<R> as Monitor>⟧.run ⟦<RuleMonitor<R> as Monitor>⟧.begin
-        (λ t span n. InStretch (memory_from (machine_step R.observation R.next) t (R.begin (levels_at t span.start))
-        span.start n)) }
+        (λ t stretch n. InStretch (memory_from (machine_step R.observation R.next) t
+        (R.begin (levels_at t stretch.start))
+        stretch.start n)) }
 {}

@@ -17,36 +17,36 @@ use Rattle.vme_part_command.specs.FileReadings.{IsAtFile, IsAtFileEnd, IsStartFo
 
 -- ---- the start of the body
 
-module _ (bound : BoundLines) (number : ℕ) (start : Option ℕ) (old now : Reading) (input : InputSoFar)
+module _ (binding : BoundLines) (number : ℕ) (start : Option ℕ) (old now : Reading) (input : InputSoFar)
     (h : IsReadTo old now [] input) (n : ℕ) (within : n ≤ length input.held) (r : StepReading) where
   pub begun-file : ((rest : List ℕ) → IsFollowedBy input.is_whole rest
-      → reading_of_text bound (input.held ++ rest) ≡ Ok (whole_reading r (drop n input.held ++ rest)))
+      → reading_of_text binding (input.held ++ rest) ≡ Ok (whole_reading r (drop n input.held ++ rest)))
       → ((rest : List ℕ) → IsFollowedBy input.is_whole rest → IsStartFor number (input.held ++ rest) start)
-      → IsAtFile bound number start old now (record input { held = drop n input.held }) r
+      → IsAtFile binding number start old now (record input { held = drop n input.held }) r
   begun-file begins starts = record {
     done = take n input.held;
     read = taken-first old now [] input h n within;
     body = λ rest ends.
-        ap (reading_of_text bound) (split-at [] input.held n rest) ∙ begins rest ends;
+        ap (reading_of_text binding) (split-at [] input.held n rest) ∙ begins rest ends;
     starts = λ rest ends. subst (λ (l : List ℕ). IsStartFor number l start) (sym (split-at [] input.held n rest))
         (starts rest ends);
   }
 
 -- `IsAtFile` holds after the definitions, which were held until the first time was determined
-pub file-behind : (bound : BoundLines) (number : ℕ) (start : Option ℕ) (old before now : Reading)
-    (here after : InputSoFar) (r : StepReading) (n : ℕ) → IsAtDefinitions bound old before here r n
+pub file-behind : (binding : BoundLines) (number : ℕ) (start : Option ℕ) (old before now : Reading)
+    (here after : InputSoFar) (r : StepReading) (n : ℕ) → IsAtDefinitions binding old before here r n
     → IsReadOn here after → IsReadTo old now [] after
     → ((rest : List ℕ) → IsFollowedBy after.is_whole rest → IsStartFor number (after.held ++ rest) start)
-    → IsAtFile bound number start old now (record after { held = drop n after.held }) r
-file-behind bound number start old before now here after r n at on read starts =
-    begun-file bound number start old now after read n (held-on bound old before here r n at after on) r
-    (body-on bound old before here r n at after on) starts
+    → IsAtFile binding number start old now (record after { held = drop n after.held }) r
+file-behind binding number start old before now here after r n at on read starts =
+    begun-file binding number start old now after read n (held-on binding old before here r n at after on) r
+    (body-on binding old before here r n at after on) starts
 
 -- ---- a piece
 
-module _ (bound : BoundLines) (number : ℕ) (start : Option ℕ) (old now : Reading) (input : InputSoFar)
-    (r : StepReading) (at : IsAtFile bound number start old now input r) where
-  abbrev pub body_at : IsAtBody bound old now input r
+module _ (binding : BoundLines) (number : ℕ) (start : Option ℕ) (old now : Reading) (input : InputSoFar)
+    (r : StepReading) (at : IsAtFile binding number start old now input r) where
+  abbrev pub body_at : IsAtBody binding old now input r
   body_at = record { done = at.done; read = at.read; body = at.body }
 
   module _ (next : StepReading) (n : ℕ) (within : n ≤ length input.held)
@@ -58,12 +58,12 @@ module _ (bound : BoundLines) (number : ℕ) (start : Option ℕ) (old now : Rea
         ∙ taken (drop n input.held ++ rest)
 
     -- `IsAtFile` holds after a piece is taken
-    pub file-taken : IsAtFile bound number start old now (record input { held = drop n input.held }) next
+    pub file-taken : IsAtFile binding number start old now (record input { held = drop n input.held }) next
     file-taken = record {
       done = at.done ++ take n input.held;
       read = taken-first old now at.done input at.read n within;
       body = λ rest ends.
-          ap (reading_of_text bound) (split-at at.done input.held n rest) ∙ at.body rest ends
+          ap (reading_of_text binding) (split-at at.done input.held n rest) ∙ at.body rest ends
           ∙ ap (λ (x : TextReading). Ok x) (goes rest);
       starts = λ rest ends. subst (λ (l : List ℕ). IsStartFor number l start)
           (sym (split-at at.done input.held n rest)) (at.starts rest ends);
@@ -71,12 +71,12 @@ module _ (bound : BoundLines) (number : ℕ) (start : Option ℕ) (old now : Rea
 
   -- `IsAtFile` holds after more bytes are read
   pub file-grown : (later : Reading) (after : InputSoFar) → input.is_whole ≡ false → IsGrown input after
-      → IsReadTo old later at.done after → IsAtFile bound number start old later after r
+      → IsReadTo old later at.done after → IsAtFile binding number start old later after r
   file-grown later after going grown read = record {
     done = at.done;
     read = read;
     body = λ rest ends.
-        ap (λ l. reading_of_text bound (at.done ++ l)) (same rest)
+        ap (λ l. reading_of_text binding (at.done ++ l)) (same rest)
         ∙ at.body (grown.more ++ rest) (λ whole. absurd (both_ways input.is_whole going whole))
         ∙ ap (λ l. Ok (whole_reading r l)) (sym (same rest));
     starts = λ rest ends. subst (λ (l : List ℕ). IsStartFor number (at.done ++ l) start) (sym (same rest))
@@ -88,11 +88,11 @@ module _ (bound : BoundLines) (number : ℕ) (start : Option ℕ) (old now : Rea
 
   -- if there are no more bytes, `IsAtFileEnd` holds
   pub file-ends : input.is_whole ≡ true → input.limit ≡ longest_input
-      → IsAtFileEnd bound number start old now input.held r
+      → IsAtFileEnd binding number start old now input.held r
   file-ends whole limit = record {
     text = at.done ++ input.held;
     all = subst (IsAllOf old now (at.done ++ input.held)) limit (all-read old now at.done input at.read whole);
-    body = ap (λ l. reading_of_text bound (at.done ++ l)) (sym (append-nil input.held))
+    body = ap (λ l. reading_of_text binding (at.done ++ l)) (sym (append-nil input.held))
         ∙ at.body [] (λ _. refl) ∙ ap (λ l. Ok (whole_reading r l)) (append-nil input.held);
     starts = subst (λ (l : List ℕ). IsStartFor number (at.done ++ l) start) (append-nil input.held)
         (at.starts [] (λ _. refl));

@@ -26,25 +26,25 @@ ReadsStart number old now input (Ok start) =
 ReadsStart number old now input (Err refusal) = IsDumpRefused old now refusal
 
 -- the reader r has taken `done` of a dump, `input` holds the bytes after that, and the dump has the first time `start`
-pub record IsAtFile (bound : BoundLines) (number : ℕ) (start : Option ℕ) (old now : Reading) (input : InputSoFar)
+pub record IsAtFile (binding : BoundLines) (number : ℕ) (start : Option ℕ) (old now : Reading) (input : InputSoFar)
     (r : StepReading) : Type 0 where
   pub done : List ℕ
   pub read : IsReadTo old now done input
   pub body : (rest : List ℕ) → IsFollowedBy input.is_whole rest
-      → reading_of_text bound (done ++ (input.held ++ rest)) ≡ Ok (whole_reading r (input.held ++ rest))
+      → reading_of_text binding (done ++ (input.held ++ rest)) ≡ Ok (whole_reading r (input.held ++ rest))
   pub starts : (rest : List ℕ) → IsFollowedBy input.is_whole rest
       → IsStartFor number (done ++ (input.held ++ rest)) start
 
 -- after a piece the reader is in the body (`IsAtFile`), or reading the piece failed
 abbrev pub ReadsFile : BoundLines → ℕ → Option ℕ → Reading → Reading → InputSoFar
     → Result (StepReading × FileCheck) (Option VcdFault) → Type 0
-ReadsFile bound number start old now input (Ok made) = IsAtFile bound number start old now input made.0
-ReadsFile bound number start old now input (Err fault) = FailsPiece old now input fault
+ReadsFile binding number start old now input (Ok made) = IsAtFile binding number start old now input made.0
+ReadsFile binding number start old now input (Err fault) = FailsPiece old now input fault
 
 -- the dump was read whole, `bytes` are those that the reader r has not taken, and the dump has the first time `start`
-pub record IsAtFileEnd (bound : BoundLines) (number : ℕ) (start : Option ℕ) (old now : Reading) (bytes : List ℕ)
+pub record IsAtFileEnd (binding : BoundLines) (number : ℕ) (start : Option ℕ) (old now : Reading) (bytes : List ℕ)
     (r : StepReading) : Type 0 where
   pub text : List ℕ
   pub all : IsAllOf old now text longest_input
-  pub body : reading_of_text bound text ≡ Ok (whole_reading r bytes)
+  pub body : reading_of_text binding text ≡ Ok (whole_reading r bytes)
   pub starts : IsStartFor number text start

@@ -9,7 +9,7 @@ use Rattle.vme_bind.specs.Binding.{BoundLines}
 use Rattle.vme_bind.specs.Capture.{capture_of}
 use Rattle.vme_stream.specs.Inputs.{IsReading}
 use Rattle.vme_stream.specs.Answers.{AnswerGives, CommandAnswer, binding_read, dump_read, or_bad_binding}
-use Rattle.vme_stream.specs.Ends.{Does}
+use Rattle.vme_stream.specs.Ends.{AnswersInputs}
 use Rattle.vme_stream.specs.Texts.{line_of, refusal_status, refusal_text}
 use Rattle.vme_stream.specs.declared.refusal.Refusal.{Refusal}
 use Rattle.vme_part_format.specs.Bounds.{FitsPart}
@@ -94,6 +94,7 @@ part_answer (Err why) = no_part_answer why
 abbrev pub WritesPart : PartOptions → Reading × Reading → Reading × Reading → Writing × Writing → Writing × Writing → ℕ
     → Type 0
 WritesPart o binding dump out err status =
-    Does part_answer (λ b d found. FindsPart (λ (p : PartValue). p) o (dump_recording (binding_read b) (dump_read d))
+    AnswersInputs part_answer (λ b d found. FindsPart (λ (p : PartValue). p) o
+    (dump_recording (binding_read b) (dump_read d))
     found) binding dump out err
     status

@@ -19,7 +19,9 @@ use crate::no_part::NoPart;
 use crate::part::PartOptions;
 use std::alloc::Global;
 use vcd_read::VcdFault;
-use vme_dump_input::{Begun, BufferedInput, fault_of, opening_of, refused_in_body, unread};
+use vme_dump_input::{
+    BufferedInput, DumpAfterDefinitions, fault_of, opening_of, refused_in_body, unread,
+};
 use vme_part_format::Part;
 use vme_step_reader::StepReader;
 use vme_stream::Refusal;
@@ -34,9 +36,9 @@ fn judge_piece(
     check: FileCheck,
 ) -> Result<(StepReader, FileCheck), Option<VcdFault>>
     requires { (number : ℕ) × (listing : Bool) × (start : Option ℕ) × IsFileJudged number listing start reader check }
-    ensures reads { (bound : BoundLines) (number : ℕ) (start : Option ℕ) (old now : Reading)
-        → IsAtFile bound number start old now input.old reader
-        → ReadsFile bound number start old now input.new result }
+    ensures reads { (binding : BoundLines) (number : ℕ) (start : Option ℕ) (old now : Reading)
+        → IsAtFile binding number start old now input.old reader
+        → ReadsFile binding number start old now input.new result }
     ensures judges { (number : ℕ) (listing : Bool) (start : Option ℕ) → IsFileJudged number listing start reader check
         → IfOk result (λ made. IsFileJudged number listing start made.0 made.1) }
     ensures opening { IfOk result (λ made. made.0.given.opening ≡ reader.given.opening) }
@@ -64,10 +66,10 @@ fn judge_last(
     backplane: u64,
 ) -> Result<Part, NoPart>
     requires { (number : ℕ) × (listing : Bool) × (start : Option ℕ) × IsFileJudged number listing start reader check }
-    ensures { (bound : BoundLines) (options : Options) (start : Option ℕ) (old now : Reading)
+    ensures { (binding : BoundLines) (options : Options) (start : Option ℕ) (old now : Reading)
         → IsFileJudged options.number options.listing start reader check
-        → IsAtFileEnd bound options.number start old now bytes.now reader
-        → backplane ≡ backplane_of reader.given.opening → FindsOfDump options bound old now result }
+        → IsAtFileEnd binding options.number start old now bytes.now reader
+        → backplane ≡ backplane_of reader.given.opening → FindsOfDump options binding old now result }
 {
     match reader.finish(alloc, bytes) {
         Ok(steps) => check.finish(alloc, steps, backplane),
@@ -85,11 +87,11 @@ fn judge_body<D: Source>(
     backplane: u64,
 ) -> Result<Part, NoPart>
     requires { (number : ℕ) × (listing : Bool) × (start : Option ℕ) × IsFileJudged number listing start reader check }
-    ensures { (bound : BoundLines) (options : Options) (start : Option ℕ) (old : Reading)
+    ensures { (binding : BoundLines) (options : Options) (start : Option ℕ) (old : Reading)
         → IsFileJudged options.number options.listing start reader check
-        → IsAtFile bound options.number start old (D.reading dump.old) input.old reader
+        → IsAtFile binding options.number start old (D.reading dump.old) input.old reader
         → input.old.limit ≡ longest_input → backplane ≡ backplane_of reader.given.opening
-        → FindsOfDump options bound old (D.reading dump.new) result }
+        → FindsOfDump options binding old (D.reading dump.new) result }
 {
     let mut reader = reader;
     let mut check = check;
@@ -117,9 +119,9 @@ fn part_of_body<D: Source>(
     start: Option<u64>,
 ) -> Result<Part, NoPart>
     requires { IsBodyUnread reader }
-    ensures { (bound : BoundLines) (old : Reading)
-        → IsAtFile bound options.number start old (D.reading dump.old) input.old reader
-        → input.old.limit ≡ longest_input → FindsOfDump options bound old (D.reading dump.new) result }
+    ensures { (binding : BoundLines) (old : Reading)
+        → IsAtFile binding options.number start old (D.reading dump.old) input.old reader
+        → input.old.limit ≡ longest_input → FindsOfDump options binding old (D.reading dump.new) result }
 {
     let opening = *opening_of(&reader);
     let Ok(backplane) = backplane_sum(alloc, &opening) else {
@@ -141,9 +143,9 @@ fn part_after_definitions<D: Source>(
 ) -> Result<Part, NoPart>
     requires unread { IsBodyUnread reader }
     requires held { count ≤ length input.old.held }
-    ensures { (bound : BoundLines) (old : Reading)
-        → IsAtDefinitions bound old (D.reading dump.old) input.old reader count
-        → input.old.limit ≡ longest_input → FindsOfDump options bound old (D.reading dump.new) result }
+    ensures { (binding : BoundLines) (old : Reading)
+        → IsAtDefinitions binding old (D.reading dump.old) input.old reader count
+        → input.old.limit ≡ longest_input → FindsOfDump options binding old (D.reading dump.new) result }
 {
     match read_start(alloc, dump, input, options.number) {
         Ok(start) => {
@@ -160,17 +162,17 @@ pub(crate) fn part_of_begun<D: Source>(
     options: PartOptions,
     dump: &mut D,
     input: &mut BufferedInput,
-    begun: Begun,
+    begun: DumpAfterDefinitions,
 ) -> Result<Part, NoPart>
     requires begun { MayBeRead begun }
     requires held { HoldsDefinitions input.old begun }
-    ensures { (bound : BoundLines) (old : Reading) → BeginsDump bound old (D.reading dump.old) input.old (Ok begun)
-        → input.old.limit ≡ longest_input → FindsOfDump options bound old (D.reading dump.new) result }
+    ensures { (binding : BoundLines) (old : Reading) → BeginsDump binding old (D.reading dump.old) input.old (Ok begun)
+        → input.old.limit ≡ longest_input → FindsOfDump options binding old (D.reading dump.new) result }
 {
     match begun {
-        Begun::Body(reader, count) => part_after_definitions(
+        DumpAfterDefinitions::Body(reader, count) => part_after_definitions(
             alloc, options, dump, input, reader, count,
         ),
-        Begun::Unusable(fault) => Err(NoPart::Refused(Refusal::BadBinding(fault))),
+        DumpAfterDefinitions::Unusable(fault) => Err(NoPart::Refused(Refusal::BadBinding(fault))),
     }
 }

@@ -102,8 +102,8 @@ with_place_ok end (Err f) y e = absurd cc
 same_bytes : (xs ys : List ℕ) → bytes_eq xs ys ≡ true → xs ≡ ys
 same_bytes xs ys e = (bytes_eq-Decides xs ys).0 e
 
-front_of : (bytes : List ℕ) (n : ℕ) → 8 ≤ n → take 8 (take n bytes) ≡ take 8 bytes
-front_of bytes n long = take-take 8 n bytes long
+first_eight : (bytes : List ℕ) (n : ℕ) → 8 ≤ n → take 8 (take n bytes) ≡ take 8 bytes
+first_eight bytes n long = take-take 8 n bytes long
 
 eight_of : (bytes : List ℕ) → take 7 bytes ≡ name_bytes → take 1 (drop 7 bytes) ≡ version_byte ∷ []
     → take 8 bytes ≡ name_bytes ++ version_byte ∷ []
@@ -118,7 +118,7 @@ front_is : (bytes : List ℕ) (n : ℕ) → 8 ≤ n → n ≤ length bytes → t
     → take n bytes ≡ name_bytes ++ version_byte ∷ drop 8 (take n bytes)
 front_is bytes n long within name version =
     let parts : take 8 (take n bytes) ++ drop 8 (take n bytes) ≡ take n bytes = take-append-drop 8 (take n bytes) in
-    let front : take 8 (take n bytes) ≡ take 8 bytes = front_of bytes n long in
+    let front : take 8 (take n bytes) ≡ take 8 bytes = first_eight bytes n long in
     let halves : take 8 bytes ≡ name_bytes ++ version_byte ∷ [] = eight_of bytes name version in
     sym parts ∙ ap (λ (t : List ℕ). t ++ drop 8 (take n bytes)) (front ∙ halves)
 

@@ -4,7 +4,7 @@ use Rattle.std.proofs.Common.{ap}
 use Rattle.std.proofs.Common.{sym, ◌∙◌, Option, Some, None}
 use Rattle.vme_trace.specs.Blocks.{joined_steps}
 use Rattle.vme_trace.specs.Levels.{Levels}
-use Rattle.vme_trace.specs.Judged.{judged_spans}
+use Rattle.vme_trace.specs.Judged.{judged_stretches}
 use Rattle.vme_trace.specs.Trace.{Trace, levels_after}
 use Rattle.vme_trace.specs.declared.block.Block.{Block}
 use Rattle.vme_trace.specs.declared.step.Step.{Step}
@@ -12,7 +12,7 @@ use Rattle.vme_trace.specs.declared.verdict.Break.{Break}
 use Rattle.vme_listing.specs.Listed.{Listed, in_newest_version}
 use Rattle.vme_listing.specs.Recorded.{listing_of, recorded_rows}
 use Rattle.vme_monitor.specs.Outcome.{Outcome, composed_outcome}
-use Rattle.vme_monitor.specs.Whole.{has_span}
+use Rattle.vme_monitor.specs.Whole.{has_any_stretch}
 use Rattle.vme_monitor.specs.declared.mark.Mark.{Mark}
 use Rattle.vme_summary.specs.AllShown.{all_marks}
 use Rattle.vme_summary.specs.Joins.{joined_trace}
@@ -65,7 +65,7 @@ opened_so j e (b ∷ bs) t o was same is =
 
 -- the listing from the opening, the first break and the marks of a recording is its listing
 pub listed_so : (t : Trace) (judged : Bool) (first_break : Option Break) (o : Levels) (ms : List Mark) (l : Listed)
-    → judged ≡ has_span (judged_spans t) → first_break ≡ first_break_of t → o ≡ t.opening → ms ≡ all_marks t
+    → judged ≡ has_any_stretch (judged_stretches t) → first_break ≡ first_break_of t → o ≡ t.opening → ms ≡ all_marks t
     → l ≡ in_newest_version (listed o judged first_break ms) → listing_of t ≡ l
 listed_so t judged first_break o ms l started first opens seen is =
     let whole = marked_is_listed t in

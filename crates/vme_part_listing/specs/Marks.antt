@@ -15,7 +15,7 @@ use Rattle.vme_dtb.specs.HoldingNumbers.{holding_place}
 use Rattle.vme_dtb.specs.StabilityRules.{stability_begin}
 use Rattle.vme_chains.specs.GrantMemory.{arbitration_place}
 use Rattle.vme_chains.specs.GrantRules.{grant_begin}
-use Rattle.vme_chains.specs.AcknowledgeRules.{acknowledge_begin, acknowledgement_place}
+use Rattle.vme_chains.specs.AcknowledgeRules.{acknowledge_begin, acknowledge_memory_place}
 use Rattle.vme_listing.specs.Recorded.{listing_of}
 use Rattle.vme_summary.specs.AllShown.{all_marks}
 use Rattle.vme_summary.specs.Joins.{joined_trace}
@@ -44,7 +44,7 @@ pub record HasMarks (w : Ways) (o : Levels) (x : List Step) : Type 0 where
   pub stability : HasWay stability_run (start_in stability_begin) (phase_place holding_place) w.stability o x
   pub grant : HasWay grant_run (start_in grant_begin) (phase_place arbitration_place) w.grant o x
   pub acknowledge : HasWay acknowledge_run (start_in acknowledge_begin)
-      (phase_place acknowledgement_place) w.acknowledge o
+      (phase_place acknowledge_memory_place) w.acknowledge o
       x
 
 -- each memory is below the number of its monitor's memories

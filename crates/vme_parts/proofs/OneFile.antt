@@ -18,7 +18,7 @@ use Rattle.vme_monitor.specs.Runs.{levels_after-append}
 use Rattle.vme_dtb.specs.MemoryNumbers.{memory_place}
 use Rattle.vme_dtb.specs.HoldingNumbers.{holding_place}
 use Rattle.vme_chains.specs.GrantMemory.{arbitration_place}
-use Rattle.vme_chains.specs.AcknowledgeRules.{acknowledgement_place}
+use Rattle.vme_chains.specs.AcknowledgeRules.{acknowledge_memory_place}
 use Rattle.vme_summary.specs.Extents.{IsExtent}
 use Rattle.vme_summary.specs.Joins.{first_time, last_time}
 use Rattle.vme_summary.specs.Runs.{known_run, handshake_run, stability_run, grant_run, acknowledge_run}
@@ -96,7 +96,7 @@ module _ (listing : Bool) (s : SegmentValue) (b : Block) (accepted : malformed_s
       → AgreesWithRuns listing 147 (phase_place memory_place) s.handshake (λ p. handshake_run p b.opening b.steps)
       → AgreesWithRuns listing 13 (phase_place holding_place) s.stability (λ p. stability_run p b.opening b.steps)
       → AgreesWithRuns listing 35 (phase_place arbitration_place) s.grant (λ p. grant_run p b.opening b.steps)
-      → AgreesWithRuns listing 11 (phase_place acknowledgement_place) s.acknowledge
+      → AgreesWithRuns listing 11 (phase_place acknowledge_memory_place) s.acknowledge
       (λ p. acknowledge_run p b.opening b.steps) → SegmentStandsFor listing s (b ∷ [])
   file_stands known handshake stability grant acknowledge =
       record {

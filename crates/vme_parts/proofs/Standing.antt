@@ -13,7 +13,7 @@ use Rattle.vme_monitor.specs.OverStretches.{phase_place}
 use Rattle.vme_dtb.specs.MemoryNumbers.{memory_place}
 use Rattle.vme_dtb.specs.HoldingNumbers.{holding_place}
 use Rattle.vme_chains.specs.GrantMemory.{arbitration_place}
-use Rattle.vme_chains.specs.AcknowledgeRules.{acknowledgement_place}
+use Rattle.vme_chains.specs.AcknowledgeRules.{acknowledge_memory_place}
 use Rattle.vme_summary.specs.Extents.{IsExtent, joined_extent}
 use Rattle.vme_summary.specs.Runs.{known_run, handshake_run, stability_run, grant_run, acknowledge_run}
 use Rattle.vme_summary.specs.declared.extent.Extent.{Extent}
@@ -131,7 +131,7 @@ module _ (s t r : SegmentValue) (b : IsOfBoth s t r) where
                 q.grant);
             acknowledge = rw (b.opening, steps_of_both)
                 (tables_of_both acknowledge_run acknowledge_is_run
-                (phase_place acknowledgement_place) listing 11 s.opening
+                (phase_place acknowledge_memory_place) listing 11 s.opening
                 t.opening (joined_steps x) (joined_steps y) s.acknowledge t.acknowledge r.acknowledge opens fits
                 (rw (← p.counted) b.acknowledge) p.acknowledge q.acknowledge);
           }

@@ -8,7 +8,7 @@ use Rattle.vme_monitor.specs.OverStretches.{phase_place}
 use Rattle.vme_dtb.specs.MemoryNumbers.{memory_place}
 use Rattle.vme_dtb.specs.HoldingNumbers.{holding_place}
 use Rattle.vme_chains.specs.GrantMemory.{arbitration_place}
-use Rattle.vme_chains.specs.AcknowledgeRules.{acknowledgement_place}
+use Rattle.vme_chains.specs.AcknowledgeRules.{acknowledge_memory_place}
 use Rattle.vme_summary.specs.Runs.{known_run, handshake_run, stability_run, grant_run, acknowledge_run}
 use Rattle.vme_part_format.specs.Tables.{table_value}
 use Rattle.vme_part_tables.specs.Runs.{AgreesWithRuns}
@@ -22,6 +22,6 @@ pub record AreTablesOf (listing : Bool) (o : Levels) (x : List Step) (all : File
   pub stability : AgreesWithRuns listing 13 (phase_place holding_place) (table_value all.stability)
       (λ p. stability_run p o x)
   pub grant : AgreesWithRuns listing 35 (phase_place arbitration_place) (table_value all.grant) (λ p. grant_run p o x)
-  pub acknowledge : AgreesWithRuns listing 11 (phase_place acknowledgement_place) (table_value all.acknowledge)
+  pub acknowledge : AgreesWithRuns listing 11 (phase_place acknowledge_memory_place) (table_value all.acknowledge)
       (λ p. acknowledge_run p o x)
   pub left : all.left ≡ levels_after o x

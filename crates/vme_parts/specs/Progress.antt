@@ -15,7 +15,7 @@ use Rattle.vme_dtb.specs.HoldingNumbers.{holding_place}
 use Rattle.vme_dtb.specs.StabilityRules.{stability_begin}
 use Rattle.vme_chains.specs.GrantMemory.{arbitration_place}
 use Rattle.vme_chains.specs.GrantRules.{grant_begin}
-use Rattle.vme_chains.specs.AcknowledgeRules.{acknowledge_begin, acknowledgement_place}
+use Rattle.vme_chains.specs.AcknowledgeRules.{acknowledge_begin, acknowledge_memory_place}
 use Rattle.vme_summary.specs.Extents.{IsExtent, joined_extent}
 use Rattle.vme_summary.specs.Joins.{BlocksJoin}
 use Rattle.vme_summary.specs.Runs.{known_run, handshake_run, stability_run, grant_run, acknowledge_run}
@@ -47,7 +47,7 @@ pub record HasStates (s : States) (o : Levels) (x : List Step) : Type 0 where
   pub stability : HasState stability_run (start_in stability_begin) (phase_place holding_place) s.stability o x
   pub grant : HasState grant_run (start_in grant_begin) (phase_place arbitration_place) s.grant o x
   pub acknowledge : HasState acknowledge_run (start_in acknowledge_begin)
-      (phase_place acknowledgement_place) s.acknowledge
+      (phase_place acknowledge_memory_place) s.acknowledge
       o x
 
 -- s has the state of each monitor after all steps of t, a well-formed recording of at most 21 slots
@@ -70,7 +70,7 @@ pub record TellsAll (listing : Bool) (s : SegmentValue) (v : Levels) (y : List S
   pub handshake : AgreesWithRuns listing 147 (phase_place memory_place) s.handshake (λ p. handshake_run p v y)
   pub stability : AgreesWithRuns listing 13 (phase_place holding_place) s.stability (λ p. stability_run p v y)
   pub grant : AgreesWithRuns listing 35 (phase_place arbitration_place) s.grant (λ p. grant_run p v y)
-  pub acknowledge : AgreesWithRuns listing 11 (phase_place acknowledgement_place) s.acknowledge
+  pub acknowledge : AgreesWithRuns listing 11 (phase_place acknowledge_memory_place) s.acknowledge
       (λ p. acknowledge_run p v y)
 
 -- if the monitors have the states `old` after `steps` steps, and the tables of s agree with the steps after these, then

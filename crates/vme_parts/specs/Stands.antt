@@ -9,7 +9,7 @@ use Rattle.vme_monitor.specs.OverStretches.{phase_place}
 use Rattle.vme_dtb.specs.MemoryNumbers.{memory_place}
 use Rattle.vme_dtb.specs.HoldingNumbers.{holding_place}
 use Rattle.vme_chains.specs.GrantMemory.{arbitration_place}
-use Rattle.vme_chains.specs.AcknowledgeRules.{acknowledgement_place}
+use Rattle.vme_chains.specs.AcknowledgeRules.{acknowledge_memory_place}
 use Rattle.vme_summary.specs.Extents.{IsExtent}
 use Rattle.vme_summary.specs.Runs.{known_run, handshake_run, stability_run, grant_run, acknowledge_run}
 use Rattle.vme_summary.specs.declared.extent.Extent.{Extent}
@@ -52,5 +52,5 @@ pub record SegmentStandsFor (listing : Bool) (s : SegmentValue) (bs : List Block
       (λ p. stability_run p s.opening (joined_steps bs))
   pub grant : AgreesWithRuns listing 35 (phase_place arbitration_place) s.grant
       (λ p. grant_run p s.opening (joined_steps bs))
-  pub acknowledge : AgreesWithRuns listing 11 (phase_place acknowledgement_place) s.acknowledge
+  pub acknowledge : AgreesWithRuns listing 11 (phase_place acknowledge_memory_place) s.acknowledge
       (λ p. acknowledge_run p s.opening (joined_steps bs))

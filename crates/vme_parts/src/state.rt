@@ -3,11 +3,11 @@
 ghost use Rattle.std.specs.Prelude.{◌≡◌, ◌<◌, ◌^◌, [], None, length};
 ghost use Rattle.std.specs.Option.{option_map, option_or};
 ghost use Rattle.vme_trace.specs.Trace.{Trace};
-ghost use Rattle.vme_trace.specs.Judged.{judged_spans};
+ghost use Rattle.vme_trace.specs.Judged.{judged_stretches};
 ghost use Rattle.vme_trace.specs.Verdict.{rules_in_force, verdict_by, verdict_on};
 ghost use Rattle.vme_monitor.specs.BothMonitors.{breaks_before as fault_before, least as least_of};
 ghost use Rattle.vme_monitor.specs.BothMonitors.{sooner as sooner_than};
-ghost use Rattle.vme_monitor.specs.Whole.{has_span};
+ghost use Rattle.vme_monitor.specs.Whole.{has_any_stretch};
 ghost use Rattle.vme_summary.specs.Summaries.{first_break_of};
 ghost use Rattle.vme_part_format.specs.Tables.{segment_value, table_value};
 ghost use Rattle.vme_part_tables.specs.Runs.{break_of};
@@ -151,7 +151,7 @@ impl States {
     /// Whether anything is judged of a recording after whose steps the monitors have these states.
     pub fn has_judged(&self) -> bool
         requires { FitStates self.now }
-        ensures { (t : Trace) → FoundAll self.now t → result ≡ has_span (judged_spans t) }
+        ensures { (t : Trace) → FoundAll self.now t → result ≡ has_any_stretch (judged_stretches t) }
     {
         known_over_recordings();
         Known::started(Known::nth(self.known.memory as usize))

@@ -4,17 +4,17 @@ use Rattle.std.proofs.Common.{arith}
 use Rattle.std.specs.Prelude.{nat_lt, if◌then◌else◌, Option, Some}
 use Rattle.std.proofs.lemmas.Bool.{le-ltb, lt-ltb}
 use Rattle.vme_stream.specs.Answers.{answer_by, answer_of, judgement_of, verdict_in_blocks}
-use Rattle.vme_stream.specs.Ends.{Tells}
+use Rattle.vme_stream.specs.Ends.{WritesAnswer}
 use Rattle.vme_stream.specs.declared.refusal.Refusal.{Refusal}
 use Rattle.vme_stream.specs.declared.refusal.Refusal.TheVariants as refused
-use Rattle.vme_stream.proofs.EndLemmas.{Does-exact, Does-unwritten, given_is, refusal_status-small}
+use Rattle.vme_stream.proofs.EndLemmas.{AnswersInputs-exact, AnswersInputs-unwritten, given_is, refusal_status-small}
 use Rattle.vme_stream.proofs.EndLemmas.{verdict_status-small}
 use Rattle.vme_floor.specs.declared.report.Report.{Report}
 use Rattle.vme_floor.specs.declared.report.RunFault.{RunFault}
 use Rattle.vme_pod_check.specs.Judgements.{ChecksByPods, Finds, IsPassing, NeedsThreads, pods_answer_by}
 use Rattle.vme_pod_check.specs.declared.unjudged.Unjudged.{Unjudged}
 use Rattle.vme_pod_check.specs.declared.unjudged.Unjudged.TheVariants.{Refused, NoWorker, Stray}
-use Rattle.vme_stream.specs.Inputs.{TellsWhole}
+use Rattle.vme_stream.specs.Inputs.{IsReadWhole}
 use Rattle.vme_trace.specs.Streams.{Reading, Writing}
 use Rattle.vme_trace.specs.Blocks.{block_count}
 use Rattle.vme_trace.specs.Trace.{Trace}
@@ -83,15 +83,16 @@ MayFind block workers b d found = Finds found (judgement_of b d block) × NeedsT
 pub Checks-unwritten : (binding dump : Reading × Reading) (block workers : ℕ) (out err : Writing × Writing) (status : ℕ)
     → ChecksByPods binding dump block workers out err status
     → (status ≡ 5) ↔ (out.1.failures ≡ suc out.0.failures)
-Checks-unwritten binding dump block workers out err status = Does-unwritten pods_answer_by pods_answer_by-small
+Checks-unwritten binding dump block workers out err status = AnswersInputs-unwritten pods_answer_by pods_answer_by-small
     (MayFind block workers) binding dump out err status
 
 pub Checks-exact : (binding dump : Reading × Reading) (block workers : ℕ) (out err : Writing × Writing) (status : ℕ)
     → ChecksByPods binding dump block workers out err status
-    → (b d : List ℕ) → TellsWhole binding.0 binding.1 b → TellsWhole dump.0 dump.1 d
+    → (b d : List ℕ) → IsReadWhole binding.0 binding.1 b → IsReadWhole dump.0 dump.1 d
     → out.1.failures ≡ out.0.failures → (status ≡ 4 → ⊥)
-    → Tells (answer_of (Some b) (Some d) block) out err status
+    → WritesAnswer (answer_of (Some b) (Some d) block) out err status
 Checks-exact binding dump block workers out err status checks b d =
-    Does-exact pods_answer_by pods_answer_by-small (MayFind block workers) binding dump out err status checks b d
+    AnswersInputs-exact pods_answer_by pods_answer_by-small (MayFind block workers) binding dump out err status checks b
+    d
     (answer_of (Some b) (Some d) block)
     (λ found may. told_as_checked (judgement_of (Some b) (Some d) block) found may.0)

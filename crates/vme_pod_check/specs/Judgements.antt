@@ -1,7 +1,7 @@
 -- The result of workers for a recording, and the command's answer.
 use Rattle.std.specs.Prelude.{◌≡◌, ◌<◌, ℕ, [], List, codes, IfErr, Result, Ok, Err}
 use Rattle.vme_stream.specs.Answers.{CommandAnswer, AnswerGives, answer_by, judgement_of}
-use Rattle.vme_stream.specs.Ends.{Does}
+use Rattle.vme_stream.specs.Ends.{AnswersInputs}
 use Rattle.vme_stream.specs.Texts.{line_of, refusal_status, refusal_text}
 use Rattle.vme_stream.specs.declared.refusal.Refusal.{Refusal}
 use Rattle.vme_stream.specs.declared.refusal.Refusal.TheVariants.{Memory}
@@ -50,5 +50,5 @@ pods_answer_by (Err unjudged) =
 abbrev pub ChecksByPods : Reading × Reading → Reading × Reading → ℕ → ℕ
     → Writing × Writing → Writing × Writing → ℕ → Type 0
 ChecksByPods binding dump block workers out err status =
-    Does pods_answer_by (λ b d found. Finds found (judgement_of b d block) × NeedsThreads workers found)
+    AnswersInputs pods_answer_by (λ b d found. Finds found (judgement_of b d block) × NeedsThreads workers found)
     binding dump out err status

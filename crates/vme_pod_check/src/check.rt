@@ -2,7 +2,7 @@
 
 ghost use Rattle.std.specs.Prelude.{◌≡◌, ◌≤◌, ◌↔◌, ℕ, suc, List, Option, Some};
 ghost use Rattle.vme_stream.specs.Answers.{answer_of, judgement_of};
-ghost use Rattle.vme_stream.specs.Ends.{TellsExactly};
+ghost use Rattle.vme_stream.specs.Ends.{WritesAnswerExactly};
 ghost use Rattle.vme_pod_check.specs.Judgements.{ChecksByPods, Finds, NeedsThreads};
 ghost use Rattle.vme_stream.specs.Inputs.{IsReading};
 
@@ -36,7 +36,7 @@ pub fn check_by_pods<R: Threads + Wait + Sync, B: Source, D: Source, O: Sink, E:
     ensures unwritten { (result ≡ 5) ↔ ((O.writing out.new).failures ≡ suc (O.writing out.old).failures) }
 
     // If the inputs are read whole, no write fails, and the status isn't 4, this is exactly the answer of a check.
-    ensures exact { TellsExactly (λ b d. answer_of (Some b) (Some d) plan.block)
+    ensures exact { WritesAnswerExactly (λ b d. answer_of (Some b) (Some d) plan.block)
         (B.reading binding.old, B.reading binding.new) (D.reading dump.old, D.reading dump.new)
         (O.writing out.old, O.writing out.new) (E.writing err.old, E.writing err.new) result }
 {

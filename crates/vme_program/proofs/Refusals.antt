@@ -3,7 +3,7 @@ use Rattle.std.proofs.Common.{◌≡◌, ℕ, refl}
 use Rattle.std.proofs.KnownBytes.{Appends-nil}
 use Rattle.vme_trace.specs.Streams.{Writing}
 use Rattle.vme_stream.specs.Answers.{refusal_answer}
-use Rattle.vme_stream.specs.Ends.{Tells}
+use Rattle.vme_stream.specs.Ends.{WritesAnswer}
 use Rattle.vme_stream.specs.Texts.{line_of, refusal_text}
 use Rattle.vme_stream.specs.declared.refusal.Input.{Input}
 use Rattle.vme_stream.specs.declared.refusal.Refusal.TheVariants.{CannotOpen}
@@ -11,6 +11,6 @@ use Rattle.vme_stream.specs.Outputs.{TriesToWrite}
 
 pub tells_refused : (input : Input) (out : Writing) (err : Writing × Writing) (status : ℕ)
     → TriesToWrite err.0 err.1 (line_of (refusal_text (CannotOpen input))) → status ≡ 3
-    → Tells (refusal_answer (CannotOpen input)) (out, out) err status
+    → WritesAnswer (refusal_answer (CannotOpen input)) (out, out) err status
 tells_refused input out err status told is =
     record { out_is = (Appends-nil out.taken, refl); err_is = told; status_is = is }

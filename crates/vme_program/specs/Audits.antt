@@ -4,7 +4,7 @@ use Rattle.std.specs.Prelude.{take, Option, None, Some, IfSome, MatchOption, opt
 use Rattle.std.specs.List.{AllZip}
 use Rattle.vme_trace.specs.Streams.{Reading, Writing}
 use Rattle.vme_stream.specs.Answers.{refusal_answer}
-use Rattle.vme_stream.specs.Ends.{Tells}
+use Rattle.vme_stream.specs.Ends.{WritesAnswer}
 use Rattle.vme_stream.specs.Texts.{line_of, refusal_text}
 use Rattle.vme_stream.specs.declared.refusal.Input.TheVariants.{Binding}
 use Rattle.vme_stream.specs.declared.refusal.Refusal.TheVariants.{CannotOpen, Memory}
@@ -150,7 +150,7 @@ module _ {S R : Type 0} (outside : Environment S R) (s : S) where
     abbrev pub AuditsAndSaves : List ℕ → Reading × Reading → List NamedReading
         → Writing × Writing → Writing × Writing → ℕ → Type 0
     AuditsAndSaves path binding dumps out err status =
-        (outside.reads_file s binding.0 None × Tells (refusal_answer (CannotOpen Binding)) out err status)
+        (outside.reads_file s binding.0 None × WritesAnswer (refusal_answer (CannotOpen Binding)) out err status)
         ⊎ ((id : FileId) × outside.reads_file s binding.0 (Some id)
         × ((LeadsToInput path id dumps × (out.1 ≡ out.0) × RefusesFile path (codes "is an input") 3 err status)
         ⊎ (LeadsToNoInput path id dumps × AuditsThenSaves path binding dumps out err status)))

@@ -3,7 +3,7 @@ use Rattle.std.specs.Prelude.{◌≡◌, ◌⊎◌, ◌||◌, ℕ, Bool, true, f
 use Rattle.std.specs.Prelude.{bytes_eq, option_map, string_bytes}
 use Rattle.vme_trace.specs.Streams.{Reading, Writing}
 use Rattle.vme_stream.specs.Answers.{refusal_answer}
-use Rattle.vme_stream.specs.Ends.{Tells}
+use Rattle.vme_stream.specs.Ends.{WritesAnswer}
 use Rattle.vme_stream.specs.declared.refusal.Input.{Input}
 use Rattle.vme_stream.specs.declared.refusal.Input.TheVariants.{Binding, Dump}
 use Rattle.vme_stream.specs.declared.refusal.Refusal.TheVariants.{CannotOpen}
@@ -110,7 +110,7 @@ module _ {S R : Type 0} (outside : Environment S R) (s : S) where
     -- it can't be determined which file an input is: the message is that it can't be opened
     abbrev pub RefusesUnknownFile : Input → Reading → Writing × Writing → Writing × Writing → ℕ → Type 0
     RefusesUnknownFile input told out err status =
-        outside.reads_file s told None × Tells (refusal_answer (CannotOpen input)) out err status
+        outside.reads_file s told None × WritesAnswer (refusal_answer (CannotOpen input)) out err status
 
     -- it is determined which file each input is, the binding first
     abbrev pub ExplainsAndSaves : Reading × Reading → Reading × Reading

@@ -2,7 +2,7 @@
 use Rattle.std.specs.Prelude.{◌⊎◌, ℕ, List, Option, None, Some, string_bytes}
 use Rattle.vme_trace.specs.Streams.{Reading, Writing}
 use Rattle.vme_stream.specs.Answers.{refusal_answer}
-use Rattle.vme_stream.specs.Ends.{Tells}
+use Rattle.vme_stream.specs.Ends.{WritesAnswer}
 use Rattle.vme_stream.specs.declared.refusal.Input.{Input}
 use Rattle.vme_stream.specs.declared.refusal.Input.TheVariants.{Binding, Dump, Listing}
 use Rattle.vme_stream.specs.declared.refusal.Refusal.TheVariants.{CannotOpen}
@@ -19,7 +19,7 @@ module _ (opens : List ℕ → Option Reading → Type 0) where
   -- written, and nothing else is done
   abbrev pub WithInput : List ℕ → Input → CommandRelation → Writing × Writing → Writing × Writing → ℕ → Type 0
   WithInput name input Command out err status =
-      (opens name None × Tells (refusal_answer (CannotOpen input)) out err status)
+      (opens name None × WritesAnswer (refusal_answer (CannotOpen input)) out err status)
       ⊎ ((states : Reading × Reading) × opens name (Some states.0) × Command states out err status)
 
   -- `input` is the first file of a recording that can't be opened: the binding is tried before the dump, and there is
@@ -35,7 +35,8 @@ module _ (opens : List ℕ → Option Reading → Type 0) where
   abbrev pub WithRecording : RecordingFiles → (Reading × Reading → CommandRelation) → Writing × Writing
       → Writing × Writing → ℕ → Type 0
   WithRecording files Command out err status =
-      ((input : Input) × IsFirstUnopenedInput files input × Tells (refusal_answer (CannotOpen input)) out err status)
+      ((input : Input) × IsFirstUnopenedInput files input × WritesAnswer (refusal_answer (CannotOpen input)) out err
+      status)
       ⊎ ((binding dump : Reading × Reading)
       × opens (string_bytes files.binding) (Some binding.0) × opens (string_bytes files.dump) (Some dump.0)
       × Command binding dump out err status)

@@ -1,7 +1,9 @@
 //! How a binding can name bits of the variables of a scope, and of those around it.
 
 use std::alloc::{AllocError, Global};
-use vme_declarations::{DeclaredNames, DeclaredVariable, NOWHERE, front_of, offsets_after_scopes};
+use vme_declarations::{
+    DeclaredNames, DeclaredVariable, NOWHERE, dotted_path, offsets_after_scopes,
+};
 use vme_text::Text;
 
 /// How a binding can name some bits of a variable.
@@ -36,7 +38,7 @@ impl<'a> Paths<'a> {
         declared: &'a DeclaredNames,
         path: &[u8],
     ) -> Result<Paths<'a>, AllocError> {
-        let dotted = front_of(alloc, path)?;
+        let dotted = dotted_path(alloc, path)?;
         let offsets = offsets_after_scopes(alloc, declared, &dotted)?;
         let mut near = Vec::new(alloc);
         for (place, variable) in declared.variables().iter().enumerate() {

@@ -43,17 +43,17 @@ module _ {W : Type 0} (made : W → Trace) where
   made-told : (r : Result W BindFault) (w : W) → r ≡ Ok w → or_binding (r >>= or_made) ≡ Ok (made w)
   made-told r w is = ap (λ (r : Result W BindFault). or_binding (r >>= or_made)) is
 
-pub capture-stays : (bound : BoundLines) (bytes : List ℕ) (contents : Contents) → dump_of bytes ≡ Ok contents
-    → settled_or 0 (capture_of bound contents) ≡ capture_of bound contents
+pub capture-stays : (binding : BoundLines) (bytes : List ℕ) (contents : Contents) → dump_of bytes ≡ Ok contents
+    → settled_or 0 (capture_of binding contents) ≡ capture_of binding contents
 unfolding capture_of recording recording_of recording_of_text
-capture-stays bound bytes contents dump_is =
-    made-stays (λ groups. recording bound.slots groups contents.instants (length contents.instants))
-    (bound_groups_in contents.variables bound.assignments)
+capture-stays binding bytes contents dump_is =
+    made-stays (λ groups. recording binding.slots groups contents.instants (length contents.instants))
+    (bound_groups_in contents.variables binding.assignments)
     (λ groups is. record {
-      whole = levels-all bound.slots groups contents.instants 0;
+      whole = levels-all binding.slots groups contents.instants 0;
       formed =
-          recorded-formed bound bytes (recording bound.slots groups contents.instants (length contents.instants))
-          (ap (text.recording_read bound) dump_is
-          ∙ made-told (λ groups. recording bound.slots groups contents.instants (length contents.instants))
-          (bound_groups_in contents.variables bound.assignments) groups is);
+          recorded-formed binding bytes (recording binding.slots groups contents.instants (length contents.instants))
+          (ap (text.recording_read binding) dump_is
+          ∙ made-told (λ groups. recording binding.slots groups contents.instants (length contents.instants))
+          (bound_groups_in contents.variables binding.assignments) groups is);
     })

@@ -213,17 +213,18 @@ code_of_free v k h = let found = by (is_low (level_at v IACK)) (has_known_modifi
 
 -- ---- the rows
 
-module _ (t : Trace) (span : Stretch) (end : ℕ) (most : end ≤ span.end) (unbroken : IsUnbroken t span end) where
-  cycle_judged : (i : ℕ) → cycle_starts t span i ≡ true → span.start < i
+module _ (t : Trace) (stretch : Stretch) (end : ℕ) (most : end ≤ stretch.end)
+    (unbroken : IsUnbroken t stretch end) where
+  cycle_judged : (i : ℕ) → cycle_starts t stretch i ≡ true → stretch.start < i
   unfolding cycle_starts
   cycle_judged i e = grind (arith, nat_tests)
 
   -- a line that a cycle needs is known as it starts
-  needed_known : (i : ℕ) → i < end → cycle_starts t span i ≡ true → (l : ℕ) → l < 50 → is_needed (levels_at t i) l
+  needed_known : (i : ℕ) → i < end → cycle_starts t stretch i ≡ true → (l : ℕ) → l < 50 → is_needed (levels_at t i) l
       ≡ true → known t l i ≡ true
   unfolding is_broken
-  needed_known i before starts l few needed = by (cycle_starts t span i) (is_needed (levels_at t i) l) (known t l i)
-      starts needed (held t span end most unbroken rule.U2 i l (cycle_judged i starts) before (omega (arith, few))
+  needed_known i before starts l few needed = by (cycle_starts t stretch i) (is_needed (levels_at t i) l) (known t l i)
+      starts needed (held t stretch end most unbroken rule.U2 i l (cycle_judged i starts) before (omega (arith, few))
       (bused t.opening.slots l few))
     where
       by : (a b c : Bool) → a ≡ true → b ≡ true → (a && b && not c) ≡ false → c ≡ true
@@ -232,7 +233,7 @@ module _ (t : Trace) (span : Stretch) (end : ℕ) (most : end ≤ span.end) (unb
       by true false c h k e = absurd (cc)
       by false b c h k e = absurd (cc)
 
-  module _ (i : ℕ) (before : i < end) (starts : cycle_starts t span i ≡ true) (e : Option ℕ) where
+  module _ (i : ℕ) (before : i < end) (starts : cycle_starts t stretch i ≡ true) (e : Option ℕ) where
     modifier_known : (c : Class) → class_of (levels_at t i) ≡ c → (c ≡ class.I → ⊥) → (n : ℕ) → n < 6 → known t (AM n) i
         ≡ true
     modifier_known c of other n low = needed_known i before starts (AM n) (omega (arith, low))
@@ -294,49 +295,49 @@ module _ (t : Trace) (span : Stretch) (end : ℕ) (most : end ≤ span.end) (unb
     code_of_cycle class.I of = tt
 
   -- P holds of all rows, where it holds of the rows of cycles, and of each row of another kind
-  of_cycles : (P : Row → Type 0) → ((i : ℕ) → i < end → cycle_starts t span i ≡ true
+  of_cycles : (P : Row → Type 0) → ((i : ℕ) → i < end → cycle_starts t stretch i ≡ true
       → P (cycle_row i (levels_at t i) (least (rises t AS) (i + 1) end) (class_of (levels_at t i))))
       → ((i : ℕ) (e : Option ℕ) → P (OpenTenure i e)) → ((i level slot : ℕ) (e : Option ℕ) → P (Tenure i level slot e))
-      → ((i : ℕ) (o : Option ℕ) → P (transfer_row t span end i o))
-      → All P (rows_before t span end end)
-  of_cycles P cycles opened tenures transfers = all_before P t span end
-      (λ i before. all_tenure P t span end i (λ e. opened i e) (λ starts level slot e l s. tenures i level slot e))
-      (λ i before. all_cycle_of P t span end i (λ starts. cycles i before starts))
-      (λ i before. all_transfer P t span end i (λ starts. transfers i (least (answers t span i) i end)))
+      → ((i : ℕ) (o : Option ℕ) → P (transfer_row t stretch end i o))
+      → All P (rows_before t stretch end end)
+  of_cycles P cycles opened tenures transfers = all_before P t stretch end
+      (λ i before. all_tenure P t stretch end i (λ e. opened i e) (λ starts level slot e l s. tenures i level slot e))
+      (λ i before. all_cycle_of P t stretch end i (λ starts. cycles i before starts))
+      (λ i before. all_transfer P t stretch end i (λ starts. transfers i (least (answers t stretch i) i end)))
       end (omega arith)
 
-  pub modifiers_shown : All (ShowsModifier t) (rows_before t span end end)
+  pub modifiers_shown : All (ShowsModifier t) (rows_before t stretch end end)
   modifiers_shown = of_cycles (ShowsModifier t) (λ i before starts. modifier_of_cycle i before starts
       (least (rises t AS) (i + 1) end) (class_of (levels_at t i)) refl) (λ i e. tt) (λ i l s e. tt) in_transfer
     where
-      in_answered : (i r : ℕ) (o : Option ℕ) → ShowsModifier t (answered_row t span end i r o)
+      in_answered : (i r : ℕ) (o : Option ℕ) → ShowsModifier t (answered_row t stretch end i r o)
       in_answered i r None = tt
       in_answered i r (Some c) = tt
 
-      in_transfer : (i : ℕ) (o : Option ℕ) → ShowsModifier t (transfer_row t span end i o)
+      in_transfer : (i : ℕ) (o : Option ℕ) → ShowsModifier t (transfer_row t stretch end i o)
       in_transfer i None = tt
-      in_transfer i (Some r) = in_answered i r (cycle_of t span r)
+      in_transfer i (Some r) = in_answered i r (cycle_of t stretch r)
 
-  pub addresses_shown : All (ShowsAddress t) (rows_before t span end end)
+  pub addresses_shown : All (ShowsAddress t) (rows_before t stretch end end)
   addresses_shown = of_cycles (ShowsAddress t) (λ i before starts. address_of_cycle i before starts
       (least (rises t AS) (i + 1) end) (class_of (levels_at t i)) refl) (λ i e. tt) (λ i l s e. tt) in_transfer
     where
-      in_answered : (i r : ℕ) (o : Option ℕ) → ShowsAddress t (answered_row t span end i r o)
+      in_answered : (i r : ℕ) (o : Option ℕ) → ShowsAddress t (answered_row t stretch end i r o)
       in_answered i r None = tt
       in_answered i r (Some c) = tt
 
-      in_transfer : (i : ℕ) (o : Option ℕ) → ShowsAddress t (transfer_row t span end i o)
+      in_transfer : (i : ℕ) (o : Option ℕ) → ShowsAddress t (transfer_row t stretch end i o)
       in_transfer i None = tt
-      in_transfer i (Some r) = in_answered i r (cycle_of t span r)
+      in_transfer i (Some r) = in_answered i r (cycle_of t stretch r)
 
-  pub classes_of_codes : All IsOfItsCode (rows_before t span end end)
+  pub classes_of_codes : All IsOfItsCode (rows_before t stretch end end)
   classes_of_codes = of_cycles IsOfItsCode (λ i before starts. code_of_cycle i before starts
       (least (rises t AS) (i + 1) end) (class_of (levels_at t i)) refl) (λ i e. tt) (λ i l s e. tt) in_transfer
     where
-      in_answered : (i r : ℕ) (o : Option ℕ) → IsOfItsCode (answered_row t span end i r o)
+      in_answered : (i r : ℕ) (o : Option ℕ) → IsOfItsCode (answered_row t stretch end i r o)
       in_answered i r None = tt
       in_answered i r (Some c) = tt
 
-      in_transfer : (i : ℕ) (o : Option ℕ) → IsOfItsCode (transfer_row t span end i o)
+      in_transfer : (i : ℕ) (o : Option ℕ) → IsOfItsCode (transfer_row t stretch end i o)
       in_transfer i None = tt
-      in_transfer i (Some r) = in_answered i r (cycle_of t span r)
+      in_transfer i (Some r) = in_answered i r (cycle_of t stretch r)

@@ -11,7 +11,7 @@ use Rattle.vme_trace.specs.LineNumbers.{AS, BBSY, grant}
 use Rattle.vme_trace.specs.Levels.{Levels}
 use Rattle.vme_trace.specs.Trace.{Trace, levels_at}
 use Rattle.vme_trace.specs.Signals.{near, low, falls, rises}
-use Rattle.vme_trace.specs.Judged.{Stretch, IsSpanOf, is_judged}
+use Rattle.vme_trace.specs.Judged.{Stretch, IsStretchOf, is_judged}
 use Rattle.vme_trace.specs.Transfers.{strobes_high, answer_falls, transfer_starts, lasts, is_answered, answers}
 use Rattle.vme_trace.specs.Transfers.{in_transfer}
 use Rattle.vme_trace.specs.Cycles.{cycle_starts, cycle_of}
@@ -82,16 +82,16 @@ if_some : (o : Option ℕ) (P : ℕ → Type 0) → ((e : ℕ) → o ≡ Some e 
 if_some None P h = tt
 if_some (Some e) P h = h e refl
 
-module _ (t : Trace) (span : Stretch) (is : IsSpanOf t span) (end : ℕ) (within : span.start < end)
-    (most : end ≤ span.end) (unbroken : IsUnbroken t span end) where
+module _ (t : Trace) (stretch : Stretch) (is : IsStretchOf t stretch) (end : ℕ) (within : stretch.start < end)
+    (most : end ≤ stretch.end) (unbroken : IsUnbroken t stretch end) where
   -- tenures
-  of_a_slot : (i : ℕ) → i < end → tenure_starts t span i ≡ true → (level slot : ℕ) → tenure_level t i ≡ Some level
+  of_a_slot : (i : ℕ) → i < end → tenure_starts t stretch i ≡ true → (level slot : ℕ) → tenure_level t i ≡ Some level
       → tenure_slot t i ≡ Some slot → (level < 4) × (1 ≤ slot) × (slot ≤ t.opening.slots)
   unfolding is_broken
   of_a_slot i before starts level slot l e =
-      let there = tenures.judged_falls t span is end within most unbroken i starts in
+      let there = tenures.judged_falls t stretch is end within most unbroken i starts in
       let bounds = slot_within t i slot e in
-      let past = off_past (falls t BBSY i) _ there.1 (held t span end most unbroken rule.B4 i BBSY there.0 before
+      let past = off_past (falls t BBSY i) _ there.1 (held t stretch end most unbroken rule.B4 i BBSY there.0 before
       (lit< tt) refl) in
       let other = eqb-false slot (t.opening.slots + 1)
       (sym (ap (λ (o : Option ℕ). is_option_equal o (t.opening.slots + 1)) e) ∙ past) in
@@ -101,13 +101,14 @@ module _ (t : Trace) (span : Stretch) (is : IsSpanOf t span) (end : ℕ) (within
       off_past true b h e = e
       off_past false b h e = absurd (cc)
 
-  slots_held : All (IsOfASlot t.opening.slots) (rows_before t span end end)
-  slots_held = all_before (IsOfASlot t.opening.slots) t span end
-      (λ i before. all_tenure (IsOfASlot t.opening.slots) t span end i (λ e. tt) (λ starts level slot e l s. of_a_slot i
+  slots_held : All (IsOfASlot t.opening.slots) (rows_before t stretch end end)
+  slots_held = all_before (IsOfASlot t.opening.slots) t stretch end
+      (λ i before. all_tenure (IsOfASlot t.opening.slots) t stretch end i (λ e. tt)
+      (λ starts level slot e l s. of_a_slot i
       before starts level slot l s))
-      (λ i before. all_cycle (IsOfASlot t.opening.slots) t span end i (in_cycle i))
-      (λ i before. all_transfer (IsOfASlot t.opening.slots) t span end i
-      (λ starts. in_transfer_row i (least (answers t span i) i end)))
+      (λ i before. all_cycle (IsOfASlot t.opening.slots) t stretch end i (in_cycle i))
+      (λ i before. all_transfer (IsOfASlot t.opening.slots) t stretch end i
+      (λ starts. in_transfer_row i (least (answers t stretch i) i end)))
       end (omega arith)
     where
       in_cycle : (i : ℕ) (c : Class) → IsOfASlot t.opening.slots
@@ -117,16 +118,17 @@ module _ (t : Trace) (span : Stretch) (is : IsSpanOf t span) (end : ℕ) (within
       in_cycle i class.I = tt
       in_cycle i class.F = tt
 
-      in_answered : (i r : ℕ) (o : Option ℕ) → IsOfASlot t.opening.slots (answered_row t span end i r o)
+      in_answered : (i r : ℕ) (o : Option ℕ) → IsOfASlot t.opening.slots (answered_row t stretch end i r o)
       in_answered i r None = tt
       in_answered i r (Some c) = tt
 
-      in_transfer_row : (i : ℕ) (o : Option ℕ) → IsOfASlot t.opening.slots (transfer_row t span end i o)
+      in_transfer_row : (i : ℕ) (o : Option ℕ) → IsOfASlot t.opening.slots (transfer_row t stretch end i o)
       in_transfer_row i None = tt
-      in_transfer_row i (Some r) = in_answered i r (cycle_of t span r)
+      in_transfer_row i (Some r) = in_answered i r (cycle_of t stretch r)
 
   -- the nets of a tenure's level are low up to its slot, at the instant whose grant it takes
-  grant_there : (i : ℕ) → i < end → tenure_starts t span i ≡ true → (level slot : ℕ) (e : Option ℕ) → tenure_level t i
+  grant_there : (i : ℕ) → i < end → tenure_starts t stretch i ≡ true → (level slot : ℕ) (e : Option ℕ)
+      → tenure_level t i
       ≡ Some level → tenure_slot t i ≡ Some slot → ShowsGrant t (row.Tenure i level slot e)
   unfolding tenure_slot has_reached taken_grant
   grant_there i before starts level slot e l s = by (greatest (has_reached t (taken_grant t i) level) 0
@@ -166,13 +168,13 @@ module _ (t : Trace) (span : Stretch) (is : IsSpanOf t span) (end : ℕ) (within
             ),
           )
 
-  grants_shown : All (ShowsGrant t) (rows_before t span end end)
-  grants_shown = all_before (ShowsGrant t) t span end
-      (λ i before. all_tenure (ShowsGrant t) t span end i (λ e. tt) (λ starts level slot e l s. grant_there i before
+  grants_shown : All (ShowsGrant t) (rows_before t stretch end end)
+  grants_shown = all_before (ShowsGrant t) t stretch end
+      (λ i before. all_tenure (ShowsGrant t) t stretch end i (λ e. tt) (λ starts level slot e l s. grant_there i before
       starts level slot e l s))
-      (λ i before. all_cycle (ShowsGrant t) t span end i (in_cycle i))
-      (λ i before. all_transfer (ShowsGrant t) t span end i
-      (λ starts. in_transfer_row i (least (answers t span i) i end)))
+      (λ i before. all_cycle (ShowsGrant t) t stretch end i (in_cycle i))
+      (λ i before. all_transfer (ShowsGrant t) t stretch end i
+      (λ starts. in_transfer_row i (least (answers t stretch i) i end)))
       end (omega arith)
     where
       in_cycle : (i : ℕ) (c : Class) → ShowsGrant t (cycle_row i (levels_at t i) (least (rises t AS) (i + 1) end) c)
@@ -181,44 +183,45 @@ module _ (t : Trace) (span : Stretch) (is : IsSpanOf t span) (end : ℕ) (within
       in_cycle i class.I = tt
       in_cycle i class.F = tt
 
-      in_answered : (i r : ℕ) (o : Option ℕ) → ShowsGrant t (answered_row t span end i r o)
+      in_answered : (i r : ℕ) (o : Option ℕ) → ShowsGrant t (answered_row t stretch end i r o)
       in_answered i r None = tt
       in_answered i r (Some c) = tt
 
-      in_transfer_row : (i : ℕ) (o : Option ℕ) → ShowsGrant t (transfer_row t span end i o)
+      in_transfer_row : (i : ℕ) (o : Option ℕ) → ShowsGrant t (transfer_row t stretch end i o)
       in_transfer_row i None = tt
-      in_transfer_row i (Some r) = in_answered i r (cycle_of t span r)
+      in_transfer_row i (Some r) = in_answered i r (cycle_of t stretch r)
 
-  open_first : All (IsOpenAtStart span.start) (rows_before t span end end)
-  open_first = all_before (IsOpenAtStart span.start) t span end
-      (λ i before. all_tenure_at (IsOpenAtStart span.start) t span end i (λ same e. same)
-      (λ starts level slot e l s. (tenures.judged_falls t span is end within most unbroken i starts).0))
-      (λ i before. all_cycle (IsOpenAtStart span.start) t span end i (in_cycle i))
-      (λ i before. all_transfer (IsOpenAtStart span.start) t span end i
-      (λ starts. in_transfer_row i (least (answers t span i) i end)))
+  open_first : All (IsOpenAtStart stretch.start) (rows_before t stretch end end)
+  open_first = all_before (IsOpenAtStart stretch.start) t stretch end
+      (λ i before. all_tenure_at (IsOpenAtStart stretch.start) t stretch end i (λ same e. same)
+      (λ starts level slot e l s. (tenures.judged_falls t stretch is end within most unbroken i starts).0))
+      (λ i before. all_cycle (IsOpenAtStart stretch.start) t stretch end i (in_cycle i))
+      (λ i before. all_transfer (IsOpenAtStart stretch.start) t stretch end i
+      (λ starts. in_transfer_row i (least (answers t stretch i) i end)))
       end (omega arith)
     where
-      in_cycle : (i : ℕ) (c : Class) → IsOpenAtStart span.start
+      in_cycle : (i : ℕ) (c : Class) → IsOpenAtStart stretch.start
           (cycle_row i (levels_at t i) (least (rises t AS) (i + 1) end) c)
       in_cycle i class.S = tt
       in_cycle i class.K = tt
       in_cycle i class.I = tt
       in_cycle i class.F = tt
 
-      in_answered : (i r : ℕ) (o : Option ℕ) → IsOpenAtStart span.start (answered_row t span end i r o)
+      in_answered : (i r : ℕ) (o : Option ℕ) → IsOpenAtStart stretch.start (answered_row t stretch end i r o)
       in_answered i r None = tt
       in_answered i r (Some c) = tt
 
-      in_transfer_row : (i : ℕ) (o : Option ℕ) → IsOpenAtStart span.start (transfer_row t span end i o)
+      in_transfer_row : (i : ℕ) (o : Option ℕ) → IsOpenAtStart stretch.start (transfer_row t stretch end i o)
       in_transfer_row i None = tt
-      in_transfer_row i (Some r) = in_answered i r (cycle_of t span r)
+      in_transfer_row i (Some r) = in_answered i r (cycle_of t stretch r)
 
-  traffic_alone : All (λ row. is_traffic row ≡ true) (rows_before t span end end)
-  traffic_alone = all_before (λ row. is_traffic row ≡ true) t span end
-      (λ i before. all_tenure (λ row. is_traffic row ≡ true) t span end i (λ e. refl) (λ starts level slot e l s. refl))
-      (λ i before. all_cycle (λ row. is_traffic row ≡ true) t span end i (in_cycle i))
-      (λ i before. all_transfer (λ row. is_traffic row ≡ true) t span end i
-      (λ starts. in_transfer_row i (least (answers t span i) i end)))
+  traffic_alone : All (λ row. is_traffic row ≡ true) (rows_before t stretch end end)
+  traffic_alone = all_before (λ row. is_traffic row ≡ true) t stretch end
+      (λ i before. all_tenure (λ row. is_traffic row ≡ true) t stretch end i (λ e. refl)
+      (λ starts level slot e l s. refl))
+      (λ i before. all_cycle (λ row. is_traffic row ≡ true) t stretch end i (in_cycle i))
+      (λ i before. all_transfer (λ row. is_traffic row ≡ true) t stretch end i
+      (λ starts. in_transfer_row i (least (answers t stretch i) i end)))
       end (omega arith)
     where
       in_cycle : (i : ℕ) (c : Class) → is_traffic (cycle_row i (levels_at t i) (least (rises t AS) (i + 1) end) c)
@@ -228,18 +231,19 @@ module _ (t : Trace) (span : Stretch) (is : IsSpanOf t span) (end : ℕ) (within
       in_cycle i class.I = refl
       in_cycle i class.F = refl
 
-      in_answered : (i r : ℕ) (o : Option ℕ) → is_traffic (answered_row t span end i r o) ≡ true
+      in_answered : (i r : ℕ) (o : Option ℕ) → is_traffic (answered_row t stretch end i r o) ≡ true
       in_answered i r None = refl
       in_answered i r (Some c) = refl
 
-      in_transfer_row : (i : ℕ) (o : Option ℕ) → is_traffic (transfer_row t span end i o) ≡ true
+      in_transfer_row : (i : ℕ) (o : Option ℕ) → is_traffic (transfer_row t stretch end i o) ≡ true
       in_transfer_row i None = refl
-      in_transfer_row i (Some r) = in_answered i r (cycle_of t span r)
+      in_transfer_row i (Some r) = in_answered i r (cycle_of t stretch r)
 
   -- cycles
-  busy_near : (i : ℕ) → span.start < i → i < end → falls t AS i ≡ true → near (low t BBSY) i ≡ true
+  busy_near : (i : ℕ) → stretch.start < i → i < end → falls t AS i ≡ true → near (low t BBSY) i ≡ true
   unfolding is_broken
-  busy_near i after before down = by (falls t AS i) (near (low t BBSY) i) down (held t span end most unbroken rule.B3 i
+  busy_near i after before down = by (falls t AS i) (near (low t BBSY) i) down
+      (held t stretch end most unbroken rule.B3 i
       AS after before (lit< tt) refl)
     where
       by : (a b : Bool) → a ≡ true → (true && a && not b) ≡ false → b ≡ true
@@ -247,38 +251,39 @@ module _ (t : Trace) (span : Stretch) (is : IsSpanOf t span) (end : ℕ) (within
       by true false h e = absurd (cc)
       by false b h e = absurd (cc)
 
-  cycle_judged : (i : ℕ) → cycle_starts t span i ≡ true → (span.start < i) × (falls t AS i ≡ true)
+  cycle_judged : (i : ℕ) → cycle_starts t stretch i ≡ true → (stretch.start < i) × (falls t AS i ≡ true)
   unfolding cycle_starts
   cycle_judged i e = (grind (arith, nat_tests), grind (arith, nat_tests))
 
   abbrev tenure_from : ℕ → Interval
-  tenure_from = tenures.tenure_at t span is end within most unbroken
+  tenure_from = tenures.tenure_at t stretch is end within most unbroken
 
   TenureCovers : ℕ → Type 0
-  TenureCovers k = Covering (low t BBSY) (tenure_starts t span) (rises t BBSY) (rises t BBSY) span.start end
-      (tenures.starts_is t span is end within most unbroken) (tenures.ends_is t span is end within most unbroken)
-      (tenures.stop_is t span is end within most unbroken) k
+  TenureCovers k = Covering (low t BBSY) (tenure_starts t stretch) (rises t BBSY) (rises t BBSY) stretch.start end
+      (tenures.starts_is t stretch is end within most unbroken) (tenures.ends_is t stretch is end within most unbroken)
+      (tenures.stop_is t stretch is end within most unbroken) k
 
-  in_tenure : (i : ℕ) → i < end → cycle_starts t span i ≡ true
-      → StartsInOne (flat_map tenure_in (rows_before t span end end)) (cycles.cycle_at t span end i)
+  in_tenure : (i : ℕ) → i < end → cycle_starts t stretch i ≡ true
+      → StartsInOne (flat_map tenure_in (rows_before t stretch end end)) (cycles.cycle_at t stretch end i)
   unfolding TenureCovers
   in_tenure i before starts =
       let down = cycle_judged i starts in
-      let there = line_near t BBSY span.start i down.0 (busy_near i down.0 before down.1) in
-      let cover : TenureCovers there.0 = covering (low t BBSY) (tenure_starts t span) (rises t BBSY) (rises t BBSY)
-      span.start end
-      (tenures.starts_is t span is end within most unbroken) (tenures.ends_is t span is end within most unbroken)
-      (tenures.stop_is t span is end within most unbroken) there.0 there.1 (omega (arith, there.2, before)) there.4 in (
+      let there = line_near t BBSY stretch.start i down.0 (busy_near i down.0 before down.1) in
+      let cover : TenureCovers there.0 = covering (low t BBSY) (tenure_starts t stretch) (rises t BBSY) (rises t BBSY)
+      stretch.start end
+      (tenures.starts_is t stretch is end within most unbroken) (tenures.ends_is t stretch is end within most unbroken)
+      (tenures.stop_is t stretch is end within most unbroken) there.0 there.1 (omega (arith, there.2, before)) there.4
+      in (
         tenure_from cover.first,
         subst (λ xs. Contains xs (tenure_from cover.first))
-            (sym (tenures.tenures_of_rows t span is end within most unbroken)) (by there.0
+            (sym (tenures.tenures_of_rows t stretch is end within most unbroken)) (by there.0
             (omega (arith, there.2, before)) cover cover.begun),
         (
           omega (arith, cover.to, there.2),
           if_some (least (rises t BBSY) (cover.first + 1) end) (λ e. i ≤ e) (λ e f. let later = goes_on (low t BBSY)
-              (tenure_starts t span) (rises t BBSY) (rises t BBSY) span.start end
-              (tenures.starts_is t span is end within most unbroken) (tenures.ends_is t span is end within most
-              unbroken) (tenures.stop_is t span is end within most unbroken) there.0 (omega (arith, there.2, before))
+              (tenure_starts t stretch) (rises t BBSY) (rises t BBSY) stretch.start end
+              (tenures.starts_is t stretch is end within most unbroken) (tenures.ends_is t stretch is end within most
+              unbroken) (tenures.stop_is t stretch is end within most unbroken) there.0 (omega (arith, there.2, before))
               cover e f in omega (arith, later, there.3)),
         ),
       )
@@ -287,49 +292,51 @@ module _ (t : Trace) (span : Stretch) (is : IsSpanOf t span) (end : ℕ) (within
       at_first true h a = (0, omega arith, refl)
       at_first false h a = absurd (cc)
 
-      by : (k : ℕ) → k < end → (c : TenureCovers k) → (c.first ≡ span.start) ⊎ ((span.start < c.first)
-          × (tenure_starts t span c.first ≡ true))
-          → Contains (cond (low t BBSY span.start) (tenure_from span.start ∷ []) [] ++ map tenure_from
-          (those (tenure_starts t span) (span.start + 1) end)) (tenure_from c.first)
+      by : (k : ℕ) → k < end → (c : TenureCovers k) → (c.first ≡ stretch.start) ⊎ ((stretch.start < c.first)
+          × (tenure_starts t stretch c.first ≡ true))
+          → Contains (cond (low t BBSY stretch.start) (tenure_from stretch.start ∷ []) [] ++ map tenure_from
+          (those (tenure_starts t stretch) (stretch.start + 1) end)) (tenure_from c.first)
       by k below c (inl same) =
-          subst (λ n. Contains (cond (low t BBSY span.start) (tenure_from span.start ∷ []) [] ++ map tenure_from
-          (those (tenure_starts t span) (span.start + 1) end)) (tenure_from n)) (sym same)
-          (Contains-append_left (cond (low t BBSY span.start) (tenure_from span.start ∷ []) []) _
-          (tenure_from span.start)
-          (at_first (low t BBSY span.start) (ap (low t BBSY) (sym same) ∙ c.held c.first (omega arith) c.to)
-          (tenure_from span.start)))
+          subst (λ n. Contains (cond (low t BBSY stretch.start) (tenure_from stretch.start ∷ []) [] ++ map tenure_from
+          (those (tenure_starts t stretch) (stretch.start + 1) end)) (tenure_from n)) (sym same)
+          (Contains-append_left (cond (low t BBSY stretch.start) (tenure_from stretch.start ∷ []) []) _
+          (tenure_from stretch.start)
+          (at_first (low t BBSY stretch.start) (ap (low t BBSY) (sym same) ∙ c.held c.first (omega arith) c.to)
+          (tenure_from stretch.start)))
       by k below c (inr begun) =
-          Contains-append_right (cond (low t BBSY span.start) (tenure_from span.start ∷ []) []) _ (tenure_from c.first)
-          (contains_those tenure_from (tenure_starts t span) (span.start + 1) end c.first (omega (arith, begun.0))
+          Contains-append_right (cond (low t BBSY stretch.start) (tenure_from stretch.start ∷ []) [])
+          _ (tenure_from c.first)
+          (contains_those tenure_from (tenure_starts t stretch) (stretch.start + 1) end c.first (omega (arith, begun.0))
           (omega (arith, c.to, below)) begun.1)
 
-  cycles_held : All (StartsInOne (flat_map tenure_in (rows_before t span end end)))
-      (flat_map cycle_in (rows_before t span end end))
+  cycles_held : All (StartsInOne (flat_map tenure_in (rows_before t stretch end end)))
+      (flat_map cycle_in (rows_before t stretch end end))
   cycles_held =
-      subst (All (StartsInOne (flat_map tenure_in (rows_before t span end end))))
-      (sym (cycles.cycles_of_rows t span end within))
-      (all_those (StartsInOne (flat_map tenure_in (rows_before t span end end))) (cycles.cycle_at t span end)
-      (cycle_starts t span) end end (span.start + 1) (omega arith) (λ i from before starts. in_tenure i before
+      subst (All (StartsInOne (flat_map tenure_in (rows_before t stretch end end))))
+      (sym (cycles.cycles_of_rows t stretch end within))
+      (all_those (StartsInOne (flat_map tenure_in (rows_before t stretch end end))) (cycles.cycle_at t stretch end)
+      (cycle_starts t stretch) end end (stretch.start + 1) (omega arith) (λ i from before starts. in_tenure i before
       starts))
 
   -- transfers
   abbrev cycles_listed : List Interval
-  cycles_listed = flat_map cycle_in (rows_before t span end end)
+  cycles_listed = flat_map cycle_in (rows_before t stretch end end)
 
-  module _ (i r : ℕ) (starts : transfer_starts t span i ≡ true) (e : least (reply_at t span i) i end ≡ Some r) where
-    after : span.start < i
-    after = after_start t span i starts
+  module _ (i r : ℕ) (starts : transfer_starts t stretch i ≡ true)
+      (e : least (reply_at t stretch i) i end ≡ Some r) where
+    after : stretch.start < i
+    after = after_start t stretch i starts
 
-    found : IsLeast (reply_at t span i) i end r
-    found = least-found (reply_at t span i) i end r e
+    found : IsLeast (reply_at t stretch i) i end r
+    found = least-found (reply_at t stretch i) i end r e
 
-    lasting : lasts t span i r ≡ true
-    lasting = (and_parts (lasts t span i r) (answer_falls t r) found.holds).0
+    lasting : lasts t stretch i r ≡ true
+    lasting = (and_parts (lasts t stretch i r) (answer_falls t r) found.holds).0
 
     -- at no instant between the transfer's start and its answer are both strobes high
     still : (m : ℕ) → i < m → m < r → strobes_high t m ≡ false
     unfolding lasts
-    still m a b = any-fails (strobes_high t) (i + 1) r m (last_part (nat_le i r) (is_judged span r)
+    still m a b = any-fails (strobes_high t) (i + 1) r m (last_part (nat_le i r) (is_judged stretch r)
         (any (strobes_high t) (i + 1) r) lasting) (omega arith) b
       where
         last_part : (x y z : Bool) → (x && y && not z) ≡ true → z ≡ false
@@ -351,115 +358,121 @@ module _ (t : Trace) (span : Stretch) (is : IsSpanOf t span) (end : ℕ) (within
             before))
 
     abbrev Near : Type 0
-    Near = (k : ℕ) × (span.start ≤ k) × (k ≤ r) × (r ≤ k + 1) × (low t AS k ≡ true)
+    Near = (k : ℕ) × (stretch.start ≤ k) × (k ≤ r) × (r ≤ k + 1) × (low t AS k ≡ true)
 
     there : Near
-    there = low_near t span is end within most r (omega (arith, found.first, after))
-        (addressed t span is end within most unbroken i r after starts e)
+    there = low_near t stretch is end within most r (omega (arith, found.first, after))
+        (addressed t stretch is end within most unbroken i r after starts e)
 
-    cover : CycleCovers t span is end within most there.0
-    cover = cycle_there t span is end within most there.0 there.1 (omega (arith, there.2, found.below)) there.4
+    cover : CycleCovers t stretch is end within most there.0
+    cover = cycle_there t stretch is end within most there.0 there.1 (omega (arith, there.2, found.below)) there.4
 
     -- no cycle starts after the covering one, up to r
-    none_later : (k : ℕ) → cover.first < k → k < r + 1 → cycle_starts t span k ≡ false
+    none_later : (k : ℕ) → cover.first < k → k < r + 1 → cycle_starts t stretch k ≡ false
     none_later k a b =
         let back : k ≡ (k - 1) + 1 = omega (arith, a) in
-        ap (cycle_starts t span) back
-        ∙ (cycles.starts_is t span is end within most (k - 1) (omega (arith, cover.from, a))
+        ap (cycle_starts t stretch) back
+        ∙ (cycles.starts_is t stretch is end within most (k - 1) (omega (arith, cover.from, a))
         (omega (arith, back, b, found.below))
         ∙ ap (λ v. not v && low t AS (k - 1 + 1)) (cover.held (k - 1) (omega (arith, a))
         (omega (arith, back, b, there.3))))
 
-    its_cycle : cycle_of t span r ≡ Some cover.first
+    its_cycle : cycle_of t stretch r ≡ Some cover.first
     unfolding cycle_of
     its_cycle =
-        let begun = cycle_begun t span is end within most there.0 cover in
-        greatest-is (cycle_starts t span) (span.start + 1) (r + 1) cover.first (omega (arith, begun.0))
+        let begun = cycle_begun t stretch is end within most there.0 cover in
+        greatest-is (cycle_starts t stretch) (stretch.start + 1) (r + 1) cover.first (omega (arith, begun.0))
         (omega (arith, cover.to, there.2)) begun.1 none_later
 
     in_its_cycle : (o : Option ℕ) × Contains cycles_listed (interval cover.first o) × Covers (interval cover.first o) r
     in_its_cycle =
-        let begun = cycle_begun t span is end within most there.0 cover in (
+        let begun = cycle_begun t stretch is end within most there.0 cover in (
           least (rises t AS) (cover.first + 1) end,
-          subst (λ xs. Contains xs (cycles.cycle_at t span end cover.first))
-              (sym (cycles.cycles_of_rows t span end within))
-              (contains_those (cycles.cycle_at t span end) (cycle_starts t span) (span.start + 1) end cover.first
+          subst (λ xs. Contains xs (cycles.cycle_at t stretch end cover.first))
+              (sym (cycles.cycles_of_rows t stretch end within))
+              (contains_those (cycles.cycle_at t stretch end) (cycle_starts t stretch) (stretch.start + 1) end
+              cover.first
               (omega (arith, begun.0)) (omega (arith, cover.to, there.2, found.below)) begun.1),
           (
             omega (arith, cover.to, there.2),
             if_some (least (rises t AS) (cover.first + 1) end) (λ c. r ≤ c) (λ c f.
-                let later = goes_on (low t AS) (cycle_starts t span) (rises t AS) (rises t AS) span.start end
-                (cycles.starts_is t span is end within most) (cycles.ends_is t span is end within most)
-                (cycles.stop_is t span is end within most) there.0 (omega (arith, there.2, found.below)) cover c f in
+                let later = goes_on (low t AS) (cycle_starts t stretch) (rises t AS) (rises t AS) stretch.start end
+                (cycles.starts_is t stretch is end within most) (cycles.ends_is t stretch is end within most)
+                (cycles.stop_is t stretch is end within most) there.0 (omega (arith, there.2, found.below)) cover c f in
                 omega (arith, later, there.3)),
           ),
         )
 
   -- the address strobe doesn't rise in a transfer that isn't answered yet at j
-  awaited : (i j : ℕ) → transfer_starts t span i ≡ true → i < j → j < end → lasts t span i j ≡ true
-      → any (reply_at t span i) i (j + 1) ≡ false → rises t AS j ≡ false
+  awaited : (i j : ℕ) → transfer_starts t stretch i ≡ true → i < j → j < end → lasts t stretch i j ≡ true
+      → any (reply_at t stretch i) i (j + 1) ≡ false → rises t AS j ≡ false
   unfolding is_broken
   awaited i j starts order before lasting none =
-      by (rises t AS j) (in_transfer t span (λ k. nat_lt k j && not (is_answered t span k (j + 1))) j) (nat_lt i j)
-      (is_answered t span i (j + 1))
-      (in_transfer-is t span (λ k. nat_lt k j && not (is_answered t span k (j + 1))) i j (after_start t span i starts)
+      by (rises t AS j) (in_transfer t stretch (λ k. nat_lt k j && not (is_answered t stretch k (j + 1))) j)
+      (nat_lt i j)
+      (is_answered t stretch i (j + 1))
+      (in_transfer-is t stretch (λ k. nat_lt k j && not (is_answered t stretch k (j + 1))) i j
+      (after_start t stretch i starts)
       (omega arith) starts lasting)
-      (lt-ltb i j order) (answered_is t span i (j + 1) ∙ none)
-      (held t span end most unbroken rule.H7 j AS (omega (arith, after_start t span i starts)) before (lit< tt) refl)
+      (lt-ltb i j order) (answered_is t stretch i (j + 1) ∙ none)
+      (held t stretch end most unbroken rule.H7 j AS (omega (arith, after_start t stretch i starts)) before (lit< tt)
+      refl)
     where
       by : (a x n d : Bool) → x ≡ (n && not d) → n ≡ true → d ≡ false → (true && a && x) ≡ false → a ≡ false
       by true x n d h k e f = absurd (clash x (h ∙ (ap (λ b. b && not d) k ∙ ap not e)) f)
       by false x n d h k e f = refl
 
-  awaits_answer : (i : ℕ) → transfer_starts t span i ≡ true → AwaitsAnswer t end
-      (transfer_row t span end i (least (answers t span i) i end))
-  awaits_answer i starts = subst (λ (o : Option ℕ). AwaitsAnswer t end (transfer_row t span end i o))
-      (sym (first_reply t span i end)) (by (least (reply_at t span i) i end) refl)
+  awaits_answer : (i : ℕ) → transfer_starts t stretch i ≡ true → AwaitsAnswer t end
+      (transfer_row t stretch end i (least (answers t stretch i) i end))
+  awaits_answer i starts = subst (λ (o : Option ℕ). AwaitsAnswer t end (transfer_row t stretch end i o))
+      (sym (first_reply t stretch i end)) (by (least (reply_at t stretch i) i end) refl)
     where
-      row_told : (r : ℕ) (o : Option ℕ) (c : ℕ) → o ≡ Some c → least (reply_at t span i) i end ≡ Some r
-          → AwaitsAnswer t end (answered_row t span end i r o)
+      row_told : (r : ℕ) (o : Option ℕ) (c : ℕ) → o ≡ Some c → least (reply_at t stretch i) i end ≡ Some r
+          → AwaitsAnswer t end (answered_row t stretch end i r o)
       row_told r None c e f = absurd (cc)
       row_told r (Some k) c e f = λ j a b.
-          let found = least-found (reply_at t span i) i end r f in
+          let found = least-found (reply_at t stretch i) i end r f in
           awaited i j starts a (omega (arith, found.below))
-          (lasts_on t span is i j (after_start t span i starts) (omega arith) (omega (arith, found.below))
+          (lasts_on t stretch is i j (after_start t stretch i starts) (omega arith) (omega (arith, found.below))
           (λ m x y. still i r starts f m x (omega arith)))
-          (fails-any (reply_at t span i) i (j + 1) (λ m x y. any-fails (reply_at t span i) i r m found.least x
+          (fails-any (reply_at t stretch i) i (j + 1) (λ m x y. any-fails (reply_at t stretch i) i r m found.least x
           (omega arith)))
 
-      by : (o : Option ℕ) → least (reply_at t span i) i end ≡ o → AwaitsAnswer t end (transfer_row t span end i o)
+      by : (o : Option ℕ) → least (reply_at t stretch i) i end ≡ o → AwaitsAnswer t end (transfer_row t stretch end i o)
       by None e = λ j a b.
           awaited i j starts a b
-          (lasts_on t span is i j (after_start t span i starts) (omega arith) (omega arith)
+          (lasts_on t stretch is i j (after_start t stretch i starts) (omega arith) (omega arith)
           (λ m x y. any-fails (strobes_high t) (i + 1) end m (least-none-any (strobes_high t) (i + 1) end
-          (unclosed t span is end within most unbroken i (after_start t span i starts) starts e)) (omega arith)
+          (unclosed t stretch is end within most unbroken i (after_start t stretch i starts) starts e)) (omega arith)
           (omega arith)))
-          (fails-any (reply_at t span i) i (j + 1) (λ m x y. any-fails (reply_at t span i) i end m
-          (least-none-any (reply_at t span i) i end e) x (omega arith)))
-      by (Some r) e = row_told r (cycle_of t span r) (cover i r starts e).first (its_cycle i r starts e) e
+          (fails-any (reply_at t stretch i) i (j + 1) (λ m x y. any-fails (reply_at t stretch i) i end m
+          (least-none-any (reply_at t stretch i) i end e) x (omega arith)))
+      by (Some r) e = row_told r (cycle_of t stretch r) (cover i r starts e).first (its_cycle i r starts e) e
 
-  answered_in_cycle : (i : ℕ) → transfer_starts t span i ≡ true → IsAnsweredInCycle cycles_listed
-      (transfer_row t span end i (least (answers t span i) i end))
-  answered_in_cycle i starts = subst (λ (o : Option ℕ). IsAnsweredInCycle cycles_listed (transfer_row t span end i o))
-      (sym (first_reply t span i end)) (by (least (reply_at t span i) i end) refl)
+  answered_in_cycle : (i : ℕ) → transfer_starts t stretch i ≡ true → IsAnsweredInCycle cycles_listed
+      (transfer_row t stretch end i (least (answers t stretch i) i end))
+  answered_in_cycle i starts = subst (λ (o : Option ℕ). IsAnsweredInCycle cycles_listed
+      (transfer_row t stretch end i o))
+      (sym (first_reply t stretch i end)) (by (least (reply_at t stretch i) i end) refl)
     where
-      by : (o : Option ℕ) → least (reply_at t span i) i end ≡ o → IsAnsweredInCycle cycles_listed
-          (transfer_row t span end i o)
+      by : (o : Option ℕ) → least (reply_at t stretch i) i end ≡ o → IsAnsweredInCycle cycles_listed
+          (transfer_row t stretch end i o)
       by None e = tt
-      by (Some r) e = subst (λ (c : Option ℕ). IsAnsweredInCycle cycles_listed (answered_row t span end i r c))
+      by (Some r) e = subst (λ (c : Option ℕ). IsAnsweredInCycle cycles_listed (answered_row t stretch end i r c))
           (sym (its_cycle i r starts e)) (in_its_transfer i r starts e, in_its_cycle i r starts e)
 
   abbrev transfers_held : (P : Row → Type 0) → Type 0
   transfers_held P = ((i : ℕ) (e : Option ℕ) → P (OpenTenure i e)) → ((i level slot : ℕ) (e : Option ℕ)
       → P (Tenure i level slot e)) → ((i : ℕ) (v : Levels) (e : Option ℕ) (c : Class) → P (cycle_row i v e c))
-      → ((i : ℕ) → transfer_starts t span i ≡ true → P (transfer_row t span end i (least (answers t span i) i end)))
-      → All P (rows_before t span end end)
+      → ((i : ℕ) → transfer_starts t stretch i ≡ true → P (transfer_row t stretch end i
+      (least (answers t stretch i) i end)))
+      → All P (rows_before t stretch end end)
 
   by_transfers : (P : Row → Type 0) → transfers_held P
-  by_transfers P opened started cycle transfer = all_before P t span end
-      (λ i before. all_tenure P t span end i (opened i) (λ starts level slot e l s. started i level slot e))
-      (λ i before. all_cycle P t span end i (cycle i (levels_at t i) (least (rises t AS) (i + 1) end)))
-      (λ i before. all_transfer P t span end i (transfer i))
+  by_transfers P opened started cycle transfer = all_before P t stretch end
+      (λ i before. all_tenure P t stretch end i (opened i) (λ starts level slot e l s. started i level slot e))
+      (λ i before. all_cycle P t stretch end i (cycle i (levels_at t i) (least (rises t AS) (i + 1) end)))
+      (λ i before. all_transfer P t stretch end i (transfer i))
       end (omega arith)
 
   no_answer : (i : ℕ) (v : Levels) (e : Option ℕ) (c : Class) → IsAnsweredInCycle cycles_listed (cycle_row i v e c)
@@ -474,7 +487,7 @@ module _ (t : Trace) (span : Stretch) (is : IsSpanOf t span) (end : ℕ) (within
   no_wait i v e class.I = tt
   no_wait i v e class.F = tt
 
-  pub nested : KeepsRules t span.start end (rows_before t span end end)
+  pub nested : KeepsRules t stretch.start end (rows_before t stretch end end)
   nested = record {
     tenures_of_slots = slots_held;
     open_at_start = open_first;
@@ -482,13 +495,13 @@ module _ (t : Trace) (span : Stretch) (is : IsSpanOf t span) (end : ℕ) (within
     cycles_in_tenures = cycles_held;
     answers_in_cycles = by_transfers (IsAnsweredInCycle cycles_listed) (λ i e. tt) (λ i level slot e. tt) no_answer
         answered_in_cycle;
-    cycles_of_classes = cycles_of_classes t span is end within most unbroken;
-    acknowledges = acknowledges_shown t span is end within most unbroken;
-    codes_of_classes = classes_of_codes t span end most unbroken;
-    modifiers = modifiers_shown t span end most unbroken;
-    addresses = addresses_shown t span end most unbroken;
-    directions = directions_shown t span is end within most unbroken;
-    written_data = data_shown t span is end within most unbroken;
+    cycles_of_classes = cycles_of_classes t stretch is end within most unbroken;
+    acknowledges = acknowledges_shown t stretch is end within most unbroken;
+    codes_of_classes = classes_of_codes t stretch end most unbroken;
+    modifiers = modifiers_shown t stretch end most unbroken;
+    addresses = addresses_shown t stretch end most unbroken;
+    directions = directions_shown t stretch is end within most unbroken;
+    written_data = data_shown t stretch is end within most unbroken;
     strobe_awaits = by_transfers (AwaitsAnswer t end) (λ i e. tt) (λ i level slot e. tt) no_wait awaits_answer;
     nothing_else = traffic_alone;
   }

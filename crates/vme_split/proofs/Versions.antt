@@ -184,20 +184,20 @@ bare_reset : (b : Bool) (i : ℕ) → bare (if b then Reset i ∷ [] else []) �
 bare_reset true i = refl
 bare_reset false i = refl
 
-recording_kept : (t : Trace) (limit : ℕ) (end : ListedVerdict) (spans : List Stretch) (rows : List Row)
-    → SplitsRecording t limit end spans rows → SplitsRecording t limit end spans (bare rows)
+recording_kept : (t : Trace) (limit : ℕ) (end : ListedVerdict) (stretches : List Stretch) (rows : List Row)
+    → SplitsRecording t limit end stretches rows → SplitsRecording t limit end stretches (bare rows)
 recording_kept t limit end [] rows h = ap (λ (xs : List Row). bare xs) h
-recording_kept t limit end (span ∷ spans) rows h =
-    let here : List Row = h.0 in let later : List Row = h.1 in let reset : List Row = reset_row t limit span in
+recording_kept t limit end (stretch ∷ stretches) rows h =
+    let here : List Row = h.0 in let later : List Row = h.1 in let reset : List Row = reset_row t limit stretch in
     let apart : bare ((here ++ reset) ++ later) ≡ (bare here ++ reset) ++ bare later =
     map-append without_data (here ++ reset) later
     ∙ ap (λ (xs : List Row). xs ++ bare later) (map-append without_data here reset ∙ ap (λ (xs : List Row). bare here
-    ++ xs) (bare_reset (is_reset_at t span.end && nat_lt span.end limit) span.end)) in (
+    ++ xs) (bare_reset (is_reset_at t stretch.end && nat_lt stretch.end limit) stretch.end)) in (
       bare here,
       bare later,
-      ap (λ (xs : List Row). bare xs) h.2 ∙ ap (λ (xs : List Row). Start span.start ∷ xs) apart,
-      stretch_kept t span.start (min span.end limit) here h.3,
-      recording_kept t limit end spans later h.4,
+      ap (λ (xs : List Row). bare xs) h.2 ∙ ap (λ (xs : List Row). Start stretch.start ∷ xs) apart,
+      stretch_kept t stretch.start (min stretch.end limit) here h.3,
+      recording_kept t limit end stretches later h.4,
     )
 
 splits_kept : (t : Trace) (v : Verdict) (rows : List Row) → Splits t v rows → Splits t v (bare rows)

@@ -10,7 +10,7 @@ use Rattle.vme_trace.specs.Trace.{Trace, last_instant, levels_at}
 use Rattle.vme_trace.specs.Lanes.{lanes_at}
 use Rattle.vme_trace.specs.declared.data.Lanes.{Lanes}
 use Rattle.vme_trace.specs.Signals.{low, high, falls, rises}
-use Rattle.vme_trace.specs.Judged.{Stretch, is_idle_at, is_reset_at, judged_spans}
+use Rattle.vme_trace.specs.Judged.{Stretch, is_idle_at, is_reset_at, judged_stretches}
 use Rattle.vme_trace.specs.Transfers.{strobes_high}
 use Rattle.vme_listing.specs.declared.row.AnswerLine.TheVariants.{Dtack, Berr}
 use Rattle.vme_trace.specs.declared.class.Class.TheVariants as class
@@ -309,27 +309,27 @@ module _ (t : Trace) (first end : ℕ) where
 module _ (t : Trace) (limit : ℕ) where
   -- the reset that ends a stretch
   abbrev pub reset_row : Stretch → List Row
-  reset_row span = if is_reset_at t span.end && nat_lt span.end limit then Reset span.end ∷ [] else []
+  reset_row stretch = if is_reset_at t stretch.end && nat_lt stretch.end limit then Reset stretch.end ∷ [] else []
 
   -- a listing has for each stretch in turn its start, the rows that split its edges, and its reset; then the verdict
   abbrev pub SplitsRecording : ListedVerdict → List Stretch → List Row → Type 0
   SplitsRecording end [] rows = rows ≡ row.Verdict end ∷ []
-  SplitsRecording end (span ∷ spans) rows =
-      (here : List Row) × (later : List Row) × (rows ≡ Start span.start ∷ here ++ reset_row span ++ later)
-      × SplitsStretch t span.start (min span.end limit) here × SplitsRecording end spans later
+  SplitsRecording end (stretch ∷ stretches) rows =
+      (here : List Row) × (later : List Row) × (rows ≡ Start stretch.start ∷ here ++ reset_row stretch ++ later)
+      × SplitsStretch t stretch.start (min stretch.end limit) here × SplitsRecording end stretches later
 
   -- the stretches whose start is listed
-  abbrev pub listed_spans : List Stretch
-  listed_spans = filter (λ span. nat_lt span.start limit) (judged_spans t)
+  abbrev pub listed_stretches : List Stretch
+  listed_stretches = filter (λ stretch. nat_lt stretch.start limit) (judged_stretches t)
 
 -- the rows of a listing split the judged edges of a recording with this verdict: all of them, or those before the
 -- break. Where the bus is never idle, no instant is idle, so nothing is judged, and the listing has the verdict alone
 abbrev pub Splits : Trace → Verdict → List Row → Type 0
-Splits t said.Conforming rows = SplitsRecording t (last_instant t + 1) outcome.Conforming (judged_spans t) rows
+Splits t said.Conforming rows = SplitsRecording t (last_instant t + 1) outcome.Conforming (judged_stretches t) rows
 Splits t (said.Broken b) rows =
-    SplitsRecording t b.instant (outcome.Broken b.rule b.instant b.line) (listed_spans t b.instant) rows
+    SplitsRecording t b.instant (outcome.Broken b.rule b.instant b.line) (listed_stretches t b.instant) rows
 Splits t (said.Unreadable b) rows =
-    SplitsRecording t b.instant (outcome.Unreadable b.rule b.instant b.line) (listed_spans t b.instant) rows
+    SplitsRecording t b.instant (outcome.Unreadable b.rule b.instant b.line) (listed_stretches t b.instant) rows
 Splits t said.NeverIdle rows =
     ((i : ℕ) → i ≤ last_instant t → is_idle_at t i ≡ false) × (rows ≡ row.Verdict outcome.NeverIdle ∷ [])
 

@@ -49,7 +49,7 @@ fn before_steps(text: TextPieces<StepCollector>) -> Result<StepReader, CaptureFa
 /// many bytes the definitions take, or `None` if they don't end in `front`.
 fn begin_at(
     alloc: Global,
-    bound: &Binding,
+    binding: &Binding,
     front: &[u8],
 ) -> Result<Option<(StepReader, usize)>, CaptureFault>
     ensures within { IfOk result (λ found. IfSome found (λ begun. begun.1 ≤ length front.now)) }
@@ -61,14 +61,14 @@ fn begin_at(
         line_behind begun.0.speculative.body.line (drop begun.1 front.now) ≡ line_behind 1 front.now)) }
     ensures begins { IfOk result (λ found. IfSome found (λ begun. (whole : List ℕ) (more : List Token)
         → tokens whole ≡ tokens front.now ++ more
-        → reading_of_text bound.now whole ≡ Ok (reading_ahead (with_recording begun.0.given begun.0.speculative)
+        → reading_of_text binding.now whole ≡ Ok (reading_ahead (with_recording begun.0.given begun.0.speculative)
         (tokens_from begun.0.speculative.body.line (drop begun.1 front.now)) more))) }
     ensures fails { IfErr result (λ fault. (whole : List ℕ) (more : List Token)
-        → tokens whole ≡ tokens front.now ++ more → CaptureFailsBy fault (reading_of_text bound.now whole)) }
+        → tokens whole ≡ tokens front.now ++ more → CaptureFailsBy fault (reading_of_text binding.now whole)) }
     ensures unended { IfOk result (λ found. IfNone found ((fault : VcdFault)
-        × (reading_of_text bound.now front.now ≡ Err (Dump fault)))) }
+        × (reading_of_text binding.now front.now ≡ Err (Dump fault)))) }
 {
-    match bound.begin_before_body(alloc, front, none_taken(alloc, bound.lines())) {
+    match binding.begin_before_body(alloc, front, none_taken(alloc, binding.lines())) {
         Ok(Ok((text, left))) => match before_steps(text) {
             Ok(reader) => Ok(Some((reader, front.len() - left.len()))),
             Err(fault) => Err(fault),
@@ -83,7 +83,7 @@ fn begin_at(
 /// of the binding, is that of every text with these first bytes.
 pub fn begin_steps(
     alloc: Global,
-    bound: &Binding,
+    binding: &Binding,
     front: &[u8],
 ) -> Result<Option<(StepReader, usize)>, CaptureFault>
     ensures within { IfOk result (λ found. IfSome found (λ begun. begun.1 ≤ length front.now)) }
@@ -92,19 +92,19 @@ pub fn begin_steps(
     ensures sound { IfOk result (λ found. IfSome found (λ begun. (rest : List ℕ)
         → malformed_step (whole_reading begun.0 rest).recorded ≡ None)) }
     ensures begins { IfOk result (λ found. IfSome found (λ begun. (rest : List ℕ)
-        → reading_of_text bound.now (front.now ++ rest)
+        → reading_of_text binding.now (front.now ++ rest)
         ≡ Ok (whole_reading begun.0 (drop begun.1 front.now ++ rest)))) }
     ensures fails { IfErr result (λ fault. (rest : List ℕ)
-        → CaptureFailsBy fault (reading_of_text bound.now (front.now ++ rest))) }
+        → CaptureFailsBy fault (reading_of_text binding.now (front.now ++ rest))) }
 {
     let count = whole_tokens(front);
-    begin_at(alloc, bound, &front[..count])
+    begin_at(alloc, binding, &front[..count])
 }
 
 /// As `begin_steps`, of a whole text: definitions that don't end are a fault.
 pub fn begin_last_steps(
     alloc: Global,
-    bound: &Binding,
+    binding: &Binding,
     text: &[u8],
 ) -> Result<(StepReader, usize), CaptureFault>
     ensures within { IfOk result (λ begun. begun.1 ≤ length text.now) }
@@ -112,23 +112,23 @@ pub fn begin_last_steps(
     ensures formed { IfOk result (λ begun. malformed_step begun.0.given ≡ None) }
     ensures sound { IfOk result (λ begun. (rest : List ℕ)
         → malformed_step (whole_reading begun.0 rest).recorded ≡ None) }
-    ensures begins { IfOk result (λ begun. reading_of_text bound.now text.now
+    ensures begins { IfOk result (λ begun. reading_of_text binding.now text.now
         ≡ Ok (whole_reading begun.0 (drop begun.1 text.now))) }
-    ensures fails { IfErr result (λ fault. CaptureFailsBy fault (reading_of_text bound.now text.now)) }
+    ensures fails { IfErr result (λ fault. CaptureFailsBy fault (reading_of_text binding.now text.now)) }
 {
-    match begin_at(alloc, bound, text) {
+    match begin_at(alloc, binding, text) {
         Ok(Some(begun)) => Ok(begun),
-        Ok(None) => Err(unended(alloc, bound, text)),
+        Ok(None) => Err(unended(alloc, binding, text)),
         Err(fault) => Err(fault),
     }
 }
 
 /// The fault of definitions that don't end.
-fn unended(alloc: Global, bound: &Binding, text: &[u8]) -> CaptureFault
-    requires { (fault : VcdFault) × (reading_of_text bound.now text.now ≡ Err (Dump fault)) }
-    ensures { CaptureFailsBy result (reading_of_text bound.now text.now) }
+fn unended(alloc: Global, binding: &Binding, text: &[u8]) -> CaptureFault
+    requires { (fault : VcdFault) × (reading_of_text binding.now text.now ≡ Err (Dump fault)) }
+    ensures { CaptureFailsBy result (reading_of_text binding.now text.now) }
 {
-    match bound.record_text(alloc, text, none_taken(alloc, bound.lines())) {
+    match binding.record_text(alloc, text, none_taken(alloc, binding.lines())) {
         Ok(_) => unreachable!(),
         Err(fault) => fault,
     }

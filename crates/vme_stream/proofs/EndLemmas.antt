@@ -7,8 +7,8 @@ use Rattle.vme_trace.specs.declared.verdict.Verdict.TheVariants.{Conforming, Bro
 use Rattle.vme_stream.specs.declared.refusal.Refusal.{Refusal}
 use Rattle.vme_stream.specs.declared.refusal.Refusal.TheVariants.{Memory}
 use Rattle.vme_stream.specs.Answers.{CommandAnswer, AnswerGives, answer_by, answer_of, judgement_of}
-use Rattle.vme_stream.specs.Ends.{Tells, Ends, Does, Checks}
-use Rattle.vme_stream.specs.Inputs.{IsReading, TellsWhole, fewest_short_reads, most_reads}
+use Rattle.vme_stream.specs.Ends.{WritesAnswer, Ends, AnswersInputs, Checks}
+use Rattle.vme_stream.specs.Inputs.{IsReading, IsReadWhole, fewest_short_reads, most_reads}
 use Rattle.vme_trace.specs.Streams.{Reading, Writing}
 use Rattle.vme_stream.specs.Texts.{verdict_status, refusal_status}
 
@@ -49,7 +49,7 @@ told_alike (Some y) bytes x is same =
 
 -- the bytes that are read of a source, if it is read whole, are its own
 pub read_is : (old new : Reading) (bytes : Option (List ℕ)) (told : List ℕ) → IsReading old new bytes
-    → TellsWhole old new told → bytes ≡ Some told
+    → IsReadWhole old new told → bytes ≡ Some told
 read_is old new (Some x) told reading whole = ap (λ (l : List ℕ). Some l) (told_alike old.left told x whole.told
     reading.1)
 read_is old new None told (inl failed) whole = absurd (not_both new.failures old.failures whole.failures failed)
@@ -71,29 +71,30 @@ module _ {A : Type 0} (answer : A → CommandAnswer) (small : (found : A) → (a
   exact_by : (said : CommandAnswer) (found : A) (out err : Writing × Writing) (status : ℕ) → Ends (answer found) out err
       status
       → (((answer found).status ≡ 4 → ⊥) → answer found ≡ said) → out.1.failures ≡ out.0.failures → (status ≡ 4 → ⊥)
-      → Tells said out err status
+      → WritesAnswer said out err status
   exact_by said found out err status (inl told) is same memory =
-      subst (λ (a : CommandAnswer). Tells a out err status) (is (λ four. memory (told.status_is ∙ four))) told
+      subst (λ (a : CommandAnswer). WritesAnswer a out err status) (is (λ four. memory (told.status_is ∙ four))) told
   exact_by said found out err status (inr failed) is same memory = absurd (not_both out.1.failures out.0.failures same
       failed.out_is.1)
 
   module _ (MayFind : Option (List ℕ) → Option (List ℕ) → A → Type 0) (binding dump : Reading × Reading)
       (out err : Writing × Writing) (status : ℕ) where
     -- the status is 5 exactly where a write on the output failed
-    pub Does-unwritten : Does answer MayFind binding dump out err status
+    pub AnswersInputs-unwritten : AnswersInputs answer MayFind binding dump out err status
         → (status ≡ 5) ↔ (out.1.failures ≡ suc out.0.failures)
-    Does-unwritten does =
+    AnswersInputs-unwritten does =
         let (binding_bytes, dump_bytes, found, binding_read, dump_read, may, end) = does in
         unwritten_by found out err status end
 
     -- if the inputs are read whole, no write fails and the status isn't 4, the answer is `said`, provided that all that
     -- may be found of their bytes has the answer `said` or the status 4
-    pub Does-exact : Does answer MayFind binding dump out err status → (b d : List ℕ) (said : CommandAnswer)
+    pub AnswersInputs-exact : AnswersInputs answer MayFind binding dump out err status
+        → (b d : List ℕ) (said : CommandAnswer)
         → ((found : A) → MayFind (Some b) (Some d) found → ((answer found).status ≡ 4 → ⊥) → answer found ≡ said)
-        → TellsWhole binding.0 binding.1 b → TellsWhole dump.0 dump.1 d → out.1.failures ≡ out.0.failures
+        → IsReadWhole binding.0 binding.1 b → IsReadWhole dump.0 dump.1 d → out.1.failures ≡ out.0.failures
         → (status ≡ 4 → ⊥)
-        → Tells said out err status
-    Does-exact does b d said is told_b told_d same memory =
+        → WritesAnswer said out err status
+    AnswersInputs-exact does b d said is told_b told_d same memory =
         let (binding_bytes, dump_bytes, found, binding_read, dump_read, may, end) = does in
         let b_is : binding_bytes ≡ Some b = read_is binding.0 binding.1 binding_bytes b binding_read told_b in
         let d_is : dump_bytes ≡ Some d = read_is dump.0 dump.1 dump_bytes d dump_read told_d in
@@ -122,10 +123,10 @@ MayJudge block b d judged = AnswerGives (λ (v : Verdict). v) judged (judgement_
 
 pub Checks-exact : (binding dump : Reading × Reading) (block : ℕ) (out err : Writing × Writing) (status : ℕ)
     → Checks binding dump block out err status
-    → (b d : List ℕ) → TellsWhole binding.0 binding.1 b → TellsWhole dump.0 dump.1 d → out.1.failures ≡ out.0.failures
+    → (b d : List ℕ) → IsReadWhole binding.0 binding.1 b → IsReadWhole dump.0 dump.1 d → out.1.failures ≡ out.0.failures
     → (status ≡ 4 → ⊥)
-    → Tells (answer_of (Some b) (Some d) block) out err status
+    → WritesAnswer (answer_of (Some b) (Some d) block) out err status
 Checks-exact binding dump block out err status checks b d =
-    Does-exact answer_by answer_by-small (MayJudge block) binding dump out err status checks b d
+    AnswersInputs-exact answer_by answer_by-small (MayJudge block) binding dump out err status checks b d
     (answer_of (Some b) (Some d) block)
     (λ found. given_is answer_by refl found (judgement_of (Some b) (Some d) block))

@@ -49,7 +49,7 @@ IsReading old new None = (new.failures ≡ suc old.failures) ⊎ GivesUp old new
 -- The source is known to have these bytes, no read fails, and reading isn't given up: there are fewer than `most_reads`
 -- bytes, or fewer reads than that give bytes, or fewer than `fewest_short_reads` reads are short. A source that fills
 -- the room that it is offered has at most one short read, the last that gives bytes.
-pub record TellsWhole (old new : Reading) (bytes : List ℕ) : Type 0 where
+pub record IsReadWhole (old new : Reading) (bytes : List ℕ) : Type 0 where
   pub told : old.left ≡ Some bytes
   pub failures : new.failures ≡ old.failures
   pub in_time : (length bytes < most_reads)

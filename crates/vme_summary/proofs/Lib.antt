@@ -16,7 +16,7 @@ pub mod MarkedKinds
 pub mod MarkedRowsFound
 pub mod MarkedCuts
 pub mod MarkedResets
-pub mod MarkedSpans
+pub mod MarkedStretches
 pub mod MarkedListing
 pub mod Listed
 pub mod Marked

@@ -3,13 +3,13 @@ use Rattle.std.proofs.Common.{◌≡◌, ◌<◌, ◌≤◌, ◌^◌, Bool, true
 use Rattle.std.proofs.Common.{Some}
 use Rattle.vme_trace.specs.Levels.{Levels}
 use Rattle.vme_trace.specs.Trace.{Trace}
-use Rattle.vme_trace.specs.Judged.{judged_spans}
+use Rattle.vme_trace.specs.Judged.{judged_stretches}
 use Rattle.vme_trace.specs.Blocks.{joined_steps}
 use Rattle.vme_trace.specs.declared.verdict.Break.{Break}
 use Rattle.vme_listing.specs.Places.{is_well_placed}
 use Rattle.vme_listing.specs.Listed.{Listed, in_newest_version}
 use Rattle.vme_listing.specs.Recorded.{listing_of, recorded_rows}
-use Rattle.vme_monitor.specs.Whole.{has_span}
+use Rattle.vme_monitor.specs.Whole.{has_any_stretch}
 use Rattle.vme_monitor.specs.declared.mark.Mark.{Mark}
 use Rattle.vme_summary.specs.AllShown.{all_marks}
 use Rattle.vme_summary.specs.MarkedRows.{listed}
@@ -23,7 +23,7 @@ use Rattle.vme_summary.proofs.MarkedListing.{marked_is_listed}
 use Rattle.vme_summary.proofs.Whole.{FindsFrom, found_all, span_of_all}
 
 listing_at : (t : Trace) (judged : Bool) (first_break : Option Break) (opening : Levels) (marks : List Mark) → judged
-    ≡ has_span (judged_spans t) → first_break ≡ first_break_of t → opening ≡ t.opening → marks ≡ all_marks t
+    ≡ has_any_stretch (judged_stretches t) → first_break ≡ first_break_of t → opening ≡ t.opening → marks ≡ all_marks t
     → recorded_rows t
     ≡ listed opening judged first_break marks
 listing_at t judged first_break opening marks started first opens seen =
@@ -34,7 +34,7 @@ listing_at t judged first_break opening marks started first opens seen =
 -- instants)
 pub listing_found : (s : MonitorSummaries) (o : Levels) (t : Trace) → StandsForAll s o t
     → (f : MonitorStates) → FindsFrom s o f
-    → (judged : Bool) → ((t : Trace) → HasFoundAll f t → judged ≡ has_span (judged_spans t))
+    → (judged : Bool) → ((t : Trace) → HasFoundAll f t → judged ≡ has_any_stretch (judged_stretches t))
     → (first_break : Option Break) → ((t : Trace) → HasFoundAll f t → first_break ≡ first_break_of t)
     → (marks : List Mark) → ((t : Trace) → StandsForAll s o t → marks ≡ all_marks t) → listing_of t ≡ in_newest_version
     (listed o judged first_break marks)

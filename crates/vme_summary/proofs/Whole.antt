@@ -8,14 +8,14 @@ use Rattle.vme_trace.specs.Trace.{Trace}
 use Rattle.vme_trace.specs.Block.{trace_of}
 use Rattle.vme_trace.specs.Blocks.{joined_steps}
 use Rattle.vme_trace.specs.WellFormed.{malformed_step}
-use Rattle.vme_trace.specs.Judged.{Stretch as Stretch, judged_spans}
+use Rattle.vme_trace.specs.Judged.{Stretch as Stretch, judged_stretches}
 use Rattle.vme_trace.specs.Verdict.{judge, rules_in_force, verdict_by, verdict_on, least_of}
 use Rattle.vme_trace.specs.declared.block.Block.{Block}
 use Rattle.vme_trace.specs.declared.step.Step.{Step}
 use Rattle.vme_trace.specs.declared.verdict.Break.{Break}
 use Rattle.vme_trace.specs.declared.verdict.Verdict.{Verdict}
 use Rattle.vme_trace.specs.declared.verdict.Verdict.TheVariants.{NeverIdle}
-use Rattle.vme_monitor.specs.Whole.{has_span}
+use Rattle.vme_monitor.specs.Whole.{has_any_stretch}
 use Rattle.vme_summary.specs.Joins.{BlocksJoin, first_time, is_later_time, joined_trace, last_time, left_by}
 use Rattle.vme_summary.specs.Progressed.{HasFound, HasFoundAll}
 use Rattle.vme_summary.specs.Summaries.{StandsForAll, SummaryFindsFor, SummaryStandsFor, first_break_of}
@@ -97,28 +97,31 @@ span_of_all s few (b ∷ bs) t stands e =
     } in
     subst (λ k. StandsForAll s.summary s.extent.opening k) whole here
 
-judged_some : (spans : List Stretch) (t : Trace) → has_span spans ≡ true → judge rules_in_force t spans
-    ≡ verdict_on (least_of rules_in_force t spans)
+judged_some : (stretches : List Stretch) (t : Trace) → has_any_stretch stretches ≡ true
+    → judge rules_in_force t stretches
+    ≡ verdict_on (least_of rules_in_force t stretches)
 judged_some [] t e = absurd (cc)
-judged_some (span ∷ spans) t e = refl
+judged_some (stretch ∷ stretches) t e = refl
 
-judged_none : (spans : List Stretch) (t : Trace) → has_span spans ≡ false → judge rules_in_force t spans ≡ NeverIdle
+judged_none : (stretches : List Stretch) (t : Trace) → has_any_stretch stretches ≡ false
+    → judge rules_in_force t stretches ≡ NeverIdle
 judged_none [] t e = refl
-judged_none (span ∷ spans) t e = absurd (cc)
+judged_none (stretch ∷ stretches) t e = absurd (cc)
 
 -- the verdict if something is judged
-pub judged_verdict : (t : Trace) (judged : Bool) (first_break : Option Break) → judged ≡ has_span (judged_spans t)
+pub judged_verdict : (t : Trace) (judged : Bool) (first_break : Option Break) → judged
+    ≡ has_any_stretch (judged_stretches t)
     → first_break
     ≡ first_break_of t → judged ≡ true → verdict_by rules_in_force t ≡ verdict_on first_break
 unfolding verdict_by
-judged_verdict t judged first_break started first on = judged_some (judged_spans t) t (sym started ∙ on)
+judged_verdict t judged first_break started first on = judged_some (judged_stretches t) t (sym started ∙ on)
     ∙ ap verdict_on (sym first)
 
 -- the verdict if nothing is judged
-pub waiting_verdict : (t : Trace) (judged : Bool) → judged ≡ has_span (judged_spans t) → judged ≡ false
+pub waiting_verdict : (t : Trace) (judged : Bool) → judged ≡ has_any_stretch (judged_stretches t) → judged ≡ false
     → verdict_by rules_in_force t ≡ NeverIdle
 unfolding verdict_by
-waiting_verdict t judged started off = judged_none (judged_spans t) t (sym started ∙ off)
+waiting_verdict t judged started off = judged_none (judged_stretches t) t (sym started ∙ off)
 
 -- f has what the monitors that begin at the opening o find of the steps that s covers
 abbrev pub FindsFrom : MonitorSummaries → Levels → MonitorStates → Type 0

@@ -18,7 +18,7 @@ use Rattle.vme_chains.specs.GrantRules.{grant_begin, grant_end_fault, grant_next
 use Rattle.vme_chains.specs.declared.grant_memory.Arbitration.{Arbitration}
 use Rattle.vme_chains.specs.AcknowledgeRules.{acknowledge_begin, acknowledge_end_fault, acknowledge_next}
 use Rattle.vme_chains.specs.AcknowledgeRules.{acknowledge_start_marks, acknowledge_observation}
-use Rattle.vme_chains.specs.declared.acknowledge.Acknowledgement.{Acknowledgement}
+use Rattle.vme_chains.specs.declared.acknowledge.AcknowledgeMemory.{AcknowledgeMemory}
 
 unfoldable pub known_run : StretchPhase Stateless → Levels → List Step → Outcome (StretchPhase Stateless)
 known_run = run_of (machine_step (observed known_observation)
@@ -40,8 +40,8 @@ unfoldable pub grant_run : StretchPhase Arbitration → Levels → List Step →
 grant_run = run_of (machine_step (observed grant_observation)
     (phase_step grant_begin grant_start_marks no_step_marks grant_end_fault grant_next))
 
-unfoldable pub acknowledge_run : StretchPhase Acknowledgement → Levels → List Step
-    → Outcome (StretchPhase Acknowledgement)
+unfoldable pub acknowledge_run : StretchPhase AcknowledgeMemory → Levels → List Step
+    → Outcome (StretchPhase AcknowledgeMemory)
 acknowledge_run =
     run_of
     (machine_step (observed acknowledge_observation)

@@ -2,7 +2,7 @@
 use Rattle.std.specs.Prelude.{◌≡◌, ◌↔◌, ℕ, ◌≤◌, List, ◌++◌, Option, None}
 use Rattle.vme_trace.specs.Levels.{Levels}
 use Rattle.vme_trace.specs.Trace.{Trace, levels_after}
-use Rattle.vme_trace.specs.Judged.{judged_spans}
+use Rattle.vme_trace.specs.Judged.{judged_stretches}
 use Rattle.vme_trace.specs.Verdict.{least_of, rules_in_force}
 use Rattle.vme_trace.specs.WellFormed.{malformed_step}
 use Rattle.vme_trace.specs.declared.step.Step.{Step}
@@ -15,7 +15,7 @@ use Rattle.vme_monitor.specs.declared.over_stretches.StretchPhase.{StretchPhase}
 use Rattle.vme_dtb.specs.declared.memory.HandshakeMemory.{HandshakeMemory}
 use Rattle.vme_dtb.specs.declared.holding.Holding.{Holding}
 use Rattle.vme_chains.specs.declared.grant_memory.Arbitration.{Arbitration}
-use Rattle.vme_chains.specs.declared.acknowledge.Acknowledgement.{Acknowledgement}
+use Rattle.vme_chains.specs.declared.acknowledge.AcknowledgeMemory.{AcknowledgeMemory}
 use Rattle.vme_summary.specs.Runs.{known_run, handshake_run, stability_run, grant_run, acknowledge_run}
 use Rattle.vme_summary.specs.declared.summary.MonitorSummaries.{MonitorSummaries}
 
@@ -32,8 +32,8 @@ stability_outcome s p = table_outcome s.stability p
 abbrev pub grant_outcome : MonitorSummaries → StretchPhase Arbitration → Outcome (StretchPhase Arbitration)
 grant_outcome s p = table_outcome s.grant p
 
-abbrev pub acknowledge_outcome : MonitorSummaries → StretchPhase Acknowledgement
-    → Outcome (StretchPhase Acknowledgement)
+abbrev pub acknowledge_outcome : MonitorSummaries → StretchPhase AcknowledgeMemory
+    → Outcome (StretchPhase AcknowledgeMemory)
 acknowledge_outcome s p = table_outcome s.acknowledge p
 
 -- s stands for the steps x after the opening o: for each entering memory, each table gives the outcome of its monitor's
@@ -89,4 +89,4 @@ pub record StandsForAll (s : MonitorSummaries) (opening : Levels) (t : Trace) : 
 
 -- the first break of a recording, by the rules in force
 abbrev pub first_break_of : Trace → Option Break
-first_break_of t = least_of rules_in_force t (judged_spans t)
+first_break_of t = least_of rules_in_force t (judged_stretches t)

@@ -14,7 +14,7 @@ ghost use Rattle.vme_trace.specs.Verdict.{rules_in_force, verdict_by, verdict_on
 ghost use Rattle.vme_trace.specs.declared.step.Step.{Step};
 ghost use Rattle.vme_summary.specs.Progressed.{HasFound, HasFoundAll};
 
-use vme_chains::acknowledge::Acknowledgement;
+use vme_chains::acknowledge::AcknowledgeMemory;
 use vme_chains::grant_memory::Arbitration;
 use vme_dtb::holding::Holding;
 use vme_dtb::memory::HandshakeMemory;
@@ -65,7 +65,7 @@ impl<P: Enumerable> MonitorState<P> {
     }
 }
 
-/// The result of a step that ends no span, in the phase `InStretch(memory)` and without marks. `None` says that the
+/// The result of a step that ends no stretch, in the phase `InStretch(memory)` and without marks. `None` says that the
 /// memory stays and nothing is broken.
 #[inline(always)]
 fn next_judging<R: Rules>(
@@ -165,7 +165,7 @@ pub(crate) struct MonitorStates {
     pub(crate) handshake: MonitorState<StretchPhase<HandshakeMemory>>,
     pub(crate) stability: MonitorState<StretchPhase<Holding>>,
     pub(crate) grant: MonitorState<StretchPhase<Arbitration>>,
-    pub(crate) acknowledge: MonitorState<StretchPhase<Acknowledgement>>,
+    pub(crate) acknowledge: MonitorState<StretchPhase<AcknowledgeMemory>>,
 }
 
 /// The verdict by the first break, if anything is judged.

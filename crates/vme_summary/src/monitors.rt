@@ -2,11 +2,11 @@
 
 ghost use Rattle.std.specs.Prelude.{◌≡◌, ◌+◌, ◌^◌, ◌<◌, ◌≤◌, ◌∷◌, ◌++◌, List, [], length, IfOk};
 ghost use Rattle.vme_trace.specs.Levels.{Levels};
-ghost use Rattle.vme_trace.specs.Judged.{judged_spans};
+ghost use Rattle.vme_trace.specs.Judged.{judged_stretches};
 ghost use Rattle.vme_trace.specs.Trace.{Trace, levels_after};
 ghost use Rattle.vme_trace.specs.declared.step.Step.{Step};
 ghost use Rattle.vme_monitor.specs.StepRuns.{seen_in};
-ghost use Rattle.vme_monitor.specs.Whole.{has_span};
+ghost use Rattle.vme_monitor.specs.Whole.{has_any_stretch};
 ghost use Rattle.vme_summary.specs.AllShown.{all_marks};
 ghost use Rattle.vme_summary.specs.HasRoom.{HasRoom};
 ghost use Rattle.vme_summary.specs.Advancing.{IsAdvancedTo};
@@ -236,7 +236,7 @@ impl MonitorStates {
 
     /// Whether anything of a recording is judged, if the monitors have been advanced by all its steps.
     pub(crate) fn has_judged(&self) -> bool
-        ensures { (t : Trace) → HasFoundAll self.now t → result ≡ has_span (judged_spans t) }
+        ensures { (t : Trace) → HasFoundAll self.now t → result ≡ has_any_stretch (judged_stretches t) }
     {
         known_over_recordings();
         Known::started(self.known.memory)

@@ -4,7 +4,7 @@ ghost use Rattle.std.specs.Prelude.{◌≡◌};
 ghost use Rattle.vme_monitor.specs.WholeTables.{table_steps};
 ghost use Rattle.vme_summary.specs.SameSteps.{SameSteps};
 
-use vme_chains::acknowledge::Acknowledgement;
+use vme_chains::acknowledge::AcknowledgeMemory;
 use vme_chains::grant_memory::Arbitration;
 use vme_dtb::holding::Holding;
 use vme_dtb::memory::HandshakeMemory;
@@ -20,7 +20,7 @@ pub(crate) struct MonitorSummaries {
     pub(crate) handshake: Table<StretchPhase<HandshakeMemory>>,
     pub(crate) stability: Table<StretchPhase<Holding>>,
     pub(crate) grant: Table<StretchPhase<Arbitration>>,
-    pub(crate) acknowledge: Table<StretchPhase<Acknowledgement>>,
+    pub(crate) acknowledge: Table<StretchPhase<AcknowledgeMemory>>,
     ghost same: { SameSteps (table_steps known) (table_steps handshake) (table_steps stability) (table_steps grant)
         (table_steps acknowledge) },
 }

@@ -112,11 +112,11 @@ pub(crate) struct ExplainedInput<'b, F: StepVisitor> {
 
 impl<'b, F: StepVisitor> ExplainedInput<'b, F> {
     /// Before the first byte.
-    pub fn new(alloc: Global, bound: &'b Binding, visitor: F) -> ExplainedInput<'b, F>
-        ensures { (rest : List ℕ) → dump_ahead result.reader rest ≡ recording_of_text bound.now rest }
+    pub fn new(alloc: Global, binding: &'b Binding, visitor: F) -> ExplainedInput<'b, F>
+        ensures { (rest : List ℕ) → dump_ahead result.reader rest ≡ recording_of_text binding.now rest }
     {
         ExplainedInput {
-            reader: DumpReader::new(bound, visitor),
+            reader: DumpReader::new(binding, visitor),
             context: FaultContext::new(alloc),
             kept: None,
         }
@@ -168,16 +168,16 @@ impl<F: StepVisitor> ByteConsumer for ExplainedInput<'_, F> {
 /// and what is kept of the dump. The dump is read piece by piece.
 pub(crate) fn taken_dump<F: StepVisitor, D: Source>(
     alloc: Global,
-    bound: &Binding,
+    binding: &Binding,
     dump: &mut D,
     visitor: F,
 ) -> (Result<F, Refusal>, KeptDump)
     ensures gives { (bytes : Option (List ℕ))
         × IsReading (D.reading dump.old) (D.reading dump.new) bytes
-        × AnswerGives (λ w. F.recorded w) result.0 (recording_by bound.now (dump_read bytes)) }
+        × AnswerGives (λ w. F.recorded w) result.0 (recording_by binding.now (dump_read bytes)) }
     ensures formed { IfOk result.0 (λ w. malformed_step (F.recorded w) ≡ None) }
 {
-    let input = ExplainedInput::new(alloc, bound, visitor);
+    let input = ExplainedInput::new(alloc, binding, visitor);
     match read_by(
         alloc,
         dump,

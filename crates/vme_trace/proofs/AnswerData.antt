@@ -34,21 +34,22 @@ before_next i r h = omega arith
 not_zero : (i r k : ℕ) → i < r → k ≡ r - 1 → i < k → k < r
 not_zero i r k h e f = omega arith
 
-module _ (t : Trace) (span : Stretch) where
+module _ (t : Trace) (stretch : Stretch) where
   -- a strobe is low where a transfer starts
-  open_at_start : (i : ℕ) → transfer_starts t span i ≡ true → strobes_high t i ≡ false
+  open_at_start : (i : ℕ) → transfer_starts t stretch i ≡ true → strobes_high t i ≡ false
   unfolding transfer_starts low high
   open_at_start i starts = low_is_not_high (level t DS0 i) (level t DS1 i) (and_parts _ _ starts).1
 
-  open_since : (i r k : ℕ) → answers t span i r ≡ true → i < k → k < r → strobes_high t k ≡ false
+  open_since : (i r k : ℕ) → answers t stretch i r ≡ true → i < k → k < r → strobes_high t k ≡ false
   unfolding answers lasts
   open_since i r k found after before =
       any-fails (strobes_high t) (i + 1) r k
       (not-true _ (and_parts _ _ (and_parts _ _ (and_parts _ _ found).0).0).1) (omega arith) before
 
   -- where the transfer that starts at i is answered at a later r, no transfer starts at r
-  pub starts_apart : (i r : ℕ) → transfer_starts t span i ≡ true → answers t span i r ≡ true → i < r → transfer_starts t
-      span r ≡ false
+  pub starts_apart : (i r : ℕ) → transfer_starts t stretch i ≡ true → answers t stretch i r ≡ true → i < r
+      → transfer_starts t
+      stretch r ≡ false
   unfolding transfer_starts
   starts_apart i r starts found after = no_start _ _ _ open_before
     where
@@ -60,11 +61,12 @@ module _ (t : Trace) (span : Stretch) where
           ]
 
   -- the data of an answer after its transfer's start are those of the instant before the answer
-  pub data-later : (i r : ℕ) → transfer_starts t span i ≡ true → answers t span i r ≡ true → i < r → data_at t span r
+  pub data-later : (i r : ℕ) → transfer_starts t stretch i ≡ true → answers t stretch i r ≡ true → i < r
+      → data_at t stretch r
       ≡ lanes_at (levels_at t (r - 1))
   unfolding data_at
   data-later i r starts found after = rw (starts_apart i r starts found after) refl
 
-  pub data-there : (r : ℕ) → transfer_starts t span r ≡ true → data_at t span r ≡ lanes_at (levels_at t r)
+  pub data-there : (r : ℕ) → transfer_starts t stretch r ≡ true → data_at t stretch r ≡ lanes_at (levels_at t r)
   unfolding data_at
   data-there r starts = rw starts refl

@@ -4,11 +4,11 @@ pub mod Counting
 pub mod CutBlocks
 pub mod EveryRule
 pub mod IdleLines
-pub mod JudgedSpans
+pub mod JudgedStretches
 pub mod NameLaws
 pub mod OpenTransfers
 pub mod Ranges
 pub mod SameLevel
-pub mod SameLines
-pub mod SpanEnds
+pub mod LevelsEquality
+pub mod StretchEnds
 pub mod WellFormedSteps

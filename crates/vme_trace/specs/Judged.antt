@@ -10,7 +10,7 @@ pub record Stretch : Type 0 where
   pub end : ℕ
 
 abbrev pub is_judged : Stretch → ℕ → Bool
-is_judged span i = nat_lt span.start i && nat_lt i span.end
+is_judged stretch i = nat_lt stretch.start i && nat_lt i stretch.end
 
 unfoldable pub is_idle_at : Trace → ℕ → Bool
 is_idle_at t i = is_idle (levels_at t i)
@@ -26,11 +26,11 @@ abbrev pub stops_at : Trace → ℕ → Bool
 stops_at t i = is_reset_at t i || loses_control_at t i
 
 -- the next instant after s at which the bus is reset or a control line is unknown, or one more than the last instant
-unfoldable pub span_end : Trace → ℕ → ℕ
-span_end t s = unwrap_or (least (stops_at t) (s + 1) (last_instant t + 1)) (last_instant t + 1)
+unfoldable pub stretch_end : Trace → ℕ → ℕ
+stretch_end t s = unwrap_or (least (stops_at t) (s + 1) (last_instant t + 1)) (last_instant t + 1)
 
-abbrev pub span_from : Trace → ℕ → Stretch
-span_from t s = record { start = s; end = span_end t s }
+abbrev pub stretch_from : Trace → ℕ → Stretch
+stretch_from t s = record { start = s; end = stretch_end t s }
 
 -- the last reset before an instant, or the opening where there is none
 abbrev pub last_reset : Trace → ℕ → ℕ
@@ -45,16 +45,16 @@ unfoldable pub is_cut_off : Trace → ℕ → Bool
 is_cut_off t i = loses_control_at t i && was_idle t i
 
 -- a stretch that is judged starts at the first idle instant of all, or since a reset, unless an earlier one was cut off
-unfoldable pub span_starts : Trace → ℕ → Bool
-span_starts t i = is_idle_at t i && not (was_idle t i) && none (is_cut_off t) 0 i
+unfoldable pub stretch_starts : Trace → ℕ → Bool
+stretch_starts t i = is_idle_at t i && not (was_idle t i) && none (is_cut_off t) 0 i
 
 -- every stretch that is judged, in order
-unfoldable pub judged_spans : Trace → List Stretch
-judged_spans t = map (span_from t) (those (span_starts t) 0 (last_instant t + 1))
+unfoldable pub judged_stretches : Trace → List Stretch
+judged_stretches t = map (stretch_from t) (those (stretch_starts t) 0 (last_instant t + 1))
 
 -- the stretches that are judged and start at instant n or later
-abbrev pub spans_after : Trace → ℕ → List Stretch
-spans_after t n = map (span_from t) (those (span_starts t) n (last_instant t + 1))
+abbrev pub stretches_after : Trace → ℕ → List Stretch
+stretches_after t n = map (stretch_from t) (those (stretch_starts t) n (last_instant t + 1))
 
 -- before instant n the bus wasn't idle since the last reset, and no stretch was cut off: the next idle instant, from n
 -- on, starts a stretch
@@ -62,8 +62,8 @@ pub record Awaits (t : Trace) (n : ℕ) : Type 0 where
   pub unjudged : was_idle t n ≡ false
   pub uncut : any (is_cut_off t) 0 n ≡ false
 
--- `span` is one of the stretches of t that are judged
-pub record IsSpanOf (t : Trace) (span : Stretch) : Type 0 where
-  pub within : span.start ≤ last_instant t
-  pub starts : span_starts t span.start ≡ true
-  pub ends : span.end ≡ span_end t span.start
+-- `stretch` is one of the stretches of t that are judged
+pub record IsStretchOf (t : Trace) (stretch : Stretch) : Type 0 where
+  pub within : stretch.start ≤ last_instant t
+  pub starts : stretch_starts t stretch.start ≡ true
+  pub ends : stretch.end ≡ stretch_end t stretch.start

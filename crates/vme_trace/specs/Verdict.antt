@@ -5,7 +5,7 @@ use Rattle.std.specs.Option.{option_or}
 use Rattle.vme_trace.specs.Instants.{least}
 use Rattle.vme_trace.specs.LineNumbers.{line_count}
 use Rattle.vme_trace.specs.Trace.{Trace, time_at, last_instant}
-use Rattle.vme_trace.specs.Judged.{Stretch, judged_spans}
+use Rattle.vme_trace.specs.Judged.{Stretch, judged_stretches}
 use Rattle.vme_trace.specs.Rules.{all_rules, breaks, is_unreadable}
 use Rattle.vme_trace.specs.declared.rule.Rule.{Rule}
 use Rattle.vme_trace.specs.declared.verdict.Break.{Break}
@@ -20,11 +20,11 @@ rule_count = length all_rules
 abbrev pub rules_in_force : List Rule
 rules_in_force = all_rules
 
-module _ (t : Trace) (span : Stretch) where
+module _ (t : Trace) (stretch : Stretch) where
   -- the break of rule r at instant j, on the least line, if there is one
   unfoldable pub rule_break : ℕ → Rule → Option Break
   rule_break j r = option_map (λ l. record { instant = j; time = time_at t j; rule = r; line = l })
-      (least (breaks t span r j) 0 line_count)
+      (least (breaks t stretch r j) 0 line_count)
 
   -- the break at instant j of the first rule of the list that is broken there, if there is one
   unfoldable pub break_at : List Rule → ℕ → Option Break
@@ -47,16 +47,17 @@ verdict_on (Some b) = if is_unreadable b.rule then Unreadable b else Broken b
 -- the least break of the rules in stretches that follow one another
 abbrev pub least_of : List Rule → Trace → List Stretch → Option Break
 least_of rules t [] = None
-least_of rules t (span ∷ []) = least_break t span rules
-least_of rules t (span ∷ next ∷ spans) = option_or (least_break t span rules) (least_of rules t (next ∷ spans))
+least_of rules t (stretch ∷ []) = least_break t stretch rules
+least_of rules t (stretch ∷ next
+    ∷ stretches) = option_or (least_break t stretch rules) (least_of rules t (next ∷ stretches))
 
 abbrev pub judge : List Rule → Trace → List Stretch → Verdict
 judge rules t [] = NeverIdle
-judge rules t (span ∷ spans) = verdict_on (least_of rules t (span ∷ spans))
+judge rules t (stretch ∷ stretches) = verdict_on (least_of rules t (stretch ∷ stretches))
 
 -- the verdict by the rules of a list
 unfoldable pub verdict_by : List Rule → Trace → Verdict
-verdict_by rules t = judge rules t (judged_spans t)
+verdict_by rules t = judge rules t (judged_stretches t)
 
 abbrev pub verdict : Trace → Verdict
 verdict t = verdict_by all_rules t

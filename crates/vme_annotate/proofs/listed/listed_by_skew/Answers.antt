@@ -10,11 +10,11 @@ pub returns-in-Ok : goal.returns-in-Ok
 returns-in-Ok g c =
     subst (λ (read : Result Trace Refusal). GivesTimedListing c.settled_listing.result
     (settled_in_blocks g.K.GhostSkew.skew c.args.block read))
-    (sym (text_captured c.args.bound.now c.args.text.now c.in-Ok.settling c.in-Ok.ensures.gives))
+    (sym (text_captured c.args.binding.now c.args.text.now c.in-Ok.settling c.in-Ok.ensures.gives))
     (c.settled_listing.ensures c.in-Ok.ensures.formed)
 
 pub returns-in-Err : goal.returns-in-Err
 returns-in-Err g c =
     rw c.of_capture.ensures
-    (text_refused g.K.GhostSkew.skew c.args.block c.args.bound.now c.args.text.now c.in-Err.fault
+    (text_refused g.K.GhostSkew.skew c.args.block c.args.binding.now c.args.text.now c.in-Err.fault
     c.in-Err.ensures.gives)

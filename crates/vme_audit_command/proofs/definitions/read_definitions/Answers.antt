@@ -8,13 +8,13 @@ returns-in-Err-begin_last g c =
     let now = g.D.Source.reading c.loop.dump in
     let new = g.D.Source.reading c.read.new.dump in
     let (more, read, is) = c.in-Ok-false.ensures.more in
-    not-begun-at-end c.args.bound.now old new c.begin_last.new.input c.read.new.self c.in-Err-begin_last.why
+    not-begun-at-end c.args.binding.now old new c.begin_last.new.input c.read.new.self c.in-Err-begin_last.why
     (all-held old.left now.left new.left c.loop.input more c.read.new.self c.loop.invariant read is)
     (c.in-Ok-false.ensures.end (ap Ok c.in-Ok-false.field-0-test))
     c.in-Err-begin_last.ensures
 
 pub returns-in-Err : goal.returns-in-Err
-returns-in-Err g c = not-read c.args.bound.now (g.D.Source.reading c.args.dump.now)
+returns-in-Err g c = not-read c.args.binding.now (g.D.Source.reading c.args.dump.now)
     (g.D.Source.reading c.read.new.dump) c.read.new.self c.in-Err.fault c.not_read.result c.not_read.ensures
 
 pub returns-in-Ok-Some : goal.returns-in-Ok-Some
@@ -23,7 +23,7 @@ returns-in-Ok-Some g c =
     let now = g.D.Source.reading c.loop.dump in
     let new = g.D.Source.reading c.read.new.dump in
     let (more, read, is) = c.in-Ok-true.ensures.more in
-    begun-in c.args.bound.now old new c.begin.new.input c.read.new.self c.in-Ok-Some.field-0 c.in-Ok-Some.reader
+    begun-in c.args.binding.now old new c.begin.new.input c.read.new.self c.in-Ok-Some.field-0 c.in-Ok-Some.reader
     c.in-Ok-Some.field-0-is c.in-Ok-Some.ensures
     (all-held old.left now.left new.left c.loop.input more c.read.new.self c.loop.invariant read is)
 
@@ -33,6 +33,6 @@ returns-in-Err-begin g c =
     let now = g.D.Source.reading c.loop.dump in
     let new = g.D.Source.reading c.read.new.dump in
     let (more, read, is) = c.in-Ok-true.ensures.more in
-    not-begun-here c.args.bound.now old new c.begin.new.input c.read.new.self c.in-Err-begin.why
+    not-begun-here c.args.binding.now old new c.begin.new.input c.read.new.self c.in-Err-begin.why
     (all-held old.left now.left new.left c.loop.input more c.read.new.self c.loop.invariant read is)
     c.in-Err-begin.ensures

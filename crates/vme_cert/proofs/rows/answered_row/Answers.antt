@@ -2,7 +2,7 @@ use Rattle.vme_cert.proofs.Following.{answered-is}
 use Rattle.vme_cert.proofs.rows.answered_row.Goals as goal
 
 pub returns : goal.returns
-returns c t span end edge at opened cycle =
-    answered-is t span c.args.bus.now.instant c.args.transfer.now opened end c.direction.result c.answer_line.result
+returns c t stretch end edge at opened cycle =
+    answered-is t stretch c.args.bus.now.instant c.args.transfer.now opened end c.direction.result c.answer_line.result
     c.args.cycle.now.start c.answer_data.result edge cycle.last c.direction.ensures (c.answer_line.ensures t at)
-    (c.answer_data.ensures t span end at opened)
+    (c.answer_data.ensures t stretch end at opened)

@@ -23,30 +23,30 @@ finish-found-requires g c =
     )
 
 pub returns-in-Ok-found : goal.returns-in-Ok-found
-returns-in-Ok-found g c bound old now skew t whole version h compared end =
+returns-in-Ok-found g c binding old now skew t whole version h compared end =
     let r = c.args.reader in
     let steps = c.in-Ok.steps.items in
     let go = last-goes c.times_go_on.ensures.follows c.times_go_on.ensures.within c.times_go_on.ensures.on
     c.given_is_a_prefix.ensures r h.sound c.args.bytes.now steps c.in-Ok.ensures.recorded in
-    finds-of g.S.RowSource.gave g.S.RowSource.is_over whole version bound skew c.finish-found.result.1 old now
+    finds-of g.S.RowSource.gave g.S.RowSource.is_over whole version binding skew c.finish-found.result.1 old now
     c.args.bytes.now r end (with_steps r.given steps) c.in-Ok.ensures.recorded c.in-Ok.ensures.whole
     (record { whole = h.sound.whole; formed = c.in-Ok.ensures.formed }) c.in-Ok-found.found
     (rw c.in-Ok-found.is at (c.finish-found.ensures.finds whole version (skew_of skew) r.given
     (whole_reading r []).time t h.stepped compared go))
 
 pub returns-in-Err-found : goal.returns-in-Err-found
-returns-in-Err-found g c bound old now skew t whole version h compared end = (
+returns-in-Err-found g c binding old now skew t whole version h compared end = (
   (Some end.text, end.all.0),
   c.finish-found.ensures.left whole version (record { t = t; taken = h.stepped.taken; compared = compared }),
 )
 
 pub returns-in-Err : goal.returns-in-Err
-returns-in-Err g c bound old now skew t whole version h compared end =
+returns-in-Err g c binding old now skew t whole version h compared end =
     let stopped = c.in-Err.stopped in
     let r = c.args.reader in (
       rw (c.of_dump.ensures, c.fault_of.ensures) (faulty-is old now end.text end.all stopped.fault.line
           stopped.fault.kind
-          (stops-fault bound end.text (whole_reading r c.args.bytes.now) stopped.fault.line stopped.fault.kind
+          (stops-fault binding end.text (whole_reading r c.args.bytes.now) stopped.fault.line stopped.fault.kind
           (with_steps r.given stopped.steps.items) stopped.time end.body c.in-Err.ensures.stopped)),
       c.into_source.ensures whole version (record { t = t; taken = h.stepped.taken; compared = compared }),
     )

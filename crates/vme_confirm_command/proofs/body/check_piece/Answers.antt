@@ -29,7 +29,7 @@ take-requires-in-Ok g c =
     )
 
 pub returns-in-Ok-take-clause-reads : goal.returns-in-Ok-take-clause-reads
-returns-in-Ok-take-clause-reads g c bound old now at =
+returns-in-Ok-take-clause-reads g c binding old now at =
     let r = c.args.reader in
     let next = c.in-Ok.reader in
     let made = c.in-Ok.ensures in
@@ -37,8 +37,8 @@ returns-in-Ok-take-clause-reads g c bound old now at =
     let taken = subst (λ (l : List ℕ). (rest : List ℕ) → whole_reading r (take n l ++ rest) ≡ whole_reading next rest)
     c.bytes.ensures.held made.taken in
     let within = subst (λ (l : List ℕ). n ≤ length l) c.bytes.ensures.held made.within in
-    subst (λ (i : InputSoFar). IsAtBody bound old now i next) (sym c.take_first.ensures)
-    (body-taken bound old now c.args.input.now r at next n within taken)
+    subst (λ (i : InputSoFar). IsAtBody binding old now i next) (sym c.take_first.ensures)
+    (body-taken binding old now c.args.input.now r at next n within taken)
 
 pub returns-in-Ok-take-clause-checks : goal.returns-in-Ok-take-clause-checks
 returns-in-Ok-take-clause-checks g c skew t h =
@@ -62,11 +62,11 @@ returns-in-Ok-take-clause-checks g c skew t h =
     )
 
 pub returns-in-Err-take-clause-reads : goal.returns-in-Err-take-clause-reads
-returns-in-Err-take-clause-reads g c bound old now at =
+returns-in-Err-take-clause-reads g c binding old now at =
     some-reading old now at.done c.args.input.now at.read
 
 pub returns-in-Err-clause-reads : goal.returns-in-Err-clause-reads
-returns-in-Err-clause-reads g c bound old now at =
+returns-in-Err-clause-reads g c binding old now at =
     let stopped = c.in-Err.stopped in
     let r = c.args.reader in
     let stops = subst (λ (l : List ℕ). (rest : List ℕ) → StopsBehind r.given stopped (whole_reading r (l ++ rest)))
@@ -74,6 +74,6 @@ returns-in-Err-clause-reads g c bound old now at =
     subst (λ (f : VcdFault). FailsPiece old now c.args.input.now (Some f)) (sym c.fault_of.ensures) (
       at.done,
       at.read,
-      body-stops bound old now c.args.input.now r at stopped.fault.line stopped.fault.kind
+      body-stops binding old now c.args.input.now r at stopped.fault.line stopped.fault.kind
           (with_steps r.given stopped.steps.items) stopped.time stops,
     )

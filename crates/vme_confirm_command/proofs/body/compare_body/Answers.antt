@@ -9,7 +9,7 @@ use Rattle.vme_confirm_command.proofs.body.compare_body.Goals as goal
 
 pub loop-reader-init : goal.loop-reader-init
 loop-reader-init g c = record {
-  at = λ bound old at. at;
+  at = λ binding old at. at;
   checks = λ skew t h. (t, h, λ whole version compared. compared);
   limit = refl;
 }
@@ -26,9 +26,9 @@ loop-reader-preserved g c =
     let now = g.D.Source.reading c.loop-reader.dump in
     let input = c.check_piece.new.input in
     record {
-      at = λ bound old at.
-          let next = c.in-Ok.ensures.reads bound old now (inv.at bound old at) in
-          body-grown bound old now input c.in-Ok.reader next (g.D.Source.reading c.read.new.source) c.read.new.self
+      at = λ binding old at.
+          let next = c.in-Ok.ensures.reads binding old now (inv.at binding old at) in
+          body-grown binding old now input c.in-Ok.reader next (g.D.Source.reading c.read.new.source) c.read.new.self
           (c.check_piece.ensures.input.1 ∙ (sym c.is_whole.ensures ∙ c.loop-reader-test.true))
           c.in_default.ensures.grown (c.in_default.ensures.read old next.done next.read);
       checks = λ skew t h.
@@ -39,21 +39,21 @@ loop-reader-preserved g c =
     }
 
 pub returns-in-Err : goal.returns-in-Err
-returns-in-Err g c bound old skew t whole version h first at limit =
+returns-in-Err g c binding old skew t whole version h first at limit =
     let inv = c.loop-reader.invariant in
     let (later, checked, compared) = inv.checks (skew_of skew) t h in (
       c.refused_in_body-refusal.ensures old (c.check_piece.ensures.input.0 ∙ inv.limit ∙ limit)
-          (c.in-Err.ensures.reads bound old (g.D.Source.reading c.loop-reader.dump) (inv.at bound old at)),
+          (c.in-Err.ensures.reads binding old (g.D.Source.reading c.loop-reader.dump) (inv.at binding old at)),
       c.into_source.ensures whole version (c.check_piece.ensures.comparing whole version
           (record { t = later; taken = checked.stepped.taken; compared = compared whole version first })),
     )
 
 pub returns-in-Err-read : goal.returns-in-Err-read
-returns-in-Err-read g c bound old skew t whole version h first at limit =
+returns-in-Err-read g c binding old skew t whole version h first at limit =
     let inv = c.loop-reader.invariant in
     let (later, checked, compared) = inv.checks (skew_of skew) t h in
     let now = g.D.Source.reading c.read.new.source in
-    let next = c.in-Ok.ensures.reads bound old (g.D.Source.reading c.loop-reader.dump) (inv.at bound old at) in (
+    let next = c.in-Ok.ensures.reads binding old (g.D.Source.reading c.loop-reader.dump) (inv.at binding old at) in (
       rw c.unread.ensures (unread-is old now c.in-Err-read.fault
           (subst (λ n. FailsAs n old now c.in-Err-read.fault)
           (c.check_piece.ensures.input.0 ∙ inv.limit ∙ limit)
@@ -69,11 +69,11 @@ check_last-requires g c =
     (skew, later, checked)
 
 pub returns : goal.returns
-returns g c bound old skew t whole version h first at limit =
+returns g c binding old skew t whole version h first at limit =
     let inv = c.loop-reader.invariant in
     let now = g.D.Source.reading c.loop-reader.dump in
     let (later, checked, compared) = inv.checks (skew_of skew) t h in
-    c.check_last.ensures bound old now skew later whole version checked (compared whole version first)
-    (subst (λ (l : List ℕ). IsAtEnd bound old now l c.loop-reader.reader) (sym c.bytes.ensures.held)
-    (body-ends bound old now c.loop-reader.input c.loop-reader.reader (inv.at bound old at)
+    c.check_last.ensures binding old now skew later whole version checked (compared whole version first)
+    (subst (λ (l : List ℕ). IsAtEnd binding old now l c.loop-reader.reader) (sym c.bytes.ensures.held)
+    (body-ends binding old now c.loop-reader.input c.loop-reader.reader (inv.at binding old at)
     (sym c.is_whole.ensures ∙ c.loop-reader-test.false) (inv.limit ∙ limit)))

@@ -12,9 +12,9 @@ use Rattle.vme_confirm_command.proofs.body.compare_body.Given as goal
 abbrev pub invariant-loop-reader : goal.invariant-loop-reader
 invariant-loop-reader g l =
     record {
-      at : (bound : BoundLines) (old : Reading)
-          → IsAtBody bound old (g.D.Source.reading l.initial.dump) l.initial.input l.initial.reader
-          → IsAtBody bound old (g.D.Source.reading l.dump) l.input l.reader;
+      at : (binding : BoundLines) (old : Reading)
+          → IsAtBody binding old (g.D.Source.reading l.initial.dump) l.initial.input l.initial.reader
+          → IsAtBody binding old (g.D.Source.reading l.dump) l.input l.reader;
       checks : (skew : Option ℕ) (t : Trace) → IsChecked skew l.initial.reader t l.initial.check
           → ChecksOn g.S.RowSource.gave g.S.RowSource.is_over skew t l.initial.check l.check l.reader;
       limit : l.input.limit ≡ l.initial.input.limit;

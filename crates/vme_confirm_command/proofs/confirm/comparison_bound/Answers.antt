@@ -20,7 +20,7 @@ returns-in-Ok-read_definitions g c =
     let first = subst (λ (i : InputSoFar). IsReadTo old old [] i) (sym c.in-Ok.ensures)
     (first-read old longest_input 65536 (record { some = omega arith; few = omega arith; small = omega arith })) in
     let limit = ap (λ (i : InputSoFar). i.limit) c.in-Ok.ensures in
-    c.comparison_begun.ensures c.args.bound.now old (c.in-Ok-read_definitions.ensures.read old first limit)
+    c.compare_with_listing.ensures c.args.bound.now old (c.in-Ok-read_definitions.ensures.read old first limit)
     (c.in-Ok-read_definitions.ensures.limit limit)
 
 pub returns : goal.returns

@@ -1,7 +1,7 @@
 -- The result is the fault, unless the listing can't be read or is too long.
 use Rattle.std.proofs.Common.{◌++◌, Some, subst}
 use Rattle.vme_dump_input.specs.BufferedInputs.{FailsAs, IsAllOf}
-use Rattle.vme_confirm_command.specs.RowsOfListing.{GaveRows}
+use Rattle.vme_confirm_command.specs.RowsOfListing.{ListingGaveRows}
 use Rattle.vme_confirm_command.specs.declared.rows_fault.RowsFault.{RowsFault}
 use Rattle.vme_confirm_command.proofs.ListingLemmas.{input-ends, text-ends}
 use Rattle.vme_confirm_command.proofs.listing_rows.read_to_end.Goals as goal
@@ -9,13 +9,15 @@ use Rattle.vme_confirm_command.proofs.listing_rows.read_to_end.Goals as goal
 pub returns-in-Input : goal.returns-in-Input
 returns-in-Input g c old version rows pieces gave =
     let now = g.L.Source.reading c.args.source in
-    let had = subst (λ (f : RowsFault). GaveRows old version now c.args.input pieces (Some f) rows) c.in-Input.is gave
+    let had = subst (λ (f : RowsFault). ListingGaveRows old version now c.args.input pieces (Some f) rows) c.in-Input.is
+    gave
     in
     input-ends old version now rows c.in-Input.fault had.1
 
 pub returns-in-Ok : goal.returns-in-Ok
 returns-in-Ok g c old version rows pieces gave =
-    let had = subst (λ (f : RowsFault). GaveRows old version (g.L.Source.reading c.args.source) c.args.input pieces
+    let had = subst (λ (f : RowsFault). ListingGaveRows old version (g.L.Source.reading c.args.source) c.args.input
+    pieces
     (Some f) rows) c.in-Text.is gave in
     let (done, read, has) = had.1 in
     let now = g.L.Source.reading c.read_rest.new.source in
@@ -25,7 +27,8 @@ returns-in-Ok g c old version rows pieces gave =
 
 pub returns : goal.returns
 returns g c old version rows pieces gave =
-    let had = subst (λ (f : RowsFault). GaveRows old version (g.L.Source.reading c.args.source) c.args.input pieces
+    let had = subst (λ (f : RowsFault). ListingGaveRows old version (g.L.Source.reading c.args.source) c.args.input
+    pieces
     (Some f) rows) c.in-Text.is gave in
     let (done, read, has) = had.1 in
     let now = g.L.Source.reading c.read_rest.new.source in

@@ -11,4 +11,4 @@ returns-in-Ok c =
     let path = c.args.path.now in
     let (variables, whole, taken) = is-taken sought_in c.front.result.now c.in-Ok.field-0-0 _ _ c.in-Ok.ensures in
     sym (ap (λ (vs : List Variable). has_scope path vs) (sym c.front.ensures.variables ∙ ap variables_by whole)
-    ∙ search-found path _ _ _ c.in-Ok.search.is_found variables c.in_ok-front_of.ensures taken refl)
+    ∙ search-found path _ _ _ c.in-Ok.search.is_found variables c.in_ok-dotted_path.ensures taken refl)

@@ -5,8 +5,8 @@ use Rattle.vme_bind.specs.TextCapture.{CaptureFailsBy}
 use Rattle.vme_bind.specs.TextReading.{reading_of_text}
 use Rattle.vme_step_reader.specs.StepReading.{StepReading, whole_reading}
 use Rattle.vme_dump_input.specs.DumpBeginnings.{BeginsDump, HoldsDefinitions}
-use Rattle.vme_dump_input.specs.declared.definitions.Begun.{Begun}
-use Rattle.vme_dump_input.specs.declared.definitions.Begun.TheVariants.{Body}
+use Rattle.vme_dump_input.specs.declared.definitions.DumpAfterDefinitions.{DumpAfterDefinitions}
+use Rattle.vme_dump_input.specs.declared.definitions.DumpAfterDefinitions.TheVariants.{Body}
 use Rattle.vme_dump_input.proofs.DefinitionLemmas.{begun-body}
 use Rattle.vme_dump_input.proofs.definitions.begin.Goals as goal
 
@@ -34,17 +34,17 @@ returns-in-Ok-Some-clause-read g c old h limit =
     let now = g.D.Source.reading c.args.dump.now in
     let input = c.args.input.now in
     let found = c.in-Ok-Some.found in
-    let bound = c.args.bound.now in
+    let binding = c.args.binding.now in
     let within = within-held c.in-Ok-Some.field-0 found c.bytes.result.now input.held c.in-Ok-Some.field-0-is
     c.bytes.ensures.held c.in-Ok-Some.ensures.within in
     let begins = subst (λ (f : Option (StepReading × ℕ)). IfSome f (λ begun. (rest : List ℕ)
-    → reading_of_text bound (c.bytes.result.now ++ rest)
+    → reading_of_text binding (c.bytes.result.now ++ rest)
     ≡ Ok (whole_reading begun.0 (drop begun.1 c.bytes.result.now ++ rest)))) c.in-Ok-Some.field-0-is
     c.in-Ok-Some.ensures.begins in
     let body_is : c.body_after.result ≡ Body found.0 found.1 = rw c.in-Ok-Some.field-0-is at c.body_after.ensures in
-    subst (λ (b : Begun). BeginsDump bound old now input (Ok b)) (sym body_is)
-    (begun-body bound old now input h found.1 within found.0
-    (λ rest ends. subst (λ (l : List ℕ). reading_of_text bound (l ++ rest)
+    subst (λ (b : DumpAfterDefinitions). BeginsDump binding old now input (Ok b)) (sym body_is)
+    (begun-body binding old now input h found.1 within found.0
+    (λ rest ends. subst (λ (l : List ℕ). reading_of_text binding (l ++ rest)
     ≡ Ok (whole_reading found.0 (drop found.1 l ++ rest))) c.bytes.ensures.held (begins rest)))
 
 pub returns-in-Ok-None-clause-read : goal.returns-in-Ok-None-clause-read
@@ -53,9 +53,9 @@ returns-in-Ok-None-clause-read g c old h limit = (refl, h)
 pub returns-in-Ok-clause-read : goal.returns-in-Ok-clause-read
 returns-in-Ok-clause-read g c old h limit =
     c.in-Ok.ensures.read old h limit (λ rest ends. subst (λ (l : List ℕ). CaptureFailsBy c.in-Err.fault
-    (reading_of_text c.args.bound.now (l ++ rest))) c.bytes.ensures.held (c.in-Err.ensures.fails rest))
+    (reading_of_text c.args.binding.now (l ++ rest))) c.bytes.ensures.held (c.in-Err.ensures.fails rest))
 
 pub returns-in-Err-not_begun-clause-read : goal.returns-in-Err-not_begun-clause-read
 returns-in-Err-not_begun-clause-read g c old h limit =
     c.in-Err-not_begun.ensures.read old h limit (λ rest ends. subst (λ (l : List ℕ). CaptureFailsBy c.in-Err.fault
-    (reading_of_text c.args.bound.now (l ++ rest))) c.bytes.ensures.held (c.in-Err.ensures.fails rest))
+    (reading_of_text c.args.binding.now (l ++ rest))) c.bytes.ensures.held (c.in-Err.ensures.fails rest))

@@ -25,14 +25,14 @@ returns-in-Ok-clause-read g c old h limit =
     let input = c.args.input.now in
     let r = c.in-Ok.reader in
     let n = c.in-Ok.count in
-    begun-last c.args.bound.now old now input h n
+    begun-last c.args.binding.now old now input h n
     (subst (λ (l : List ℕ). n ≤ length l) c.bytes.ensures.held c.in-Ok.ensures.within) r c.requires
-    (subst (λ (l : List ℕ). reading_of_text c.args.bound.now l ≡ Ok (whole_reading r (drop n l))) c.bytes.ensures.held
+    (subst (λ (l : List ℕ). reading_of_text c.args.binding.now l ≡ Ok (whole_reading r (drop n l))) c.bytes.ensures.held
     c.in-Ok.ensures.begins)
 
 pub returns-in-Err-clause-read : goal.returns-in-Err-clause-read
 returns-in-Err-clause-read g c old h limit =
     c.not_begun.ensures.read old h limit
-    (fails-last c.args.bound.now c.args.input.now c.in-Err.fault c.requires
-    (subst (λ (l : List ℕ). CaptureFailsBy c.in-Err.fault (reading_of_text c.args.bound.now l)) c.bytes.ensures.held
+    (fails-last c.args.binding.now c.args.input.now c.in-Err.fault c.requires
+    (subst (λ (l : List ℕ). CaptureFailsBy c.in-Err.fault (reading_of_text c.args.binding.now l)) c.bytes.ensures.held
     c.in-Err.ensures.fails))

@@ -3,7 +3,7 @@ use Rattle.std.proofs.Common.{◌<◌, [], Option, ap, subst, sym, ◌∙◌}
 use Rattle.std.specs.Prelude.{Ok}
 use Rattle.vme_dump_input.specs.DumpBeginnings.{HoldsDefinitionsIfSome, MayBegin}
 use Rattle.vme_dump_input.specs.BufferedInputs.{FailsAs, InputSoFar, reads_left}
-use Rattle.vme_dump_input.specs.declared.definitions.Begun.{Begun}
+use Rattle.vme_dump_input.specs.declared.definitions.DumpAfterDefinitions.{DumpAfterDefinitions}
 use Rattle.vme_dump_input.proofs.DumpRefusals.{unread-is}
 use Rattle.vme_dump_input.proofs.definitions.read_definitions.Goals as goal
 
@@ -22,7 +22,8 @@ loop-search-preserved-in-Ok-None g c =
     let now = g.D.Source.reading c.begin.new.dump in
     record {
       read = λ old h limit.
-          (subst (λ (b : Option Begun). MayBegin c.args.bound.now old now c.read.new.self c.begin.new.input (Ok b))
+          (subst (λ (b : Option DumpAfterDefinitions). MayBegin c.args.binding.now old now c.read.new.self
+          c.begin.new.input (Ok b))
           c.in-Ok-None.field-0-is
           (c.in-Ok-None.ensures.read old (c.in_default.ensures.read old [] (inv.read old h limit))
           (c.read.ensures.limit ∙ inv.limit limit))).1;
@@ -32,7 +33,8 @@ loop-search-preserved-in-Ok-None g c =
 pub loop-search-smaller-in-Ok-None : goal.loop-search-smaller-in-Ok-None
 loop-search-smaller-in-Ok-None g c =
     subst (λ (i : InputSoFar). reads_left i < reads_left c.loop-search.input)
-    (sym (c.in-Ok-None.ensures.left (ap (λ (b : Option Begun). Ok b) c.in-Ok-None.field-0-is))) c.in_default.ensures.on
+    (sym (c.in-Ok-None.ensures.left (ap (λ (b : Option DumpAfterDefinitions). Ok b) c.in-Ok-None.field-0-is)))
+    c.in_default.ensures.on
 
 pub returns-in-Err-clause-read : goal.returns-in-Err-clause-read
 returns-in-Err-clause-read g c old h limit =
@@ -47,7 +49,8 @@ returns-in-Ok-Some-clause-held g c =
 
 pub returns-in-Ok-Some-clause-read : goal.returns-in-Ok-Some-clause-read
 returns-in-Ok-Some-clause-read g c old h limit =
-    subst (λ (b : Option Begun). MayBegin c.args.bound.now old (g.D.Source.reading c.begin.new.dump) c.read.new.self
+    subst (λ (b : Option DumpAfterDefinitions). MayBegin c.args.binding.now old (g.D.Source.reading c.begin.new.dump)
+    c.read.new.self
     c.begin.new.input (Ok b)) c.in-Ok-Some.field-0-is
     (c.in-Ok-Some.ensures.read old (c.in_default.ensures.read old [] (c.loop-search.invariant.read old h limit))
     (c.read.ensures.limit ∙ c.loop-search.invariant.limit limit))

@@ -35,27 +35,27 @@ returns-in-Ok-Err-clause-unusable g c = (c.in-Ok-Err.fault, refl)
 
 pub returns-in-Ok-Err-clause-read : goal.returns-in-Ok-Err-clause-read
 returns-in-Ok-Err-clause-read g c old h limit =
-    let bound = c.args.bound.now in
+    let binding = c.args.binding.now in
     let now = g.D.Source.reading c.loop-input.dump in
     let input = c.loop-input.input in
     let all = subst (IsAllOf old now input.held) (c.loop-input.invariant.limit ∙ limit)
     (all-read old now [] input (c.loop-input.invariant.read old h) (sym c.is_whole.ensures ∙ c.loop-input-test.false))
     in
     let recorded = subst (λ (r : Result Trace BindFault).
-    recorded_by bound (or_bad_dump (dump_of c.bytes.result.now)) ≡ Ok r) c.in-Ok-Err.field-0-is c.in-Ok-Err.ensures in
-    unusable-is bound old now input.held all (dump_of input.held) refl c.in-Ok-Err.fault
-    (subst (λ (l : List ℕ). recorded_by bound (or_bad_dump (dump_of l)) ≡ Ok (Err c.in-Ok-Err.fault))
+    recorded_by binding (or_bad_dump (dump_of c.bytes.result.now)) ≡ Ok r) c.in-Ok-Err.field-0-is c.in-Ok-Err.ensures in
+    unusable-is binding old now input.held all (dump_of input.held) refl c.in-Ok-Err.fault
+    (subst (λ (l : List ℕ). recorded_by binding (or_bad_dump (dump_of l)) ≡ Ok (Err c.in-Ok-Err.fault))
     c.bytes.ensures.held recorded)
 
 pub returns-in-Err-recorded_in-clause-read : goal.returns-in-Err-recorded_in-clause-read
 returns-in-Err-recorded_in-clause-read g c old h limit =
-    let bound = c.args.bound.now in
+    let binding = c.args.binding.now in
     let now = g.D.Source.reading c.loop-input.dump in
     let input = c.loop-input.input in
     let refusal = c.in-Err-recorded_in.refusal in
     let all = subst (IsAllOf old now input.held) (c.loop-input.invariant.limit ∙ limit)
     (all-read old now [] input (c.loop-input.invariant.read old h) (sym c.is_whole.ensures ∙ c.loop-input-test.false))
     in
-    other-is bound old now input.held all (dump_of input.held) refl refusal
+    other-is binding old now input.held all (dump_of input.held) refl refusal
     (subst (λ (l : List ℕ). AnswerGives (λ (r : Result Trace BindFault). r) (Err refusal)
-    (recorded_by bound (or_bad_dump (dump_of l)))) c.bytes.ensures.held c.in-Err-recorded_in.ensures)
+    (recorded_by binding (or_bad_dump (dump_of l)))) c.bytes.ensures.held c.in-Err-recorded_in.ensures)

@@ -1,4 +1,4 @@
-use Rattle.vme_monitor.proofs.Spans.{first_break_over, marks_over_spans, started_over, memory_of_span}
+use Rattle.vme_monitor.proofs.OuterMachine.{first_break_over, marks_over_stretches, started_over, memory_of_stretch}
 use Rattle.vme_monitor.proofs.over_stretches.rules_over_recordings.Goals as goal
 
 pub returns-clause-first_break : goal.returns-clause-first_break
@@ -6,7 +6,7 @@ returns-clause-first_break g c = λ t rules ok few owed. first_break_over g.R.Ru
     g.R.Rules.reset_marks g.R.Rules.end_fault g.R.Rules.observation g.R.Rules.next t few ok rules owed
 
 pub returns-clause-marks : goal.returns-clause-marks
-returns-clause-marks g c = λ t shown ok few owed. marks_over_spans g.R.Rules.begin g.R.Rules.start_marks
+returns-clause-marks g c = λ t shown ok few owed. marks_over_stretches g.R.Rules.begin g.R.Rules.start_marks
     g.R.Rules.reset_marks g.R.Rules.end_fault g.R.Rules.observation g.R.Rules.next t few ok shown owed
 
 pub returns-clause-started : goal.returns-clause-started
@@ -14,5 +14,5 @@ returns-clause-started g c = λ t ok few. started_over g.R.Rules.begin g.R.Rules
     g.R.Rules.end_fault g.R.Rules.observation g.R.Rules.next t few ok
 
 pub returns-clause-memory : goal.returns-clause-memory
-returns-clause-memory g c = λ t span n ok few. memory_of_span g.R.Rules.begin g.R.Rules.start_marks
-    g.R.Rules.reset_marks g.R.Rules.end_fault g.R.Rules.observation g.R.Rules.next t few ok span n
+returns-clause-memory g c = λ t stretch n ok few. memory_of_stretch g.R.Rules.begin g.R.Rules.start_marks
+    g.R.Rules.reset_marks g.R.Rules.end_fault g.R.Rules.observation g.R.Rules.next t few ok stretch n

@@ -10,7 +10,7 @@ use Rattle.vme_part_command.proofs.file_body.judge_body.Goals as goal
 
 pub loop-reader-init : goal.loop-reader-init
 loop-reader-init g c = record {
-  at = λ bound number start old at. at;
+  at = λ binding number start old at. at;
   judges = λ number listing start h. h;
   opening = refl;
   limit = refl;
@@ -27,9 +27,9 @@ loop-reader-preserved g c =
     let now = g.D.Source.reading c.loop-reader.dump in
     let input = c.judge_piece.new.input in
     record {
-      at = λ bound number start old at.
-          let next = c.in-Ok.ensures.reads bound number start old now (inv.at bound number start old at) in
-          file-grown bound number start old now input c.in-Ok.made.0 next (g.D.Source.reading c.read.new.source)
+      at = λ binding number start old at.
+          let next = c.in-Ok.ensures.reads binding number start old now (inv.at binding number start old at) in
+          file-grown binding number start old now input c.in-Ok.made.0 next (g.D.Source.reading c.read.new.source)
           c.read.new.self (c.judge_piece.ensures.input.1 ∙ (sym c.is_whole.ensures ∙ c.loop-reader-test.true))
           c.in_default.ensures.grown (c.in_default.ensures.read old next.done next.read);
       judges = λ number listing start h. c.in-Ok.ensures.judges number listing start
@@ -39,20 +39,20 @@ loop-reader-preserved g c =
     }
 
 pub returns-in-Err : goal.returns-in-Err
-returns-in-Err g c bound options start old h at limit same =
+returns-in-Err g c binding options start old h at limit same =
     let inv = c.loop-reader.invariant in
-    dump-refused options bound old (g.D.Source.reading c.refused_in_body.new.dump) c.refused_in_body.result
+    dump-refused options binding old (g.D.Source.reading c.refused_in_body.new.dump) c.refused_in_body.result
     (c.refused_in_body.ensures old (c.judge_piece.ensures.input.0 ∙ inv.limit ∙ limit)
-    (c.in-Err.ensures.reads bound options.number start old (g.D.Source.reading c.loop-reader.dump)
-    (inv.at bound options.number start old at)))
+    (c.in-Err.ensures.reads binding options.number start old (g.D.Source.reading c.loop-reader.dump)
+    (inv.at binding options.number start old at)))
 
 pub returns-in-Err-read : goal.returns-in-Err-read
-returns-in-Err-read g c bound options start old h at limit same =
+returns-in-Err-read g c binding options start old h at limit same =
     let inv = c.loop-reader.invariant in
     let now = g.D.Source.reading c.read.new.source in
-    let next = c.in-Ok.ensures.reads bound options.number start old (g.D.Source.reading c.loop-reader.dump)
-    (inv.at bound options.number start old at) in
-    dump-refused options bound old now c.unread.result
+    let next = c.in-Ok.ensures.reads binding options.number start old (g.D.Source.reading c.loop-reader.dump)
+    (inv.at binding options.number start old at) in
+    dump-refused options binding old now c.unread.result
     (rw c.unread.ensures (unread-is old now c.in-Err-read.fault
     (subst (λ n. FailsAs n old now c.in-Err-read.fault)
     (c.judge_piece.ensures.input.0 ∙ inv.limit ∙ limit)
@@ -64,13 +64,13 @@ judge_last-requires g c =
     (number, listing, start, c.loop-reader.invariant.judges number listing start h)
 
 pub returns : goal.returns
-returns g c bound options start old h at limit same =
+returns g c binding options start old h at limit same =
     let inv = c.loop-reader.invariant in
     let now = g.D.Source.reading c.loop-reader.dump in
-    c.judge_last.ensures bound options start old now
+    c.judge_last.ensures binding options start old now
     (inv.judges options.number options.listing start h)
-    (subst (λ (l : List ℕ). IsAtFileEnd bound options.number start old now l c.loop-reader.reader)
+    (subst (λ (l : List ℕ). IsAtFileEnd binding options.number start old now l c.loop-reader.reader)
     (sym c.bytes.ensures.held)
-    (file-ends bound options.number start old now c.loop-reader.input c.loop-reader.reader
-    (inv.at bound options.number start old at) (sym c.is_whole.ensures ∙ c.loop-reader-test.false)
+    (file-ends binding options.number start old now c.loop-reader.input c.loop-reader.reader
+    (inv.at binding options.number start old at) (sym c.is_whole.ensures ∙ c.loop-reader-test.false)
     (inv.limit ∙ limit))) (same ∙ ap backplane_of (sym inv.opening))

@@ -10,9 +10,9 @@ use Rattle.vme_part_command.proofs.file_body.judge_body.Given as goal
 abbrev pub invariant-loop-reader : goal.invariant-loop-reader
 invariant-loop-reader g l =
     record {
-      at : (bound : BoundLines) (number : ℕ) (start : Option ℕ) (old : Reading)
-          → IsAtFile bound number start old (g.D.Source.reading l.initial.dump) l.initial.input l.initial.reader
-          → IsAtFile bound number start old (g.D.Source.reading l.dump) l.input l.reader;
+      at : (binding : BoundLines) (number : ℕ) (start : Option ℕ) (old : Reading)
+          → IsAtFile binding number start old (g.D.Source.reading l.initial.dump) l.initial.input l.initial.reader
+          → IsAtFile binding number start old (g.D.Source.reading l.dump) l.input l.reader;
       judges : (number : ℕ) (listing : Bool) (start : Option ℕ)
           → IsFileJudged number listing start l.initial.reader l.initial.check
           → IsFileJudged number listing start l.reader l.check;

@@ -12,18 +12,18 @@ finish-requires-in-Ok c =
     (number, listing, start, c.args.reader.given, h.taken, c.in-Ok.ensures.formed)
 
 pub returns-in-Ok : goal.returns-in-Ok
-returns-in-Ok c bound options start old now h end same =
+returns-in-Ok c binding options start old now h end same =
     let r = c.args.reader in
-    finds-of-dump options bound start old now c.args.bytes.now r end (with_steps r.given c.in-Ok.steps.items)
+    finds-of-dump options binding start old now c.args.bytes.now r end (with_steps r.given c.in-Ok.steps.items)
     c.in-Ok.ensures.recorded c.in-Ok.ensures.whole c.args.backplane same c.finish-in-Ok.result
     (c.finish-in-Ok.ensures options.number options.listing start r.given h.taken c.in-Ok.ensures.formed)
 
 pub returns-in-Err : goal.returns-in-Err
-returns-in-Err c bound options start old now h end same =
+returns-in-Err c binding options start old now h end same =
     let stopped = c.in-Err.stopped in
     let r = c.args.reader in
-    dump-refused options bound old now c.of_dump.result
+    dump-refused options binding old now c.of_dump.result
     (rw (c.of_dump.ensures, c.fault_of.ensures) (faulty-is old now end.text end.all stopped.fault.line
     stopped.fault.kind
-    (stops-fault bound end.text (whole_reading r c.args.bytes.now) stopped.fault.line stopped.fault.kind
+    (stops-fault binding end.text (whole_reading r c.args.bytes.now) stopped.fault.line stopped.fault.kind
     (with_steps r.given stopped.steps.items) stopped.time end.body c.in-Err.ensures.stopped)))

@@ -22,7 +22,7 @@ take-requires-in-Ok c =
     (number, listing, start, c.args.reader.given, h.taken, ap malformed_step (sym made.given) ∙ made.formed)
 
 pub returns-in-Ok-take-clause-reads : goal.returns-in-Ok-take-clause-reads
-returns-in-Ok-take-clause-reads c bound number start old now at =
+returns-in-Ok-take-clause-reads c binding number start old now at =
     let r = c.args.reader in
     let next = c.in-Ok.reader in
     let made = c.in-Ok.ensures in
@@ -30,8 +30,8 @@ returns-in-Ok-take-clause-reads c bound number start old now at =
     let taken = subst (λ (l : List ℕ). (rest : List ℕ) → whole_reading r (take n l ++ rest) ≡ whole_reading next rest)
     c.bytes.ensures.held made.taken in
     let within = subst (λ (l : List ℕ). n ≤ length l) c.bytes.ensures.held made.within in
-    subst (λ (i : InputSoFar). IsAtFile bound number start old now i next) (sym c.take_first.ensures)
-    (file-taken bound number start old now c.args.input.now r at next n within taken)
+    subst (λ (i : InputSoFar). IsAtFile binding number start old now i next) (sym c.take_first.ensures)
+    (file-taken binding number start old now c.args.input.now r at next n within taken)
 
 pub returns-in-Ok-take-clause-judges : goal.returns-in-Ok-take-clause-judges
 returns-in-Ok-take-clause-judges c number listing start h =
@@ -47,11 +47,11 @@ returns-in-Ok-take-clause-judges c number listing start h =
     }
 
 pub returns-in-Err-take-clause-reads : goal.returns-in-Err-take-clause-reads
-returns-in-Err-take-clause-reads c bound number start old now at =
+returns-in-Err-take-clause-reads c binding number start old now at =
     some-reading old now at.done c.args.input.now at.read
 
 pub returns-in-Err-clause-reads : goal.returns-in-Err-clause-reads
-returns-in-Err-clause-reads c bound number start old now at =
+returns-in-Err-clause-reads c binding number start old now at =
     let stopped = c.in-Err.stopped in
     let r = c.args.reader in
     let stops = subst (λ (l : List ℕ). (rest : List ℕ) → StopsBehind r.given stopped (whole_reading r (l ++ rest)))
@@ -59,7 +59,7 @@ returns-in-Err-clause-reads c bound number start old now at =
     subst (λ (f : VcdFault). FailsPiece old now c.args.input.now (Some f)) (sym c.fault_of.ensures) (
       at.done,
       at.read,
-      body-stops bound old now c.args.input.now r (body_at bound number start old now c.args.input.now r at)
+      body-stops binding old now c.args.input.now r (body_at binding number start old now c.args.input.now r at)
           stopped.fault.line stopped.fault.kind (with_steps r.given stopped.steps.items) stopped.time stops,
     )
 

@@ -12,19 +12,19 @@ take_first-requires g c =
     omega (arith, c.requires.held, ap (λ (l : List ℕ). length l) on.held, length-append c.args.input.now.held on.more)
 
 pub returns-in-Ok : goal.returns-in-Ok
-returns-in-Ok g c bound old at limit =
+returns-in-Ok g c binding old at limit =
     let number = c.args.options.number in
     let start = c.in-Ok.start in
     let now = g.D.Source.reading c.read_start.new.dump in
     let input = c.read_start.new.input in
     let (read, starts) = c.in-Ok.ensures.told old at.read limit in
-    c.part_of_body.ensures bound old
-    (subst (λ (i : InputSoFar). IsAtFile bound number start old now i c.args.reader) (sym c.take_first.ensures)
-    (file-behind bound number start old (g.D.Source.reading c.args.dump.now) now c.args.input.now input c.args.reader
+    c.part_of_body.ensures binding old
+    (subst (λ (i : InputSoFar). IsAtFile binding number start old now i c.args.reader) (sym c.take_first.ensures)
+    (file-behind binding number start old (g.D.Source.reading c.args.dump.now) now c.args.input.now input c.args.reader
     c.args.count at c.in-Ok.ensures.on read starts))
     (ap (λ (i : InputSoFar). i.limit) c.take_first.ensures ∙ c.read_start.ensures.limit ∙ limit)
 
 pub returns-in-Err : goal.returns-in-Err
-returns-in-Err g c bound old at limit =
-    dump-refused c.args.options bound old (g.D.Source.reading c.read_start.new.dump) c.in-Err.refusal
+returns-in-Err g c binding old at limit =
+    dump-refused c.args.options binding old (g.D.Source.reading c.read_start.new.dump) c.in-Err.refusal
     (c.in-Err.ensures.told old at.read limit)

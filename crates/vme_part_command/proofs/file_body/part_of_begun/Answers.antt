@@ -2,7 +2,7 @@
 use Rattle.std.proofs.Common.{subst}
 use Rattle.std.specs.Prelude.{Ok}
 use Rattle.vme_dump_input.specs.DumpBeginnings.{BeginsDump, HoldsDefinitions}
-use Rattle.vme_dump_input.specs.declared.definitions.Begun.{Begun}
+use Rattle.vme_dump_input.specs.declared.definitions.DumpAfterDefinitions.{DumpAfterDefinitions}
 use Rattle.vme_part_command.proofs.FoundLemmas.{unusable-part}
 use Rattle.vme_part_command.proofs.file_body.part_of_begun.Goals as goal
 
@@ -10,13 +10,15 @@ pub part_after_definitions-requires-clause-held : goal.part_after_definitions-re
 part_after_definitions-requires-clause-held g c = subst (HoldsDefinitions c.args.input.now) c.in-Body.is c.requires.held
 
 pub returns-in-Body : goal.returns-in-Body
-returns-in-Body g c bound old begun limit =
-    c.part_after_definitions.ensures bound old
-    (subst (λ (b : Begun). BeginsDump bound old (g.D.Source.reading c.args.dump.now) c.args.input.now (Ok b))
+returns-in-Body g c binding old begun limit =
+    c.part_after_definitions.ensures binding old
+    (subst (λ (b : DumpAfterDefinitions). BeginsDump binding old (g.D.Source.reading c.args.dump.now) c.args.input.now
+    (Ok b))
     c.in-Body.is begun) limit
 
 pub returns-in-Unusable : goal.returns-in-Unusable
-returns-in-Unusable g c bound old begun limit =
-    let (contents, read, is) = subst (λ (b : Begun). BeginsDump bound old (g.D.Source.reading c.args.dump.now)
+returns-in-Unusable g c binding old begun limit =
+    let (contents, read, is) = subst (λ (b : DumpAfterDefinitions). BeginsDump binding old
+    (g.D.Source.reading c.args.dump.now)
     c.args.input.now (Ok b)) c.in-Unusable.is begun in
-    unusable-part c.args.options bound old (g.D.Source.reading c.args.dump.now) contents read c.in-Unusable.fault is
+    unusable-part c.args.options binding old (g.D.Source.reading c.args.dump.now) contents read c.in-Unusable.fault is

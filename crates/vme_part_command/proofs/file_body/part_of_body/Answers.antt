@@ -27,12 +27,12 @@ judge_body-requires g c =
     )
 
 pub returns-in_default : goal.returns-in_default
-returns-in_default g c bound old at limit =
+returns-in_default g c binding old at limit =
     let some = some-reading old (g.D.Source.reading c.args.dump.now) at.done c.args.input.now at.read in
     (some.0, some.1, tt)
 
 pub returns : goal.returns
-returns g c bound old at limit =
+returns g c binding old at limit =
     let o = c.args.options in
     let r = c.args.reader in
     let is = c.opening_of.ensures.is in
@@ -44,4 +44,4 @@ returns g c bound old at limit =
           (subst (λ (v : Levels). HasTakenSteps o.number o.listing c.args.start c.new-check.result
           (record { opening = v; steps = [] })) is c.new-check.ensures.taken);
     } in
-    c.judge_body.ensures bound o c.args.start old judged at limit (c.in-Ok.ensures ∙ ap backplane_of is)
+    c.judge_body.ensures binding o c.args.start old judged at limit (c.in-Ok.ensures ∙ ap backplane_of is)

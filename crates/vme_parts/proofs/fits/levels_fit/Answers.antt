@@ -1,6 +1,6 @@
 use Rattle.std.proofs.Common.{◌≡◌, arith}
 use Rattle.vme_trace.specs.Levels.{set_level}
-use Rattle.vme_trace.proofs.SameLines.{lines_decide}
+use Rattle.vme_trace.proofs.LevelsEquality.{levels_eq-Decides}
 use Rattle.vme_part_format.specs.PartText.{seen_level}
 use Rattle.vme_parts.proofs.Measures.{sees_more, sees_whole}
 use Rattle.vme_parts.proofs.fits.levels_fit.Goals as goal
@@ -16,6 +16,6 @@ pub returns : goal.returns
 returns c =
     let l = c.loop-number in
     λ t. sees_whole l.seen c.args.lines.now l.number (omega (arith, c.loop-number-test.false)) l.invariant
-    ((lines_decide l.seen c.args.lines.now c.eq.result c.eq.ensures).0 t)
+    ((levels_eq-Decides l.seen c.args.lines.now c.eq.result c.eq.ensures).0 t)
     (omega (arith, c.slots.ensures.slots, c.slots.ensures.least))
     (omega (arith, c.slots.ensures.slots, c.slots.ensures.most))

@@ -11,7 +11,8 @@ use Rattle.vme_dtb.specs.StabilityRules.{stability_start_marks, stability_observ
 use Rattle.vme_chains.specs.GrantMemory.{arbitration_place}
 use Rattle.vme_chains.specs.GrantRules.{grant_begin, grant_end_fault, grant_next, grant_start_marks, grant_observation}
 use Rattle.vme_chains.specs.AcknowledgeRules.{acknowledge_begin, acknowledge_end_fault, acknowledge_next}
-use Rattle.vme_chains.specs.AcknowledgeRules.{acknowledge_start_marks, acknowledge_observation, acknowledgement_place}
+use Rattle.vme_chains.specs.AcknowledgeRules.{acknowledge_start_marks, acknowledge_observation}
+use Rattle.vme_chains.specs.AcknowledgeRules.{acknowledge_memory_place}
 use Rattle.vme_summary.specs.Runs.{known_run, handshake_run, stability_run, grant_run, acknowledge_run}
 use Rattle.vme_parts.proofs.Unmarked.{summary_tells}
 use Rattle.vme_parts.proofs.made.bare_tables.Goals as goal
@@ -37,6 +38,6 @@ returns c =
           (phase_place arbitration_place) _ _ o x all.grant.outcomes c.in_ok-grant.ensures;
       acknowledge = summary_tells (observed acknowledge_observation)
           (phase_step acknowledge_begin acknowledge_start_marks no_step_marks acknowledge_end_fault acknowledge_next) 11
-          (phase_place acknowledgement_place) _ _ o x all.acknowledge.outcomes c.in_ok-acknowledge.ensures;
+          (phase_place acknowledge_memory_place) _ _ o x all.acknowledge.outcomes c.in_ok-acknowledge.ensures;
       left = all.left;
     }

@@ -5,10 +5,10 @@ pub returns-clause-begins : goal.returns-clause-begins
 returns-clause-begins c =
     let front = c.args.front.now in
     let count = c.whole_tokens-count in
-    begins-each c.args.bound.now front count.result count.ensures.apart c.begin_at.result
+    begins-each c.args.binding.now front count.result count.ensures.apart c.begin_at.result
     (cut-space front count.result count.ensures.within count.ensures.space) c.begin_at.ensures.within
     c.begin_at.ensures.line c.begin_at.ensures.begins
 
 pub returns-clause-fails : goal.returns-clause-fails
-returns-clause-fails c = fails-each c.args.bound.now c.args.front.now c.whole_tokens-count.result
+returns-clause-fails c = fails-each c.args.binding.now c.args.front.now c.whole_tokens-count.result
     c.whole_tokens-count.ensures.apart c.begin_at.result c.begin_at.ensures.fails

@@ -11,12 +11,12 @@ returns-in-Ok g c =
     let given = rw c.as_slice.ensures.value at c.taken_input.ensures.gives in
     let formed = rw c.as_slice.ensures.value at c.taken_input.ensures.formed in
     record {
-      gives = (Some bytes, reading, rw (dump_read-whole bytes short) (given c.args.bound.now bytes ahead));
-      formed = formed c.args.bound.now bytes ahead;
+      gives = (Some bytes, reading, rw (dump_read-whole bytes short) (given c.args.binding.now bytes ahead));
+      formed = formed c.args.binding.now bytes ahead;
     }
 
 pub returns-in-Err-clause-gives : goal.returns-in-Err-clause-gives
 returns-in-Err-clause-gives g c =
     let (bytes, reading, refused) = dump_refused _ _ c.read_by.result c.in-Err.fault c.in-Err.is c.read_by.ensures.read
     c.read_by.ensures.too_long c.read_by.ensures.memory in
-    rw c.of_input.ensures (bytes, reading, recording_by-refused c.args.bound.now (dump_read bytes) _ refused)
+    rw c.of_input.ensures (bytes, reading, recording_by-refused c.args.binding.now (dump_read bytes) _ refused)

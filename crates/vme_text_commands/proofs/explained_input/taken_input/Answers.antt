@@ -10,13 +10,13 @@ pub returns-in-Ok-finish : goal.returns-in-Ok-finish
 returns-in-Ok-finish g c =
     let t : Trace = g.F.StepVisitor.recorded c.in-Ok-finish.visitor in
     record {
-      gives = λ bound bytes ahead.
-          recording_by-text bound bytes t (ahead ∙ c.in-Ok-finish.ensures);
-      formed = λ bound bytes ahead. recorded-formed bound bytes t (ahead ∙ c.in-Ok-finish.ensures);
+      gives = λ binding bytes ahead.
+          recording_by-text binding bytes t (ahead ∙ c.in-Ok-finish.ensures);
+      formed = λ binding bytes ahead. recorded-formed binding bytes t (ahead ∙ c.in-Ok-finish.ensures);
     }
 
 pub returns-in-Err-clause-gives : goal.returns-in-Err-clause-gives
-returns-in-Err-clause-gives g c = λ bound bytes ahead.
+returns-in-Err-clause-gives g c = λ binding bytes ahead.
     let fails = subst (λ (r : Result Trace CaptureFault). CaptureFailsBy c.in-Err.fault r) (sym ahead)
     c.in-Err.ensures in
-    rw c.of_capture.ensures (recording_by-fails bound bytes c.in-Err.fault fails)
+    rw c.of_capture.ensures (recording_by-fails binding bytes c.in-Err.fault fails)

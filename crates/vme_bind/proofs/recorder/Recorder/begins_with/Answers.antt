@@ -4,7 +4,7 @@ use Rattle.std.proofs.lemmas.Bool.{false≢true}
 use Rattle.vcd_read.specs.DetachedPieces.{entered}
 use Rattle.vme_trace.specs.Levels.{Levels}
 use Rattle.vme_bind.specs.Recording.{RecorderLevels, all_of, end_of}
-use Rattle.vme_trace.proofs.SameLines.{lines_decide}
+use Rattle.vme_trace.proofs.LevelsEquality.{levels_eq-Decides}
 use Rattle.vme_bind.proofs.recorder.Recorder.begins_with.Goals as goal
 
 both : (shown now levels : Levels) → shown ≡ levels → now ≡ levels → record { shown = shown; now = now } ≡ all_of levels
@@ -15,7 +15,7 @@ pub returns-in-Some : goal.returns-in-Some
 returns-in-Some c =
     let inside = c.self.inside in
     let v = c.args.levels.now in
-    let d = lines_decide inside.now v c.eq.result c.eq.ensures in
+    let d = levels_eq-Decides inside.now v c.eq.result c.eq.ensures in
     subst (λ (p : RecorderLevels). IsTrue c.eq.result ↔ (entered end_of p c.args.ended ≡ all_of v)) c.self.view_is
     (subst (λ (e : Option ℕ). IsTrue c.eq.result ↔ (entered end_of (record { shown = inside.shown; now = inside.now }) e
     ≡ all_of v)) (sym c.in-Some.is)
@@ -25,8 +25,8 @@ pub returns-then-eq : goal.returns-then-eq
 returns-then-eq c =
     let inside = c.self.inside in
     let v = c.args.levels.now in
-    let d = lines_decide inside.now v c.eq-in-None.result c.eq-in-None.ensures in
-    let s = lines_decide inside.shown v c.eq-then-eq.result c.eq-then-eq.ensures in
+    let d = levels_eq-Decides inside.now v c.eq-in-None.result c.eq-in-None.ensures in
+    let s = levels_eq-Decides inside.shown v c.eq-then-eq.result c.eq-then-eq.ensures in
     subst (λ (p : RecorderLevels). IsTrue c.eq-then-eq.result ↔ (entered end_of p c.args.ended ≡ all_of v))
     c.self.view_is
     (subst (λ (e : Option ℕ). IsTrue c.eq-then-eq.result ↔
@@ -39,7 +39,7 @@ pub returns-else-eq : goal.returns-else-eq
 returns-else-eq c =
     let inside = c.self.inside in
     let v = c.args.levels.now in
-    let d = lines_decide inside.now v c.eq-in-None.result c.eq-in-None.ensures in
+    let d = levels_eq-Decides inside.now v c.eq-in-None.result c.eq-in-None.ensures in
     subst (λ (p : RecorderLevels). IsTrue c.eq-in-None.result ↔ (entered end_of p c.args.ended ≡ all_of v))
     c.self.view_is
     (subst (λ (e : Option ℕ). IsTrue c.eq-in-None.result ↔

@@ -1,7 +1,7 @@
 -- The grant chain is low up to the net before the first that isn't low.
 use Rattle.std.proofs.Common.{◌+◌, ◌∙◌, ap, not, refl, sym}
 use Rattle.std.specs.Prelude.{Some, unwrap_or}
-use Rattle.vme_trace.proofs.SpanEnds.{slots_at}
+use Rattle.vme_trace.proofs.StretchEnds.{slots_at}
 use Rattle.vme_cert.specs.Vocabulary.{Levels, grant, is_low, least, level_at, levels_at, low, taken_grant, tenure_slot}
 use Rattle.vme_cert.proofs.Instant.{slot-reached}
 use Rattle.vme_cert.proofs.bus.Bus.tenure_slot.Goals as goal

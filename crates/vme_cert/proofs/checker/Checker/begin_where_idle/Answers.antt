@@ -1,5 +1,5 @@
 use Rattle.std.proofs.Common.{◌+◌, ◌∙◌, refl, sym, subst}
-use Rattle.vme_cert.specs.Vocabulary.{span_from}
+use Rattle.vme_cert.specs.Vocabulary.{stretch_from}
 use Rattle.vme_cert.specs.Checking.{IsPhase}
 use Rattle.vme_cert.specs.declared.checker.CheckPhase.{CheckPhase}
 use Rattle.vme_cert.proofs.Checking.{idle-is, starts, waits-on}
@@ -24,6 +24,6 @@ returns-clause-checks g c whole v t at within h =
       at = at;
       phase_is = starts within h
           (idle-is t c.args.self.now.bus.levels n at.levels ∙ (sym c.is_idle.ensures ∙ c.if-not-is_idle.false))
-          (c.starting.ensures t (span_from t n) at refl)
-          (c.start.ensures.rows whole v h.done t (span_from t n) at refl h.rows_are);
+          (c.starting.ensures t (stretch_from t n) at refl)
+          (c.start.ensures.rows whole v h.done t (stretch_from t n) at refl h.rows_are);
     }

@@ -1,5 +1,5 @@
 use Rattle.std.proofs.Common.{◌≤◌, ◌∙◌, ◌++◌, refl, sym, arith}
-use Rattle.vme_cert.specs.Vocabulary.{span_from}
+use Rattle.vme_cert.specs.Vocabulary.{stretch_from}
 use Rattle.vme_cert.specs.Following.{rows_to}
 use Rattle.vme_cert.proofs.Checking.{checks-ended, follows-close, goes-later, judge-breaks, judge-loses, judge-resets}
 use Rattle.vme_cert.proofs.Checking.{judge-state, judge-within, named-none}
@@ -10,7 +10,8 @@ returns-then-is_reset-clause-checks g c whole v t at within h = record {
   at = at;
   phase_is = judge-resets at c.requires.lead (omega (arith, c.slots.ensures.most, c.slots.ensures.slots)) within h
       (sym c.is_reset.ensures ∙ c.if-is_reset.true)
-      (c.close_before.ensures.rows whole v (h.done ++ rows_to t (span_from t h.start) c.args.self.now.bus.instant) refl
+      (c.close_before.ensures.rows whole v (h.done ++ rows_to t (stretch_from t h.start) c.args.self.now.bus.instant)
+      refl
       (follows-close h.rows_are h.upto));
 }
 
@@ -22,26 +23,26 @@ returns-in-Some-clause-checks g c whole v t at within h =
 
 pub returns-in-Some-break_at-clause-checks : goal.returns-in-Some-break_at-clause-checks
 returns-in-Some-break_at-clause-checks g c whole v t at within h =
-    let span = span_from t h.start in
+    let stretch = stretch_from t h.start in
     let few : c.args.self.now.bus.before.slots ≤ 21 = omega (arith, c.slots.ensures.most, c.slots.ensures.slots) in
     let before = judge-within at c.requires.lead few within h (sym c.is_reset.ensures ∙ c.if-is_reset.false)
     (sym c.in_default.is ∙ c.lost_among.ensures) in
-    let judges = judge-state at h before (λ judged. c.opened-state.ensures t span at judged h.holds) in
+    let judges = judge-state at h before (λ judged. c.opened-state.ensures t stretch at judged h.holds) in
     let end = c.end-in-Some-break_at in
     checks-ended end.new.self end.ensures.bus end.ensures.rows end.ensures.phase end.ensures.outcome at
     (judge-breaks at c.requires.lead few within h c.in-Some-break_at.found.0 c.in-Some-break_at.found.1
-    (sym c.in-Some-break_at.is ∙ c.break_at.ensures t span judges))
+    (sym c.in-Some-break_at.is ∙ c.break_at.ensures t stretch judges))
 
 pub returns-clause-checks : goal.returns-clause-checks
 returns-clause-checks g c whole v t at within h =
-    let span = span_from t h.start in
+    let stretch = stretch_from t h.start in
     let few : c.args.self.now.bus.before.slots ≤ 21 = omega (arith, c.slots.ensures.most, c.slots.ensures.slots) in
     let before = judge-within at c.requires.lead few within h (sym c.is_reset.ensures ∙ c.if-is_reset.false)
     (sym c.in_default.is ∙ c.lost_among.ensures) in
-    let judges = judge-state at h before (λ judged. c.opened-state.ensures t span at judged h.holds) in
+    let judges = judge-state at h before (λ judged. c.opened-state.ensures t stretch at judged h.holds) in
     record {
       at = at;
       phase_is = goes-later within h before
-          (named-none _ (sym c.in_default-break_at.is ∙ c.break_at.ensures t span judges))
-          (c.later.ensures t span judges) (c.follow_instant.ensures.rows whole v h.done t span judges h.rows_are);
+          (named-none _ (sym c.in_default-break_at.is ∙ c.break_at.ensures t stretch judges))
+          (c.later.ensures t stretch judges) (c.follow_instant.ensures.rows whole v h.done t stretch judges h.rows_are);
     }

@@ -9,31 +9,31 @@ use Rattle.vme_cert.proofs.Following.{transfer-replies, transfer-rests}
 use Rattle.vme_cert.proofs.open_rows.OpenRows.answer_transfer.Goals as goal
 
 pub returns-then-not-is_answer-clause-rows : goal.returns-then-not-is_answer-clause-rows
-returns-then-not-is_answer-clause-rows g c whole v done t span h rows =
+returns-then-not-is_answer-clause-rows g c whole v done t stretch h rows =
     let j = c.args.bus.now.instant in
-    transfer-rests j h.is h.judged rows (transfer-unanswered t span v done j h.judged c.args.self.now.transfer
-    (sym (c.is_answer.ensures t span h) ∙ c.if-not-is_answer.true) rows.transfer)
+    transfer-rests j h.is h.judged rows (transfer-unanswered t stretch v done j h.judged c.args.self.now.transfer
+    (sym (c.is_answer.ensures t stretch h) ∙ c.if-not-is_answer.true) rows.transfer)
 
 pub returns-then-not-started-clause-rows : goal.returns-then-not-started-clause-rows
-returns-then-not-started-clause-rows g c whole v done t span h rows =
+returns-then-not-started-clause-rows g c whole v done t stretch h rows =
     let j = c.args.bus.now.instant in
-    transfer-rests j h.is h.judged rows (transfer-outside t span v done j h.judged c.args.self.now.transfer
-    (sym (c.is_answer.ensures t span h) ∙ c.if-not-is_answer.false) (h.holds.cycle.absent c.if-not-started.true)
+    transfer-rests j h.is h.judged rows (transfer-outside t stretch v done j h.judged c.args.self.now.transfer
+    (sym (c.is_answer.ensures t stretch h) ∙ c.if-not-is_answer.false) (h.holds.cycle.absent c.if-not-started.true)
     rows.transfer)
 
 pub returns-clause-rows : goal.returns-clause-rows
-returns-clause-rows g c whole v done t span h rows =
+returns-clause-rows g c whole v done t stretch h rows =
     let j = c.args.bus.now.instant in
-    let here = sym (c.is_answer.ensures t span h) ∙ c.if-not-is_answer.false in
+    let here = sym (c.is_answer.ensures t stretch h) ∙ c.if-not-is_answer.false in
     let transfer = c.args.state.now.transfer in
-    let opened = is-opened t span v done j h.judged transfer h.holds.transfer here in
+    let opened = is-opened t stretch v done j h.judged transfer h.holds.transfer here in
     let row = c.answered_row-row.result in
     transfer-replies j h.is h.judged rows c.in-Some.open _ c.in-Some.is refl refl
-    (transfer-answered t span v done j h.judged c.in-Some.open transfer here opened
-    (subst (λ (o : Option OpenRow). IsTransferAt v done t span (j + 1) j j o) c.in-Some.is rows.transfer) _ refl
+    (transfer-answered t stretch v done j h.judged c.in-Some.open transfer here opened
+    (subst (λ (o : Option OpenRow). IsTransferAt v done t stretch (j + 1) j j o) c.in-Some.is rows.transfer) _ refl
     (λ end edge.
     ap (λ (r : Row). with_edge r edge)
     (c.in_version.ensures ∙ ap (λ (w : Version). row_in w row) rows.are_taken.version_is)
-    ∙ (with_edge-in v row edge ∙ (ap (row_in v) (c.answered_row-row.ensures t span end edge h.at opened
+    ∙ (with_edge-in v row edge ∙ (ap (row_in v) (c.answered_row-row.ensures t stretch end edge h.at opened
     (h.holds.cycle.here c.if-not-started.false))
-    ∙ sym (with_edge-in v (transfer_row t span end transfer.start (Some j)) edge)))))
+    ∙ sym (with_edge-in v (transfer_row t stretch end transfer.start (Some j)) edge)))))

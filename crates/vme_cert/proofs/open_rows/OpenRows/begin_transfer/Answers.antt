@@ -5,12 +5,12 @@ use Rattle.vme_cert.proofs.Following.{transfer-begins, transfer-idle}
 use Rattle.vme_cert.proofs.open_rows.OpenRows.begin_transfer.Goals as goal
 
 pub returns-then-not-transfer_starts-clause-rows : goal.returns-then-not-transfer_starts-clause-rows
-returns-then-not-transfer_starts-clause-rows g c whole v done t span within h =
+returns-then-not-transfer_starts-clause-rows g c whole v done t stretch within h =
     transfer-idle c.args.bus.now.instant within.is within.judged h
     (sym (c.transfer_starts.ensures t within.at) ∙ c.if-not-transfer_starts.true)
 
 pub returns-clause-rows : goal.returns-clause-rows
-returns-clause-rows g c whole v done t span within h =
+returns-clause-rows g c whole v done t stretch within h =
     transfer-begins c.args.bus.now.instant within.is within.judged h
     (sym (c.transfer_starts.ensures t within.at) ∙ c.if-not-transfer_starts.false) c.begin.ensures
     (ap (λ (d : Direction). PendingTransfer c.args.bus.now.instant d)

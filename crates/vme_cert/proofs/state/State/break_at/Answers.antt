@@ -14,7 +14,7 @@ use Rattle.vme_cert.proofs.state.State.break_at.Goals as goal
 
 pub returns-then-not-change-transfer : goal.returns-then-not-change-transfer
 unfolding is_broken
-returns-then-not-change-transfer c t span h =
+returns-then-not-change-transfer c t stretch h =
     let bus = c.args.bus.now in
     let j = bus.instant in
     let change = c.is_change_broken-change.result in
@@ -24,47 +24,47 @@ returns-then-not-change-transfer c t span h =
     c.if-not-change-transfer.true in
     let two = or_parts (change || transfer) cycle three.0 in
     let one = or_parts change transfer two.0 in
-    sym (ap named (break_at-none t span j (unbroken t span bus c.args.self.now c.args.changes.now h c.requires
-    (λ r l e s. c.is_change_broken-change.ensures t span r l h one.0 e s)
-    (λ l. c.is_broken_within-cycle.ensures t span l h two.1
-    (λ e. let none : cycle_starts t span j ≡ false =
-    cycle-starts-is t span j h.judged ∙ (sym (c.falls-starts.ensures t h.at) ∙ e) in
-    breaks-off t span j l U2 (rw none refl))
-    (λ e. breaks-off t span j l U2 (rw (e, and-false) refl))
-    (λ e. sym (breaks-elsewhere t span j l U2 h.judged
+    sym (ap named (break_at-none t stretch j (unbroken t stretch bus c.args.self.now c.args.changes.now h c.requires
+    (λ r l e s. c.is_change_broken-change.ensures t stretch r l h one.0 e s)
+    (λ l. c.is_broken_within-cycle.ensures t stretch l h two.1
+    (λ e. let none : cycle_starts t stretch j ≡ false =
+    cycle-starts-is t stretch j h.judged ∙ (sym (c.falls-starts.ensures t h.at) ∙ e) in
+    breaks-off t stretch j l U2 (rw none refl))
+    (λ e. breaks-off t stretch j l U2 (rw (e, and-false) refl))
+    (λ e. sym (breaks-elsewhere t stretch j l U2 h.judged
     (ap (λ n. nat_le 5 l && nat_le l n) (sym c.address.ensures) ∙ e))))
-    (λ l. c.is_transfer_start_broken-transfer.ensures.direction t span l h one.1)
-    (λ l. c.is_transfer_start_broken-transfer.ensures.answers t span l h one.1)
-    (λ l. c.is_broken_within-data.ensures t span l h three.1
+    (λ l. c.is_transfer_start_broken-transfer.ensures.direction t stretch l h one.1)
+    (λ l. c.is_transfer_start_broken-transfer.ensures.answers t stretch l h one.1)
+    (λ l. c.is_broken_within-data.ensures t stretch l h three.1
     (λ e. let none : strobe_falls t j ≡ false = sym (c.strobe_falls-strobed.ensures t h.at) ∙ e in
-    breaks-off t span j l U4 (rw (none, and-false) refl))
-    (λ e. breaks-off t span j l U4 (rw (e, and-false) refl))
-    (λ e. sym (breaks-elsewhere t span j l U4 h.judged (ap (λ n. nat_le n l && nat_le l 190) (sym c.data.ensures)
+    breaks-off t stretch j l U4 (rw (none, and-false) refl))
+    (λ e. breaks-off t stretch j l U4 (rw (e, and-false) refl))
+    (λ e. sym (breaks-elsewhere t stretch j l U4 h.judged (ap (λ n. nat_le n l && nat_le l 190) (sym c.data.ensures)
     ∙ (ap (λ n. nat_le c.data.result l && nat_le l n) (sym c.data-2.ensures) ∙ e)))))) all_rules))
 
 pub loop-place-init : goal.loop-place-init
-loop-place-init c t span h = refl
+loop-place-init c t stretch h = refl
 
 pub returns-in-Some : goal.returns-in-Some
-returns-in-Some c t span h =
+returns-in-Some c t stretch h =
     let j = c.args.bus.now.instant in
     let within : c.loop-place.place < rule_count = omega arith in
-    sym (ap named (sym (c.loop-place.invariant t span h)
-    ∙ (ap (λ (rs : List Rule). break_at t span rs j) (drop-cons all_rules c.loop-place.place U1 within)
-    ∙ break_at-here t span _ _ j c.in-Some.line (sym (c.least_line.ensures t span h) ∙ c.in-Some.is))))
+    sym (ap named (sym (c.loop-place.invariant t stretch h)
+    ∙ (ap (λ (rs : List Rule). break_at t stretch rs j) (drop-cons all_rules c.loop-place.place U1 within)
+    ∙ break_at-here t stretch _ _ j c.in-Some.line (sym (c.least_line.ensures t stretch h) ∙ c.in-Some.is))))
 
 pub loop-place-preserved : goal.loop-place-preserved
-loop-place-preserved c t span h =
+loop-place-preserved c t stretch h =
     let j = c.args.bus.now.instant in
     let within : c.loop-place.place < rule_count = omega arith in
     rw add-one
-    (sym (break_at-next t span _ _ j (sym (c.least_line.ensures t span h) ∙ c.in_default.is))
-    ∙ (sym (ap (λ (rs : List Rule). break_at t span rs j) (drop-cons all_rules c.loop-place.place U1 within))
-    ∙ c.loop-place.invariant t span h))
+    (sym (break_at-next t stretch _ _ j (sym (c.least_line.ensures t stretch h) ∙ c.in_default.is))
+    ∙ (sym (ap (λ (rs : List Rule). break_at t stretch rs j) (drop-cons all_rules c.loop-place.place U1 within))
+    ∙ c.loop-place.invariant t stretch h))
 
 pub returns : goal.returns
-returns c t span h =
+returns c t stretch h =
     let j = c.args.bus.now.instant in
     let e : c.loop-place.place ≡ rule_count = omega arith in
-    sym (ap named (sym (c.loop-place.invariant t span h)
-    ∙ (ap (λ k. break_at t span (drop k all_rules) j) e ∙ break_at-empty t span j)))
+    sym (ap named (sym (c.loop-place.invariant t stretch h)
+    ∙ (ap (λ k. break_at t stretch (drop k all_rules) j) e ∙ break_at-empty t stretch j)))

@@ -6,5 +6,5 @@ use Rattle.vme_cert.proofs.state.State.break_at.Given as goal
 
 abbrev pub invariant-loop-place : goal.invariant-loop-place
 invariant-loop-place l =
-    (t : Trace) (span : Stretch) → IsStateOf t span l.bus l.self
-    → break_at t span (drop l.place all_rules) l.bus.instant ≡ break_at t span all_rules l.bus.instant
+    (t : Trace) (stretch : Stretch) → IsStateOf t stretch l.bus l.self
+    → break_at t stretch (drop l.place all_rules) l.bus.instant ≡ break_at t stretch all_rules l.bus.instant

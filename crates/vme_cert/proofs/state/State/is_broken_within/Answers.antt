@@ -7,12 +7,12 @@ use Rattle.vme_cert.proofs.Ranges.{any-first, decide, within_of}
 use Rattle.vme_cert.proofs.state.State.is_broken_within.Goals as goal
 
 pub returns : goal.returns
-returns c t span l h e unasked knows outside =
-    let p = breaks t span c.args.rule c.args.bus.now.instant in
+returns c t stretch l h e unasked knows outside =
+    let p = breaks t stretch c.args.rule c.args.bus.now.instant in
     let first = c.args.first in
     let last = c.args.last in
     let none : any p first (last + 1) ≡ false = sym (any-first p first (last + 1))
-    ∙ (sym (ap is_some (c.least_line.ensures t span h ∙ (ap (λ k. least p k (c.number-end.result + 1))
+    ∙ (sym (ap is_some (c.least_line.ensures t stretch h ∙ (ap (λ k. least p k (c.number-end.result + 1))
     c.number.ensures.number ∙ ap (λ n. least p first (n + 1)) c.number-end.ensures.number)))
     ∙ (sym c.is_some.ensures ∙ e)) in
     decide (nat_le first l && nat_le l last) (λ within. let (from, below) = within_of first l last within in

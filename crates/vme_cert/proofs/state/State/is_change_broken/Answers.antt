@@ -50,10 +50,10 @@ is_line_broken-requires c =
     (list_all_at has changes c.loop-change.change-index change (omega arith) (ap has (sym c.change-item.is) ∙ e)))))
 
 pub loop-change-init : goal.loop-change-init
-loop-change-init c t span r n h changed its_line = absurd (cc)
+loop-change-init c t stretch r n h changed its_line = absurd (cc)
 
 pub loop-change-preserved : goal.loop-change-preserved
-loop-change-preserved c t span r n h changed its_line =
+loop-change-preserved c t stretch r n h changed its_line =
     let changes = c.args.changes.now in
     let i = c.loop-change.change-index in
     let j = c.args.bus.now.instant in
@@ -61,13 +61,13 @@ loop-change-preserved c t span r n h changed its_line =
     let more = take_more changes i change (omega arith)
     ∙ ap (λ (d : Change). take i changes ++ d ∷ []) (sym c.change-item.is) in
     elim (changed-last (take i changes) change n (subst (λ (cs : List Change). is_changed cs n ≡ true) more changed)) [
-      | inl before ↦ c.loop-change.invariant t span r n h before its_line
-      | inr here ↦ subst (λ l. is_broken t span r j l ≡ false) here (c.is_line_broken.ensures t span r h
+      | inl before ↦ c.loop-change.invariant t stretch r n h before its_line
+      | inr here ↦ subst (λ l. is_broken t stretch r j l ≡ false) here (c.is_line_broken.ensures t stretch r h
           c.if-is_line_broken.false (subst (λ l. may_be_broken_on r l ≡ true) (sym here) its_line))
     ]
 
 pub returns : goal.returns
-returns c t span r l h e changed its_line =
+returns c t stretch r l h e changed its_line =
     let changes = c.args.changes.now in
-    c.loop-change.invariant t span r l h (subst (λ (cs : List Change). is_changed cs l ≡ true)
+    c.loop-change.invariant t stretch r l h (subst (λ (cs : List Change). is_changed cs l ≡ true)
     (sym (take_all c.loop-change.change-index changes (omega arith))) changed) its_line

@@ -7,6 +7,6 @@ use Rattle.vme_cert.proofs.state.State.is_change_broken.Given as goal
 
 abbrev pub invariant-loop-change : goal.invariant-loop-change
 invariant-loop-change l =
-    (t : Trace) (span : Stretch) (r : Rule) (n : ℕ) → IsStateOf t span l.bus l.self
+    (t : Trace) (stretch : Stretch) (r : Rule) (n : ℕ) → IsStateOf t stretch l.bus l.self
     → is_changed (take l.change-index l.changes) n ≡ true → may_be_broken_on r n ≡ true
-    → is_broken t span r l.bus.instant n ≡ false
+    → is_broken t stretch r l.bus.instant n ≡ false

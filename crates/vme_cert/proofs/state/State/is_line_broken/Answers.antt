@@ -16,16 +16,16 @@ is_broken-requires-clause-its_line c =
 pub loop-rule-preserved : goal.loop-rule-preserved
 loop-rule-preserved c = record {
   rules = c.loop-rule.invariant.rules;
-  kept = below_more (λ k. (t : Trace) (span : Stretch) → IsStateOf t span c.args.bus.now c.args.self.now
-      → is_broken t span (get_or c.rules_on-rule-items.result.now k U1) c.args.bus.now.instant c.args.line ≡ false)
-      c.loop-rule.rule-index c.loop-rule.invariant.kept (λ t span h. sym (c.is_broken.ensures t span h)
+  kept = below_more (λ k. (t : Trace) (stretch : Stretch) → IsStateOf t stretch c.args.bus.now c.args.self.now
+      → is_broken t stretch (get_or c.rules_on-rule-items.result.now k U1) c.args.bus.now.instant c.args.line ≡ false)
+      c.loop-rule.rule-index c.loop-rule.invariant.kept (λ t stretch h. sym (c.is_broken.ensures t stretch h)
       ∙ c.if-is_broken.false);
 }
 
 pub returns : goal.returns
-returns c t span r h e its_line =
+returns c t stretch r h e its_line =
     let (k, below, at) = may_be_broken-listed c.args.line r c.rules_on-rule-items.ensures.exists its_line in
     let rules = c.loop-rule.invariant.rules in
     let within = ap (λ (rs : List Rule). length rs) rules in
-    subst (λ (q : Rule). is_broken t span q c.args.bus.now.instant c.args.line ≡ false)
-    (ap (λ (rs : List Rule). get_or rs k U1) rules ∙ at) (c.loop-rule.invariant.kept k (omega arith) t span h)
+    subst (λ (q : Rule). is_broken t stretch q c.args.bus.now.instant c.args.line ≡ false)
+    (ap (λ (rs : List Rule). get_or rs k U1) rules ∙ at) (c.loop-rule.invariant.kept k (omega arith) t stretch h)

@@ -8,6 +8,6 @@ use Rattle.vme_cert.proofs.state.State.is_line_broken.Given as goal
 abbrev pub invariant-loop-rule : goal.invariant-loop-rule
 invariant-loop-rule l = record {
   rules : l.rule-items ≡ rules_on l.line;
-  kept : (k : ℕ) → k < l.rule-index → (t : Trace) (span : Stretch) → IsStateOf t span l.bus l.self
-      → is_broken t span (get_or l.rule-items k U1) l.bus.instant l.line ≡ false;
+  kept : (k : ℕ) → k < l.rule-index → (t : Trace) (stretch : Stretch) → IsStateOf t stretch l.bus l.self
+      → is_broken t stretch (get_or l.rule-items k U1) l.bus.instant l.line ≡ false;
 }

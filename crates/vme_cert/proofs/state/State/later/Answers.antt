@@ -4,19 +4,19 @@ use Rattle.vme_cert.proofs.Fields.{since-later-step, since-step}
 use Rattle.vme_cert.proofs.state.State.later.Goals as goal
 
 pub returns : goal.returns
-returns c t span h =
+returns c t stretch h =
     let j = c.args.bus.now.instant in
     let rises = c.strobe_rises-rises.ensures t h.at in
     let grants = c.grant_falls-grants.ensures t h.at in
     record {
-      cycle = c.later.ensures t span c.args.self.now h refl (c.is_answer-is_answer.ensures t span h)
-          (c.answers_write-writes.ensures t span h);
-      transfer = c.later-2.ensures t span h.at h.judged h.holds.transfer;
-      acknowledge_freed = since-step t span (falls t DTACK) (strobe_rises t) j h.judged h.holds.acknowledge_freed
+      cycle = c.later.ensures t stretch c.args.self.now h refl (c.is_answer-is_answer.ensures t stretch h)
+          (c.answers_write-writes.ensures t stretch h);
+      transfer = c.later-2.ensures t stretch h.at h.judged h.holds.transfer;
+      acknowledge_freed = since-step t stretch (falls t DTACK) (strobe_rises t) j h.judged h.holds.acknowledge_freed
           (c.falls-acknowledge_falls.ensures t h.at) rises;
-      error_freed = since-step t span (falls t BERR) (strobe_rises t) j h.judged h.holds.error_freed
+      error_freed = since-step t stretch (falls t BERR) (strobe_rises t) j h.judged h.holds.error_freed
           (c.falls-error_falls.ensures t h.at) rises;
-      requested = c.requested_later.ensures t span h.at h.judged h.holds.requested;
-      granted = since-later-step t span (falls t BBSY) (grant_falls t) j h.judged h.holds.granted
+      requested = c.requested_later.ensures t stretch h.at h.judged h.holds.requested;
+      granted = since-later-step t stretch (falls t BBSY) (grant_falls t) j h.judged h.holds.granted
           (c.falls-busy_falls.ensures t h.at) grants;
     }

@@ -5,5 +5,5 @@ use Rattle.vme_cert.specs.State.{IsStateOf}
 use Rattle.vme_cert.proofs.state.State.least_line.Given as goal
 
 abbrev pub invariant-loop-number : goal.invariant-loop-number
-invariant-loop-number l = (t : Trace) (span : Stretch) → IsStateOf t span l.bus l.self
-    → any (breaks t span l.rule l.bus.instant) l.first l.number ≡ false
+invariant-loop-number l = (t : Trace) (stretch : Stretch) → IsStateOf t stretch l.bus l.self
+    → any (breaks t stretch l.rule l.bus.instant) l.first l.number ≡ false

@@ -6,11 +6,14 @@ use Rattle.vme_cert.proofs.Ranges.{each-of}
 use Rattle.vme_cert.proofs.state.State.requested_later.Goals as goal
 
 pub returns : goal.returns
-returns c t span at judged is =
+returns c t stretch at judged is =
     let j = c.args.bus.now.instant in
     let grants = c.grant_falls-keeps.ensures t at in
-    each-of (λ n. is_requested t span n (j + 1)) _ _ _ _
-    (since-step t span (grant_falls t) (low t (BR 0)) j judged (is 0 (omega arith)) grants (c.requests.ensures t at))
-    (since-step t span (grant_falls t) (low t (BR 1)) j judged (is 1 (omega arith)) grants (c.requests-2.ensures t at))
-    (since-step t span (grant_falls t) (low t (BR 2)) j judged (is 2 (omega arith)) grants (c.requests-3.ensures t at))
-    (since-step t span (grant_falls t) (low t (BR 3)) j judged (is 3 (omega arith)) grants (c.requests-4.ensures t at))
+    each-of (λ n. is_requested t stretch n (j + 1)) _ _ _ _
+    (since-step t stretch (grant_falls t) (low t (BR 0)) j judged (is 0 (omega arith)) grants (c.requests.ensures t at))
+    (since-step t stretch (grant_falls t) (low t (BR 1)) j judged (is 1 (omega arith)) grants
+    (c.requests-2.ensures t at))
+    (since-step t stretch (grant_falls t) (low t (BR 2)) j judged (is 2 (omega arith)) grants
+    (c.requests-3.ensures t at))
+    (since-step t stretch (grant_falls t) (low t (BR 3)) j judged (is 3 (omega arith)) grants
+    (c.requests-4.ensures t at))

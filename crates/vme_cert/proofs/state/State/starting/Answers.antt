@@ -7,19 +7,20 @@ use Rattle.vme_cert.proofs.Fields.{none-started, since-later-start, since-start}
 use Rattle.vme_cert.proofs.state.State.starting.Goals as goal
 
 pub returns : goal.returns
-returns c t span at start =
+returns c t stretch at start =
     let rises = c.strobe_rises-rises.ensures t at ∙ ap (strobe_rises t) start in
-    let begins = λ (n : ℕ). ap (low t (BR n)) start ∙ sym (since-start t span (grant_falls t) (low t (BR n))) in
+    let begins = λ (n : ℕ). ap (low t (BR n)) start ∙ sym (since-start t stretch (grant_falls t) (low t (BR n))) in
     record {
       cycle = record {
         here = λ e. absurd (cc);
-        absent = λ e. greatest-empty (cycle_starts t span) (span.start + 1) (span.start + 1) (omega arith);
+        absent = λ e. greatest-empty (cycle_starts t stretch) (stretch.start + 1) (stretch.start + 1) (omega arith);
       };
-      transfer = record { here = λ e. absurd (cc); absent = λ e. none-started t span };
-      acknowledge_freed = rises ∙ sym (since-start t span (falls t DTACK) (strobe_rises t));
-      error_freed = rises ∙ sym (since-start t span (falls t BERR) (strobe_rises t));
-      requested = each-of (λ n. is_requested t span n (span.start + 1)) _ _ _ _ (c.requests.ensures t at ∙ begins 0)
+      transfer = record { here = λ e. absurd (cc); absent = λ e. none-started t stretch };
+      acknowledge_freed = rises ∙ sym (since-start t stretch (falls t DTACK) (strobe_rises t));
+      error_freed = rises ∙ sym (since-start t stretch (falls t BERR) (strobe_rises t));
+      requested = each-of (λ n. is_requested t stretch n (stretch.start + 1))
+          _ _ _ _ (c.requests.ensures t at ∙ begins 0)
           (c.requests-2.ensures t at ∙ begins 1) (c.requests-3.ensures t at ∙ begins 2)
           (c.requests-4.ensures t at ∙ begins 3);
-      granted = sym (since-later-start t span (falls t BBSY) (grant_falls t));
+      granted = sym (since-later-start t stretch (falls t BBSY) (grant_falls t));
     }

@@ -1,6 +1,6 @@
 -- The rest is read.
 use Rattle.std.proofs.Common.{[], ◌∷◌, ◌++◌, append_assoc, append-nil, refl, subst, sym, ◌∙◌}
-use Rattle.vme_confirm_command.specs.RowsOfListing.{GaveRows, IsOver}
+use Rattle.vme_confirm_command.specs.RowsOfListing.{ListingGaveRows, IsOver}
 use Rattle.vme_confirm_command.proofs.ListingLemmas.{fault-gave, more-after, never-some, no-more, one-more, whole-ends}
 use Rattle.vme_confirm_command.proofs.listing_rows.ListingRows.finish.Goals as goal
 
@@ -8,7 +8,7 @@ pub loop-init : goal.loop-init
 loop-init g c = record {
   gave = λ old version rows gave. (
     [],
-    subst (GaveRows old version (g.L.Source.reading c.args.self.source) c.args.self.input c.args.self.pieces
+    subst (ListingGaveRows old version (g.L.Source.reading c.args.self.source) c.args.self.input c.args.self.pieces
         c.args.self.fault) (sym (append-nil rows)) gave,
     λ _. refl,
   );
@@ -27,7 +27,8 @@ loop-preserved g c =
           let (row, given) = one-more old version now next.input next.pieces next.fault (rows ++ more) c.give.result
           some (c.give.ensures.gave old version (rows ++ more) here) in (
             more ++ row ∷ [],
-            subst (GaveRows old version now next.input next.pieces next.fault) (append_assoc rows more (row ∷ []))
+            subst (ListingGaveRows old version now next.input next.pieces next.fault)
+                (append_assoc rows more (row ∷ []))
                 given,
             λ over. absurd (never-some c.give.result some (c.give.ensures.stays (inv.over over))),
           );

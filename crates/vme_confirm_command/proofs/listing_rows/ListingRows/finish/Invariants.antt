@@ -3,16 +3,18 @@ use Rattle.std.proofs.Common.{◌≡◌, List, [], ◌++◌}
 use Rattle.vme_trace.specs.Streams.{Reading}
 use Rattle.vme_listing.specs.declared.row.Row.{Row}
 use Rattle.vme_listing.specs.declared.row.Version.{Version}
-use Rattle.vme_confirm_command.specs.RowsOfListing.{GaveRows, IsOver, bytes_left}
+use Rattle.vme_confirm_command.specs.RowsOfListing.{ListingGaveRows, IsOver, bytes_left}
 use Rattle.vme_confirm_command.proofs.listing_rows.ListingRows.finish.Given as goal
 
 abbrev pub invariant-loop : goal.invariant-loop
 invariant-loop g l =
     record {
       gave : (old : Reading) (version : Version) (rows : List Row)
-          → GaveRows old version (g.L.Source.reading l.initial.rows.source) l.initial.rows.input l.initial.rows.pieces
+          → ListingGaveRows old version (g.L.Source.reading l.initial.rows.source) l.initial.rows.input
+          l.initial.rows.pieces
           l.initial.rows.fault rows
-          → (more : List Row) × GaveRows old version (g.L.Source.reading l.rows.source) l.rows.input l.rows.pieces
+          → (more : List Row) × ListingGaveRows old version (g.L.Source.reading l.rows.source) l.rows.input
+          l.rows.pieces
           l.rows.fault (rows ++ more)
           × (IsOver l.initial.rows.pieces l.initial.rows.fault → more ≡ []);
       over : IsOver l.initial.rows.pieces l.initial.rows.fault → IsOver l.rows.pieces l.rows.fault;

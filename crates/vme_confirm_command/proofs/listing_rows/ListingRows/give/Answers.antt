@@ -1,7 +1,7 @@
 -- A row is given, or no more are.
 use Rattle.std.proofs.Common.{Option, Some, subst, sym, ◌∙◌}
 use Rattle.vme_listing.specs.Reading.{RowsSoFar}
-use Rattle.vme_confirm_command.specs.RowsOfListing.{AreCounted, GaveAllRows, GaveRows, IsOver}
+use Rattle.vme_confirm_command.specs.RowsOfListing.{AreCounted, ListingGaveAllRows, ListingGaveRows, IsOver}
 use Rattle.vme_confirm_command.proofs.ListingLemmas.{gives-on, no-pieces, over-none, rows-read}
 use Rattle.vme_confirm_command.proofs.RowLemmas.{is-counted, no-fault}
 use Rattle.vme_confirm_command.proofs.listing_rows.ListingRows.give.Goals as goal
@@ -19,9 +19,9 @@ pub returns-in_default-clause-gave : goal.returns-in_default-clause-gave
 returns-in_default-clause-gave g c old version rows gave =
     let self = c.args.self.now in
     let now = g.L.Source.reading self.source in
-    subst (λ (p : Option RowsSoFar). GaveAllRows old version now self.input p self.fault rows)
+    subst (λ (p : Option RowsSoFar). ListingGaveAllRows old version now self.input p self.fault rows)
     (sym c.take.ensures.after) (no-pieces old version now self.input rows self.fault
-    (subst (λ (p : Option RowsSoFar). GaveRows old version now self.input p self.fault rows)
+    (subst (λ (p : Option RowsSoFar). ListingGaveRows old version now self.input p self.fault rows)
     (sym c.take.ensures.value ∙ c.in_default.is) gave))
 
 pub returns-in_default-clause-over : goal.returns-in_default-clause-over
@@ -39,7 +39,8 @@ returns-in-Ok-clause-gave g c old version rows gave =
     self.counted) in
     let (limit, same, are) = rows-read old version (g.L.Source.reading self.source) self.input rows so_far self.fault
     none
-    (subst (λ (p : Option RowsSoFar). GaveRows old version (g.L.Source.reading self.source) self.input p self.fault
+    (subst (λ (p : Option RowsSoFar). ListingGaveRows old version (g.L.Source.reading self.source) self.input p
+    self.fault
     rows) (sym c.take.ensures.value ∙ c.in-Some.is) gave) in
     gives-on old version now c.next_row.new.input rows c.next_row.new.pieces self.fault none
     (c.next_row.ensures.limit ∙ limit) (c.next_row.ensures.version ∙ same) c.in-Ok.row
@@ -54,8 +55,9 @@ returns-in-Err-clause-gave g c old version rows gave =
     self.counted) in
     let (limit, same, are) = rows-read old version (g.L.Source.reading self.source) self.input rows so_far self.fault
     none
-    (subst (λ (p : Option RowsSoFar). GaveRows old version (g.L.Source.reading self.source) self.input p self.fault
+    (subst (λ (p : Option RowsSoFar). ListingGaveRows old version (g.L.Source.reading self.source) self.input p
+    self.fault
     rows) (sym c.take.ensures.value ∙ c.in-Some.is) gave) in
-    subst (λ (p : Option RowsSoFar). GaveAllRows old version (g.L.Source.reading c.next_row.new.source)
+    subst (λ (p : Option RowsSoFar). ListingGaveAllRows old version (g.L.Source.reading c.next_row.new.source)
     c.next_row.new.input p (Some c.in-Err.fault) rows) (sym c.take.ensures.after)
     (c.next_row.ensures.limit ∙ limit, c.in-Err.ensures.row old rows are limit)

@@ -8,7 +8,7 @@ use Rattle.vme_dtb.specs.HoldingNumbers.{holding_place}
 use Rattle.vme_dtb.specs.StabilityRules.{stability_begin}
 use Rattle.vme_chains.specs.GrantMemory.{arbitration_place}
 use Rattle.vme_chains.specs.GrantRules.{grant_begin}
-use Rattle.vme_chains.specs.AcknowledgeRules.{acknowledge_begin, acknowledgement_place}
+use Rattle.vme_chains.specs.AcknowledgeRules.{acknowledge_begin, acknowledge_memory_place}
 use Rattle.vme_summary.specs.Runs.{known_run, handshake_run, stability_run, grant_run, acknowledge_run}
 use Rattle.vme_part_format.specs.Tables.{table_value}
 use Rattle.vme_part_listing.proofs.MarkedWays.{past_way}
@@ -73,7 +73,7 @@ returns-clause-shows c =
           (table_value c.args.segment.now.grant) c.args.self.now.grant c.go_past-4.new.self o v x y c.args.steps
           c.in_ok-go_past-4.ensures.memory c.in_ok-go_past-4.ensures.marks opens counted fits was.grant agrees.grant;
       acknowledge = past_way acknowledge_run acknowledge_is_run (start_in acknowledge_begin)
-          (phase_place acknowledgement_place) 11
+          (phase_place acknowledge_memory_place) 11
           (table_value c.args.segment.now.acknowledge) c.args.self.now.acknowledge c.go_past-5.new.self o v x y
           c.args.steps
           c.in_ok-go_past-5.ensures.memory c.in_ok-go_past-5.ensures.marks opens counted fits was.acknowledge

@@ -8,7 +8,7 @@ use Rattle.vme_dtb.specs.HoldingNumbers.{holding_place}
 use Rattle.vme_dtb.specs.StabilityRules.{stability_begin}
 use Rattle.vme_chains.specs.GrantMemory.{arbitration_place}
 use Rattle.vme_chains.specs.GrantRules.{grant_begin}
-use Rattle.vme_chains.specs.AcknowledgeRules.{acknowledge_begin, acknowledgement_place}
+use Rattle.vme_chains.specs.AcknowledgeRules.{acknowledge_begin, acknowledge_memory_place}
 use Rattle.vme_summary.specs.Runs.{known_run, handshake_run, stability_run, grant_run, acknowledge_run}
 use Rattle.vme_part_format.specs.Tables.{table_value}
 use Rattle.vme_parts.proofs.Runs.{acknowledge_is_run, grant_is_run, handshake_is_run, known_is_run, stability_is_run}
@@ -71,7 +71,7 @@ returns-clause-found c =
           (table_value c.args.segment.now.grant) c.args.self.now.grant c.past-4.result o v x y c.args.steps
           c.past-4.ensures.memory c.past-4.ensures.first_break opens counted fits was.grant agrees.grant;
       acknowledge = past_state acknowledge_run acknowledge_is_run (start_in acknowledge_begin)
-          (phase_place acknowledgement_place) listing 11
+          (phase_place acknowledge_memory_place) listing 11
           (table_value c.args.segment.now.acknowledge) c.args.self.now.acknowledge c.past-5.result o v x y c.args.steps
           c.past-5.ensures.memory c.past-5.ensures.first_break opens counted fits was.acknowledge agrees.acknowledge;
     }

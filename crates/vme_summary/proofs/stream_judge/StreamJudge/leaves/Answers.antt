@@ -1,7 +1,7 @@
 -- After all steps that came have been judged, the judge has the lines that they leave.
 use Rattle.std.proofs.Common.{sym, ◌∙◌, ap}
 use Rattle.vme_trace.specs.Trace.{Trace, levels_after}
-use Rattle.vme_trace.proofs.SameLines.{lines_decide}
+use Rattle.vme_trace.proofs.LevelsEquality.{levels_eq-Decides}
 use Rattle.vme_summary.proofs.StreamJudging.{all-judged}
 use Rattle.vme_summary.proofs.stream_judge.StreamJudge.leaves.Goals as goal
 
@@ -14,4 +14,4 @@ returns-clause-leaves g c =
     (rw c.deref.ensures.value at c.in_ok-go_on.ensures.past) in
     let left = c.left.ensures i.opening i.taken.items judged in
     λ same. ap (λ (t : Trace). levels_after t.opening t.steps) (sym c.self.view_is) ∙ sym left
-    ∙ (lines_decide c.left.result.now c.args.lines.now c.eq.result c.eq.ensures).0 same
+    ∙ (levels_eq-Decides c.left.result.now c.args.lines.now c.eq.result c.eq.ensures).0 same

@@ -1,4 +1,4 @@
--- Where a span ends, which levels are known within it, and what is broken at its end.
+-- Where a stretch ends, which levels are known within it, and what is broken at its end.
 use Rattle.std.proofs.Common.{lit<, lit≤, ◌≡◌, ℕ, zero, suc, ◌+◌, ◌<◌, ◌≤◌, Bool, true, false, ◌&&◌, not, List}
 use Rattle.std.proofs.Common.{refl, sym, ◌∙◌, ap, arith, inl, inr, ◌⊎◌}
 use Rattle.std.specs.Prelude.{Option, None, Some, slice_get, ◌==◌, nat_le, unwrap_or}
@@ -9,7 +9,8 @@ use Rattle.vme_trace.specs.LineNumbers.{line_count, has_line}
 use Rattle.vme_trace.specs.Levels.{Levels, is_idle, is_idle_on, is_lost, loses_control}
 use Rattle.vme_trace.specs.Trace.{Trace, levels_at, after, last_instant}
 use Rattle.vme_trace.specs.Signals.{high, known}
-use Rattle.vme_trace.specs.Judged.{Stretch, span_from, span_end, is_idle_at, is_reset_at, loses_control_at, stops_at}
+use Rattle.vme_trace.specs.Judged.{Stretch, stretch_from, stretch_end, is_idle_at, is_reset_at, loses_control_at}
+use Rattle.vme_trace.specs.Judged.{stops_at}
 use Rattle.vme_trace.specs.Rules.{breaks, is_broken}
 use Rattle.vme_trace.specs.Verdict.{break_before}
 use Rattle.vme_trace.specs.declared.step.Step.{Step}
@@ -23,9 +24,10 @@ use Rattle.vme_trace.proofs.Changing.{slots-kept}
 suc-is : (n : ℕ) → suc n ≡ n + 1
 suc-is n = omega arith
 
--- where no instant after s up to n ends a span that starts at s, its end is after n
-pub end-past : (t : Trace) (s n : ℕ) → any (stops_at t) (s + 1) (n + 1) ≡ false → n ≤ last_instant t → n < span_end t s
-unfolding span_end
+-- where no instant after s up to n ends a stretch that starts at s, its end is after n
+pub end-past : (t : Trace) (s n : ℕ) → any (stops_at t) (s + 1) (n + 1) ≡ false → n ≤ last_instant t
+    → n < stretch_end t s
+unfolding stretch_end
 end-past t s n held within = past (least (stops_at t) (s + 1) (last_instant t + 1)) refl
   where
     past : (o : Option ℕ) → least (stops_at t) (s + 1) (last_instant t + 1) ≡ o → n < unwrap_or o (last_instant t + 1)
@@ -37,10 +39,10 @@ end-past t s n held within = past (least (stops_at t) (s + 1) (last_instant t + 
               found.first (omega arith)))
         ]
 
--- the first instant after s that ends a span is the end of the span that starts at s
+-- the first instant after s that ends a stretch is the end of the stretch that starts at s
 pub end-is : (t : Trace) (s n : ℕ) → any (stops_at t) (s + 1) (n + 1) ≡ false → s ≤ n → n < last_instant t
-    → stops_at t (suc n) ≡ true → span_end t s ≡ suc n
-unfolding span_end
+    → stops_at t (suc n) ≡ true → stretch_end t s ≡ suc n
+unfolding stretch_end
 end-is t s n held from within stops =
     rw (least-is (stops_at t) (s + 1) (last_instant t + 1) (suc n) (omega arith) (omega arith) stops
     (ap (any (stops_at t) (s + 1)) (suc-is n) ∙ held)) refl
@@ -65,28 +67,29 @@ all_but_last a b c false e f g h k m = rw h refl
 
 module _ (t : Trace) (s n : ℕ) where
   -- where no control line is lost at n + 1, U1 isn't broken there
-  pub u1-unlost : loses_control_at t (suc n) ≡ false → (l : ℕ) → l < line_count → breaks t (span_from t s) U1 (suc n) l
+  pub u1-unlost : loses_control_at t (suc n) ≡ false → (l : ℕ) → l < line_count
+      → breaks t (stretch_from t s) U1 (suc n) l
       ≡ false
   unfolding breaks is_broken loses_control_at loses_control
-  u1-unlost held l below = ends_in_false (has_line t.opening.slots l) (suc n == span_end t s)
+  u1-unlost held l below = ends_in_false (has_line t.opening.slots l) (suc n == stretch_end t s)
       (nat_le (suc n) (last_instant t)) (is_lost (levels_at t (suc n)) l) (any-fails (is_lost (levels_at t (suc n))) 0
       line_count l held (omega arith) below)
 
-  -- at the end of the span U1 is broken on exactly the lost lines; where the bus is reset, no line is lost
-  pub u1-lost : span_end t s ≡ suc n → n < last_instant t → (l : ℕ) → breaks t (span_from t s) U1 (suc n) l
+  -- at the end of the stretch U1 is broken on exactly the lost lines; where the bus is reset, no line is lost
+  pub u1-lost : stretch_end t s ≡ suc n → n < last_instant t → (l : ℕ) → breaks t (stretch_from t s) U1 (suc n) l
       ≡ is_lost (levels_at t (suc n)) l
   unfolding breaks is_broken
   u1-lost ends within l =
-      all_but_last (has_line t.opening.slots l) (suc n == span_end t s) (nat_le (suc n) (last_instant t))
+      all_but_last (has_line t.opening.slots l) (suc n == stretch_end t s) (nat_le (suc n) (last_instant t))
       (has_line (levels_at t (suc n)).slots l) _ _ _
-      (ap (λ slots. has_line slots l) (sym (slots_at t (suc n)))) (eq-eqb (suc n) (span_end t s) (sym ends))
+      (ap (λ slots. has_line slots l) (sym (slots_at t (suc n)))) (eq-eqb (suc n) (stretch_end t s) (sym ends))
       (le_test n (last_instant t) within)
     where
       le_test : (a b : ℕ) → a < b → nat_le (suc a) b ≡ true
       le_test a b h = grind (arith, nat_tests)
 
-goes_on : (t : Trace) (s j : ℕ) → s < j → j < span_end t s → stops_at t j ≡ false
-unfolding span_end
+goes_on : (t : Trace) (s j : ℕ) → s < j → j < stretch_end t s → stops_at t j ≡ false
+unfolding stretch_end
 goes_on t s j after before = by_end (least (stops_at t) (s + 1) (last_instant t + 1)) refl before
   where
     by_end : (o : Option ℕ) → least (stops_at t) (s + 1) (last_instant t + 1) ≡ o → j < unwrap_or o (last_instant t + 1)
@@ -96,16 +99,16 @@ goes_on t s j after before = by_end (least (stops_at t) (s + 1) (last_instant t 
     by_end (Some w) e b = let found = least-found (stops_at t) (s + 1) (last_instant t + 1) w e in
         any-fails (stops_at t) (s + 1) w j found.least (omega arith) b
 
--- within a span no control line is lost
-pub not_lost : (t : Trace) (s j : ℕ) → s < j → j < span_end t s → loses_control_at t j ≡ false
+-- within a stretch no control line is lost
+pub not_lost : (t : Trace) (s j : ℕ) → s < j → j < stretch_end t s → loses_control_at t j ≡ false
 not_lost t s j after before = (or_parts (is_reset_at t j) (loses_control_at t j) (goes_on t s j after before)).1
 
--- within a span the bus isn't reset
-pub not_reset : (t : Trace) (s j : ℕ) → s < j → j < span_end t s → is_reset_at t j ≡ false
+-- within a stretch the bus isn't reset
+pub not_reset : (t : Trace) (s j : ℕ) → s < j → j < stretch_end t s → is_reset_at t j ≡ false
 not_reset t s j after before = (or_parts (is_reset_at t j) (loses_control_at t j) (goes_on t s j after before)).0
 
--- after an idle instant both strobes are known, in the span that starts there
-pub reads_strobes : (t : Trace) (s : ℕ) → is_idle_at t s ≡ true → ReadsStrobes t (span_from t s)
+-- after an idle instant both strobes are known, in the stretch that starts there
+pub reads_strobes : (t : Trace) (s : ℕ) → is_idle_at t s ≡ true → ReadsStrobes t (stretch_from t s)
 unfolding is_idle_at is_idle high known is_reset_at loses_control_at loses_control
 reads_strobes t s idle = record {
   opens = and_from _ _ (idle_line 1 (lit< tt)) (idle_line 2 (lit< tt));
@@ -128,12 +131,13 @@ last_or_before : (j k : ℕ) → j ≤ suc k → (j ≡ suc k) ⊎ (j ≤ k)
 last_or_before j k h = grind arith
 
 -- the first break before j is also the first break before a later k
-pub break_before-stays : (t : Trace) (span : Stretch) (rules : List Rule) (b : Break) (j k : ℕ) → break_before t span
-    rules j ≡ Some b → j ≤ k → break_before t span rules k ≡ Some b
+pub break_before-stays : (t : Trace) (stretch : Stretch) (rules : List Rule) (b : Break) (j k : ℕ)
+    → break_before t stretch
+    rules j ≡ Some b → j ≤ k → break_before t stretch rules k ≡ Some b
 unfolding break_before
-break_before-stays t span rules b j zero first order = let e : j ≡ 0 = omega arith in rw e at first
-break_before-stays t span rules b j (suc k) first order =
+break_before-stays t stretch rules b j zero first order = let e : j ≡ 0 = omega arith in rw e at first
+break_before-stays t stretch rules b j (suc k) first order =
     elim (last_or_before j k order) [
       | inl e ↦ rw e at first
-      | inr before ↦ rw (break_before-stays t span rules b j k first before) refl
+      | inr before ↦ rw (break_before-stays t stretch rules b j k first before) refl
     ]

@@ -6,7 +6,7 @@ use Rattle.vcd_read.specs.Body.{body_from, ready}
 use Rattle.vcd_read.specs.BodyFold.{state_at, body_fold}
 use Rattle.vcd_read.specs.DetachedPieces.{before_piece, time_first}
 use Rattle.vcd_read.proofs.DetachedLemmas.{left-whole, read-whole}
-use Rattle.vcd_read.proofs.pieces.Pieces.detached.Goals as goal
+use Rattle.vcd_read.proofs.pieces.BodyReader.detached.Goals as goal
 
 pub returns-in-Ready-clause-read : goal.returns-in-Ready-clause-read
 returns-in-Ready-clause-read g c =

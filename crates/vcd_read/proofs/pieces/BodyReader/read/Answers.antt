@@ -1,5 +1,5 @@
 use Rattle.vcd_read.proofs.BodyLemmas.{outcome_same, stopped_fails}
-use Rattle.vcd_read.proofs.pieces.Pieces.read.Goals as goal
+use Rattle.vcd_read.proofs.pieces.BodyReader.read.Goals as goal
 
 pub returns-in-Ok-clause-rest : goal.returns-in-Ok-clause-rest
 returns-in-Ok-clause-rest g c = λ more. outcome_same _ _ (c.in-Ok.ensures.rest more)
