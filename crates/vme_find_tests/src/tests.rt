@@ -508,6 +508,18 @@ $var wire 1 x o_iack_out1 $end\n";
 const OUTPUT_AND_INPUT: &str =
     "$var wire 1 p as $end $var wire 1 q i_ds_0 $end $var wire 1 r dtack $end $var wire 1 s o_ds_0 $end\n";
 
+/// The grant that a board gets, and the one that it passes on, which is an output. No line is found by both.
+const IN_AND_OUT: &str =
+    "$var wire 1 p as $end $var wire 1 q bbsy $end $var wire 1 r bg3_in $end $var wire 1 o bg3_out $end\n";
+
+/// The same of names with a number at the end, which belongs to the style.
+const SECOND_IN_AND_OUT: &str =
+    "$var wire 1 p as_2 $end $var wire 1 q bbsy_2 $end $var wire 1 r bg3_in_2 $end $var wire 1 o bg3_out_2 $end\n";
+
+/// Vectors of the grants that boards get and pass on, by each of which the chain is found.
+const VECTORS_IN_AND_OUT: &str =
+    "$var wire 1 p as $end $var wire 1 q bbsy $end $var wire 4 r bg3_in [3:0] $end $var wire 4 o bg3_out [3:0] $end\n";
+
 /// Definitions of outputs, and a text that the binding of each with a cycle contains.
 static OUTPUTS_BOUND: [(&str, &str); 5] = [
     (
@@ -544,7 +556,59 @@ fn an_output_is_doubled_by_another_variable_alone(rt: HostRuntime) {
             Ok(true)
         )
     );
+    assert!(rt; matches!(doubles(rt.alloc(), IN_AND_OUT, 0), Ok(true)));
+    assert!(rt; matches!(doubles(rt.alloc(), SECOND_IN_AND_OUT, 0), Ok(true)));
+    let chain = group_of(Line::grant(3, 0));
+    assert!(rt; matches!(doubles(rt.alloc(), VECTORS_IN_AND_OUT, chain), Ok(true)));
     let unbound = first_unbound(rt.alloc(), &OUTPUTS_BOUND);
+    assert!(rt; unbound.is_none(), "{}", unbound.unwrap_or(""));
+}
+
+/// The grants that a board gets and passes on, of one bit each, with the level and the direction in either order.
+const IN_AND_OUT_OF_EACH_LEVEL: &str =
+    "$var wire 1 p as $end $var wire 1 q bbsy $end $var wire 1 r bg3_in $end $var wire 1 o bg3_out $end\n\
+$var wire 1 a bg2out_n $end $var wire 1 b bg2in_n $end $var wire 1 c bg_in_1 $end $var wire 1 d bg_out_1 $end\n\
+$var wire 1 e busgnt_in0 $end $var wire 1 f busgnt_out0 $end\n";
+
+/// A grant that a board gets, and one of another level that it passes on.
+const IN_OR_OUT: &str =
+    "$var wire 1 p as $end $var wire 1 q bbsy $end $var wire 1 r bg2_in $end $var wire 1 o bg3_out $end\n";
+
+/// A chain as a vector, two as the bits of one, and one as nets with numbers.
+const CHAINS_IN_OR_OUT: &str =
+    "$var wire 1 p as $end $var wire 1 q bbsy $end $var wire 3 r bg0_in [2:0] $end\n\
+$var wire 1 a bg1_in [2] $end $var wire 1 b bg1_in [1] $end $var wire 1 c bg1_in [0] $end\n\
+$var wire 1 d bg2_out [2] $end $var wire 1 e bg2_out [1] $end $var wire 1 f bg2_out [0] $end\n\
+$var wire 1 g bg3_in_0 $end $var wire 1 h bg3_in_1 $end $var wire 1 i bg3out2 $end\n";
+
+/// Definitions of grants that are got and passed on, and a text that the binding of each with a cycle contains. A
+/// vector without a level is no grant.
+static GRANTS: [(&str, &str); 6] = [
+    (
+        IN_AND_OUT_OF_EACH_LEVEL,
+        "\nBG0.1 = busgnt_out0\nBG0.0 = busgnt_in0\nBG1.1 = bg_out_1\nBG1.0 = bg_in_1\nBG2.1 = bg2out_n\n\
+BG2.0 = bg2in_n\nBG3.1 = bg3_out\nBG3.0 = bg3_in\n",
+    ),
+    (
+        SECOND_IN_AND_OUT,
+        "\nBG2 = 1\nBG3.1 = bg3_out_2\nBG3.0 = bg3_in_2\n",
+    ),
+    (IN_OR_OUT, "\nBG2.1 = 1\nBG2.0 = bg2_in\n"),
+    (IN_OR_OUT, "\nBG3.1 = bg3_out\nBG3.0 = 1\n"),
+    (
+        CHAINS_IN_OR_OUT,
+        "\nBG0 = bg0_in\nBG1.2 = bg1_in[2]\nBG1.1 = bg1_in[1]\nBG1.0 = bg1_in[0]\nBG2.2 = bg2_out[2]\n\
+BG2.1 = bg2_out[1]\nBG2.0 = bg2_out[0]\nBG3.2 = bg3out2\nBG3.1 = bg3_in_1\nBG3.0 = bg3_in_0\n",
+    ),
+    (
+        "$var wire 1 p as $end $var wire 1 q bbsy $end $var wire 4 r bg [3:0] $end\n",
+        "\nBG0 = 1\nBG1 = 1\nBG2 = 1\nBG3 = 1\n",
+    ),
+];
+
+#[test]
+fn a_grant_of_one_bit_is_one_net(rt: HostRuntime) {
+    let unbound = first_unbound(rt.alloc(), &GRANTS);
     assert!(rt; unbound.is_none(), "{}", unbound.unwrap_or(""));
 }
 

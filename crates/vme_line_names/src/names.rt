@@ -25,8 +25,8 @@ pub(crate) enum NamedLines {
     Grants,
     /// The nets of a level's grant chain.
     GrantChain(u8),
-    /// A level and a net: a variable of one bit is this net of the level's grant chain, and one of several bits is the
-    /// whole chain.
+    /// A level and a net: a variable of one bit without an index is this net of the level's grant chain. Any other one
+    /// is the whole chain, or the bit of it with its index.
     GrantNet(u8, u8),
     /// The net with this number of each level's grant chain.
     GrantNetOfEachLevel(u8),
@@ -289,6 +289,16 @@ fn first_level(text: &[u8]) -> Option<(u8, &[u8])> {
     }
 }
 
+/// What a grant of a level denotes before the text `rest`: the net that a board gets where this begins with `in`, the
+/// net that it passes on where it begins with `out`, or else the whole chain.
+fn grants_of(level: u8, rest: &[u8]) -> NamedLines {
+    let Some((direction, _)) = after_direction(rest) else {
+        return NamedLines::GrantChain(level);
+    };
+    let net = if direction == Direction::Input { 0 } else { 1 };
+    NamedLines::GrantNet(level, net)
+}
+
 /// Appends the readings of a grant, whose level is in the text `rest` after the word.
 fn push_grants(
     readings: &mut Vec<NameReading>,
@@ -300,23 +310,23 @@ fn push_grants(
     }
     if let Some((level, before_level)) = ending_number(rest) {
         if level < 4 {
-            let chain = NamedLines::GrantChain(level);
-            push_reading(readings, matched, Some(chain), before_level)?;
+            let named = grants_of(level, before_level);
+            push_reading(readings, matched, Some(named), before_level)?;
         }
     }
     Ok(())
 }
 
-/// Appends the readings of a grant of a level, before the text `rest`: as the whole chain, as its first net (`in`), as
-/// its second one (`out`), or as the net with a number.
+/// Appends the readings of a grant of a level, before the text `rest`: as the first net of the chain (`in`) or its
+/// second one (`out`), or else as the whole chain; and as the net with a number. The direction may belong to the style,
+/// as that of `as_in2` and `bg3_in2` does, or not.
 fn push_level(
     readings: &mut Vec<NameReading>,
     matched: &MatchedWord<'_>,
     level: u8,
     rest: &[u8],
 ) -> Result<(), AllocError> {
-    let chain = NamedLines::GrantChain(level);
-    push_reading(readings, matched, Some(chain), rest)?;
+    push_reading(readings, matched, Some(grants_of(level, rest)), rest)?;
     let Some((direction, after)) = after_direction(rest) else {
         return push_nets(readings, matched, level, rest);
     };
@@ -325,9 +335,7 @@ fn push_level(
         direction,
         is_line_name: matched.is_line_name,
     };
-    let net = if direction == Direction::Input { 0 } else { 1 };
-    let named = NamedLines::GrantNet(level, net);
-    push_reading(readings, &directed, Some(named), after)?;
+    push_reading(readings, &directed, Some(grants_of(level, rest)), after)?;
     push_nets(readings, &directed, level, after)
 }
 
@@ -395,8 +403,8 @@ fn address_shift(variable: &DeclaredVariable) -> u32 {
 impl NamedLines {
     /// The line of the bit at `place`, from the left, of a variable with this name. A variable of one bit without an
     /// index is no address, data, modifier, request or strobe line by the name of their group: a `d` is the input of a
-    /// flip-flop. By that of a grant chain it is net 0, by that of a net of each level it is the net of BG0, by that of
-    /// IACKOUT* it is IA.1, and by that of the acknowledge chain IACK.
+    /// flip-flop. By that of a grant chain it is net 0, by that of a net of a level it is this net, by that of a net of
+    /// each level it is the net of BG0, by that of IACKOUT* it is IA.1, and by that of the acknowledge chain IACK.
     pub(crate) fn line_at(&self, variable: &DeclaredVariable, place: u32) -> Option<Line> {
         let is_lone = variable.size == 1 && variable.index.is_none();
         let shift = match self {
@@ -406,8 +414,7 @@ impl NamedLines {
                 None
             },
             NamedLines::AcknowledgeLineOrChain if variable.size == 1 => return Some(Line::IACK),
-            NamedLines::GrantNet(level, net)
-                if variable.size == 1 && *level < 4 && *net < CHAIN_NETS => {
+            NamedLines::GrantNet(level, net) if is_lone && *level < 4 && *net < CHAIN_NETS => {
                 return Some(Line::grant(*level, *net));
             }
             NamedLines::Data
