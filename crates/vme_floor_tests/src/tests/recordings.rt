@@ -1,5 +1,5 @@
-//! The blocks of recordings, which are written in the notation of vme_test_recordings. A function answers None if memory
-//! runs out.
+//! The blocks of recordings, which are written in the notation of vme_test_recordings. A function answers None if
+//! memory runs out.
 
 use smallvec::SmallVec;
 use std::alloc::Global;
