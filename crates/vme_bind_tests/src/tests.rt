@@ -628,17 +628,24 @@ fn a_fault_is_shown_with_its_line(rt: HostRuntime) -> Result<(), Fail> {
     Ok(())
 }
 
+/// Whether `text` is a binding if `binds_all`, or else has a fault that isn't want of memory.
+fn is_binding_only_if(alloc: Global, text: &[u8], binds_all: bool) -> bool {
+    match read_binding(alloc, text).err() {
+        None => binds_all,
+        Some(fault) => !binds_all && fault.kind != BindFaultKind::Memory,
+    }
+}
+
 /// A prefix of a binding that lacks more than the last line feed doesn't bind all lines.
 #[test]
 fn every_prefix_of_a_binding_has_a_fault_unless_it_binds_all(rt: HostRuntime) {
     let text = BUS_LINES.as_bytes();
     for end in 0..text.len() {
         let binds_all = end + 1 == text.len();
-        let is_right = match read_binding(rt.alloc(), &text[..end]) {
-            Ok(_) => binds_all,
-            Err(fault) => !binds_all && fault.kind != BindFaultKind::Memory,
-        };
-        assert!(rt; is_right, "at {end}");
+        assert!(rt;
+            is_binding_only_if(rt.alloc(), &text[..end], binds_all),
+            "at {end}"
+        );
     }
 }
 
