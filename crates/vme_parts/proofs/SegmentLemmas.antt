@@ -1,6 +1,6 @@
 -- Judging a segment.
-use Rattle.std.proofs.Common.{◌≡◌, ℕ, ◌+◌, ◌<◌, ◌^◌, Bool, List, [], ◌++◌, length, length-append, refl, ap, sym, subst}
-use Rattle.std.proofs.Common.{◌∙◌, arith}
+use Rattle.std.proofs.Common.{◌≡◌, ℕ, ◌+◌, ◌<◌, ◌≤◌, ◌^◌, Bool, List, [], ◌++◌, length, length-append, refl, ap, sym}
+use Rattle.std.proofs.Common.{subst, ◌∙◌, arith}
 use Rattle.std.proofs.Common.{Option, true}
 use Rattle.std.specs.Option.{option_or}
 use Rattle.vme_trace.specs.Blocks.{joined_steps}
@@ -16,7 +16,7 @@ use Rattle.vme_summary.proofs.Extents.{extent_joined, left_by_steps}
 use Rattle.vme_part_format.specs.Tables.{SegmentValue}
 use Rattle.vme_parts.specs.Joined.{joined_times}
 use Rattle.vme_parts.specs.Meeting.{FilesGoOn, ends_at, starts_at}
-use Rattle.vme_parts.specs.Progress.{HasJudgedFiles, HasStates, TellsAll}
+use Rattle.vme_parts.specs.Progress.{HasJudgedFiles, HasStates, HaveTooManySteps, TellsAll}
 use Rattle.vme_parts.specs.Stands.{SegmentStandsFor, extent_of}
 use Rattle.vme_parts.specs.declared.judged_segments.JudgedSegments.{JudgedSegments}
 use Rattle.vme_parts.specs.declared.state.States.{States}
@@ -54,6 +54,22 @@ first_judged j begun s left times steps small none past listing bs p =
           (tells_all listing s bs p);
     }
 
+module _ (j : JudgedSegments) (s : SegmentValue) (goes_on : FilesGoOn j.left j.times s.opening s.times) (e : Extent)
+    (bs : List Block) (was : HasJudgedFiles j e bs) (n : s.first ≡ e.last + 1) where
+  segment_meets : Meets e (extent_of s)
+  segment_meets =
+      let later : is_later_time e.ends (starts_at s.times) ≡ true
+      = subst (λ (t : Option ℕ). is_later_time t (starts_at s.times) ≡ true) was.ends goes_on.later in
+      record { numbered = n; opened = goes_on.opened ∙ was.left; later = later }
+
+  -- the files judged so far and those of s, which follow them, have more steps than 64 bits count
+  pub too_many : (listing : Bool) (ys : List Block) → SegmentStandsFor listing s ys → 2 ^ 64 ≤ j.steps + s.steps
+      → HaveTooManySteps (bs ++ ys)
+  too_many listing ys p many = (
+    (extent_joined e (extent_of s) bs ys was.extent p.extent segment_meets).join,
+    rw (steps-append bs ys, length-append, ← was.counted, ← p.counted) many,
+  )
+
 module _ (j r : JudgedSegments) (s : SegmentValue) (goes_on : FilesGoOn j.left j.times s.opening s.times) (left : r.left
     ≡ s.left)
     (times : r.times ≡ joined_times j.times s.times) (steps : r.steps ≡ j.steps + s.steps) (small : r.steps < 2 ^ 64)
@@ -62,10 +78,7 @@ module _ (j r : JudgedSegments) (s : SegmentValue) (goes_on : FilesGoOn j.left j
       → SegmentStandsFor listing s ys
       → s.first ≡ e.last + 1 → HasJudgedFiles r (joined_extent e (extent_of s)) (bs ++ ys)
   past_segment listing e bs ys was p n =
-      let later : is_later_time e.ends (starts_at s.times) ≡ true
-      = subst (λ (t : Option ℕ). is_later_time t (starts_at s.times) ≡ true) was.ends goes_on.later in
-      let meets : Meets e (extent_of s)
-      = record { numbered = n; opened = goes_on.opened ∙ was.left; later = later } in
+      let meets = segment_meets j s goes_on e bs was n in
       let opens : s.opening ≡ levels_after e.opening (joined_steps bs)
       = goes_on.opened ∙ (was.left ∙ sym (left_by_steps e bs was.extent)) in
       let fits : length (joined_steps bs) + length (joined_steps ys) < 2 ^ 64

@@ -18,10 +18,10 @@ use Rattle.vme_part_format.specs.declared.segment.Segment.{Segment}
 use Rattle.vme_parts.specs.Covering.{AreNext, HasGap, IsBeyond, AreWithinFiles, LacksFrom}
 use Rattle.vme_parts.specs.Files.{AllStand, AreFiles, PartCovers, IsPartOf, files_of}
 use Rattle.vme_parts.specs.Gathering.{Ascend}
-use Rattle.vme_parts.specs.Progress.{FoundAll, HasJudgedFiles, IsTornIn, StopsAt}
+use Rattle.vme_parts.specs.Progress.{FoundAll, HasJudgedFiles, HaveTooManySteps, IsTornIn, StopsAt}
 use Rattle.vme_parts.specs.Stands.{SegmentStandsFor, extent_of}
 use Rattle.vme_parts.specs.Telling.{AllCovered, DeterminesRecordingAnswer, HasFiles, JudgesAll, JudgesFiles, answer_of}
-use Rattle.vme_parts.specs.Telling.{verdict_of}
+use Rattle.vme_parts.specs.Telling.{HasTooManySteps, verdict_of}
 use Rattle.vme_parts.specs.declared.answers.RecordingAnswer.{RecordingAnswer}
 use Rattle.vme_parts.specs.declared.answers.RecordingAnswer.TheVariants as answer
 use Rattle.vme_parts.specs.declared.answers.WideVerdict.{WideVerdict}
@@ -30,7 +30,7 @@ use Rattle.vme_parts.specs.declared.judged_segments.JudgingFault.{JudgingFault}
 use Rattle.vme_parts.specs.declared.judged_segments.JudgingFault.TheVariants as stop
 use Rattle.vme_parts.proofs.Covered.{all_covered, from_none, gap_missing, last_covered, next_low, next_missing}
 use Rattle.vme_parts.proofs.Covered.{next_whole}
-use Rattle.vme_parts.proofs.WholeFiles.{HasComeTo, come_first, come_on, found_all, torn_below, torn_whole}
+use Rattle.vme_parts.proofs.WholeFiles.{HasComeTo, come_first, come_on, files_more, found_all, torn_below, torn_whole}
 
 -- the segments from index i on are the segment x and those from i + 1 on
 pub drop_value : (xs : List Segment) (i : ℕ) (x : Segment) → i < length xs → x ≡ get_or xs i x
@@ -108,7 +108,15 @@ module _ (j : JudgedSegments) (s : SegmentValue) (xs : List Segment) (i : ℕ) (
       → ((listing : Bool) (e : Extent) (bs ys : List Block) → HasJudgedFiles j e bs
       → SegmentStandsFor listing (segment_value x) ys → x.first ≡ e.last + 1 → StopsAt bs ys why)
       → JudgesAll (s ∷ map segment_value xs) (Err why)
-  stops_here stop.TooManySteps stops = tt
+  stops_here stop.TooManySteps stops =
+      λ listing files end are stand next.
+      let c = here listing files end are stand next in
+      let many = stops listing c.1.extent (take c.0 files) (files_of files (segment_value x)) c.1.judged
+      (stands_here listing files stand) (c.2.0 ∙ sym c.1.last) in (
+        last_of x.first x.order + 1,
+        next_low (last_of x.first x.order + 1) (drop (i + 1) (map segment_value xs)) end c.2.1,
+        subst HaveTooManySteps (files_more files c.0 (segment_value x) c.2.0) many,
+      )
   stops_here (stop.Torn k) stops =
       λ listing files end are stand next.
       let c = here listing files end are stand next in
@@ -203,12 +211,16 @@ module _ (p : PartValue) (count : Option ℕ) (end : ℕ) (w : AreWithinFiles p.
             omega (arith, r.1, has_all files n part has),
           )
 
-      pub many_told : JudgesFiles p count (Err answer.TooManySteps)
-      many_told files n are part has = covers_all files n part has
+      pub many_told : JudgesAll p.segments (Err stop.TooManySteps) → JudgesFiles p count (Err answer.TooManySteps)
+      many_told judges files n are part has =
+          let r = judges p.listing files end are part.stands next in (
+            covers_all files n part has,
+            subst (HasTooManySteps files) (sym (has_all files n part has)) r,
+          )
 
       pub stop_told : (why : JudgingFault) → JudgesAll p.segments (Err why) → JudgesFiles p count (Err (answer_of why))
       stop_told (stop.Torn k) judges = torn_told k judges
-      stop_told stop.TooManySteps judges = many_told
+      stop_told stop.TooManySteps judges = many_told judges
 
 -- if all files are judged, the verdict by the states is the answer
 pub verdict_told : (p : PartValue) (count : Option ℕ) (j : JudgedSegments) (v : WideVerdict)

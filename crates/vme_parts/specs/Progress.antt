@@ -105,7 +105,11 @@ pub record IsTornIn (bs ys : List Block) (k : ℕ) : Type 0 where
   pub before : BlocksJoin (bs ++ front)
   pub there : BlocksJoin ((bs ++ front) ++ torn ∷ []) → ⊥
 
+-- the files follow one another, and have more steps than 64 bits count
+abbrev pub HaveTooManySteps : List Block → Type 0
+HaveTooManySteps bs = BlocksJoin bs × (2 ^ 64 ≤ length (joined_steps bs))
+
 -- why judging stops at the files ys, after bs
 abbrev pub StopsAt : List Block → List Block → JudgingFault → Type 0
 StopsAt bs ys (stop.Torn k) = IsTornIn bs ys k
-StopsAt bs ys stop.TooManySteps = Unit {0}
+StopsAt bs ys stop.TooManySteps = HaveTooManySteps (bs ++ ys)

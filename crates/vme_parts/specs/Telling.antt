@@ -18,7 +18,7 @@ use Rattle.vme_parts.specs.declared.judged_segments.JudgingFault.{JudgingFault}
 use Rattle.vme_parts.specs.declared.judged_segments.JudgingFault.TheVariants as stop
 use Rattle.vme_parts.specs.Covering.{AreNext}
 use Rattle.vme_parts.specs.Files.{AllStand, AreFiles, PartCovers, IsPartOf}
-use Rattle.vme_parts.specs.Progress.{HasJudgedFiles}
+use Rattle.vme_parts.specs.Progress.{HasJudgedFiles, HaveTooManySteps}
 use Rattle.vme_part_tables.specs.Runs.{break_of}
 
 abbrev pub verdict_of : WideVerdict → Verdict
@@ -50,6 +50,10 @@ pub record IsTornFile (files : List Block) (n : ℕ) : Type 0 where
   pub before : BlocksJoin (take n files)
   pub there : BlocksJoin (take (n + 1) files) → ⊥
 
+-- some of the n files, the first ones, follow one another and have too many steps
+abbrev pub HasTooManySteps : List Block → ℕ → Type 0
+HasTooManySteps files n = (k : ℕ) × (k ≤ n) × HaveTooManySteps (take k files)
+
 -- v is the verdict on the recording that the files make
 abbrev pub IsVerdictOfFiles : List Block → Verdict → Type 0
 IsVerdictOfFiles files v =
@@ -60,7 +64,7 @@ abbrev pub IsRecordingAnswer : List Block → PartValue → ℕ → RecordingAns
 IsRecordingAnswer files p n (answer.Beyond k) = PartCovers p k × (n ≤ k)
 IsRecordingAnswer files p n (answer.Missing k) = IsMissing p k × (k < n)
 IsRecordingAnswer files p n (answer.Torn k) = AllCovered p n × IsTornFile files k × (k < n)
-IsRecordingAnswer files p n answer.TooManySteps = AllCovered p n
+IsRecordingAnswer files p n answer.TooManySteps = AllCovered p n × HasTooManySteps files n
 IsRecordingAnswer files p n (answer.Verdict v) = AllCovered p n × IsVerdictOfFiles (take n files) (verdict_of v)
 
 -- whichever files p is a part of, the answer `what` is true of them
@@ -84,7 +88,9 @@ JudgesAll ss (Ok j) =
 JudgesAll ss (Err (stop.Torn k)) =
     (listing : Bool) (files : List Block) (end : ℕ) → AreFiles files → AllStand listing files ss → AreNext 0 ss end
     → IsTornFile files k × (k < end)
-JudgesAll ss (Err stop.TooManySteps) = Unit {0}
+JudgesAll ss (Err stop.TooManySteps) =
+    (listing : Bool) (files : List Block) (end : ℕ) → AreFiles files → AllStand listing files ss → AreNext 0 ss end
+    → HasTooManySteps files end
 
 -- the result of judging all files of a recording, or the answer in place of a verdict
 abbrev pub JudgesFiles : PartValue → Option ℕ → Result JudgedSegments RecordingAnswer → Type 0

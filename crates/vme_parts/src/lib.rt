@@ -27,12 +27,13 @@
 //!   (`AreRefused`).
 //! - If a part is of the files of a recording, [`tell_verdict`] answers the verdict of that
 //!   recording, or the least number that isn't covered, or the least file that doesn't follow those
-//!   before it (`DeterminesRecordingAnswer`).
+//!   before it, or that some first files, which follow one another, have more steps than 64 bits
+//!   count (`DeterminesRecordingAnswer`).
 //!
 //! # What isn't proved
 //!
-//! That memory suffices. That `RecordingAnswer::TooManySteps` comes only where there are so many,
-//! and that [`can_write`] refuses no part of a file.
+//! That memory suffices. When [`join_parts`] refuses parts for too many steps, nodes or segments.
+//! That [`can_write`] refuses no part of a file.
 //!
 //! # In which order to read
 //!
