@@ -2,6 +2,7 @@
 use Rattle.std.specs.Prelude.{◌≡◌, ◌≢◌, ◌⊎◌, ◌==◌, ℕ, if◌then◌else◌, List, ◌++◌, All, Contains, codes, map}
 use Rattle.std.specs.Prelude.{take, Option, None, Some, IfSome, MatchOption, option_map, slice_get, string_bytes}
 use Rattle.std.specs.List.{AllZip}
+use Rattle.clap.specs.declared.error.kind.ErrorKind.TheVariants.{InvalidSubcommand}
 use Rattle.vme_trace.specs.Streams.{Reading, Writing}
 use Rattle.vme_stream.specs.Answers.{refusal_answer}
 use Rattle.vme_stream.specs.Ends.{WritesAnswer}
@@ -16,7 +17,7 @@ use Rattle.vme_audit_lines.specs.AuditLines.{head_of}
 use Rattle.vme_commands.specs.AllowanceTexts.{allowance_text}
 use Rattle.vme_explain.specs.declared.saving.FileId.{FileId}
 use Rattle.vme_stream.specs.Outputs.{TriesToWrite}
-use Rattle.vme_words.specs.OrderFaults.{IsOfWords}
+use Rattle.vme_words.specs.OrderFaults.{HasUsageKind, IsOfWords}
 use Rattle.vme_words.specs.declared.order.AuditOrder.{AuditOrder}
 use Rattle.vme_program.specs.Openings.{WithInput}
 use Rattle.vme_program.specs.Saves.{TellsNoMemory}
@@ -32,6 +33,11 @@ use Rattle.vme_program.specs.declared.environment.WriteResult.TheVariants as wri
 abbrev pub IsOfWordsIfFaulty : AllowancesError → Type 0
 IsOfWordsIfFaulty (Faulty fault) = IsOfWords fault
 IsOfWordsIfFaulty other = Unit {0}
+
+-- a fault of the words is of the kind that the program finds itself
+abbrev pub IsFoundIfFaulty : AllowancesError → Type 0
+IsFoundIfFaulty (Faulty fault) = HasUsageKind InvalidSubcommand fault
+IsFoundIfFaulty other = Unit {0}
 
 -- `allowances` are the breaks that the order allows, each by the text of its argument
 abbrev pub AreAllowed : AuditOrder → List Allowance → Type 0

@@ -8,8 +8,16 @@ use Rattle.vme_program.specs.Bindings.{BindsFile}
 use Rattle.vme_program.specs.Explanations.{ExplainsFiles}
 use Rattle.vme_program.specs.Parts.{JoinsFiles, TellsOfFiles, WritesPartOfFiles}
 use Rattle.vme_program.specs.Recordings.{AnnotatesFiles, ChecksFiles, ConfirmsFiles, ListsFiles}
-use Rattle.vme_program.specs.Texts.{TellsFaults, TellsFile, TellsRules}
+use Rattle.vme_program.specs.Texts.{NamesNoKind, NamesNoRule, TellsFaults, TellsFile, TellsRules}
 use Rattle.vme_program.specs.declared.environment.Environment.{Ghosts as Environment}
+
+-- clap's rules allow the words of the order, and no command is done: they name a rule or a kind of refusal that doesn't
+-- exist, or say wrongly how to audit
+abbrev pub IsRefusedOrder : Order → Type 0
+IsRefusedOrder (to.Rules order) = NamesNoRule order
+IsRefusedOrder (to.Faults order) = NamesNoKind order
+IsRefusedOrder (to.Audit order) = Unit {0}
+IsRefusedOrder order = ⊥
 
 module _ {S R : Type 0} (outside : Environment S R) (s : S) where
   abbrev pub DoesOrder : Order → Writing × Writing → Writing × Writing → ℕ → Type 0
@@ -19,7 +27,7 @@ module _ {S R : Type 0} (outside : Environment S R) (s : S) where
   DoesOrder (to.Explain order) = ExplainsFiles outside s order
   DoesOrder (to.Bind order) = BindsFile (outside.opens s) order
   DoesOrder (to.Variables order) = TellsFile (outside.opens s) order
-  DoesOrder (to.Rules order) = λ out err status. TellsRules out err status
+  DoesOrder (to.Rules order) = TellsRules order
   DoesOrder (to.Faults order) = TellsFaults order
   DoesOrder (to.Audit order) = AuditsFiles outside s order
   DoesOrder (to.Annotate order) = AnnotatesFiles (outside.opens s) order

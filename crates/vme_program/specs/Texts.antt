@@ -1,5 +1,6 @@
 -- What the commands do that write a text.
-use Rattle.std.specs.Prelude.{◌≡◌, ℕ, List, Option, None, Result, MatchOption, IsSomeAnd, option_map, string_bytes}
+use Rattle.std.specs.Prelude.{◌≡◌, ℕ, List, Option, None, Some, Result, MatchOption, IsSomeAnd, option_map}
+use Rattle.std.specs.Prelude.{string_bytes}
 use Rattle.vme_trace.specs.Names.{rule_named}
 use Rattle.vme_trace.specs.Streams.{Reading, Writing}
 use Rattle.vme_trace.specs.declared.rule.Rule.{Rule}
@@ -25,17 +26,19 @@ TellsFile opens order = WithInput opens (string_bytes order.dump) Dump TellsVari
 abbrev pub rule_word : RulesOrder → Option (List ℕ)
 rule_word order = option_map string_bytes order.rule
 
--- the rule that an order names, if it names one
+-- the rule that an order names, or `None` if it names none; an order of `NamesNoRule` has neither
 abbrev pub IsRuleOf : RulesOrder → Option Rule → Type 0
-IsRuleOf order rule = MatchOption (rule_word order) (rule ≡ None) (λ name. rule_named name ≡ rule)
+IsRuleOf order rule =
+    MatchOption (rule_word order) (rule ≡ None) (λ name. IsSomeAnd rule (λ r. rule_named name ≡ Some r))
 
 -- the order names a rule that doesn't exist
 abbrev pub NamesNoRule : RulesOrder → Type 0
 NamesNoRule order = IsSomeAnd (rule_word order) (λ name. rule_named name ≡ None)
 
--- what the rules require is written
-abbrev pub TellsRules : Writing × Writing → Writing × Writing → ℕ → Type 0
-TellsRules out err status = (made : Result (List ℕ) Refusal) × IsText made × Ends (text_answer_by 0 made) out err status
+-- the order names a rule or none, and what the rules require is written
+abbrev pub TellsRules : RulesOrder → Writing × Writing → Writing × Writing → ℕ → Type 0
+TellsRules order out err status = (only : Option Rule) × (made : Result (List ℕ) Refusal)
+    × IsRuleOf order only × IsText made × Ends (text_answer_by 0 made) out err status
 
 -- ---- kinds of refusals
 
@@ -43,15 +46,16 @@ TellsRules out err status = (made : Result (List ℕ) Refusal) × IsText made ×
 abbrev pub kind_word : FaultsOrder → Option (List ℕ)
 kind_word order = option_map string_bytes order.kind
 
--- the kind that an order names, if it names one
+-- the kind that an order names, or `None` if it names none; an order of `NamesNoKind` has neither
 abbrev pub IsKindOf : FaultsOrder → Option RefusalKind → Type 0
-IsKindOf order kind = MatchOption (kind_word order) (kind ≡ None) (λ name. kind_named name ≡ kind)
+IsKindOf order kind =
+    MatchOption (kind_word order) (kind ≡ None) (λ name. IsSomeAnd kind (λ k. kind_named name ≡ Some k))
 
 -- the order names a kind that doesn't exist
 abbrev pub NamesNoKind : FaultsOrder → Type 0
 NamesNoKind order = IsSomeAnd (kind_word order) (λ name. kind_named name ≡ None)
 
--- the page of the kind that an order names is written, or that of each kind
+-- the page of the kind that an order names is written, or, if it names none, that of each kind
 abbrev pub TellsFaults : FaultsOrder → Writing × Writing → Writing × Writing → ℕ → Type 0
 TellsFaults order out err status = (only : Option RefusalKind) × (made : Result (List ℕ) Refusal)
     × IsKindOf order only × ArePages only made × Ends (text_answer_by 0 made) out err status

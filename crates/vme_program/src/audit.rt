@@ -3,15 +3,16 @@
 ghost use Rattle.std.specs.Prelude.{◌≡◌, ◌≢◌, All, Contains, false, true, IfErr, IfOk, OnErr, MatchOption};
 ghost use Rattle.std.specs.Prelude.{Err, None, Some, map, string_bytes};
 ghost use Rattle.std.specs.List.{AllZip};
+ghost use Rattle.clap.specs.declared.error.kind.ErrorKind.TheVariants.{InvalidSubcommand};
 ghost use Rattle.vme_audit_command.specs.SeveralDumps.{NamedReading};
 ghost use Rattle.vme_program.specs.Audits.{AreAllowed, AuditsAndSaves, AuditsFiles, AuditsNamed, AuditsOpened};
 ghost use Rattle.vme_program.specs.Audits.{AuditsThenSaves, EndsCases, IsDumpOf, IsFileOf, IsFirstUnopened};
-ghost use Rattle.vme_program.specs.Audits.{IsOfWordsIfFaulty, IsOther, LeadsToInput, LeadsToNoInput, RefusesFile};
-ghost use Rattle.vme_program.specs.Audits.{SavesCases, dump_words, file_line, input_name};
+ghost use Rattle.vme_program.specs.Audits.{IsFoundIfFaulty, IsOfWordsIfFaulty, IsOther, LeadsToInput, LeadsToNoInput};
+ghost use Rattle.vme_program.specs.Audits.{RefusesFile, SavesCases, dump_words, file_line, input_name};
 ghost use Rattle.vme_program.specs.Openings.{WithInput};
 ghost use Rattle.vme_program.specs.declared.audit.AllowancesError.TheVariants.{Memory};
 ghost use Rattle.vme_program.specs.declared.audit.OpenDumpsError.TheVariants.{Memory as LackedMemory, Unopened};
-ghost use Rattle.vme_words.specs.OrderFaults.{IsOfWords};
+ghost use Rattle.vme_words.specs.OrderFaults.{HasUsageKind, IsOfWords};
 
 use crate::environment::{Environment, WriteResult};
 use crate::opening::{refuse, refuse_input};
@@ -77,6 +78,7 @@ pub fn audit_files<S: Environment, O: Sink, E: Sink>(
     ensures audited { IfOk result (λ status. AuditsFiles S.Environment environment.now order.now
         (O.writing out.old, O.writing out.new) (E.writing err.old, E.writing err.new) status) }
     ensures of_words { IfErr result IsOfWords }
+    ensures usage { IfErr result (HasUsageKind InvalidSubcommand) }
     ensures out_stays { OnErr result (O.writing out.new ≡ O.writing out.old) }
     ensures err_stays { OnErr result (E.writing err.new ≡ E.writing err.old) }
 {
@@ -95,6 +97,7 @@ pub fn audit_files<S: Environment, O: Sink, E: Sink>(
 fn allowances_in(alloc: Global, order: &AuditOrder) -> Result<Vec<Allowance>, AllowancesError>
     ensures allowed { IfOk result (λ allowances. AreAllowed order.now allowances.items) }
     ensures of_words { IfErr result IsOfWordsIfFaulty }
+    ensures usage { IfErr result IsFoundIfFaulty }
 {
     let Some(allowances) = allowances_of(alloc, order.allowed.as_slice())? else {
         return Err(wrong_words(alloc, "--allow takes a rule, or a rule and a line"));
@@ -109,7 +112,8 @@ fn allowances_in(alloc: Global, order: &AuditOrder) -> Result<Vec<Allowance>, Al
 }
 
 fn wrong_words(alloc: Global, message: &str) -> AllowancesError
-    ensures { IsOfWordsIfFaulty result }
+    ensures of_words { IsOfWordsIfFaulty result }
+    ensures usage { IsFoundIfFaulty result }
 {
     AllowancesError::Faulty(task_fault(alloc, Task::Audit, message))
 }

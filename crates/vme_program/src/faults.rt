@@ -1,8 +1,9 @@
 //! The kind of refusal that an order names, or each of them.
 
-ghost use Rattle.std.specs.Prelude.{◌≡◌, IfErr, IfOk, OnErr};
+ghost use Rattle.std.specs.Prelude.{◌≡◌, IfErr, IfOk, IsErr, OnErr};
+ghost use Rattle.clap.specs.declared.error.kind.ErrorKind.TheVariants.{InvalidSubcommand};
 ghost use Rattle.vme_program.specs.Texts.{IsKindOf, NamesNoKind, TellsFaults};
-ghost use Rattle.vme_words.specs.OrderFaults.{IsOfWords};
+ghost use Rattle.vme_words.specs.OrderFaults.{HasUsageKind, IsOfWords};
 
 use std::alloc::Global;
 use vme_faults::RefusalKind;
@@ -22,7 +23,9 @@ pub fn faults_named<O: Sink, E: Sink>(
     ensures told { IfOk result (λ status. TellsFaults order.now
         (O.writing out.old, O.writing out.new) (E.writing err.old, E.writing err.new) status) }
     ensures faulty { OnErr result (NamesNoKind order.now) }
+    ensures refused { NamesNoKind order.now → IsErr result }
     ensures of_words { IfErr result IsOfWords }
+    ensures usage { IfErr result (HasUsageKind InvalidSubcommand) }
     ensures out_stays { OnErr result (O.writing out.new ≡ O.writing out.old) }
     ensures err_stays { OnErr result (E.writing err.new ≡ E.writing err.old) }
 {
@@ -37,6 +40,7 @@ fn kind_of(alloc: Global, order: &FaultsOrder) -> Result<Option<RefusalKind>, Or
     ensures kind { IfOk result (IsKindOf order.now) }
     ensures faulty { OnErr result (NamesNoKind order.now) }
     ensures of_words { IfErr result IsOfWords }
+    ensures usage { IfErr result (HasUsageKind InvalidSubcommand) }
 {
     let Some(name) = &order.kind else {
         return Ok(None);

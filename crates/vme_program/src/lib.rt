@@ -35,8 +35,11 @@
 //!   first that can't be, with status 3. What is written of them is what vme_part_command says of
 //!   these files by their names, of the number of files and of whether a listing is wanted
 //!   (`JoinsFiles`, `TellsOfFiles`).
-//! - `faults` writes exactly the page of the kind of refusal that the argument names, or the pages
-//!   of all (`TellsFaults`).
+//! - `faults` writes exactly the page of the kind of refusal that the argument names, or without an
+//!   argument the pages of all (`TellsFaults`). An argument that names no kind is invalid, and so is
+//!   one of `rules` that names no rule; no other argument of theirs is (`refused`, `faulty`).
+//! - Arguments are invalid only where `clap`'s rules find a fault in them, or where the command is
+//!   `rules` or `faults` with such an argument, or an audit (`IsRefusedOrder`).
 //! - With invalid arguments nothing is written on standard output and standard error (`out_stays`,
 //!   `err_stays`): the caller says what is wrong.
 //!

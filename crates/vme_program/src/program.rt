@@ -1,11 +1,12 @@
 //! From the words of the command line to one command.
 
-ghost use Rattle.std.specs.Prelude.{◌≡◌, ◌<◌, ◌≤◌, IfErr, IfOk, OnErr, length, map, string_bytes};
+ghost use Rattle.std.specs.Prelude.{◌≡◌, ◌<◌, ◌≤◌, ◌⊎◌, IfErr, IfOk, OnErr, length, map, string_bytes};
 ghost use Rattle.clap.specs.Words.{subcommand_of};
+ghost use Rattle.clap.specs.declared.error.kind.ErrorKind.TheVariants.{InvalidSubcommand};
 ghost use Rattle.vme_program.specs.Inputs.{ChecksInput};
-ghost use Rattle.vme_program.specs.Programs.{DoesOrder};
+ghost use Rattle.vme_program.specs.Programs.{DoesOrder, IsRefusedOrder};
 ghost use Rattle.vme_words.specs.Commands.{vmecheck_app};
-ghost use Rattle.vme_words.specs.OrderFaults.{IsOfWords};
+ghost use Rattle.vme_words.specs.OrderFaults.{HasUsageKind, IsFaultOf, IsOfWords};
 ghost use Rattle.vme_words.specs.Orders.{IsOrder};
 ghost use Rattle.vme_words.specs.declared.order.Order.{Order as OrderIs};
 
@@ -46,6 +47,9 @@ pub fn run_words<R: Threads + Sync, S: Environment, O: Sink, E: Sink>(
         × DoesOrder S.Environment environment.now asked
         (O.writing out.old, O.writing out.new) (E.writing err.old, E.writing err.new) status) }
     ensures of_words { IfErr result IsOfWords }
+    ensures faulty { IfErr result (λ fault. IsFaultOf (map string_bytes words.now) fault ⊎ ((asked : OrderIs)
+        × IsOrder asked (subcommand_of vmecheck_app (map string_bytes words.now))
+        × IsRefusedOrder asked × HasUsageKind InvalidSubcommand fault)) }
     ensures out_stays { OnErr result (O.writing out.new ≡ O.writing out.old) }
     ensures err_stays { OnErr result (E.writing err.new ≡ E.writing err.old) }
 {
@@ -69,7 +73,9 @@ fn run_order<R: Threads + Sync, S: Environment, O: Sink, E: Sink>(
 ) -> Result<u8, OrderFault>
     ensures done { IfOk result (λ status. DoesOrder S.Environment environment.now order.now
         (O.writing out.old, O.writing out.new) (E.writing err.old, E.writing err.new) status) }
+    ensures refused { OnErr result (IsRefusedOrder order.now) }
     ensures of_words { IfErr result IsOfWords }
+    ensures usage { IfErr result (HasUsageKind InvalidSubcommand) }
     ensures out_stays { OnErr result (O.writing out.new ≡ O.writing out.old) }
     ensures err_stays { OnErr result (E.writing err.new ≡ E.writing err.old) }
 {

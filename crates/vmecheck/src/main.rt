@@ -23,7 +23,8 @@
 //!
 //! # What is proved
 //!
-//! Invalid arguments have status 3, and help and version 0 or 5 (`explain_words`). Which file is
+//! Invalid arguments have status 3, and help and version 0 or 5 (`explain_words`); also those that
+//! vme_program refuses, as the name of a rule that doesn't exist (`refuse_words`). Which file is
 //! opened for each argument and passed to which command is proved of vme_program; what is written
 //! for the bytes of the inputs is proved of the crates of the commands.
 //!
@@ -36,7 +37,9 @@
 ghost use Rattle.std.specs.Prelude.{◌≡◌, ◌≢◌, ◌⊎◌, IfErr};
 ghost use Rattle.clap.specs.Words.{kind_of};
 ghost use Rattle.clap.specs.declared.error.kind.ErrorKind.TheVariants.{DisplayHelp, DisplayVersion};
-ghost use Rattle.vme_words.specs.OrderFaults.{IsOfWords};
+ghost use Rattle.clap.specs.declared.error.kind.ErrorKind.TheVariants.{InvalidSubcommand};
+ghost use Rattle.vme_words.specs.OrderFaults.{HasUsageKind, IsOfWords};
+ghost use Rattle.vme_words.specs.declared.order_fault.OrderFault.TheVariants.{Memory};
 
 mod host;
 mod save;
@@ -94,7 +97,10 @@ fn words_of(rt: &HostRuntime) -> Result<Vec<String>, OrderFault>
 }
 
 /// Says why the words are no order, i.e. no command. Returns the exit status.
-fn refuse_words(rt: &HostRuntime, fault: &OrderFault) -> u8 {
+fn refuse_words(rt: &HostRuntime, fault: &OrderFault) -> u8
+    ensures memory { fault.now ≡ Memory → result ≡ 4 }
+    ensures wrong { fault.now ≢ Memory → HasUsageKind InvalidSubcommand fault.now → result ≡ 3 }
+{
     match fault {
         OrderFault::Memory => {
             complain(&mut Io::new(rt.stderr()), refusal_line(&Refusal::Memory));
