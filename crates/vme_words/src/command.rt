@@ -43,11 +43,11 @@ Examples:
 Exit status:
   0  conforming or confirmed, or the text was written
   1  broken, or not confirmed
-  2  unreadable, or never idle
+  2  unreadable, or never idle, where an audit has 6
   3  an input is refused, or the command line is wrong
   4  want of memory
   5  standard output or a file can't be written
-  6  nothing is broken in an audit, but not enough is covered
+  6  nothing is broken or unreadable in an audit, but not enough is covered; so never idle too
   7  the binding that was written has no bus to judge";
 
 /// The program, with a subcommand for each task.

@@ -14,11 +14,12 @@
 //!
 //! - 0: conforming, confirmed, or written.
 //! - 1: a rule is broken, or a listing isn't the recording's.
-//! - 2: the recording can't be read further (rules U1 to U4), or the bus is never idle.
+//! - 2: the recording can't be read further (rules U1 to U4), or the bus is never idle, where an
+//!   audit has 6.
 //! - 3: an input, the arguments, or the place of a file to write are refused.
 //! - 4: memory ran out.
 //! - 5: the answer can't be written.
-//! - 6: no rule is broken in an audit, and not enough is covered.
+//! - 6: nothing is broken or unreadable in an audit, but not enough is covered; so never idle too.
 //! - 7: `bind` found no bus that a check judges.
 //!
 //! # What is proved
