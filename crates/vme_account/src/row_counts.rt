@@ -78,14 +78,15 @@ impl RowCounts {
         counts
     }
 
-    /// Counts the rows whose kind is known at `mark`, where `open` are the open rows before it.
-    pub fn take(&mut self, mark: &Mark, open: &UnendedRows) -> Result<(), AllocError>
-        ensures { OnOk result (self.new ≡ fold with_row self.old (known_at mark.now.instant mark.now.kind open.now)) }
+    /// Counts the rows whose kind is known at `mark`, where `unended` are the open rows before it.
+    pub fn take(&mut self, mark: &Mark, unended: &UnendedRows) -> Result<(), AllocError>
+        ensures { OnOk result
+            (self.new ≡ fold with_row self.old (known_at mark.now.instant mark.now.kind unended.now)) }
     {
         let i = mark.instant;
         match mark.kind {
             MarkKind::Reset => {
-                self.leave(open)?;
+                self.leave(unended)?;
                 self.count(&Row::Reset { instant: i })
             }
             MarkKind::Start => self.count(&Row::Start { instant: i }),
@@ -102,8 +103,12 @@ impl RowCounts {
             MarkKind::Cycle { class, am, address } => {
                 self.count(&cycle_row(i, class, am, address))
             }
-            MarkKind::Transfer { .. } => self.leave(open),
-            MarkKind::Answer { line } => self.answer(i, TransferAnswer { line, lanes: None }, open),
+            MarkKind::Transfer { .. } => self.leave(unended),
+            MarkKind::Answer { line } => self.answer(
+                i,
+                TransferAnswer { line, lanes: None },
+                unended,
+            ),
             MarkKind::WriteAnswer {
                 line,
                 moved,
@@ -119,17 +124,17 @@ impl RowCounts {
                     line,
                     lanes: Some(lanes),
                 };
-                self.answer(i, answer, open)
+                self.answer(i, answer, unended)
             }
             MarkKind::TenureEnd | MarkKind::CycleEnd | MarkKind::Close => Ok(()),
         }
     }
 
     /// Counts the waiting transfer as one without an answer, as where no mark follows.
-    pub fn leave(&mut self, open: &UnendedRows) -> Result<(), AllocError>
-        ensures { OnOk result (self.new ≡ fold with_row self.old (pending_rows open.now.waiting)) }
+    pub fn leave(&mut self, unended: &UnendedRows) -> Result<(), AllocError>
+        ensures { OnOk result (self.new ≡ fold with_row self.old (pending_rows unended.now.waiting)) }
     {
-        match open.waiting() {
+        match unended.waiting() {
             Some(waiting) => self.count(&Row::PendingTransfer {
                 start: waiting.start,
                 direction: waiting.direction,
@@ -143,12 +148,12 @@ impl RowCounts {
         &mut self,
         instant: u32,
         answer: TransferAnswer,
-        open: &UnendedRows,
+        unended: &UnendedRows,
     ) -> Result<(), AllocError>
-        ensures { OnOk result (self.new ≡ fold with_row self.old (answered_rows instant answer open.now)) }
+        ensures { OnOk result (self.new ≡ fold with_row self.old (answered_rows instant answer unended.now)) }
     {
-        match open.waiting() {
-            Some(waiting) => self.count(&answered_row(instant, answer, open.latest(), &waiting)),
+        match unended.waiting() {
+            Some(waiting) => self.count(&answered_row(instant, answer, unended.latest(), &waiting)),
             None => Ok(()),
         }
     }
