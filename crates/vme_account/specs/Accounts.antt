@@ -1,5 +1,6 @@
 -- What an account has of a recording.
-use Rattle.std.specs.Prelude.{◌≡◌, ◌+◌, ◌≤◌, ℕ, true, List, length, min, IfSome, None, Option, count_by, is_some}
+use Rattle.std.specs.Prelude.{◌≡◌, ◌+◌, ◌≤◌, ℕ, Bool, true, List, length, min, IfSome, None, Option, count_by, is_some}
+use Rattle.std.specs.Prelude.{unwrap_or}
 use Rattle.std.specs.Global.{Box}
 use Rattle.vme_audit.specs.Parts.{named_break}
 use Rattle.vme_listing.specs.Recorded.{recorded_rows}
@@ -15,6 +16,7 @@ use Rattle.vme_trace.specs.declared.verdict.Break.{Break}
 use Rattle.vme_account.specs.FollowedSteps.{FollowsSteps}
 use Rattle.vme_account.specs.StoredSteps.{AreStored}
 use Rattle.vme_account.specs.KnownTimes.{AreTimes}
+use Rattle.vme_account.specs.LineNotes.{is_flagged}
 use Rattle.vme_account.specs.UnendedRows.{open_in, open_row}
 use Rattle.vme_account.specs.RowCounts.{count_in, is_counted}
 use Rattle.vme_account.specs.RowKinds.{is_of}
@@ -23,6 +25,7 @@ use Rattle.vme_account.specs.declared.account.Account.{Account}
 use Rattle.vme_account.specs.declared.row_kind.Part.{Part}
 use Rattle.vme_account.specs.declared.row_kind.RowKind.{RowKind}
 use Rattle.vme_account.specs.declared.running_account.RunningAccount.{RunningAccount}
+use Rattle.vme_account.specs.declared.stretches.StartedTenure.{StartedTenure}
 
 -- ---- the steps so far
 
@@ -54,6 +57,34 @@ first_kept a = a.running.value.kept.recent.first
 -- the last instant whose levels are kept
 abbrev pub last_kept : Account → ℕ
 last_kept a = a.running.value.kept.end
+
+-- the instant at which judging starts first
+abbrev pub first_start : Account → Option ℕ
+first_start a = a.running.value.judged.notes.stretches.first_start
+
+-- the instant of the last reset that ended judging
+abbrev pub last_reset : Account → Option ℕ
+last_reset a = a.running.value.judged.notes.stretches.last_reset
+
+-- the last judged instant: that of the last reset, if judging doesn't start again after it, or else the last kept one
+abbrev pub last_judged : Account → ℕ
+last_judged a = unwrap_or a.running.value.judged.notes.stretches.ended (last_kept a)
+
+-- the last tenure that a grant began
+abbrev pub last_tenure : Account → Option StartedTenure
+last_tenure a = a.running.value.judged.notes.stretches.tenure
+
+-- the line moved since judging started first
+abbrev pub has_moved : Account → ℕ → Bool
+has_moved a l = is_flagged a.running.value.judged.lines.moved l
+
+-- the line was as an idle bus has it at some instant, before judging started
+abbrev pub was_idle_level : Account → ℕ → Bool
+was_idle_level a l = is_flagged a.running.value.judged.lines.idle_levels l
+
+-- the levels at the end, or at the break
+abbrev pub last_levels : Account → Levels
+last_levels a = a.running.value.judged.view.after
 
 -- The opening levels are those of `t`. The break is that of the verdict, and without one the monitors have started
 -- exactly if something is judged. The open rows, and the numbers of rows of each kind, are those of the listing. The

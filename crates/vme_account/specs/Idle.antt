@@ -1,6 +1,13 @@
--- Which control lines are High while the bus is idle.
-use Rattle.std.specs.Prelude.{ℕ, Bool, ◌||◌, ◌==◌, nat_le}
-use Rattle.vme_trace.specs.LineNumbers.{BERR, SYSRESET, is_net}
+-- Which levels lines have while the bus is idle.
+use Rattle.std.specs.Prelude.{ℕ, Bool, ◌&&◌, if◌then◌else◌}
+use Rattle.vme_trace.specs.LineNumbers.{has_line}
+use Rattle.vme_trace.specs.Levels.{Levels, is_high, is_known, level_at, rests_high}
+use Rattle.vme_trace.specs.declared.level.Level.{Level}
 
-abbrev pub rests_high : ℕ → Bool
-rests_high l = nat_le l BERR || is_net l || l == SYSRESET
+-- the line may have the level on an idle bus: High if it rests High, or else any known level
+abbrev pub is_idle_level : ℕ → Level → Bool
+is_idle_level l x = if rests_high l then is_high x else is_known x
+
+-- the backplane has the line, with a level that it may have on an idle bus
+abbrev pub has_idle_level : Levels → ℕ → Bool
+has_idle_level v l = has_line v.slots l && is_idle_level l (level_at v l)

@@ -4,6 +4,7 @@ pub mod FollowedSteps
 pub mod KnownRows
 pub mod KnownTimes
 pub mod LastEvents
+pub mod LineNotes
 pub mod Marked
 pub mod RecentSteps
 pub mod RelatedEvents

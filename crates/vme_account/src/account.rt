@@ -6,7 +6,10 @@ ghost use Rattle.vme_trace.specs.Verdict.{verdict, verdict_on};
 ghost use Rattle.vme_trace.specs.declared.verdict.Break.{Break as BreakOf};
 ghost use Rattle.vme_trace.specs.declared.verdict.Verdict.TheVariants.{Conforming, NeverIdle};
 ghost use Rattle.vme_listing.specs.Recorded.{recorded_rows};
-ghost use Rattle.vme_account.specs.Accounts.{IsAccountOf, first_kept, found_break, judged_from, last_kept};
+ghost use Rattle.vme_account.specs.Accounts.{IsAccountOf, first_kept, first_start, found_break, has_moved, judged_from};
+ghost use Rattle.vme_account.specs.Accounts.{last_judged, last_kept, last_levels, last_reset, last_tenure};
+ghost use Rattle.vme_account.specs.Accounts.{was_idle_level};
+ghost use Rattle.vme_account.specs.Idle.{has_idle_level};
 ghost use Rattle.vme_account.specs.LastEvents.{moment};
 ghost use Rattle.vme_account.specs.UnendedRows.{open_row};
 ghost use Rattle.vme_account.specs.RecentSteps.{levels_of};
@@ -16,7 +19,7 @@ ghost use Rattle.vme_account.specs.RowKinds.{is_of};
 ghost use Rattle.vme_account.specs.StretchEvents.{is_kept};
 
 use crate::last_events::Moment;
-use crate::line_notes::is_idle_level;
+use crate::line_notes::has_idle_level;
 use crate::open_rows::UnendedRows;
 use crate::related_event::RelatedEvent;
 use crate::row_counts::RowCounts;
@@ -122,17 +125,23 @@ impl Account {
     }
 
     /// The instant at which judging starts first.
-    pub fn first_start(&self) -> Option<u32> {
+    pub fn first_start(&self) -> Option<u32>
+        ensures { result ≡ first_start self.now }
+    {
         self.running.judged.notes.stretches.first_start
     }
 
     /// The instant of the last reset that ended judging.
-    pub fn last_reset(&self) -> Option<u32> {
+    pub fn last_reset(&self) -> Option<u32>
+        ensures { result ≡ last_reset self.now }
+    {
         self.running.judged.notes.stretches.last_reset
     }
 
     /// The last judged instant: that of the last reset, if judging doesn't start again after it, or else `end`.
-    pub fn last_judged(&self) -> u32 {
+    pub fn last_judged(&self) -> u32
+        ensures { result ≡ last_judged self.now }
+    {
         self.running
             .judged
             .notes
@@ -142,24 +151,31 @@ impl Account {
     }
 
     /// The last tenure that a grant began.
-    pub fn last_tenure(&self) -> Option<StartedTenure> {
+    pub fn last_tenure(&self) -> Option<StartedTenure>
+        ensures { result ≡ last_tenure self.now }
+    {
         self.running.judged.notes.stretches.tenure
     }
 
     /// Whether a line moved since judging started first.
-    pub fn has_moved(&self, line: Line) -> bool {
+    pub fn has_moved(&self, line: Line) -> bool
+        ensures { result ≡ has_moved self.now line }
+    {
         self.running.judged.lines.moved.has(line)
     }
 
     /// Whether a line was as an idle bus has it at some instant, before judging started.
-    pub fn was_idle_level(&self, line: Line) -> bool {
+    pub fn was_idle_level(&self, line: Line) -> bool
+        ensures { result ≡ was_idle_level self.now line }
+    {
         self.running.judged.lines.idle_levels.has(line)
     }
 
     /// Whether the line is as an idle bus has it at the end of a recording without a break.
-    pub fn is_idle_level(&self, line: Line) -> bool {
-        let levels = self.running.judged.levels();
-        levels.has(line) && is_idle_level(line, levels.level(line))
+    pub fn is_idle_level(&self, line: Line) -> bool
+        ensures { result ≡ has_idle_level (last_levels self.now) line }
+    {
+        has_idle_level(self.running.judged.levels(), line)
     }
 }
 

@@ -73,7 +73,9 @@ impl FollowedSteps {
     }
 
     /// The levels after the steps so far, up to the break.
-    pub fn levels(&self) -> &Lines {
+    pub fn levels(&self) -> &Lines
+        ensures { result.now ≡ self.now.view.after }
+    {
         &self.view.after
     }
 }

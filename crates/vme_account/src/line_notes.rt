@@ -1,7 +1,9 @@
 //! Which lines move, and which are at some time as an idle bus has them.
 
 ghost use Rattle.std.specs.Prelude.{◌≡◌};
-ghost use Rattle.vme_account.specs.Idle.{rests_high};
+ghost use Rattle.vme_trace.specs.Levels.{rests_high};
+ghost use Rattle.vme_account.specs.Idle.{has_idle_level, is_idle_level};
+ghost use Rattle.vme_account.specs.LineNotes.{is_flagged};
 
 use vme_trace::{Change, LINE_COUNT, Level, Line, Lines};
 
@@ -19,12 +21,21 @@ pub fn rests_high(line: Line) -> bool
 }
 
 /// Whether `line` may have `level` on an idle bus: High if it rests High, or else any known level.
-pub(crate) fn is_idle_level(line: Line, level: Level) -> bool {
+fn is_idle_level(line: Line, level: Level) -> bool
+    ensures { result ≡ is_idle_level line level }
+{
     if rests_high(line) {
-        level == Level::High
+        level.is_high()
     } else {
-        level != Level::Unknown
+        level.is_known()
     }
+}
+
+/// Whether the backplane has `line`, with a level that it may have on an idle bus.
+pub(crate) fn has_idle_level(lines: &Lines, line: Line) -> bool
+    ensures { result ≡ has_idle_level lines.now line }
+{
+    lines.has(line) && is_idle_level(line, lines.level(line))
 }
 
 /// Which lines move, and which are at some time as an idle bus has them.
@@ -68,7 +79,7 @@ impl LineFlags {
         let mut idle = LineFlags::none();
         for number in 0..LINE_COUNT {
             if let Some(line) = Line::from_number(number) {
-                if lines.has(line) && is_idle_level(line, lines.level(line)) {
+                if has_idle_level(lines, line) {
                     idle.insert(line);
                 }
             }
@@ -97,7 +108,10 @@ impl LineFlags {
     }
 
     /// Whether a line is in the set.
-    pub fn has(&self, line: Line) -> bool {
-        self.lines[usize::from(line.number())]
+    pub fn has(&self, line: Line) -> bool
+        ensures { result ≡ is_flagged self.now line }
+    {
+        let place = usize::from(line.number());
+        self.lines[place]
     }
 }
