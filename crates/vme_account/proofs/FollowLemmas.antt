@@ -1,7 +1,7 @@
 -- What is judged and noted after one more step.
 use Rattle.std.proofs.Common.{◌≡◌, ◌+◌, ℕ, suc, Bool, true, false, List, [], ◌∷◌, ◌++◌, length, map, take}
 use Rattle.std.proofs.Common.{refl, sym, ap}
-use Rattle.std.proofs.Common.{◌∙◌, append_assoc, arith, length-append, subst, Option, None, Some}
+use Rattle.std.proofs.Common.{◌∙◌, append-nil, append_assoc, arith, length-append, subst, Option, None, Some}
 use Rattle.std.specs.Prelude.{IfSome, is_some, slice_get, if◌then◌else◌}
 use Rattle.std.specs.List.{fold}
 use Rattle.std.specs.Option.{option_map}
@@ -92,6 +92,12 @@ levels_there : (o : Levels) (x y : List Step) → levels_at (recorded o (x ++ y)
 levels_there o x y =
     levels_at-taken (recorded o (x ++ y)) (length x)
     ∙ (ap (levels_after o) (taken x y) ∙ sym (reached-levels o x))
+
+-- the levels after all steps are those that are reached
+pub levels_at-last : (o : Levels) (x : List Step) → levels_at (recorded o x) (length x) ≡ (reached o x).levels
+levels_at-last o x =
+    subst (λ (l : List Step). levels_at (recorded o l) (length x) ≡ (reached o x).levels) (append-nil x)
+    (levels_there o x [])
 
 module _ (o : Levels) (x : List Step) (s : Step) (y : List Step) where
   abbrev whole : Trace

@@ -8,7 +8,7 @@ use Rattle.vme_monitor.specs.OverStretches.{has_started}
 use Rattle.vme_monitor.specs.Whole.{has_any_stretch}
 use Rattle.vme_trace.specs.Judged.{judged_stretches}
 use Rattle.vme_trace.specs.Levels.{Levels}
-use Rattle.vme_trace.specs.Trace.{Trace}
+use Rattle.vme_trace.specs.Trace.{Trace, levels_at}
 use Rattle.vme_trace.specs.Verdict.{verdict}
 use Rattle.vme_trace.specs.WellFormed.{capture_limit}
 use Rattle.vme_trace.specs.declared.step.Step.{Step}
@@ -87,13 +87,14 @@ abbrev pub last_levels : Account → Levels
 last_levels a = a.running.value.judged.view.after
 
 -- The opening levels are those of `t`. The break is that of the verdict, and without one the monitors have started
--- exactly if something is judged. The open rows, and the numbers of rows of each kind, are those of the listing. The
--- kept steps, the times and the events are those of the recording.
+-- exactly if something is judged, and the last levels are those after all steps. The open rows, and the numbers of rows
+-- of each kind, are those of the listing. The kept steps, the times and the events are those of the recording.
 pub record IsAccountOf (a : Account) (t : Trace) : Type 0 where
   pub opening : a.opening ≡ t.opening
   pub found : found_break a ≡ named_break (verdict t)
   pub started : found_break a ≡ None → has_started a.running.value.judged.memories.known
       ≡ has_any_stretch (judged_stretches t)
+  pub after : found_break a ≡ None → last_levels a ≡ levels_at t (length t.steps)
   pub unended : (p : Part) → open_in a.opened p ≡ open_row p (recorded_rows t)
   pub counts : (k : RowKind) → is_counted k ≡ true → count_in a.counts k ≡ count_by (is_of k) (recorded_rows t)
   pub kept : AreStored t.opening t.steps a.running.value.kept

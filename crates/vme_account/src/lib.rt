@@ -25,7 +25,8 @@
 //! verdict. [`Account::count_of`] counts the rows of a kind in its listing, and
 //! [`Account::open_row`] is the last row that is open. [`Account::moment_of`] is the instant of an
 //! event by the definitions of vme_trace. [`Account::levels_from`] returns its levels, and
-//! [`Account::time_at`] the time of an instant. [`first_related_event`] and
+//! [`Account::time_at`] the time of an instant. [`Account::is_idle_level`] is whether a line is as
+//! an idle bus has it after all steps, if no rule is broken. [`first_related_event`] and
 //! [`second_related_event`] are the other events that a rule refers to.
 //!
 //! # What isn't proved

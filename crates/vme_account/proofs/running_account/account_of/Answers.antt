@@ -5,6 +5,7 @@ use Rattle.vme_summary.specs.Runs.{known_run}
 use Rattle.vme_trace.specs.Levels.{Levels}
 use Rattle.vme_trace.specs.declared.step.Step.{Step}
 use Rattle.vme_account.proofs.AccountLemmas.{counts-listed, found-named, open-listed, started-reached}
+use Rattle.vme_account.proofs.FollowLemmas.{levels_at-last}
 use Rattle.vme_account.specs.FollowedSteps.{recorded}
 use Rattle.vme_account.specs.KnownTimes.{AreTimes}
 use Rattle.vme_account.specs.StepsReached.{reached}
@@ -28,6 +29,7 @@ returns c = λ t keeps opens ok.
           ap (λ (m : Memories). has_started m.known) (j.memories none)
           ∙ started-reached (λ t ok few. c.known_over_recordings.ensures.started t ok few) t ok few
           (sym j.found ∙ none);
+      after = λ none. j.after none ∙ sym (levels_at-last t.opening t.steps);
       unended = λ p. c.opened-opened.ensures.listed (reached t.opening t.steps).marks p is_marked
           ∙ open-listed finds shows t ok few p;
       counts = λ k is. c.in_ok-counts.ensures.listed (reached t.opening t.steps).marks k is_marked is
