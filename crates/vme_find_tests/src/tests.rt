@@ -502,7 +502,7 @@ fn names_are_found_behind_a_text_and_before_another(rt: HostRuntime) {
 const OUTPUTS: &str =
     "$var wire 1 p o_as $end $var wire 1 q o_ds_0 $end $var wire 1 r o_dtack $end $var wire 1 s o_ds_1 $end\n\
 $var wire 1 t o_br_3 $end $var wire 1 u o_bg3_0 $end $var wire 1 v o_d_7 $end $var wire 1 w o_am_0 $end\n\
-$var wire 1 x o_iack_out1 $end\n";
+$var wire 1 x o_iack_chain1 $end\n";
 
 /// An output and an input of a board, by each of which DS0 is found.
 const OUTPUT_AND_INPUT: &str =
@@ -613,8 +613,8 @@ fn a_grant_of_one_bit_is_one_net(rt: HostRuntime) {
 }
 
 /// Definitions with nets of the acknowledge chain, and a text that the binding of each with a cycle contains. Number 0
-/// is IACK where the word stands for the chain, and no line where it stands for the slots.
-static CHAINS: [(&str, &str); 6] = [
+/// is IACK where the word stands for the chain, and no line where it stands for the slots. IACKOUT* isn't IACK.
+static CHAINS: [(&str, &str); 9] = [
     (
         "$var wire 1 p as $end $var wire 1 q ds0 $end $var wire 1 r dtack $end $var wire 4 i ia [3:0] $end\n\
 $var wire 1 k iack $end\n",
@@ -639,6 +639,18 @@ $var wire 1 k iack $end\n",
     ),
     (
         "$var wire 1 p as $end $var wire 1 q ds0 $end $var wire 1 r dtack $end $var wire 1 i iackout0 $end\n",
+        "\nIACK = 1\n",
+    ),
+    (
+        "$var wire 1 p as $end $var wire 1 q ds0 $end $var wire 1 r dtack $end $var wire 1 i iack_out $end\n",
+        "\nIACK = 1\n",
+    ),
+    (
+        "$var wire 1 p as_n $end $var wire 1 q ds0_n $end $var wire 1 r dtack_n $end $var wire 1 i iackout_n $end\n",
+        "\nIACK = 1\n",
+    ),
+    (
+        "$var wire 1 p as $end $var wire 1 q ds0 $end $var wire 1 r dtack $end $var wire 4 i iack_out [3:0] $end\n",
         "\nIACK = 1\n",
     ),
 ];

@@ -49,7 +49,7 @@ fn is_of_other(bit_of_line: Option<VariableBit>, variable: usize) -> bool {
 /// Binds the lines of a candidate to its bits, if none of these lines but IACK has a bit yet, and the variable isn't
 /// used for other groups, nor for another line if it has one bit. An IACK that has a bit keeps it. If one of the other
 /// lines has a bit of another variable, and the candidate is a board's output, its groups are noted in `doubled`. Of
-/// one variable a line may be found in two ways, as IA.1 is in `iack_out1`.
+/// one variable a line may be found in two ways, as IA.1 is in `iack_chain1`.
 fn take(
     found: &mut FoundLines,
     declared: &DeclaredVariable,

@@ -163,8 +163,8 @@ fn number(text: &[u8]) -> Option<(u8, &[u8])> {
     }
 }
 
-/// What a word that denotes `named` denotes with the number `bit`. For `iack` this is nothing if the number is 0, since
-/// `iackout0` is read as `iack` with that number too, and isn't IACK.
+/// What a word that denotes `named` denotes with the number `bit`. For `iack` this is nothing if the number is 0: IACK
+/// has no number, and the first slot has the number 1.
 fn numbered(named: &NamedLines, bit: u8) -> Option<NamedLines> {
     match named {
         NamedLines::GrantNetOfEachLevel(net) if bit < 4 => Some(NamedLines::GrantNet(bit, *net)),
@@ -365,6 +365,15 @@ fn net_of(level: u8, net: u8) -> Option<NamedLines> {
     }
 }
 
+/// Whether a word that denotes `named` is a part of a word for IACKOUT*, which isn't IACK: `out` stands right after it.
+fn is_part_of_output(named: &NamedLines, rest: &[u8]) -> bool {
+    let is_output = match after_direction(rest) {
+        Some((direction, _)) => direction == Direction::Output,
+        None => false,
+    };
+    is_output && matches!(named, NamedLines::AcknowledgeLineOrChain)
+}
+
 /// Appends the readings of a name whose word begins where `text` begins, after the text `before`.
 fn push_readings_at(
     readings: &mut Vec<NameReading>,
@@ -381,7 +390,7 @@ fn push_readings_at(
             };
             if matches!(&named, NamedLines::Grants) {
                 push_grants(readings, &matched, rest)?;
-            } else {
+            } else if !is_part_of_output(&named, rest) {
                 push_word(readings, &matched, &named, rest)?;
             }
         }
