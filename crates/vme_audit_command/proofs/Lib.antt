@@ -11,3 +11,4 @@ pub mod Later
 pub mod AnswerLemmas
 pub mod SeveralLemmas
 pub mod EndLemmas
+pub mod ReadLemmas

@@ -6,3 +6,4 @@ pub mod Definitions
 pub mod DumpAnswers
 pub mod SeveralDumps
 pub mod DumpEnds
+pub mod DumpReads

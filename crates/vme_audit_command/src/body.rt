@@ -5,11 +5,12 @@ ghost use Rattle.std.specs.Prelude.{OnOk, length};
 ghost use Rattle.vcd_read.specs.declared.fault.FaultKind.TheVariants as vcd;
 ghost use Rattle.vme_stream.specs.declared.refusal.Refusal.TheVariants.{BadDump};
 ghost use Rattle.vme_step_auditor.specs.ReadBy.{has_stopped};
-ghost use Rattle.vme_audit_command.specs.declared.written_lines.NoOutcome.TheVariants.{Refused};
+ghost use Rattle.vme_audit_command.specs.declared.written_lines.NoOutcome.TheVariants.{CannotRead, Refused};
 ghost use Rattle.vme_trace.specs.Followed.{with_steps};
 ghost use Rattle.vme_trace.specs.Trace.{Trace};
 ghost use Rattle.vme_trace.specs.WellFormed.{malformed_step};
 ghost use Rattle.vme_audit_command.specs.Bodies.{AuditsBody, HasGiven, IsLater, TakesPiece, WritesRest};
+ghost use Rattle.vme_audit_command.specs.DumpReads.{CountsUnread};
 ghost use Rattle.vme_audit_command.specs.DumpAudits.{AuditGoesTo, given_recording, lines_of};
 ghost use Rattle.vme_dump_input.specs.SettledReadings.{settled_by, settled_so_far, settled_whole};
 ghost use Rattle.vme_dump_input.specs.SettledSteps.{ComesOut, GoOnFrom, GoOnTo};
@@ -65,6 +66,7 @@ fn at_fault(auditor: &StepAuditor<'_>, fault: VcdFault) -> Result<(), NoOutcome>
         → OnOk result (has_stopped auditor.now ≡ true) }
     ensures refused { malformed_step auditor.now.recording ≡ None
         → IfErr result (λ why. (why ≡ Refused (BadDump fault)) × (has_stopped auditor.now ≡ false)) }
+    ensures other { IfErr result (λ why. why ≢ CannotRead) }
 {
     if auditor.is_stopped() {
         Ok(())
@@ -90,6 +92,7 @@ fn audit_faulty<O: Sink>(
         → StopsBehind r.given stopped (whole_reading r rest)
         → WritesRest head.now auditor.old (lines_of head.now auditor.old) (settled_by skew (whole_reading r rest))
         auditor.new.recording (O.writing out.old) (O.writing out.new) result }
+    ensures other { IfErr result (λ why. why ≢ CannotRead) }
 {
     reading_goes_on();
     times_go_on();
@@ -116,6 +119,7 @@ fn audit_stopped<O: Sink>(
         → StopsBehind r.given stopped (whole_reading r rest)
         → WritesRest head.now auditor.old (lines_of head.now auditor.old) (settled_by skew (whole_reading r rest))
         auditor.new.recording (O.writing out.old) (O.writing out.new) result }
+    ensures other { IfErr result (λ why. why ≢ CannotRead) }
 {
     reading_goes_on();
     given_is_a_prefix();
@@ -161,6 +165,7 @@ fn audit_piece<O: Sink>(
     ensures takes { (skew : Option ℕ) → HasGiven skew settler.old auditor.old reader
         → TakesPiece skew head.now auditor.old auditor.new settler.new reader bytes.now (O.writing out.old)
         (O.writing out.new) result }
+    ensures other { IfErr result (λ why. why ≢ CannotRead) }
 {
     reading_goes_on();
     given_is_a_prefix();
@@ -200,6 +205,7 @@ pub(crate) fn audit_last<O: Sink>(
         → WritesRest head.now auditor.old (lines_of head.now auditor.old)
         (settled_by skew (whole_reading reader bytes.now)) auditor.new.recording (O.writing out.old)
         (O.writing out.new) result }
+    ensures other { IfErr result (λ why. why ≢ CannotRead) }
 {
     reading_goes_on();
     given_is_a_prefix();
@@ -255,6 +261,7 @@ pub(crate) fn audit_body<D: Source, O: Sink>(
     ensures audits { (skew : Option ℕ) → HasGiven skew settler.old auditor.old reader
         → AuditsBody skew head.now auditor.old auditor.new reader input.old (D.reading dump.old) (O.writing out.old)
         (O.writing out.new) result }
+    ensures unread { CountsUnread (D.reading dump.old) (D.reading dump.new) result }
 {
     reading_goes_on();
     given_is_a_prefix();

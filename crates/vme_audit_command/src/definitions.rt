@@ -1,10 +1,12 @@
 //! The definitions of a dump. Only the places of the backplane's lines are kept of them.
 
-ghost use Rattle.std.specs.Prelude.{◌≡◌, [], Result, Err};
+ghost use Rattle.std.specs.Prelude.{◌≡◌, ◌≢◌, [], Result, Err, IfErr};
 ghost use Rattle.vme_bind.specs.TextCapture.{CaptureFailsBy};
 ghost use Rattle.vme_bind.specs.TextReading.{TextReading};
 ghost use Rattle.vme_bind.specs.declared.fault.CaptureFault.{CaptureFault};
 ghost use Rattle.vme_audit_command.specs.Definitions.{BeginsBody, BeginsLast, NotBegun, ReadsDefinitions, unread};
+ghost use Rattle.vme_audit_command.specs.DumpReads.{CountsUnread};
+ghost use Rattle.vme_audit_command.specs.declared.written_lines.NoOutcome.TheVariants.{CannotRead};
 
 use crate::dump_input::{DumpInput, ReadFault};
 use crate::written_lines::{NoOutcome, WriteFault};
@@ -18,7 +20,9 @@ use vme_trace::Source;
 
 /// Why an audit has no outcome if its dump's definitions, or the binding, have this fault.
 fn no_outcome(fault: CaptureFault) -> NoOutcome
-    ensures { (reading : Result TextReading CaptureFault) → CaptureFailsBy fault reading → NotBegun reading result }
+    ensures begins { (reading : Result TextReading CaptureFault) → CaptureFailsBy fault reading
+        → NotBegun reading result }
+    ensures other { result ≢ CannotRead }
 {
     match Refusal::of_capture(fault) {
         Refusal::Memory => NoOutcome::NotWritten(WriteFault::Memory),
@@ -42,7 +46,8 @@ fn begin(
     binding: &Binding,
     input: &mut DumpInput,
 ) -> Result<Option<StepReader>, NoOutcome>
-    ensures { BeginsBody binding.now input.old input.new result }
+    ensures begins { BeginsBody binding.now input.old input.new result }
+    ensures other { IfErr result (λ why. why ≢ CannotRead) }
 {
     match begin_steps(alloc, binding, input.bytes()) {
         Ok(Some((reader, count))) => {
@@ -60,7 +65,8 @@ fn begin_last(
     binding: &Binding,
     input: &mut DumpInput,
 ) -> Result<StepReader, NoOutcome>
-    ensures { BeginsLast binding.now input.old input.new result }
+    ensures begins { BeginsLast binding.now input.old input.new result }
+    ensures other { IfErr result (λ why. why ≢ CannotRead) }
 {
     match begin_last_steps(alloc, binding, input.bytes()) {
         Ok((reader, count)) => {
@@ -80,7 +86,8 @@ pub(crate) fn read_definitions<D: Source>(
     input: &mut DumpInput,
 ) -> Result<(StepReader, bool), NoOutcome>
     requires { input.old ≡ [] }
-    ensures { ReadsDefinitions binding.now (D.reading dump.old) (D.reading dump.new) input.new result }
+    ensures reads { ReadsDefinitions binding.now (D.reading dump.old) (D.reading dump.new) input.new result }
+    ensures unread { CountsUnread (D.reading dump.old) (D.reading dump.new) result }
 {
     let mut search = DefinitionsEnd::new();
     for _ in 0..u64::MAX {

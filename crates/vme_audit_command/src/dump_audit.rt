@@ -11,6 +11,7 @@ ghost use Rattle.vme_audit_command.specs.Bodies.{AuditsRest, HasGiven, IsLater};
 ghost use Rattle.vme_audit_command.specs.Definitions.{IsBodyBegun};
 ghost use Rattle.vme_audit_command.specs.DumpAnswers.{AnswersBody, AuditsDump, given_options};
 ghost use Rattle.vme_audit_command.specs.DumpAudits.{WritesText};
+ghost use Rattle.vme_audit_command.specs.DumpReads.{CountsUnread};
 ghost use Rattle.vme_audit_command.specs.LastLines.{WritesOutcome, counts_unless, outcome_line_of};
 ghost use Rattle.vme_audit_command.specs.declared.written_lines.WriteFault.TheVariants.{Memory as NoMemory};
 
@@ -155,6 +156,7 @@ fn audit_rest<D: Source, O: Sink>(
     ensures audits { (skew : Option ℕ) → HasGiven skew settler.old auditor.old reader
         → AuditsRest skew head.now auditor.old auditor.new reader input.old is_more (D.reading dump.old)
         (O.writing out.old) (O.writing out.new) result }
+    ensures unread { CountsUnread (D.reading dump.old) (D.reading dump.new) result }
 {
     if is_more {
         audit_body(
@@ -186,8 +188,9 @@ fn audit_after_definitions<D: Source, O: Sink>(
     case: &mut TestCase,
     out: &mut O,
 ) -> Result<u8, NoOutcome>
-    ensures { IsBodyBegun reader → AnswersBody (given_options options.entry)
+    ensures answers { IsBodyBegun reader → AnswersBody (given_options options.entry)
         head.now reader input.old is_more (D.reading dump.old) (O.writing out.old) (O.writing out.new) result }
+    ensures unread { CountsUnread (D.reading dump.old) (D.reading dump.new) result }
 {
     let rules = AuditRules {
         allowances: options.allowances,
@@ -225,8 +228,9 @@ pub(crate) fn audit_dump<D: Source, O: Sink>(
     case: &mut TestCase,
     out: &mut O,
 ) -> Result<u8, NoOutcome>
-    ensures { AuditsDump (given_options options.entry)
+    ensures audits { AuditsDump (given_options options.entry)
         (head_of name.now) binding.now (D.reading dump.old) (O.writing out.old) (O.writing out.new) result }
+    ensures unread { CountsUnread (D.reading dump.old) (D.reading dump.new) result }
 {
     let (Ok(head), Ok(mut input)) = (dump_head(alloc, name), DumpInput::new(alloc)) else {
         return Err(NoOutcome::NotWritten(WriteFault::Memory));

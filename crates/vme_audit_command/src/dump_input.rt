@@ -1,8 +1,9 @@
 //! The bytes of a dump, as they come.
 
-ghost use Rattle.std.specs.Prelude.{◌≡◌, ◌++◌, ◌≤◌, suc, false, ℕ, List, [], length, drop, Ok, Err, IfOk, OnOk};
+ghost use Rattle.std.specs.Prelude.{◌≡◌, ◌++◌, ◌≤◌, suc, false, true, ℕ, List, [], length, drop, Ok, Err, IfOk, OnOk};
 ghost use Rattle.std.specs.Io.KnownBytes.{Consumes, IsAtEnd};
 ghost use Rattle.vme_audit_command.specs.declared.dump_input.ReadFault.TheVariants.{Failed as NotRead};
+ghost use Rattle.vme_audit_command.specs.declared.dump_input.ReadFault.TheVariants.{Memory as NoMemory};
 
 use std::alloc::{AllocError, Global};
 use std::marker::Model;
@@ -72,6 +73,9 @@ impl DumpInput {
         ensures end { result ≡ Ok false → IsAtEnd (D.reading dump.new).left }
         ensures ok { OnOk result ((D.reading dump.new).failures ≡ (D.reading dump.old).failures) }
         ensures failed { result ≡ Err NotRead → (D.reading dump.new).failures ≡ suc (D.reading dump.old).failures }
+        ensures memory { result ≡ Err NoMemory → (D.reading dump.new).failures ≡ (D.reading dump.old).failures }
+        ensures came { result ≡ Ok true → (D.reading dump.new).reads ≡ suc (D.reading dump.old).reads }
+        ensures counted { (D.reading dump.old).reads ≤ (D.reading dump.new).reads }
     {
         match dump.read(self.room.as_mut_slice()) {
             Ok(count) => {

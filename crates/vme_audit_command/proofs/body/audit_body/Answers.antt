@@ -1,4 +1,4 @@
-use Rattle.std.proofs.Common.{◌++◌, Err, Ok, ap, subst}
+use Rattle.std.proofs.Common.{◌≡◌, ◌++◌, Err, Ok, ap, arith, refl, subst, suc, ◌∙◌}
 use Rattle.vme_audit_command.specs.declared.written_lines.NoOutcome.TheVariants.{CannotRead}
 use Rattle.vme_audit_command.specs.Bodies.{WritesRest}
 use Rattle.vme_audit_command.specs.DumpAudits.{lines_of}
@@ -9,18 +9,24 @@ use Rattle.vme_audit_command.proofs.BodyPieces.{underway-first, underway-last, u
 use Rattle.vme_audit_command.proofs.BodyPieces.{underway-stops}
 use Rattle.vme_audit_command.proofs.BodyPieces.{unread-ends}
 use Rattle.vme_audit_command.proofs.Later.{kept-none, later-both, later-ok}
+use Rattle.vme_audit_command.proofs.ReadLemmas.{CountsUnread-fault, CountsUnread-given_up, CountsUnread-other}
+use Rattle.vme_audit_command.proofs.ReadLemmas.{NoReadFails-counted, NoReadFails-trans}
 use Rattle.vme_audit_command.proofs.body.audit_body.Goals as goal
 
 pub loop-init : goal.loop-init
-loop-init g c = λ skew h. (
-  h,
-  underway-first c.args.head.now (g.D.Source.reading c.args.dump.now) (g.O.Sink.writing c.args.out.now)
-      c.args.auditor.now c.args.reader c.args.input.now,
-)
+loop-init g c = record {
+  underway = λ skew h. (
+    h,
+    underway-first c.args.head.now (g.D.Source.reading c.args.dump.now) (g.O.Sink.writing c.args.out.now)
+        c.args.auditor.now c.args.reader c.args.input.now,
+  );
+  failures = refl;
+  reads = omega arith;
+}
 
 pub returns-in-Ok-None-clause-audits : goal.returns-in-Ok-None-clause-audits
 returns-in-Ok-None-clause-audits g c = λ skew first.
-    let (h, u) = c.loop.invariant skew first in
+    let (h, u) = c.loop.invariant.underway skew first in
     underway-stops skew c.args.head.now (g.D.Source.reading c.args.dump.now) (g.D.Source.reading c.loop.dump)
     (g.O.Sink.writing c.args.out.now) (g.O.Sink.writing c.loop.out) c.args.auditor.now c.loop.auditor c.args.reader
     c.loop.reader c.args.input.now c.loop.input c.bytes-held.result.now u c.bytes-held.ensures
@@ -30,7 +36,7 @@ returns-in-Ok-None-clause-audits g c = λ skew first.
 
 pub returns-in-Err-clause-audits : goal.returns-in-Err-clause-audits
 returns-in-Err-clause-audits g c = λ skew first.
-    let (h, u) = c.loop.invariant skew first in
+    let (h, u) = c.loop.invariant.underway skew first in
     underway-fails skew c.args.head.now (g.D.Source.reading c.args.dump.now) (g.D.Source.reading c.loop.dump)
     (g.O.Sink.writing c.args.out.now) (g.O.Sink.writing c.loop.out) c.args.auditor.now c.loop.auditor c.args.reader
     c.loop.reader c.args.input.now c.loop.input c.bytes-held.result.now u c.bytes-held.ensures
@@ -39,7 +45,7 @@ returns-in-Err-clause-audits g c = λ skew first.
 
 pub returns-in-Ok-false-clause-audits : goal.returns-in-Ok-false-clause-audits
 returns-in-Ok-false-clause-audits g c = λ skew first.
-    let (h, u) = c.loop.invariant skew first in
+    let (h, u) = c.loop.invariant.underway skew first in
     let head = c.args.head.now in
     let source = g.D.Source.reading c.args.dump.now in
     let now = g.D.Source.reading c.loop.dump in
@@ -74,7 +80,7 @@ returns-in-Ok-false-clause-audits g c = λ skew first.
 
 pub returns-in-Err-read-clause-audits : goal.returns-in-Err-read-clause-audits
 returns-in-Err-read-clause-audits g c = λ skew first.
-    let (h, u) = c.loop.invariant skew first in
+    let (h, u) = c.loop.invariant.underway skew first in
     let head = c.args.head.now in
     let source = g.D.Source.reading c.args.dump.now in
     let now = g.D.Source.reading c.loop.dump in
@@ -102,37 +108,43 @@ returns-in-Err-read-clause-audits g c = λ skew first.
     (c.drop_first.new.self ++ rest))
 
 pub loop-preserved : goal.loop-preserved
-loop-preserved g c = λ skew first.
-    let (h, u) = c.loop.invariant skew first in
-    let head = c.args.head.now in
-    let source = g.D.Source.reading c.args.dump.now in
+loop-preserved g c =
     let now = g.D.Source.reading c.loop.dump in
     let after = g.D.Source.reading c.read.new.dump in
-    let old = g.O.Sink.writing c.args.out.now in
-    let new = g.O.Sink.writing c.loop.out in
-    let then = g.O.Sink.writing c.audit_piece.new.out in
-    let audit = c.loop.auditor in
-    let later = c.audit_piece.new.auditor in
-    let next = c.in-Ok-Some.next in
-    let takes = takes-some skew head audit later c.audit_piece.new.settler c.loop.reader c.bytes-held.result.now new
-    then c.in-Ok-Some.field-0 next
-    c.in-Ok-Some.count c.in-Ok-Some.field-0-is (c.in-Ok-Some.ensures.takes skew h) in
-    let given = given-next skew head audit later c.audit_piece.new.settler c.loop.reader next c.in-Ok-Some.count
-    c.bytes-held.result.now new then takes in
-    let on = underway-on skew head source now old new c.args.auditor.now audit c.args.reader c.loop.reader
-    c.args.input.now
-    c.loop.input c.bytes-held.result.now u c.bytes-held.ensures later c.audit_piece.new.settler then next
-    c.in-Ok-Some.count
-    c.drop_first.new.self c.drop_first.ensures takes in
-    let (more, read, grown) = c.in-Ok-true.ensures.more in (
-      given,
-      underway-read skew head source now old then c.args.auditor.now later c.args.reader next c.args.input.now
-          c.drop_first.new.self on after more c.read.new.self read grown,
-    )
+    let came : after.reads ≡ suc now.reads = c.in-Ok-true.ensures.came (ap Ok c.in-Ok-true.field-0-test) in
+    record {
+      underway = λ skew first.
+          let (h, u) = c.loop.invariant.underway skew first in
+          let head = c.args.head.now in
+          let source = g.D.Source.reading c.args.dump.now in
+          let old = g.O.Sink.writing c.args.out.now in
+          let new = g.O.Sink.writing c.loop.out in
+          let then = g.O.Sink.writing c.audit_piece.new.out in
+          let audit = c.loop.auditor in
+          let later = c.audit_piece.new.auditor in
+          let next = c.in-Ok-Some.next in
+          let takes = takes-some skew head audit later c.audit_piece.new.settler c.loop.reader c.bytes-held.result.now
+          new then c.in-Ok-Some.field-0 next c.in-Ok-Some.count c.in-Ok-Some.field-0-is
+          (c.in-Ok-Some.ensures.takes skew h) in
+          let given = given-next skew head audit later c.audit_piece.new.settler c.loop.reader next c.in-Ok-Some.count
+          c.bytes-held.result.now new then takes in
+          let on = underway-on skew head source now old new c.args.auditor.now audit c.args.reader c.loop.reader
+          c.args.input.now
+          c.loop.input c.bytes-held.result.now u c.bytes-held.ensures later c.audit_piece.new.settler then next
+          c.in-Ok-Some.count
+          c.drop_first.new.self c.drop_first.ensures takes in
+          let (more, read, grown) = c.in-Ok-true.ensures.more in (
+            given,
+            underway-read skew head source now old then c.args.auditor.now later c.args.reader next c.args.input.now
+                c.drop_first.new.self on after more c.read.new.self read grown,
+          );
+      failures = c.in-Ok-true.ensures.ok ∙ c.loop.invariant.failures;
+      reads = omega (arith, came, c.loop.invariant.reads);
+    }
 
 pub returns-clause-audits : goal.returns-clause-audits
 returns-clause-audits g c = λ skew first.
-    let (h, u) = c.loop.invariant skew first in
+    let (h, u) = c.loop.invariant.underway skew first in
     let head = c.args.head.now in
     let new = g.O.Sink.writing c.loop.out in
     underway-ends skew head (g.D.Source.reading c.args.dump.now) (g.D.Source.reading c.loop.dump)
@@ -144,14 +156,14 @@ returns-clause-audits g c = λ skew first.
 
 pub returns-in-Ok-None-clause-kept : goal.returns-in-Ok-None-clause-kept
 returns-in-Ok-None-clause-kept g c = λ skew first.
-    let (h, u) = c.loop.invariant skew first in
+    let (h, u) = c.loop.invariant.underway skew first in
     later-both c.args.auditor.now c.loop.auditor c.audit_piece.new.auditor c.loop.auditor.recording u.same
     (kept-none c.loop.auditor c.audit_piece.new.auditor c.in-Ok-None.field-0 c.in-Ok-None.field-0-is
     (c.in-Ok-None.ensures.kept skew h))
 
 pub returns-in-Ok-false-clause-kept : goal.returns-in-Ok-false-clause-kept
 returns-in-Ok-false-clause-kept g c = λ skew first.
-    let (h, u) = c.loop.invariant skew first in
+    let (h, u) = c.loop.invariant.underway skew first in
     let head = c.args.head.now in
     let source = g.D.Source.reading c.args.dump.now in
     let now = g.D.Source.reading c.loop.dump in
@@ -173,3 +185,40 @@ returns-in-Ok-false-clause-kept g c = λ skew first.
     c.drop_first.new.self c.drop_first.ensures takes in
     later-ok c.args.auditor.now later c.audit_last.new.auditor later.recording on.same c.audit_last.result
     (c.audit_last.ensures.kept skew given)
+
+pub returns-in-Ok-None-clause-unread : goal.returns-in-Ok-None-clause-unread
+returns-in-Ok-None-clause-unread g c =
+    NoReadFails-counted (g.D.Source.reading c.args.dump.now) (g.D.Source.reading c.loop.dump) c.loop.counter
+    c.loop.invariant.failures c.loop.invariant.reads
+
+pub returns-in-Err-clause-unread : goal.returns-in-Err-clause-unread
+returns-in-Err-clause-unread g c =
+    let old = g.D.Source.reading c.args.dump.now in
+    let now = g.D.Source.reading c.loop.dump in
+    CountsUnread-other {A = Unit {0}} old now (Err c.in-Err.why) c.in-Err.ensures.other
+    (NoReadFails-counted old now c.loop.counter c.loop.invariant.failures c.loop.invariant.reads)
+
+pub returns-in-Ok-false-clause-unread : goal.returns-in-Ok-false-clause-unread
+returns-in-Ok-false-clause-unread g c =
+    let old = g.D.Source.reading c.args.dump.now in
+    let now = g.D.Source.reading c.loop.dump in
+    let new = g.D.Source.reading c.read.new.dump in
+    CountsUnread-other old new c.audit_last.result c.audit_last.ensures.other
+    (NoReadFails-trans old now new
+    (NoReadFails-counted old now c.loop.counter c.loop.invariant.failures c.loop.invariant.reads)
+    (record { failures = c.in-Ok-false.ensures.ok; reads = c.in-Ok-false.ensures.counted }))
+
+pub returns-in-Err-read-clause-unread : goal.returns-in-Err-read-clause-unread
+returns-in-Err-read-clause-unread g c =
+    let old = g.D.Source.reading c.args.dump.now in
+    let now = g.D.Source.reading c.loop.dump in
+    let new = g.D.Source.reading c.read.new.dump in
+    CountsUnread-fault (Unit {0}) old now new c.in-Err-read.fault c.not_read.result c.not_read.ensures
+    c.loop.invariant.failures (λ is. c.in-Err-read.ensures.failed (ap Err is))
+    (λ is. c.in-Err-read.ensures.memory (ap Err is))
+    (omega (arith, c.loop.invariant.reads, c.in-Err-read.ensures.counted))
+
+pub returns-clause-unread : goal.returns-clause-unread
+returns-clause-unread g c =
+    CountsUnread-given_up (Unit {0}) (g.D.Source.reading c.args.dump.now) (g.D.Source.reading c.loop.dump)
+    c.loop.counter (omega (arith, c.loop-test.false)) c.loop.invariant.failures c.loop.invariant.reads

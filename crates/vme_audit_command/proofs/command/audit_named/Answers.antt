@@ -9,4 +9,4 @@ returns g c =
     (record { name = c.args.named.now.name.now; dump = g.D.Source.reading c.args.named.now.dump })
     (g.O.Sink.writing c.args.out.now) (g.O.Sink.writing c.audit_dump-ended.new.out)
     (g.E.Sink.writing c.args.err.now) (g.E.Sink.writing c.write_end.new.err) c.write_end.result
-    c.audit_dump-ended.result c.audit_dump-ended.ensures c.write_end.ensures
+    c.audit_dump-ended.result c.audit_dump-ended.ensures.audits c.write_end.ensures

@@ -1,13 +1,14 @@
-use Rattle.std.proofs.Common.{[], sym}
+use Rattle.std.proofs.Common.{ℕ, [], sym}
 use Rattle.vme_step_reader.specs.StepReading.{whole_reading}
 use Rattle.vme_dump_input.specs.SettledReadings.{skew_of}
 use Rattle.vme_dump_input.proofs.FirstSteps.{comes-first}
 use Rattle.vme_audit_command.proofs.AnswerLemmas.{body-unwritten, body-with-outcome, body-without-outcome, given-first}
 use Rattle.vme_audit_command.proofs.AnswerLemmas.{no-lines}
+use Rattle.vme_audit_command.proofs.ReadLemmas.{CountsUnread-retyped}
 use Rattle.vme_audit_command.proofs.dump_audit.audit_after_definitions.Goals as goal
 
-pub returns-in-Ok-write_counts_and_outcome : goal.returns-in-Ok-write_counts_and_outcome
-returns-in-Ok-write_counts_and_outcome g c = λ begun.
+pub returns-in-Ok-write_counts_and_outcome-clause-answers : goal.returns-in-Ok-write_counts_and_outcome-clause-answers
+returns-in-Ok-write_counts_and_outcome-clause-answers g c = λ begun.
     let first = c.first_audit-auditor.result in
     let later = c.audit_rest.new.auditor in
     let head = c.args.head.now in
@@ -27,8 +28,8 @@ returns-in-Ok-write_counts_and_outcome g c = λ begun.
     (g.O.Sink.writing c.write_counts_and_outcome.new.out) c.in-Ok-write_counts_and_outcome.status kept
     (c.in-Ok.ensures.audits skew h) (c.in-Ok-write_counts_and_outcome.ensures kept.formed)
 
-pub returns-in-Ok : goal.returns-in-Ok
-returns-in-Ok g c = λ begun.
+pub returns-in-Ok-clause-answers : goal.returns-in-Ok-clause-answers
+returns-in-Ok-clause-answers g c = λ begun.
     let first = c.first_audit-auditor.result in
     let later = c.audit_rest.new.auditor in
     let head = c.args.head.now in
@@ -48,8 +49,8 @@ returns-in-Ok g c = λ begun.
     (g.O.Sink.writing c.write_counts_and_outcome.new.out) c.in-Err-write_counts_and_outcome.fault kept
     (c.in-Ok.ensures.audits skew h) (c.in-Err-write_counts_and_outcome.ensures kept.formed)
 
-pub returns : goal.returns
-returns g c = λ begun.
+pub returns-clause-answers : goal.returns-clause-answers
+returns-clause-answers g c = λ begun.
     let first = c.first_audit-auditor.result in
     let later = c.audit_rest.new.auditor in
     let head = c.args.head.now in
@@ -66,3 +67,14 @@ returns g c = λ begun.
     (no-lines head first c.first_audit-auditor.ensures.nothing) c.args.reader c.args.input.now c.args.is_more
     (g.D.Source.reading c.args.dump.now) (g.O.Sink.writing c.args.out.now) (g.O.Sink.writing c.audit_rest.new.out)
     c.in-Err.why (c.in-Err.ensures.audits skew h)
+
+pub returns-in-Ok-write_counts_and_outcome-clause-unread : goal.returns-in-Ok-write_counts_and_outcome-clause-unread
+returns-in-Ok-write_counts_and_outcome-clause-unread g c = c.in-Ok.ensures.unread
+
+pub returns-in-Ok-clause-unread : goal.returns-in-Ok-clause-unread
+returns-in-Ok-clause-unread g c = c.in-Ok.ensures.unread
+
+pub returns-clause-unread : goal.returns-clause-unread
+returns-clause-unread g c =
+    CountsUnread-retyped (Unit {0}) ℕ (g.D.Source.reading c.args.dump.now) (g.D.Source.reading c.audit_rest.new.dump)
+    c.in-Err.why c.in-Err.ensures.unread
