@@ -1,14 +1,16 @@
 -- Several dumps, one after the other.
 use Rattle.std.proofs.Common.{◌≡◌, ◌⊎◌, ℕ, ◌+◌, ◌<◌, ◌≤◌, Bool, true, false, ◌||◌, if◌then◌else◌, nat_eq, List, [], ◌∷◌}
-use Rattle.std.proofs.Common.{◌++◌, flat_map, length, get_or, take, drop, map, inl, inr}
+use Rattle.std.proofs.Common.{◌++◌, flat_map, length, get_or, set, take, drop, map, inl, inr}
 use Rattle.std.proofs.Common.{refl, sym, ap, subst, ◌∙◌, add-zero, append-nil, append_assoc, take-append-drop}
 use Rattle.std.specs.List.{AllZip, list_any}
 use Rattle.std.proofs.lemmas.Bool.{eq-eqb, eqb-false}
 use Rattle.std.proofs.lemmas.Grind.{flat_map-append}
-use Rattle.std.proofs.lemmas.List.{get_or-drop, map-append, take_all, take_more}
+use Rattle.std.proofs.lemmas.List.{get_or-drop, map-append, take_all, take_more, take_more_set}
 use Rattle.std.proofs.lemmas.List.Folds.{list_any-append}
-use Rattle.vme_trace.specs.Streams.{Writing}
+use Rattle.std.proofs.lemmas.Simd.{map-map}
+use Rattle.vme_trace.specs.Streams.{Reading, Writing}
 use Rattle.vme_bind.specs.Binding.{BoundLines}
+use Rattle.vme_bind.proofs.PathSearchLemmas.{stepped_rest}
 use Rattle.vme_stream.specs.Outputs.{TriesToWrite, Writes}
 use Rattle.vme_audit_command.specs.DumpAnswers.{AuditOptions}
 use Rattle.vme_audit_command.specs.DumpEnds.{CannotWriteDump, WritesDump}
@@ -107,24 +109,34 @@ flat-then f xs x = ap (λ l. flat_map f xs ++ l) (sym (append-nil (f x))) ∙ sy
 pub not-five : (n : ℕ) → nat_eq n 5 ≡ false → n ≡ 5 → ⊥
 not-five n other = eqb-false n 5 other
 
+-- the source of a dump d whose name and source are `f d`
+abbrev source_by : {A : Type 0} → (A → NamedReading) → A → Reading
+source_by f d = (f d).dump
+
 module _ (options : AuditOptions) (bound : BoundLines) where
-  pub writes-no-dumps : (out err : Writing) → WritesDumps options bound [] (out, out) (err, err) 0
+  pub writes-no-dumps : (out err : Writing) → WritesDumps options bound [] [] (out, out) (err, err) 0
   writes-no-dumps out err = record {
     ends = [];
     each = tt;
+    afters_are = refl;
     out_is = writes-nothing out;
     err_is = refl;
     status_is = refl;
   }
 
-  module _ (dumps : List NamedReading) (named : NamedReading) (a b c e p h : Writing) (so_far ended : ℕ)
-      (before : WritesDumps options bound dumps (a, b) (e, p) so_far) where
+  module _ (dumps : List NamedReading) (afters : List Reading) (named : NamedReading) (after : Reading)
+      (a b c e p h : Writing) (so_far ended : ℕ)
+      (before : WritesDumps options bound dumps afters (a, b) (e, p) so_far) where
     -- one more dump
-    writes-dump-after : WritesDump options bound named (b, c) (p, h) ended
-        → WritesDumps options bound (dumps ++ named ∷ []) (a, c) (e, h) (audit_status (so_far ∷ ended ∷ []))
+    writes-dump-after : WritesDump options bound named after (b, c) (p, h) ended
+        → WritesDumps options bound (dumps ++ named ∷ []) (afters ++ after ∷ []) (a, c) (e, h)
+        (audit_status (so_far ∷ ended ∷ []))
     writes-dump-after one = record {
       ends = before.ends ++ one.end ∷ [];
       each = zip-then (MayEnd options bound) dumps before.ends named one.end before.each one.may;
+      afters_are = ap (λ (l : List Reading). l ++ after ∷ []) before.afters_are
+          ∙ ap (λ (r : Reading). map (λ (x : DumpEnd). x.after) before.ends ++ r ∷ []) (sym one.after_is)
+          ∙ sym (map-append (λ (x : DumpEnd). x.after) before.ends (one.end ∷ []));
       out_is = subst (Writes a c) (flat-then (λ (x : DumpEnd). x.out) before.ends one.end)
           (writes-both a b c _ one.end.out before.out_is one.out_is);
       err_is = subst (TriesEach e h) (flat-then (λ (x : DumpEnd). x.errors) before.ends one.end)
@@ -137,8 +149,9 @@ module _ (options : AuditOptions) (bound : BoundLines) where
     }
 
     -- a dump whose text can't be written
-    cannot-write-after : (others : List NamedReading) → CannotWriteDump options bound named (b, c) (p, h) ended
-        → CannotWriteDumps options bound (dumps ++ named ∷ others) (a, c) (e, h) 5
+    cannot-write-after : (others : List NamedReading) → CannotWriteDump options bound named after (b, c) (p, h) ended
+        → CannotWriteDumps options bound (dumps ++ named ∷ others)
+        (afters ++ after ∷ map (λ (n : NamedReading). n.dump) others) (a, c) (e, h) 5
     cannot-write-after others one = record {
       before = dumps;
       named = named;
@@ -146,6 +159,9 @@ module _ (options : AuditOptions) (bound : BoundLines) where
       split = refl;
       ends = before.ends;
       each = before.each;
+      after = after;
+      none_fails = one.none_fails;
+      afters_are = ap (λ (l : List Reading). l ++ after ∷ map (λ (n : NamedReading). n.dump) others) before.afters_are;
       bytes = one.bytes;
       all = one.all;
       out_is = fails-after a b c _ _ before.out_is one.out_is;
@@ -153,7 +169,8 @@ module _ (options : AuditOptions) (bound : BoundLines) where
       status_is = refl;
     }
 
-  module _ {A : Type 0} (f : A → NamedReading) (now dumps : List A) (i : ℕ) (x : A) (within : i < length now)
+  -- the dumps before index `i` were audited, and `now` are the dumps then; the dump at `i` is x, and y after its audit
+  module _ {A : Type 0} (f : A → NamedReading) (now dumps : List A) (i : ℕ) (x y : A) (within : i < length now)
       (same : length now ≡ length dumps) (is : x ≡ get_or now i x) (rest : drop i now ≡ drop i dumps) where
     here : x ≡ get_or dumps i x
     here =
@@ -167,22 +184,51 @@ module _ (options : AuditOptions) (bound : BoundLines) where
         ∙ ap (map f) (ap (λ (d : A). take i dumps ++ d ∷ []) here
         ∙ sym (take_more dumps i x (subst (λ (n : ℕ). i < n) same within)))
 
+    -- the sources of the dumps up to index `i`, if the dump there is then `y`
+    sources-with_next : map (source_by f) (take i now) ++ source_by f y ∷ []
+        ≡ map (source_by f) (take (i + 1) (set now i y))
+    sources-with_next =
+        sym (map-append (source_by f) (take i now) (y ∷ []))
+        ∙ ap (map (source_by f)) (sym (take_more_set now i y within))
+
+    -- the sources of all dumps, if the dump at index `i` is then `y`, and those after it are as at first
+    sources-with_others : map (source_by f) (take i now)
+        ++ source_by f y ∷ map (λ (n : NamedReading). n.dump) (map f (drop (i + 1) dumps))
+        ≡ map (source_by f) (set now i y)
+    sources-with_others =
+        let later = drop (i + 1) dumps in
+        let stepped = set now i y in
+        ap (λ (l : List Reading). map (source_by f) (take i now) ++ source_by f y ∷ l)
+        (map-map (λ (n : NamedReading). n.dump) f later)
+        ∙ sym (append_assoc (map (source_by f) (take i now)) (source_by f y ∷ []) (map (source_by f) later))
+        ∙ ap (λ (l : List Reading). l ++ map (source_by f) later) sources-with_next
+        ∙ ap (λ (l : List A). map (source_by f) (take (i + 1) stepped) ++ map (source_by f) l)
+        (sym (stepped_rest now dumps i y rest))
+        ∙ sym (map-append (source_by f) (take (i + 1) stepped) (drop (i + 1) stepped))
+        ∙ ap (map (source_by f)) (take-append-drop (i + 1) stepped)
+
     module _ (a b c e p h : Writing) (so_far ended : ℕ)
-        (before : WritesDumps options bound (map f (take i dumps)) (a, b) (e, p) so_far) where
+        (before : WritesDumps options bound (map f (take i dumps)) (map (source_by f) (take i now)) (a, b) (e, p)
+        so_far) where
       -- the audit of the dump at index `i`
       abbrev Audits : A → Type 0
-      Audits d = WritesDump options bound (f d) (b, c) (p, h) ended
-          ⊎ CannotWriteDump options bound (f d) (b, c) (p, h) ended
+      Audits d = WritesDump options bound (f d) (source_by f y) (b, c) (p, h) ended
+          ⊎ CannotWriteDump options bound (f d) (source_by f y) (b, c) (p, h) ended
 
       writes-this-dump : (ended ≡ 5 → ⊥) → Audits x
-          → WritesDumps options bound (map f (take (i + 1) dumps)) (a, c) (e, h) (audit_status (so_far ∷ ended ∷ []))
+          → WritesDumps options bound (map f (take (i + 1) dumps)) (map (source_by f) (take (i + 1) (set now i y)))
+          (a, c) (e, h) (audit_status (so_far ∷ ended ∷ []))
       writes-this-dump other (inl one) =
-          subst (λ (l : List NamedReading). WritesDumps options bound l (a, c) (e, h)
-          (audit_status (so_far ∷ ended ∷ []))) one-more
-          (writes-dump-after (map f (take i dumps)) (f x) a b c e p h so_far ended before one)
+          subst (λ (l : List NamedReading). WritesDumps options bound l
+          (map (source_by f) (take (i + 1) (set now i y))) (a, c) (e, h) (audit_status (so_far ∷ ended ∷ []))) one-more
+          (subst (λ (l : List Reading). WritesDumps options bound (map f (take i dumps) ++ f x ∷ []) l (a, c) (e, h)
+          (audit_status (so_far ∷ ended ∷ []))) sources-with_next
+          (writes-dump-after (map f (take i dumps)) (map (source_by f) (take i now)) (f x) (source_by f y) a b c e p h
+          so_far ended before one))
       writes-this-dump other (inr one) = absurd (other one.status_is)
 
-      cannot-write-this : ended ≡ 5 → Audits x → AuditsDumps options bound (map f dumps) (a, c) (e, h) 5
+      cannot-write-this : ended ≡ 5 → Audits x
+          → AuditsDumps options bound (map f dumps) (map (source_by f) (set now i y)) (a, c) (e, h) 5
       cannot-write-this five (inl one) = absurd (one.other five)
       cannot-write-this five (inr one) =
           let later = drop (i + 1) dumps in
@@ -190,21 +236,30 @@ module _ (options : AuditOptions) (bound : BoundLines) where
           ap (map f) (sym (take-append-drop (i + 1) dumps)) ∙ map-append f (take (i + 1) dumps) later
           ∙ ap (λ (l : List NamedReading). l ++ map f later) (sym one-more)
           ∙ append_assoc (map f (take i dumps)) (f x ∷ []) (map f later) in
-          inr (subst (λ (l : List NamedReading). CannotWriteDumps options bound l (a, c) (e, h) 5) (sym split)
-          (cannot-write-after (map f (take i dumps)) (f x) a b c e p h so_far ended before (map f later) one))
+          inr (subst (λ (l : List NamedReading). CannotWriteDumps options bound l (map (source_by f) (set now i y))
+          (a, c) (e, h) 5) (sym split)
+          (subst (λ (l : List Reading). CannotWriteDumps options bound (map f (take i dumps) ++ f x ∷ map f later) l
+          (a, c) (e, h) 5) sources-with_others
+          (cannot-write-after (map f (take i dumps)) (map (source_by f) (take i now)) (f x) (source_by f y) a b c e p h
+          so_far ended before (map f later) one)))
 
       pub writes-next-dump : (ended ≡ 5 → ⊥) → Audits (get_or now i x)
-          → WritesDumps options bound (map f (take (i + 1) dumps)) (a, c) (e, h) (audit_status (so_far ∷ ended ∷ []))
+          → WritesDumps options bound (map f (take (i + 1) dumps)) (map (source_by f) (take (i + 1) (set now i y)))
+          (a, c) (e, h) (audit_status (so_far ∷ ended ∷ []))
       writes-next-dump other audits = writes-this-dump other (subst Audits (sym is) audits)
 
       pub cannot-write-next : ended ≡ 5 → Audits (get_or now i x)
-          → AuditsDumps options bound (map f dumps) (a, c) (e, h) 5
+          → AuditsDumps options bound (map f dumps) (map (source_by f) (set now i y)) (a, c) (e, h) 5
       cannot-write-next five audits = cannot-write-this five (subst Audits (sym is) audits)
 
   -- all dumps were audited
-  pub writes-all-dumps : {A : Type 0} (f : A → NamedReading) (dumps : List A) (i : ℕ) → length dumps ≤ i
-      → (status : ℕ) (a b e p : Writing) → WritesDumps options bound (map f (take i dumps)) (a, b) (e, p) status
-      → AuditsDumps options bound (map f dumps) (a, b) (e, p) status
-  writes-all-dumps {A} f dumps i within status a b e p each =
-      inl (subst (λ (l : List A). WritesDumps options bound (map f l) (a, b) (e, p) status) (take_all i dumps within)
-      each)
+  pub writes-all-dumps : {A : Type 0} (f : A → NamedReading) (now dumps : List A) (i : ℕ) → length dumps ≤ i
+      → length now ≡ length dumps → (status : ℕ) (a b e p : Writing)
+      → WritesDumps options bound (map f (take i dumps)) (map (source_by f) (take i now)) (a, b) (e, p) status
+      → AuditsDumps options bound (map f dumps) (map (source_by f) now) (a, b) (e, p) status
+  writes-all-dumps {A} f now dumps i within same status a b e p each =
+      let short : length now ≤ i = subst (λ (n : ℕ). n ≤ i) (sym same) within in
+      inl (subst (λ (l : List A). WritesDumps options bound (map f l) (map (source_by f) now) (a, b) (e, p) status)
+      (take_all i dumps within)
+      (subst (λ (l : List A). WritesDumps options bound (map f (take i dumps)) (map (source_by f) l) (a, b) (e, p)
+      status) (take_all i now short) each))

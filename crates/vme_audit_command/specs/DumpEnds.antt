@@ -1,6 +1,6 @@
 -- What is written at the end of the audit of a dump.
 use Rattle.std.specs.Prelude.{◌≡◌, ◌≢◌, ◌⊎◌, ℕ, List, Result, Ok, Err}
-use Rattle.vme_trace.specs.Streams.{Writing}
+use Rattle.vme_trace.specs.Streams.{Reading, Writing}
 use Rattle.vme_bind.specs.Binding.{BoundLines}
 use Rattle.vme_stream.specs.Outputs.{FailsToWrite, TriesToWrite, Writes}
 use Rattle.vme_stream.specs.Texts.{refusal_status}
@@ -9,6 +9,7 @@ use Rattle.vme_stream.specs.declared.refusal.Refusal.{Refusal}
 use Rattle.vme_stream.specs.declared.refusal.Refusal.TheVariants as refusal
 use Rattle.vme_audit_command.specs.Definitions.{AreAllBytesOf}
 use Rattle.vme_audit_command.specs.DumpAnswers.{AuditOptions}
+use Rattle.vme_audit_command.specs.DumpReads.{NoReadFails}
 use Rattle.vme_audit_command.specs.SeveralDumps.{DumpEnd, MayEnd, NamedReading, TriesEach, answer_to, cannot_write_line}
 use Rattle.vme_audit_command.specs.SeveralDumps.{memory_line, refusal_line_of}
 use Rattle.vme_audit_command.specs.declared.written_lines.NoOutcome.{NoOutcome}
@@ -43,19 +44,21 @@ WritesEnd name (Err (NotWritten Memory)) old new status = EndsWithReason name re
 WritesEnd name (Err (NotWritten CannotWrite)) old new status =
     TriesToWrite old new cannot_write_line × (status ≡ 5)
 
-module _ (options : AuditOptions) (binding : BoundLines) (named : NamedReading) (out err : Writing × Writing)
-    (status : ℕ) where
+module _ (options : AuditOptions) (binding : BoundLines) (named : NamedReading) (after : Reading)
+    (out err : Writing × Writing) (status : ℕ) where
   -- the output, the error lines and the status are those of a possible end of the dump
   pub record WritesDump : Type 0 where
     pub end : DumpEnd
     pub may : MayEnd options binding named end
+    pub after_is : end.after ≡ after
     pub out_is : Writes out.0 out.1 end.out
     pub err_is : TriesEach err.0 err.1 end.errors
     pub status_is : status ≡ end.status
     pub other : status ≢ 5
 
-  -- a write of its text fails
+  -- no read of the dump fails, but a write of its text
   pub record CannotWriteDump : Type 0 where
+    pub none_fails : NoReadFails named.dump after
     pub bytes : List ℕ
     pub all : AreAllBytesOf named.dump bytes
     pub out_is : FailsToWrite out.0 out.1 (answer_to options binding named.name bytes).out

@@ -15,6 +15,7 @@ use Rattle.vme_stream.specs.declared.refusal.Refusal.TheVariants.{CannotRead, Me
 use Rattle.vme_audit_lines.specs.AuditLines.{head_of, refusal_after_name}
 use Rattle.vme_audit_command.specs.Definitions.{AreAllBytesOf}
 use Rattle.vme_audit_command.specs.DumpAnswers.{AuditOptions, DumpAnswer, dump_answer}
+use Rattle.vme_audit_command.specs.DumpReads.{CannotBeRead, NoReadFails}
 
 -- ---- the status
 
@@ -54,48 +55,59 @@ pub record NamedReading : Type 0 where
   pub name : List ℕ
   pub dump : Reading
 
--- the text of a dump on standard output, its lines on standard error, and its status
+-- the text of a dump on standard output, its lines on standard error, its status, and its source after its audit
 pub record DumpEnd : Type 0 where
   pub out : List ℕ
   pub errors : List (List ℕ)
   pub status : ℕ
+  pub after : Reading
 
 -- a dump has an outcome with this status, or none, and then a line gives the reason
-abbrev pub end_by : List ℕ → List ℕ → Result ℕ Refusal → DumpEnd
-end_by name out (Ok status) = record { out = out; errors = []; status = status }
-end_by name out (Err why) =
-    record { out = out; errors = refusal_line_of name why ∷ []; status = refusal_status why }
+abbrev pub end_by : List ℕ → List ℕ → Result ℕ Refusal → Reading → DumpEnd
+end_by name out (Ok status) after = record { out = out; errors = []; status = status; after = after }
+end_by name out (Err why) after =
+    record { out = out; errors = refusal_line_of name why ∷ []; status = refusal_status why; after = after }
 
 -- `front` is a prefix of `text`
 abbrev pub IsTextPrefix : List ℕ → List ℕ → Type 0
 IsTextPrefix front text = (n : ℕ) × (front ≡ take n text)
 
--- all of an answer is written
-abbrev pub IsWholeAnswer : List ℕ → DumpAnswer → DumpEnd → Type 0
-IsWholeAnswer name answer end = end ≡ end_by name answer.out answer.ended
+-- no read of the dump fails, and all of an answer is written
+abbrev pub IsWholeAnswer : NamedReading → DumpAnswer → DumpEnd → Type 0
+IsWholeAnswer named answer end =
+    NoReadFails named.dump end.after × (end ≡ end_by named.name answer.out answer.ended end.after)
 
 -- the dump can't be read to its end: a prefix of its text is written, and why there is no outcome
-abbrev pub IsUnread : List ℕ → DumpAnswer → DumpEnd → Type 0
-IsUnread name answer end =
-    (front : List ℕ) × IsTextPrefix front answer.out × (end ≡ end_by name front (Err (CannotRead Dump)))
+abbrev pub IsUnread : NamedReading → DumpAnswer → DumpEnd → Type 0
+IsUnread named answer end =
+    CannotBeRead named.dump end.after
+    × ((front : List ℕ) × IsTextPrefix front answer.out
+    × (end ≡ end_by named.name front (Err (CannotRead Dump)) end.after))
+
+-- That a dump can't be read is the reason only where that is so.
+abbrev pub MayBeReason : NamedReading → Reading → Refusal → Type 0
+MayBeReason named after why = why ≡ CannotRead Dump → CannotBeRead named.dump after
 
 -- the line gives the reason why there is no outcome of a dump, or reports that there is no memory
-abbrev pub IsErrorLine : List ℕ → List ℕ → Type 0
-IsErrorLine name line = (line ≡ memory_line) ⊎ ((why : Refusal) × (line ≡ refusal_line_of name why))
+abbrev pub IsErrorLine : NamedReading → Reading → List ℕ → Type 0
+IsErrorLine named after line =
+    (line ≡ memory_line)
+    ⊎ ((why : Refusal) × MayBeReason named after why × (line ≡ refusal_line_of named.name why))
 
 -- memory runs out: a prefix of the text is written, and the last line on standard error reports it
-pub record EndsWithoutMemory (name : List ℕ) (answer : DumpAnswer) (end : DumpEnd) : Type 0 where
+pub record EndsWithoutMemory (named : NamedReading) (answer : DumpAnswer) (end : DumpEnd) : Type 0 where
   pub out : IsTextPrefix end.out answer.out
   pub before : List (List ℕ)
   pub last : List ℕ
   pub errors : end.errors ≡ before ++ last ∷ []
-  pub others : All (IsErrorLine name) before
-  pub tells : (last ≡ memory_line) ⊎ (last ≡ refusal_line_of name Memory)
+  pub others : All (IsErrorLine named end.after) before
+  pub tells : (last ≡ memory_line) ⊎ (last ≡ refusal_line_of named.name Memory)
   pub status : end.status ≡ 4
 
 -- how a dump with this answer may end
-abbrev pub IsEndOf : List ℕ → DumpAnswer → DumpEnd → Type 0
-IsEndOf name answer end = IsWholeAnswer name answer end ⊎ (IsUnread name answer end ⊎ EndsWithoutMemory name answer end)
+abbrev pub IsEndOf : NamedReading → DumpAnswer → DumpEnd → Type 0
+IsEndOf named answer end =
+    IsWholeAnswer named answer end ⊎ (IsUnread named answer end ⊎ EndsWithoutMemory named answer end)
 
 module _ (options : AuditOptions) (bound : BoundLines) where
   -- the answer for a dump with these bytes
@@ -105,41 +117,50 @@ module _ (options : AuditOptions) (bound : BoundLines) where
   -- how a dump with the bytes of its source may end
   abbrev pub MayEnd : NamedReading → DumpEnd → Type 0
   MayEnd named end =
-      (bytes : List ℕ) × AreAllBytesOf named.dump bytes × IsEndOf named.name (answer_to named.name bytes) end
+      (bytes : List ℕ) × AreAllBytesOf named.dump bytes × IsEndOf named (answer_to named.name bytes) end
 
   -- ---- all of them
 
-  -- the output, the error lines and the status are those of possible ends of the dumps, one after the other
-  pub record WritesDumps (dumps : List NamedReading) (out err : Writing × Writing) (status : ℕ) : Type 0 where
+  -- the output, the error lines and the status are those of possible ends of the dumps, one after the other, and
+  -- `afters` are the sources of the dumps afterwards
+  pub record WritesDumps (dumps : List NamedReading) (afters : List Reading) (out err : Writing × Writing)
+      (status : ℕ) : Type 0 where
     pub ends : List DumpEnd
     pub each : AllZip MayEnd dumps ends
+    pub afters_are : afters ≡ map (λ (e : DumpEnd). e.after) ends
     pub out_is : Writes out.0 out.1 (flat_map (λ (e : DumpEnd). e.out) ends)
     pub err_is : TriesEach err.0 err.1 (flat_map (λ (e : DumpEnd). e.errors) ends)
     pub status_is : status ≡ audit_status (map (λ (e : DumpEnd). e.status) ends)
 
   -- a write to standard output fails in the text of a dump: a line reports it, a prefix of all texts is written, and
-  -- the other dumps aren't audited
-  pub record CannotWriteDumps (dumps : List NamedReading) (out err : Writing × Writing) (status : ℕ) : Type 0 where
+  -- the other dumps aren't audited: nothing is read of them
+  pub record CannotWriteDumps (dumps : List NamedReading) (afters : List Reading) (out err : Writing × Writing)
+      (status : ℕ) : Type 0 where
     pub before : List NamedReading
     pub named : NamedReading
     pub others : List NamedReading
     pub split : dumps ≡ before ++ named ∷ others
     pub ends : List DumpEnd
     pub each : AllZip MayEnd before ends
+    pub after : Reading
+    pub none_fails : NoReadFails named.dump after
+    pub afters_are : afters
+        ≡ map (λ (e : DumpEnd). e.after) ends ++ after ∷ map (λ (n : NamedReading). n.dump) others
     pub bytes : List ℕ
     pub all : AreAllBytesOf named.dump bytes
     pub out_is : FailsToWrite out.0 out.1 (flat_map (λ (e : DumpEnd). e.out) ends ++ (answer_to named.name bytes).out)
     pub err_is : TriesEach err.0 err.1 (flat_map (λ (e : DumpEnd). e.errors) ends ++ cannot_write_line ∷ [])
     pub status_is : status ≡ 5
 
-  abbrev pub AuditsDumps : List NamedReading → Writing × Writing → Writing × Writing → ℕ → Type 0
-  AuditsDumps dumps out err status = WritesDumps dumps out err status ⊎ CannotWriteDumps dumps out err status
+  abbrev pub AuditsDumps : List NamedReading → List Reading → Writing × Writing → Writing × Writing → ℕ → Type 0
+  AuditsDumps dumps afters out err status =
+      WritesDumps dumps afters out err status ⊎ CannotWriteDumps dumps afters out err status
 
 -- the bytes of the binding were read, and are a binding, and the dumps were audited by it
 pub record AuditsByBinding (options : AuditOptions) (binding : Reading × Reading) (dumps : List NamedReading)
-    (out err : Writing × Writing) (status : ℕ) : Type 0 where
+    (afters : List Reading) (out err : Writing × Writing) (status : ℕ) : Type 0 where
   pub bytes : Option (List ℕ)
   pub bound : BoundLines
   pub read : IsReading binding.0 binding.1 bytes
   pub is : binding_read bytes ≡ Ok bound
-  pub audits : AuditsDumps options bound dumps out err status
+  pub audits : AuditsDumps options bound dumps afters out err status

@@ -83,6 +83,7 @@ pub fn audit<B: Source, D: Source, O: Sink, E: Sink>(
     ensures audited { result.0 ≡ true → AuditsByBinding (given_options options.entry)
         (B.reading binding.old, B.reading binding.new)
         (map (λ d. record { name = d.name.now; dump = D.reading d.dump }) dumps.old)
+        (map (λ d. D.reading d.dump) dumps.new)
         (O.writing out.old, O.writing out.new) (E.writing err.old, E.writing err.new) result.1 }
 {
     match binding_from(alloc, binding) {
@@ -109,6 +110,7 @@ fn audit_all<D: Source, O: Sink, E: Sink>(
 ) -> u8
     ensures { AuditsDumps (given_options options.entry)
         bound.now (map (λ d. record { name = d.name.now; dump = D.reading d.dump }) dumps.old)
+        (map (λ d. D.reading d.dump) dumps.new)
         (O.writing out.old, O.writing out.new) (E.writing err.old, E.writing err.new) result }
 {
     let mut status = 0;
@@ -134,6 +136,7 @@ fn audit_named<D: Source, O: Sink, E: Sink>(
 ) -> u8
     ensures { AuditsNamed (given_options options.entry)
         bound.now (record { name = named.old.name.now; dump = D.reading named.old.dump })
+        (D.reading named.new.dump)
         (O.writing out.old, O.writing out.new) (E.writing err.old, E.writing err.new) result }
 {
     let mut case = suite.case(alloc);

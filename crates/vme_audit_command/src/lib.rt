@@ -26,7 +26,10 @@
 //!   the reasons why dumps have no outcome, in the same order. The exit status is the first of 5, 4,
 //!   3, 1, 2, 6 that occurred for any dump, or else 0. If a dump can't be read to its end, or memory
 //!   runs out, a prefix of its text is written, and a line reports it. If a write fails, a prefix of
-//!   all texts is written, and no further dump is audited.
+//!   all texts is written, and nothing is read of the dumps after.
+//! - [`audit`]: a dump is reported as unreadable only if a read of it failed, or if 2^64 - 1 reads
+//!   gave bytes. Unless memory runs out, it has an outcome, or is refused for a fault, only if no
+//!   read failed (`specs/DumpReads`).
 //! - No index is out of range, no sum wraps, and each call ends.
 //!
 //! # What isn't proved

@@ -136,38 +136,39 @@ module _ {S R : Type 0} (outside : Environment S R) (s : S) where
   -- ---- the audit
 
   module _ (order : AuditOrder) (allowances : List Allowance) where
-    -- the binding is refused, or the dumps are audited by it
-    abbrev pub AuditsBy : Reading × Reading → List NamedReading → Writing × Writing → Writing × Writing → ℕ → Type 0
-    AuditsBy binding dumps out err status =
+    -- the binding is refused, or the dumps are audited by it, and `afters` are their readers afterwards
+    abbrev pub AuditsBy : Reading × Reading → List NamedReading → List Reading
+        → Writing × Writing → Writing × Writing → ℕ → Type 0
+    AuditsBy binding dumps afters out err status =
         RefusesBinding binding out err status
-        ⊎ AuditsByBinding (audit_options_of order allowances) binding dumps out err status
+        ⊎ AuditsByBinding (audit_options_of order allowances) binding dumps afters out err status
 
     -- the binding is refused, or the dumps are audited by it and then test cases are written at `path`
-    abbrev pub AuditsThenSaves : List ℕ → Reading × Reading → List NamedReading
+    abbrev pub AuditsThenSaves : List ℕ → Reading × Reading → List NamedReading → List Reading
         → Writing × Writing → Writing × Writing → ℕ → Type 0
-    AuditsThenSaves path binding dumps out err status =
+    AuditsThenSaves path binding dumps afters out err status =
         RefusesBinding binding out err status
         ⊎ ((said : Writing) × (first : ℕ)
-        × AuditsByBinding (audit_options_of order allowances) binding dumps out (err.0, said) first
+        × AuditsByBinding (audit_options_of order allowances) binding dumps afters out (err.0, said) first
         × SavesCases path first (said, err.1) status)
 
     -- the dumps are audited and test cases are written; but nothing is read if `path` leads to an input, or if it can't
     -- be determined which file the binding is
-    abbrev pub AuditsAndSaves : List ℕ → Reading × Reading → List NamedReading
+    abbrev pub AuditsAndSaves : List ℕ → Reading × Reading → List NamedReading → List Reading
         → Writing × Writing → Writing × Writing → ℕ → Type 0
-    AuditsAndSaves path binding dumps out err status =
+    AuditsAndSaves path binding dumps afters out err status =
         (outside.reads_file s binding.0 None × WritesAnswer (refusal_answer (CannotOpen Binding)) out err status)
         ⊎ ((id : FileId) × outside.reads_file s binding.0 (Some id)
         × ((LeadsToInput path id dumps × (out.1 ≡ out.0) × RefusesFile path (codes "is an input") 3 err status)
-        ⊎ (LeadsToNoInput path id dumps × AuditsThenSaves path binding dumps out err status)))
+        ⊎ (LeadsToNoInput path id dumps × AuditsThenSaves path binding dumps afters out err status)))
 
     -- the inputs are open: they are audited, and test cases are written if the order names a file for them
-    abbrev pub AuditsOpened : Reading × Reading → List NamedReading
+    abbrev pub AuditsOpened : Reading × Reading → List NamedReading → List Reading
         → Writing × Writing → Writing × Writing → ℕ → Type 0
-    AuditsOpened binding dumps out err status =
+    AuditsOpened binding dumps afters out err status =
         MatchOption (option_map string_bytes order.junit)
-        (AuditsBy binding dumps out err status)
-        (λ path. AuditsAndSaves path binding dumps out err status)
+        (AuditsBy binding dumps afters out err status)
+        (λ path. AuditsAndSaves path binding dumps afters out err status)
 
     -- the binding is open: each dump is opened; the first that can't be opened is reported, and nothing is read
     abbrev pub AuditsNamed : Reading × Reading → Writing × Writing → Writing × Writing → ℕ → Type 0
@@ -175,8 +176,8 @@ module _ {S R : Type 0} (outside : Environment S R) (s : S) where
         EndsForMemory out err status
         ⊎ (((name : List ℕ) × IsFirstUnopened (dump_words order) name
         × (out.1 ≡ out.0) × RefusesFile name (codes "cannot open") 3 err status)
-        ⊎ ((dumps : List NamedReading) × AllZip IsDumpOf (dump_words order) dumps
-        × AuditsOpened binding dumps out err status))
+        ⊎ ((dumps : List NamedReading) × (afters : List Reading) × AllZip IsDumpOf (dump_words order) dumps
+        × AuditsOpened binding dumps afters out err status))
 
   -- the binding is opened, and then the dumps; or memory ran out
   abbrev pub AuditsFiles : AuditOrder → Writing × Writing → Writing × Writing → ℕ → Type 0

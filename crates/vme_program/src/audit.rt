@@ -252,6 +252,7 @@ fn audit_opened<S: Environment, O: Sink, E: Sink>(
     ensures { AuditsOpened S.Environment environment.now order.now allowances.now
         (S.Reader.reading binding.old, S.Reader.reading binding.new)
         (map (λ d. record { name = d.name.now; dump = S.Reader.reading d.dump }) dumps.old)
+        (map (λ d. S.Reader.reading d.dump) dumps.new)
         (O.writing out.old, O.writing out.new) (E.writing err.old, E.writing err.new) result }
 {
     match &order.junit {
@@ -308,6 +309,7 @@ fn audit_and_save<S: Environment, O: Sink, E: Sink>(
     ensures { AuditsAndSaves S.Environment environment.now order.now allowances.now path.now
         (S.Reader.reading binding.old, S.Reader.reading binding.new)
         (map (λ d. record { name = d.name.now; dump = S.Reader.reading d.dump }) dumps.old)
+        (map (λ d. S.Reader.reading d.dump) dumps.new)
         (O.writing out.old, O.writing out.new) (E.writing err.old, E.writing err.new) result }
 {
     let Some(id) = environment.id_of(binding) else {
@@ -396,6 +398,7 @@ fn audit_then_save<S: Environment, O: Sink, E: Sink>(
     ensures { AuditsThenSaves S.Environment environment.now order.now allowances.now path.now
         (S.Reader.reading binding.old, S.Reader.reading binding.new)
         (map (λ d. record { name = d.name.now; dump = S.Reader.reading d.dump }) dumps.old)
+        (map (λ d. S.Reader.reading d.dump) dumps.new)
         (O.writing out.old, O.writing out.new) (E.writing err.old, E.writing err.new) result }
 {
     let mut suite = TestSuite::new(alloc, true);

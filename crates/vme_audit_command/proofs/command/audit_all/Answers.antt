@@ -1,8 +1,17 @@
-use Rattle.std.proofs.Common.{rules}
+use Rattle.std.proofs.Common.{refl, rules}
 use Rattle.vme_bind.proofs.PathSearchLemmas.{stepped_rest}
 use Rattle.vme_audit_command.proofs.AnswerLemmas.{options_by}
 use Rattle.vme_audit_command.proofs.SeveralLemmas.{cannot-write-next, writes-all-dumps, writes-next-dump}
+use Rattle.vme_audit_command.proofs.SeveralLemmas.{writes-no-dumps}
 use Rattle.vme_audit_command.proofs.command.audit_all.Goals as goal
+
+pub loop-named-init : goal.loop-named-init
+loop-named-init g c = record {
+  rest = refl;
+  writes = writes-no-dumps (options_by c.args.options.allowances.now c.args.options.stop c.args.options.skew
+      c.args.options.transfers c.args.options.is_quiet) c.args.bound.now (g.O.Sink.writing c.args.out.now)
+      (g.E.Sink.writing c.args.err.now);
+}
 
 pub loop-named-preserved : goal.loop-named-preserved
 loop-named-preserved g c = record {
@@ -12,7 +21,8 @@ loop-named-preserved g c = record {
       (writes-next-dump (options_by c.args.options.allowances.now c.args.options.stop c.args.options.skew
       c.args.options.transfers c.args.options.is_quiet) c.args.bound.now
       (λ d. record { name = d.name.now; dump = g.D.Source.reading d.dump }) c.loop-named.dumps
-      c.args.dumps.now c.loop-named.named-index c.named-item.result (search rules) (search rules) c.named-item.is
+      c.args.dumps.now c.loop-named.named-index c.named-item.result
+      c.audit_named-ended.new.named (search rules) (search rules) c.named-item.is
       c.loop-named.invariant.rest
       (g.O.Sink.writing c.args.out.now) (g.O.Sink.writing c.loop-named.out)
       (g.O.Sink.writing c.audit_named-ended.new.out)
@@ -27,7 +37,8 @@ returns-then-ended-eq5 g c =
     cannot-write-next (options_by c.args.options.allowances.now c.args.options.stop c.args.options.skew
     c.args.options.transfers c.args.options.is_quiet) c.args.bound.now
     (λ d. record { name = d.name.now; dump = g.D.Source.reading d.dump }) c.loop-named.dumps
-    c.args.dumps.now c.loop-named.named-index c.named-item.result (search rules) (search rules) c.named-item.is
+    c.args.dumps.now c.loop-named.named-index c.named-item.result
+    c.audit_named-ended.new.named (search rules) (search rules) c.named-item.is
     c.loop-named.invariant.rest
     (g.O.Sink.writing c.args.out.now) (g.O.Sink.writing c.loop-named.out)
     (g.O.Sink.writing c.audit_named-ended.new.out)
@@ -41,7 +52,7 @@ returns g c =
     writes-all-dumps (options_by c.args.options.allowances.now c.args.options.stop c.args.options.skew
     c.args.options.transfers c.args.options.is_quiet) c.args.bound.now
     (λ d. record { name = d.name.now; dump = g.D.Source.reading d.dump })
-    c.args.dumps.now
-    c.loop-named.named-index (search rules) c.loop-named.status
+    c.loop-named.dumps c.args.dumps.now
+    c.loop-named.named-index (search rules) (search rules) c.loop-named.status
     (g.O.Sink.writing c.args.out.now) (g.O.Sink.writing c.loop-named.out)
     (g.E.Sink.writing c.args.err.now) (g.E.Sink.writing c.loop-named.err) c.loop-named.invariant.writes

@@ -10,6 +10,7 @@ invariant-loop-named g l = record {
   writes : WritesDumps
       (options_by l.options.allowances.now l.options.stop l.options.skew l.options.transfers l.options.is_quiet) l.bound
       (map (λ d. record { name = d.name.now; dump = g.D.Source.reading d.dump }) (take l.named-index l.initial.dumps))
+      (map (λ d. g.D.Source.reading d.dump) (take l.named-index l.dumps))
       (g.O.Sink.writing l.initial.out, g.O.Sink.writing l.out) (g.E.Sink.writing l.initial.err, g.E.Sink.writing l.err)
       l.status;
 }
