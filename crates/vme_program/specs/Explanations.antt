@@ -7,7 +7,8 @@ use Rattle.vme_stream.specs.Ends.{WritesAnswer}
 use Rattle.vme_stream.specs.declared.refusal.Input.{Input}
 use Rattle.vme_stream.specs.declared.refusal.Input.TheVariants.{Binding, Dump}
 use Rattle.vme_stream.specs.declared.refusal.Refusal.TheVariants.{CannotOpen}
-use Rattle.vme_text_commands.specs.Explained.{Explains}
+use Rattle.vme_text_commands.specs.Explained.{Explains, ExplainsWith}
+use Rattle.vme_text_commands.specs.declared.explain.ExplainedFiles.{ExplainedFiles}
 use Rattle.vme_explain.specs.Saving.{is_one_file}
 use Rattle.vme_explain.specs.declared.saving.FileId.{FileId}
 use Rattle.vme_explain.specs.declared.saving.PathEntry.{PathEntry}
@@ -91,14 +92,20 @@ module _ {S R : Type 0} (outside : Environment S R) (s : S) where
         × SavesIfAsked inputs (viewer_word order) viewer first (err.0, between) so_far
         × SavesIfAsked inputs (picture_word order) picture so_far (between, err.1) status
 
-    -- the recording is explained, and then the files are written, if there is an explanation
+    -- the files of an explanation are written, each if it is wanted; there are none without an explanation
+    abbrev pub SavesGiven : InputIds → Option ExplainedFiles → ℕ → Writing × Writing → ℕ → Type 0
+    SavesGiven inputs given first err status =
+        MatchOption given
+        ((err.1 ≡ err.0) × (status ≡ first))
+        (λ files. IsPicture files.picture × SavesFiles inputs files.viewer files.picture first err status)
+
+    -- the recording is explained, and then the files of the explanation are written, if there is one
     abbrev pub ExplainsThenSaves : InputIds → Reading × Reading → Reading × Reading
         → Writing × Writing → Writing × Writing → ℕ → Type 0
     ExplainsThenSaves inputs binding dump out err status =
-        (said : Writing) × (first : ℕ) × Explains order.skew binding dump out (err.0, said) first
-        × (((err.1 ≡ said) × (status ≡ first))
-        ⊎ ((viewer picture : List ℕ) × IsPicture picture
-        × SavesFiles inputs viewer picture first (said, err.1) status))
+        (said : Writing) × (first : ℕ) × (given : Option ExplainedFiles)
+        × ExplainsWith order.skew binding dump given out (err.0, said) first
+        × SavesGiven inputs given first (said, err.1) status
 
     -- if one of the files may not be written, nothing is; else the recording is explained, and the files are written
     abbrev pub ExplainsUnlessRefused : InputIds → Reading × Reading → Reading × Reading

@@ -6,8 +6,8 @@ ghost use Rattle.vme_stream.specs.Answers.{AnswerGives, binding_read, capture_by
 ghost use Rattle.vme_stream.specs.Ends.{Ends};
 ghost use Rattle.vme_stream.specs.Texts.{line_of, verdict_text};
 ghost use Rattle.vme_stream.specs.declared.refusal.Refusal.{Refusal as Refused};
-ghost use Rattle.vme_text_commands.specs.Explained.{Explains, IsExplained, IsExplainedWhole, explained_answer_by};
-ghost use Rattle.vme_text_commands.specs.Explained.{judged_by};
+ghost use Rattle.vme_text_commands.specs.Explained.{ExplainsWith, IsExplained, IsExplainedWhole};
+ghost use Rattle.vme_text_commands.specs.Explained.{explained_answer_by, explained_files, judged_by};
 ghost use Rattle.vme_text_commands.specs.ExplainedDumps.{GivesAccount, judged_whole, or_too_long, short_read};
 ghost use Rattle.vme_text_commands.specs.Refused.{HasRefusalPage};
 ghost use Rattle.vme_commands.specs.Settled.{settled_judgement};
@@ -76,8 +76,8 @@ pub fn explain<B: Source, D: Source, O: Sink, E: Sink>(
     out: &mut O,
     err: &mut E,
 ) -> (u8, Option<ExplainedFiles>)
-    ensures told { Explains skew
-        (B.reading binding.old, B.reading binding.new) (D.reading dump.old, D.reading dump.new)
+    ensures told { ExplainsWith skew
+        (B.reading binding.old, B.reading binding.new) (D.reading dump.old, D.reading dump.new) result.1
         (O.writing out.old, O.writing out.new) (E.writing err.old, E.writing err.new) result.0 }
     ensures drawn { IfSome result.1 (λ files. IsPicture files.picture) }
 {
@@ -97,6 +97,7 @@ fn tell_explained<O: Sink, E: Sink>(
 ) -> (u8, Option<ExplainedFiles>)
     ensures told { (more : List ℕ) × HasRefusalPage made more × Ends (explained_answer_by more made)
         (O.writing out.old, O.writing out.new) (E.writing err.old, E.writing err.new) result.0 }
+    ensures files { result.1 ≡ explained_files made }
     ensures drawn { IsExplained made → IfSome result.1 (λ files. IsPicture files.picture) }
 {
     match made {

@@ -15,8 +15,9 @@
 //!
 //! # What is proved
 //!
-//! - `explain` begins with the line that `check` writes, and has its status (`Explains`); what it
-//!   draws is a picture (`drawn`).
+//! - `explain` begins with the line that `check` writes, and has its status (`Explains`). It returns
+//!   the files of its explanation, and none after a refusal (`ExplainsWith`); what it draws is a
+//!   picture (`drawn`).
 //! - `bind` writes only a binding that makes a recording of that dump (`IsBindingFor`).
 //! - `faults` writes exactly the page of a kind, or the pages of all (`ArePages`).
 //! - After the line of a refusal `explain`, `bind` and `variables` write exactly the page of its

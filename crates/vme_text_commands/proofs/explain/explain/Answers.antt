@@ -13,6 +13,7 @@ returns-clause-told g c =
       given,
       c.explained_from-told.ensures.begins,
       has_more,
+      c.tell_explained.ensures.files,
       ends,
     )
 
