@@ -1,2 +1,3 @@
+mod LateMarks
 mod MarkedWays
 mod MarkedFiles

@@ -1,29 +1,37 @@
 -- The marks of the files of a recording, from the first on.
 use Rattle.std.proofs.Common.{◌≡◌, ℕ, ◌+◌, ◌<◌, ◌≤◌, ◌^◌, Bool, true, List, [], ◌∷◌, ◌++◌, length, length-append, map}
-use Rattle.std.proofs.Common.{take, drop}
+use Rattle.std.proofs.Common.{inl, inr, ◌-◌, append_assoc, take, drop}
 use Rattle.std.proofs.Common.{get_or, refl, ap, sym, subst, ◌∙◌, arith, Option, Some, None}
-use Rattle.std.specs.Prelude.{Err, Ok, false}
+use Rattle.std.specs.Prelude.{Err, IfErr, Ok, Result, false}
+use Rattle.std.specs.Option.{option_map}
+use Rattle.std.proofs.Math.Seq.{take-add}
 use Rattle.std.proofs.lemmas.List.{drop_all, length-map}
 use Rattle.std.proofs.lemmas.List.Elements.{All-contains, All-head, All-tail}
+use Rattle.std.proofs.lemmas.Nat.{pow_pos}
 use Rattle.vme_trace.specs.Blocks.{joined_steps}
 use Rattle.vme_trace.specs.Levels.{Levels}
 use Rattle.vme_trace.specs.Trace.{Trace, levels_after}
 use Rattle.vme_trace.specs.WellFormed.{malformed_step}
 use Rattle.vme_trace.specs.declared.block.Block.{Block}
 use Rattle.vme_trace.specs.declared.step.Step.{Step}
+use Rattle.vme_monitor.specs.declared.mark.Mark.{Mark}
 use Rattle.vme_summary.specs.AllShown.{all_marks}
 use Rattle.vme_summary.specs.Extents.{joined_extent}
-use Rattle.vme_summary.specs.Joins.{joined_trace}
+use Rattle.vme_summary.specs.Joins.{BlocksJoin, joined_trace}
+use Rattle.vme_summary.specs.Summaries.{first_break_of}
 use Rattle.vme_summary.specs.declared.extent.Extent.{Extent}
 use Rattle.vme_summary.proofs.Chains.{steps-append}
 use Rattle.vme_summary.proofs.Extents.{join_meets, left_by_steps}
 use Rattle.vme_summary.proofs.Whole.{joined_sound}
 use Rattle.vme_part_format.specs.Tables.{PartValue, SegmentValue, last_of, segment_value}
 use Rattle.vme_part_format.specs.declared.segment.Segment.{Segment}
+use Rattle.vme_part_format.specs.declared.wide.WideBreak.{WideBreak}
+use Rattle.vme_part_tables.specs.Runs.{break_of}
 use Rattle.vme_parts.specs.Covering.{AreNext}
 use Rattle.vme_parts.specs.Files.{AllStand, AreFiles, files_of}
-use Rattle.vme_part_listing.specs.Marks.{HasMarks, ListsFiles, ShowsFiles, marks_of_ways}
-use Rattle.vme_parts.specs.Progress.{HasJudgedFiles, TellsAll}
+use Rattle.vme_part_listing.specs.Late.{HasLateMark}
+use Rattle.vme_part_listing.specs.Marks.{HasMarks, ListsFiles, ShowLate, ShowsFiles, marks_of_ways}
+use Rattle.vme_parts.specs.Progress.{FoundAll, HasJudgedFiles, StopsAt, TellsAll}
 use Rattle.vme_parts.specs.Stands.{SegmentStandsFor, extent_of}
 use Rattle.vme_part_listing.specs.Listings.{DeterminesListingAnswer}
 use Rattle.vme_parts.specs.Telling.{JudgesFiles}
@@ -31,6 +39,8 @@ use Rattle.vme_part_listing.specs.declared.answers.ListingAnswer.{ListingAnswer}
 use Rattle.vme_part_listing.specs.declared.answers.ListingAnswer.TheVariants as listed
 use Rattle.vme_parts.specs.declared.answers.RecordingAnswer.{RecordingAnswer}
 use Rattle.vme_parts.specs.declared.judged_segments.JudgedSegments.{JudgedSegments}
+use Rattle.vme_parts.specs.declared.judged_segments.JudgingFault.{JudgingFault}
+use Rattle.vme_parts.specs.declared.judged_segments.JudgingFault.TheVariants as stop
 use Rattle.vme_part_listing.specs.declared.listing.Ways.{Ways}
 use Rattle.vme_part_listing.proofs.MarkedWays.{opened_so}
 use Rattle.vme_parts.proofs.SegmentLemmas.{tells_all}
@@ -69,9 +79,73 @@ marks_first j begun w s ss small judged none past =
           );
     }
 
+-- the first of some blocks that join join, too
+front_joins : (xs ys : List Block) → BlocksJoin (xs ++ ys) → BlocksJoin xs
+front_joins xs ys j =
+    record {
+      follow = λ before after a b e.
+          j.follow before (after ++ ys) a b (ap (λ l. l ++ ys) e ∙ append_assoc before (a ∷ b ∷ after) ys);
+    }
+
+next_behind : (n : ℕ) (ss : List SegmentValue) (end : ℕ) → AreNext n ss end → n ≤ end
+next_behind n [] end a = omega (arith, a)
+next_behind n (s ∷ ss) end a =
+    omega (arith, a.0, pow_pos s.order, next_behind (last_of s.first s.order + 1) ss end a.1)
+
+-- if the files bs, ys and `rest` follow one another, and 64 bits count their steps, judging doesn't stop at ys
+goes_past : (bs ys rest : List Block) (why : JudgingFault) → BlocksJoin ((bs ++ ys) ++ rest)
+    → length (joined_steps ((bs ++ ys) ++ rest)) < 2 ^ 64 → StopsAt bs ys why → ⊥
+goes_past bs ys rest (stop.Torn k) joins small t =
+    let behind : (bs ++ ys) ++ rest ≡ ((bs ++ t.front) ++ t.torn ∷ []) ++ (t.back ++ rest) =
+    ap (λ zs. (bs ++ zs) ++ rest) t.parts
+    ∙ (append_assoc bs (t.front ++ t.torn ∷ t.back) rest
+    ∙ (ap (λ zs. bs ++ zs) (append_assoc t.front (t.torn ∷ t.back) rest)
+    ∙ (sym (append_assoc bs t.front (t.torn ∷ (t.back ++ rest)))
+    ∙ sym (append_assoc (bs ++ t.front) (t.torn ∷ []) (t.back ++ rest))))) in
+    t.there (front_joins ((bs ++ t.front) ++ t.torn ∷ []) (t.back ++ rest) (subst BlocksJoin behind joins))
+goes_past bs ys rest stop.TooManySteps joins small many =
+    absurd (omega (
+      arith,
+      many.1,
+      small,
+      ap (λ (z : List Step). length z) (steps-append (bs ++ ys) rest),
+      length-append (joined_steps (bs ++ ys)) (joined_steps rest),
+    ))
+
 module _ (j : JudgedSegments) (w : Ways) (s : SegmentValue) (xs : List Segment) (i : ℕ) (x : Segment)
     (h : i < length xs) (e : x ≡ get_or xs i x)
     (was : MarksTo j w s (map segment_value xs) (drop i (map segment_value xs))) where
+  -- judging doesn't stop at a segment of files that follow one another and have few steps
+  pub stops_late : {A : Type 0} (r : Result A JudgingFault) (why : JudgingFault) → r ≡ Err why
+      → IfErr r (λ (fault : JudgingFault). (listing : Bool) (e : Extent) (bs ys : List Block) → HasJudgedFiles j e bs
+      → SegmentStandsFor listing (segment_value x) ys → x.first ≡ e.last + 1 → StopsAt bs ys fault)
+      → ShowLate (s ∷ map segment_value xs)
+  stops_late {A} r why stopped stops files end are stand next t made few joins small =
+      let P : SegmentValue → Type 0 = λ s. SegmentStandsFor true s (files_of files s) in
+      let c = was.come files end are stand next in
+      let n = c.0 in
+      let to = subst (λ (left : List SegmentValue). AreNext n left end) (drop_value xs i x h e) c.2 in
+      let v = segment_value x in
+      let p = All-contains P (map segment_value xs) v (All-tail P s (map segment_value xs) stand)
+      (contained_at xs i x h e) in
+      let bs = take n files in
+      let ys = files_of files v in
+      let m = last_of x.first x.order + 1 in
+      let rest = take (end - m) (drop m files) in
+      let low : m ≤ end = next_behind m (drop (i + 1) (map segment_value xs)) end to.1 in
+      let size : m + (end - m) ≡ end = omega (arith, low) in
+      let whole : take end files ≡ (bs ++ ys) ++ rest =
+      ap (λ (k : ℕ). take k files) (sym size)
+      ∙ (take-add m (end - m) files ∙ ap (λ (zs : List Block). zs ++ rest) (sym (files_more files n v to.0))) in
+      let stops_there : (listing : Bool) (e : Extent) (bs ys : List Block) → HasJudgedFiles j e bs
+      → SegmentStandsFor listing v ys → x.first ≡ e.last + 1 → StopsAt bs ys why =
+      subst (λ (q : Result A JudgingFault). IfErr q (λ (fault : JudgingFault). (listing : Bool) (e : Extent)
+      (bs ys : List Block) → HasJudgedFiles j e bs → SegmentStandsFor listing v ys → x.first ≡ e.last + 1
+      → StopsAt bs ys fault)) stopped stops in
+      absurd (goes_past bs ys rest why (subst BlocksJoin whole joins)
+      (subst (λ (zs : List Block). length (joined_steps zs) < 2 ^ 64) whole small)
+      (stops_there true c.1.extent bs ys c.1.judged p (to.0 ∙ sym c.1.last)))
+
   pub marks_on : (r : JudgedSegments) (v : Ways) → r.steps < 2 ^ 64
       → ((listing : Bool) (e : Extent) (bs ys : List Block) → HasJudgedFiles j e bs
       → SegmentStandsFor listing (segment_value x) ys → x.first ≡ e.last + 1
@@ -144,6 +218,32 @@ marks_whole j w s xs i h law was files end are stand next t is few =
       opens,
     )
 
+-- if no segments are left, and a mark of the runs comes too late, so does one of the recording
+pub late_whole : (o : Levels) (ss : List SegmentValue) (ms : List Mark) → ShowsFiles o ss ms → HasLateMark ms
+    → ShowLate ss
+late_whole o ss ms shows late files end are stand next t is few joins small =
+    subst HasLateMark (shows files end are stand next t is few).0 late
+
+no_recording : (t : Trace) → None ≡ Some t → ⊥
+no_recording t e = absurd (cc)
+
+-- without segments there is no recording
+pub none_listed : (j : JudgedSegments) → ListsFiles j [] listed.TooLong
+none_listed j files end are stand next e was t is all =
+    absurd (no_recording t (subst (λ (n : ℕ). joined_trace (take n files) ≡ Some t) next is))
+
+-- a recording whose first break or a mark comes too late is too long for a listing
+pub late_break : (j : JudgedSegments) (ss : List SegmentValue) (found : Option WideBreak) (b : WideBreak)
+    → ((t : Trace) → FoundAll j.states t → option_map break_of found ≡ first_break_of t) → found ≡ Some b
+    → 2 ^ 32 ≤ b.instant → ListsFiles j ss listed.TooLong
+late_break j ss found b first e late files end are stand next f was t is all =
+    inl (break_of b, sym (first t all) ∙ ap (option_map break_of) e, late)
+
+pub late_mark : (j : JudgedSegments) (ss : List SegmentValue) → j.steps < 2 ^ 64 → ShowLate ss
+    → ListsFiles j ss listed.TooLong
+late_mark j ss small late files end are stand next f was t is all =
+    inr (late files end are stand next t is all.few was.extent.join (omega (arith, small, was.counted)))
+
 -- if all files are judged, an answer by `ListsFiles` is true
 pub listing_told : (p : PartValue) (count : Option ℕ) (j : JudgedSegments) (what : ListingAnswer) → p.listing ≡ true
     → JudgesFiles p count (Ok j) → ListsFiles j p.segments what → DeterminesListingAnswer p count what
@@ -159,7 +259,16 @@ listing_told p count j (listed.Listing l) marked judges lists files n are part h
       ),
     )
 listing_told p count j listed.TooLong marked judges lists files n are part has =
-    let r = judges files n are part has in (r.0, marked)
+    let r = judges files n are part has in (
+      r.0,
+      marked,
+      (
+        r.2.1.extent.join,
+        λ t is.
+            lists files n are (subst (λ (b : Bool). AllStand b files p.segments) marked part.stands) r.1 r.2.0 r.2.1 t
+            is (found_all j r.2.0 (take n files) t r.2.1 r.2.2 is),
+      ),
+    )
 listing_told p count j listed.Unmarked marked judges lists files n are part has = absurd lists
 listing_told p count j (listed.Refused what) marked judges lists files n are part has = absurd lists
 

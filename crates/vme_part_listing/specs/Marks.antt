@@ -1,5 +1,6 @@
 -- The marks of the monitors' runs through segments.
-use Rattle.std.specs.Prelude.{◌≡◌, ℕ, ◌<◌, ◌≤◌, List, map, take, Some, true}
+use Rattle.std.specs.Prelude.{◌≡◌, ℕ, ◌^◌, ◌<◌, ◌≤◌, List, length, map, take, Some, true}
+use Rattle.vme_trace.specs.Blocks.{joined_steps}
 use Rattle.vme_trace.specs.Levels.{Levels}
 use Rattle.vme_trace.specs.Trace.{Trace}
 use Rattle.vme_trace.specs.declared.block.Block.{Block}
@@ -18,10 +19,12 @@ use Rattle.vme_chains.specs.GrantRules.{grant_begin}
 use Rattle.vme_chains.specs.AcknowledgeRules.{acknowledge_begin, acknowledge_memory_place}
 use Rattle.vme_listing.specs.Recorded.{listing_of}
 use Rattle.vme_summary.specs.AllShown.{all_marks}
-use Rattle.vme_summary.specs.Joins.{joined_trace}
+use Rattle.vme_summary.specs.Joins.{BlocksJoin, joined_trace}
+use Rattle.vme_summary.specs.declared.extent.Extent.{Extent}
 use Rattle.vme_summary.specs.Runs.{known_run, handshake_run, stability_run, grant_run, acknowledge_run}
 use Rattle.vme_part_format.specs.Tables.{SegmentValue}
 use Rattle.vme_part_tables.specs.Runs.{mark_of}
+use Rattle.vme_part_listing.specs.Late.{HasLateMark, IsTooLongToList}
 use Rattle.vme_part_listing.specs.declared.answers.ListingAnswer.{ListingAnswer}
 use Rattle.vme_part_listing.specs.declared.answers.ListingAnswer.TheVariants as listed
 use Rattle.vme_parts.specs.declared.judged_segments.JudgedSegments.{JudgedSegments}
@@ -29,7 +32,7 @@ use Rattle.vme_part_listing.specs.declared.listing.Way.{Way}
 use Rattle.vme_part_listing.specs.declared.listing.Ways.{Ways}
 use Rattle.vme_parts.specs.Covering.{AreNext}
 use Rattle.vme_parts.specs.Files.{AllStand, AreFiles}
-use Rattle.vme_parts.specs.Progress.{FoundAll}
+use Rattle.vme_parts.specs.Progress.{FoundAll, HasJudgedFiles}
 
 -- w is the run, over the steps x, of a monitor that began at the opening o: its memory and its marks
 pub record HasWay {P : Type 0} (run : P → Levels → List Step → Outcome P) (begin : Levels → P) (place : P → ℕ) (w : Way)
@@ -70,12 +73,23 @@ ShowsFiles o ss ms =
     → (t : Trace) → joined_trace (take end files) ≡ Some t → t.opening.slots ≤ 21
     → (ms ≡ all_marks t) × (o ≡ t.opening)
 
+-- whichever files the segments ss stand for, if these follow one another and 64 bits count their steps, then a mark of
+-- the recording that they make comes too late for a listing
+abbrev pub ShowLate : List SegmentValue → Type 0
+ShowLate ss =
+    (files : List Block) (end : ℕ) → AreFiles files → AllStand true files ss → AreNext 0 ss end
+    → (t : Trace) → joined_trace (take end files) ≡ Some t → t.opening.slots ≤ 21 → BlocksJoin (take end files)
+    → length (joined_steps (take end files)) < 2 ^ 64 → HasLateMark (all_marks t)
+
 -- whichever files the segments ss stand for, a listing is that of the recording that these make, where j is the state
--- after judging them; of `TooLong` nothing is said, and there is no other answer
+-- after judging them; or this recording is too long for a listing, and there is no other answer
 abbrev pub ListsFiles : JudgedSegments → List SegmentValue → ListingAnswer → Type 0
 ListsFiles j ss (listed.Listing l) =
     (files : List Block) (end : ℕ) → AreFiles files → AllStand true files ss → AreNext 0 ss end
     → (t : Trace) → joined_trace (take end files) ≡ Some t → FoundAll j.states t → listing_of t ≡ l
 ListsFiles j ss (listed.Refused what) = ⊥
 ListsFiles j ss listed.Unmarked = ⊥
-ListsFiles j ss listed.TooLong = Unit {0}
+ListsFiles j ss listed.TooLong =
+    (files : List Block) (end : ℕ) → AreFiles files → AllStand true files ss → AreNext 0 ss end
+    → (e : Extent) → HasJudgedFiles j e (take end files)
+    → (t : Trace) → joined_trace (take end files) ≡ Some t → FoundAll j.states t → IsTooLongToList t

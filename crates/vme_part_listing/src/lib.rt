@@ -9,7 +9,8 @@
 //! # What is proved
 //!
 //! If a part is of the files of a recording, the listing is that of this recording, and an answer in
-//! its place is true (`DeterminesListingAnswer`).
+//! its place is true (`DeterminesListingAnswer`). A recording is too long for a listing only if its
+//! first break or one of its marks comes after instant 4,294,967,295 (`IsTooLongToList`).
 //!
 //! # What isn't proved
 //!

@@ -1,18 +1,20 @@
 //! The listing from a part with marks.
 
 ghost use Rattle.std.specs.Prelude.{◌≡◌, ◌+◌, ◌<◌, ◌++◌, ◌∷◌, [], ◌^◌, All, IfOk, IfSome, List, OnOk, length, map};
-ghost use Rattle.std.specs.Prelude.{true};
+ghost use Rattle.std.specs.Prelude.{◌≤◌, None, Some, true};
 ghost use Rattle.std.specs.Option.{option_map};
 ghost use Rattle.vme_trace.specs.Levels.{Levels};
 ghost use Rattle.vme_trace.specs.Trace.{levels_after};
 ghost use Rattle.vme_trace.specs.declared.step.Step.{Step};
 ghost use Rattle.vme_part_format.specs.Bounds.{FitsPart};
+ghost use Rattle.vme_part_format.specs.declared.wide.WideBreak.{WideBreak};
 ghost use Rattle.vme_part_format.specs.Tables.{part_value, segment_value, table_value};
 ghost use Rattle.vme_part_tables.specs.Runs.{break_of, mark_of};
 ghost use Rattle.vme_part_tables.specs.Ways.{later_mark, outcome_in};
 ghost use Rattle.vme_parts.specs.Buddies.{HasTables};
 ghost use Rattle.vme_parts.specs.Gathering.{IsSegment};
-ghost use Rattle.vme_part_listing.specs.Marks.{FitWays, HasMarks, ListsFiles, ShowsFiles, marks_of_ways};
+ghost use Rattle.vme_part_listing.specs.Late.{HasLateMark};
+ghost use Rattle.vme_part_listing.specs.Marks.{FitWays, HasMarks, ListsFiles, ShowLate, ShowsFiles, marks_of_ways};
 ghost use Rattle.vme_parts.specs.Progress.{FitStates, TellsAll};
 ghost use Rattle.vme_part_listing.specs.Listings.{DeterminesListingAnswer};
 
@@ -34,7 +36,8 @@ use vme_trace::{Break, Lines};
 
 /// The mark with an instant of 32 bits, if its instant fits.
 fn narrow_mark(mark: &WideMark) -> Option<Mark>
-    ensures { IfSome result (λ m. m ≡ mark_of mark.now) }
+    ensures same { IfSome result (λ m. m ≡ mark_of mark.now) }
+    ensures late { result ≡ None → 2 ^ 32 ≤ mark.now.instant }
 {
     match u32::try_from(mark.instant) {
         Ok(instant) => Some(Mark {
@@ -47,7 +50,8 @@ fn narrow_mark(mark: &WideMark) -> Option<Mark>
 
 /// The marks with instants of 32 bits, if all instants fit.
 fn narrow(alloc: Global, marks: &[WideMark]) -> Result<Option<Vec<Mark>>, AllocError>
-    ensures { IfOk result (λ found. IfSome found (λ v. v.items ≡ map mark_of marks.now)) }
+    ensures same { IfOk result (λ found. IfSome found (λ v. v.items ≡ map mark_of marks.now)) }
+    ensures late { IfOk result (λ found. found ≡ None → HasLateMark (map mark_of marks.now)) }
 {
     let mut all = Vec::with_capacity(alloc, marks.len())?;
     for mark in marks {
@@ -61,7 +65,8 @@ fn narrow(alloc: Global, marks: &[WideMark]) -> Result<Option<Vec<Mark>>, AllocE
 
 /// The break, if there is one, with an instant of 32 bits, if its instant fits.
 fn narrow_break(found: Option<WideBreak>) -> Option<Option<Break>>
-    ensures { IfSome result (λ b. b ≡ option_map break_of found) }
+    ensures same { IfSome result (λ b. b ≡ option_map break_of found) }
+    ensures late { result ≡ None → (b : WideBreak) × (found ≡ Some b) × (2 ^ 32 ≤ b.instant) }
 {
     match found {
         None => Some(None),
@@ -97,6 +102,14 @@ impl Way {
         let (memory, _) = follow(table, self.memory);
         self.memory = memory;
         Ok(())
+    }
+
+    /// The marks with instants of 32 bits, if all instants fit.
+    fn narrow_marks(&self, alloc: Global) -> Result<Option<Vec<Mark>>, AllocError>
+        ensures same { IfOk result (λ found. IfSome found (λ v. v.items ≡ map mark_of self.now.marks.items)) }
+        ensures late { IfOk result (λ found. found ≡ None → HasLateMark (map mark_of self.now.marks.items)) }
+    {
+        narrow(alloc, self.marks.as_slice())
     }
 }
 
@@ -157,21 +170,22 @@ impl Ways {
 
     /// The marks of all monitors, in order, if their instants fit in 32 bits.
     fn together(self, alloc: Global) -> Result<Option<Vec<Mark>>, AllocError>
-        ensures { IfOk result (λ found. IfSome found (λ v. v.items ≡ marks_of_ways self)) }
+        ensures same { IfOk result (λ found. IfSome found (λ v. v.items ≡ marks_of_ways self)) }
+        ensures late { IfOk result (λ found. found ≡ None → HasLateMark (marks_of_ways self)) }
     {
-        let Some(known) = narrow(alloc, self.known.marks.as_slice())? else {
+        let Some(known) = self.known.narrow_marks(alloc)? else {
             return Ok(None);
         };
-        let Some(handshake) = narrow(alloc, self.handshake.marks.as_slice())? else {
+        let Some(handshake) = self.handshake.narrow_marks(alloc)? else {
             return Ok(None);
         };
-        let Some(stability) = narrow(alloc, self.stability.marks.as_slice())? else {
+        let Some(stability) = self.stability.narrow_marks(alloc)? else {
             return Ok(None);
         };
-        let Some(grant) = narrow(alloc, self.grant.marks.as_slice())? else {
+        let Some(grant) = self.grant.narrow_marks(alloc)? else {
             return Ok(None);
         };
-        let Some(acknowledge) = narrow(alloc, self.acknowledge.marks.as_slice())? else {
+        let Some(acknowledge) = self.acknowledge.narrow_marks(alloc)? else {
             return Ok(None);
         };
         let chains = marks_together(alloc, grant, acknowledge)?;
@@ -198,8 +212,10 @@ fn marks_from(
 ) -> Result<Option<Vec<Mark>>, AllocError>
     requires first { IsSegment (segment_value first.now) }
     requires rest { All IsSegment (map segment_value rest.now) }
-    ensures { IfOk result (λ found. IfSome found
+    ensures shows { IfOk result (λ found. IfSome found
         (λ v. ShowsFiles first.now.opening (segment_value first.now ∷ map segment_value rest.now) v.items)) }
+    ensures late { IfOk result (λ found. found ≡ None
+        → ShowLate (segment_value first.now ∷ map segment_value rest.now)) }
 {
     known_over_recordings();
     handshake_over_recordings();
@@ -236,6 +252,8 @@ fn listing_from(
     ensures { IfOk result (λ what.
         ListsFiles judging.now (segment_value first.now ∷ map segment_value rest.now) what) }
 {
+    // the steps fit in 64 bits
+    let _steps = step_count(judging);
     let Some(first_break) = narrow_break(judging.states.first_break()) else {
         return Ok(ListingAnswer::TooLong);
     };

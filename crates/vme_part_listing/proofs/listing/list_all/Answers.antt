@@ -1,5 +1,12 @@
-use Rattle.std.proofs.Common.{arith}
-use Rattle.vme_parts.proofs.Ordering.{rest_segments, segment_at}
+use Rattle.std.proofs.Common.{◌≡◌, List, [], arith, map, subst, sym}
+use Rattle.std.specs.Prelude.{IfOk}
+use Rattle.std.proofs.lemmas.List.{nil_from_length}
+use Rattle.vme_part_format.specs.Tables.{SegmentValue, segment_value}
+use Rattle.vme_part_format.specs.declared.segment.Segment.{Segment}
+use Rattle.vme_part_listing.specs.Marks.{ListsFiles}
+use Rattle.vme_part_listing.specs.declared.answers.ListingAnswer.TheVariants as listed
+use Rattle.vme_part_listing.proofs.MarkedFiles.{none_listed}
+use Rattle.vme_parts.proofs.Ordering.{first_and_rest, rest_segments, segment_at}
 use Rattle.vme_part_listing.proofs.listing.list_all.Goals as goal
 
 pub listing_from-requires-clause-first : goal.listing_from-requires-clause-first
@@ -9,3 +16,15 @@ listing_from-requires-clause-first c =
 
 pub listing_from-requires-clause-rest : goal.listing_from-requires-clause-rest
 listing_from-requires-clause-rest c = rest_segments c.args.segments.now c.requires.segments
+
+pub returns-in-len1-up : goal.returns-in-len1-up
+returns-in-len1-up c =
+    subst (λ (ss : List SegmentValue). IfOk c.listing_from.result (λ what. ListsFiles c.args.judging.now ss what))
+    (first_and_rest c.args.segments.now c.first-item.result (omega (arith, c.in-len1-up.len_at_least)) c.first-item.is)
+    c.listing_from.ensures
+
+pub returns-in-empty : goal.returns-in-empty
+returns-in-empty c =
+    let none : c.args.segments.now ≡ [] = nil_from_length c.args.segments.now (omega (arith, c.in-empty.len_below)) in
+    subst (λ (xs : List Segment). ListsFiles c.args.judging.now (map segment_value xs) listed.TooLong) (sym none)
+    (none_listed c.args.judging.now)

@@ -1,12 +1,14 @@
-use Rattle.std.proofs.Common.{◌<◌, length, map, sym, subst, ◌∙◌, ◌∷◌, arith, List}
+use Rattle.std.proofs.Common.{◌≡◌, ◌<◌, length, map, sym, subst, ◌∙◌, ◌∷◌, arith, List, None, Option}
+use Rattle.std.specs.Global.{Vec}
 use Rattle.std.proofs.lemmas.Option.{IfSome_then}
 use Rattle.std.proofs.lemmas.Result.{IfOk-weaker}
 use Rattle.vme_monitor.specs.declared.mark.Mark.{Mark}
 use Rattle.vme_summary.specs.Runs.{known_run, handshake_run, stability_run, grant_run, acknowledge_run}
 use Rattle.vme_summary.proofs.Together.{marks_of_all}
 use Rattle.vme_part_format.specs.Tables.{segment_value}
-use Rattle.vme_part_listing.specs.Marks.{ShowsFiles}
-use Rattle.vme_part_listing.proofs.MarkedFiles.{marks_first, marks_on, marks_whole}
+use Rattle.vme_part_listing.specs.Late.{HasLateMark}
+use Rattle.vme_part_listing.specs.Marks.{ShowLate, ShowsFiles, marks_of_ways}
+use Rattle.vme_part_listing.proofs.MarkedFiles.{late_whole, marks_first, marks_on, marks_whole, stops_late}
 use Rattle.vme_parts.proofs.Ordering.{segment_at}
 use Rattle.vme_part_listing.proofs.listing.marks_from.Goals as goal
 
@@ -52,6 +54,8 @@ pub returns : goal.returns
 unfolding known_run handshake_run stability_run grant_run acknowledge_run
 returns c =
     let s = segment_value c.args.first.now in
+    let ss = s ∷ map segment_value c.args.rest.now in
+    let ms = marks_of_ways c.loop-segment.ways in
     let whole = marks_whole c.loop-segment.judging c.loop-segment.ways s c.args.rest.now c.loop-segment.segment-index
     (omega (arith, c.loop-segment-test.false))
     (λ t sound few has.
@@ -61,7 +65,21 @@ returns c =
     (has.grant.marks ∙ c.grants_over_recordings.ensures.marks t sound few)
     (has.acknowledge.marks ∙ c.acknowledge_over_recordings.ensures.marks t sound few))
     c.loop-segment.invariant.come in
-    IfOk-weaker c.together.result _ _
-    (λ found given. IfSome_then found given
-    (λ v e. subst (λ (ms : List Mark). ShowsFiles s.opening (s ∷ map segment_value c.args.rest.now) ms) (sym e) whole))
-    c.together.ensures
+    let P : Option (Vec Mark) → Type 0 = λ found. found ≡ None → HasLateMark ms in
+    let Q : Option (Vec Mark) → Type 0 = λ found. found ≡ None → ShowLate ss in
+    record {
+      shows = IfOk-weaker c.together.result _ _
+          (λ found given. IfSome_then found given
+          (λ v e. subst (λ (zs : List Mark). ShowsFiles s.opening ss zs) (sym e) whole))
+          c.together.ensures.same;
+      late = IfOk-weaker c.together.result P Q
+          (λ found given none. late_whole s.opening ss ms whole (given none)) c.together.ensures.late;
+    }
+
+pub returns-in-Err-clause-late : goal.returns-in-Err-clause-late
+returns-in-Err-clause-late c =
+    λ none.
+    let lt : c.loop-segment.segment-index < length c.args.rest.now = omega arith in
+    stops_late c.loop-segment.judging c.loop-segment.ways (segment_value c.args.first.now) c.args.rest.now
+    c.loop-segment.segment-index c.segment-item.result lt c.segment-item.is c.loop-segment.invariant.come
+    c.go_past-in-loop-segment.result _ c.in-Err.is c.go_past-in-loop-segment.ensures.stops
