@@ -1,4 +1,4 @@
-use Rattle.vme_find.proofs.ConstantTextLemmas.{binds-constants, pushed-is}
+use Rattle.vme_find.proofs.ConstantTextLemmas.{binds-constants, pushed-is_whole_text}
 use Rattle.vme_find.proofs.constants.constant_text.Goals as goal
 
 pub returns : goal.returns
@@ -10,5 +10,5 @@ returns c =
       c.in_ok-push.ensures.ok,
       c.new-text.ensures,
       c.from.ensures,
-      pushed-is c.args.slots,
+      pushed-is_whole_text c.args.slots,
     ) (binds-constants c.args.slots c.requires.0 c.requires.1)
