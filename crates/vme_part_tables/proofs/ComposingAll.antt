@@ -4,7 +4,7 @@ use Rattle.vme_part_format.specs.Tables.{TableValue}
 use Rattle.vme_part_tables.specs.Composed.{CanCompose, table_on}
 use Rattle.vme_part_tables.specs.Pruned.{IsPruned}
 use Rattle.vme_part_tables.specs.Runs.{IsComposition}
-use Rattle.vme_part_tables.proofs.Composing.{composed_count, composed_memories, composed_says}
+use Rattle.vme_part_tables.proofs.Composing.{composed_count, composed_memories, outcome_in-composed}
 use Rattle.vme_part_tables.proofs.Fitting.{composed_fits}
 
 pub both_pruned : (a b : TableValue) (steps : ℕ) → CanCompose a b → (u : TableValue) → IsPruned (table_on a b steps) u
@@ -16,5 +16,5 @@ both_pruned a b steps c u p =
       ways = p.ways;
       fits = λ listing count more small f g.
           p.fits listing count (steps + more) (composed_fits steps more small listing count a b f g c);
-      outcomes = λ k. p.outcomes k ∙ composed_says a b steps c k;
+      outcomes = λ k. p.outcomes k ∙ outcome_in-composed a b steps c k;
     }

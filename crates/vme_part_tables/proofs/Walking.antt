@@ -17,34 +17,39 @@ use Rattle.vme_part_tables.specs.Composed.{later_node}
 other_number : (w m : ℕ) → m < w → eqb w m ≡ false
 other_number w m h = grind (arith, nat_tests)
 
+-- a way below m is a memory, in which the run ends
 pub run_from_memory : (m : ℕ) (ns : List NodeValue) (w : ℕ) → w < m → run_from m ns w ≡ ended_in w
 run_from_memory m [] w h = refl
 run_from_memory m (n ∷ ns) w h = rw (lt-ltb w m h) refl
 
+-- the way m is the first node
 pub run_from_here : (m : ℕ) (n : NodeValue) (ns : List NodeValue)
     → run_from m (n ∷ ns) m ≡ with_marks_before n.marks (with_break_before n.first_break (run_from m ns n.next))
 run_from_here m n ns = rw (le-ltb m m (omega arith), eq-eqb m m refl) refl
 
+-- a way above m skips the first node
 pub run_from_past : (m : ℕ) (n : NodeValue) (ns : List NodeValue) (w : ℕ) → m < w
     → run_from m (n ∷ ns) w ≡ run_from m ns (w - 1)
 run_from_past m n ns w h = rw (le-ltb w m (omega arith), other_number w m h) refl
 
--- a way past the nodes fs gives the same outcome as without them
-pub run_from_over : (m : ℕ) (fs ns : List NodeValue) (w : ℕ) → m ≤ w
+-- the way past the nodes fs that w is without them has the same outcome
+pub run_from_append : (m : ℕ) (fs ns : List NodeValue) (w : ℕ) → m ≤ w
     → run_from m (fs ++ ns) (w + length fs) ≡ run_from m ns w
-run_from_over m [] ns w h = let e : w + 0 ≡ w = omega arith in ap (run_from m ns) e
-run_from_over m (f ∷ fs) ns w h =
+run_from_append m [] ns w h = let e : w + 0 ≡ w = omega arith in ap (run_from m ns) e
+run_from_append m (f ∷ fs) ns w h =
     let e : w + suc (length fs) - 1 ≡ w + length fs = omega arith in
     run_from_past m f (fs ++ ns) (w + suc (length fs)) (omega arith)
-    ∙ (ap (run_from m (fs ++ ns)) e ∙ run_from_over m fs ns w h)
+    ∙ (ap (run_from m (fs ++ ns)) e ∙ run_from_append m fs ns w h)
 
-pub later_behind : (by : ℕ) (ms : List WideMark) (ev : Option WideBreak) (r : WideOutcome)
+-- marks and a break that are `by` later, before an outcome that is `by` later
+pub later_outcome-with_both : (by : ℕ) (ms : List WideMark) (ev : Option WideBreak) (r : WideOutcome)
     → with_marks_before (map (later_mark by) ms)
     (with_break_before (option_map (later_break by) ev) (later_outcome by r))
     ≡ later_outcome by (with_marks_before ms (with_break_before ev r))
-later_behind by ms None r = rw map-append refl
-later_behind by ms (Some b) r = rw map-append refl
+later_outcome-with_both by ms None r = rw map-append refl
+later_outcome-with_both by ms (Some b) r = rw map-append refl
 
+-- the outcome of a run through nodes that are `by` later is `by` later
 pub run_from_later : (m by : ℕ) (ns : List NodeValue) (w : ℕ)
     → run_from m (map (later_node by) ns) w ≡ later_outcome by (run_from m ns w)
 run_from_later m by [] w = refl
@@ -58,7 +63,7 @@ run_from_later m by (n ∷ ns) w = by_order (run_from_later m by ns) w (cases_or
         ∙ (ap (λ r. with_marks_before (map (later_mark by) n.marks)
         (with_break_before (option_map (later_break by) n.first_break)
         r)) (more n.next)
-        ∙ (later_behind by n.marks n.first_break (run_from m ns n.next)
+        ∙ (later_outcome-with_both by n.marks n.first_break (run_from m ns n.next)
         ∙ sym (ap (later_outcome by) (run_from_here m n ns)))))
     by_order more w (inr (inl h)) =
         run_from_memory m (later_node by n ∷ map (later_node by) ns) w h
