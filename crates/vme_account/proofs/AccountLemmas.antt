@@ -39,7 +39,7 @@ use Rattle.vme_auditor.proofs.AskedParts.{KnowsStart, known_left, quiet_memories
 use Rattle.vme_auditor.proofs.FirstBreaks.{named_is_least, named_on}
 use Rattle.vme_auditor.proofs.ReturnedBreaks.{FindsFirst}
 use Rattle.vme_auditor.proofs.WholeRecordings.{first_determines_verdict, first_is}
-use Rattle.vme_account.proofs.ReachedLemmas.{after_fault, at, found_stays, reached-first, reached-marks}
+use Rattle.vme_account.proofs.ReachedLemmas.{after_fault, unbroken_at, found_stays, reached-first, reached-marks}
 use Rattle.vme_account.specs.UnendedRows.{open_row}
 use Rattle.vme_account.specs.StepsReached.{StepsReached, reached, with_step}
 use Rattle.vme_account.specs.RowCounts.{one_if}
@@ -76,8 +76,8 @@ later o n m ms s f =
 
 -- if no break is found, the monitors' memories are those after all steps
 quiet-reached : (x : List Step) (o : Levels) (n : ℕ) (m : Memories) (ms : List Mark)
-    → (fold with_step (at o n m ms) x).found ≡ None
-    → (fold with_step (at o n m ms) x).memories ≡ quiet_memories m o x
+    → (fold with_step (unbroken_at o n m ms) x).found ≡ None
+    → (fold with_step (unbroken_at o n m ms) x).memories ≡ quiet_memories m o x
 unfolding quiet_memories
 quiet-reached [] o n m ms none = refl
 quiet-reached (s ∷ x) o n m ms none =

@@ -1,4 +1,4 @@
--- The last instant of an event, and the first one since another event, after one more instant.
+-- How the last instant of an event, and its first one since another event, change with one more instant.
 use Rattle.std.proofs.Common.{◌≡◌, ◌+◌, ◌<◌, ◌≤◌, ◌&&◌, ◌||◌, ℕ, zero, suc, Bool, true, false, cond, inl, inr, refl, ap}
 use Rattle.std.proofs.Common.{◌∙◌, add-one, arith}
 use Rattle.std.specs.Prelude.{Option, None, Some, is_some, nat_le, unwrap_or, if◌then◌else◌}
@@ -7,63 +7,72 @@ use Rattle.std.proofs.lemmas.Bool.{cases_Bool, lt-leb}
 use Rattle.vme_trace.specs.Instants.{any, greatest, least}
 use Rattle.vme_trace.proofs.Ranges.{any-least, least-none, greatest-step, greatest-below}
 
+-- the first of the numbers from f to n that has `p` is the first below n, if there is one, or else n
 least-step : (p : ℕ → Bool) (f n : ℕ) → least p f (n + 1) ≡ (if any p f n then least p f n else if nat_le f n
     && p n then Some n else None)
 unfolding least
 least-step p f n = rw add-one refl
 
-any-some : (p : ℕ → Bool) (f n : ℕ) → any p f n ≡ is_some (least p f n)
-any-some p f n =
+-- a number from f to below n has `p` if and only if there is a first one
+any-is_some_least : (p : ℕ → Bool) (f n : ℕ) → any p f n ≡ is_some (least p f n)
+any-is_some_least p f n =
     elim (cases_Bool (any p f n)) [
       | inl found ↦ let at = any-least p f n found in rw (found, at.1) refl
       | inr none ↦ rw (none, least-none p f n none) refl
     ]
 
-pub least-nowhere : (p : ℕ → Bool) (f n : ℕ) → n ≤ f → least p f n ≡ None
+-- no number from f to below n has `p` if n is at most f
+pub least-empty_range : (p : ℕ → Bool) (f n : ℕ) → n ≤ f → least p f n ≡ None
 unfolding least any
-least-nowhere p f n le = least-none p f n (none_from n le)
+least-empty_range p f n le = least-none p f n (none_from n le)
   where
     none_from : (n : ℕ) → n ≤ f → any p f n ≡ false
     none_from zero le = refl
     none_from (suc n) le = rw (none_from n (omega (arith, le)), lt-leb f n le) refl
 
-from_first : (s i : ℕ) → s ≤ i → nat_le (s + 1) (i + 1) ≡ true
-from_first s i le = grind (arith, nat_tests)
+-- the next instant, i + 1, is not before s + 1, the first judged instant
+s_next_le : (s i : ℕ) → s ≤ i → nat_le (s + 1) (i + 1) ≡ true
+s_next_le s i le = grind (arith, nat_tests)
 
--- the last instant up to the next one, if the event happens there, or doesn't
-pub last-now : (p : ℕ → Bool) (s i : ℕ) → s ≤ i → p (i + 1) ≡ true → greatest p (s + 1) (i + 1 + 1) ≡ Some (i + 1)
-last-now p s i le now = greatest-step p (s + 1) (i + 1) ∙ rw (from_first s i le, now) refl
+-- where `p` happens at the instant i + 1, this is its last instant so far
+pub greatest-at_next : (p : ℕ → Bool) (s i : ℕ) → s ≤ i → p (i + 1) ≡ true → greatest p (s + 1) (i + 1 + 1)
+    ≡ Some (i + 1)
+greatest-at_next p s i le now = greatest-step p (s + 1) (i + 1) ∙ rw (s_next_le s i le, now) refl
 
-pub last-before : (p : ℕ → Bool) (s i : ℕ) → p (i + 1) ≡ false → greatest p (s + 1) (i + 1 + 1)
+-- where `p` doesn't happen at the instant i + 1, its last instant is that up to i
+pub greatest-not_at_next : (p : ℕ → Bool) (s i : ℕ) → p (i + 1) ≡ false → greatest p (s + 1) (i + 1 + 1)
     ≡ greatest p (s + 1) (i + 1)
-last-before p s i none = greatest-step p (s + 1) (i + 1) ∙ rw none (by_test (nat_le (s + 1) (i + 1)))
+greatest-not_at_next p s i none = greatest-step p (s + 1) (i + 1) ∙ rw none (by_test (nat_le (s + 1) (i + 1)))
   where
     by_test : (b : Bool) → cond (b && false) (Some (i + 1)) (greatest p (s + 1) (i + 1))
         ≡ greatest p (s + 1) (i + 1)
     by_test true = refl
     by_test false = refl
 
--- ---- the first one since something else
+-- ---- the first instant of an event since another event
 
--- the last instant of `q` up to `i`, or else the first judged instant
+-- the last instant of `q` from s + 1, the first judged instant, up to `i`; without one, s + 1
 abbrev pub since_last : (ℕ → Bool) → ℕ → ℕ → ℕ
 since_last q s i = unwrap_or (greatest q (s + 1) (i + 1)) (s + 1)
 
-since_within : (q : ℕ → Bool) (s i : ℕ) → s ≤ i → since_last q s i ≤ i + 1
-since_within q s i le = by_case (greatest q (s + 1) (i + 1)) refl
+-- `since_last` is at most i + 1
+since_last-le : (q : ℕ → Bool) (s i : ℕ) → s ≤ i → since_last q s i ≤ i + 1
+since_last-le q s i le = by_case (greatest q (s + 1) (i + 1)) refl
   where
     by_case : (o : Option ℕ) → greatest q (s + 1) (i + 1) ≡ o → unwrap_or o (s + 1) ≤ i + 1
     by_case None e = omega (arith, le)
     by_case (Some n) e = let less = greatest-below q (s + 1) (i + 1) n e in omega (arith, less)
 
 module _ (p q : ℕ → Bool) (s i : ℕ) (le : s ≤ i) where
+  -- the first instant of `p`, up to n, from `since_last q s n` on
   abbrev first_since : ℕ → Option ℕ
   first_since n = least p (since_last q s n) (n + 1)
 
   -- if `q` happens at the next instant, `p` is searched from there on
   pub since-now : q (i + 1) ≡ true → first_since (i + 1) ≡ (if p (i + 1) then Some (i + 1) else None)
   since-now now =
-      let here : since_last q s (i + 1) ≡ i + 1 = ap (λ (o : Option ℕ). unwrap_or o (s + 1)) (last-now q s i le now) in
+      let here : since_last q s (i + 1) ≡ i + 1 = ap (λ (o : Option ℕ). unwrap_or o (s + 1))
+      (greatest-at_next q s i le now) in
       ap (λ (f : ℕ). least p f (i + 1 + 1)) here ∙ least-step p (i + 1) (i + 1)
       ∙ rw (none_before, from_itself (i + 1)) refl
     where
@@ -71,22 +80,22 @@ module _ (p q : ℕ → Bool) (s i : ℕ) (le : s ≤ i) where
       from_itself n = grind (arith, nat_tests)
 
       none_before : any p (i + 1) (i + 1) ≡ false
-      none_before = any-some p (i + 1) (i + 1) ∙ ap is_some (least-nowhere p (i + 1) (i + 1) (omega arith))
+      none_before = any-is_some_least p (i + 1) (i + 1) ∙ ap is_some (least-empty_range p (i + 1) (i + 1) (omega arith))
 
   -- otherwise the first `p` since `q` stays, if there is one
   pub since-before : q (i + 1) ≡ false → first_since (i + 1)
       ≡ (if is_some (first_since i) then first_since i else if p (i + 1) then Some (i + 1) else None)
   since-before none =
       let same : since_last q s (i + 1) ≡ since_last q s i =
-      ap (λ (o : Option ℕ). unwrap_or o (s + 1)) (last-before q s i none) in
+      ap (λ (o : Option ℕ). unwrap_or o (s + 1)) (greatest-not_at_next q s i none) in
       let f = since_last q s i in
       ap (λ (f : ℕ). least p f (i + 1 + 1)) same ∙ least-step p f (i + 1)
-      ∙ rw (any-some p f (i + 1), reached f (since_within q s i le)) refl
+      ∙ rw (any-is_some_least p f (i + 1), reached f (since_last-le q s i le)) refl
     where
       reached : (f : ℕ) → f ≤ i + 1 → nat_le f (i + 1) ≡ true
       reached f le = grind (arith, nat_tests)
 
--- ---- the last of two
+-- ---- the last instant of either of two events
 
 -- the later of two instants
 abbrev pub later_instant : Option ℕ → Option ℕ → Option ℕ
@@ -94,6 +103,7 @@ later_instant None o = o
 later_instant (Some a) None = Some a
 later_instant (Some a) (Some b) = if nat_le a b then Some b else Some a
 
+-- the last instant of `p` or `q` is the later one of their last instants
 pub greatest-either : (p q : ℕ → Bool) (f n : ℕ) → greatest (λ i. p i || q i) f n
     ≡ later_instant (greatest p f n) (greatest q f n)
 unfolding greatest

@@ -16,7 +16,7 @@ use Rattle.vme_trace.specs.declared.level.Level.TheVariants.{High, Low, Unknown}
 use Rattle.vme_trace.specs.declared.step.Change.{Change}
 use Rattle.vme_trace.proofs.Changing.{level-kept, slots-kept}
 use Rattle.vme_trace.proofs.Ranges.{greatest-empty}
-use Rattle.vme_account.proofs.EventLemmas.{last-before, last-now, least-nowhere}
+use Rattle.vme_account.proofs.EventLemmas.{greatest-not_at_next, greatest-at_next, least-empty_range}
 use Rattle.vme_account.proofs.EventLemmas.{since-before, since-now}
 use Rattle.vme_account.specs.LastEvents.{AreLast, first_or, handshake_after, last_after, moment, moment_at, no_events}
 use Rattle.vme_account.specs.LastEvents.{noted, now_or, unless}
@@ -152,8 +152,8 @@ module _ (t : Trace) (s i : ℕ) (le : s ≤ i) where
   last_next : (e : StepEvent) (b : Bool) → now e ≡ b
       → moment t (greatest (happens t e) (s + 1) (i + 1 + 1))
       ≡ now_or b (moment_at t (i + 1)) (moment t (greatest (happens t e) (s + 1) (i + 1)))
-  last_next e true is = ap (moment t) (last-now (happens t e) s i le is)
-  last_next e false is = ap (moment t) (last-before (happens t e) s i is)
+  last_next e true is = ap (moment t) (greatest-at_next (happens t e) s i le is)
+  last_next e false is = ap (moment t) (greatest-not_at_next (happens t e) s i is)
 
   -- the first instant of `p` since `q`
   abbrev found : StepEvent → StepEvent → Option ℕ
@@ -313,7 +313,7 @@ last-none t s = record {
 
     first_nowhere : (p q : StepEvent) → moment t (least (happens t p) (since t q s s) (s + 1)) ≡ None
     first_nowhere p q = ap (λ (f : ℕ). moment t (least (happens t p) f (s + 1))) (since_nothing t q s)
-        ∙ ap (moment t) (least-nowhere (happens t p) (s + 1) (s + 1) (omega arith))
+        ∙ ap (moment t) (least-empty_range (happens t p) (s + 1) (s + 1) (omega arith))
 
 -- ---- taking a step
 

@@ -23,6 +23,7 @@ use Rattle.vme_account.specs.StepsReached.{StepsReached, judged, passed, reached
 
 -- ---- one more step
 
+-- what is reached after one more step
 pub reached-more : (o : Levels) (x : List Step) (s : Step) → reached o (x ++ s ∷ []) ≡ with_step (reached o x) s
 unfolding reached
 reached-more o x s = more x (reached_at o)
@@ -33,19 +34,21 @@ reached-more o x s = more x (reached_at o)
 
 -- ---- breaks
 
-fault_moved : (n time : ℕ) (f : Option Fault) → option_map (break_of_fault (n + 1) time) f
+-- the break of a fault at the instant n + 1 is that of the fault at instant 1, n later
+break_of_fault-shifted : (n time : ℕ) (f : Option Fault) → option_map (break_of_fault (n + 1) time) f
     ≡ option_map (shifted_break n) (option_map (break_of_fault 1 time) f)
-fault_moved n time None = refl
-fault_moved n time (Some f) = ap
+break_of_fault-shifted n time None = refl
+break_of_fault-shifted n time (Some f) = ap
     (λ (i : ℕ). Some (record { instant = i; time = time; rule = f.rule; line = f.line })) (turned n)
   where
     turned : (n : ℕ) → n + 1 ≡ 1 + n
     turned n = omega arith
 
-twice_moved : (n : ℕ) (b : Option Break) → option_map (shifted_break (n + 1)) b
+-- 1 later and then n later is n + 1 later
+shifted_break-twice : (n : ℕ) (b : Option Break) → option_map (shifted_break (n + 1)) b
     ≡ option_map (shifted_break n) (option_map (shifted_break 1) b)
-twice_moved n None = refl
-twice_moved n (Some b) = ap
+shifted_break-twice n None = refl
+shifted_break-twice n (Some b) = ap
     (λ (i : ℕ). Some (record { instant = i; time = b.time; rule = b.rule; line = b.line })) (joined b.instant n)
   where
     joined : (i n : ℕ) → i + (n + 1) ≡ i + 1 + n
@@ -55,6 +58,7 @@ twice_moved n (Some b) = ap
 abbrev IsAfterOpening : Option Break → Type 0
 IsAfterOpening b = IfSome b (λ b. 1 ≤ b.instant)
 
+-- the first break of some steps is after the opening
 first_is_after_opening : (x : List Step) (m : Memories) (o : Levels) → IsAfterOpening (first_break_from m o x)
 unfolding first_break_from
 first_is_after_opening [] m o = tt
@@ -70,33 +74,36 @@ first_is_after_opening (s ∷ x) m o =
 
 -- ---- marks
 
-kinds_moved : (n : ℕ) (ks : List MarkKind) → map (mark_at (n + 1)) ks ≡ map (shifted_mark n) (map (mark_at 1) ks)
-kinds_moved n [] = refl
-kinds_moved n (k ∷ ks) =
+-- marks at the instant n + 1 are those at instant 1, n later
+mark_at-shifted : (n : ℕ) (ks : List MarkKind) → map (mark_at (n + 1)) ks ≡ map (shifted_mark n) (map (mark_at 1) ks)
+mark_at-shifted n [] = refl
+mark_at-shifted n (k ∷ ks) =
     ap (λ (i : ℕ). mark_at i k ∷ map (mark_at (n + 1)) ks) (turned n)
-    ∙ ap (λ (ms : List Mark). mark_at (1 + n) k ∷ ms) (kinds_moved n ks)
+    ∙ ap (λ (ms : List Mark). mark_at (1 + n) k ∷ ms) (mark_at-shifted n ks)
   where
     turned : (n : ℕ) → n + 1 ≡ 1 + n
     turned n = omega arith
 
-marks_moved : (n : ℕ) (ms : List Mark) → map (shifted_mark (n + 1)) ms
+-- marks that are 1 later and then n later are n + 1 later
+shifted_mark-twice : (n : ℕ) (ms : List Mark) → map (shifted_mark (n + 1)) ms
     ≡ map (shifted_mark n) (map (shifted_mark 1) ms)
-marks_moved n [] = refl
-marks_moved n (m ∷ ms) =
+shifted_mark-twice n [] = refl
+shifted_mark-twice n (m ∷ ms) =
     ap (λ (i : ℕ). mark_at i m.kind ∷ map (shifted_mark (n + 1)) ms) (joined m.instant n)
-    ∙ ap (λ (ms : List Mark). mark_at (m.instant + 1 + n) m.kind ∷ ms) (marks_moved n ms)
+    ∙ ap (λ (ms : List Mark). mark_at (m.instant + 1 + n) m.kind ∷ ms) (shifted_mark-twice n ms)
   where
     joined : (i n : ℕ) → i + (n + 1) ≡ i + 1 + n
     joined i n = omega arith
 
 -- the marks before an instant
 
-before_shifted : (n : ℕ) (ms : List Mark) → marks_before (n + 1) (map (shifted_mark 1) ms)
+-- the marks before n, 1 later, are those before n + 1 of the marks that are 1 later
+marks_before-shifted : (n : ℕ) (ms : List Mark) → marks_before (n + 1) (map (shifted_mark 1) ms)
     ≡ map (shifted_mark 1) (marks_before n ms)
-before_shifted n [] = refl
-before_shifted n (m ∷ ms) =
+marks_before-shifted n [] = refl
+marks_before-shifted n (m ∷ ms) =
     ap (λ (b : Bool). if b then (shifted_mark 1 m ∷ marks_before (n + 1) (map (shifted_mark 1) ms)) else [])
-    (less_next m.instant n) ∙ by_test (before_shifted n ms) (nat_lt m.instant n)
+    (less_next m.instant n) ∙ by_test (marks_before-shifted n ms) (nat_lt m.instant n)
   where
     less_next : (i n : ℕ) → nat_lt (i + 1) (n + 1) ≡ nat_lt i n
     less_next i n = grind (arith, nat_tests)
@@ -107,35 +114,37 @@ before_shifted n (m ∷ ms) =
     by_test so_far true = ap (λ (rest : List Mark). shifted_mark 1 m ∷ rest) so_far
     by_test so_far false = refl
 
-none_before : (ks : List MarkKind) (ms : List Mark)
+-- no mark of a step, or of the steps after it, is before the instant 1
+marks_before-instant_1 : (ks : List MarkKind) (ms : List Mark)
     → marks_before 1 (map (mark_at 1) ks ++ map (shifted_mark 1) ms) ≡ []
-none_before (k ∷ ks) ms = refl
-none_before [] [] = refl
-none_before [] (m ∷ ms) =
+marks_before-instant_1 (k ∷ ks) ms = refl
+marks_before-instant_1 [] [] = refl
+marks_before-instant_1 [] (m ∷ ms) =
     ap (λ (b : Bool). if b then (shifted_mark 1 m ∷ marks_before 1 (map (shifted_mark 1) ms)) else [])
     (not_before m.instant)
   where
     not_before : (i : ℕ) → nat_lt (i + 1) 1 ≡ false
     not_before i = grind (arith, nat_tests)
 
-kinds_before : (n : ℕ) (ks : List MarkKind) (ms : List Mark) → 1 ≤ n
+-- all marks at the instant 1 are before the instant n + 1
+marks_before-after_1 : (n : ℕ) (ks : List MarkKind) (ms : List Mark) → 1 ≤ n
     → marks_before (n + 1) (map (mark_at 1) ks ++ ms) ≡ map (mark_at 1) ks ++ marks_before (n + 1) ms
-kinds_before n [] ms le = refl
-kinds_before n (k ∷ ks) ms le =
+marks_before-after_1 n [] ms le = refl
+marks_before-after_1 n (k ∷ ks) ms le =
     ap (λ (b : Bool). if b then (mark_at 1 k ∷ marks_before (n + 1) (map (mark_at 1) ks ++ ms)) else [])
-    (is_before n le) ∙ ap (λ (rest : List Mark). mark_at 1 k ∷ rest) (kinds_before n ks ms le)
+    (is_before n le) ∙ ap (λ (rest : List Mark). mark_at 1 k ∷ rest) (marks_before-after_1 n ks ms le)
   where
     is_before : (n : ℕ) → 1 ≤ n → nat_lt 1 (n + 1) ≡ true
     is_before n le = grind (arith, nat_tests, le)
 
--- the marks that are listed, after a step without a break
+-- the marks that are listed after a step without a break: its own, of the kinds `ks`, and those of the later steps
 listed_after_step : (ks : List MarkKind) (b : Option Break) (ms : List Mark) → IsAfterOpening b
     → marks_listed (option_map (shifted_break 1) b) (map (mark_at 1) ks ++ map (shifted_mark 1) ms)
     ≡ map (mark_at 1) ks ++ map (shifted_mark 1) (marks_listed b ms)
 listed_after_step ks None ms behind = refl
 listed_after_step ks (Some b) ms behind =
-    kinds_before b.instant ks (map (shifted_mark 1) ms) behind
-    ∙ ap (λ (ms : List Mark). map (mark_at 1) ks ++ ms) (before_shifted b.instant ms)
+    marks_before-after_1 b.instant ks (map (shifted_mark 1) ms) behind
+    ∙ ap (λ (ms : List Mark). map (mark_at 1) ks ++ ms) (marks_before-shifted b.instant ms)
 
 -- ---- some steps
 
@@ -147,27 +156,29 @@ found_stays (s ∷ x) r b is =
     ap (λ (f : Option Break). (fold with_step (if is_some f then passed r s else judged r s) x).found) is
     ∙ found_stays x (passed r s) b is
 
+-- once a break is found, no marks are added
 marks_stay : (x : List Step) (r : StepsReached) (b : Break) → r.found ≡ Some b → (fold with_step r x).marks ≡ r.marks
 marks_stay [] r b is = refl
 marks_stay (s ∷ x) r b is =
     ap (λ (f : Option Break). (fold with_step (if is_some f then passed r s else judged r s) x).marks) is
     ∙ marks_stay x (passed r s) b is
 
-abbrev pub at : Levels → ℕ → Memories → List Mark → StepsReached
-at o n m ms = record { levels = o; instant = n; memories = m; found = None; marks = ms }
+-- what is reached at the instant n, with levels o, memories m, marks ms and no break
+abbrev pub unbroken_at : Levels → ℕ → Memories → List Mark → StepsReached
+unbroken_at o n m ms = record { levels = o; instant = n; memories = m; found = None; marks = ms }
 
--- what is reached after a step, by its break, if any
+-- what is reached with the break `f`, if any; the step's marks, `shown`, count only without one
 abbrev pub after_fault : Levels → ℕ → Memories → List Mark → List Mark → Option Break → StepsReached
 after_fault o n m ms shown f =
     record { levels = o; instant = n; memories = m; found = f; marks = if is_some f then ms else ms ++ shown }
 
--- a step, by the break and the marks that the monitors show
+-- the step s, from levels o and memories m, by the fault and the marks that the monitors show
 module _ (s : Step) (o : Levels) (m : Memories) where
-  abbrev next : Levels
-  next = changed o s.changes
+  abbrev new_levels : Levels
+  new_levels = changed o s.changes
 
-  abbrev later : Memories
-  later = memories_next m o (changed o s.changes) s.changes
+  abbrev new_memories : Memories
+  new_memories = memories_next m o (changed o s.changes) s.changes
 
   abbrev kinds : List MarkKind
   kinds = kinds_shown m o (changed o s.changes) s.changes
@@ -175,98 +186,115 @@ module _ (s : Step) (o : Levels) (m : Memories) where
   abbrev fault : Option Fault
   fault = first_fault_of m o (changed o s.changes) s.changes
 
-  abbrev found_then : ℕ → List Mark → Option Break → StepsReached
-  found_then n ms f = after_fault next (n + 1) later ms (map (mark_at (n + 1)) kinds) f
+  -- what is reached after the step, which is at the instant n + 1 and makes the break `f`, if any
+  abbrev after_step : ℕ → List Mark → Option Break → StepsReached
+  after_step n ms f = after_fault new_levels (n + 1) new_memories ms (map (mark_at (n + 1)) kinds) f
 
   -- the first break of a step and of the steps after it
   abbrev first_with : Option Fault → List Step → Option Break
   first_with f x = earlier (option_map (break_of_fault 1 s.time) f)
-      (option_map (shifted_break 1) (first_break_from later next x))
+      (option_map (shifted_break 1) (first_break_from new_memories new_levels x))
 
-  found_by : (x : List Step) (n : ℕ) (ms : List Mark)
-      → (fold with_step (at next (n + 1) later (ms ++ map (mark_at (n + 1)) kinds)) x).found
-      ≡ option_map (shifted_break (n + 1)) (first_break_from later next x) → (f : Option Fault)
-      → (fold with_step (found_then n ms (option_map (shifted_break n) (option_map (break_of_fault 1 s.time) f)))
+  -- if the steps `x` after this one have the break that `first-found` gives, so have this step, with the fault `f`, and
+  -- `x`
+  found-with_step : (x : List Step) (n : ℕ) (ms : List Mark)
+      → (fold with_step (unbroken_at new_levels (n + 1) new_memories (ms ++ map (mark_at (n + 1)) kinds)) x).found
+      ≡ option_map (shifted_break (n + 1)) (first_break_from new_memories new_levels x) → (f : Option Fault)
+      → (fold with_step (after_step n ms (option_map (shifted_break n) (option_map (break_of_fault 1 s.time) f)))
       x).found
       ≡ option_map (shifted_break n) (first_with f x)
-  found_by x n ms rest (Some f) =
-      found_stays x (found_then n ms (Some (shifted_break n (break_of_fault 1 s.time f))))
+  found-with_step x n ms rest (Some f) =
+      found_stays x (after_step n ms (Some (shifted_break n (break_of_fault 1 s.time f))))
       (shifted_break n (break_of_fault 1 s.time f)) refl
-  found_by x n ms rest None = rest ∙ twice_moved n (first_break_from later next x)
+  found-with_step x n ms rest None = rest ∙ shifted_break-twice n (first_break_from new_memories new_levels x)
 
-  marks_by : (x : List Step) (n : ℕ) (ms : List Mark)
-      → (fold with_step (at next (n + 1) later (ms ++ map (mark_at (n + 1)) kinds)) x).marks
+  -- if the steps `x` after this one have the marks that `marks-found` gives, so have this step, with the fault `f`, and
+  -- `x`
+  marks-with_step : (x : List Step) (n : ℕ) (ms : List Mark)
+      → (fold with_step (unbroken_at new_levels (n + 1) new_memories (ms ++ map (mark_at (n + 1)) kinds)) x).marks
       ≡ (ms ++ map (mark_at (n + 1)) kinds)
-      ++ map (shifted_mark (n + 1)) (marks_listed (first_break_from later next x) (joined_marks later next x))
+      ++ map (shifted_mark (n + 1)) (marks_listed (first_break_from new_memories new_levels x)
+      (joined_marks new_memories new_levels x))
       → (f : Option Fault)
-      → (fold with_step (found_then n ms (option_map (shifted_break n) (option_map (break_of_fault 1 s.time) f)))
+      → (fold with_step (after_step n ms (option_map (shifted_break n) (option_map (break_of_fault 1 s.time) f)))
       x).marks
       ≡ ms ++ map (shifted_mark n) (marks_listed (first_with f x)
-      (map (mark_at 1) kinds ++ map (shifted_mark 1) (joined_marks later next x)))
-  marks_by x n ms rest (Some f) =
-      marks_stay x (found_then n ms (Some (shifted_break n (break_of_fault 1 s.time f))))
+      (map (mark_at 1) kinds ++ map (shifted_mark 1) (joined_marks new_memories new_levels x)))
+  marks-with_step x n ms rest (Some f) =
+      marks_stay x (after_step n ms (Some (shifted_break n (break_of_fault 1 s.time f))))
       (shifted_break n (break_of_fault 1 s.time f)) refl
       ∙ (sym (append-nil ms)
-      ∙ ap (λ (l : List Mark). ms ++ map (shifted_mark n) l) (sym (none_before kinds (joined_marks later next x))))
-  marks_by x n ms rest None =
-      let more : List Mark = marks_listed (first_break_from later next x) (joined_marks later next x) in
+      ∙ ap (λ (l : List Mark). ms ++ map (shifted_mark n) l) (sym
+      (marks_before-instant_1 kinds (joined_marks new_memories new_levels x))))
+  marks-with_step x n ms rest None =
+      let more : List Mark = marks_listed (first_break_from new_memories new_levels x)
+      (joined_marks new_memories new_levels x) in
       rest
       ∙ (append_assoc ms (map (mark_at (n + 1)) kinds) (map (shifted_mark (n + 1)) more)
-      ∙ (ap (λ (l : List Mark). ms ++ (l ++ map (shifted_mark (n + 1)) more)) (kinds_moved n kinds)
-      ∙ (ap (λ (l : List Mark). ms ++ (map (shifted_mark n) (map (mark_at 1) kinds) ++ l)) (marks_moved n more)
+      ∙ (ap (λ (l : List Mark). ms ++ (l ++ map (shifted_mark (n + 1)) more)) (mark_at-shifted n kinds)
+      ∙ (ap (λ (l : List Mark). ms ++ (map (shifted_mark n) (map (mark_at 1) kinds) ++ l)) (shifted_mark-twice n more)
       ∙ (ap (λ (l : List Mark). ms ++ l)
       (sym (map-append (shifted_mark n) (map (mark_at 1) kinds) (map (shifted_mark 1) more)))
       ∙ ap (λ (l : List Mark). ms ++ map (shifted_mark n) l)
-      (sym (listed_after_step kinds (first_break_from later next x) (joined_marks later next x)
-      (first_is_after_opening x later next)))))))
+      (sym (listed_after_step kinds (first_break_from new_memories new_levels x)
+      (joined_marks new_memories new_levels x)
+      (first_is_after_opening x new_memories new_levels)))))))
 
+-- from the instant n on, the break found in the steps `x` is their first break, n later
 pub first-found : (x : List Step) (o : Levels) (n : ℕ) (m : Memories) (ms : List Mark)
-    → (fold with_step (at o n m ms) x).found ≡ option_map (shifted_break n) (first_break_from m o x)
+    → (fold with_step (unbroken_at o n m ms) x).found ≡ option_map (shifted_break n) (first_break_from m o x)
 unfolding first_break_from
 first-found [] o n m ms = refl
 first-found (s ∷ x) o n m ms =
-    ap (λ (f : Option Break). (fold with_step (found_then s o m n ms f) x).found)
-    (fault_moved n s.time (fault s o m))
-    ∙ found_by s o m x n ms
-    (first-found x (next s o m) (n + 1) (later s o m) (ms ++ map (mark_at (n + 1)) (kinds s o m))) (fault s o m)
+    ap (λ (f : Option Break). (fold with_step (after_step s o m n ms f) x).found)
+    (break_of_fault-shifted n s.time (fault s o m))
+    ∙ found-with_step s o m x n ms
+    (first-found x (new_levels s o m) (n + 1) (new_memories s o m) (ms ++ map (mark_at (n + 1)) (kinds s o m)))
+    (fault s o m)
 
+-- from the instant n on, the marks after `ms` are those listed of the steps `x`, n later
 pub marks-found : (x : List Step) (o : Levels) (n : ℕ) (m : Memories) (ms : List Mark)
-    → (fold with_step (at o n m ms) x).marks
+    → (fold with_step (unbroken_at o n m ms) x).marks
     ≡ ms ++ map (shifted_mark n) (marks_listed (first_break_from m o x) (joined_marks m o x))
 unfolding first_break_from joined_marks
 marks-found [] o n m ms = sym (append-nil ms)
 marks-found (s ∷ x) o n m ms =
-    ap (λ (f : Option Break). (fold with_step (found_then s o m n ms f) x).marks)
-    (fault_moved n s.time (fault s o m))
-    ∙ marks_by s o m x n ms
-    (marks-found x (next s o m) (n + 1) (later s o m) (ms ++ map (mark_at (n + 1)) (kinds s o m))) (fault s o m)
+    ap (λ (f : Option Break). (fold with_step (after_step s o m n ms f) x).marks)
+    (break_of_fault-shifted n s.time (fault s o m))
+    ∙ marks-with_step s o m x n ms
+    (marks-found x (new_levels s o m) (n + 1) (new_memories s o m) (ms ++ map (mark_at (n + 1)) (kinds s o m)))
+    (fault s o m)
 
 -- ---- a whole recording
 
-none_shifted : (b : Option Break) → option_map (shifted_break 0) b ≡ b
-none_shifted None = refl
-none_shifted (Some b) = ap (λ (i : ℕ). Some (record { instant = i; time = b.time; rule = b.rule; line = b.line }))
+-- a break that is 0 later is the same
+shifted_break-zero : (b : Option Break) → option_map (shifted_break 0) b ≡ b
+shifted_break-zero None = refl
+shifted_break-zero (Some b) = ap (λ (i : ℕ). Some (record { instant = i; time = b.time; rule = b.rule; line = b.line }))
     (no_more b.instant)
   where
     no_more : (i : ℕ) → i + 0 ≡ i
     no_more i = omega arith
 
-marks_shifted-zero : (ms : List Mark) → map (shifted_mark 0) ms ≡ ms
-marks_shifted-zero [] = refl
-marks_shifted-zero (m ∷ ms) = ap (λ (i : ℕ). mark_at i m.kind ∷ map (shifted_mark 0) ms) (no_more m.instant)
-    ∙ ap (λ (ms : List Mark). m ∷ ms) (marks_shifted-zero ms)
+-- marks that are 0 later are the same
+shifted_mark-zero : (ms : List Mark) → map (shifted_mark 0) ms ≡ ms
+shifted_mark-zero [] = refl
+shifted_mark-zero (m ∷ ms) = ap (λ (i : ℕ). mark_at i m.kind ∷ map (shifted_mark 0) ms) (no_more m.instant)
+    ∙ ap (λ (ms : List Mark). m ∷ ms) (shifted_mark-zero ms)
   where
     no_more : (i : ℕ) → i + 0 ≡ i
     no_more i = omega arith
 
+-- the break that is reached after all steps is their first one
 pub reached-first : (o : Levels) (x : List Step) → (reached o x).found ≡ first_break_from (memories_at o) o x
 unfolding reached
 reached-first o x = first-found x o 0 (memories_at o) (opening_marks o)
-    ∙ none_shifted (first_break_from (memories_at o) o x)
+    ∙ shifted_break-zero (first_break_from (memories_at o) o x)
 
+-- the marks that are reached are those of the opening and those listed of the steps
 pub reached-marks : (o : Levels) (x : List Step) → (reached o x).marks
     ≡ opening_marks o ++ marks_listed (first_break_from (memories_at o) o x) (joined_marks (memories_at o) o x)
 unfolding reached
 reached-marks o x = marks-found x o 0 (memories_at o) (opening_marks o)
     ∙ ap (λ (ms : List Mark). opening_marks o ++ ms)
-    (marks_shifted-zero (marks_listed (first_break_from (memories_at o) o x) (joined_marks (memories_at o) o x)))
+    (shifted_mark-zero (marks_listed (first_break_from (memories_at o) o x) (joined_marks (memories_at o) o x)))

@@ -9,8 +9,8 @@ use Rattle.vme_trace.specs.Instants.{greatest, least}
 use Rattle.vme_trace.specs.LineNumbers.{AS, DS0, DS1, DTACK, grant, line_count}
 use Rattle.vme_trace.specs.Trace.{Trace}
 use Rattle.vme_trace.proofs.Ranges.{greatest-below}
-use Rattle.vme_account.proofs.EventLemmas.{greatest-either, last-before, last-now, later_instant}
-use Rattle.vme_account.proofs.EventLemmas.{least-nowhere}
+use Rattle.vme_account.proofs.EventLemmas.{greatest-either, greatest-not_at_next, greatest-at_next, later_instant}
+use Rattle.vme_account.proofs.EventLemmas.{least-empty_range}
 use Rattle.vme_account.specs.LastEvents.{AreLast, last_fall, last_of, last_rise, later, moment, moment_at}
 use Rattle.vme_account.specs.RelatedEvents.{happens, searched, since}
 use Rattle.vme_account.specs.StretchEvents.{AreEvents, is_at, is_kept_at, is_kept_last, moment_before}
@@ -102,15 +102,16 @@ module _ (t : Trace) where
         by_test : (b : Bool) → happens t q (i + 1) ≡ b → unless_now (greatest (happens t q) (s + 1) (i + 1 + 1))
             ≡ moment t (least (happens t p) (since t q s (i + 1)) (i + 1))
         by_test true now =
-            let here : greatest (happens t q) (s + 1) (i + 1 + 1) ≡ Some (i + 1) = last-now (happens t q) s i le now in
+            let here : greatest (happens t q) (s + 1) (i + 1 + 1) ≡ Some (i + 1) =
+            greatest-at_next (happens t q) s i le now in
             let nowhere : first_since (Some (i + 1)) ≡ None =
-            ap (moment t) (least-nowhere (happens t p) (i + 1) (i + 1) (omega arith)) in
+            ap (moment t) (least-empty_range (happens t p) (i + 1) (i + 1) (omega arith)) in
             ap unless_now here
             ∙ (ap (λ (c : Bool). cond c None (first_since (greatest (happens t q) (s + 1) (i + 1))))
             (eq-eqb (i + 1) (i + 1) refl) ∙ sym (ap first_since here ∙ nowhere))
         by_test false none =
             let same : greatest (happens t q) (s + 1) (i + 1 + 1) ≡ greatest (happens t q) (s + 1) (i + 1) =
-            last-before (happens t q) s i none in
+            greatest-not_at_next (happens t q) s i none in
             ap unless_now same
             ∙ (not_now (greatest (happens t q) (s + 1) (i + 1)) (greatest-below (happens t q) (s + 1) (i + 1))
             ∙ sym (ap first_since same))
