@@ -43,6 +43,7 @@ AreApart variables (new ∷ more) = (list_any (has_path new.path) variables ≡ 
 
 -- ---- what is found
 
+-- whether the result is no fault
 abbrev pub is_fine : {A E : Type 0} → Result A E → Bool
 is_fine (Ok a) = true
 is_fine (Err e) = false
@@ -57,11 +58,13 @@ fine_second : {A B C E : Type 0} (r : Result A E) (s : Result B E) (f : A → B 
 fine_second (Ok a) s f e = fine_first s (f a) e
 fine_second (Err fault) s f e = absurd (true≢false (sym e))
 
+-- if a result with a line number has no fault, neither has the result
 fine_at : {A : Type 0} (line : ℕ) (r : Result A BindFaultKind) → is_fine (at_line line r) ≡ true → is_fine r ≡ true
 fine_at line (Ok a) e = refl
 fine_at line (Err kind) e = e
 
 module _ (variables more : List Variable) (differ : AreApart variables more) where
+  -- the variables, and after them those that are added
   abbrev pub all : List Variable
   all = variables ++ more
 
@@ -69,9 +72,10 @@ module _ (variables more : List Variable) (differ : AreApart variables more) whe
   abbrev is_found : VariableSelector → Type 0
   is_found named = is_fine (only (filter_map (candidate named) variables)) ≡ true
 
-  new_is_none : (new : Variable) (named : VariableSelector) → list_any (has_path new.path) variables ≡ false
+  -- an added variable with another path than those of the variables is no candidate for `named`
+  candidate-of_new : (new : Variable) (named : VariableSelector) → list_any (has_path new.path) variables ≡ false
       → is_found named → candidate named new ≡ None
-  new_is_none new named differs found = go (bytes_eq new.path named.path) refl
+  candidate-of_new new named differs found = go (bytes_eq new.path named.path) refl
     where
       go : (test : Bool) → bytes_eq new.path named.path ≡ test
           → cond (bytes_eq new.path named.path) (bits_meant named.selection new.net new.size new.index) None ≡ None
@@ -82,20 +86,23 @@ module _ (variables more : List Variable) (differ : AreApart variables more) whe
           (subst (λ (p : List ℕ). list_any (has_path p) variables ≡ false) path differs) in
           absurd (true≢false (sym (rw none at found)))
 
-  none_more : (named : VariableSelector) → is_found named → (new : List Variable) → AreApart variables new
+  -- no added variable is a candidate for `named`
+  candidates-of_more : (named : VariableSelector) → is_found named → (new : List Variable) → AreApart variables new
       → filter_map (candidate named) new ≡ []
-  none_more named found [] differ = refl
-  none_more named found (v ∷ new) differ =
-      let none = new_is_none v named differ.0 found in
-      rw none (none_more named found new differ.1)
+  candidates-of_more named found [] differ = refl
+  candidates-of_more named found (v ∷ new) differ =
+      let none = candidate-of_new v named differ.0 found in
+      rw none (candidates-of_more named found new differ.1)
 
+  -- the candidates for `named` are the same when the variables are added
   candidates_stay : (named : VariableSelector) → is_found named
       → filter_map (candidate named) all ≡ filter_map (candidate named) variables
   candidates_stay named found =
-      let none = none_more named found more differ in
+      let none = candidates-of_more named found more differ in
       filter_map-append (candidate named) variables more
       ∙ (rw none (append-nil (filter_map (candidate named) variables)))
 
+  -- a source is found as without the added variables
   source_stays : (count : ℕ) (s : LevelSource) → is_fine (source_in variables count s) ≡ true
       → source_in all count s ≡ source_in variables count s
   source_stays count (Constant level) fine = refl
@@ -103,6 +110,7 @@ module _ (variables more : List Variable) (differ : AreApart variables more) whe
       let same = candidates_stay named (fine_first (only (filter_map (candidate named) variables)) _ fine) in
       rw same refl
 
+  -- the group of an assignment is found as without the added variables
   group_stays : (a : Assignment) → is_fine (bound_group_in variables a) ≡ true
       → bound_group_in all a ≡ bound_group_in variables a
   group_stays a fine =

@@ -1,4 +1,4 @@
--- The path of a variable in a scope has the scope's name as one of its parts, and no path of the dump has that part.
+-- If no path of a dump has the name of a scope as a part, none is the path of a variable in that scope.
 use Rattle.std.proofs.Common.{◌≡◌, ℕ, Bool, true, false, eqb, List, [], ◌∷◌, ◌++◌, refl, sym, ap}
 use Rattle.std.proofs.Common.{◌∙◌, true≢false, ◌||◌}
 use Rattle.std.specs.Prelude.{All, bytes_eq, drop}
@@ -14,19 +14,21 @@ use Rattle.vme_annotation.proofs.BoundLemmas.{has_path}
 abbrev is_dot : ℕ → Bool
 is_dot b = eqb b 46
 
+-- the parts of a path, between its dots
 abbrev parts : List ℕ → List (List ℕ)
 parts path = slice_split is_dot path
 
-any_of : (f : List ℕ → Bool) (ps : List (List ℕ)) → list_any f (drop 1 ps) ≡ true → list_any f ps ≡ true
-any_of f [] any = any
-any_of f (p ∷ ps) any = or_right (f p) (list_any f ps) any
+-- if an element other than the first satisfies `f`, one of all does
+list_any-without_first : (f : List ℕ → Bool) (ps : List (List ℕ)) → list_any f (drop 1 ps) ≡ true → list_any f ps ≡ true
+list_any-without_first f [] any = any
+list_any-without_first f (p ∷ ps) any = or_right (f p) (list_any f ps) any
 
 -- if a part of `rest` satisfies `f`, so does a part, other than the first, of `front`, a dot and `rest`
-some_behind : (f : List ℕ → Bool) (front rest : List ℕ) → list_any f (parts rest) ≡ true
+list_any-after_dot : (f : List ℕ → Bool) (front rest : List ℕ) → list_any f (parts rest) ≡ true
     → list_any f (drop 1 (parts (front ++ 46 ∷ rest))) ≡ true
-some_behind f [] rest some = ap (λ (ps : List (List ℕ)). list_any f (drop 1 ps))
+list_any-after_dot f [] rest some = ap (λ (ps : List (List ℕ)). list_any f (drop 1 ps))
     (slice_split-cons_yes is_dot 46 rest refl) ∙ some
-some_behind f (b ∷ front) rest some = go (is_dot b) refl (some_behind f front rest some)
+list_any-after_dot f (b ∷ front) rest some = go (is_dot b) refl (list_any-after_dot f front rest some)
   where
     first_only : (ps : List (List ℕ)) → list_any f (drop 1 ps) ≡ true → list_any f (drop 1 (onto_first b ps)) ≡ true
     first_only [] any = absurd (true≢false (sym any))
@@ -36,55 +38,59 @@ some_behind f (b ∷ front) rest some = go (is_dot b) refl (some_behind f front 
         → list_any f (drop 1 (parts ((b ∷ front) ++ 46 ∷ rest))) ≡ true
     go true is later = ap (λ (ps : List (List ℕ)). list_any f (drop 1 ps))
         (slice_split-cons_yes is_dot b (front ++ 46 ∷ rest) is)
-        ∙ any_of f (parts (front ++ 46 ∷ rest)) later
+        ∙ list_any-without_first f (parts (front ++ 46 ∷ rest)) later
     go false is later = ap (λ (ps : List (List ℕ)). list_any f (drop 1 ps))
         (slice_split-cons_no is_dot b (front ++ 46 ∷ rest) is)
         ∙ first_only (parts (front ++ 46 ∷ rest)) later
 
 -- the parts of a scope's name, a dot and `name` are the scope's name and the parts of `name`
-first_part : (scope name : List ℕ) → All (λ b. is_dot b ≡ false) scope
+parts-scope : (scope name : List ℕ) → All (λ b. is_dot b ≡ false) scope
     → parts (scope ++ 46 ∷ name) ≡ scope ∷ parts name
-first_part scope name none = slice_split_at is_dot scope 46 name none refl
+parts-scope scope name none = slice_split_at is_dot scope 46 name none refl
 
 -- ---- the path of a name in a scope
 
-joined_behind : (b : ℕ) (m : List ℕ) (names : List (List ℕ)) (c : ℕ) (path : List ℕ)
+-- a name, and names that joined are not empty, are joined by a dot between them
+joined_by_dots-cons : (b : ℕ) (m : List ℕ) (names : List (List ℕ)) (c : ℕ) (path : List ℕ)
     → joined_by_dots names ≡ c ∷ path → joined_by_dots ((b ∷ m) ∷ names) ≡ (b ∷ m) ++ 46 ∷ c ∷ path
-joined_behind b m names c path e = rw e refl
+joined_by_dots-cons b m names c path e = rw e refl
 
 module _ (first : ℕ) (others : List ℕ) (undotted : All (λ b. is_dot b ≡ false) (first ∷ others)) (n : ℕ)
     (name : List ℕ) where
   abbrev scope : List ℕ
   scope = first ∷ others
 
+  -- whether the scope's name is a part of the path
   abbrev has_scope : List ℕ → Bool
   has_scope path = list_any (λ part. bytes_eq part scope) (parts path)
 
+  -- the names along the path: of the scopes `outer`, of the scope, and of the variable
   abbrev inside : List (List ℕ) → List (List ℕ)
   inside outer = outer ++ scope ∷ (n ∷ name) ∷ []
 
   -- the path of a name in the scope alone has the scope's name
-  innermost : has_scope (joined_by_dots (scope ∷ (n ∷ name) ∷ [])) ≡ true
-  innermost =
-      ap has_scope (joined_behind first others ((n ∷ name) ∷ []) n (name ++ []) refl)
-      ∙ ap (list_any (λ part. bytes_eq part scope)) (first_part scope (n ∷ name ++ []) undotted)
+  has_scope-innermost : has_scope (joined_by_dots (scope ∷ (n ∷ name) ∷ [])) ≡ true
+  has_scope-innermost =
+      ap has_scope (joined_by_dots-cons first others ((n ∷ name) ∷ []) n (name ++ []) refl)
+      ∙ ap (list_any (λ part. bytes_eq part scope)) (parts-scope scope (n ∷ name ++ []) undotted)
       ∙ ap (λ (test : Bool). test || list_any (λ part. bytes_eq part scope) (parts (n ∷ name ++ [])))
       ((bytes_eq-Decides scope scope).1 refl)
 
   -- if a path has the scope's name, so has the path with one more scope around it
-  around : (b : ℕ) (m : List ℕ) (names : List (List ℕ)) (path : List ℕ) → joined_by_dots names ≡ path
+  has_scope-around : (b : ℕ) (m : List ℕ) (names : List (List ℕ)) (path : List ℕ) → joined_by_dots names ≡ path
       → has_scope path ≡ true → has_scope (joined_by_dots ((b ∷ m) ∷ names)) ≡ true
-  around b m names [] e has = absurd (true≢false (sym has))
-  around b m names (c ∷ path) e has =
-      ap has_scope (joined_behind b m names c path e)
-      ∙ any_of (λ part. bytes_eq part scope) (parts ((b ∷ m) ++ 46 ∷ c ∷ path))
-      (some_behind (λ part. bytes_eq part scope) (b ∷ m) (c ∷ path) has)
+  has_scope-around b m names [] e has = absurd (true≢false (sym has))
+  has_scope-around b m names (c ∷ path) e has =
+      ap has_scope (joined_by_dots-cons b m names c path e)
+      ∙ list_any-without_first (λ part. bytes_eq part scope) (parts ((b ∷ m) ++ 46 ∷ c ∷ path))
+      (list_any-after_dot (λ part. bytes_eq part scope) (b ∷ m) (c ∷ path) has)
 
+  -- the path of a variable in the scope has the scope's name, whichever scopes `outer` are around it
   pub scope_in_path : (outer : List (List ℕ)) → has_scope (joined_by_dots (inside outer)) ≡ true
-  scope_in_path [] = innermost
+  scope_in_path [] = has_scope-innermost
   scope_in_path ([] ∷ outer) = scope_in_path outer
   scope_in_path ((b ∷ m) ∷ outer) =
-      around b m (inside outer) (joined_by_dots (inside outer)) refl (scope_in_path outer)
+      has_scope-around b m (inside outer) (joined_by_dots (inside outer)) refl (scope_in_path outer)
 
 -- ---- paths that lack a scope
 
