@@ -19,7 +19,7 @@ use Rattle.vme_step_reader.specs.StepReading.{StepReading, whole_reading}
 use Rattle.vme_audit_command.specs.declared.written_lines.NoOutcome.TheVariants.{NotWritten}
 use Rattle.vme_audit_command.specs.declared.written_lines.WriteFault.{WriteFault}
 use Rattle.vme_audit_command.proofs.BodyLemmas.{ReadGoesOn}
-use Rattle.vme_dump_input.proofs.ReadSteps.{StepsFollow, StepsWithin, TimeGoesOn, so-far-formed}
+use Rattle.vme_dump_input.proofs.ReadSteps.{StepsFollow, StepsWithin, TimeGoesOn, settled_so_far-formed}
 use Rattle.vme_audit_command.proofs.Onward.{ExtendsTo, piece-to, reading-on}
 use Rattle.vme_audit_command.proofs.PieceLemmas.{StopIsRead, StopStays, cut-ends, final-ends}
 
@@ -79,7 +79,7 @@ module _ (front : GivenIsPrefix) (follows : StepsFollow) (within : StepsWithin) 
     pub later-formed : malformed_step later.recording ≡ None
     later-formed =
         ap malformed_step later-is
-        ∙ so-far-formed skew time (with_steps r.given steps) h.whole (sym (ap malformed_step given) ∙ formed)
+        ∙ settled_so_far-formed skew time (with_steps r.given steps) h.whole (sym (ap malformed_step given) ∙ formed)
 
     -- the audit continues
     piece-on : n ≤ length bytes → ComesOut skew settled (with_steps r.given steps) time later.recording

@@ -17,8 +17,10 @@ use Rattle.vme_skew.proofs.Grown.{grows-settled, grows-until}
 use Rattle.vme_step_reader.specs.StepReading.{StepReading, whole_reading}
 use Rattle.vme_step_reader.specs.Stops.{StopsBehind}
 use Rattle.vme_step_reader.specs.declared.stopped_steps.StoppedSteps.{StoppedSteps}
-use Rattle.vme_dump_input.proofs.ReadSteps.{StepsFollow, StepsWithin, TimeGoesOn, so-far-formed, so-far-opens}
-use Rattle.vme_dump_input.proofs.ReadSteps.{steps-from, steps-to, stopped-parts, whole-formed, whole-opens}
+use Rattle.vme_dump_input.proofs.ReadSteps.{StepsFollow, StepsWithin, TimeGoesOn, settled_so_far-formed}
+use Rattle.vme_dump_input.proofs.ReadSteps.{settled_so_far-opening}
+use Rattle.vme_dump_input.proofs.ReadSteps.{GoOnFrom-steps, GoOnTo-steps, StopsAs-parts, settled_whole-formed}
+use Rattle.vme_dump_input.proofs.ReadSteps.{settled_whole-opening}
 use Rattle.vme_audit_command.specs.Bodies.{HasGiven}
 use Rattle.vme_audit_command.specs.Definitions.{GivenIsPrefix, IsFormed}
 use Rattle.vme_dump_input.specs.SettledReadings.{settled_before, settled_by, settled_so_far, settled_whole}
@@ -61,7 +63,7 @@ module _ (skew : Option ℕ) (known : ℕ) (given : Trace) (steps : List Step)
     (late : All (λ (step : Step). known ≤ step.time) steps) (formed : malformed_step (with_steps given steps) ≡ None)
     (whole : length given.opening.levels ≡ line_count) (few : given.opening.slots ≤ 21) where
   few-so-far : (settled_so_far skew known given).opening.slots ≤ 21
-  few-so-far = subst (λ (v : Levels). v.slots ≤ 21) (sym (so-far-opens skew known given)) few
+  few-so-far = subst (λ (v : Levels). v.slots ≤ 21) (sym (settled_so_far-opening skew known given)) few
 
   pub so-far-on : (time : ℕ) → known ≤ time
       → ExtendsTo (settled_so_far skew known given) (settled_so_far skew time (with_steps given steps))
@@ -70,7 +72,7 @@ module _ (skew : Option ℕ) (known : ℕ) (given : Trace) (steps : List Step)
       record {
         more = more;
         is = is;
-        formed = so-far-formed skew time (with_steps given steps) whole formed;
+        formed = settled_so_far-formed skew time (with_steps given steps) whole formed;
         few = few-so-far;
       }
 
@@ -80,7 +82,7 @@ module _ (skew : Option ℕ) (known : ℕ) (given : Trace) (steps : List Step)
       record {
         more = more;
         is = is;
-        formed = whole-formed skew (with_steps given steps) whole formed;
+        formed = settled_whole-formed skew (with_steps given steps) whole formed;
         few = few-so-far;
       }
 
@@ -160,7 +162,7 @@ module _ (follows : StepsFollow) (within : StepsWithin) (on : TimeGoesOn) (skew 
     pub stopped-to : GoOnTo r.given (whole_reading r []).time stopped.steps.items stopped.time
     stopped-to =
         let steps = stopped.steps.items in
-        let (is, _, time) = stopped-parts stopped.fault.line stopped.fault.kind (with_steps r.given steps) stopped.time
+        let (is, _, time) = StopsAs-parts stopped.fault.line stopped.fault.kind (with_steps r.given steps) stopped.time
         (whole_reading r rest) stops other in
         record {
           go = record {
@@ -178,7 +180,7 @@ module _ (follows : StepsFollow) (within : StepsWithin) (on : TimeGoesOn) (skew 
         ≡ settled_so_far skew stopped.time (with_steps r.given stopped.steps.items)
     stopped-is =
         let steps = stopped.steps.items in
-        let (is, fault, time) = stopped-parts stopped.fault.line stopped.fault.kind (with_steps r.given steps)
+        let (is, fault, time) = StopsAs-parts stopped.fault.line stopped.fault.kind (with_steps r.given steps)
         stopped.time (whole_reading r rest) stops other in
         let reading = whole_reading r rest in
         ap (λ (f : Option VcdFault). settled_before skew f reading.time reading.recorded) fault
@@ -190,15 +192,15 @@ module _ (follows : StepsFollow) (within : StepsWithin) (on : TimeGoesOn) (skew 
     stopped-on =
         let t = settled_so_far skew stopped.time (with_steps r.given stopped.steps.items) in
         subst (λ (x : Trace). ExtendsTo t x) (sym stopped-is)
-        (extends-to-itself t (so-far-formed skew stopped.time (with_steps r.given stopped.steps.items) h.whole
+        (extends-to-itself t (settled_so_far-formed skew stopped.time (with_steps r.given stopped.steps.items) h.whole
         stopped-to.go.formed)
-        (subst (λ (v : Levels). v.slots ≤ 21) (sym (so-far-opens skew stopped.time
+        (subst (λ (v : Levels). v.slots ≤ 21) (sym (settled_so_far-opening skew stopped.time
         (with_steps r.given stopped.steps.items)))
         h.few))
 
     pub stopped-fault : (settled_by skew (whole_reading r rest)).fault ≡ Some stopped.fault
     stopped-fault =
-        let (is, fault, time) = stopped-parts stopped.fault.line stopped.fault.kind
+        let (is, fault, time) = StopsAs-parts stopped.fault.line stopped.fault.kind
         (with_steps r.given stopped.steps.items) stopped.time (whole_reading r rest) stops other in
         fault
 
@@ -206,7 +208,7 @@ module _ (follows : StepsFollow) (within : StepsWithin) (on : TimeGoesOn) (skew 
   module _ (bytes : List ℕ) (steps : List Step)
       (is : (whole_reading r bytes).recorded ≡ with_steps r.given steps) where
     pub last-from : GoOnFrom r.given (whole_reading r []).time steps
-    last-from = steps-from follows r h.whole h.few h.formed bytes steps is
+    last-from = GoOnFrom-steps follows r h.whole h.few h.formed bytes steps is
 
     pub last-is : (whole_reading r bytes).fault ≡ None
         → (settled_by skew (whole_reading r bytes)).recorded ≡ settled_whole skew (with_steps r.given steps)
@@ -220,8 +222,8 @@ module _ (follows : StepsFollow) (within : StepsWithin) (on : TimeGoesOn) (skew 
     last-on whole =
         let t = settled_whole skew (with_steps r.given steps) in
         subst (λ (x : Trace). ExtendsTo t x) (sym (last-is whole))
-        (extends-to-itself t (whole-formed skew (with_steps r.given steps) h.whole last-from.formed)
-        (subst (λ (v : Levels). v.slots ≤ 21) (sym (whole-opens skew (with_steps r.given steps))) h.few))
+        (extends-to-itself t (settled_whole-formed skew (with_steps r.given steps) h.whole last-from.formed)
+        (subst (λ (v : Levels). v.slots ≤ 21) (sym (settled_whole-opening skew (with_steps r.given steps))) h.few))
 
   -- after one more piece
   module _ (front : GivenIsPrefix) (next : StepReading) (steps : List Step) (piece : List ℕ)
@@ -229,4 +231,4 @@ module _ (follows : StepsFollow) (within : StepsWithin) (on : TimeGoesOn) (skew 
       (given : next.given ≡ with_steps r.given steps) where
     pub piece-to : malformed_step next.given ≡ None
         → GoOnTo r.given (whole_reading r []).time steps (whole_reading next []).time
-    piece-to formed = steps-to follows within on front r h.whole h.few next steps piece taken given formed
+    piece-to formed = GoOnTo-steps follows within on front r h.whole h.few next steps piece taken given formed

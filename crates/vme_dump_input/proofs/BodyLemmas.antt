@@ -15,7 +15,8 @@ use Rattle.vme_bind.specs.TextReading.{StopsAs, TextReading, reading_of_text}
 use Rattle.vme_stream.specs.Inputs.{longest_input}
 use Rattle.vme_step_reader.specs.StepReading.{StepReading, whole_reading}
 use Rattle.vme_dump_input.specs.SettledSteps.{GoOnFrom, GoOnTo}
-use Rattle.vme_dump_input.proofs.ReadSteps.{GivenIsPrefix, StepsFollow, StepsWithin, TimeGoesOn, steps-from, steps-to}
+use Rattle.vme_dump_input.proofs.ReadSteps.{GivenIsPrefix, StepsFollow, StepsWithin, TimeGoesOn, GoOnFrom-steps}
+use Rattle.vme_dump_input.proofs.ReadSteps.{GoOnTo-steps}
 use Rattle.vme_dump_input.specs.DumpBeginnings.{HasFault, HasFaultBefore, IsAtBody, IsSound}
 use Rattle.vme_dump_input.specs.BufferedInputs.{InputSoFar, IsAllOf, IsGrown, IsReadTo}
 use Rattle.vme_dump_input.specs.BodyPieces.{IsAtEnd}
@@ -105,8 +106,8 @@ module _ (follows : StepsFollow) (within : StepsWithin) (on : TimeGoesOn) (front
       → time ≡ (whole_reading next []).time → GoOnTo r.given (whole_reading r []).time steps time
   piece-goes next steps piece time taken given formed now =
       subst (GoOnTo r.given (whole_reading r []).time steps) (sym now)
-      (steps-to follows within on front r sound.whole sound.few next steps piece taken given formed)
+      (GoOnTo-steps follows within on front r sound.whole sound.few next steps piece taken given formed)
 
   pub last-goes : (bytes : List ℕ) (steps : List Step) → (whole_reading r bytes).recorded ≡ with_steps r.given steps
       → GoOnFrom r.given (whole_reading r []).time steps
-  last-goes bytes steps is = steps-from follows r sound.whole sound.few sound.formed bytes steps is
+  last-goes bytes steps is = GoOnFrom-steps follows r sound.whole sound.few sound.formed bytes steps is

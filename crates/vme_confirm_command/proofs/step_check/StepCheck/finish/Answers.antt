@@ -5,7 +5,7 @@ use Rattle.vme_trace.specs.Trace.{Trace}
 use Rattle.vme_trace.specs.WellFormed.{capture_limit}
 use Rattle.vme_cert.specs.Checking.{HasCompared, HasFollowed}
 use Rattle.vme_dump_input.specs.SettledReadings.{settled_whole}
-use Rattle.vme_dump_input.proofs.ReadSteps.{whole-formed}
+use Rattle.vme_dump_input.proofs.ReadSteps.{settled_whole-formed}
 use Rattle.vme_confirm_command.proofs.StepLemmas.{limited-fits, limited-long, many-came, may-whole, not-many}
 use Rattle.vme_confirm_command.proofs.step_check.StepCheck.finish.Goals as goal
 
@@ -55,7 +55,7 @@ check_all-requires g c =
       rw counted.left.1 h.taken,
       may-whole skew t (with_steps given steps) c.as_slice.result.now long
           (ap (with_steps t) c.as_slice.ensures.value ∙ settled)
-          (whole-formed skew (with_steps given steps) go.whole go.formed),
+          (settled_whole-formed skew (with_steps given steps) go.whole go.formed),
     )
 
 pub finish-answer-requires : goal.finish-answer-requires

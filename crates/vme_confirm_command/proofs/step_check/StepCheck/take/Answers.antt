@@ -3,7 +3,7 @@ use Rattle.std.proofs.Common.{◌≤◌, ◌++◌, length, ap, ◌∙◌, arith,
 use Rattle.vme_trace.specs.Followed.{with_steps}
 use Rattle.vme_trace.specs.WellFormed.{capture_limit}
 use Rattle.vme_cert.specs.Checking.{HasFollowed}
-use Rattle.vme_dump_input.proofs.ReadSteps.{so-far-formed}
+use Rattle.vme_dump_input.proofs.ReadSteps.{settled_so_far-formed}
 use Rattle.vme_confirm_command.proofs.StepLemmas.{comes-few, comes-many, many-came, may-so_far, not-many}
 use Rattle.vme_confirm_command.proofs.step_check.StepCheck.take.Goals as goal
 
@@ -46,7 +46,7 @@ check_all-requires g c =
       rw counted.left.1 h.taken,
       may-so_far skew t (with_steps given steps) c.as_slice.result.now long c.args.time
           (ap (with_steps t) c.as_slice.ensures.value ∙ settled)
-          (so-far-formed skew c.args.time (with_steps given steps) go.go.whole go.go.formed),
+          (settled_so_far-formed skew c.args.time (with_steps given steps) go.go.whole go.go.formed),
     )
 
 pub returns-clause-stepped : goal.returns-clause-stepped
