@@ -52,27 +52,31 @@ slot_within t i slot e = by_level (tenure_level t i) e
     by_level (Some n) f = counted (greatest (has_reached t (taken_grant t i) n) 0 (t.opening.slots + 1))
         (greatest-below (has_reached t (taken_grant t i) n) 0 (t.opening.slots + 1)) f
 
+-- the level of a tenure is below 4
 level_within : (t : Trace) (i level : ℕ) → tenure_level t i ≡ Some level → level < 4
 unfolding tenure_level
 level_within t i level e = (least-found (λ n. low t (grant n 0) (taken_grant t i)) 0 4 level e).below
 
-not_past : (judged falls past : Bool) → (judged && falls) ≡ true → (judged && true && (true && falls && past)) ≡ false
+-- if a tenure starts (`judged && falls`) and B4 isn't broken there, its slot isn't one past the last (`past`)
+not_past_last_slot : (judged falls past : Bool) → (judged && falls) ≡ true → (judged && true && (true && falls && past))
+    ≡ false
     → past ≡ false
-not_past true true past h e = e
-not_past true false past h e = absurd (cc)
-not_past false falls past h e = absurd (cc)
+not_past_last_slot true true past h e = e
+not_past_last_slot true false past h e = absurd (cc)
+not_past_last_slot false falls past h e = absurd (cc)
 
 -- a tenure that breaks no rule by its slot has one of the backplane
 slot_exists : (t : Trace) (stretch : Stretch) (i : ℕ) → tenure_starts t stretch i ≡ true → breaks t stretch B4 i BBSY
     ≡ false
     → is_option_equal (tenure_slot t i) (t.opening.slots + 1) ≡ false
 unfolding breaks is_broken tenure_starts
-slot_exists t stretch i starts unbroken = not_past (is_judged stretch i) (falls t BBSY i)
+slot_exists t stretch i starts unbroken = not_past_last_slot (is_judged stretch i) (falls t BBSY i)
     (is_option_equal (tenure_slot t i)
     (t.opening.slots + 1)) starts unbroken
 
-bused : (slots l : ℕ) → l < 50 → has_line slots l ≡ true
-bused slots l h = grind (arith, nat_tests)
+-- each line with a number below 50 is on every backplane
+bus_line_exists : (slots l : ℕ) → l < 50 → has_line slots l ≡ true
+bus_line_exists slots l h = grind (arith, nat_tests)
 
 -- a line of the modifier code is needed by a cycle of class F
 needs_modifier : (v : Levels) (n : ℕ) → class_of v ≡ class.F → n < 6 → is_needed v (AM n) ≡ true
@@ -82,9 +86,11 @@ needs_modifier v n free below = rw free (within n below)
     within : (n : ℕ) → n < 6 → is_within (record { modifier = true; highest = 0 }) (6 + n) ≡ true
     within n below = grind (arith, nat_tests)
 
-lacking : (judged starts has needed known : Bool) → (judged && starts) ≡ true → has ≡ true → needed ≡ true → not known
+-- as a cycle starts, a line that the backplane has and that the cycle needs breaks U2, if it isn't known
+needed_line_is_known : (judged starts has needed known : Bool) → (judged && starts) ≡ true → has ≡ true → needed ≡ true
+    → not known
     ≡ true → (judged && has && ((judged && starts) && needed && not known)) ≡ false → ⊥
-lacking judged starts has needed known s h n k e = grind (arith, nat_tests)
+needed_line_is_known judged starts has needed known s h n k e = grind (arith, nat_tests)
 
 -- a cycle that breaks no rule by a line that it needs, and is of class F, has a code whose bits are known
 code_known : (t : Trace) (stretch : Stretch) (i : ℕ) → cycle_starts t stretch i ≡ true
@@ -97,21 +103,24 @@ code_known t stretch i starts unbroken free unknown =
     let found = any-least (λ n. not (is_modifier_bit_known v n)) 0 6 (not-false _ unknown) in
     let n = found.0 in
     let is = least-found (λ n. not (is_modifier_bit_known v n)) 0 6 n found.1 in
-    lacking (is_judged stretch i) (falls t AS i) (has_line t.opening.slots (AM n)) (is_needed v (AM n))
+    needed_line_is_known (is_judged stretch i) (falls t AS i) (has_line t.opening.slots (AM n)) (is_needed v (AM n))
     (is_known_on v (AM n))
-    starts (bused t.opening.slots (AM n) (omega (arith, is.below))) (needs_modifier v n free is.below) is.holds
+    starts (bus_line_exists t.opening.slots (AM n) (omega (arith, is.below))) (needs_modifier v n free is.below)
+    is.holds
     (unbroken (AM n) (omega (arith, is.below)))
 
-data_by : (write : Bool) (lanes : Lanes) → is_allowed_data lanes ≡ true → has_data Three (cond write Write Read)
+-- the row of a write may have these data, and that of a read has none
+has_data-by_direction : (write : Bool) (lanes : Lanes) → is_allowed_data lanes ≡ true
+    → has_data Three (cond write Write Read)
     (cond write (Some lanes) None) ≡ true
-data_by true lanes h = h
-data_by false lanes h = refl
+has_data-by_direction true lanes h = h
+has_data-by_direction false lanes h = refl
 
 -- the data of a transfer is data that the row of its direction may have
 data_form : (t : Trace) (stretch : Stretch) (end i r : ℕ) → has_data Three (direction_of t stretch end i)
     (data_of t stretch end i r) ≡ true
 unfolding data_at
-data_form t stretch end i r = data_by (is_write t stretch i) (data_at t stretch r)
+data_form t stretch end i r = has_data-by_direction (is_write t stretch i) (data_at t stretch r)
     (lanes_form (levels_at t (if transfer_starts t stretch r then r else r - 1)))
 
 module _ (t : Trace) (stretch : Stretch) (end : ℕ) (few : end ≤ 2 ^ 32) (i : ℕ) (listed : i < end) where
@@ -157,6 +166,7 @@ module _ (t : Trace) (stretch : Stretch) (end : ℕ) (few : end ≤ 2 ^ 32) (i :
           (edge (rises t AS) (i + 1) end few) (code_known t stretch i e unbroken)
       by_test false e = tt
 
+  -- at instant i at most one transfer has a row
   pub transfer_one : AtMostOne i 4 (transfer_rows t stretch end i)
   unfolding transfer_rows is_row cycle_of
   transfer_one = by_test (transfer_starts t stretch i)
