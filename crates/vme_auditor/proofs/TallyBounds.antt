@@ -1,4 +1,4 @@
--- No count saturates: each is at most the number of the steps.
+-- The saturating counts of a tally are the exact ones: each is at most the number of the steps, which is below 2 ^ 64.
 use Rattle.std.proofs.Common.{◌≡◌, ℕ, suc, ◌+◌, ◌-◌, ◌^◌, ◌<◌, ◌≤◌, Bool, true, false, List, [], ◌∷◌, length}
 use Rattle.std.proofs.Common.{refl}
 use Rattle.std.proofs.Common.{◌∙◌, ap, arith, cond, Option, None, Some}
@@ -25,14 +25,17 @@ use Rattle.vme_auditor.specs.declared.tally.Tally.{Tally}
 use Rattle.vme_auditor.proofs.TalliedSteps.{tally_after, tally_by}
 use Rattle.vme_auditor.proofs.ReturnedBreaks.{memories_after}
 
-counted_is : (k : ℕ) → k < 2 ^ 64 - 1 → counted k ≡ suc k
-counted_is k h = omega arith
+-- a count below the greatest number of 64 bits gets one more
+counted-suc : (k : ℕ) → k < 2 ^ 64 - 1 → counted k ≡ suc k
+counted-suc k h = omega arith
 
+-- 1 if a transfer waits for its answer, else 0
 abbrev waiting_count : Option StartedTransfer → ℕ
 waiting_count None = 0
 waiting_count (Some s) = 1
 
--- bounds of counts: `r` resets, `t` tenures, `c` cycles of each class, `m` transfers, each with at most one outcome
+-- bounds of the counts `d`, where `w` is the transfer that waits: at most `r` resets, `t` tenures, `c` cycles of each
+-- class and `m` transfers, each with at most one outcome
 pub record Fits (r t c m : ℕ) (d : Counts) (w : Option StartedTransfer) : Type 0 where
   pub resets : d.resets ≤ r
   pub tenures : d.tenures ≤ t
@@ -48,9 +51,10 @@ pub record IsExact (r t c m : ℕ) (a b : Tally) : Type 0 where
   pub same : a ≡ b
   pub fits : Fits r t c m b.counts b.waiting
 
-fits_more : (r t c m r' t' c' m' : ℕ) (d : Counts) (w : Option StartedTransfer) → r ≤ r' → t ≤ t' → c ≤ c' → m ≤ m'
+-- counts within bounds are within greater bounds
+Fits-more : (r t c m r' t' c' m' : ℕ) (d : Counts) (w : Option StartedTransfer) → r ≤ r' → t ≤ t' → c ≤ c' → m ≤ m'
     → Fits r t c m d w → Fits r' t' c' m' d w
-fits_more r t c m r' t' c' m' d w p q u v f =
+Fits-more r t c m r' t' c' m' d w p q u v f =
     record {
       resets = omega (arith, f.resets);
       tenures = omega (arith, f.tenures);
@@ -63,7 +67,7 @@ fits_more r t c m r' t' c' m' d w p q u v f =
     }
 
 module _ (r t c m : ℕ) where
-  -- the waiting transfer stays without an answer
+  -- the tally after the waiting transfer is left without an answer is exact
   pub pending_exact : (a : Tally) → Fits r t c m a.counts a.waiting → m ≤ 2 ^ 64 - 1
       → IsExact r t c m (to_pending counted a) (to_pending suc a)
   pending_exact a f few = by_waiting a.waiting refl
@@ -75,7 +79,7 @@ module _ (r t c m : ℕ) where
           let served : a.counts.pending + a.counts.by_dtack + a.counts.by_berr + 1 ≤ a.counts.reads + a.counts.writes =
           rw e at f.served in
           record {
-            same = rw (counted_is a.counts.pending (omega (arith, f.moved))) refl;
+            same = rw (counted-suc a.counts.pending (omega (arith, f.moved))) refl;
             fits = record {
               resets = f.resets;
               tenures = f.tenures;
@@ -88,6 +92,7 @@ module _ (r t c m : ℕ) where
             };
           }
 
+  -- the tally after a break is exact
   break_exact : (a : Tally) → Fits r t c m a.counts a.waiting → m ≤ 2 ^ 64 - 1
       → IsExact r t c m (at_break counted a) (at_break suc a)
   break_exact a f few =
@@ -97,12 +102,13 @@ module _ (r t c m : ℕ) where
         fits = p.fits;
       }
 
+  -- the tally after a reset, if there is one (`b`), is exact, with one more reset as bound
   reset_exact : (b : Bool) (a : Tally) → Fits r t c m a.counts a.waiting → r < 2 ^ 64 - 1 → m ≤ 2 ^ 64 - 1
       → IsExact (suc r) t c m (cond b (at_reset counted a) a) (cond b (at_reset suc a) a)
   reset_exact false a f below few =
       record {
         same = refl;
-        fits = fits_more r t c m (suc r) t c m a.counts a.waiting (omega arith) (omega arith) (omega arith)
+        fits = Fits-more r t c m (suc r) t c m a.counts a.waiting (omega arith) (omega arith) (omega arith)
             (omega arith)
             f;
       }
@@ -113,7 +119,7 @@ module _ (r t c m : ℕ) where
         same =
             ap (λ (b : Tally). record b { counts = record b.counts { resets = counted b.counts.resets } }) p.same
             ∙ ap (λ n. record (at_break suc a) { counts = record d { resets = n } })
-            (counted_is d.resets (omega (arith, p.fits.resets)));
+            (counted-suc d.resets (omega (arith, p.fits.resets)));
         fits = record {
           resets = omega (arith, p.fits.resets);
           tenures = p.fits.tenures;
@@ -126,12 +132,13 @@ module _ (r t c m : ℕ) where
         };
       }
 
+  -- the tally after a tenure begins, if one does, is exact, with one more tenure as bound
   tenure_exact : (o : Option BusGrant) (a b : Tally) → IsExact r t c m a b → t < 2 ^ 64 - 1
       → IsExact r (suc t) c m (option_map_or (at_tenure counted a) o a) (option_map_or (at_tenure suc b) o b)
   tenure_exact None a b e below =
       record {
         same = e.same;
-        fits = fits_more r t c m r (suc t) c m b.counts b.waiting (omega arith) (omega arith) (omega arith)
+        fits = Fits-more r t c m r (suc t) c m b.counts b.waiting (omega arith) (omega arith) (omega arith)
             (omega arith)
             e.fits;
       }
@@ -140,7 +147,7 @@ module _ (r t c m : ℕ) where
         same =
             ap (λ (a : Tally). at_tenure counted a g) e.same
             ∙ ap (λ n. record b { counts = record b.counts { tenures = n } })
-            (counted_is b.counts.tenures (omega (arith, e.fits.tenures)));
+            (counted-suc b.counts.tenures (omega (arith, e.fits.tenures)));
         fits = record {
           resets = e.fits.resets;
           tenures = omega (arith, e.fits.tenures);
@@ -153,18 +160,20 @@ module _ (r t c m : ℕ) where
         };
       }
 
-  class_is : (d : Counts) (w : Option StartedTransfer) (k : Class) → Fits r t c m d w → c < 2 ^ 64 - 1
+  -- one more cycle of the class `k` is counted exactly
+  of_class-suc : (d : Counts) (w : Option StartedTransfer) (k : Class) → Fits r t c m d w → c < 2 ^ 64 - 1
       → of_class counted d k ≡ of_class suc d k
-  class_is d w class.S f below =
-      ap (λ n. record d { single = n }) (counted_is d.single (omega (arith, f.single)))
-  class_is d w class.K f below = ap (λ n. record d { block = n }) (counted_is d.block (omega (arith, f.block)))
-  class_is d w class.F f below = ap (λ n. record d { free = n }) (counted_is d.free (omega (arith, f.free)))
-  class_is d w class.I f below =
-      ap (λ n. record d { acknowledge = n }) (counted_is d.acknowledge (omega (arith, f.acknowledge)))
+  of_class-suc d w class.S f below =
+      ap (λ n. record d { single = n }) (counted-suc d.single (omega (arith, f.single)))
+  of_class-suc d w class.K f below = ap (λ n. record d { block = n }) (counted-suc d.block (omega (arith, f.block)))
+  of_class-suc d w class.F f below = ap (λ n. record d { free = n }) (counted-suc d.free (omega (arith, f.free)))
+  of_class-suc d w class.I f below =
+      ap (λ n. record d { acknowledge = n }) (counted-suc d.acknowledge (omega (arith, f.acknowledge)))
 
-  class_fits : (d : Counts) (w : Option StartedTransfer) (k : Class) → Fits r t c m d w
+  -- one more cycle of the class `k` is within the bounds, with one more cycle
+  of_class-fits : (d : Counts) (w : Option StartedTransfer) (k : Class) → Fits r t c m d w
       → Fits r t (suc c) m (of_class suc d k) w
-  class_fits d w class.S f =
+  of_class-fits d w class.S f =
       record {
         resets = f.resets;
         tenures = f.tenures;
@@ -175,7 +184,7 @@ module _ (r t c m : ℕ) where
         moved = f.moved;
         served = f.served;
       }
-  class_fits d w class.K f =
+  of_class-fits d w class.K f =
       record {
         resets = f.resets;
         tenures = f.tenures;
@@ -186,7 +195,7 @@ module _ (r t c m : ℕ) where
         moved = f.moved;
         served = f.served;
       }
-  class_fits d w class.F f =
+  of_class-fits d w class.F f =
       record {
         resets = f.resets;
         tenures = f.tenures;
@@ -197,7 +206,7 @@ module _ (r t c m : ℕ) where
         moved = f.moved;
         served = f.served;
       }
-  class_fits d w class.I f =
+  of_class-fits d w class.I f =
       record {
         resets = f.resets;
         tenures = f.tenures;
@@ -209,12 +218,13 @@ module _ (r t c m : ℕ) where
         served = f.served;
       }
 
+  -- the tally after a cycle begins, if one does, is exact, with one more cycle as bound
   cycle_exact : (o : Option CycleStart) (a b : Tally) → IsExact r t c m a b → c < 2 ^ 64 - 1
       → IsExact r t (suc c) m (option_map_or (at_cycle counted a) o a) (option_map_or (at_cycle suc b) o b)
   cycle_exact None a b e below =
       record {
         same = e.same;
-        fits = fits_more r t c m r t (suc c) m b.counts b.waiting (omega arith) (omega arith) (omega arith)
+        fits = Fits-more r t c m r t (suc c) m b.counts b.waiting (omega arith) (omega arith) (omega arith)
             (omega arith)
             e.fits;
       }
@@ -223,19 +233,21 @@ module _ (r t c m : ℕ) where
         same =
             ap (λ (a : Tally). at_cycle counted a s) e.same
             ∙ ap (λ (d : Counts). record b { has_cycle = true; counts = d })
-            (class_is b.counts b.waiting s.class e.fits below);
-        fits = class_fits b.counts b.waiting s.class e.fits;
+            (of_class-suc b.counts b.waiting s.class e.fits below);
+        fits = of_class-fits b.counts b.waiting s.class e.fits;
       }
 
-  direction_is : (d : Counts) (w : Option StartedTransfer) (write : Bool) → Fits r t c m d w → m < 2 ^ 64 - 1
+  -- one more transfer of a direction is counted exactly
+  of_direction-suc : (d : Counts) (w : Option StartedTransfer) (write : Bool) → Fits r t c m d w → m < 2 ^ 64 - 1
       → of_direction counted d write ≡ of_direction suc d write
-  direction_is d w true f below =
-      ap (λ n. record d { writes = n }) (counted_is d.writes (omega (arith, f.moved)))
-  direction_is d w false f below = ap (λ n. record d { reads = n }) (counted_is d.reads (omega (arith, f.moved)))
+  of_direction-suc d w true f below =
+      ap (λ n. record d { writes = n }) (counted-suc d.writes (omega (arith, f.moved)))
+  of_direction-suc d w false f below = ap (λ n. record d { reads = n }) (counted-suc d.reads (omega (arith, f.moved)))
 
-  direction_fits : (d : Counts) (s : StartedTransfer) (write : Bool) → Fits r t c m d None
+  -- if no transfer waited, one more transfer, which waits, is within the bounds, with one more transfer
+  of_direction-fits : (d : Counts) (s : StartedTransfer) (write : Bool) → Fits r t c m d None
       → Fits r t c (suc m) (of_direction suc d write) (Some s)
-  direction_fits d s true f =
+  of_direction-fits d s true f =
       record {
         resets = f.resets;
         tenures = f.tenures;
@@ -246,7 +258,7 @@ module _ (r t c m : ℕ) where
         moved = omega (arith, f.moved);
         served = omega (arith, f.served);
       }
-  direction_fits d s false f =
+  of_direction-fits d s false f =
       record {
         resets = f.resets;
         tenures = f.tenures;
@@ -258,7 +270,7 @@ module _ (r t c m : ℕ) where
         served = omega (arith, f.served);
       }
 
-  -- no transfer waits
+  -- no transfer waits after the waiting one is left without an answer
   none_waits : (a : Tally) → (to_pending suc a).waiting ≡ None
   none_waits a = by_waiting a.waiting refl
     where
@@ -266,12 +278,13 @@ module _ (r t c m : ℕ) where
       by_waiting None e = e
       by_waiting (Some s) e = refl
 
+  -- the tally after a transfer begins, if one does, is exact, with one more transfer as bound
   transfer_exact : (o : Option Bool) (a b : Tally) (s : StartedTransfer) → IsExact r t c m a b → m < 2 ^ 64 - 1
       → IsExact r t c (suc m) (option_map_or (at_transfer counted a s) o a) (option_map_or (at_transfer suc b s) o b)
   transfer_exact None a b s e below =
       record {
         same = e.same;
-        fits = fits_more r t c m r t c (suc m) b.counts b.waiting (omega arith) (omega arith) (omega arith)
+        fits = Fits-more r t c m r t c (suc m) b.counts b.waiting (omega arith) (omega arith) (omega arith)
             (omega arith)
             e.fits;
       }
@@ -284,10 +297,11 @@ module _ (r t c m : ℕ) where
             ap (λ (a : Tally). at_transfer counted a s write) e.same
             ∙ ap (λ (b : Tally). record b { waiting = Some s; counts = of_direction counted b.counts write }) p.same
             ∙ ap (λ (d : Counts). record left { waiting = Some s; counts = d })
-            (direction_is left.counts left.waiting write p.fits below);
-        fits = direction_fits left.counts s write unfinished;
+            (of_direction-suc left.counts left.waiting write p.fits below);
+        fits = of_direction-fits left.counts s write unfinished;
       }
 
+  -- the tally after the waiting transfer `s` is answered by DTACK (`dtack`) or BERR is exact
   line_exact : (b : Tally) (s : StartedTransfer) (dtack : Bool) → Fits r t c m b.counts (Some s) → m ≤ 2 ^ 64 - 1
       → IsExact r t c m
       (record b {
@@ -303,7 +317,7 @@ module _ (r t c m : ℕ) where
   line_exact b s true f few =
       record {
         same = ap (λ n. record b { waiting = None; counts = record b.counts { by_dtack = n } })
-            (counted_is b.counts.by_dtack (omega (arith, f.served, f.moved)));
+            (counted-suc b.counts.by_dtack (omega (arith, f.served, f.moved)));
         fits = record {
           resets = f.resets;
           tenures = f.tenures;
@@ -318,7 +332,7 @@ module _ (r t c m : ℕ) where
   line_exact b s false f few =
       record {
         same = ap (λ n. record b { waiting = None; counts = record b.counts { by_berr = n } })
-            (counted_is b.counts.by_berr (omega (arith, f.served, f.moved)));
+            (counted-suc b.counts.by_berr (omega (arith, f.served, f.moved)));
         fits = record {
           resets = f.resets;
           tenures = f.tenures;
@@ -331,6 +345,7 @@ module _ (r t c m : ℕ) where
         };
       }
 
+  -- the tally after the waiting transfer, if there is one, is answered by `line` is exact
   answered_exact : (b : Tally) (line : ℕ) → Fits r t c m b.counts b.waiting → m ≤ 2 ^ 64 - 1
       → IsExact r t c m (answered counted b line b.waiting) (answered suc b line b.waiting)
   answered_exact b line f few = by_waiting b.waiting refl
@@ -340,12 +355,14 @@ module _ (r t c m : ℕ) where
       by_waiting None e = record { same = refl; fits = f }
       by_waiting (Some s) e = line_exact b s (line == DTACK) (rw e at f) few
 
+  -- the tally after an answer is exact, within a cycle (`cycle`) or before any
   answer_here : (b : Tally) (line : ℕ) (cycle : Bool) → Fits r t c m b.counts b.waiting → m ≤ 2 ^ 64 - 1
       → IsExact r t c m (cond cycle (answered counted b line b.waiting) (to_pending counted b))
       (cond cycle (answered suc b line b.waiting) (to_pending suc b))
   answer_here b line true f few = answered_exact b line f few
   answer_here b line false f few = pending_exact b f few
 
+  -- the tally after an answer, if there is one, is exact
   answer_exact : (o : Option TransferAnswer) (a b : Tally) → IsExact r t c m a b → m ≤ 2 ^ 64 - 1
       → IsExact r t c m (option_map_or (at_answer counted a) o a) (option_map_or (at_answer suc b) o b)
   answer_exact None a b e few = e
@@ -353,6 +370,7 @@ module _ (r t c m : ℕ) where
       let p = answer_here b x.line b.has_cycle e.fits few in
       record { same = ap (λ (a : Tally). at_answer counted a x) e.same ∙ p.same; fits = p.fits }
 
+-- the tally after a step that breaks no rule is exact: the step has at most one event of each kind
 tallied_exact : (k : ℕ) (a : Tally) (instant time : ℕ) (p q u : StepMarks) → Fits k k k k a.counts a.waiting
     → k < 2 ^ 64 - 1
     → IsExact (suc k) (suc k) (suc k) (suc k) (tallied counted a instant time p q u) (tallied suc a instant time p q u)
@@ -365,6 +383,7 @@ tallied_exact k a instant time p q u f below =
     below in
     answer_exact (suc k) (suc k) (suc k) (suc k) u.answer _ _ fourth (omega arith)
 
+-- the tally after a step, with the fault `fault` or none, is exact
 tally_after_exact : (k : ℕ) (fault : Option Fault) (a : Tally) (instant time : ℕ) (p q u : StepMarks)
     → Fits k k k k a.counts a.waiting → k < 2 ^ 64 - 1
     → IsExact (suc k) (suc k) (suc k) (suc k) (tally_after counted fault a instant time p q u)
@@ -374,7 +393,7 @@ tally_after_exact k (Some fault) a instant time p q u f below =
     let e = break_exact k k k k a f (omega arith) in
     record {
       same = e.same;
-      fits = fits_more k k k k (suc k) (suc k) (suc k) (suc k) (at_break suc a).counts (at_break suc a).waiting
+      fits = Fits-more k k k k (suc k) (suc k) (suc k) (suc k) (at_break suc a).counts (at_break suc a).waiting
           (omega arith) (omega arith) (omega arith) (omega arith) e.fits;
     }
 
@@ -387,7 +406,7 @@ unfolding tally_by
 tally_exact [] m o n a k f few =
     record {
       same = refl;
-      fits = fits_more k k k k (k + 0) (k + 0) (k + 0) (k + 0) a.counts a.waiting (omega arith) (omega arith)
+      fits = Fits-more k k k k (k + 0) (k + 0) (k + 0) (k + 0) a.counts a.waiting (omega arith) (omega arith)
           (omega arith)
           (omega arith) f;
     }
@@ -404,7 +423,7 @@ tally_exact (s ∷ x) m o n a k f few =
     let long : suc k + length x ≤ k + suc (length x) = omega arith in
     record {
       same = ap (λ (a : Tally). tally_by counted next after (n + 1) a x) e.same ∙ rest.same;
-      fits = fits_more (suc k + length x) (suc k + length x) (suc k + length x) (suc k + length x) (k + suc (length x))
+      fits = Fits-more (suc k + length x) (suc k + length x) (suc k + length x) (suc k + length x) (k + suc (length x))
           (k + suc (length x)) (k + suc (length x)) (k + suc (length x)) (tally_by suc next after (n + 1) b x).counts
           (tally_by suc next after (n + 1) b x).waiting long long long long rest.fits;
     }
