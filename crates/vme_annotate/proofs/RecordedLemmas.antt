@@ -1,4 +1,4 @@
--- The recording that is listed, and the dump that it is of.
+-- The recording that is listed is one of a dump, and the dump has the times of the recording.
 use Rattle.std.proofs.Common.{◌≡◌, ◌+◌, ◌-◌, ◌≤◌, ℕ, Bool, true, false, cond, List, [], length, refl, sym, ap}
 use Rattle.std.proofs.Common.{subst, ◌∙◌, arith}
 use Rattle.std.specs.Prelude.{IsSome, None, Option, Result, Ok, Err}
@@ -35,33 +35,41 @@ use Rattle.vme_annotate.proofs.ListedLemmas.{capture_by-short, or_too_long}
 
 -- ---- from a result that is `Ok` to what it is made of
 
-or_refused_is : (b : Bool) (r : Refusal) (u t : Trace) → cond b (Err r) (Ok u) ≡ Ok t → u ≡ t
-or_refused_is true r u t e = absurd cc
-or_refused_is false r u t e = cc
+-- if a choice between `Err r` and `Ok u` is `Ok t`, `u` is `t`
+or_refused-ok : (b : Bool) (r : Refusal) (u t : Trace) → cond b (Err r) (Ok u) ≡ Ok t → u ≡ t
+or_refused-ok true r u t e = absurd cc
+or_refused-ok false r u t e = cc
 
-settled_is : {E : Type 0} (skew : ℕ) (read : Result Trace E) (t : Trace) → settled_or skew read ≡ Ok t
+-- if `read`, settled by `skew`, is `Ok t`, it was a recording `raw`, which settles to `t`
+settled_or-ok : {E : Type 0} (skew : ℕ) (read : Result Trace E) (t : Trace) → settled_or skew read ≡ Ok t
     → (raw : Trace) × (read ≡ Ok raw) × (settled skew raw ≡ t)
-settled_is skew (Ok raw) t e = (raw, refl, cc)
-settled_is skew (Err fault) t e = absurd cc
+settled_or-ok skew (Ok raw) t e = (raw, refl, cc)
+settled_or-ok skew (Err fault) t e = absurd cc
 
-limited_is : (b : Bool) (fault : BindFault) (u t : Trace) → or_bad_binding (cond b (Err fault) (Ok u)) ≡ Ok t → u ≡ t
-limited_is true fault u t e = absurd cc
-limited_is false fault u t e = cc
+-- if a choice between `Err fault` and `Ok u` is `Ok t` once its fault is a refusal, `u` is `t`
+or_bad_binding-limited : (b : Bool) (fault : BindFault) (u t : Trace) → or_bad_binding (cond b (Err fault) (Ok u))
+    ≡ Ok t → u ≡ t
+or_bad_binding-limited true fault u t e = absurd cc
+or_bad_binding-limited false fault u t e = cc
 
+-- the recording of a result, or else `other`
 abbrev trace_in : Trace → Result Trace BindFault → Trace
 trace_in other (Ok made) = made
 trace_in other (Err fault) = other
 
-dump_read_is : (r : Result Contents VcdFault) (contents : Contents) → or_bad_dump r ≡ Ok contents → r ≡ Ok contents
-dump_read_is (Ok other) contents e = ap (λ (c : Contents). Ok c) cc
-dump_read_is (Err fault) contents e = absurd cc
+-- a result that is `Ok contents` once its fault is a refusal was `Ok contents` before
+or_bad_dump-ok : (r : Result Contents VcdFault) (contents : Contents) → or_bad_dump r ≡ Ok contents → r ≡ Ok contents
+or_bad_dump-ok (Ok other) contents e = ap (λ (c : Contents). Ok c) cc
+or_bad_dump-ok (Err fault) contents e = absurd cc
 
-bound_is : (r : Result Trace BindFault) (t : Trace) → or_bad_binding r ≡ Ok t → r ≡ Ok t
-bound_is (Ok other) t e = ap (λ (u : Trace). Ok u) cc
-bound_is (Err fault) t e = absurd cc
+-- a result that is `Ok t` once its fault is a refusal was `Ok t` before
+or_bad_binding-ok : (r : Result Trace BindFault) (t : Trace) → or_bad_binding r ≡ Ok t → r ≡ Ok t
+or_bad_binding-ok (Ok other) t e = ap (λ (u : Trace). Ok u) cc
+or_bad_binding-ok (Err fault) t e = absurd cc
 
--- ---- what is listed is the deskewed recording of a dump
+-- ---- what is listed is the settled recording of a dump
 
+-- `t` is what the recording `raw` settles to, which `binding` makes of `dump`
 pub record IsRecorded (skew : ℕ) (binding : BoundLines) (dump : List ℕ) (t : Trace) : Type 0 where
   pub contents : Contents
   pub read_is : dump_of dump ≡ Ok contents
@@ -69,31 +77,34 @@ pub record IsRecorded (skew : ℕ) (binding : BoundLines) (dump : List ℕ) (t :
   pub raw_is : recording_of binding contents ≡ Ok raw
   pub settles : settled skew raw ≡ t
 
-pub recorded : (skew : ℕ) (binding : BoundLines) (dump : List ℕ) (block : ℕ) (t : Trace)
+-- the recording that is listed is that which `binding` makes of `dump`, settled by `skew`
+pub IsRecorded-listed : (skew : ℕ) (binding : BoundLines) (dump : List ℕ) (block : ℕ) (t : Trace)
     → recording_to_list skew binding (or_bad_dump (dump_of dump)) block ≡ Ok t → IsRecorded skew binding dump t
-recorded skew binding dump block t e =
+IsRecorded-listed skew binding dump block t e =
     let read : Result Contents Refusal = or_bad_dump (dump_of dump) in
     let (u, settled_as, cut) = both_read (settled_or skew (capture_by binding read)) (in_blocks block) t e in
-    let same : u ≡ t = or_refused_is _ _ u t cut in
-    let (raw, captured, settles) = settled_is skew (capture_by binding read) u settled_as in
+    let same : u ≡ t = or_refused-ok _ _ u t cut in
+    let (raw, captured, settles) = settled_or-ok skew (capture_by binding read) u settled_as in
     let (whole, taken, short) = both_read (recording_by binding read) or_too_long raw
     (sym (capture_by-short binding read) ∙ captured) in
-    let all : whole ≡ raw = limited_is _ _ whole raw short in
+    let all : whole ≡ raw = or_bad_binding-limited _ _ whole raw short in
     let (contents, dumped, made) = both_read read _ whole taken in
     record {
       contents = contents;
-      read_is = dump_read_is (dump_of dump) contents dumped;
+      read_is = or_bad_dump-ok (dump_of dump) contents dumped;
       raw = raw;
-      raw_is = bound_is (recording_of binding contents) raw (made ∙ ap (λ (r : Trace). Ok r) all);
+      raw_is = or_bad_binding-ok (recording_of binding contents) raw (made ∙ ap (λ (r : Trace). Ok r) all);
       settles = settles ∙ same;
     }
 
 module _ (skew : ℕ) (binding : BoundLines) (dump : List ℕ) (t : Trace) (is : IsRecorded skew binding dump t) where
-  text_is : recording_of_text binding dump ≡ Ok is.raw
+  -- the text of the dump makes the recording `raw`
+  recording_of_text-raw : recording_of_text binding dump ≡ Ok is.raw
   unfolding recording_of_text
-  text_is =
+  recording_of_text-raw =
       ap (recording_read binding) is.read_is ∙ ap (λ (r : Result Trace BindFault). or_binding r) is.raw_is
 
+  -- the recording `raw` has levels for all lines, and is well formed
   raw_recording : IsRecording is.raw
   unfolding recording_of recording levels_after
   raw_recording =
@@ -101,17 +112,20 @@ module _ (skew : ℕ) (binding : BoundLines) (dump : List ℕ) (t : Trace) (is :
       record {
         whole = subst (λ (r : Trace). length r.opening.levels ≡ line_count) (ap (trace_in is.raw) read.2)
             (levels-all binding.slots read.0 is.contents.instants 0);
-        formed = recorded-formed binding dump is.raw text_is;
+        formed = recorded-formed binding dump is.raw recording_of_text-raw;
       }
 
+  -- the recording `t` is well formed
   formed : malformed_step t ≡ None
   formed = subst (λ (u : Trace). malformed_step u ≡ None) is.settles (is_recording skew is.raw raw_recording).formed
 
+  -- the times of `t` don't descend
   ordered : (i j : ℕ) → i ≤ j → j ≤ last_instant t → time_at t i ≤ time_at t j
   ordered i j le most =
       let all : i + (j - i) ≡ j = omega (arith, le) in
       subst (λ (k : ℕ). time_at t i ≤ time_at t k) all (times_order t formed i (j - i) (omega (arith, le, most)))
 
+  -- the dump has the times of the recording `t`
   pub has_times : HasTimes dump t
   has_times =
       let read : IsDump dump is.contents = dump_is dump is.contents is.read_is in
@@ -126,6 +140,7 @@ module _ (skew : ℕ) (binding : BoundLines) (dump : List ℕ) (t : Trace) (is :
         within = changes_within t;
       }
 
+  -- the definitions of the dump are read
   pub defines : (d : Defined (List Variable)) × (header_of appended dump (nothing_declared []) (tokens dump) ≡ Ok d)
   defines =
       let read = both_read (whole_header dump) contents_behind is.contents (sym (dump_of-header dump) ∙ is.read_is) in

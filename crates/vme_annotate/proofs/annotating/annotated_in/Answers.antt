@@ -4,7 +4,7 @@ use Rattle.vme_stream.specs.declared.refusal.Refusal.{Refusal}
 use Rattle.vme_commands.specs.declared.built_in.TheConstants.{BLOCK}
 use Rattle.vme_annotate.specs.Prepared.{GivesPrepared, recording_in}
 use Rattle.vme_annotate.proofs.EndsLemmas.{AnswerGives-from_GivesTimedListing, GivesPrepared-from_AnswerGives}
-use Rattle.vme_annotate.proofs.RecordedLemmas.{defines, has_times, recorded}
+use Rattle.vme_annotate.proofs.RecordedLemmas.{defines, has_times, IsRecorded-listed}
 use Rattle.vme_annotate.proofs.annotating.annotated_in.Goals as goal
 
 pub returns-in-Err : goal.returns-in-Err
@@ -19,7 +19,7 @@ added_to-requires c =
     let (t, is, timed) = rw c.deref.ensures.value at c.in-Ok.ensures in
     rw c.deref-2.ensures.value
     (defines c.args.skew c.args.bound.now c.args.text.items t
-    (recorded c.args.skew c.args.bound.now c.args.text.items BLOCK t is))
+    (IsRecorded-listed c.args.skew c.args.bound.now c.args.text.items BLOCK t is))
 
 pub returns-in-Err-added_to : goal.returns-in-Err-added_to
 returns-in-Err-added_to c =
@@ -34,7 +34,7 @@ returns-in-Ok-changes_of c =
       record {
         timed = timed;
         has_times = has_times c.args.skew c.args.bound.now c.args.text.items t
-            (recorded c.args.skew c.args.bound.now c.args.text.items BLOCK t is);
+            (IsRecorded-listed c.args.skew c.args.bound.now c.args.text.items BLOCK t is);
         planned = rw c.rows.ensures at c.in-Ok-changes_of.ensures;
         added = rw c.deref-2.ensures.value at c.in-Ok-added_to.ensures;
       },

@@ -7,7 +7,7 @@ use Rattle.vme_annotate.specs.Writing.{IsWrittenTo}
 use Rattle.vme_annotate.proofs.EndsLemmas.{planned_of}
 use Rattle.vme_annotate.proofs.InsertLemmas.{first_written, rest_written, written_front}
 use Rattle.vme_annotate.proofs.PlaceLemmas.{next_written, none_put}
-use Rattle.vme_annotate.proofs.PutLemmas.{put_nothing}
+use Rattle.vme_annotate.proofs.PutLemmas.{IsHeld-nothing}
 use Rattle.vme_annotate.proofs.inserting.write_annotated.Goals as goal
 
 pub loop-change-init : goal.loop-change-init
@@ -22,7 +22,7 @@ loop-change-init g c =
     let told = c.after_definitions-written.ensures in
     let text_is = ap (λ (places : TimesLeft). places.text) c.in-Some.ensures.text in
     let le : start ≤ w.count = omega (arith, c.in-Some.ensures.order.0, told.count) in
-    let empty : HasPut sink sink c.new-buffer.result [] = rw c.new-buffer.ensures (put_nothing sink) in
+    let empty : HasPut sink sink c.new-buffer.result [] = rw c.new-buffer.ensures (IsHeld-nothing sink) in
     let put = c.put-2.ensures sink _ (c.put_declarations.ensures sink _ (c.put.ensures sink _ empty)) in
     record {
       within = told.within;

@@ -6,13 +6,13 @@ use Rattle.vme_annotate.specs.Outputs.{HasPut}
 use Rattle.vme_annotate.specs.TimedListings.{timed_header}
 use Rattle.vme_annotate.specs.TimedRows.{timed_line}
 use Rattle.vme_annotate.proofs.PlannedLemmas.{next_of, row_at}
-use Rattle.vme_annotate.proofs.PutLemmas.{put_nothing}
+use Rattle.vme_annotate.proofs.PutLemmas.{IsHeld-nothing}
 use Rattle.vme_annotate.proofs.listing_times.write_times.Goals as goal
 
 pub loop-row-init : goal.loop-row-init
 loop-row-init g c =
     let start = g.W.Sink.writing c.args.sink.now in
-    let empty : HasPut start start c.new-buffer.result [] = rw c.new-buffer.ensures (put_nothing start) in
+    let empty : HasPut start start c.new-buffer.result [] = rw c.new-buffer.ensures (IsHeld-nothing start) in
     c.put.ensures start _ empty
 
 pub loop-row-preserved : goal.loop-row-preserved

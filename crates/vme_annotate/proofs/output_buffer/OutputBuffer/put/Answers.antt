@@ -1,5 +1,5 @@
 use Rattle.vme_annotate.specs.Outputs.{HasPut}
-use Rattle.vme_annotate.proofs.PutLemmas.{put_more}
+use Rattle.vme_annotate.proofs.PutLemmas.{HasPutBy-append}
 use Rattle.vme_annotate.proofs.output_buffer.OutputBuffer.put.Goals.{then-bytes-self, else-bytes-self}
 use Rattle.vme_annotate.proofs.output_buffer.OutputBuffer.put.Goals as goal
 
@@ -11,4 +11,4 @@ returns g c = λ start made put.
       | else-bytes-self w ↦ rw (w.self-is, w.sink-is) put
     ] in
     rw (c.hold.ensures.failed, c.hold.ensures.bytes)
-    (put_more c.if-bytes-self.self.failed start now c.if-bytes-self.self.bytes made c.args.bytes.now before)
+    (HasPutBy-append c.if-bytes-self.self.failed start now c.if-bytes-self.self.bytes made c.args.bytes.now before)

@@ -1,13 +1,13 @@
 use Rattle.std.proofs.Common.{Bool, [], ◌++◌, sym, subst}
 use Rattle.vme_annotate.specs.Outputs.{HasPutBy}
-use Rattle.vme_annotate.proofs.PutLemmas.{fails_longer, wrote}
+use Rattle.vme_annotate.proofs.PutLemmas.{FailsToWrite-longer, HasPutBy-write}
 use Rattle.vme_annotate.proofs.output_buffer.OutputBuffer.write.Goals as goal
 
 pub returns-then-self-clause-put : goal.returns-then-self-clause-put
 returns-then-self-clause-put g c = λ start made put.
     let failed = rw (sym c.self.view_is, c.if-self.true) at put in
     rw (sym c.self.view_is, c.if-self.true)
-    (fails_longer start (g.W.Sink.writing c.args.sink.now) made c.args.bytes.now failed)
+    (FailsToWrite-longer start (g.W.Sink.writing c.args.sink.now) made c.args.bytes.now failed)
 
 pub returns-clause-put : goal.returns-clause-put
 returns-clause-put g c = λ start made put.
@@ -17,4 +17,4 @@ returns-clause-put g c = λ start made put.
     let held = rw empty at (rw (sym c.self.view_is, c.if-self.false) at put) in
     rw empty (subst (λ (b : Bool). HasPutBy b start now [] (made ++ c.args.bytes.now))
     (sym c.is_err-self-inside.ensures.value)
-    (wrote start old now made c.args.bytes.now c.write_all.result c.write_all.ensures held))
+    (HasPutBy-write start old now made c.args.bytes.now c.write_all.result c.write_all.ensures held))
