@@ -6,7 +6,7 @@ use Rattle.std.specs.List.{range_with_len}
 use Rattle.std.specs.Option.{option_or, option_map_or}
 use Rattle.std.proofs.lemmas.Bool.{and_from, and_right, cases_eq, cond-true, lt-ltb}
 use Rattle.std.proofs.lemmas.Bool.Decides.{nat_tests}
-use Rattle.std.proofs.lemmas.List.{length-set}
+use Rattle.std.proofs.lemmas.List.{length-set, map_push}
 use Rattle.std.proofs.lemmas.List.FromFn.{get_or-map-range_with_len, length-map-range_with_len}
 use Rattle.std.proofs.lemmas.Option.{unwrap_or-slice_get}
 use Rattle.vme_trace.specs.Instants.{greatest, those}
@@ -30,7 +30,7 @@ use Rattle.vme_bind.specs.NetLines.{line_bits_of, is_on, place_in, is_line_bit, 
 use Rattle.vme_bind.specs.Capture.{level_in, last_bits, values_of, bits_at, last_change, level_by, level_after}
 use Rattle.vme_bind.specs.Capture.{levels_after}
 use Rattle.vme_bind.specs.Recording.{line_change, valued}
-use Rattle.vme_bind.proofs.RecorderLemmas.{map-more, same_levels, set_other, set_same, those-no, those-yes, zero_le}
+use Rattle.vme_bind.proofs.RecorderLemmas.{same_levels, set_other, set_same, those-no, those-yes, zero_le}
 
 -- ---- changes of the lines of a range
 
@@ -63,7 +63,7 @@ at_those g v l xs = level_at (changed v (map (to_level g) xs)) l
 
 at_more : (g : ℕ → Level) (v : Levels) (l n : ℕ) (xs : List ℕ) → at_those g v l (xs ++ n ∷ [])
     ≡ level_at (set_level (changed v (map (to_level g) xs)) n (g n)) l
-at_more g v l n xs = ap (λ (cs : List Change). level_at (changed v cs) l) (map-more (to_level g) xs n)
+at_more g v l n xs = ap (λ (cs : List Change). level_at (changed v cs) l) (map_push (to_level g) xs n)
     ∙ ap (λ (w : Levels). level_at w l) (changed-more v (map (to_level g) xs) (to_level g n))
 
 -- one number more for `changed-those`

@@ -6,7 +6,7 @@ use Rattle.std.proofs.Math.Dec.{eqb-suc-zero, eqb-zero-suc, eqb-suc-suc}
 use Rattle.std.specs.Global.{Vec}
 use Rattle.std.specs.Prelude.{◌==◌, IsTrue}
 use Rattle.std.proofs.lemmas.Bool.{cases_Bool, cond-false, eqb-true, false≢true}
-use Rattle.std.proofs.lemmas.List.{take_more}
+use Rattle.std.proofs.lemmas.List.{map_push, take_more}
 use Rattle.std.proofs.lemmas.List.Elements.{All-append, All-cons, All-nil}
 use Rattle.vme_trace.specs.Instants.{those}
 use Rattle.vme_trace.specs.LineNumbers.{line_count, has_line}
@@ -89,17 +89,13 @@ pub line_bits-first : (line_bits : NetLines) (slots : ℕ) (bound_groups : List 
 unfolding those line_bits_on
 line_bits-first line_bits slots bound_groups e net = ap (λ (nets : List (Vec LineBit)). line_bits_on nets net) e
 
-map-more : (f : ℕ → LineBit) (xs : List ℕ) (x : ℕ) → map f (xs ++ x ∷ []) ≡ map f xs ++ f x ∷ []
-map-more f [] x = refl
-map-more f (y ∷ xs) x = ap (λ (ys : List LineBit). f y ∷ ys) (map-more f xs x)
-
 -- a line whose source is a bit of `net` is the last of the net's lines below n + 1
 below-yes : (slots : ℕ) (bound_groups : List BoundGroup) (net n : ℕ) → is_on net (line_source slots bound_groups n)
     ≡ true → line_bits_below slots bound_groups net (n + 1) ≡ line_bits_below slots bound_groups net n
     ++ line_bit_at slots bound_groups n ∷ []
 unfolding is_line_bit
 below-yes slots bound_groups net n h = ap (map (line_bit_at slots bound_groups))
-    (those-yes (is_line_bit slots bound_groups net) n h) ∙ map-more (line_bit_at slots bound_groups)
+    (those-yes (is_line_bit slots bound_groups net) n h) ∙ map_push (line_bit_at slots bound_groups)
     (those (is_line_bit slots bound_groups net) 0 n) n
 
 -- a line whose source isn't a bit of `net` is none of the net's lines

@@ -5,7 +5,7 @@ use Rattle.std.specs.Prelude.{nat_le, slice_set}
 use Rattle.std.proofs.lemmas.Bool.{cases_Bool, cases_lt, cases_eq, false≢true, not-false}
 use Rattle.std.proofs.lemmas.Bool.Decides.{nat_tests}
 use Rattle.std.proofs.lemmas.List.{get_or-set_same, get_or-set_other, get_or_default, same_lists, append-nil}
-use Rattle.std.proofs.lemmas.List.{length-set}
+use Rattle.std.proofs.lemmas.List.{length-set, map_push}
 use Rattle.std.proofs.lemmas.Option.{unwrap_or-slice_get}
 use Rattle.vme_trace.specs.Instants.{those}
 use Rattle.vme_trace.specs.Levels.{Levels, level_at, set_level, same_level}
@@ -229,10 +229,6 @@ shown-same n before now shown changes same h =
       above = λ l le. h.above l (omega (arith, le));
     }
 
-pub map-more : {X : Type 0} (f : ℕ → X) (xs : List ℕ) (x : ℕ) → map f (xs ++ x ∷ []) ≡ map f xs ++ f x ∷ []
-map-more f [] x = refl
-map-more {X = X} f (y ∷ xs) x = ap (λ (ys : List X). f y ∷ ys) (map-more f xs x)
-
 -- a line that isn't shown with its level in `now` differs
 pub differs-here : (n : ℕ) (before now shown : Levels) (changes : List Change)
     → same_level (level_at now n) (level_at shown n) ≡ false → AreShown n before now shown changes
@@ -256,7 +252,7 @@ shown-more n before now shown changes lt other h =
       shown_all = set_all shown n (level_at now n) h.shown_all;
       changes_are =
           ap (λ (cs : List Change). cs ++ change_to now n ∷ []) h.changes_are
-          ∙ sym (map-more (change_to now) (those (differs before now) 0 n) n)
+          ∙ sym (map_push (change_to now) (those (differs before now) 0 n) n)
           ∙ ap (map (change_to now)) (sym (those-yes (differs before now) n d));
       below = λ l below. elim (cases_eq l n) [
         | inl e ↦ ap (level_at (set_level shown n (level_at now n))) e

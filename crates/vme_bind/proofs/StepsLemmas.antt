@@ -5,7 +5,7 @@ use Rattle.std.specs.Prelude.{nat_le, nat_lt, ◌==◌, slice_get}
 use Rattle.std.specs.List.Sorted.{IsStrictlyIncreasing}
 use Rattle.std.proofs.lemmas.Bool.{cases_Bool, cases_lt, false≢true, le-leb, lt-ltb, not-false, not-true}
 use Rattle.std.proofs.lemmas.Bool.Decides.{nat_tests}
-use Rattle.std.proofs.lemmas.List.{append-nil, length-append, length-map}
+use Rattle.std.proofs.lemmas.List.{append-nil, length-append, length-map, map_push}
 use Rattle.vme_trace.specs.Instants.{any, those}
 use Rattle.vme_trace.specs.Levels.{Levels, level_at, same_level}
 use Rattle.vme_trace.specs.LineNumbers.{line_count, has_line}
@@ -168,10 +168,6 @@ changes-more v lowest (d ∷ cs) c h le below is =
 abbrev to_level : (ℕ → Level) → ℕ → Change
 to_level g l = record { line = l; level = g l }
 
-map-more : (f : ℕ → Change) (xs : List ℕ) (x : ℕ) → map f (xs ++ x ∷ []) ≡ map f xs ++ f x ∷ []
-map-more f [] x = refl
-map-more f (y ∷ xs) x = ap (λ (ys : List Change). f y ∷ ys) (map-more f xs x)
-
 record AreChanges (v : Levels) (n : ℕ) (cs : List Change) : Type 0 where
   sound : are_changes v 0 cs ≡ true
   below : LinesBelow n cs
@@ -184,7 +180,7 @@ changes-those v p g zero h = record { sound = refl; below = tt }
 changes-those v p g (suc n) h =
     let so_far = changes-those v p g n (λ l lt. h l (omega (arith, lt))) in
     subst (λ (m : ℕ). AreChanges v m (map (to_level g) (those p 0 m))) more (elim (cases_Bool (p n)) [
-      | inl yes' ↦ subst (AreChanges v (n + 1)) (sym (ap (map (to_level g)) (those-yes p n yes') ∙ map-more (to_level g)
+      | inl yes' ↦ subst (AreChanges v (n + 1)) (sym (ap (map (to_level g)) (those-yes p n yes') ∙ map_push (to_level g)
           (those p 0 n) n)) (record {
             sound = changes-more v 0 (map (to_level g) (those p 0 n)) (to_level g n) so_far.sound (omega arith)
                 so_far.below

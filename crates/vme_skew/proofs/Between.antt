@@ -169,16 +169,12 @@ changes_again u v k (c ∷ cs) whole same h =
     in
     ap (map (change_to end)) first
     ∙ ap (λ (x : Level). to_level c.line x ∷ map (change_to end) (those (differs v end) (c.line + 1) line_count)) here
-    ∙ ap (λ (ds : List Change). c ∷ ds) (changes_again next v (c.line + 1) cs (length-set_level u c.line c.level whole)
+    ∙ ap (λ (ds : List Change). c ∷ ds) (changes_again next v (c.line + 1) cs (set_all u c.line c.level whole)
     (λ l low. let ne : l ≢ c.line = omega (arith, low) in set_other u c.line l c.level ne
     ∙ same l (omega (arith, low, is.from))) is.rest)
   where
     to_level : ℕ → Level → Change
     to_level l x = record { line = l; level = x }
-
-    length-set_level : (v : Levels) (l : ℕ) (x : Level) → length v.levels ≡ line_count → length (set_level v l x).levels
-        ≡ line_count
-    length-set_level v l x e = set_all v l x e
 
 -- a step that may follow is the step between the levels before it and those after it
 pub step-between : (time : ℕ) (v : Levels) (cs : List Change) → length v.levels ≡ line_count → are_changes v 0 cs ≡ true

@@ -4,7 +4,7 @@ use Rattle.std.proofs.Common.{length, map, get_or, refl, sym, ap, ◌∙◌, sub
 use Rattle.std.specs.Prelude.{All, Contains}
 use Rattle.std.specs.List.Sorted.{IsNonDecreasing, IsPermutation}
 use Rattle.std.proofs.lemmas.Bool.{cases_Bool, cases_lt, cases_eq, false≢true, not_from_false}
-use Rattle.std.proofs.lemmas.List.{get_or_default}
+use Rattle.std.proofs.lemmas.List.{get_or_default, map_push}
 use Rattle.std.proofs.lemmas.List.Elements.{All-append, All-cons, All-nil, Contains-append_left, Contains-append_right}
 use Rattle.std.proofs.lemmas.List.Sorted.{All-permutation, Contains-permutation}
 use Rattle.vme_trace.specs.Instants.{those}
@@ -14,7 +14,7 @@ use Rattle.vme_trace.specs.declared.level.Level.{Level}
 use Rattle.vme_trace.specs.declared.step.Change.{Change}
 use Rattle.vme_bind.specs.Recording.{IsLine, differs, change_to, changes_between}
 use Rattle.vme_bind.proofs.RecorderLemmas.{same_self, same-is, no_difference_at, same_unless_differs}
-use Rattle.vme_bind.proofs.RecorderLemmas.{set_same, set_other, set_all, same_levels, those-yes, those-skip, map-more}
+use Rattle.vme_bind.proofs.RecorderLemmas.{set_same, set_other, set_all, same_levels, those-yes, those-skip}
 use Rattle.vme_skew.specs.Group.{ListsTouchedLines}
 
 -- ---- the lines that were touched
@@ -197,7 +197,7 @@ shown-more touched i before now shown changes sorted t here other h =
           ap (λ (cs : List Change). cs ++ change_to now (get_or touched i 0) ∷ [])
           (h.changes_are ∙ ap (map (change_to now))
           (sym (those-skip (differs before now) (bound touched i) (get_or touched i 0) low quiet)))
-          ∙ sym (map-more (change_to now) (those (differs before now) 0 (get_or touched i 0)) (get_or touched i 0))
+          ∙ sym (map_push (change_to now) (those (differs before now) 0 (get_or touched i 0)) (get_or touched i 0))
           ∙ ap (map (change_to now)) (sym (those-yes (differs before now) (get_or touched i 0) d)
           ∙ ap (those (differs before now) 0) (sym next));
       below = λ l lt. elim (cases_eq l (get_or touched i 0)) [
