@@ -29,7 +29,7 @@ use Rattle.vme_bind.specs.AssignedLines.{none_assigned}
 use Rattle.vme_bind.specs.AssignedLines.{with_assigned}
 use Rattle.vme_bind.specs.declared.net_lines.LineBit.{LineBit}
 use Rattle.vme_bind.specs.declared.net_lines.NetLines.{NetLines}
-use Rattle.vme_bind.proofs.RecorderLemmas.{same_levels, set_all, set_other, set_same}
+use Rattle.vme_bind.proofs.RecorderLemmas.{same_levels, length-set_level, level_at-set_other, level_at-set_same}
 
 -- ---- the lines that are assigned a level
 
@@ -90,21 +90,23 @@ mixed-set : (first those these : Levels) (assigned : List Bool) (n : ℕ) (x : L
     assigned
     → AreMixed first (set_level those n x) (set_level these n x) (slice_set assigned n true)
 mixed-set first those these assigned n x h = record {
-  those_all = set_all those n x h.those_all;
-  all = set_all these n x h.all;
+  those_all = length-set_level those n x h.those_all;
+  all = length-set_level these n x h.all;
   assigned_all = length-set assigned n true ∙ h.assigned_all;
   slots = h.slots;
   levels = λ l lt.
       elim (cases_eq l n) [
         | inl same ↦
-            ap (level_at (set_level these n x)) same ∙ set_same these n x (omega (arith, lt, same, h.all))
-            ∙ sym (ap (level_at (set_level those n x)) same ∙ set_same those n x (omega (arith, lt, same, h.those_all)))
+            ap (level_at (set_level these n x)) same ∙ level_at-set_same these n x (omega (arith, lt, same, h.all))
+            ∙ sym (ap (level_at (set_level those n x)) same ∙ level_at-set_same those n x
+            (omega (arith, lt, same, h.those_all)))
             ∙ sym (cond-true (is_assigned (slice_set assigned n true) l) (level_at (set_level those n x) l)
             (level_at first l) (ap (is_assigned (slice_set assigned n true)) same ∙ assigned-here assigned n
             (omega (arith, lt, same, h.assigned_all))))
         | inr ne ↦
-            set_other these n l x ne ∙ h.levels l lt
-            ∙ ap (λ (y : Level). cond (is_assigned assigned l) y (level_at first l)) (sym (set_other those n l x ne))
+            level_at-set_other these n l x ne ∙ h.levels l lt
+            ∙ ap (λ (y : Level). cond (is_assigned assigned l) y (level_at first l))
+            (sym (level_at-set_other those n l x ne))
             ∙ ap (λ (b : Bool). cond b (level_at (set_level those n x) l) (level_at first l))
             (sym (assigned-other assigned n l ne))
       ];
@@ -351,17 +353,17 @@ module _ (a : ReadSpeculatively) (before : Levels) (n : ℕ) (after : Levels)
       → AreLevelsAfterBelow a before (n + 1) (set_level after n x)
   left-assigned x lt assigned is = record {
     slots = h.slots;
-    all = set_all after n x h.all;
+    all = length-set_level after n x h.all;
     left = λ l below.
         elim (cases_eq l n) [
           | inl same ↦
-              ap (level_at (set_level after n x)) same ∙ set_same after n x (omega (arith, lt, h.all)) ∙ is
+              ap (level_at (set_level after n x)) same ∙ level_at-set_same after n x (omega (arith, lt, h.all)) ∙ is
               ∙ ap (level_at own) (sym same)
               ∙ sym (cond-true (is_assigned a.assigned l) (level_at own l) (level_at before l)
               (ap (is_assigned a.assigned) same ∙ assigned))
-          | inr ne ↦ set_other after n l x ne ∙ h.left l (omega (arith, below, ne))
+          | inr ne ↦ level_at-set_other after n l x ne ∙ h.left l (omega (arith, below, ne))
         ];
-    rest = λ l le. set_other after n l x (omega (arith, le)) ∙ h.rest l (omega (arith, le));
+    rest = λ l le. level_at-set_other after n l x (omega (arith, le)) ∙ h.rest l (omega (arith, le));
   }
 
   -- the line n keeps its level, where the piece assigns none to it

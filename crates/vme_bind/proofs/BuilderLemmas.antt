@@ -1,4 +1,4 @@
--- The recording that is made while a dump is read is that of its instants.
+-- The recording that is made as the changes of a dump are read is that of its instants.
 use Rattle.std.proofs.Common.{◌≡◌, ◌≢◌, ℕ, zero, suc, ◌+◌, ◌<◌, Bool, true, false, cond, eqb, List, [], ◌∷◌, ◌++◌}
 use Rattle.std.proofs.Common.{length, map, get_or, replicate, slice_set, refl, sym, ap, ◌∙◌, arith, append_assoc, inl}
 use Rattle.std.proofs.Common.{inr, Option, Some, None}
@@ -32,56 +32,64 @@ use Rattle.vme_bind.proofs.CaptureLemmas.{after_value-at}
 use Rattle.vme_bind.proofs.CaptureLemmas.{length-valued, slots-valued, valued-at, levels-all, length-changed}
 use Rattle.vme_bind.proofs.OpeningLemmas.{recording-first, recording-more}
 
+-- a net without a value in the current instant
 abbrev no_bits : Option (List Bit)
 no_bits = None
 
 -- ---- the last bits of a net among the values of an instant
 
-or_none : (o : Option (List Bit)) → option_or o None ≡ o
-or_none None = refl
-or_none (Some bits) = refl
+option_or-none : (o : Option (List Bit)) → option_or o None ≡ o
+option_or-none None = refl
+option_or-none (Some bits) = refl
 
-other_net : (v : Value) (values : List Value) (net : ℕ) → v.net ≢ net → last_bits net (v ∷ values)
+-- a value of another net isn't the last one of `net`
+last_bits-other_net : (v : Value) (values : List Value) (net : ℕ) → v.net ≢ net → last_bits net (v ∷ values)
     ≡ last_bits net values
-other_net v values net ne =
+last_bits-other_net v values net ne =
     ap (λ (b : Bool). option_or (last_bits net values) (cond b (Some v.bits) None)) (ne_eqb v.net net ne)
-    ∙ or_none (last_bits net values)
+    ∙ option_or-none (last_bits net values)
 
-last-below : (net n : ℕ) (current : CurrentValues) → net < n → last_bits net (values_from n current) ≡ None
-last-below net n [] lt = refl
-last-below net n (None ∷ current) lt = last-below net (n + 1) current (omega (arith, lt))
-last-below net n (Some bits ∷ current) lt =
+-- values of nets from n on are of no net below n
+last_bits-below : (net n : ℕ) (current : CurrentValues) → net < n → last_bits net (values_from n current) ≡ None
+last_bits-below net n [] lt = refl
+last_bits-below net n (None ∷ current) lt = last_bits-below net (n + 1) current (omega (arith, lt))
+last_bits-below net n (Some bits ∷ current) lt =
     let ne : n ≢ net = omega (arith, lt) in
-    other_net (record { net = n; bits = bits }) (values_from (n + 1) current) net ne ∙ last-below net (n + 1) current
+    last_bits-other_net (record { net = n; bits = bits }) (values_from (n + 1) current) net ne
+    ∙ last_bits-below net (n + 1) current
     (omega (arith, lt))
 
-same_net : (n net : ℕ) (bits : List Bit) (values : List Value) → n ≡ net → last_bits net values ≡ None
+-- a value of `net` is its last one, if no later value is of `net`
+last_bits-same_net : (n net : ℕ) (bits : List Bit) (values : List Value) → n ≡ net → last_bits net values ≡ None
     → last_bits net (record { net = n; bits = bits } ∷ values) ≡ Some bits
-same_net n net bits values e none =
+last_bits-same_net n net bits values e none =
     ap (λ (o : Option (List Bit)). option_or o (cond (eqb n net) (Some bits) None)) none
     ∙ ap (λ (b : Bool). cond b (Some bits) None) (eq-eqb n net e)
 
 -- the last bits of a net among the current values are those at its place
-pub last-from : (current : CurrentValues) (n k net : ℕ) → n + k ≡ net → last_bits net (values_from n current)
+pub last_bits-values_from : (current : CurrentValues) (n k net : ℕ) → n + k ≡ net
+    → last_bits net (values_from n current)
     ≡ get_or current k None
-last-from [] n k net e = refl
-last-from (None ∷ current) n zero net e = last-below net (n + 1) current (omega (arith, e))
-last-from (None ∷ current) n (suc k) net e = last-from current (n + 1) k net (omega (arith, e))
-last-from (Some bits ∷ current) n zero net e = same_net n net bits (values_from (n + 1) current) (omega (arith, e))
-    (last-below net (n + 1) current (omega (arith, e)))
-last-from (Some bits ∷ current) n (suc k) net e =
+last_bits-values_from [] n k net e = refl
+last_bits-values_from (None ∷ current) n zero net e = last_bits-below net (n + 1) current (omega (arith, e))
+last_bits-values_from (None ∷ current) n (suc k) net e = last_bits-values_from current (n + 1) k net (omega (arith, e))
+last_bits-values_from (Some bits ∷ current) n zero net e = last_bits-same_net n net bits (values_from (n + 1) current)
+    (omega (arith, e))
+    (last_bits-below net (n + 1) current (omega (arith, e)))
+last_bits-values_from (Some bits ∷ current) n (suc k) net e =
     let ne : n ≢ net = omega (arith, e) in
-    other_net (record { net = n; bits = bits }) (values_from (n + 1) current) net ne ∙ last-from current (n + 1) k net
+    last_bits-other_net (record { net = n; bits = bits }) (values_from (n + 1) current) net ne
+    ∙ last_bits-values_from current (n + 1) k net
     (omega (arith, e))
 
--- ---- one change more
+-- ---- after one change more
 
 -- setting the current value of `net` changes the last bits of that net alone
-last-set : (current : CurrentValues) (net at : ℕ) (bits : List Bit) → net < length current
+last_bits-set : (current : CurrentValues) (net at : ℕ) (bits : List Bit) → net < length current
     → last_bits at (values_from 0 (slice_set current net (Some bits))) ≡ cond (net == at) (Some bits)
     (last_bits at (values_from 0 current))
-last-set current net at bits lt =
-    last-from (slice_set current net (Some bits)) 0 at at (omega arith)
+last_bits-set current net at bits lt =
+    last_bits-values_from (slice_set current net (Some bits)) 0 at at (omega arith)
     ∙ elim (cases_eq net at) [
       | inl e ↦
           ap (λ (k : ℕ). get_or (slice_set current net (Some bits)) k None) (sym e) ∙ get_or-set_same current net
@@ -89,21 +97,21 @@ last-set current net at bits lt =
           ∙ sym (ap (λ (b : Bool). cond b (Some bits) (last_bits at (values_from 0 current))) (eq-eqb net at e))
       | inr ne ↦
           get_or-set_other current net at (Some bits) None (λ e. ne (sym e))
-          ∙ sym (last-from current 0 at at (omega arith))
+          ∙ sym (last_bits-values_from current 0 at at (omega arith))
           ∙ sym (ap (λ (b : Bool). cond b (Some bits) (last_bits at (values_from 0 current))) (ne_eqb net at ne))
     ]
 
 -- the level of a line after the current values and then `bits` for `net` is that after the values with `bits` set
-one_more : (l net : ℕ) (source : Option LineSource) (current : CurrentValues) (bits : List Bit) (base : Level)
+by_values-set : (l net : ℕ) (source : Option LineSource) (current : CurrentValues) (bits : List Bit) (base : Level)
     → net < length current
     → cond (is_on net source) (line_bit_level l source bits) (by_values l source (values_from 0 current) base)
     ≡ by_values l source (values_from 0 (slice_set current net (Some bits))) base
-one_more l net None current bits base lt = refl
-one_more l net (Some (Always level)) current bits base lt = refl
-one_more l net (Some (AtBit bit)) current bits base lt =
+by_values-set l net None current bits base lt = refl
+by_values-set l net (Some (Always level)) current bits base lt = refl
+by_values-set l net (Some (AtBit bit)) current bits base lt =
     by_test (net == bit.net) (last_bits bit.net (values_from 0 current))
     ∙ sym (ap (λ (o : Option (List Bit)). option_map_or (level_in l bit.place) o base)
-    (last-set current net bit.net bits lt))
+    (last_bits-set current net bit.net bits lt))
   where
     by_test : (b : Bool) (o : Option (List Bit)) → cond b (level_in l bit.place bits)
         (option_map_or (level_in l bit.place) o base) ≡ option_map_or (level_in l bit.place) (cond b (Some bits) o) base
@@ -133,19 +141,21 @@ module _ (slots : ℕ) (bound_groups : List BoundGroup) (line_bits : NetLines)
       ∙ len) l lt2
       ∙ ap (cond (is_on net (line_source slots bound_groups l)) (line_bit_level l (line_source slots bound_groups l)
       bits)) (valued-at slots bound_groups line_bits all (values_from 0 current) v len l lt2)
-      ∙ one_more l net (line_source slots bound_groups l) current bits (level_at v l) lt
+      ∙ by_values-set l net (line_source slots bound_groups l) current bits (level_at v l) lt
       ∙ sym (valued-at slots bound_groups line_bits all (values_from 0 (slice_set current net (Some bits))) v len l
       lt2))
 
--- ---- what is made so far
+-- ---- the builder's state
 
-none_from : (n k : ℕ) → values_from k (replicate n no_bits) ≡ []
-none_from zero k = refl
-none_from (suc n) k = none_from n (k + 1)
+-- no net with a value gives no values
+values_from-no_bits : (n k : ℕ) → values_from k (replicate n no_bits) ≡ []
+values_from-no_bits zero k = refl
+values_from-no_bits (suc n) k = values_from-no_bits n (k + 1)
 
-next_in : (done rest : List Instant) (x : Instant) → slice_get (done ++ x ∷ rest) (length done) ≡ Some x
-next_in [] rest x = refl
-next_in (y ∷ done) rest x = next_in done rest x
+-- the instant after those of `done`
+slice_get-next : (done rest : List Instant) (x : Instant) → slice_get (done ++ x ∷ rest) (length done) ≡ Some x
+slice_get-next [] rest x = refl
+slice_get-next (y ∷ done) rest x = slice_get-next done rest x
 
 -- the state of the builder after the first `n` instants, with the values `current` so far in the next
 pub record IsMade (slots : ℕ) (bound_groups : List BoundGroup) (count : ℕ) (instants : List Instant) (n : ℕ)
@@ -181,8 +191,11 @@ module _ (slots : ℕ) (bound_groups : List BoundGroup) (count : ℕ) (instants 
         recorded = h.recorded;
       }
 
-  none_said : (line_bits : NetLines) (n : ℕ) (v : Levels) → v ≡ valued line_bits (values_from 0 (replicate n no_bits)) v
-  none_said line_bits n v = sym (ap (λ (values : List Value). valued line_bits values v) (none_from n 0))
+  -- no values leave the levels as they are
+  valued-no_values : (line_bits : NetLines) (n : ℕ) (v : Levels) → v
+      ≡ valued line_bits (values_from 0 (replicate n no_bits)) v
+  valued-no_values line_bits n v = sym (ap (λ (values : List Value). valued line_bits values v)
+      (values_from-no_bits n 0))
 
   -- the end of an instant keeps `Makes`: the instant is then the last of `done`
   pub makes-instant : (done : List Instant) (current : CurrentValues) (m : BuilderState) (time : ℕ) → Makes done current
@@ -194,7 +207,8 @@ module _ (slots : ℕ) (bound_groups : List BoundGroup) (count : ℕ) (instants 
       let x : Instant = record { time = time; values = values_from 0 current } in
       let whole : instants ≡ done ++ x ∷ rest = e ∙ append_assoc done (x ∷ []) rest in
       let h = made (x ∷ rest) whole in
-      let found : slice_get instants n ≡ Some x = ap (λ (xs : List Instant). slice_get xs n) whole ∙ next_in done rest
+      let found : slice_get instants n ≡ Some x = ap (λ (xs : List Instant). slice_get xs n) whole
+      ∙ slice_get-next done rest
       x in
       let v : Levels = levels_after slots bound_groups instants n in
       let count_more : n + 1 ≡ length (done ++ x ∷ []) = sym (length_push done x) in
@@ -206,7 +220,7 @@ module _ (slots : ℕ) (bound_groups : List BoundGroup) (count : ℕ) (instants 
         line_bits = h.line_bits;
         room = length-replicate (length current) None ∙ h.room;
         shown = after;
-        now = after ∙ none_said m.line_bits (length current) (levels_after slots bound_groups instants
+        now = after ∙ valued-no_values m.line_bits (length current) (levels_after slots bound_groups instants
             (length (done ++ x ∷ [])));
         recorded =
             ap (λ (t : Trace). with_steps t (step_between time m.progress.shown m.progress.now)) h.recorded
@@ -225,7 +239,7 @@ module _ (slots : ℕ) (bound_groups : List BoundGroup) (count : ℕ) (instants 
         line_bits = begun.line_bits;
         room = length-replicate count None;
         shown = ap (λ (p : RecorderLevels). p.shown) begun.progress ∙ opens;
-        now = ap (λ (p : RecorderLevels). p.now) begun.progress ∙ opens ∙ none_said m.line_bits count
+        now = ap (λ (p : RecorderLevels). p.now) begun.progress ∙ opens ∙ valued-no_values m.line_bits count
             (levels_after slots bound_groups instants 0);
         recorded = recording-first slots bound_groups instants m.recorded opens begun.none;
       }

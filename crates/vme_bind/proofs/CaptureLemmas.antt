@@ -30,7 +30,8 @@ use Rattle.vme_bind.specs.NetLines.{line_bits_of, is_on, place_in, is_line_bit, 
 use Rattle.vme_bind.specs.Capture.{level_in, last_bits, values_of, bits_at, last_change, level_by, level_after}
 use Rattle.vme_bind.specs.Capture.{levels_after}
 use Rattle.vme_bind.specs.Recording.{line_change, valued}
-use Rattle.vme_bind.proofs.RecorderLemmas.{same_levels, set_other, set_same, those-no, those-yes, zero_le}
+use Rattle.vme_bind.proofs.RecorderLemmas.{same_levels, level_at-set_other, level_at-set_same, those-no, those-yes}
+use Rattle.vme_bind.proofs.RecorderLemmas.{zero_le}
 
 -- ---- changes of the lines of a range
 
@@ -75,12 +76,12 @@ changed_those-step p g v n l true e lt so_far =
     ∙ elim (cases_eq l n) [
       | inl same ↦
           ap (level_at (set_level (changed v (map (to_level g) (those p 0 n))) n (g n))) same
-          ∙ set_same (changed v (map (to_level g) (those p 0 n))) n (g n)
+          ∙ level_at-set_same (changed v (map (to_level g) (those p 0 n))) n (g n)
           (omega (arith, length-changed v (map (to_level g) (those p 0 n)), lt))
           ∙ ap g (sym same) ∙ sym (cond-true (nat_lt l (n + 1) && p l) (g l) (level_at v l)
           (and_from (nat_lt l (n + 1)) (p l) (lt_itself l n same) (ap p same ∙ e)))
       | inr ne ↦
-          set_other (changed v (map (to_level g) (those p 0 n))) n l (g n) ne ∙ so_far
+          level_at-set_other (changed v (map (to_level g) (those p 0 n))) n l (g n) ne ∙ so_far
           ∙ ap (λ (b : Bool). cond b (g l) (level_at v l)) (tests_alike p l n (inl ne))
     ]
 changed_those-step p g v n l false e lt so_far =

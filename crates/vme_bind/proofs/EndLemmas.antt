@@ -14,40 +14,45 @@ use Rattle.vme_trace.proofs.Ranges.{any-fails}
 use Rattle.vme_bind.specs.Recording.{RecorderLevels, IsLine, differs, DifferWithin, change_to, changes_between}
 use Rattle.vme_bind.specs.Recording.{step_between}
 use Rattle.vme_bind.proofs.RecorderLemmas.{those-yes, those-skip, same_unless_differs, same_levels}
-use Rattle.vme_bind.proofs.RecorderLemmas.{set_same, set_other, set_all}
+use Rattle.vme_bind.proofs.RecorderLemmas.{level_at-set_same, level_at-set_other, length-set_level}
 use Rattle.vme_bind.proofs.StepsLemmas.{some_of}
 
-none_those : (p : ℕ → Bool) (n : ℕ) → any p 0 n ≡ false → those p 0 n ≡ []
+-- no number is listed where p holds for none
+those-none : (p : ℕ → Bool) (n : ℕ) → any p 0 n ≡ false → those p 0 n ≡ []
 unfolding those
-none_those p n h = those-skip p 0 n (omega arith) (λ l low lt. any-fails p 0 n l h low lt)
+those-none p n h = those-skip p 0 n (omega arith) (λ l low lt. any-fails p 0 n l h low lt)
 
+-- a step at `time` with these changes
 abbrev pub one_step : ℕ → List Change → List Step
 one_step time changes = record { time = time; changes = changes } ∷ []
 
-is_some : (n : ℕ) → 0 < n → (n == 0) ≡ false
-is_some n lt = grind (arith, nat_tests)
+-- a number above 0 isn't 0
+not_zero : (n : ℕ) → 0 < n → (n == 0) ≡ false
+not_zero n lt = grind (arith, nat_tests)
 
 -- where some line changes, there is a step
-pub step-some : (time : ℕ) (a b : Levels) (cs : List Change) → cs ≡ changes_between a b → (length cs == 0) ≡ false
+pub step_between-some : (time : ℕ) (a b : Levels) (cs : List Change) → cs ≡ changes_between a b → (length cs == 0)
+    ≡ false
     → one_step time cs ≡ step_between time a b
-step-some time a b cs e h = ap (one_step time) e ∙ by_any (any (differs a b) 0 line_count) refl
+step_between-some time a b cs e h = ap (one_step time) e ∙ by_any (any (differs a b) 0 line_count) refl
   where
     by_any : (t : Bool) → any (differs a b) 0 line_count ≡ t → one_step time (changes_between a b)
         ≡ cond t (one_step time (changes_between a b)) []
     by_any true k = refl
     by_any false k = absurd
         (false≢true
-        (sym h ∙ eq-eqb (length cs) 0 (ap length (e ∙ ap (map (change_to b)) (none_those (differs a b) line_count k)))))
+        (sym h ∙ eq-eqb (length cs) 0 (ap length (e ∙ ap (map (change_to b)) (those-none (differs a b) line_count k)))))
 
 -- where no line changes, there is no step
-pub step-none : (time : ℕ) (a b : Levels) (cs : List Change) → cs ≡ changes_between a b → (length cs == 0) ≡ true
+pub step_between-none : (time : ℕ) (a b : Levels) (cs : List Change) → cs ≡ changes_between a b → (length cs == 0)
+    ≡ true
     → step_between time a b ≡ []
-step-none time a b cs e h = by_any (any (differs a b) 0 line_count) refl
+step_between-none time a b cs e h = by_any (any (differs a b) 0 line_count) refl
   where
     by_any : (t : Bool) → any (differs a b) 0 line_count ≡ t → cond t (one_step time (changes_between a b)) [] ≡ []
     by_any true k = absurd
         (false≢true
-        (sym (is_some (length cs) (omega (
+        (sym (not_zero (length cs) (omega (
           arith,
           ap length e,
           length-map (those (differs a b) 0 line_count) (change_to b),
@@ -62,11 +67,12 @@ all-shown shown now first last h same = same_levels shown now (sym h.slots) h.sh
     (λ l lt. same_unless_differs shown now l (same l))
 
 -- where no line differs, there is no step
-pub step-same : (time : ℕ) (shown now : Levels) → ((l : ℕ) → differs shown now l ≡ false) → [] ≡ step_between time shown
+pub step_between-same : (time : ℕ) (shown now : Levels) → ((l : ℕ) → differs shown now l ≡ false) → []
+    ≡ step_between time shown
     now
 unfolding those
-step-same time shown now same =
-    sym (step-none time shown now []
+step_between-same time shown now same =
+    sym (step_between-none time shown now []
     (ap (map (change_to now)) (sym (those-skip (differs shown now) 0 line_count (omega arith) (λ l low lt. same l))))
     refl)
 
@@ -79,13 +85,15 @@ none_differs shown now first last none h l =
       | inr same ↦ same
     ]
 
+-- the recorder's levels: those that are shown, and those after the values so far
 abbrev pub progress : Levels → Levels → RecorderLevels
 progress shown now = record { shown = shown; now = now }
 
--- the step is that between the levels of `p`
-pub step-at : (time : ℕ) (p : RecorderLevels) (shown now : Levels) → p ≡ progress shown now → step_between time shown
+-- the step between `shown` and `now` is that between the levels of `p`
+pub step_between-progress : (time : ℕ) (p : RecorderLevels) (shown now : Levels) → p ≡ progress shown now
+    → step_between time shown
     now ≡ step_between time p.shown p.now
-step-at time p shown now e = ap (λ (q : RecorderLevels). step_between time q.shown q.now) (sym e)
+step_between-progress time p shown now e = ap (λ (q : RecorderLevels). step_between time q.shown q.now) (sym e)
 
 -- at the end, the levels `now` are shown
 pub ended : (p : RecorderLevels) (shown now after : Levels) → p ≡ progress shown now → after ≡ now → progress after now
@@ -94,16 +102,18 @@ ended p shown now after e is = ap (λ (v : Levels). progress v now) is
     ∙ ap (λ (q : RecorderLevels). progress q.now q.now) (sym e)
 
 -- where `last` is below `first`, the end of an instant changes nothing
-pub none-ended : (p : RecorderLevels) (shown now : Levels) (first last : ℕ) → p ≡ progress shown now
+pub ended-none : (p : RecorderLevels) (shown now : Levels) (first last : ℕ) → p ≡ progress shown now
     → DifferWithin shown now first last → last < first → p ≡ progress p.now p.now
-none-ended p shown now first last e h none = e ∙ ended p shown now shown e
+ended-none p shown now first last e h none = e ∙ ended p shown now shown e
     (all-shown shown now first last h (none_differs shown now first last none h))
 
 -- where `last` is below `first`, there is no step
-pub none-step : (time : ℕ) (p : RecorderLevels) (shown now : Levels) (first last : ℕ) → p ≡ progress shown now
+pub step_between-none_differs : (time : ℕ) (p : RecorderLevels) (shown now : Levels) (first last : ℕ) → p
+    ≡ progress shown now
     → DifferWithin shown now first last → last < first → [] ≡ step_between time p.shown p.now
-none-step time p shown now first last e h none = step-same time shown now (none_differs shown now first last none h)
-    ∙ step-at time p shown now e
+step_between-none_differs time p shown now first last e h none =
+    step_between-same time shown now (none_differs shown now first last none h)
+    ∙ step_between-progress time p shown now e
 
 -- where `first` is `last`, no other line differs
 pub first-alone : (p : RecorderLevels) (shown now : Levels) (first last : ℕ) → p ≡ progress shown now
@@ -115,6 +125,7 @@ first-alone p shown now first last view h e l ne =
       | inr none ↦ none
     ])
 
+-- the line `first` is one of the backplane
 pub first-exists : (p : RecorderLevels) (shown now : Levels) (first last : ℕ) → p ≡ progress shown now
     → DifferWithin shown now first last → IsLine p.now.slots first
 first-exists p shown now first last view h =
@@ -127,12 +138,14 @@ module _ (shown now : Levels) (first last line : ℕ) (h : DifferWithin shown no
   -- `shown`, with the line set to its level in `now`, is `now`
   pub lone-shown : set_level shown line (level_at now line) ≡ now
   lone-shown =
-      same_levels (set_level shown line (level_at now line)) now (sym h.slots) (set_all shown line (level_at now line)
+      same_levels (set_level shown line (level_at now line)) now (sym h.slots)
+      (length-set_level shown line (level_at now line)
       h.shown_all) h.now_all
       (λ l lt. elim (cases_eq l line) [
-        | inl e ↦ ap (level_at (set_level shown line (level_at now line))) e ∙ set_same shown line (level_at now line)
+        | inl e ↦ ap (level_at (set_level shown line (level_at now line))) e
+            ∙ level_at-set_same shown line (level_at now line)
             (omega (arith, is.below, h.shown_all)) ∙ ap (level_at now) (sym e)
-        | inr ne ↦ set_other shown line l (level_at now line) ne ∙ same_unless_differs shown now l (alone l ne)
+        | inr ne ↦ level_at-set_other shown line l (level_at now line) ne ∙ same_unless_differs shown now l (alone l ne)
       ])
 
   -- if it differs, the line's change is the only change
@@ -159,15 +172,19 @@ module _ (shown now : Levels) (first last line : ℕ) (h : DifferWithin shown no
 module _ (p : RecorderLevels) (shown now : Levels) (first last line : ℕ) (view : p ≡ progress shown now)
     (h : DifferWithin shown now first last)
     (exists : IsLine p.now.slots line) (alone : (l : ℕ) → l ≢ line → differs p.shown p.now l ≡ false) where
-  line_exists : IsLine shown.slots line
-  line_exists = subst (λ (s : ℕ). IsLine s line) (ap (λ (q : RecorderLevels). q.now.slots) view ∙ h.slots) exists
+  -- `line` is one of the backplane of `shown`
+  IsLine-shown : IsLine shown.slots line
+  IsLine-shown = subst (λ (s : ℕ). IsLine s line) (ap (λ (q : RecorderLevels). q.now.slots) view ∙ h.slots) exists
 
-  is_alone : (l : ℕ) → l ≢ line → differs shown now l ≡ false
-  is_alone l ne = subst (λ (q : RecorderLevels). differs q.shown q.now l ≡ false) view (alone l ne)
+  -- no other line differs in `shown` and `now`
+  differs-alone : (l : ℕ) → l ≢ line → differs shown now l ≡ false
+  differs-alone l ne = subst (λ (q : RecorderLevels). differs q.shown q.now l ≡ false) view (alone l ne)
 
+  -- `after`, which is `shown` with the line set to its level in `now`, is `now`
   pub line-shown : (after : Levels) → after ≡ set_level shown line (level_at now line) → after ≡ now
-  line-shown after set = set ∙ lone-shown shown now first last line h line_exists is_alone
+  line-shown after set = set ∙ lone-shown shown now first last line h IsLine-shown differs-alone
 
+  -- with `after` shown, the recorder's levels are those after the end of the instant: `now` is shown
   pub line-ended : (after : Levels) → after ≡ set_level shown line (level_at now line) → progress after now
       ≡ progress p.now p.now
   line-ended after set = ended p shown now after view (line-shown after set)
@@ -178,14 +195,15 @@ module _ (p : RecorderLevels) (shown now : Levels) (first last line : ℕ) (view
       → one_step time changes ≡ step_between time p.shown p.now
   line-step time changes is other =
       ap (one_step time) is
-      ∙ step-some time shown now (change_to now line ∷ []) (lone-change shown now first last line h line_exists is_alone
+      ∙ step_between-some time shown now (change_to now line ∷ [])
+      (lone-change shown now first last line h IsLine-shown differs-alone
       other) refl
-      ∙ step-at time p shown now view
+      ∙ step_between-progress time p shown now view
 
   -- where the line has the level that is shown, there is no step
   pub line-no_step : (time : ℕ) → same_level (level_at shown line) (level_at now line) ≡ true → [] ≡ step_between time
       p.shown p.now
   line-no_step time same =
-      step-same time shown now (lone-no_difference shown now first last line h line_exists is_alone same)
-      ∙ step-at time p shown now
+      step_between-same time shown now (lone-no_difference shown now first last line h IsLine-shown differs-alone same)
+      ∙ step_between-progress time p shown now
       view

@@ -1,4 +1,4 @@
--- How levels change from one instant to the next, line by line.
+-- The levels after an instant, those after the one before, and the changes between them, line by line.
 use Rattle.std.proofs.Common.{◌≡◌, ◌≢◌, ℕ, zero, suc, ◌+◌, ◌-◌, ◌<◌, ◌≤◌, Bool, true, false, not, List, [], ◌∷◌, ◌++◌}
 use Rattle.std.proofs.Common.{length, map, refl, sym, ap, ◌∙◌, subst, arith, add-one, inl, inr}
 use Rattle.std.specs.Prelude.{nat_le, slice_set}
@@ -17,40 +17,47 @@ use Rattle.vme_bind.specs.Recording.{IsLine, differs, DifferWithin, change_to, c
 
 -- ---- levels
 
-pub same_self : (a : Level) → same_level a a ≡ true
-same_self Low = refl
-same_self High = refl
-same_self Unknown = refl
+-- a level is the same as itself
+pub same_level-refl : (a : Level) → same_level a a ≡ true
+same_level-refl Low = refl
+same_level-refl High = refl
+same_level-refl Unknown = refl
 
-pub same-is : (a b : Level) → same_level a b ≡ true → a ≡ b
-same-is Low Low h = refl
-same-is Low High h = absurd cc
-same-is Low Unknown h = absurd cc
-same-is High Low h = absurd cc
-same-is High High h = refl
-same-is High Unknown h = absurd cc
-same-is Unknown Low h = absurd cc
-same-is Unknown High h = absurd cc
-same-is Unknown Unknown h = refl
+-- levels that the test finds the same are the same
+pub same_level-is : (a b : Level) → same_level a b ≡ true → a ≡ b
+same_level-is Low Low h = refl
+same_level-is Low High h = absurd cc
+same_level-is Low Unknown h = absurd cc
+same_level-is High Low h = absurd cc
+same_level-is High High h = refl
+same_level-is High Unknown h = absurd cc
+same_level-is Unknown Low h = absurd cc
+same_level-is Unknown High h = absurd cc
+same_level-is Unknown Unknown h = refl
 
 -- a line on which `a` and `b` don't differ has one level
 pub same_unless_differs : (a b : Levels) (l : ℕ) → differs a b l ≡ false → level_at a l ≡ level_at b l
 same_unless_differs a b l h =
-    same-is (level_at a l) (level_at b l) (not-false (same_level (level_at a l) (level_at b l)) h)
+    same_level-is (level_at a l) (level_at b l) (not-false (same_level (level_at a l) (level_at b l)) h)
 
+-- a line that has one level in `a` and `b` doesn't differ
 pub no_difference_at : (a b : Levels) (l : ℕ) → level_at a l ≡ level_at b l → differs a b l ≡ false
-no_difference_at a b l e = rw e (ap not (same_self (level_at b l)))
+no_difference_at a b l e = rw e (ap not (same_level-refl (level_at b l)))
 
-pub set_same : (v : Levels) (l : ℕ) (x : Level) → l < length v.levels → level_at (set_level v l x) l ≡ x
-set_same v l x lt = unwrap_or-slice_get (slice_set v.levels l x) l Unknown ∙ get_or-set_same v.levels l x Unknown lt
+-- a line that is set to x has the level x
+pub level_at-set_same : (v : Levels) (l : ℕ) (x : Level) → l < length v.levels → level_at (set_level v l x) l ≡ x
+level_at-set_same v l x lt = unwrap_or-slice_get (slice_set v.levels l x) l Unknown
+    ∙ get_or-set_same v.levels l x Unknown lt
 
-pub set_other : (v : Levels) (m l : ℕ) (x : Level) → l ≢ m → level_at (set_level v m x) l ≡ level_at v l
-set_other v m l x ne = unwrap_or-slice_get (slice_set v.levels m x) l Unknown
+-- a line other than the one that is set keeps its level
+pub level_at-set_other : (v : Levels) (m l : ℕ) (x : Level) → l ≢ m → level_at (set_level v m x) l ≡ level_at v l
+level_at-set_other v m l x ne = unwrap_or-slice_get (slice_set v.levels m x) l Unknown
     ∙ (get_or-set_other v.levels m l x Unknown ne ∙ sym (unwrap_or-slice_get v.levels l Unknown))
 
-pub set_all : (v : Levels) (l : ℕ) (x : Level) → length v.levels ≡ line_count → length (set_level v l x).levels
+-- setting a line keeps one level for each line
+pub length-set_level : (v : Levels) (l : ℕ) (x : Level) → length v.levels ≡ line_count → length (set_level v l x).levels
     ≡ line_count
-set_all v l x e = length-set v.levels l x ∙ e
+length-set_level v l x e = length-set v.levels l x ∙ e
 
 -- levels of one backplane with the same level on each line are the same
 pub same_levels : (a b : Levels) → a.slots ≡ b.slots → length a.levels ≡ line_count → length b.levels ≡ line_count
@@ -84,13 +91,14 @@ within-same shown now first last m x h line same =
     let before : (l : ℕ) → differs shown (set_level now m x) l ≡ true → differs shown now l ≡ true =
     λ l d. differs_before shown now (set_level now m x) m l
     (λ e k. false≢true
-    (sym (no_difference_at shown (set_level now m x) l (ap (level_at shown) e ∙ same-is (level_at shown m) x same
-    ∙ sym (ap (level_at (set_level now m x)) e ∙ set_same now m x (omega (arith, line.below, h.now_all))))) ∙ k))
-    (λ ne. set_other now m l x ne) d in
+    (sym (no_difference_at shown (set_level now m x) l (ap (level_at shown) e ∙ same_level-is (level_at shown m) x same
+    ∙ sym (ap (level_at (set_level now m x)) e ∙ level_at-set_same now m x (omega (arith, line.below, h.now_all)))))
+    ∙ k))
+    (λ ne. level_at-set_other now m l x ne) d in
     record {
       slots = h.slots;
       shown_all = h.shown_all;
-      now_all = set_all now m x h.now_all;
+      now_all = length-set_level now m x h.now_all;
       begins = h.begins;
       lines = λ l d. h.lines l (before l d);
       low = λ l d. h.low l (before l d);
@@ -103,11 +111,11 @@ pub within-more : (shown now : Levels) (first last m f n : ℕ) (x : Level) → 
     → DifferWithin shown (set_level now m x) f n
 within-more shown now first last m f n x h line begins low here high there =
     let before : (l : ℕ) → l ≢ m → differs shown (set_level now m x) l ≡ true → differs shown now l ≡ true =
-    λ l ne d. ap (λ (y : Level). not (same_level (level_at shown l) y)) (sym (set_other now m l x ne)) ∙ d in
+    λ l ne d. ap (λ (y : Level). not (same_level (level_at shown l) y)) (sym (level_at-set_other now m l x ne)) ∙ d in
     record {
       slots = h.slots;
       shown_all = h.shown_all;
-      now_all = set_all now m x h.now_all;
+      now_all = length-set_level now m x h.now_all;
       begins = begins;
       lines = λ l d. elim (cases_eq l m) [
         | inl e ↦ subst (IsLine shown.slots) (sym e) line
@@ -140,22 +148,26 @@ within-none shown now first last e all begins =
     }
 
 -- the system reset is a line of each backplane
-pub reset_exists : (slots : ℕ) → IsLine slots SYSRESET
-reset_exists slots = record { below = omega arith; exists = cc }
+pub sysreset_exists : (slots : ℕ) → IsLine slots SYSRESET
+sysreset_exists slots = record { below = omega arith; exists = cc }
 
--- ---- the numbers of a range that hold
+-- ---- the numbers below n for which p holds
 
+-- 0 is at most n
 pub zero_le : (n : ℕ) → nat_le 0 n ≡ true
 zero_le n = grind (arith, nat_tests)
 
+-- if p holds for n, the numbers below n + 1 are those below n, and n
 pub those-yes : (p : ℕ → Bool) (n : ℕ) → p n ≡ true → those p 0 (n + 1) ≡ those p 0 n ++ n ∷ []
 unfolding those
 those-yes p n h = rw (add-one, zero_le n, h) refl
 
+-- if p doesn't hold for n, the numbers below n + 1 are those below n
 pub those-no : (p : ℕ → Bool) (n : ℕ) → p n ≡ false → those p 0 (n + 1) ≡ those p 0 n
 unfolding those
 those-no p n h = rw (add-one, zero_le n, h) (append-nil (those p 0 n))
 
+-- if p holds for none of the d numbers from m on, the numbers below m + d are those below m
 those-past : (p : ℕ → Bool) (m d : ℕ) → ((l : ℕ) → m ≤ l → l < m + d → p l ≡ false) → those p 0 (m + d) ≡ those p 0 m
 those-past p m zero none = let e : m + 0 ≡ m = omega arith in ap (those p 0) e
 those-past p m (suc d) none =
@@ -163,12 +175,13 @@ those-past p m (suc d) none =
     ap (those p 0) e ∙ those-no p (m + d) (none (m + d) (omega arith) (omega arith)) ∙ those-past p m d
     (λ l low high. none l low (omega arith))
 
+-- if p holds for no number from m to below n, the numbers below n are those below m
 pub those-skip : (p : ℕ → Bool) (m n : ℕ) → m ≤ n → ((l : ℕ) → m ≤ l → l < n → p l ≡ false) → those p 0 n ≡ those p 0 m
 those-skip p m n le none =
     let e : m + (n - m) ≡ n = omega arith in
     ap (those p 0) (sym e) ∙ those-past p m (n - m) (λ l low high. none l low (omega arith))
 
--- ---- showing the lines by ascending number
+-- ---- the lines are shown by ascending number
 
 -- the lines below `n` are shown with their levels in `now`, the others with those in `before`; `changes` lists the
 -- changes
@@ -179,7 +192,7 @@ pub record AreShown (n : ℕ) (before now shown : Levels) (changes : List Change
   pub below : (l : ℕ) → l < n → level_at shown l ≡ level_at now l
   pub above : (l : ℕ) → n ≤ l → level_at shown l ≡ level_at before l
 
--- no line below `first` or above `last` differs
+-- no line below `first` differs
 no_difference_below : (before now : Levels) (first last l : ℕ) → DifferWithin before now first last → l < first
     → differs before now l ≡ false
 no_difference_below before now first last l h lt = elim (cases_Bool (differs before now l)) [
@@ -187,6 +200,7 @@ no_difference_below before now first last l h lt = elim (cases_Bool (differs bef
   | inr none ↦ none
 ]
 
+-- no line above `last` differs
 no_difference_above : (before now : Levels) (first last l : ℕ) → DifferWithin before now first last → last < l
     → differs before now l ≡ false
 no_difference_above before now first last l h lt = elim (cases_Bool (differs before now l)) [
@@ -194,32 +208,35 @@ no_difference_above before now first last l h lt = elim (cases_Bool (differs bef
   | inr none ↦ none
 ]
 
-pub shown-first : (before now : Levels) (first last n : ℕ) (changes : List Change) → DifferWithin before now first last
+-- the lines below n, at most `first`, are shown as they were before, without a change
+pub AreShown-up_to_first : (before now : Levels) (first last n : ℕ) (changes : List Change)
+    → DifferWithin before now first last
     → n ≤ first → changes ≡ [] → AreShown n before now before changes
 unfolding those
-shown-first before now first last n changes h is none =
-    let quiet : (l : ℕ) → l < n → differs before now l ≡ false = λ l lt. no_difference_below before now first last l h
+AreShown-up_to_first before now first last n changes h is none =
+    let unchanged : (l : ℕ) → l < n → differs before now l ≡ false =
+    λ l lt. no_difference_below before now first last l h
     (omega (arith, is, lt)) in
     record {
       slots = h.slots;
       shown_all = h.shown_all;
       changes_are = none ∙ sym (ap (map (change_to now)) (those-skip (differs before now) 0 n (omega arith)
-          (λ l low lt. quiet l lt)));
-      below = λ l lt. same_unless_differs before now l (quiet l lt);
+          (λ l low lt. unchanged l lt)));
+      below = λ l lt. same_unless_differs before now l (unchanged l lt);
       above = λ l le. refl;
     }
 
 -- where the line `n` is shown with its level in `now`, it needs no change
-pub shown-same : (n : ℕ) (before now shown : Levels) (changes : List Change)
+pub AreShown-same : (n : ℕ) (before now shown : Levels) (changes : List Change)
     → same_level (level_at now n) (level_at shown n) ≡ true → AreShown n before now shown changes
     → AreShown (n + 1) before now shown changes
-shown-same n before now shown changes same h =
-    let is : level_at shown n ≡ level_at now n = sym (same-is _ _ same) in
-    let quiet : differs before now n ≡ false = no_difference_at before now n (sym (h.above n (omega arith)) ∙ is) in
+AreShown-same n before now shown changes same h =
+    let is : level_at shown n ≡ level_at now n = sym (same_level-is _ _ same) in
+    let unchanged : differs before now n ≡ false = no_difference_at before now n (sym (h.above n (omega arith)) ∙ is) in
     record {
       slots = h.slots;
       shown_all = h.shown_all;
-      changes_are = h.changes_are ∙ ap (map (change_to now)) (sym (those-no (differs before now) n quiet));
+      changes_are = h.changes_are ∙ ap (map (change_to now)) (sym (those-no (differs before now) n unchanged));
       below = λ l lt. elim (cases_lt l n) [
         | inl less ↦ h.below l less
         | inr more ↦
@@ -230,52 +247,54 @@ shown-same n before now shown changes same h =
     }
 
 -- a line that isn't shown with its level in `now` differs
-pub differs-here : (n : ℕ) (before now shown : Levels) (changes : List Change)
+pub AreShown-differs : (n : ℕ) (before now shown : Levels) (changes : List Change)
     → same_level (level_at now n) (level_at shown n) ≡ false → AreShown n before now shown changes
     → differs before now n ≡ true
-differs-here n before now shown changes other h = elim (cases_Bool (differs before now n)) [
+AreShown-differs n before now shown changes other h = elim (cases_Bool (differs before now n)) [
   | inl d ↦ d
   | inr same ↦
       let e : level_at shown n ≡ level_at now n = h.above n (omega arith) ∙ same_unless_differs before now n same in
       absurd (false≢true
-      (sym other ∙ ap (same_level (level_at now n)) e ∙ same_self (level_at now n)))
+      (sym other ∙ ap (same_level (level_at now n)) e ∙ same_level-refl (level_at now n)))
 ]
 
 -- where the line `n` isn't shown with its level in `now`, it is changed
-pub shown-more : (n : ℕ) (before now shown : Levels) (changes : List Change) → n < line_count
+pub AreShown-changed : (n : ℕ) (before now shown : Levels) (changes : List Change) → n < line_count
     → same_level (level_at now n) (level_at shown n) ≡ false → AreShown n before now shown changes
     → AreShown (n + 1) before now (set_level shown n (level_at now n)) (changes ++ change_to now n ∷ [])
-shown-more n before now shown changes lt other h =
-    let d : differs before now n ≡ true = differs-here n before now shown changes other h in
+AreShown-changed n before now shown changes lt other h =
+    let d : differs before now n ≡ true = AreShown-differs n before now shown changes other h in
     record {
       slots = h.slots;
-      shown_all = set_all shown n (level_at now n) h.shown_all;
+      shown_all = length-set_level shown n (level_at now n) h.shown_all;
       changes_are =
           ap (λ (cs : List Change). cs ++ change_to now n ∷ []) h.changes_are
           ∙ sym (map_push (change_to now) (those (differs before now) 0 n) n)
           ∙ ap (map (change_to now)) (sym (those-yes (differs before now) n d));
       below = λ l below. elim (cases_eq l n) [
         | inl e ↦ ap (level_at (set_level shown n (level_at now n))) e
-            ∙ set_same shown n _ (omega (arith, lt, h.shown_all)) ∙ ap (level_at now) (sym e)
-        | inr ne ↦ set_other shown n l _ ne ∙ h.below l (omega (arith, below, ne))
+            ∙ level_at-set_same shown n _ (omega (arith, lt, h.shown_all)) ∙ ap (level_at now) (sym e)
+        | inr ne ↦ level_at-set_other shown n l _ ne ∙ h.below l (omega (arith, below, ne))
       ];
       above = λ l le. let ne : l ≢ n = omega (arith, le) in
-          set_other shown n l _ ne ∙ h.above l (omega (arith, le));
+          level_at-set_other shown n l _ ne ∙ h.above l (omega (arith, le));
     }
 
 -- a line that isn't shown with its level in `now` exists on the backplane
-pub line-exists : (n : ℕ) (before now shown : Levels) (first last : ℕ) (changes : List Change) → DifferWithin before now
+pub AreShown-IsLine : (n : ℕ) (before now shown : Levels) (first last : ℕ) (changes : List Change)
+    → DifferWithin before now
     first last → same_level (level_at now n) (level_at shown n) ≡ false → AreShown n before now shown changes
     → IsLine now.slots n × IsLine shown.slots n
-line-exists n before now shown first last changes t other h =
-    let here : IsLine before.slots n = t.lines n (differs-here n before now shown changes other h) in
+AreShown-IsLine n before now shown first last changes t other h =
+    let here : IsLine before.slots n = t.lines n (AreShown-differs n before now shown changes other h) in
     let there : IsLine now.slots n = subst (λ (s : ℕ). IsLine s n) (sym t.slots) here in
     (there, subst (λ (s : ℕ). IsLine s n) h.slots there)
 
 -- while the lines are shown, those that still differ are within the same bounds
-pub shown-within : (n : ℕ) (before now shown : Levels) (first last : ℕ) (changes : List Change) → DifferWithin before
+pub AreShown-DifferWithin : (n : ℕ) (before now shown : Levels) (first last : ℕ) (changes : List Change)
+    → DifferWithin before
     now first last → AreShown n before now shown changes → DifferWithin shown now first last
-shown-within n before now shown first last changes t h =
+AreShown-DifferWithin n before now shown first last changes t h =
     let slots : before.slots ≡ shown.slots = sym t.slots ∙ h.slots in
     let old : (l : ℕ) → differs shown now l ≡ true → differs before now l ≡ true =
     λ l d. elim (cases_lt l n) [
@@ -293,17 +312,19 @@ shown-within n before now shown first last changes t h =
     }
 
 -- once the lines up to `last` are shown, `changes` are all changes
-pub shown-changes : (n : ℕ) (before now shown : Levels) (first last : ℕ) (changes : List Change) → DifferWithin before
+pub AreShown-changes : (n : ℕ) (before now shown : Levels) (first last : ℕ) (changes : List Change)
+    → DifferWithin before
     now first last → n ≡ last + 1 → n ≤ line_count → AreShown n before now shown changes
     → changes ≡ changes_between before now
-shown-changes n before now shown first last changes t end most h =
+AreShown-changes n before now shown first last changes t end most h =
     h.changes_are ∙ ap (map (change_to now)) (sym (those-skip (differs before now) n line_count most
     (λ l low high. no_difference_above before now first last l t (omega (arith, end, low)))))
 
 -- once the lines up to `last` are shown, all levels are those in `now`
-pub shown-all : (n : ℕ) (before now shown : Levels) (first last : ℕ) (changes : List Change) → DifferWithin before now
+pub AreShown-all : (n : ℕ) (before now shown : Levels) (first last : ℕ) (changes : List Change)
+    → DifferWithin before now
     first last → n ≡ last + 1 → AreShown n before now shown changes → shown ≡ now
-shown-all n before now shown first last changes t end h =
+AreShown-all n before now shown first last changes t end h =
     same_levels shown now (sym h.slots) h.shown_all t.now_all (λ l lt. elim (cases_lt l n) [
       | inl less ↦ h.below l less
       | inr more ↦ h.above l more ∙ same_unless_differs before now l

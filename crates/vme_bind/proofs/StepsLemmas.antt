@@ -25,7 +25,7 @@ use Rattle.vme_bind.specs.BoundGroups.{line_source}
 use Rattle.vme_bind.specs.Capture.{time_of, level_by, level_after, changes_at, is_step, change_at, step_at}
 use Rattle.vme_bind.specs.Capture.{levels_after, recording}
 use Rattle.vme_bind.specs.Recording.{differs, change_to, changes_between, step_between}
-use Rattle.vme_bind.proofs.RecorderLemmas.{those-yes, those-no, same-is, same_levels}
+use Rattle.vme_bind.proofs.RecorderLemmas.{those-yes, those-no, same_level-is, same_levels}
 use Rattle.vme_bind.proofs.CaptureLemmas.{changed-those, length-changed, levels-at, levels-all, levels-slots}
 
 -- ---- the numbers of a range that hold
@@ -335,7 +335,7 @@ module _ (slots : ℕ) (bound_groups : List BoundGroup) (instants : List Instant
   level-kept : (n l : ℕ) → changes_at slots bound_groups instants n l ≡ false → level_after slots bound_groups instants
       n l ≡ level_after slots bound_groups instants (n + 1) l
   unfolding changes_at
-  level-kept n l h = same-is _ _ (not-false _ h)
+  level-kept n l h = same_level-is _ _ (not-false _ h)
 
   -- where there is no step at instant n, the levels before and after it are the same
   levels-kept : (n : ℕ) → is_step slots bound_groups instants n ≡ false → levels_after slots bound_groups instants n

@@ -39,7 +39,7 @@ use Rattle.vme_bind.specs.TextCapture.{or_binding, or_dump, body_recording, capt
 use Rattle.vme_bind.specs.TextCapture.{recording_read, recording_after, recording_of_text, DumpFails, BindingFails}
 use Rattle.vme_bind.specs.TextCapture.{CaptureFailsBy, GivesBy}
 use Rattle.vme_bind.specs.TextPieces.{body_outcome, outcome}
-use Rattle.vme_bind.proofs.OpeningLemmas.{capture_of-is, recording_of-is, whole-formed}
+use Rattle.vme_bind.proofs.OpeningLemmas.{capture_of-is, recording_of-is, recording-formed}
 use Rattle.vme_bind.proofs.BuilderLemmas.{Makes, makes-first, makes-change, makes-instant}
 
 -- ---- a body
@@ -373,7 +373,8 @@ recorded-formed b text t e = by_dump (dump_of text) refl e
         → or_binding (r >>= λ bound_groups. Ok (recording b.slots bound_groups dump.instants (length dump.instants)))
         ≡ Ok t → malformed_step t ≡ None
     by_bound_groups dump up (Err fault) e = absurd (cc e)
-    by_bound_groups dump up (Ok bound_groups) e = whole-formed b.slots bound_groups dump.instants t up (same_ok _ _ e)
+    by_bound_groups dump up (Ok bound_groups) e = recording-formed b.slots bound_groups dump.instants t up
+        (same_ok _ _ e)
 
     by_dump : (r : Result Contents VcdFault) → dump_of text ≡ r → recording_read b r ≡ Ok t → malformed_step t ≡ None
     by_dump (Err fault) is e = absurd (cc e)

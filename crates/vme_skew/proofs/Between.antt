@@ -18,8 +18,9 @@ use Rattle.vme_trace.specs.declared.step.Step.{Step}
 use Rattle.vme_trace.proofs.Changing.{slots-kept, level-kept}
 use Rattle.vme_trace.proofs.Ranges.{any-fails, fails-any, those-next, those-none, those-split}
 use Rattle.vme_bind.specs.Recording.{differs, change_to, changes_between, step_between}
-use Rattle.vme_bind.proofs.RecorderLemmas.{no_difference_at, same_levels, same_unless_differs, set_same, set_other}
-use Rattle.vme_bind.proofs.RecorderLemmas.{set_all}
+use Rattle.vme_bind.proofs.RecorderLemmas.{no_difference_at, same_levels, same_unless_differs, level_at-set_same}
+use Rattle.vme_bind.proofs.RecorderLemmas.{level_at-set_other}
+use Rattle.vme_bind.proofs.RecorderLemmas.{length-set_level}
 use Rattle.vme_bind.proofs.CaptureLemmas.{changed-those, length-changed}
 use Rattle.vme_bind.proofs.StepsLemmas.{some_of}
 
@@ -156,12 +157,13 @@ changes_again u v k (c ∷ cs) whole same h =
     let end : Levels = changed next cs in
     let below : c.line < line_count = exists_below v.slots c.line is.exists in
     let here : level_at end c.line ≡ c.level =
-    level-kept next cs c.line (lines_below v (c.line + 1) cs c.line is.rest (omega arith)) ∙ set_same u c.line c.level
+    level-kept next cs c.line (lines_below v (c.line + 1) cs c.line is.rest (omega arith))
+    ∙ level_at-set_same u c.line c.level
     (omega (arith, below, whole)) in
     let kept = λ (l : ℕ) (low : k ≤ l) (lt : l < c.line).
     let ne : l ≢ c.line = omega (arith, lt) in
     no_difference_at v end l (sym (level-kept next cs l (lines_below v (c.line + 1) cs l is.rest (omega (arith, lt)))
-    ∙ set_other u c.line l c.level ne ∙ same l low)) in
+    ∙ level_at-set_other u c.line l c.level ne ∙ same l low)) in
     let differs_here : differs v end c.line ≡ true = ap (λ (x : Level). not (same_level (level_at v c.line) x)) here
     ∙ ap not is.other in
     let first : those (differs v end) k line_count ≡ c.line ∷ those (differs v end) (c.line + 1) line_count =
@@ -169,8 +171,8 @@ changes_again u v k (c ∷ cs) whole same h =
     in
     ap (map (change_to end)) first
     ∙ ap (λ (x : Level). to_level c.line x ∷ map (change_to end) (those (differs v end) (c.line + 1) line_count)) here
-    ∙ ap (λ (ds : List Change). c ∷ ds) (changes_again next v (c.line + 1) cs (set_all u c.line c.level whole)
-    (λ l low. let ne : l ≢ c.line = omega (arith, low) in set_other u c.line l c.level ne
+    ∙ ap (λ (ds : List Change). c ∷ ds) (changes_again next v (c.line + 1) cs (length-set_level u c.line c.level whole)
+    (λ l low. let ne : l ≢ c.line = omega (arith, low) in level_at-set_other u c.line l c.level ne
     ∙ same l (omega (arith, low, is.from))) is.rest)
   where
     to_level : ℕ → Level → Change

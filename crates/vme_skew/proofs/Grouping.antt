@@ -14,7 +14,7 @@ use Rattle.vme_trace.specs.Trace.{changed}
 use Rattle.vme_trace.specs.declared.level.Level.{Level}
 use Rattle.vme_trace.specs.declared.step.Change.{Change}
 use Rattle.vme_bind.specs.Recording.{IsLine, step_between}
-use Rattle.vme_bind.proofs.RecorderLemmas.{set_all, set_other}
+use Rattle.vme_bind.proofs.RecorderLemmas.{length-set_level, level_at-set_other}
 use Rattle.vme_skew.specs.Group.{GroupLevels, KeepsTouchedLines, ListsTouchedLines}
 use Rattle.vme_skew.proofs.TouchedLines.{touched-more, touched-none}
 
@@ -59,12 +59,12 @@ keeps-again before now touched marks m x h here = record {
   lists = record {
     slots = h.lists.slots;
     before_all = h.lists.before_all;
-    now_all = set_all now m x h.lists.now_all;
+    now_all = length-set_level now m x h.lists.now_all;
     lines = h.lists.lines;
     listed = λ l d. elim (cases_eq l m) [
       | inl e ↦ h.marked l (ap (λ (k : ℕ). get_or marks k false) e ∙ here)
       | inr ne ↦ h.lists.listed l
-          (ap (λ (y : Level). not (same_level (level_at before l) y)) (sym (set_other now m l x ne)) ∙ d)
+          (ap (λ (y : Level). not (same_level (level_at before l) y)) (sym (level_at-set_other now m l x ne)) ∙ d)
     ];
   };
   marked = h.marked;

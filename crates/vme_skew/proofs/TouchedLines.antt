@@ -13,8 +13,9 @@ use Rattle.vme_trace.specs.LineNumbers.{line_count}
 use Rattle.vme_trace.specs.declared.level.Level.{Level}
 use Rattle.vme_trace.specs.declared.step.Change.{Change}
 use Rattle.vme_bind.specs.Recording.{IsLine, differs, change_to, changes_between}
-use Rattle.vme_bind.proofs.RecorderLemmas.{same_self, same-is, no_difference_at, same_unless_differs}
-use Rattle.vme_bind.proofs.RecorderLemmas.{set_same, set_other, set_all, same_levels, those-yes, those-skip}
+use Rattle.vme_bind.proofs.RecorderLemmas.{same_level-refl, same_level-is, no_difference_at, same_unless_differs}
+use Rattle.vme_bind.proofs.RecorderLemmas.{level_at-set_same, level_at-set_other, length-set_level, same_levels}
+use Rattle.vme_bind.proofs.RecorderLemmas.{those-yes, those-skip}
 use Rattle.vme_skew.specs.Group.{ListsTouchedLines}
 
 -- ---- the lines that were touched
@@ -25,13 +26,14 @@ pub touched-more : (before now : Levels) (touched : List ℕ) (m : ℕ) (x : Lev
 touched-more before now touched m x h line = record {
   slots = h.slots;
   before_all = h.before_all;
-  now_all = set_all now m x h.now_all;
+  now_all = length-set_level now m x h.now_all;
   lines = All-append (IsLine before.slots) touched (m ∷ []) h.lines (All-cons (IsLine before.slots) m [] line
       (All-nil (IsLine before.slots)));
   listed = λ l d. elim (cases_eq l m) [
     | inl e ↦ Contains-append_right touched (m ∷ []) l (subst (Contains (m ∷ [])) (sym e) (0, omega arith, refl))
     | inr ne ↦ Contains-append_left touched (m ∷ []) l
-        (h.listed l (ap (λ (y : Level). not (same_level (level_at before l) y)) (sym (set_other now m l x ne)) ∙ d))
+        (h.listed l (ap (λ (y : Level). not (same_level (level_at before l) y)) (sym (level_at-set_other now m l x ne))
+        ∙ d))
   ];
 }
 
@@ -149,7 +151,7 @@ shown-same touched i before now shown changes sorted t here same h =
     let x : ℕ = get_or touched i 0 in
     let low : bound touched i ≤ get_or touched i 0 + 1 = bound_low touched i sorted here in
     let next : bound touched (i + 1) ≡ get_or touched i 0 + 1 = bound_next touched i in
-    let is : level_at shown (get_or touched i 0) ≡ level_at now (get_or touched i 0) = same-is _ _ same in
+    let is : level_at shown (get_or touched i 0) ≡ level_at now (get_or touched i 0) = same_level-is _ _ same in
     let quiet : (l : ℕ) → bound touched i ≤ l → l < get_or touched i 0 + 1 → differs before now l ≡ false =
     λ l le lt. elim (cases_lt l (get_or touched i 0)) [
       | inl less ↦ quiet_before before now touched i l sorted t here le less
@@ -181,7 +183,7 @@ shown-more touched i before now shown changes sorted t here other h =
     let low : bound touched i ≤ get_or touched i 0 =
     elim (cases_lt (get_or touched i 0) (bound touched i)) [
       | inl less ↦ absurd (false≢true (sym other ∙ ap (λ (y : Level). same_level y (level_at now (get_or touched i 0)))
-          (h.below _ less) ∙ same_self (level_at now (get_or touched i 0))))
+          (h.below _ less) ∙ same_level-refl (level_at now (get_or touched i 0))))
       | inr more ↦ more
     ] in
     let next : bound touched (i + 1) ≡ get_or touched i 0 + 1 = bound_next touched i in
@@ -192,7 +194,7 @@ shown-more touched i before now shown changes sorted t here other h =
     sorted t here le lt in
     record {
       slots = h.slots;
-      shown_all = set_all shown (get_or touched i 0) (level_at now (get_or touched i 0)) h.shown_all;
+      shown_all = length-set_level shown (get_or touched i 0) (level_at now (get_or touched i 0)) h.shown_all;
       changes_are =
           ap (λ (cs : List Change). cs ++ change_to now (get_or touched i 0) ∷ [])
           (h.changes_are ∙ ap (map (change_to now))
@@ -202,14 +204,15 @@ shown-more touched i before now shown changes sorted t here other h =
           ∙ ap (those (differs before now) 0) (sym next));
       below = λ l lt. elim (cases_eq l (get_or touched i 0)) [
         | inl e ↦ ap (level_at (set_level shown (get_or touched i 0) (level_at now (get_or touched i 0)))) e
-            ∙ set_same shown (get_or touched i 0) _ (omega (arith, line.below, h.shown_all)) ∙ ap (level_at now) (sym e)
-        | inr ne ↦ set_other shown (get_or touched i 0) l _ ne ∙ elim (cases_lt l (bound touched i)) [
+            ∙ level_at-set_same shown (get_or touched i 0) _ (omega (arith, line.below, h.shown_all))
+            ∙ ap (level_at now) (sym e)
+        | inr ne ↦ level_at-set_other shown (get_or touched i 0) l _ ne ∙ elim (cases_lt l (bound touched i)) [
           | inl less ↦ h.below l less
           | inr more ↦ h.above l more ∙ same_unless_differs before now l (quiet l more (omega (arith, lt, next, ne)))
         ]
       ];
       above = λ l le. let ne : l ≢ get_or touched i 0 = omega (arith, le, next) in
-          set_other shown (get_or touched i 0) l _ ne ∙ h.above l (omega (arith, le, next, low));
+          level_at-set_other shown (get_or touched i 0) l _ ne ∙ h.above l (omega (arith, le, next, low));
     }
 
 -- the lines on which `shown` and `now` differ are still listed

@@ -3,21 +3,23 @@ use Rattle.std.proofs.lemmas.List.{append-nil}
 use Rattle.vme_trace.specs.declared.step.Step.{Step}
 use Rattle.vme_bind.specs.Capture.{recording}
 use Rattle.vme_bind.specs.Recording.{step_in}
-use Rattle.vme_bind.proofs.OpeningLemmas.{shown-first, shown-more, recorded-more, recorded-lines, recording-is}
-use Rattle.vme_bind.proofs.OpeningLemmas.{none_recorded}
+use Rattle.vme_bind.proofs.OpeningLemmas.{shown_after-opening, shown_after-next, recording-next_steps, AreLines-after}
+use Rattle.vme_bind.proofs.OpeningLemmas.{recording-is}
+use Rattle.vme_bind.proofs.OpeningLemmas.{recording-no_step}
 use Rattle.vme_bind.proofs.capture.record_all.Goals as goal
 use Rattle.vme_bind.proofs.capture.record_all.Goals.{in-Some+in_ok-push, in_default}
 
 pub loop-instant-init : goal.loop-instant-init
 loop-instant-init c = record {
-  shown = shown-first c.args.lines.now.slots c.args.bound_groups.now c.args.instants.now c.new-recorder.result
+  shown = shown_after-opening c.args.lines.now.slots c.args.bound_groups.now c.args.instants.now c.new-recorder.result
       c.opening_of-opening.result (c.opening_of-opening.ensures c.args.instants.now) c.new-recorder.ensures;
-  steps = c.new-steps.ensures.items ∙ none_recorded c.args.lines.now.slots c.args.bound_groups.now c.args.instants.now;
+  steps = c.new-steps.ensures.items ∙ recording-no_step c.args.lines.now.slots c.args.bound_groups.now
+      c.args.instants.now;
 }
 
 pub record-requires : goal.record-requires
 record-requires c =
-    recorded-lines c.args.lines.now.slots c.args.bound_groups.now c.args.instants.now c.in_ok-line_bits.line_bits
+    AreLines-after c.args.lines.now.slots c.args.bound_groups.now c.args.instants.now c.in_ok-line_bits.line_bits
     c.in_ok-line_bits.ensures c.loop-instant.instant-index c.loop-instant.recorder c.loop-instant.invariant.shown
 
 pub loop-instant-preserved : goal.loop-instant-preserved
@@ -29,13 +31,13 @@ loop-instant-preserved c =
     let i = c.loop-instant.instant-index in
     let x = c.instant-item.result in
     let more =
-    recorded-more slots bound_groups instants line_bits c.in_ok-line_bits.ensures i x c.loop-instant-test.true
+    recording-next_steps slots bound_groups instants line_bits c.in_ok-line_bits.ensures i x c.loop-instant-test.true
     c.instant-item.is c.loop-instant.recorder c.loop-instant.steps.items (step_in c.in_ok-step.field-0)
     c.loop-instant.invariant.shown
     c.loop-instant.invariant.steps (rw c.as_slice.ensures at c.in_ok-step.ensures.step) in
     record {
       shown =
-          shown-more slots bound_groups instants line_bits c.in_ok-line_bits.ensures i x c.loop-instant-test.true
+          shown_after-next slots bound_groups instants line_bits c.in_ok-line_bits.ensures i x c.loop-instant-test.true
           c.instant-item.is c.loop-instant.recorder c.record.new.self c.loop-instant.invariant.shown
           (rw c.as_slice.ensures at c.in_ok-step.ensures.shown);
       steps = elim c.match-branch-3.branch [

@@ -1,14 +1,14 @@
 use Rattle.std.proofs.Common.{◌≡◌, length, sym, ap, arith, true, false}
 use Rattle.std.proofs.lemmas.List.{length_push}
 use Rattle.vme_trace.specs.Levels.{same_level, level_at}
-use Rattle.vme_bind.proofs.RecorderLemmas.{shown-all, shown-changes, shown-first, shown-more}
-use Rattle.vme_bind.proofs.RecorderLemmas.{line-exists, shown-same, shown-within}
+use Rattle.vme_bind.proofs.RecorderLemmas.{AreShown-all, AreShown-changes, AreShown-up_to_first, AreShown-changed}
+use Rattle.vme_bind.proofs.RecorderLemmas.{AreShown-IsLine, AreShown-same, AreShown-DifferWithin}
 use Rattle.vme_bind.proofs.recorder.show.Goals as goal
 use Rattle.vme_bind.proofs.recorder.show.Goals.{in-Some+then-not-is_same_on, in-Some+else-not-is_same_on, in_default}
 
 pub loop-number-init : goal.loop-number-init
 loop-number-init c = record {
-  shown = shown-first c.args.shown.now c.args.now.now c.args.first c.args.last c.number-begin.result
+  shown = AreShown-up_to_first c.args.shown.now c.args.now.now c.args.first c.args.last c.number-begin.result
       c.in_ok-changes.changes.items c.requires (omega (arith, c.earlier.ensures.least.0, c.number-begin.ensures.number))
       c.in_ok-changes.ensures.items;
   room = omega (arith, ap length c.in_ok-changes.ensures.items, c.in_ok-changes.ensures.capacity);
@@ -19,7 +19,7 @@ level-level-requires c =
     let n = c.loop-number.number in
     let other : same_level (level_at c.args.now.now n) (level_at c.loop-number.shown n)
     ≡ false = rw (← c.in-Some.ensures.1) (sym c.if-not-is_same_on.ensures) in
-    let exists = line-exists n c.args.shown.now c.args.now.now c.loop-number.shown c.args.first c.args.last
+    let exists = AreShown-IsLine n c.args.shown.now c.args.now.now c.loop-number.shown c.args.first c.args.last
     c.loop-number.changes.items c.requires other c.loop-number.invariant.shown in
     rw c.in-Some.ensures.1 exists.0.exists
 
@@ -31,7 +31,7 @@ set-requires c =
     let n = c.loop-number.number in
     let other : same_level (level_at c.args.now.now n) (level_at c.loop-number.shown n)
     ≡ false = rw (← c.in-Some.ensures.1) (sym c.if-not-is_same_on.ensures) in
-    let exists = line-exists n c.args.shown.now c.args.now.now c.loop-number.shown c.args.first c.args.last
+    let exists = AreShown-IsLine n c.args.shown.now c.args.now.now c.loop-number.shown c.args.first c.args.last
     c.loop-number.changes.items c.requires other c.loop-number.invariant.shown in
     rw c.in-Some.ensures.1 exists.1.exists
 
@@ -57,7 +57,7 @@ loop-number-preserved c =
               w.level-level.ensures,
               line,
             )
-                (shown-more n before now shown changes.items (omega (arith, below))
+                (AreShown-changed n before now shown changes.items (omega (arith, below))
                 other c.loop-number.invariant.shown);
             room = rw w.changes-is (omega (
               arith,
@@ -73,7 +73,7 @@ loop-number-preserved c =
           ≡ true = rw (← line) (sym w.if-not-is_same_on.ensures) in
           record {
             shown = rw (w.shown-is, w.changes-is)
-                (shown-same n before now shown changes.items same c.loop-number.invariant.shown);
+                (AreShown-same n before now shown changes.items same c.loop-number.invariant.shown);
             room = rw w.changes-is (omega (arith, c.loop-number.invariant.room));
           }
       | in_default w ↦ absurd (w.in_default.ensures (omega arith))
@@ -81,15 +81,16 @@ loop-number-preserved c =
 
 pub returns-clause-changes : goal.returns-clause-changes
 returns-clause-changes c =
-    shown-changes c.loop-number.number c.args.shown.now c.args.now.now c.loop-number.shown c.args.first c.args.last
+    AreShown-changes c.loop-number.number c.args.shown.now c.args.now.now c.loop-number.shown c.args.first c.args.last
     c.loop-number.changes.items c.requires (omega arith) (omega arith) c.loop-number.invariant.shown
 
 pub returns-clause-shown : goal.returns-clause-shown
 returns-clause-shown c =
-    shown-all c.loop-number.number c.args.shown.now c.args.now.now c.loop-number.shown c.args.first c.args.last
+    AreShown-all c.loop-number.number c.args.shown.now c.args.now.now c.loop-number.shown c.args.first c.args.last
     c.loop-number.changes.items c.requires (omega arith) c.loop-number.invariant.shown
 
 pub returns-clause-within : goal.returns-clause-within
 returns-clause-within c =
-    shown-within c.loop-number.number c.args.shown.now c.args.now.now c.loop-number.shown c.args.first c.args.last
+    AreShown-DifferWithin c.loop-number.number c.args.shown.now c.args.now.now c.loop-number.shown c.args.first
+    c.args.last
     c.loop-number.changes.items c.requires c.loop-number.invariant.shown

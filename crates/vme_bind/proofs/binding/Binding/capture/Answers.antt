@@ -3,7 +3,7 @@ use Rattle.vme_trace.specs.Trace.{Trace}
 use Rattle.vme_bind.specs.BoundGroups.{bound_groups_in}
 use Rattle.vme_bind.specs.Capture.{recording, limited, capture_of}
 use Rattle.vme_bind.proofs.BindingLemmas.{fails_first, gives_err}
-use Rattle.vme_bind.proofs.OpeningLemmas.{capture_of-is, whole-is, whole-formed, gives_limited}
+use Rattle.vme_bind.proofs.OpeningLemmas.{capture_of-is, capture_of-found, recording-formed, BindGives-limited}
 use Rattle.vme_bind.proofs.binding.Binding.capture.Goals as goal
 
 pub returns-in_err-bound_groups : goal.returns-in_err-bound_groups
@@ -22,7 +22,7 @@ captured-requires c =
     let is = rw (c.lines.ensures.slots, c.deref.ensures.value, c.instants.ensures.instants) at c.in_ok-opening.ensures
     in
     let up = rw c.instants.ensures.instants at c.instants.ensures.ascend in
-    whole-formed c.args.self.now.slots c.in_ok-bound_groups.bound_groups.items c.args.dump.now.instants
+    recording-formed c.args.self.now.slots c.in_ok-bound_groups.bound_groups.items c.args.dump.now.instants
     (record { opening = c.in_ok-opening.opening; steps = c.in_ok-opening.steps.items }) up is
 
 pub returns : goal.returns
@@ -31,5 +31,5 @@ returns c =
     let is = rw (c.lines.ensures.slots, c.deref.ensures.value, c.instants.ensures.instants) at c.in_ok-opening.ensures
     in
     let made : Trace = record { opening = c.in_ok-opening.opening; steps = c.in_ok-opening.steps.items } in
-    gives_limited made c.captured.result (capture_of c.args.self.now c.args.dump.now) c.captured.ensures
-    (whole-is c.args.self.now c.args.dump.now c.in_ok-bound_groups.bound_groups.items made bound_groups is)
+    BindGives-limited made c.captured.result (capture_of c.args.self.now c.args.dump.now) c.captured.ensures
+    (capture_of-found c.args.self.now c.args.dump.now c.in_ok-bound_groups.bound_groups.items made bound_groups is)

@@ -1,7 +1,7 @@
 use Rattle.std.proofs.Common.{◌≡◌, ◌∷◌, [], refl, sym, ap, ◌∙◌, true, false, rules}
 use Rattle.vme_trace.specs.Levels.{level_at, same_level, set_level}
 use Rattle.vme_bind.specs.Recording.{change_to}
-use Rattle.vme_bind.proofs.RecorderLemmas.{reset_exists, within-none}
+use Rattle.vme_bind.proofs.RecorderLemmas.{sysreset_exists, within-none}
 use Rattle.vme_bind.proofs.EndLemmas.{line-shown, line-ended, line-step, line-no_step}
 use Rattle.vme_bind.proofs.recorder.Recorder.end_with_line.Goals as goal
 
@@ -30,7 +30,7 @@ invariant_of-self-then-is_shown c =
     (search rules) c.self.invariant
     c.requires.exists c.requires.alone
     c.set.new.self (c.set.ensures ∙ ap (set_level inside.shown c.args.line) c.level-level.ensures) in
-    within-none c.set.new.self inside.now _ _ shown c.self.invariant.now_all (reset_exists c.set.new.self.slots)
+    within-none c.set.new.self inside.now _ _ shown c.self.invariant.now_all (sysreset_exists c.set.new.self.slots)
 
 pub invariant_of-self-3 : goal.invariant_of-self-3
 invariant_of-self-3 c =
@@ -40,7 +40,7 @@ invariant_of-self-3 c =
     (search rules) c.self.invariant
     c.requires.exists c.requires.alone
     c.set.new.self (c.set.ensures ∙ ap (set_level inside.shown c.args.line) c.level-level.ensures) in
-    within-none c.set.new.self inside.now _ _ shown c.self.invariant.now_all (reset_exists c.set.new.self.slots)
+    within-none c.set.new.self inside.now _ _ shown c.self.invariant.now_all (sysreset_exists c.set.new.self.slots)
 
 pub returns-clause-shown : goal.returns-clause-shown
 returns-clause-shown c =

@@ -2,7 +2,7 @@ use Rattle.std.proofs.Common.{◌≡◌, ℕ, ◌∙◌, sym, ap, subst, length,
 use Rattle.std.specs.Prelude.{◌==◌}
 use Rattle.std.specs.List.Sorted.{IsNonDecreasing}
 use Rattle.std.proofs.lemmas.List.Sorted.{IsNonDecreasingBy-from_sort_by_key}
-use Rattle.vme_bind.proofs.EndLemmas.{one_step, step-none, step-some}
+use Rattle.vme_bind.proofs.EndLemmas.{one_step, step_between-none, step_between-some}
 use Rattle.vme_skew.specs.Group.{ListsTouchedLines}
 use Rattle.vme_skew.proofs.Grouping.{keeps-none, marked-permuted, group-step}
 use Rattle.vme_skew.proofs.TouchedLines.{touched-permuted}
@@ -40,7 +40,8 @@ pub returns-then-is_empty-clause-step : goal.returns-then-is_empty-clause-step
 returns-then-is_empty-clause-step c =
     let inside = c.self.inside in
     let none : (length c.in_ok-changes.changes.items == 0) ≡ true = search rules in
-    sym (step-none inside.start inside.before inside.now c.in_ok-changes.changes.items c.in_ok-changes.ensures.changes
+    sym (step_between-none inside.start inside.before inside.now c.in_ok-changes.changes.items
+    c.in_ok-changes.ensures.changes
     none)
     ∙ group-step c.args.self.now inside.start inside.before inside.now (search rules)
 
@@ -49,5 +50,6 @@ returns-clause-step c =
     let inside = c.self.inside in
     let some : (length c.in_ok-changes.changes.items == 0) ≡ false = search rules in
     ap (one_step inside.start) c.new.ensures
-    ∙ step-some inside.start inside.before inside.now c.in_ok-changes.changes.items c.in_ok-changes.ensures.changes some
+    ∙ step_between-some inside.start inside.before inside.now c.in_ok-changes.changes.items
+    c.in_ok-changes.ensures.changes some
     ∙ group-step c.args.self.now inside.start inside.before inside.now (search rules)
