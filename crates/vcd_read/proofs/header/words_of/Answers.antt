@@ -2,7 +2,7 @@ use Rattle.std.proofs.Common.{sym, ap, ◌∙◌, arith, List, ℕ}
 use Rattle.vcd_read.specs.Reading.{line_at, left_at, token_at}
 use Rattle.vcd_read.specs.Scopes.{texts}
 use Rattle.vcd_read.specs.Sections.{section_from}
-use Rattle.vcd_read.proofs.SectionLemmas.{behind_words, words_end, words_word, words_unfinished, texts_push}
+use Rattle.vcd_read.proofs.SectionLemmas.{with_words_before, words_end, words_word, words_unfinished, texts_push}
 use Rattle.vcd_read.proofs.SectionLemmas.{All-push_word}
 use Rattle.vcd_read.proofs.header.words_of.Goals as goal
 
@@ -29,9 +29,9 @@ loop-token-preserved c =
           c.loop-token.invariant.so_far
           ∙ words_word line (texts words) t (left_at text c.loop-token.reader.at) after
           (rw c.loop-token.invariant.same at c.in-Some.ensures.token) (sym c.if-is_end.ensures)
-          ∙ ap (λ (ws : List (List ℕ)). behind_words ws (section_from line after))
+          ∙ ap (λ (ws : List (List ℕ)). with_words_before ws (section_from line after))
           (sym (texts_push words c.in-Some.token.bytes))
-          ∙ ap (λ ws. behind_words (texts ws) (section_from line after)) (sym c.in_ok-push.ensures.items);
+          ∙ ap (λ ws. with_words_before (texts ws) (section_from line after)) (sym c.in_ok-push.ensures.items);
       each = rw c.in_ok-push.ensures.items (All-push_word words c.in-Some.token.bytes c.loop-token.invariant.each
           c.in-Some.ensures.within.1);
     }

@@ -3,7 +3,7 @@ use Rattle.std.specs.List.{All}
 use Rattle.vcd_read.specs.Reading.{line_at, left_at}
 use Rattle.vcd_read.specs.Scopes.{texts}
 use Rattle.vcd_read.specs.Sections.{section_from}
-use Rattle.vcd_read.proofs.SectionLemmas.{behind_words}
+use Rattle.vcd_read.proofs.SectionLemmas.{with_words_before}
 use Rattle.vcd_read.proofs.header.words_of.Given as goal
 
 abbrev pub invariant-loop-token : goal.invariant-loop-token
@@ -13,7 +13,7 @@ invariant-loop-token l =
     record {
       same : l.reader.text ≡ l.fn.reader.text;
       moves : l.fn.reader.at ≤ l.reader.at;
-      so_far : section_from line (left_at text l.fn.reader.at) ≡ behind_words (texts l.words.items)
+      so_far : section_from line (left_at text l.fn.reader.at) ≡ with_words_before (texts l.words.items)
           (section_from line (left_at text l.reader.at));
       each : All (λ word. 0 < length word.now) l.words.items;
     }
