@@ -14,11 +14,13 @@ use Rattle.vme_part_format.specs.Reading.{◌>>=◌, Fails, SetsFour, SetsLevel,
 use Rattle.vme_part_format.specs.Reading.{fault_at, four, levels_at, packed_at, unpacked, with_levels}
 use Rattle.vme_part_format.proofs.LevelFacts.{four_is, four_takes}
 
+-- four levels of which the last isn't there are not there
 four_none : (oa ob oc od : Option Level) (a b c : Level) → oa ≡ Some a → ob ≡ Some b → oc ≡ Some c → od ≡ None
     → four oa ob oc od ≡ None
 four_none oa ob oc od a b c ea eb ec ed = rw (ea, eb, ec, ed) refl
 
--- four lines in turn are given the levels in `byte`, or the last may not have its level (r is `false`)
+-- the lines l to l + 3 get their levels of `byte` in turn: then `SetsFour r`; with r `false` the last of them may not
+-- have its level
 pub four_set : (r : Bool) (v0 v1 v2 v3 v4 : Levels) (l byte : ℕ) → SetsLevel true v0 l (byte % 4) v1
     → SetsLevel true v1 (l + 1) (byte / 4 % 4) v2 → SetsLevel true v2 (l + 2) (byte / 16 % 4) v3
     → SetsLevel r v3 (l + 3) (byte / 64) v4 → SetsFour r v0 l byte v4
@@ -52,14 +54,16 @@ four_set false v0 v1 v2 v3 v4 l byte p0 p1 p2 p3 =
 
 -- ---- the loop
 
-pieces : (front : List Level) (a b c d : Level)
+-- four elements appended one by one
+append-four : (front : List Level) (a b c d : Level)
     → (((front ++ a ∷ []) ++ b ∷ []) ++ c ∷ []) ++ d ∷ [] ≡ front ++ (a ∷ b ∷ c ∷ d ∷ [])
-pieces front a b c d = simp append_assoc
+append-four front a b c d = simp append_assoc
 
-four_taken : (xs : List Level) (i : ℕ) (a b c d : Level) → i + 3 < length xs
+-- the elements of a list up to the last of four that are set, from the index i on
+take-four_set : (xs : List Level) (i : ℕ) (a b c d : Level) → i + 3 < length xs
     → take (i + 1 + 1 + 1 + 1) (set (set (set (set xs i a) (i + 1) b) (i + 1 + 1) c) (i + 1 + 1 + 1) d)
     ≡ take i xs ++ (a ∷ b ∷ c ∷ d ∷ [])
-four_taken xs i a b c d lt =
+take-four_set xs i a b c d lt =
     let x1 = set xs i a in
     let x2 = set x1 (i + 1) b in
     let x3 = set x2 (i + 1 + 1) c in
@@ -72,7 +76,7 @@ four_taken xs i a b c d lt =
     let t4 = take_more_set x3 (i + 1 + 1 + 1) d (omega (arith, l3)) in
     t4 ∙ ap (λ (ls : List Level). ls ++ d ∷ []) (t3 ∙ ap (λ (ls : List Level). ls ++ c ∷ []) (t2
     ∙ ap (λ (ls : List Level). ls ++ b ∷ []) t1))
-    ∙ pieces (take i xs) a b c d
+    ∙ append-four (take i xs) a b c d
 
 -- w is v with the levels `ls` for the four lines from 4 place on
 pub record AreFour (v w : Levels) (place : ℕ) (ls : List Level) : Type 0 where
@@ -80,10 +84,11 @@ pub record AreFour (v w : Levels) (place : ℕ) (ls : List Level) : Type 0 where
   pub many : length w.levels ≡ length v.levels
   pub taken : take (4 * (place + 1)) w.levels ≡ take (4 * place) v.levels ++ ls
 
-pub are_four : (v w : Levels) (place byte : ℕ) (ls : List Level) → place < 48 → length v.levels ≡ line_count
+-- if w is v with the levels `ls`, which `byte` has, for the lines from 4 place on, `AreFour` holds
+pub AreFour-with_levels : (v w : Levels) (place byte : ℕ) (ls : List Level) → place < 48 → length v.levels ≡ line_count
     → unpacked v.slots (4 * place) byte ≡ Some ls → w ≡ with_levels v (4 * place) ls → AreFour v w place ls
 unfolding unpacked
-are_four v w place byte ls lt many read new =
+AreFour-with_levels v w place byte ls lt many read new =
     let l = 4 * place in
     let f = four_takes (coded_level v.slots l (byte % 4)) (coded_level v.slots (l + 1) (byte / 4 % 4))
     (coded_level v.slots (l + 2) (byte / 16 % 4)) (coded_level v.slots (l + 3) (byte / 64)) ls read in
@@ -98,14 +103,15 @@ are_four v w place byte ls lt many read new =
           ∙ length-set x2 (l + 1 + 1) f.c ∙ length-set x1 (l + 1) f.b ∙ length-set v.levels l f.a;
       taken = ap (λ (xs : List Level). take (4 * (place + 1)) xs) levels
           ∙ ap (λ (k : ℕ). take k (set x3 (l + 1 + 1 + 1) f.d)) (omega arith)
-          ∙ four_taken v.levels l f.a f.b f.c f.d (omega (arith, many))
+          ∙ take-four_set v.levels l f.a f.b f.c f.d (omega (arith, many))
           ∙ ap (λ (xs : List Level). take l v.levels ++ xs) f.all;
     }
 
-regroup : (front ls : List Level) (read : Result (List Level × List ℕ) FieldFault)
+-- items after `front` that begin with `ls` are items after `front ++ ls`
+after_items-append : (front ls : List Level) (read : Result (List Level × List ℕ) FieldFault)
     → after_items front (read >>= λ x. Ok (ls ++ x.0, x.1)) ≡ after_items (front ++ ls) read
-regroup front ls (Ok x) = ap (λ (xs : List Level). Ok (xs, x.1)) (sym (append_assoc front ls x.0))
-regroup front ls (Err f) = refl
+after_items-append front ls (Ok x) = ap (λ (xs : List Level). Ok (xs, x.1)) (sym (append_assoc front ls x.0))
+after_items-append front ls (Err f) = refl
 
 module _ (slots : ℕ) where
   -- the loop invariant holds after one more byte, of four levels
@@ -119,7 +125,7 @@ module _ (slots : ℕ) where
       let k : 48 - place ≡ suc (48 - (place + 1)) = omega arith in
       let one : after_items front (packed_at slots (4 * place) (48 - place) bytes)
       ≡ after_items (front ++ ls) (packed_at slots (4 * place + 4) (48 - (place + 1)) after) =
-      rw (k, h, read) (regroup front ls (packed_at slots (4 * place + 4) (48 - (place + 1)) after)) in
+      rw (k, h, read) (after_items-append front ls (packed_at slots (4 * place + 4) (48 - (place + 1)) after)) in
       let next : 4 * place + 4 ≡ 4 * (place + 1) = omega arith in
       ap (λ (l : ℕ). after_items (front ++ ls) (packed_at slots l (48 - (place + 1)) after)) (sym next) ∙ sym one ∙
       so_far
@@ -160,14 +166,16 @@ module _ (slots : ℕ) where
       rw k (ap (λ (ls : List Level). Ok (ls, bytes)) (append-nil front)) in
       sym so_far ∙ one
 
-pub all_fail : (error : FieldError) (slots : ℕ) (bytes : List ℕ) → Fails error (packed_at slots 0 48 bytes)
+-- an error while the packed levels are read is the error of the whole
+pub levels_at-fails : (error : FieldError) (slots : ℕ) (bytes : List ℕ) → Fails error (packed_at slots 0 48 bytes)
     → Fails error (levels_at slots bytes)
 unfolding levels_at
-all_fail field.Memory slots bytes h = tt
-all_fail (field.Fault f) slots bytes h = rw h refl
+levels_at-fails field.Memory slots bytes h = tt
+levels_at-fails (field.Fault f) slots bytes h = rw h refl
 
-pub all_read : (slots : ℕ) (bytes after : List ℕ) (v : Levels) → v.slots ≡ slots
+-- the packed levels, once read, and the slots are the levels
+pub levels_at-reads : (slots : ℕ) (bytes after : List ℕ) (v : Levels) → v.slots ≡ slots
     → packed_at slots 0 48 bytes ≡ Ok (v.levels, after) → levels_at slots bytes ≡ Ok (v, after)
 unfolding levels_at
-all_read slots bytes after v same h =
+levels_at-reads slots bytes after v same h =
     rw h (ap (λ (k : ℕ). Ok (record { slots = k; levels = v.levels }, after)) (sym same))
