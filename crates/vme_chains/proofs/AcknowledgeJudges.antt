@@ -43,64 +43,73 @@ module _ (t : Trace) (stretch : Stretch) (ok : malformed_step t ≡ None) (few :
   memory_at n = memory_from step t (acknowledge_begin (levels_at t stretch.start)) stretch.start n
 
   module _ (n : ℕ) (from : stretch.start ≤ n) (before : suc n < stretch.end) (within : n < length t.steps) where
+    -- the levels before the step
     abbrev old : Levels
     old = levels_at t n
 
+    -- the levels after the step
     abbrev new : Levels
     new = levels_at t (suc n)
 
-    abbrev cs : List Change
-    cs = changes_of (slice_get t.steps n)
+    -- the changes of the step
+    abbrev changes : List Change
+    changes = changes_of (slice_get t.steps n)
 
+    -- the backplane has at most 21 slots
     few_slots : old.slots ≤ 21
     few_slots = rw (slots_at t n) few
 
-    first_is : first_changed (passes_on old new) cs ≡ least (passes_on old new) 0 line_count
-    first_is =
-        subst (λ (w : Levels). first_changed (passes_on old w) cs ≡ least (passes_on old w) 0 line_count)
+    -- the first changed line that passes an acknowledge on is the least line that does
+    first_changed-passes_on : first_changed (passes_on old new) changes ≡ least (passes_on old new) 0 line_count
+    first_changed-passes_on =
+        subst (λ (w : Levels). first_changed (passes_on old w) changes ≡ least (passes_on old w) 0 line_count)
         (sym (levels_step t n within))
-        (first-least old (passes_on old (changed old cs)) few_slots 0 cs (changes_fit t n ok within)
-        (passes_not old cs))
+        (first-least old (passes_on old (changed old changes)) few_slots 0 changes (changes_fit t n ok within)
+        (passes_not old changes))
 
-    unasked_is : first_changed (passes_unasked old new) cs ≡ least (passes_unasked old new) 0 line_count
-    unasked_is =
-        subst (λ (w : Levels). first_changed (passes_unasked old w) cs ≡ least (passes_unasked old w) 0 line_count)
+    -- the first changed line that passes an acknowledge on unasked is the least line that does
+    first_changed-passes_unasked : first_changed (passes_unasked old new) changes
+        ≡ least (passes_unasked old new) 0 line_count
+    first_changed-passes_unasked =
+        subst (λ (w : Levels). first_changed (passes_unasked old w) changes ≡ least (passes_unasked old w) 0 line_count)
         (sym (levels_step t n within))
-        (first-least old (passes_unasked old (changed old cs)) few_slots 0 cs (changes_fit t n ok within)
-        (unasked_not old cs))
+        (first-least old (passes_unasked old (changed old changes)) few_slots 0 changes (changes_fit t n ok within)
+        (unasked_not old changes))
 
     -- the machine's step from n, with an observation or without
     next_is : (m : AcknowledgeMemory) → Holds t stretch n m
         → next_at step t m n ≡ record {
           memory = memory_after m old new;
           fault = fault_among m old new
-              (first_changed (passes_unasked old new) cs) (first_changed (passes_on old new) cs);
+              (first_changed (passes_unasked old new) changes) (first_changed (passes_on old new) changes);
           shown = no_step_marks;
         }
-    next_is m h = by_observation (is_some (first_changed (passes_on old new) cs) || changes_memory old new) refl
+    next_is m h = by_observation (is_some (first_changed (passes_on old new) changes) || changes_memory old new) refl
       where
-        by_observation : (b : Bool) → (is_some (first_changed (passes_on old new) cs) || changes_memory old new) ≡ b
+        by_observation : (b : Bool) → (is_some (first_changed (passes_on old new) changes) || changes_memory old new)
+            ≡ b
             → option_map_or (acknowledge_next m old new)
             (cond b (Some (record {
-              first = first_changed (passes_on old new) cs;
+              first = first_changed (passes_on old new) changes;
               unasked = first_changed
-                  (passes_unasked old new) cs;
+                  (passes_unasked old new) changes;
             })) None) (record { memory = m; fault = None; shown = no_step_marks })
             ≡ record {
               memory = memory_after m old new;
               fault = fault_among m old new
-                  (first_changed (passes_unasked old new) cs) (first_changed (passes_on old new) cs);
+                  (first_changed (passes_unasked old new) changes) (first_changed (passes_on old new) changes);
               shown = no_step_marks;
             }
         by_observation true e = refl
         by_observation false e =
-            let still = or_parts (is_some (first_changed (passes_on old new) cs)) (changes_memory old new) e in
+            let still = or_parts (is_some (first_changed (passes_on old new) changes)) (changes_memory old new) e in
             rw (
-              unasked_none old new cs still.0,
-              none_of (first_changed (passes_on old new) cs) still.0,
+              unasked_none old new changes still.0,
+              none_of (first_changed (passes_on old new) changes) still.0,
               memory_same t stretch facts n from before m h still.1,
             ) refl
 
+    -- the memory is right of the instant n + 1, if it is right of n
     holds_after : (m : AcknowledgeMemory) → Holds t stretch n m → Holds t stretch (suc n) (next_at step t m n).memory
     holds_after m h = subst (λ (x : Next AcknowledgeMemory). Holds t stretch (suc n) x.memory) (sym (next_is m h))
         (holds_next t stretch facts n from before m h)
@@ -117,8 +126,8 @@ module _ (t : Trace) (stretch : Stretch) (ok : malformed_step t ≡ None) (few :
           least_strobes t stretch n from before,
           least_answer t stretch n from before m
               h,
-          unasked_is,
-          first_is,
+          first_changed-passes_unasked,
+          first_changed-passes_on,
         )
         (by_lines (least (passes_unasked old new) 0 line_count) (least (passes_on old new) 0 line_count))
       where
@@ -156,6 +165,7 @@ module _ (t : Trace) (stretch : Stretch) (ok : malformed_step t ≡ None) (few :
         by_lines None (Some l) = by_tests l (is_strobed old new) (is_addressed old new && m.answered_by_dtack)
         by_lines None None = none_left (is_strobed old new) (is_addressed old new && m.answered_by_dtack)
 
+  -- the instant n + 1 of a stretch is its start, or n is in the stretch too
   first_or_later : (s n : ℕ) → s ≤ suc n → (suc n ≤ s) ⊎ (s ≤ n)
   first_or_later s n h = grind arith
 
@@ -174,6 +184,7 @@ module _ (t : Trace) (stretch : Stretch) (ok : malformed_step t ≡ None) (few :
             (holds_at n later (omega arith) (omega arith)))
       ]
 
+  -- within a stretch the machine's fault at the instant n + 1 is the first broken rule
   pub acknowledge_inside : (n : ℕ) → stretch.start ≤ n → suc n < stretch.end → n < length t.steps
       → option_map (break_of_fault (suc n) (time_at t (suc n))) (next_at step t (memory_at n) n).fault
       ≡ break_at t stretch
@@ -181,6 +192,7 @@ module _ (t : Trace) (stretch : Stretch) (ok : malformed_step t ≡ None) (few :
   acknowledge_inside n from before within = fault_is n from before within (memory_at n)
       (holds_at n from (omega arith) (omega arith))
 
+-- the machine finds the least break of its rules in each recording
 pub acknowledge_first_break : FindsLeast
     (run_of (machine_step (observed acknowledge_observation) (phase_step acknowledge_begin acknowledge_start_marks
     no_step_marks (λ l. None)
@@ -191,6 +203,7 @@ acknowledge_first_break = inside_first_break acknowledge_begin acknowledge_start
     before
     within)
 
+-- the machine shows no marks
 pub acknowledge_marks : ShowsAll
     (run_of (machine_step (observed acknowledge_observation)
     (phase_step acknowledge_begin acknowledge_start_marks no_step_marks acknowledge_end_fault
