@@ -23,50 +23,58 @@ use Rattle.vme_auditor.proofs.ShownKinds.{AllBelow, AllFrom, acknowledge_own, fr
 use Rattle.vme_auditor.proofs.ShownKinds.{known_own, stability_own, stretch_below, tenure_below, tenure_from}
 use Rattle.vme_auditor.proofs.ShownKinds.{transfer_from}
 
+-- marks of these kinds at the instant 1
 abbrev pub marked : List MarkKind → List Mark
 marked ks = map (mark_at 1) ks
 
+-- all marks at the instant 1 are within the first step
 pub marked_within : (ks : List MarkKind) → MarksWithin 1 (marked ks)
 marked_within [] = tt
 marked_within (k ∷ ks) = (omega arith, omega arith, marked_within ks)
 
--- a mark of a kind from `n` on is placed after marks of kinds below `n`
+-- in a merge, a mark of a kind from `n` on comes after marks of kinds below `n`
 module _ (n : ℕ) where
+  -- all marks of kinds below n come before a mark of a kind from n on
   front_all : (k : MarkKind) (ls : List MarkKind) → n ≤ kind_number k → AllBelow n ls
       → front (mark_at 1 k) (marked ls) ≡ marked ls
   front_all k [] h b = refl
   front_all k (l ∷ ls) h b = rw (lt-ltb (kind_number l) (kind_number k) (omega (arith, b.0)))
       (ap (λ x. mark_at 1 l ∷ x) (front_all k ls h b.1))
 
+  -- no mark of a kind below n comes after a mark of a kind from n on
   rest_none : (k : MarkKind) (ls : List MarkKind) → n ≤ kind_number k → AllBelow n ls
       → rest (mark_at 1 k) (marked ls) ≡ []
   rest_none k [] h b = refl
   rest_none k (l ∷ ls) h b = rw (lt-ltb (kind_number l) (kind_number k) (omega (arith, b.0))) (rest_none k ls h b.1)
 
+  -- no mark of a kind from n on comes before a mark of a kind below n
   front_none : (k : MarkKind) (ls : List MarkKind) → kind_number k < n → AllFrom n ls
       → front (mark_at 1 k) (marked ls) ≡ []
   front_none k [] h b = refl
   front_none k (l ∷ ls) h b = rw (le-ltb (kind_number l) (kind_number k) (omega (arith, b.0))) refl
 
+  -- all marks of kinds from n on come after a mark of a kind below n
   rest_all : (k : MarkKind) (ls : List MarkKind) → kind_number k < n → AllFrom n ls
       → rest (mark_at 1 k) (marked ls) ≡ marked ls
   rest_all k [] h b = refl
   rest_all k (l ∷ ls) h b = rw (le-ltb (kind_number l) (kind_number k) (omega (arith, b.0))) refl
 
-  merged_in_order : (ks ls : List MarkKind) → AllFrom n ks → AllBelow n ls → merged (marked ks) (marked ls)
+  -- if the kinds of the second list are below n and those of the first aren't, the second comes first
+  merged-below_second : (ks ls : List MarkKind) → AllFrom n ks → AllBelow n ls → merged (marked ks) (marked ls)
       ≡ marked (ls ++ ks)
-  merged_in_order [] ls f b = ap marked (sym (append-nil ls))
-  merged_in_order (k ∷ ks) ls f b =
+  merged-below_second [] ls f b = ap marked (sym (append-nil ls))
+  merged-below_second (k ∷ ks) ls f b =
       rw (front_all k ls f.0 b, rest_none k ls f.0 b, merged-nothing (marked ks))
       (sym (map-append (mark_at 1) ls (k ∷ ks)))
 
-  merged_before : (ks ls : List MarkKind) → AllBelow n ks → AllFrom n ls → merged (marked ks) (marked ls)
+  -- if the kinds of the first list are below n and those of the second aren't, the first comes first
+  merged-below_first : (ks ls : List MarkKind) → AllBelow n ks → AllFrom n ls → merged (marked ks) (marked ls)
       ≡ marked (ks ++ ls)
-  merged_before [] ls b f = refl
-  merged_before (k ∷ ks) ls b f =
-      rw (front_none k ls b.0 f, rest_all k ls b.0 f) (ap (λ x. mark_at 1 k ∷ x) (merged_before ks ls b.1 f))
+  merged-below_first [] ls b f = refl
+  merged-below_first (k ∷ ks) ls b f =
+      rw (front_none k ls b.0 f, rest_all k ls b.0 f) (ap (λ x. mark_at 1 k ∷ x) (merged-below_first ks ls b.1 f))
 
--- the monitors of held lines and of acknowledges show no marks
+-- the stability monitor shows no marks
 stability_has_no_marks : (x : List Step) (m : Memories) (o : Levels) → (stability_run m.stability o x).marks ≡ []
 unfolding stability_run
 stability_has_no_marks [] m o = refl
@@ -75,6 +83,7 @@ stability_has_no_marks (s ∷ x) m o =
     let next = memories_next m o after s.changes in
     rw (stability_own m o after s.changes) (ap (map (shifted_mark 1)) (stability_has_no_marks x next after))
 
+-- the monitor of interrupt acknowledges shows no marks
 acknowledge_has_no_marks : (x : List Step) (m : Memories) (o : Levels) → (acknowledge_run m.acknowledge o x).marks ≡ []
 unfolding acknowledge_run
 acknowledge_has_no_marks [] m o = refl
@@ -83,7 +92,7 @@ acknowledge_has_no_marks (s ∷ x) m o =
     let next = memories_next m o after s.changes in
     rw (acknowledge_own m o after s.changes) (ap (map (shifted_mark 1)) (acknowledge_has_no_marks x next after))
 
--- the marks of the stretch, of the tenure, and of the cycle and the transfer
+-- the merged marks of the stretches, of the tenures, and of the cycles and transfers are the joined marks
 three_joined : (x : List Step) (m : Memories) (o : Levels)
     → merged (known_run m.known o x).marks (merged (handshake_run m.handshake o x).marks (grant_run m.grant o x).marks)
     ≡ joined_marks m o x
@@ -112,12 +121,12 @@ three_joined (s ∷ x) m o =
     (merged_joined 1 (length x) (marked (kinds_of d)) (marked (kinds_of g)) handshake.marks grant.marks
     (marked_within (kinds_of d)) (marked_within (kinds_of g)) handshake_within.1 grant_within.1
     ∙ ap (λ (y : List Mark). y ++ map (shifted_mark 1) (merged handshake.marks grant.marks))
-    (merged_in_order 5 (kinds_of d) (kinds_of g) d_from g_below))
+    (merged-below_second 5 (kinds_of d) (kinds_of g) d_from g_below))
     ∙ merged_joined 1 (length x) (marked (kinds_of k)) (marked (kinds_of g ++ kinds_of d)) known.marks
     (merged handshake.marks grant.marks) (marked_within (kinds_of k)) (marked_within (kinds_of g ++ kinds_of d))
     known_within.1 two_within
     ∙ ap (λ (y : List Mark). y ++ map (shifted_mark 1) (merged known.marks (merged handshake.marks grant.marks)))
-    (merged_before 2 (kinds_of k) (kinds_of g ++ kinds_of d) k_below gd_from)
+    (merged-below_first 2 (kinds_of k) (kinds_of g ++ kinds_of d) k_below gd_from)
     ∙ ap (λ (y : List Mark). marked (kinds_shown m o after s.changes) ++ map (shifted_mark 1) y)
     (three_joined x next after)
 
