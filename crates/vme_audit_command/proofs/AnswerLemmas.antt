@@ -1,4 +1,4 @@
--- The answer for a dump.
+-- What is written for a dump is the answer that the definitions give its bytes, or, after a failure, a beginning of it.
 use Rattle.std.proofs.Common.{◌≡◌, ◌≤◌, ℕ, Bool, true, false, List, [], ◌++◌, Option, None, Some, IfSome, Result, Ok}
 use Rattle.std.proofs.Common.{Err, length}
 use Rattle.std.proofs.Common.{sym, ap, subst, ◌∙◌, append-nil, flat_map, refl}
@@ -57,12 +57,12 @@ all-is-text all before text none is = is ∙ ap (λ (l : List ℕ). l ++ text) n
 module _ (skew transfers : ℕ) (is_quiet : Bool) (head : List ℕ) (first later : GivenSteps)
     (none : lines_of head first ≡ [])
     (reading : TextReading) (u v : Writing) where
-  -- a body ends without an outcome
-  pub ends-without : (why : NoOutcome)
+  -- if the lines of a body end without an outcome, by `why`, so does the answer
+  pub ends-without_outcome : (why : NoOutcome)
       → WritesRest {A = Unit {0}} head first (lines_of head first) reading later.recording u v (Err why)
       → EndsAs (reading_answer (options_by first.allowances first.stop skew transfers is_quiet) head reading) u v
       (Err why)
-  ends-without (Refused refusal) ends =
+  ends-without_outcome (Refused refusal) ends =
       let options = options_by first.allowances first.stop skew transfers is_quiet in
       let (text, same, (writes, ended)) = ends in
       let lines = break_lines first.allowances first.stop head reading.recorded in
@@ -72,7 +72,7 @@ module _ (skew transfers : ℕ) (is_quiet : Bool) (head : List ℕ) (first later
       reading.fault)) is
       ∙ ap (answer_by options head text) ended in
       subst (λ (a : DumpAnswer). EndsAs a u v (Err (Refused refusal))) (sym answer) (writes, refl)
-  ends-without CannotRead ends =
+  ends-without_outcome CannotRead ends =
       let options = options_by first.allowances first.stop skew transfers is_quiet in
       let (text, same, some) = ends in
       let lines = break_lines first.allowances first.stop head reading.recorded in
@@ -81,7 +81,7 @@ module _ (skew transfers : ℕ) (is_quiet : Bool) (head : List ℕ) (first later
       in
       let all = is ∙ ap (λ (l : List ℕ). l ++ more) (all-is-text lines (lines_of head first) text none same) in
       subst (λ (l : List ℕ). WritesPrefix u v l) (sym all) (prefix-longer u v text more some)
-  ends-without (NotWritten CannotWrite) ends =
+  ends-without_outcome (NotWritten CannotWrite) ends =
       let options = options_by first.allowances first.stop skew transfers is_quiet in
       let (text, same, fails) = ends in
       let lines = break_lines first.allowances first.stop head reading.recorded in
@@ -90,7 +90,7 @@ module _ (skew transfers : ℕ) (is_quiet : Bool) (head : List ℕ) (first later
       in
       let all = is ∙ ap (λ (l : List ℕ). l ++ more) (all-is-text lines (lines_of head first) text none same) in
       subst (λ (l : List ℕ). FailsToWrite u v l) (sym all) (fails-longer u v text more fails)
-  ends-without (NotWritten Memory) ends =
+  ends-without_outcome (NotWritten Memory) ends =
       let options = options_by first.allowances first.stop skew transfers is_quiet in
       let (text, same, some) = ends in
       let lines = break_lines first.allowances first.stop head reading.recorded in
@@ -109,10 +109,12 @@ module _ (skew transfers : ℕ) (is_quiet : Bool) (head : List ℕ) (first later
         ++ outcome_line_of head (outcome_of a.allowances transfers (read_of a)))
         (outcome_of a.allowances transfers (read_of a)) v w result
 
+    -- the last lines are the same by the rules of the first audit
     writes-by-first : (result : Result ℕ WriteFault) → WritesLast later result
         → WritesLast (record first { recording = later.recording }) result
-    writes-by-first result tells = subst (λ (a : GivenSteps). WritesLast a result) kept.same tells
+    writes-by-first result writes_last = subst (λ (a : GivenSteps). WritesLast a result) kept.same writes_last
 
+    -- the answer has the lines of the breaks, `text`, which were written, and the last lines
     answer-is : (text : List ℕ)
         × (reading_answer (options_by first.allowances first.stop skew transfers is_quiet) head reading
         ≡ answer_by (options_by first.allowances first.stop skew transfers is_quiet) head text
@@ -129,26 +131,28 @@ module _ (skew transfers : ℕ) (is_quiet : Bool) (head : List ℕ) (first later
           writes,
         )
 
-    pub ends-with : (status : ℕ) → WritesLast later (Ok status)
+    -- once the last lines are written too, the answer is written, with the status `status`
+    pub ends-with_status : (status : ℕ) → WritesLast later (Ok status)
         → EndsAs (reading_answer (options_by first.allowances first.stop skew transfers is_quiet) head reading) u w
         (Ok status)
-    ends-with status tells =
+    ends-with_status status writes_last =
         let (text, answer, writes) = answer-is in
-        let (last, is) = writes-by-first (Ok status) tells in
+        let (last, is) = writes-by-first (Ok status) writes_last in
         subst (λ (a : DumpAnswer). EndsAs a u w (Ok status)) (sym answer)
         (writes-both u v w text _ writes last, ap Ok (sym is))
 
-    pub ends-unwritten : (fault : WriteFault) → WritesLast later (Err fault)
+    -- if the last lines aren't written, by `fault`, the answer ends without an outcome
+    pub ends-last_unwritten : (fault : WriteFault) → WritesLast later (Err fault)
         → EndsAs (reading_answer (options_by first.allowances first.stop skew transfers is_quiet) head reading) u w
         (Err (NotWritten fault))
-    ends-unwritten CannotWrite tells =
+    ends-last_unwritten CannotWrite writes_last =
         let (text, answer, writes) = answer-is in
         subst (λ (a : DumpAnswer). EndsAs a u w (Err (NotWritten CannotWrite))) (sym answer)
-        (fails-after u v w text _ writes (writes-by-first (Err CannotWrite) tells))
-    ends-unwritten Memory tells =
+        (fails-after u v w text _ writes (writes-by-first (Err CannotWrite) writes_last))
+    ends-last_unwritten Memory writes_last =
         let (text, answer, writes) = answer-is in
         subst (λ (a : DumpAnswer). EndsAs a u w (Err (NotWritten Memory))) (sym answer)
-        (prefix-after u v w text _ writes (writes-by-first (Err Memory) tells))
+        (prefix-after u v w text _ writes (writes-by-first (Err Memory) writes_last))
 
 -- ---- after the definitions
 
@@ -161,13 +165,14 @@ module _ (allowances : List Allowance) (stop : Option ℕ) (skew transfers : ℕ
       → AnswersBody (options_by first.allowances first.stop skew transfers is_quiet) head r held is_more source u w
       result
       → AnswersBody (options_by allowances stop skew transfers is_quiet) head r held is_more source u w result
-  body-by-rules w result behind =
+  body-by-rules w result answers =
       subst (λ (s : Option ℕ). AnswersBody (options_by allowances s skew transfers is_quiet) head r held is_more source
       u w result) stops
       (subst (λ (a : List Allowance). AnswersBody (options_by a first.stop skew transfers is_quiet) head r held is_more
       source
-      u w result) fits behind)
+      u w result) fits answers)
 
+  -- a body whose lines end without an outcome, by `why`, is answered so
   pub body-without-outcome : (v : Writing) (why : NoOutcome)
       → AuditsRest {A = Unit {0}} (skew_of skew) head first later r held is_more source u v (Err why)
       → AnswersBody (options_by allowances stop skew transfers is_quiet) head r held is_more source u v (Err why)
@@ -176,25 +181,29 @@ module _ (allowances : List Allowance) (stop : Option ℕ) (skew transfers : ℕ
       body-by-rules v (Err why) (
         whole,
         body,
-        ends-without skew transfers is_quiet head first later none (settled_by (skew_of skew) (whole_reading r whole)) u
+        ends-without_outcome skew transfers is_quiet head first later none
+            (settled_by (skew_of skew) (whole_reading r whole)) u
             v why ends,
       )
 
+  -- a body whose last lines are written is answered with their status
   pub body-with-outcome : (v w : Writing) (status : ℕ) → IsLater first later
       → AuditsRest {A = Unit {0}} (skew_of skew) head first later r held is_more source u v (Ok tt)
       → WritesOutcome (counts_unless is_quiet later.allowances head (read_of later)
       ++ outcome_line_of head (outcome_of later.allowances transfers (read_of later)))
       (outcome_of later.allowances transfers (read_of later)) v w (Ok status)
       → AnswersBody (options_by allowances stop skew transfers is_quiet) head r held is_more source u w (Ok status)
-  body-with-outcome v w status kept rest tells =
+  body-with-outcome v w status kept rest writes_last =
       let (whole, body, ends) = rest in
       body-by-rules w (Ok status) (
         whole,
         body,
-        ends-with skew transfers is_quiet head first later none (settled_by (skew_of skew) (whole_reading r whole)) u v
-            w kept ends status tells,
+        ends-with_status skew transfers is_quiet head first later none
+            (settled_by (skew_of skew) (whole_reading r whole)) u v
+            w kept ends status writes_last,
       )
 
+  -- a body whose last lines aren't written, by `fault`, is answered without an outcome
   pub body-unwritten : (v w : Writing) (fault : WriteFault) → IsLater first later
       → AuditsRest {A = Unit {0}} (skew_of skew) head first later r held is_more source u v (Ok tt)
       → WritesOutcome (counts_unless is_quiet later.allowances head (read_of later)
@@ -202,13 +211,14 @@ module _ (allowances : List Allowance) (stop : Option ℕ) (skew transfers : ℕ
       (outcome_of later.allowances transfers (read_of later)) v w (Err fault)
       → AnswersBody (options_by allowances stop skew transfers is_quiet) head r held is_more source u w
       (Err (NotWritten fault))
-  body-unwritten v w fault kept rest tells =
+  body-unwritten v w fault kept rest writes_last =
       let (whole, body, ends) = rest in
       body-by-rules w (Err (NotWritten fault)) (
         whole,
         body,
-        ends-unwritten skew transfers is_quiet head first later none (settled_by (skew_of skew) (whole_reading r whole))
-            u v w kept ends fault tells,
+        ends-last_unwritten skew transfers is_quiet head first later none
+            (settled_by (skew_of skew) (whole_reading r whole))
+            u v w kept ends fault writes_last,
       )
 
 -- ---- a whole dump
@@ -225,6 +235,7 @@ given-first skew settler first r comes given few whole begun = record {
   formed = begun.formed;
 }
 
+-- if `done` was read of a source, and what is left, if it is known, is `more`, all of it was `done ++ more`
 all-from-rest : (a b : Option (List ℕ)) (done more : List ℕ) → Consumes a b done → IfSome b (λ told. more ≡ told)
     → IfSome a (λ told. done ++ more ≡ told)
 all-from-rest None b done more read all = tt
@@ -233,38 +244,40 @@ all-from-rest (Some x) (Some y) done more read all = ap (λ (l : List ℕ). done
 
 module _ (options : AuditOptions) (head : List ℕ) (binding : BoundLines) (source : Reading) (u : Writing) where
   -- without memory nothing is written of a dump
-  pub unread-answers : AuditsDump options head binding source u u (Err (NotWritten Memory))
-  unread-answers = (left_of source.left, all-left source.left, prefix-of u _)
+  pub answers-without_memory : AuditsDump options head binding source u u (Err (NotWritten Memory))
+  answers-without_memory = (left_of source.left, all-left source.left, prefix-of u _)
 
-  pub unbegun-answers : (new : Reading) (left : List ℕ) (why : NoOutcome)
+  -- a dump whose definitions aren't read, by `why`, is answered so, and nothing is written
+  pub answers-without_definitions : (new : Reading) (left : List ℕ) (why : NoOutcome)
       → ReadsDefinitions binding source new left (Err why) → AuditsDump options head binding source u u (Err why)
-  unbegun-answers new left (Refused refusal) reads =
+  answers-without_definitions new left (Refused refusal) reads =
       let (text, all, (fault, is, same)) = reads in (
         text,
         all,
         subst (λ (x : Result TextReading CaptureFault). EndsAs (dump_answer options head x) u u (Err (Refused refusal)))
             (sym is) (writes-nothing u, ap Err same),
       )
-  unbegun-answers new left CannotRead reads = (left_of source.left, all-left source.left, prefix-of u _)
-  unbegun-answers new left (NotWritten CannotWrite) reads = absurd reads.2
-  unbegun-answers new left (NotWritten Memory) reads = (left_of source.left, all-left source.left, prefix-of u _)
+  answers-without_definitions new left CannotRead reads = (left_of source.left, all-left source.left, prefix-of u _)
+  answers-without_definitions new left (NotWritten CannotWrite) reads = absurd reads.2
+  answers-without_definitions new left (NotWritten Memory) reads =
+      (left_of source.left, all-left source.left, prefix-of u _)
 
   -- a dump with its definitions and its body was audited
   pub dump-answers : (new : Reading) (left : List ℕ) (r : StepReading) (is_more : Bool) (w : Writing)
       (result : Result ℕ NoOutcome) → ReadsDefinitions binding source new left (Ok (r, is_more))
       → (IsBodyBegun r → AnswersBody options head r left is_more new u w result)
       → AuditsDump options head binding source u w result
-  dump-answers new left r true w result reads behind =
+  dump-answers new left r true w result reads answers =
       let (begun, (done, read, whole)) = reads in
-      let (all, (more, are, is), ends) = behind begun in (
+      let (all, (more, are, is), ends) = answers begun in (
         done ++ more,
         all-from-rest source.left new.left done more read are,
         subst (λ (x : Result TextReading CaptureFault). EndsAs (dump_answer options head x) u w result)
             (ap (λ (l : List ℕ). Ok (whole_reading r l)) is ∙ sym (whole more)) ends,
       )
-  dump-answers new left r false w result reads behind =
+  dump-answers new left r false w result reads answers =
       let (begun, (text, all, whole)) = reads in
-      let (body, is, ends) = behind begun in (
+      let (body, is, ends) = answers begun in (
         text,
         all,
         subst (λ (x : Result TextReading CaptureFault). EndsAs (dump_answer options head x) u w result)
