@@ -1,4 +1,4 @@
--- The rules that each of the recordings asks, computed.
+-- Each recording of `asking` asks, by the definitions, the rules that stand beside it: computed.
 use Rattle.std.proofs.Common.{refl}
 use Rattle.vme_eval.proofs.Everything.{everything}
 use Rattle.vme_audit_eval.proofs.Computing.{asked}

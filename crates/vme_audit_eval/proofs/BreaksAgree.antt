@@ -1,4 +1,4 @@
--- The results of each of the recordings, computed.
+-- The audit of each recording of `several_breaks` has, by the definitions, the results that stand beside it: computed.
 use Rattle.std.proofs.Common.{refl}
 use Rattle.vme_eval.proofs.Everything.{everything, rows}
 use Rattle.vme_audit_eval.proofs.Computing.{audits}

@@ -1,11 +1,12 @@
--- The results of each of the recordings, computed.
+-- The audit of each recording of `coverage` has, by the definitions, the results that stand beside it: computed.
 use Rattle.std.proofs.Common.{refl}
 use Rattle.vme_eval.proofs.Everything.{everything, rows}
 use Rattle.vme_audit_eval.proofs.Computing.{audits}
 use Rattle.vme_audit_eval.specs.Audited.{AuditAgrees, AllAudits}
 use Rattle.vme_audit_eval.specs.Coverage.{nothing_known, idle_and_nothing_wanted, idle_and_one_wanted, read_in_a_tenure}
 use Rattle.vme_audit_eval.specs.Coverage.{one_answer_of_two, tenure_cut_off, bus_error_to_a_write, free_cycles}
-use Rattle.vme_audit_eval.specs.Coverage.{acknowledged, bus_hangs, bus_hangs_and_one_wanted, hang_that_is_reset}
+use Rattle.vme_audit_eval.specs.Coverage.{interrupt_acknowledge, bus_hangs, bus_hangs_and_one_wanted}
+use Rattle.vme_audit_eval.specs.Coverage.{hang_that_is_reset}
 use Rattle.vme_audit_eval.specs.Coverage.{hang_after_a_reset, hang_after_a_break, transfer_cut_off}
 use Rattle.vme_audit_eval.specs.Coverage.{broken_and_not_covered, unreadable_and_not_covered, never_idle_and_one_wanted}
 use Rattle.vme_audit_eval.specs.Coverage.{stopped_at_the_first, stopped_at_the_second, stopped_nowhere, coverage}
@@ -22,8 +23,7 @@ idle_and_nothing_wanted_agrees = record {
   starts = refl;
   breaks = refl;
   counts = refl;
-  outcome
-      = refl;
+  outcome = refl;
 }
 
 pub idle_and_one_wanted_agrees : AuditAgrees idle_and_one_wanted
@@ -50,9 +50,15 @@ pub free_cycles_agrees : AuditAgrees free_cycles
 unfolding everything rows audits free_cycles
 free_cycles_agrees = record { well_formed = refl; starts = refl; breaks = refl; counts = refl; outcome = refl }
 
-pub acknowledged_agrees : AuditAgrees acknowledged
-unfolding everything rows audits acknowledged
-acknowledged_agrees = record { well_formed = refl; starts = refl; breaks = refl; counts = refl; outcome = refl }
+pub interrupt_acknowledge_agrees : AuditAgrees interrupt_acknowledge
+unfolding everything rows audits interrupt_acknowledge
+interrupt_acknowledge_agrees = record {
+  well_formed = refl;
+  starts = refl;
+  breaks = refl;
+  counts = refl;
+  outcome = refl;
+}
 
 pub bus_hangs_agrees : AuditAgrees bus_hangs
 unfolding everything rows audits bus_hangs
@@ -65,8 +71,7 @@ bus_hangs_and_one_wanted_agrees = record {
   starts = refl;
   breaks = refl;
   counts = refl;
-  outcome
-      = refl;
+  outcome = refl;
 }
 
 pub hang_that_is_reset_agrees : AuditAgrees hang_that_is_reset
@@ -102,8 +107,7 @@ unreadable_and_not_covered_agrees = record {
   starts = refl;
   breaks = refl;
   counts = refl;
-  outcome
-      = refl;
+  outcome = refl;
 }
 
 pub never_idle_and_one_wanted_agrees : AuditAgrees never_idle_and_one_wanted
@@ -113,8 +117,7 @@ never_idle_and_one_wanted_agrees = record {
   starts = refl;
   breaks = refl;
   counts = refl;
-  outcome
-      = refl;
+  outcome = refl;
 }
 
 pub stopped_at_the_first_agrees : AuditAgrees stopped_at_the_first
@@ -153,7 +156,7 @@ coverage_agrees = (
               (
                 free_cycles_agrees,
                 (
-                  acknowledged_agrees,
+                  interrupt_acknowledge_agrees,
                   (
                     bus_hangs_agrees,
                     (

@@ -101,8 +101,8 @@ free_cycles = record {
 }
 
 -- an interrupt acknowledge
-unfoldable pub acknowledged : Audited
-acknowledged = record {
+unfoldable pub interrupt_acknowledge : Audited
+interrupt_acknowledge = record {
   trace = transfers (low IACK ∷ []) ((low DTACK ∷ []) ∷ []);
   allowances = [];
   wanted = 1;
@@ -210,7 +210,7 @@ stopped_nowhere = record two_stray_answers {
 
 abbrev pub coverage : List Audited
 coverage = nothing_known ∷ idle_and_nothing_wanted ∷ idle_and_one_wanted ∷ read_in_a_tenure ∷ one_answer_of_two
-    ∷ tenure_cut_off ∷ bus_error_to_a_write ∷ free_cycles ∷ acknowledged ∷ bus_hangs ∷ bus_hangs_and_one_wanted
+    ∷ tenure_cut_off ∷ bus_error_to_a_write ∷ free_cycles ∷ interrupt_acknowledge ∷ bus_hangs ∷ bus_hangs_and_one_wanted
     ∷ hang_that_is_reset ∷ hang_after_a_reset ∷ hang_after_a_break ∷ transfer_cut_off ∷ broken_and_not_covered
     ∷ unreadable_and_not_covered ∷ never_idle_and_one_wanted ∷ stopped_at_the_first ∷ stopped_at_the_second
     ∷ stopped_nowhere ∷ []

@@ -1,4 +1,4 @@
--- Computed from the definitions.
+-- Each recording of `acknowledges` has, by the definitions, the verdict and the rows that stand beside it: computed.
 use Rattle.std.proofs.Common.{refl}
 use Rattle.vme_eval.specs.Recording.{Agrees, AllAgree}
 use Rattle.vme_eval.specs.Acknowledges.{acknowledges, acknowledge_cycle, acknowledge_of_level_3, acknowledge_skips_slot}

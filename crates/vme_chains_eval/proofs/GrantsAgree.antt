@@ -1,4 +1,4 @@
--- Computed from the definitions.
+-- Each recording of `grants` has, by the definitions, the verdict and the rows that stand beside it: computed.
 use Rattle.std.proofs.Common.{refl}
 use Rattle.vme_eval.specs.Recording.{Agrees, AllAgree}
 use Rattle.vme_eval.specs.Grants.{grants, slot_grants_ungranted, slot_grants_with_its_input}

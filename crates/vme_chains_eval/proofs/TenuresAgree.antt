@@ -1,4 +1,4 @@
--- Computed from the definitions.
+-- Each recording of `tenures` has, by the definitions, the verdict and the rows that stand beside it: computed.
 use Rattle.std.proofs.Common.{refl}
 use Rattle.vme_eval.specs.Recording.{Agrees, AllAgree}
 use Rattle.vme_eval.specs.Tenures.{tenures, tenure_on_level_0, tenure_on_level_1, tenure_on_level_2}

@@ -1,4 +1,4 @@
--- Computed from the definitions.
+-- Each recording of `dumps` has, by the definitions, the verdict and the rows that stand beside it: computed.
 use Rattle.std.proofs.Common.{refl}
 use Rattle.vme_eval.specs.Recording.{Agrees, AllAgree}
 use Rattle.vme_eval.specs.Dumps.{dumps, dumped_read, dumped_nothing, dumped_stray_answer, dumped_unknown_strobe}

@@ -1,4 +1,4 @@
--- Computed from the definitions.
+-- Each recording of `leniencies` has, by the definitions, the verdict and the rows that stand beside it: computed.
 use Rattle.std.proofs.Common.{refl}
 use Rattle.vme_eval.specs.Recording.{Agrees, AllAgree}
 use Rattle.vme_eval.specs.Leniencies.{leniencies, chain_net_left_low, acknowledge_net_left_low}

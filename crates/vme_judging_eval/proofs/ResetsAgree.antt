@@ -1,4 +1,4 @@
--- Computed from the definitions.
+-- Each recording of `resets` has, by the definitions, the verdict and the rows that stand beside it: computed.
 use Rattle.std.proofs.Common.{refl}
 use Rattle.vme_eval.specs.Recording.{Agrees, AllAgree}
 use Rattle.vme_eval.specs.Resets.{resets, reset_in_a_read, busy_after_the_reset, answer_after_the_reset}

@@ -1,4 +1,4 @@
--- Computed from the definitions.
+-- Each recording of `same_instant` has, by the definitions, the verdict and the rows that stand beside it: computed.
 use Rattle.std.proofs.Common.{refl}
 use Rattle.vme_eval.specs.Recording.{Agrees, AllAgree}
 use Rattle.vme_eval.specs.SameInstant.{same_instant, modifier_and_direction_unknown}

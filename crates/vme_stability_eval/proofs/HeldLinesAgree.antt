@@ -1,4 +1,4 @@
--- Computed from the definitions.
+-- Each recording of `held_lines` has, by the definitions, the verdict and the rows that stand beside it: computed.
 use Rattle.std.proofs.Common.{refl}
 use Rattle.vme_eval.specs.Recording.{Agrees, AllAgree}
 use Rattle.vme_eval.specs.HeldLines.{held_lines, short_address, address_changes_early, address_changes_with_answer}

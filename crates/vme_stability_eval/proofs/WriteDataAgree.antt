@@ -1,4 +1,4 @@
--- Computed from the definitions.
+-- Each recording of `write_data` has, by the definitions, the verdict and the rows that stand beside it: computed.
 use Rattle.std.proofs.Common.{refl}
 use Rattle.vme_eval.specs.Recording.{Agrees, AllAgree}
 use Rattle.vme_eval.specs.WriteData.{write_data, data_unknown, unmoved_data_unknown, data_change_with_the_answer}

@@ -1,4 +1,4 @@
--- Computed from the definitions.
+-- Each recording of `cycles` has, by the definitions, the verdict and the rows that stand beside it: computed.
 use Rattle.std.proofs.Common.{refl}
 use Rattle.vme_eval.specs.Recording.{Agrees, AllAgree}
 use Rattle.vme_eval.specs.Cycles.{cycles, read_modify_write, write_then_read, two_writes, read_write_write}

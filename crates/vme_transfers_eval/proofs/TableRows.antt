@@ -1,4 +1,4 @@
--- Computed from the definitions.
+-- Which modifier codes and which lines the definitions single out (vme_eval's specs/Tables): computed.
 use Rattle.std.proofs.Common.{◌≡◌, refl}
 use Rattle.std.specs.Prelude.{◌∷◌, []}
 use Rattle.vme_trace.specs.declared.level.Level.TheVariants.{Low, Unknown}

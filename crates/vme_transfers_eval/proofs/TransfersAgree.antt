@@ -1,4 +1,4 @@
--- Computed from the definitions.
+-- Each recording of `transfers` has, by the definitions, the verdict and the rows that stand beside it: computed.
 use Rattle.std.proofs.Common.{refl}
 use Rattle.vme_eval.specs.Recording.{Agrees, AllAgree}
 use Rattle.vme_eval.specs.Transfers.{transfers, read_cycle, read_cycle_from_idle, pipelined_cycles, bus_error}
