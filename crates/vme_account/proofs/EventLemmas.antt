@@ -63,6 +63,7 @@ since_last-le q s i le = by_case (greatest q (s + 1) (i + 1)) refl
     by_case None e = omega (arith, le)
     by_case (Some n) e = let less = greatest-below q (s + 1) (i + 1) n e in omega (arith, less)
 
+-- p and q say at which instants two events happen; s is the instant at which a stretch starts, and i one from there on
 module _ (p q : ℕ → Bool) (s i : ℕ) (le : s ≤ i) where
   -- the first instant of `p`, up to n, from `since_last q s n` on
   abbrev first_since : ℕ → Option ℕ

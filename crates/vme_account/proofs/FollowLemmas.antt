@@ -106,8 +106,9 @@ levels_at-reached o x y =
 pub levels_at-last : (o : Levels) (x : List Step) → levels_at (recorded o x) (length x) ≡ (reached o x).levels
 levels_at-last o x =
     subst (λ (l : List Step). levels_at (recorded o l) (length x) ≡ (reached o x).levels) (append-nil x)
-    (levels_there o x [])
+    (levels_at-reached o x [])
 
+-- a recording with the step s after the steps x, and then the steps y
 module _ (o : Levels) (x : List Step) (s : Step) (y : List Step) where
   -- the recording of the steps `x`, `s` and `y`
   abbrev whole : Trace
@@ -183,6 +184,8 @@ same_kinds a b c d e g p q r =
     ∙ (ap (λ (k : StepMarks). kinds_of d ++ (kinds_of k ++ kinds_of c)) q
     ∙ ap (λ (k : StepMarks). kinds_of d ++ (kinds_of e ++ kinds_of k)) r)
 
+-- a step s after the steps x: j follows these, and no break is found in them. The step is seen as u and has the changes
+-- cs, the monitors show `shown` of it and then have the memories m, and n are the notes after it.
 module _ (o : Levels) (x : List Step) (s : Step) (j : FollowedSteps) (f : FollowsSteps o x j)
     (no_break : j.notes.found ≡ None)
     (instant : ℕ) (at : instant ≡ length x + 1) (cs : List Change) (changes_are : cs ≡ s.changes) (u : StepView)

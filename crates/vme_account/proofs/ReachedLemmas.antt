@@ -1,4 +1,5 @@
--- What is reached after all steps is the recording's first break, and the marks from which its listing is made.
+-- What is reached after all steps is the recording's first break, and the marks from which its listing is made. Here o
+-- are levels before steps x, m the monitors' memories there, and ms the marks so far.
 use Rattle.std.proofs.Common.{◌≡◌, ◌+◌, ◌≤◌, ℕ, Bool, true, false, List, [], ◌∷◌, ◌++◌, map}
 use Rattle.std.proofs.Common.{Option, None, Some, refl, sym, ap, ◌∙◌, arith}
 use Rattle.std.specs.Prelude.{IfSome, is_some, nat_lt, option_map, if◌then◌else◌}

@@ -55,6 +55,7 @@ joined_by_dots-cons : (b : ℕ) (m : List ℕ) (names : List (List ℕ)) (c : �
     → joined_by_dots names ≡ c ∷ path → joined_by_dots ((b ∷ m) ∷ names) ≡ (b ∷ m) ++ 46 ∷ c ∷ path
 joined_by_dots-cons b m names c path e = rw e refl
 
+-- the scope's name is `first ∷ others`, which has no dot, and the variable's name is `n ∷ name`
 module _ (first : ℕ) (others : List ℕ) (undotted : All (λ b. is_dot b ≡ false) (first ∷ others)) (n : ℕ)
     (name : List ℕ) where
   abbrev scope : List ℕ

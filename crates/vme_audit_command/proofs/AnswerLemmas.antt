@@ -54,6 +54,8 @@ lines-first options head lines (Err refusal) = ([], sym (append-nil lines))
 all-is-text : (all before text : List ℕ) → before ≡ [] → all ≡ before ++ text → all ≡ text
 all-is-text all before text none is = is ∙ ap (λ (l : List ℕ). l ++ text) none
 
+-- a body, of which `reading` is read: while its steps are audited, the audit goes from `first`, which has no lines, to
+-- `later`, and the output from u to v
 module _ (skew transfers : ℕ) (is_quiet : Bool) (head : List ℕ) (first later : GivenSteps)
     (none : lines_of head first ≡ [])
     (reading : TextReading) (u v : Writing) where
@@ -156,6 +158,8 @@ module _ (skew transfers : ℕ) (is_quiet : Bool) (head : List ℕ) (first later
 
 -- ---- after the definitions
 
+-- a body that begins with `held`, after the definitions, which r has read; if `is_more` is true, the bytes of `source`
+-- follow. The rules of the audit are those of `first`.
 module _ (allowances : List Allowance) (stop : Option ℕ) (skew transfers : ℕ) (is_quiet : Bool) (head : List ℕ)
     (first later : GivenSteps) (fits : first.allowances ≡ allowances) (stops : first.stop ≡ stop)
     (none : lines_of head first ≡ []) (r : StepReading) (held : List ℕ) (is_more : Bool) (source : Reading)

@@ -66,6 +66,7 @@ Fits-more r t c m r' t' c' m' d w p q u v f =
       served = f.served;
     }
 
+-- the bounds are r resets, t tenures, c cycles of each class and m transfers
 module _ (r t c m : ℕ) where
   -- the tally after the waiting transfer is left without an answer is exact
   pub pending_exact : (a : Tally) → Fits r t c m a.counts a.waiting → m ≤ 2 ^ 64 - 1
@@ -370,7 +371,8 @@ module _ (r t c m : ℕ) where
       let p = answer_here b x.line b.has_cycle e.fits few in
       record { same = ap (λ (a : Tally). at_answer counted a x) e.same ∙ p.same; fits = p.fits }
 
--- the tally after a step that breaks no rule is exact: the step has at most one event of each kind
+-- the tally after a step that breaks no rule, of which p, q and u are the marks of the stretch, the tenure and the
+-- transfer, is exact: the step has at most one event of each kind
 tallied_exact : (k : ℕ) (a : Tally) (instant time : ℕ) (p q u : StepMarks) → Fits k k k k a.counts a.waiting
     → k < 2 ^ 64 - 1
     → IsExact (suc k) (suc k) (suc k) (suc k) (tallied counted a instant time p q u) (tallied suc a instant time p q u)
@@ -383,7 +385,7 @@ tallied_exact k a instant time p q u f below =
     below in
     answer_exact (suc k) (suc k) (suc k) (suc k) u.answer _ _ fourth (omega arith)
 
--- the tally after a step, with the fault `fault` or none, is exact
+-- the tally after a step, with the fault `fault` or none, is exact, with bounds that are one greater
 tally_after_exact : (k : ℕ) (fault : Option Fault) (a : Tally) (instant time : ℕ) (p q u : StepMarks)
     → Fits k k k k a.counts a.waiting → k < 2 ^ 64 - 1
     → IsExact (suc k) (suc k) (suc k) (suc k) (tally_after counted fault a instant time p q u)

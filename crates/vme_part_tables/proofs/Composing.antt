@@ -26,7 +26,9 @@ pub length-nodes_on : (es : List TableEntry) (n : ℕ) (ns : List NodeValue) →
 length-nodes_on es n [] = refl
 length-nodes_on es n (x ∷ xs) = ap suc (length-nodes_on es n xs)
 
+-- es are the entries of the second table and bs its nodes; `steps` is the number of steps of the first segment
 module _ (es : List TableEntry) (bs : List NodeValue) (steps : ℕ) where
+  -- the number of memories
   abbrev m : ℕ
   m = length es
 
@@ -57,16 +59,17 @@ module _ (es : List TableEntry) (bs : List NodeValue) (steps : ℕ) where
       ≡ (entry_of es w).next + between
   next_on-node between w h k = rw (lt-ltb w m h, le-ltb (entry_of es w).next m k) refl
 
-  -- the first break where w is a memory: the one before it, else that of the entry w, `steps` later
+  -- the first break of a run of the first table that ends in the memory w: its own, else that of the entry w, `steps`
+  -- later
   first_break_on-memory : (w : ℕ) (ev : Option WideBreak) → w < m
       → first_break_on es steps w ev ≡ option_or ev (option_map (later_break steps) (entry_of es w).first_break)
   first_break_on-memory w ev h = rw (lt-ltb w m h) refl
 
-  -- a way of the first table to a node of its own stays
+  -- a way of the first table to one of its own nodes, at least m, stays
   next_on-past : (between w : ℕ) → m ≤ w → next_on es between w ≡ w
   next_on-past between w h = rw (le-ltb w m h) refl
 
-  -- the first break where w is a node: the one before it
+  -- the first break of a run of the first table that continues with a node of its own, w: its own alone
   first_break_on-past : (w : ℕ) (ev : Option WideBreak) → m ≤ w → first_break_on es steps w ev ≡ ev
   first_break_on-past w ev h = rw (le-ltb w m h) refl
 
@@ -92,6 +95,7 @@ module _ (es : List TableEntry) (bs : List NodeValue) (steps : ℕ) where
   followed_by-without_marks None (Some x) r = refl
   followed_by-without_marks (Some y) b r = refl
 
+  -- `ev` or nothing is `ev`
   option_or-none : (ev : Option WideBreak) → option_or ev None ≡ ev
   option_or-none None = refl
   option_or-none (Some b) = refl
@@ -178,15 +182,17 @@ of_entry : (P : TableEntry → Type 0) (es : List TableEntry) (k : ℕ) (e : Tab
     → get_or es k e ≡ e → P e
 of_entry P es k e all h same = subst P same (all k e h)
 
+-- the composition of the tables a, of `steps` steps, and b
 module _ (a b : TableValue) (steps : ℕ) (c : CanCompose a b) where
   -- an entry of the first table, continued in the second
   abbrev on : TableEntry → TableEntry
   on = entry_on b.entries steps (length a.nodes)
 
+  -- the composition has as many entries as the second table
   as_many_on : length (map on a.entries) ≡ length b.entries
   as_many_on = length-map a.entries on ∙ sym c.as_many
 
-  -- `second_from` is the outcome of the second table
+  -- `second_from` is the outcome of the second table from the memory w
   second_from-is_outcome : (w : ℕ) → w < length b.entries → second_from b.entries b.nodes steps w ≡ outcome_in b w
   second_from-is_outcome w h = by_place (slice_get_cases b.entries w).1
     where

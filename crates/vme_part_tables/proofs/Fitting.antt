@@ -60,7 +60,7 @@ module _ (steps more : ℕ) (fits : steps + more < 2 ^ 64) where
         time = f.time;
       }
 
-  -- a break in the `more` steps after them is, `steps` later, one in all steps
+  -- a break in the `more` steps after the first `steps` steps is, `steps` later, one in all steps
   break_of_second : (b : WideBreak) → FitsBreak more b → FitsBreak (steps + more) (later_break steps b)
   break_of_second b f =
       let low = f.instant.1 in
@@ -96,8 +96,8 @@ module _ (steps more : ℕ) (fits : steps + more < 2 ^ 64) where
       let i = f.0.instant in
       (record { kind = f.0.kind; instant = (i.0, i.1, omega (arith, i.2), i.3) }, marks_of_first m.instant ms f.1)
 
-  -- marks in the `more` steps after them, at `before` at least, are, `steps` later, marks in all steps, at `start` at
-  -- least
+  -- marks in the `more` steps after the first `steps` steps, at `before` at least, are, `steps` later, marks in all
+  -- steps, at `start` at least
   marks_of_second : (before start : ℕ) (ms : List WideMark) → start ≤ before + steps → FitMarks more before ms
       → FitMarks (steps + more) start (map (later_mark steps) ms)
   marks_of_second before start [] h f = tt
@@ -110,8 +110,9 @@ module _ (steps more : ℕ) (fits : steps + more < 2 ^ 64) where
         marks_of_second m.instant (later steps m.instant) ms (omega arith) f.1,
       )
 
-  module _ (listing : Bool) (count : ℕ) (a b : TableValue) (f : FitsTable listing count steps a)
-      (g : FitsTable listing count more b) (c : CanCompose a b) where
+  -- the tables a, of `steps` steps, and b, of the `more` steps after them, can be written and composed
+  module _ (listing : Bool) (count : ℕ) (a b : TableValue) (a_fits : FitsTable listing count steps a)
+      (b_fits : FitsTable listing count more b) (composable : CanCompose a b) where
     -- the break of the entry w of the second table is within the bounds
     entry_break_fits : (w : ℕ) → IfSome (entry_of b.entries w).first_break (FitsBreak more)
     entry_break_fits w = by_place (slice_get_cases b.entries w).1
@@ -122,7 +123,7 @@ module _ (steps more : ℕ) (fits : steps + more < 2 ^ 64) where
         by_place (inl there) =
             let e = there.2 in
             rw e (subst (λ (x : TableEntry). IfSome x.first_break (FitsBreak more)) there.3
-            (g.entries w there.0 there.1).first_break)
+            (b_fits.entries w there.0 there.1).first_break)
         by_place (inr past) = let e = past.1 in rw e tt
 
     -- the first break of a run that comes to the way w with the break `ev` is within the bounds
@@ -156,7 +157,7 @@ module _ (steps more : ℕ) (fits : steps + more < 2 ^ 64) where
     nodes_fit : (ns : List NodeValue) → FitNodes count steps ns
         → NodesGoOn count (nodes_on b.entries steps ns ++ map (later_node steps) b.nodes)
         → FitNodes count (steps + more) (nodes_on b.entries steps ns ++ map (later_node steps) b.nodes)
-    nodes_fit [] h w = nodes_fit_second b.nodes g.nodes
+    nodes_fit [] h w = nodes_fit_second b.nodes b_fits.nodes
     nodes_fit (n ∷ ns) h w = (
       record {
         next = w.0;
@@ -173,27 +174,29 @@ module _ (steps more : ℕ) (fits : steps + more < 2 ^ 64) where
     HasNodes-composed false h k = rw (h, k) refl
 
     -- the composition of two tables whose entry 2 is `stays` has the entry `stays` after two others
-    ended-composed : (table_on a b steps).entries ≡ map (entry_on b.entries steps (length a.nodes)) f.ended.0
-        ++ stays ∷ map (entry_on b.entries steps (length a.nodes)) f.ended.1
+    ended-composed : (table_on a b steps).entries ≡ map (entry_on b.entries steps (length a.nodes)) a_fits.ended.0
+        ++ stays ∷ map (entry_on b.entries steps (length a.nodes)) a_fits.ended.1
     ended-composed =
         let on = entry_on b.entries steps (length a.nodes) in
         let second : slice_get b.entries 2 ≡ Some stays
-        = ap (λ es. slice_get es 2) g.ended.3 ∙ at_two g.ended.0 stays g.ended.1 g.ended.2 in
-        ap (map on) f.ended.3
-        ∙ (map-append on f.ended.0 (stays ∷ f.ended.1)
-        ∙ ap (λ e. map on f.ended.0 ++ e ∷ map on f.ended.1) (stays_on b.entries (length a.nodes) steps second))
+        = ap (λ es. slice_get es 2) b_fits.ended.3 ∙ at_two b_fits.ended.0 stays b_fits.ended.1 b_fits.ended.2 in
+        ap (map on) a_fits.ended.3
+        ∙ (map-append on a_fits.ended.0 (stays ∷ a_fits.ended.1)
+        ∙ ap (λ e. map on a_fits.ended.0 ++ e ∷ map on a_fits.ended.1)
+        (stays_on b.entries (length a.nodes) steps second))
 
     -- the composition of two tables, of `steps` and of `more` steps, can be written
     pub composed_fits : FitsTable listing count (steps + more) (table_on a b steps)
     composed_fits =
-        let ways = composed_ways a b steps c in
-        let memories : length (table_on a b steps).entries ≡ count = composed_memories a b steps c ∙ f.as_many in
+        let ways = composed_ways a b steps composable in
+        let memories : length (table_on a b steps).entries ≡ count = composed_memories a b steps composable
+        ∙ a_fits.as_many in
         record {
           as_many = memories;
           ended = (
-            map (entry_on b.entries steps (length a.nodes)) f.ended.0,
-            map (entry_on b.entries steps (length a.nodes)) f.ended.1,
-            length-map f.ended.0 (entry_on b.entries steps (length a.nodes)) ∙ f.ended.2,
+            map (entry_on b.entries steps (length a.nodes)) a_fits.ended.0,
+            map (entry_on b.entries steps (length a.nodes)) a_fits.ended.1,
+            length-map a_fits.ended.0 (entry_on b.entries steps (length a.nodes)) ∙ a_fits.ended.2,
             ended-composed,
           );
           entries = λ k d h. record {
@@ -202,9 +205,10 @@ module _ (steps more : ℕ) (fits : steps + more < 2 ^ 64) where
                 All-map (λ (e : TableEntry). IfSome e.first_break (FitsBreak (steps + more)))
                 (entry_on b.entries steps (length a.nodes)) a.entries
                 (λ k d h. first_break_fits (get_or a.entries k d).next (get_or a.entries k d).first_break
-                (f.entries k d h).first_break) k d h;
+                (a_fits.entries k d h).first_break) k d h;
           };
-          nodes = nodes_fit a.nodes f.nodes (subst (λ m. NodesGoOn m (table_on a b steps).nodes) memories ways.nodes);
+          nodes = nodes_fit a.nodes a_fits.nodes (subst (λ m. NodesGoOn m (table_on a b steps).nodes) memories
+              ways.nodes);
           few = rw (← memories) ways.few;
-          listed = HasNodes-composed listing f.listed g.listed;
+          listed = HasNodes-composed listing a_fits.listed b_fits.listed;
         }

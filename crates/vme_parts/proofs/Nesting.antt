@@ -41,6 +41,7 @@ eq-multiple_of_lower x low high h e =
     ∙ (ap (λ k. k * (x / 2 ^ high)) (pow-split low high h)
     ∙ mul_assoc (2 ^ low) (2 ^ (high - low)) (x / 2 ^ high))
 
+-- t begins within s: s comes before t, and the first file of t is none after the last file of s
 module _ (s t : SegmentValue) (p : FitsNumbers s.first s.order) (q : FitsNumbers t.first t.order)
     (before : Precedes s t) (meets : t.first ≤ last_of s.first s.order) where
   -- t, if its order is at most that of s, ends where s does, or before
