@@ -57,7 +57,7 @@ section_unfinished line before cut = ap (section_from line) cut
 abbrev ended_as : List (List ℕ) → List Token → Result Ended VcdFault
 ended_as words rest = Ok (record { words = words; rest = rest })
 
--- words before words
+-- `back` and then `front` put before the words of a result are `front ++ back` before them
 with_words_before-append : (front back : List (List ℕ)) (read : Result Ended VcdFault)
     → with_words_before front (with_words_before back read)
     ≡ with_words_before (front ++ back) read
@@ -122,12 +122,12 @@ skip_unfinished line before cut = ap (λ (read : Result Ended VcdFault). read >>
 
 -- ---- words
 
--- the texts of words with one more at the end
+-- the texts of words with one more at the end are those of the words, and its text
 pub texts_push : (words : List (Bor (List ℕ))) (word : Bor (List ℕ)) → texts (words ++ word ∷ []) ≡ texts words
     ++ word.now ∷ []
 texts_push words word = map-append (λ (w : Bor (List ℕ)). w.now) words (word ∷ [])
 
--- no word is empty, also with one more that isn't
+-- if no word is empty, none is with one more that isn't empty
 pub All-push_word : (words : List (Bor (List ℕ))) (word : Bor (List ℕ)) → All (λ w. 0 < length w.now) words
     → 0 < length word.now → All (λ w. 0 < length w.now) (words ++ word ∷ [])
 All-push_word words word each some = All-push (λ (w : Bor (List ℕ)). 0 < length w.now) words word each some

@@ -7,7 +7,7 @@ use Rattle.std.proofs.lemmas.Bool.{cases_Bool, lt-leb}
 use Rattle.vme_trace.specs.Instants.{any, greatest, least}
 use Rattle.vme_trace.proofs.Ranges.{any-least, least-none, greatest-step, greatest-below}
 
--- the first of the numbers from f to n that has `p` is the first below n, if there is one, or else n
+-- the first number from f to n that has `p`: the first below n, or else n, if n has it and isn't below f
 least-step : (p : ℕ → Bool) (f n : ℕ) → least p f (n + 1) ≡ (if any p f n then least p f n else if nat_le f n
     && p n then Some n else None)
 unfolding least

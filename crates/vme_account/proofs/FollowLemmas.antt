@@ -37,7 +37,7 @@ use Rattle.vme_account.specs.declared.step_notes.StepNotes.{StepNotes}
 
 -- ---- the levels and the instant that are reached
 
--- a step changes the levels, found break or not
+-- a step changes the levels, whether a break was found before it or not
 with_step-levels : (r : StepsReached) (s : Step) → (with_step r s).levels ≡ changed r.levels s.changes
 with_step-levels r s = by_test (is_some r.found)
   where
@@ -45,7 +45,7 @@ with_step-levels r s = by_test (is_some r.found)
     by_test true = refl
     by_test false = refl
 
--- a step adds 1 to the instant
+-- a step adds 1 to the instant, whether a break was found before it or not
 with_step-instant : (r : StepsReached) (s : Step) → (with_step r s).instant ≡ r.instant + 1
 with_step-instant r s = by_test (is_some r.found)
   where
@@ -154,7 +154,7 @@ follows-first o v m n l before after memories notes =
 
 -- ---- after a break
 
--- once a break is found, the notes stay as they are for each step `s` after it
+-- once a break is found, `j` follows the steps and one more, `s`, without a change
 pub follows-found : (o : Levels) (x : List Step) (s : Step) (j : FollowedSteps) (b : Break) → FollowsSteps o x j
     → j.notes.found ≡ Some b → FollowsSteps o (x ++ s ∷ []) j
 follows-found o x s j b f e =
@@ -248,7 +248,7 @@ module _ (o : Levels) (x : List Step) (s : Step) (j : FollowedSteps) (f : Follow
       ∙ (ap (λ (i : ℕ). option_map (break_of_fault i s.time) shown.fault) instant_is_next
       ∙ ap (option_map (break_of_fault (r.instant + 1) s.time)) fault_is)
 
-  -- what is marked after the step, by its fault `g`, is what its marks make of it
+  -- what is marked after the step, which has the fault `g` or none, is `marked` of the marks up to it
   marked-by_fault : (g : Option Fault) → n.marked
       ≡ (if is_some g then j.notes.marked else fold marked_next j.notes.marked (map (mark_at instant) kinds))
       → n.marked ≡ marked
@@ -267,7 +267,7 @@ module _ (o : Levels) (x : List Step) (s : Step) (j : FollowedSteps) (f : Follow
       ∙ ap (λ (g : Option Fault). if is_some g then j.notes.marked else fold marked_next j.notes.marked
       (map (mark_at instant) kinds)) fault_is)
 
-  -- a break of the step is at the instant last seen, and an instant before it is known
+  -- the break of a fault `g` of the step is at the instant last seen, and the events up to the instant before are noted
   broken-by_fault : (g : Option Fault) → IfSome g (λ f. is_some n.events.before ≡ true)
       → IfSome (option_map (break_of_fault instant s.time) g)
       (λ b. (b.instant ≡ n.events.seen) × (is_some n.events.before ≡ true))

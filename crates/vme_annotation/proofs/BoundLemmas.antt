@@ -72,7 +72,7 @@ module _ (variables more : List Variable) (differ : AreApart variables more) whe
   abbrev is_found : VariableSelector → Type 0
   is_found named = is_fine (only (filter_map (candidate named) variables)) ≡ true
 
-  -- an added variable with another path than those of the variables is no candidate for `named`
+  -- an added variable, whose path none of the variables has, is no candidate for a `named` that is found
   candidate-of_new : (new : Variable) (named : VariableSelector) → list_any (has_path new.path) variables ≡ false
       → is_found named → candidate named new ≡ None
   candidate-of_new new named differs found = go (bytes_eq new.path named.path) refl
@@ -86,7 +86,7 @@ module _ (variables more : List Variable) (differ : AreApart variables more) whe
           (subst (λ (p : List ℕ). list_any (has_path p) variables ≡ false) path differs) in
           absurd (true≢false (sym (rw none at found)))
 
-  -- no added variable is a candidate for `named`
+  -- no added variable is a candidate for a `named` that is found
   candidates-of_more : (named : VariableSelector) → is_found named → (new : List Variable) → AreApart variables new
       → filter_map (candidate named) new ≡ []
   candidates-of_more named found [] differ = refl
@@ -94,7 +94,7 @@ module _ (variables more : List Variable) (differ : AreApart variables more) whe
       let none = candidate-of_new v named differ.0 found in
       rw none (candidates-of_more named found new differ.1)
 
-  -- the candidates for `named` are the same when the variables are added
+  -- the candidates for a `named` that is found are the same with the added variables
   candidates_stay : (named : VariableSelector) → is_found named
       → filter_map (candidate named) all ≡ filter_map (candidate named) variables
   candidates_stay named found =
@@ -102,7 +102,7 @@ module _ (variables more : List Variable) (differ : AreApart variables more) whe
       filter_map-append (candidate named) variables more
       ∙ (rw none (append-nil (filter_map (candidate named) variables)))
 
-  -- a source is found as without the added variables
+  -- a source that is found is found the same with the added variables
   source_stays : (count : ℕ) (s : LevelSource) → is_fine (source_in variables count s) ≡ true
       → source_in all count s ≡ source_in variables count s
   source_stays count (Constant level) fine = refl
@@ -110,7 +110,7 @@ module _ (variables more : List Variable) (differ : AreApart variables more) whe
       let same = candidates_stay named (fine_first (only (filter_map (candidate named) variables)) _ fine) in
       rw same refl
 
-  -- the group of an assignment is found as without the added variables
+  -- a group that is found is found the same with the added variables
   group_stays : (a : Assignment) → is_fine (bound_group_in variables a) ≡ true
       → bound_group_in all a ≡ bound_group_in variables a
   group_stays a fine =

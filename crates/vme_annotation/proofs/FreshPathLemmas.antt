@@ -50,7 +50,7 @@ parts-scope scope name none = slice_split_at is_dot scope 46 name none refl
 
 -- ---- the path of a name in a scope
 
--- a name, and names that joined are not empty, are joined by a dot between them
+-- the name `b ∷ m` and names whose joined path, `c ∷ path`, isn't empty have a dot between them
 joined_by_dots-cons : (b : ℕ) (m : List ℕ) (names : List (List ℕ)) (c : ℕ) (path : List ℕ)
     → joined_by_dots names ≡ c ∷ path → joined_by_dots ((b ∷ m) ∷ names) ≡ (b ∷ m) ++ 46 ∷ c ∷ path
 joined_by_dots-cons b m names c path e = rw e refl

@@ -27,7 +27,7 @@ use Rattle.vme_auditor.proofs.ShownKinds.{transfer_from}
 abbrev pub marked : List MarkKind → List Mark
 marked ks = map (mark_at 1) ks
 
--- all marks at the instant 1 are within the first step
+-- marks at the instant 1 are marks of the first step
 pub marked_within : (ks : List MarkKind) → MarksWithin 1 (marked ks)
 marked_within [] = tt
 marked_within (k ∷ ks) = (omega arith, omega arith, marked_within ks)

@@ -147,7 +147,7 @@ module _ (slots : ℕ) (bound_groups : List BoundGroup) (line_bits : NetLines)
 
 -- ---- the builder's state
 
--- no net with a value gives no values
+-- where no net has a value, there are no values
 values_from-no_bits : (n k : ℕ) → values_from k (replicate n no_bits) ≡ []
 values_from-no_bits zero k = refl
 values_from-no_bits (suc n) k = values_from-no_bits n (k + 1)

@@ -262,7 +262,7 @@ pub recording-formed : (slots : ℕ) (bound_groups : List BoundGroup) (instants 
 recording-formed slots bound_groups instants made up is = sym (ap malformed_step is) ∙ well_formed slots bound_groups
     instants (length instants) (omega arith) up
 
--- an answer that is the limited recording `t` is what `BindGives` asks of the result `r`, which is so too
+-- if the result `r` and the answer are both the limited recording `t`, the answer gives the result
 pub BindGives-limited : (t : Trace) (r answer : Result Trace BindFault) → r ≡ limited t → answer ≡ limited t
     → BindGives (λ (t : Trace). t) r answer
 BindGives-limited t r answer e h = subst (λ (r : Result Trace BindFault). BindGives (λ (t : Trace). t) r answer) (sym e)

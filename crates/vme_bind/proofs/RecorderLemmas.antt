@@ -157,17 +157,17 @@ sysreset_exists slots = record { below = omega arith; exists = cc }
 pub zero_le : (n : ℕ) → nat_le 0 n ≡ true
 zero_le n = grind (arith, nat_tests)
 
--- if p holds for n, the numbers below n + 1 are those below n, and n
+-- if p holds for n, the numbers below n + 1 with p are those below n, and n
 pub those-yes : (p : ℕ → Bool) (n : ℕ) → p n ≡ true → those p 0 (n + 1) ≡ those p 0 n ++ n ∷ []
 unfolding those
 those-yes p n h = rw (add-one, zero_le n, h) refl
 
--- if p doesn't hold for n, the numbers below n + 1 are those below n
+-- if p doesn't hold for n, the numbers below n + 1 with p are those below n
 pub those-no : (p : ℕ → Bool) (n : ℕ) → p n ≡ false → those p 0 (n + 1) ≡ those p 0 n
 unfolding those
 those-no p n h = rw (add-one, zero_le n, h) (append-nil (those p 0 n))
 
--- if p holds for none of the d numbers from m on, the numbers below m + d are those below m
+-- if p holds for none of the d numbers from m on, the numbers below m + d with p are those below m
 those-past : (p : ℕ → Bool) (m d : ℕ) → ((l : ℕ) → m ≤ l → l < m + d → p l ≡ false) → those p 0 (m + d) ≡ those p 0 m
 those-past p m zero none = let e : m + 0 ≡ m = omega arith in ap (those p 0) e
 those-past p m (suc d) none =
@@ -175,7 +175,7 @@ those-past p m (suc d) none =
     ap (those p 0) e ∙ those-no p (m + d) (none (m + d) (omega arith) (omega arith)) ∙ those-past p m d
     (λ l low high. none l low (omega arith))
 
--- if p holds for no number from m to below n, the numbers below n are those below m
+-- if p holds for no number from m to below n, the numbers below n with p are those below m
 pub those-skip : (p : ℕ → Bool) (m n : ℕ) → m ≤ n → ((l : ℕ) → m ≤ l → l < n → p l ≡ false) → those p 0 n ≡ those p 0 m
 those-skip p m n le none =
     let e : m + (n - m) ≡ n = omega arith in
@@ -208,7 +208,7 @@ no_difference_above before now first last l h lt = elim (cases_Bool (differs bef
   | inr none ↦ none
 ]
 
--- the lines below n, at most `first`, are shown as they were before, without a change
+-- if n is at most `first`, no line below n differs: the levels before are shown, with no change
 pub AreShown-up_to_first : (before now : Levels) (first last n : ℕ) (changes : List Change)
     → DifferWithin before now first last
     → n ≤ first → changes ≡ [] → AreShown n before now before changes

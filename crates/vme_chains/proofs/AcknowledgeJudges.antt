@@ -59,7 +59,7 @@ module _ (t : Trace) (stretch : Stretch) (ok : malformed_step t ≡ None) (few :
     few_slots : old.slots ≤ 21
     few_slots = rw (slots_at t n) few
 
-    -- the first changed line that passes an acknowledge on is the least line that does
+    -- the first changed line for which `passes_on` holds is the least of all lines for which it holds
     first_changed-passes_on : first_changed (passes_on old new) changes ≡ least (passes_on old new) 0 line_count
     first_changed-passes_on =
         subst (λ (w : Levels). first_changed (passes_on old w) changes ≡ least (passes_on old w) 0 line_count)
@@ -67,7 +67,7 @@ module _ (t : Trace) (stretch : Stretch) (ok : malformed_step t ≡ None) (few :
         (first-least old (passes_on old (changed old changes)) few_slots 0 changes (changes_fit t n ok within)
         (passes_not old changes))
 
-    -- the first changed line that passes an acknowledge on unasked is the least line that does
+    -- the first changed line for which `passes_unasked` holds is the least of all lines for which it holds
     first_changed-passes_unasked : first_changed (passes_unasked old new) changes
         ≡ least (passes_unasked old new) 0 line_count
     first_changed-passes_unasked =
@@ -165,7 +165,7 @@ module _ (t : Trace) (stretch : Stretch) (ok : malformed_step t ≡ None) (few :
         by_lines None (Some l) = by_tests l (is_strobed old new) (is_addressed old new && m.answered_by_dtack)
         by_lines None None = none_left (is_strobed old new) (is_addressed old new && m.answered_by_dtack)
 
-  -- the instant n + 1 of a stretch is its start, or n is in the stretch too
+  -- an instant n + 1 that isn't before s is s, or n isn't before s either
   first_or_later : (s n : ℕ) → s ≤ suc n → (suc n ≤ s) ⊎ (s ≤ n)
   first_or_later s n h = grind arith
 

@@ -14,7 +14,7 @@ use Rattle.vme_part_format.specs.Reading.{◌>>=◌, Fails, SetsFour, SetsLevel,
 use Rattle.vme_part_format.specs.Reading.{fault_at, four, levels_at, packed_at, unpacked, with_levels}
 use Rattle.vme_part_format.proofs.LevelFacts.{four_is, four_takes}
 
--- four levels of which the last isn't there are not there
+-- if the last of four levels isn't there, the four aren't
 four_none : (oa ob oc od : Option Level) (a b c : Level) → oa ≡ Some a → ob ≡ Some b → oc ≡ Some c → od ≡ None
     → four oa ob oc od ≡ None
 four_none oa ob oc od a b c ea eb ec ed = rw (ea, eb, ec, ed) refl

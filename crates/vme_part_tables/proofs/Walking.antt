@@ -22,7 +22,7 @@ pub run_from_memory : (m : ℕ) (ns : List NodeValue) (w : ℕ) → w < m → ru
 run_from_memory m [] w h = refl
 run_from_memory m (n ∷ ns) w h = rw (lt-ltb w m h) refl
 
--- the way m is the first node
+-- the way m continues with the first node
 pub run_from_here : (m : ℕ) (n : NodeValue) (ns : List NodeValue)
     → run_from m (n ∷ ns) m ≡ with_marks_before n.marks (with_break_before n.first_break (run_from m ns n.next))
 run_from_here m n ns = rw (le-ltb m m (omega arith), eq-eqb m m refl) refl
@@ -32,7 +32,7 @@ pub run_from_past : (m : ℕ) (n : NodeValue) (ns : List NodeValue) (w : ℕ) �
     → run_from m (n ∷ ns) w ≡ run_from m ns (w - 1)
 run_from_past m n ns w h = rw (le-ltb w m (omega arith), other_number w m h) refl
 
--- the way past the nodes fs that w is without them has the same outcome
+-- with the nodes fs put before the others, the way w + length fs has the outcome that w had
 pub run_from_append : (m : ℕ) (fs ns : List NodeValue) (w : ℕ) → m ≤ w
     → run_from m (fs ++ ns) (w + length fs) ≡ run_from m ns w
 run_from_append m [] ns w h = let e : w + 0 ≡ w = omega arith in ap (run_from m ns) e
@@ -41,7 +41,7 @@ run_from_append m (f ∷ fs) ns w h =
     run_from_past m f (fs ++ ns) (w + suc (length fs)) (omega arith)
     ∙ (ap (run_from m (fs ++ ns)) e ∙ run_from_append m fs ns w h)
 
--- marks and a break that are `by` later, before an outcome that is `by` later
+-- marks and a break put before an outcome, all of them `by` later, are the outcome with these, `by` later
 pub later_outcome-with_both : (by : ℕ) (ms : List WideMark) (ev : Option WideBreak) (r : WideOutcome)
     → with_marks_before (map (later_mark by) ms)
     (with_break_before (option_map (later_break by) ev) (later_outcome by r))
