@@ -1,11 +1,12 @@
 -- The invariant `FollowsSteps` holds before the first step, and still holds after each step.
-use Rattle.std.proofs.Common.{◌≡◌, ◌+◌, ℕ, suc, Bool, true, false, List, [], ◌∷◌, ◌++◌, length, map, take}
+use Rattle.std.proofs.Common.{◌≡◌, ◌+◌, ℕ, suc, Bool, true, false, List, [], ◌∷◌, ◌++◌, length, map}
 use Rattle.std.proofs.Common.{refl, sym, ap}
 use Rattle.std.proofs.Common.{◌∙◌, append-nil, append_assoc, arith, length-append, subst, Option, None, Some}
 use Rattle.std.specs.Prelude.{IfSome, is_some, slice_get, if◌then◌else◌}
 use Rattle.std.specs.List.{fold}
 use Rattle.std.specs.Option.{option_map}
 use Rattle.std.proofs.lemmas.List.Sums.{fold-append}
+use Rattle.std.proofs.Math.Seq.{take-append_seam}
 use Rattle.vme_auditor.specs.JoinedMarks.{kinds_shown}
 use Rattle.vme_auditor.specs.Memories.{AllGoOn, first_fault_of, memories_next}
 use Rattle.vme_auditor.specs.declared.memories.AllShown.{AllShown}
@@ -86,11 +87,6 @@ reached-instant o x = fold-instant x (reached_at o) ∙ none_less (length x)
 
 -- ---- a step after others
 
--- the first steps, as many as `x` has, are `x`
-take-before : (x y : List Step) → take (length x) (x ++ y) ≡ x
-take-before [] y = refl
-take-before (s ∷ x) y = ap (λ (l : List Step). s ∷ l) (take-before x y)
-
 -- the step after `x` is `s`
 slice_get-before : (x : List Step) (s : Step) (y : List Step) → slice_get (x ++ s ∷ y) (length x) ≡ Some s
 slice_get-before [] s y = refl
@@ -100,7 +96,7 @@ slice_get-before (a ∷ x) s y = slice_get-before x s y
 levels_at-reached : (o : Levels) (x y : List Step) → levels_at (recorded o (x ++ y)) (length x) ≡ (reached o x).levels
 levels_at-reached o x y =
     levels_at-taken (recorded o (x ++ y)) (length x)
-    ∙ (ap (levels_after o) (take-before x y) ∙ sym (reached-levels o x))
+    ∙ (ap (levels_after o) (take-append_seam x y) ∙ sym (reached-levels o x))
 
 -- the levels after all steps are those that are reached
 pub levels_at-last : (o : Levels) (x : List Step) → levels_at (recorded o x) (length x) ≡ (reached o x).levels

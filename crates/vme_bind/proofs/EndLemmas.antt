@@ -10,17 +10,12 @@ use Rattle.vme_trace.specs.Levels.{Levels, level_at, set_level, same_level}
 use Rattle.vme_trace.specs.LineNumbers.{line_count}
 use Rattle.vme_trace.specs.declared.step.Change.{Change}
 use Rattle.vme_trace.specs.declared.step.Step.{Step}
-use Rattle.vme_trace.proofs.Ranges.{any-fails}
+use Rattle.vme_trace.proofs.Ranges.{those-none}
 use Rattle.vme_bind.specs.Recording.{RecorderLevels, IsLine, differs, DifferWithin, change_to, changes_between}
 use Rattle.vme_bind.specs.Recording.{step_between}
 use Rattle.vme_bind.proofs.RecorderLemmas.{those-yes, those-skip, same_unless_differs, same_levels}
 use Rattle.vme_bind.proofs.RecorderLemmas.{level_at-set_same, level_at-set_other, length-set_level}
 use Rattle.vme_bind.proofs.StepsLemmas.{some_of}
-
--- no number is listed where p holds for none
-those-none : (p : ℕ → Bool) (n : ℕ) → any p 0 n ≡ false → those p 0 n ≡ []
-unfolding those
-those-none p n h = those-skip p 0 n (omega arith) (λ l low lt. any-fails p 0 n l h low lt)
 
 -- a step at `time` with these changes
 abbrev pub one_step : ℕ → List Change → List Step
@@ -41,7 +36,8 @@ step_between-some time a b cs e h = ap (one_step time) e ∙ by_any (any (differ
     by_any true k = refl
     by_any false k = absurd
         (false≢true
-        (sym h ∙ eq-eqb (length cs) 0 (ap length (e ∙ ap (map (change_to b)) (those-none (differs a b) line_count k)))))
+        (sym h ∙ eq-eqb (length cs) 0 (ap length (e ∙ ap (map (change_to b))
+        (those-none (differs a b) 0 line_count k)))))
 
 -- where no line changes, there is no step
 pub step_between-none : (time : ℕ) (a b : Levels) (cs : List Change) → cs ≡ changes_between a b → (length cs == 0)

@@ -3,7 +3,7 @@ use Rattle.std.proofs.Common.{◌≡◌, ℕ, suc, ◌+◌, ◌<◌, ◌≤◌, 
 use Rattle.std.proofs.Common.{take, drop}
 use Rattle.std.proofs.Common.{refl, ap, sym, subst, ◌∙◌, arith, append_assoc, length-append, Some}
 use Rattle.std.specs.Prelude.{slice_get}
-use Rattle.std.proofs.Math.Seq.{take-add}
+use Rattle.std.proofs.Math.Seq.{take-add, take-append_seam}
 use Rattle.std.proofs.lemmas.List.{length-take, take-append-drop}
 use Rattle.std.proofs.lemmas.Nat.{pow_pos}
 use Rattle.vme_trace.specs.Blocks.{joined_steps}
@@ -54,10 +54,6 @@ got_at (z ∷ zs) ys x = got_at zs ys x
 number_is : (xs ys : List Block) (x : Block) → AreFiles (xs ++ x ∷ ys) → x.number ≡ length xs
 number_is xs ys x are = are (length xs) x (got_at xs ys x)
 
-taken : (xs ys : List Block) → take (length xs) (xs ++ ys) ≡ xs
-taken [] ys = refl
-taken (x ∷ xs) ys = ap (λ k. x ∷ k) (taken xs ys)
-
 taken_one : (xs ys : List Block) (x : Block) → take (length xs + 1) (xs ++ x ∷ ys) ≡ xs ++ x ∷ []
 taken_one [] ys x = refl
 taken_one (z ∷ zs) ys x =
@@ -69,7 +65,8 @@ torn_files : (files xs ys : List Block) (x : Block) (k : ℕ) → AreFiles files
 torn_files files xs ys x k are e number before there =
     let at : length xs ≡ k = sym (number_is xs ys x (subst AreFiles e are)) ∙ number in
     record {
-      before = subst BlocksJoin (sym (taken xs (x ∷ ys)) ∙ (ap (take (length xs)) (sym e) ∙ ap (λ n. take n files) at))
+      before = subst BlocksJoin (sym (take-append_seam xs (x ∷ ys))
+          ∙ (ap (take (length xs)) (sym e) ∙ ap (λ n. take n files) at))
           before;
       there = λ joined.
           there
