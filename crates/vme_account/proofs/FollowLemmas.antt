@@ -2,7 +2,7 @@
 use Rattle.std.proofs.Common.{◌≡◌, ◌+◌, ℕ, suc, Bool, true, false, List, [], ◌∷◌, ◌++◌, length, map}
 use Rattle.std.proofs.Common.{refl, sym, ap}
 use Rattle.std.proofs.Common.{◌∙◌, append-nil, append_assoc, arith, length-append, subst, Option, None, Some}
-use Rattle.std.specs.Prelude.{IfSome, is_some, slice_get, if◌then◌else◌}
+use Rattle.std.specs.Prelude.{IfSome, is_some, if◌then◌else◌}
 use Rattle.std.specs.List.{fold}
 use Rattle.std.specs.Option.{option_map}
 use Rattle.std.proofs.lemmas.List.Sums.{fold-append}
@@ -25,6 +25,7 @@ use Rattle.vme_trace.specs.declared.step.Step.{Step}
 use Rattle.vme_trace.specs.declared.verdict.Break.{Break}
 use Rattle.vme_trace.proofs.CutBlocks.{levels_at-taken}
 use Rattle.vme_trace.proofs.WellFormedSteps.{levels_at-step, time_at-step}
+use Rattle.vme_trace.proofs.ListLaws.{slice_get-here}
 use Rattle.vme_account.proofs.ReachedLemmas.{reached-more}
 use Rattle.vme_account.specs.FollowedSteps.{AreNotesAtOpening, AreNotesOfStep, FollowsSteps, recorded}
 use Rattle.vme_account.specs.KnownTimes.{AreTimes}
@@ -87,11 +88,6 @@ reached-instant o x = fold-instant x (reached_at o) ∙ none_less (length x)
 
 -- ---- a step after others
 
--- the step after `x` is `s`
-slice_get-before : (x : List Step) (s : Step) (y : List Step) → slice_get (x ++ s ∷ y) (length x) ≡ Some s
-slice_get-before [] s y = refl
-slice_get-before (a ∷ x) s y = slice_get-before x s y
-
 -- the levels of the recording after the steps `x` are those that are reached
 levels_at-reached : (o : Levels) (x y : List Step) → levels_at (recorded o (x ++ y)) (length x) ≡ (reached o x).levels
 levels_at-reached o x y =
@@ -114,12 +110,12 @@ module _ (o : Levels) (x : List Step) (s : Step) (y : List Step) where
   levels_at-next : levels_at whole (length x + 1) ≡ changed (reached o x).levels s.changes
   levels_at-next =
       levels_at-step whole (length x)
-      ∙ (ap (after (levels_at whole (length x))) (slice_get-before x s y)
+      ∙ (ap (after (levels_at whole (length x))) (slice_get-here x s y)
       ∙ ap (λ (v : Levels). changed v s.changes) (levels_at-reached o x (s ∷ y)))
 
   -- the time after `s` is that of `s`
   time_at-next : time_at whole (length x + 1) ≡ s.time
-  time_at-next = time_at-step whole (length x) ∙ ap time_of (slice_get-before x s y)
+  time_at-next = time_at-step whole (length x) ∙ ap time_of (slice_get-here x s y)
 
 -- what is true of a recording split before `s` is true of it split after `s`
 split_after : (o : Levels) (x : List Step) (s : Step) (y : List Step) (P : Trace → Type 0) → P (recorded o (x ++ s ∷ y))

@@ -8,6 +8,7 @@ use Rattle.std.specs.Option.{option_map, option_map_or, option_or}
 use Rattle.vme_trace.specs.declared.class.Class.{Class}
 use Rattle.vme_trace.specs.declared.class.Class.TheVariants as class
 use Rattle.vme_trace.specs.declared.data.Lanes.{Lanes}
+use Rattle.vme_trace.proofs.ListLaws.{option_or-none}
 use Rattle.vme_listing.specs.Places.{is_reset as is_reset_row}
 use Rattle.vme_listing.specs.declared.row.AnswerLine.{AnswerLine}
 use Rattle.vme_listing.specs.declared.row.Direction.{Direction}
@@ -43,10 +44,6 @@ waits latest (m ∷ ms) =
 abbrev still_waits : Option StartedTransfer → Option ℕ → List Mark → Option StartedTransfer
 still_waits None latest ms = None
 still_waits (Some s) latest ms = cond (waits latest ms) (Some s) None
-
-or_nothing : {A : Type 0} (o : Option A) → option_or o None ≡ o
-or_nothing None = refl
-or_nothing (Some a) = refl
 
 still_same : (w : Option StartedTransfer) (latest : Option ℕ) (m : Mark) (ms : List Mark) → answer_of m.kind ≡ None
     → (is_transfer m.kind || is_reset m.kind) ≡ false → still_waits w latest (m ∷ ms)
@@ -248,14 +245,14 @@ module _ (at : ℕ → StartedTransfer) where
     answer_hangs None (Some s) =
         hangs (record c { pending = suc c.pending }) None None (option_or u (Some s))
         ∙ ap (λ (o : Option StartedTransfer). option_or (cond (has_reset ms) None o) (hanging_among None ms))
-        (or_nothing (option_or u (Some s)))
+        (option_or-none (option_or u (Some s)))
     answer_hangs (Some k) None = hangs c (Some k) None u
     answer_hangs (Some k) (Some s) = hangs (by_line suc c line) (Some k) None u
 
   -- after marks `ms` the first transfer without an answer is one from before, the waiting one, or one of the rows
   pub marks_hang : (ms : List Mark) → Hangs ms
-  marks_hang [] c latest None u = sym (or_nothing (option_or u None))
-  marks_hang [] c latest (Some s) u = sym (or_nothing (option_or u (Some s)))
+  marks_hang [] c latest None u = sym (option_or-none (option_or u None))
+  marks_hang [] c latest (Some s) u = sym (option_or-none (option_or u (Some s)))
   marks_hang (m ∷ ms) c latest w u = by_kind (marks_hang ms) m.instant m.kind w latest
     where
       by_kind : Hangs ms → (i : ℕ) (k : MarkKind) (w : Option StartedTransfer) (latest : Option ℕ)
@@ -287,7 +284,7 @@ module _ (at : ℕ → StartedTransfer) where
       by_kind so_far i (kind.Transfer write) None latest =
           transfer_hangs ms so_far c i latest (of_direction suc c write) write u
           ∙ ap (λ (o : Option StartedTransfer). option_or (cond (has_reset ms) None o)
-          (hanging_among latest (record { instant = i; kind = kind.Transfer write } ∷ ms))) (sym (or_nothing u))
+          (hanging_among latest (record { instant = i; kind = kind.Transfer write } ∷ ms))) (sym (option_or-none u))
       by_kind so_far i (kind.Transfer write) (Some s) latest =
           transfer_hangs ms so_far c i latest (of_direction suc (record c { pending = suc c.pending }) write)
           write (option_or u (Some s))

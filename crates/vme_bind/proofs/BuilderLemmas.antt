@@ -12,6 +12,7 @@ use Rattle.vme_trace.specs.Followed.{with_steps}
 use Rattle.vme_trace.specs.Trace.{Trace, changed}
 use Rattle.vme_trace.specs.declared.level.Level.{Level}
 use Rattle.vme_trace.proofs.Changing.{slots-kept}
+use Rattle.vme_trace.proofs.ListLaws.{option_or-none, slice_get-here}
 use Rattle.vcd_read.specs.declared.dump.Bit.{Bit}
 use Rattle.vcd_read.specs.declared.dump.Instant.{Instant}
 use Rattle.vcd_read.specs.declared.dump.Value.{Value}
@@ -37,10 +38,6 @@ abbrev no_bits : Option (List Bit)
 no_bits = None
 
 -- ---- the last bits of a net among the values of an instant
-
-option_or-none : (o : Option (List Bit)) → option_or o None ≡ o
-option_or-none None = refl
-option_or-none (Some bits) = refl
 
 -- a value of another net isn't the last one of `net`
 last_bits-other_net : (v : Value) (values : List Value) (net : ℕ) → v.net ≢ net → last_bits net (v ∷ values)
@@ -152,11 +149,6 @@ values_from-no_bits : (n k : ℕ) → values_from k (replicate n no_bits) ≡ []
 values_from-no_bits zero k = refl
 values_from-no_bits (suc n) k = values_from-no_bits n (k + 1)
 
--- the instant after those of `done`
-slice_get-next : (done rest : List Instant) (x : Instant) → slice_get (done ++ x ∷ rest) (length done) ≡ Some x
-slice_get-next [] rest x = refl
-slice_get-next (y ∷ done) rest x = slice_get-next done rest x
-
 -- the state of the builder after the first `n` instants, with the values `current` so far in the next
 pub record IsMade (slots : ℕ) (bound_groups : List BoundGroup) (count : ℕ) (instants : List Instant) (n : ℕ)
     (current : CurrentValues) (m : BuilderState) : Type 0 where
@@ -208,8 +200,8 @@ module _ (slots : ℕ) (bound_groups : List BoundGroup) (count : ℕ) (instants 
       let whole : instants ≡ done ++ x ∷ rest = e ∙ append_assoc done (x ∷ []) rest in
       let h = made (x ∷ rest) whole in
       let found : slice_get instants n ≡ Some x = ap (λ (xs : List Instant). slice_get xs n) whole
-      ∙ slice_get-next done rest
-      x in
+      ∙ slice_get-here done x
+      rest in
       let v : Levels = levels_after slots bound_groups instants n in
       let count_more : n + 1 ≡ length (done ++ x ∷ []) = sym (length_push done x) in
       let levels : m.progress.now ≡ levels_after slots bound_groups instants (n + 1) = h.now ∙ valued-more slots

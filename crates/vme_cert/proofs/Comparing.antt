@@ -6,6 +6,7 @@ use Rattle.std.proofs.lemmas.Bool.Decides.{nat_tests}
 use Rattle.std.proofs.lemmas.Option.{slice_get_past, slice_get_within}
 use Rattle.std.proofs.lemmas.List.{append-nil}
 use Rattle.std.proofs.lemmas.Bool.{eqb-true, cases_lt}
+use Rattle.vme_trace.proofs.ListLaws.{slice_get-here}
 use Rattle.vme_cert.specs.Vocabulary.{Row}
 use Rattle.vme_cert.specs.Comparing.{Decides, Extends, IsBegun, IsCompared, IsDue, IsGiven, IsGivenNext, IsSame}
 use Rattle.vme_cert.specs.Comparing.{HasComparedRow, same_to, without}
@@ -41,10 +42,6 @@ module _ {A : Type 0} where
   slice_get-front [] ys n h = absurd (omega arith)
   slice_get-front (x ∷ xs) ys zero h = refl
   slice_get-front (x ∷ xs) ys (suc n) h = slice_get-front xs ys n (omega arith)
-
-  pub slice_get-here : (xs : List A) (y : A) (ys : List A) → slice_get (xs ++ y ∷ ys) (length xs) ≡ Some y
-  slice_get-here [] y ys = refl
-  slice_get-here (x ∷ xs) y ys = slice_get-here xs y ys
 
   past : (xs : List A) (n : ℕ) → slice_get xs n ≡ None → length xs ≤ n
   past [] n h = omega arith

@@ -7,13 +7,13 @@ use Rattle.std.proofs.lemmas.Bool.Decides.{nat_tests}
 use Rattle.std.proofs.Math.Nat.{pow-le-pow_right, pow-succ', mod-eq_of_lt}
 use Rattle.std.proofs.lemmas.List.{append-nil, length-map, map-append}
 use Rattle.vme_trace.specs.declared.class.Class.TheVariants as class
+use Rattle.vme_trace.proofs.ListLaws.{slice_get-here}
 use Rattle.vme_cert.specs.Vocabulary.{A, AddressedCycle, BBSY, Class, Levels, Needs, One, Row, Start, Stretch, Three}
 use Rattle.vme_cert.specs.Vocabulary.{Trace, Two, Version, address_to, class_of, cycle_row, cycle_rows, cycle_starts}
 use Rattle.vme_cert.specs.Vocabulary.{is_high, is_within, least, level_at, low, modifier_of, needs_of, rises, row_in}
 use Rattle.vme_cert.specs.Vocabulary.{rows_before, rows_in, tenure_level, tenure_row, tenure_rows, tenure_slot}
 use Rattle.vme_cert.specs.Vocabulary.{tenure_starts, transfer_rows, transfer_starts, without_data}
 use Rattle.vme_cert.specs.Following.{count_before, count_with_cycle, count_with_tenure, expected_to}
-use Rattle.vme_cert.proofs.Comparing.{slice_get-here}
 use Rattle.vme_cert.proofs.Ranges.{last_or_before}
 
 -- ---- The address of a cycle, line by line.

@@ -12,6 +12,7 @@ use Rattle.vme_trace.specs.Verdict.{break_at, break_before, least_break, least_o
 use Rattle.vme_trace.specs.declared.rule.Rule.{Rule}
 use Rattle.vme_trace.specs.declared.verdict.Break.{Break}
 use Rattle.vme_trace.proofs.JudgedStretches.{end-after, stretches_all, stretches_before, stretches_kept, stretches_more}
+use Rattle.vme_trace.proofs.ListLaws.{option_or-none}
 use Rattle.vme_monitor.specs.Outcome.{earlier}
 use Rattle.vme_monitor.specs.Run.{mark_at, kinds_of}
 use Rattle.vme_monitor.specs.Shows.{marks_on, marks_until, marks_within, marks_over}
@@ -58,10 +59,6 @@ abbrev pub marks_to : (Stretch → ℕ → StepMarks) → ℕ → List Stretch �
 marks_to shown n [] = []
 marks_to shown n (stretch ∷ stretches) = marks_until stretch (shown stretch) n ++ marks_to shown n stretches
 
-pub or_none : (a : Option Break) → option_or a None ≡ a
-or_none None = refl
-or_none (Some b) = refl
-
 or_apart : (a b c : Option Break) → option_or (option_or a b) c ≡ option_or a (option_or b c)
 or_apart None b c = refl
 or_apart (Some x) b c = refl
@@ -88,14 +85,14 @@ module _ (t : Trace) (rules : List Rule) where
       ≡ breaks_to t rules (last_instant t + 1) stretches
   unfolding least_break
   least_is [] = refl
-  least_is (stretch ∷ []) = sym (or_none (break_before t stretch rules (last_instant t + 1)))
+  least_is (stretch ∷ []) = sym (option_or-none (break_before t stretch rules (last_instant t + 1)))
   least_is (stretch ∷ x ∷ stretches) = ap (option_or (break_before t stretch rules (last_instant t + 1)))
       (least_is (x ∷ stretches))
 
   pub breaks_both : (n : ℕ) (stretches : List Stretch) (stretch : Stretch)
       → breaks_to t rules n (stretches ++ stretch ∷ [])
       ≡ option_or (breaks_to t rules n stretches) (break_before t stretch rules n)
-  breaks_both n [] stretch = or_none (break_before t stretch rules n)
+  breaks_both n [] stretch = option_or-none (break_before t stretch rules n)
   breaks_both n (x ∷ stretches) stretch = rw (breaks_both n stretches stretch)
       (sym (or_apart (break_before t x rules n) (breaks_to t rules n stretches) (break_before t stretch rules n)))
 
@@ -129,7 +126,7 @@ module _ (t : Trace) (rules : List Rule) where
         before_next stretch (suc n),
         unbroken_after t stretch rules (suc n)
             (omega (arith, over.0)),
-        or_none (break_before t stretch rules (suc n)),
+        option_or-none (break_before t stretch rules (suc n)),
       ) refl
 
 module _ (shown : Stretch → ℕ → StepMarks) where

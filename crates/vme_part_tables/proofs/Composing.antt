@@ -9,6 +9,7 @@ use Rattle.std.proofs.lemmas.Bool.{lt-ltb, le-ltb, cases_order, cases_lt}
 use Rattle.std.proofs.lemmas.List.{length-map}
 use Rattle.std.proofs.lemmas.List.Elements.{All-map}
 use Rattle.std.proofs.lemmas.Option.{slice_get-map, slice_get_cases, slice_get_past}
+use Rattle.vme_trace.proofs.ListLaws.{option_or-none}
 use Rattle.vme_part_format.specs.Tables.{NodeValue, TableValue}
 use Rattle.vme_part_format.specs.declared.table.TableEntry.{TableEntry}
 use Rattle.vme_part_format.specs.declared.wide.WideBreak.{WideBreak}
@@ -94,11 +95,6 @@ module _ (es : List TableEntry) (bs : List NodeValue) (steps : ℕ) where
   followed_by-without_marks None None r = refl
   followed_by-without_marks None (Some x) r = refl
   followed_by-without_marks (Some y) b r = refl
-
-  -- `ev` or nothing is `ev`
-  option_or-none : (ev : Option WideBreak) → option_or ev None ≡ ev
-  option_or-none None = refl
-  option_or-none (Some b) = refl
 
   -- where w is a memory, the composition has the outcome of the two tables
   composed_from-memory : (ns : List NodeValue) (w : ℕ) (ev : Option WideBreak) → w < m → composed_from ns w ev

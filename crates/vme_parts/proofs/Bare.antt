@@ -1,15 +1,15 @@
 -- A table without marks that has an entry for each memory.
 use Rattle.std.proofs.Common.{inl, inr, ◌≡◌, ℕ, zero, suc, ◌+◌, ◌<◌, ◌≤◌, ◌^◌, Bool, false, List, [], ◌∷◌, ◌++◌, length}
 use Rattle.std.proofs.Common.{refl, ap, subst}
-use Rattle.std.proofs.Common.{◌∙◌, arith, Option, Some, None}
+use Rattle.std.proofs.Common.{◌∙◌, arith, Some}
 use Rattle.std.specs.Prelude.{◌⊎◌, slice_get}
-use Rattle.std.specs.Option.{option_map, option_map_or, option_or}
+use Rattle.std.specs.Option.{option_map, option_map_or}
 use Rattle.std.proofs.lemmas.Bool.{cases_lt}
 use Rattle.std.proofs.lemmas.Option.{get_or_from_slice_get}
+use Rattle.vme_trace.proofs.ListLaws.{option_or-none}
 use Rattle.vme_monitor.specs.Outcome.{Outcome}
 use Rattle.vme_part_format.specs.Tables.{TableValue}
 use Rattle.vme_part_format.specs.declared.table.TableEntry.{TableEntry}
-use Rattle.vme_part_format.specs.declared.wide.WideBreak.{WideBreak}
 use Rattle.vme_part_tables.specs.Runs.{AgreesWithRun, AgreesWithRuns, break_of}
 use Rattle.vme_part_tables.specs.Ways.{WideOutcome, ended_in, entry_outcome, outcome_in}
 
@@ -24,10 +24,6 @@ get_last [] x zero e = refl
 get_last [] x (suc k) e = absurd (omega arith)
 get_last (z ∷ zs) x zero e = absurd (omega arith)
 get_last (z ∷ zs) x (suc k) e = get_last zs x k (omega arith)
-
-or_none : (e : Option WideBreak) → option_or e None ≡ e
-or_none None = refl
-or_none (Some b) = refl
 
 module _ {P : Type 0} (place : P → ℕ) (nth : ℕ → P) (says : P → Outcome P) where
   -- the entry e agrees with the run from the memory with the number k
@@ -74,7 +70,7 @@ module _ {P : Type 0} (place : P → ℕ) (nth : ℕ → P) (says : P → Outcom
               leaving = ap (λ (w : WideOutcome). w.leaving) at ∙
                   (r.2.next ∙ ap (λ q. place (says q).leaving) (found p));
               first_break = ap (λ (w : WideOutcome). option_map break_of w.first_break) at
-                  ∙ (ap (option_map break_of) (or_none r.0.first_break)
+                  ∙ (ap (option_map break_of) (option_or-none r.0.first_break)
                   ∙ (r.2.first_break ∙ ap (λ q. (says q).first_break) (found p)));
               marks = ap (λ (w : WideOutcome). w.marks) at;
             };

@@ -9,13 +9,14 @@ use Rattle.vme_trace.specs.Blocks.{joined_steps}
 use Rattle.vme_trace.specs.WellFormed.{malformed_step}
 use Rattle.vme_trace.specs.declared.block.Block.{Block}
 use Rattle.vme_trace.specs.declared.step.Step.{Step}
+use Rattle.vme_trace.proofs.ListLaws.{option_or-none}
 use Rattle.vme_summary.specs.Extents.{IsExtent}
 use Rattle.vme_summary.specs.Joins.{BlocksJoin, first_time, is_later_time, last_time, left_by}
 use Rattle.vme_summary.specs.declared.extent.Extent.{Extent}
 use Rattle.vme_summary.proofs.Chains.{GoOn, apart, chain_joins, chain_of, last_left, last_number, left_after}
 use Rattle.vme_summary.proofs.Chains.{number_after, steps-append, timed, united}
 use Rattle.vme_summary.proofs.Extents.{join_meets, one_joins, one_sound}
-use Rattle.vme_summary.proofs.Times.{last_time-append, later_none, or_none}
+use Rattle.vme_summary.proofs.Times.{last_time-append, later_none}
 use Rattle.vme_part_format.specs.Tables.{SegmentValue}
 use Rattle.vme_part_format.specs.declared.segment.SegmentTimes.{SegmentTimes}
 use Rattle.vme_parts.specs.Meeting.{IsEarlyFile, IsTornAt, ends_at, starts_at}
@@ -172,7 +173,7 @@ module _ (j : JudgedSegments) (s : SegmentValue) (listing : Bool) (e : Extent) (
         begins ∙ (n ∙ ap (λ i. i + 1) (sym last)),
         opening ∙ (same ∙ (was.left ∙ sym lines)),
         refl,
-        subst (λ t. GoOn z.number (left_by z) t zs) (sym (or_none (last_time z.steps))) (chain_of z zs q.join),
+        subst (λ t. GoOn z.number (left_by z) t zs) (sym (option_or-none (last_time z.steps))) (chain_of z zs q.join),
       )
 
   torn_early : (a : Block) (rest : List Block) → bs ≡ a ∷ rest → s.opening ≡ j.left → IsEarlyFile j.times s.times k

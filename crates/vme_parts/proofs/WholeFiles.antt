@@ -2,7 +2,6 @@
 use Rattle.std.proofs.Common.{◌≡◌, ℕ, suc, ◌+◌, ◌<◌, ◌≤◌, ◌^◌, Bool, List, [], ◌∷◌, ◌++◌, length}
 use Rattle.std.proofs.Common.{take, drop}
 use Rattle.std.proofs.Common.{refl, ap, sym, subst, ◌∙◌, arith, append_assoc, length-append, Some}
-use Rattle.std.specs.Prelude.{slice_get}
 use Rattle.std.proofs.Math.Seq.{take-add, take-append_seam}
 use Rattle.std.proofs.lemmas.List.{length-take, take-append-drop}
 use Rattle.std.proofs.lemmas.Nat.{pow_pos}
@@ -10,6 +9,7 @@ use Rattle.vme_trace.specs.Blocks.{joined_steps}
 use Rattle.vme_trace.specs.Levels.{Levels}
 use Rattle.vme_trace.specs.Trace.{Trace}
 use Rattle.vme_trace.specs.declared.block.Block.{Block}
+use Rattle.vme_trace.proofs.ListLaws.{slice_get-here}
 use Rattle.vme_summary.specs.Extents.{joined_extent}
 use Rattle.vme_summary.specs.Joins.{BlocksJoin, joined_trace}
 use Rattle.vme_summary.specs.declared.extent.Extent.{Extent}
@@ -46,13 +46,9 @@ files_more files n s e =
     ap (λ k. take n files ++ take (2 ^ s.order) (drop k files)) e
     ∙ (sym (take-add n (2 ^ s.order) files) ∙ ap (λ k. take k files) (sym size))
 
-got_at : (xs ys : List Block) (x : Block) → slice_get (xs ++ x ∷ ys) (length xs) ≡ Some x
-got_at [] ys x = refl
-got_at (z ∷ zs) ys x = got_at zs ys x
-
 -- the number of a file is the number of files before it
 number_is : (xs ys : List Block) (x : Block) → AreFiles (xs ++ x ∷ ys) → x.number ≡ length xs
-number_is xs ys x are = are (length xs) x (got_at xs ys x)
+number_is xs ys x are = are (length xs) x (slice_get-here xs x ys)
 
 taken_one : (xs ys : List Block) (x : Block) → take (length xs + 1) (xs ++ x ∷ ys) ≡ xs ++ x ∷ []
 taken_one [] ys x = refl

@@ -5,6 +5,7 @@ pub mod CutBlocks
 pub mod EveryRule
 pub mod IdleLines
 pub mod JudgedStretches
+pub mod ListLaws
 pub mod NameLaws
 pub mod OpenTransfers
 pub mod Ranges
