@@ -1,25 +1,17 @@
 -- How the last instant of an event, and its first one since another event, change with one more instant.
-use Rattle.std.proofs.Common.{◌≡◌, ◌+◌, ◌<◌, ◌≤◌, ◌&&◌, ◌||◌, ℕ, zero, suc, Bool, true, false, cond, inl, inr, refl, ap}
+use Rattle.std.proofs.Common.{◌≡◌, ◌+◌, ◌<◌, ◌≤◌, ◌&&◌, ◌||◌, ℕ, zero, suc, Bool, true, false, cond, refl, sym, ap}
 use Rattle.std.proofs.Common.{◌∙◌, add-one, arith}
 use Rattle.std.specs.Prelude.{Option, None, Some, is_some, nat_le, unwrap_or, if◌then◌else◌}
 use Rattle.std.proofs.lemmas.Bool.Decides.{nat_tests}
-use Rattle.std.proofs.lemmas.Bool.{cases_Bool, lt-leb}
+use Rattle.std.proofs.lemmas.Bool.{lt-leb}
 use Rattle.vme_trace.specs.Instants.{any, greatest, least}
-use Rattle.vme_trace.proofs.Ranges.{any-least, least-none, greatest-step, greatest-below}
+use Rattle.vme_trace.proofs.Ranges.{least-none, greatest-step, greatest-below, is_some-least}
 
 -- the first number from f to n that has `p`: the first below n, or else n, if n has it and isn't below f
 least-step : (p : ℕ → Bool) (f n : ℕ) → least p f (n + 1) ≡ (if any p f n then least p f n else if nat_le f n
     && p n then Some n else None)
 unfolding least
 least-step p f n = rw add-one refl
-
--- a number from f to below n has `p` if and only if there is a first one
-any-is_some_least : (p : ℕ → Bool) (f n : ℕ) → any p f n ≡ is_some (least p f n)
-any-is_some_least p f n =
-    elim (cases_Bool (any p f n)) [
-      | inl found ↦ let at = any-least p f n found in rw (found, at.1) refl
-      | inr none ↦ rw (none, least-none p f n none) refl
-    ]
 
 -- no number from f to below n has `p` if n is at most f
 pub least-empty_range : (p : ℕ → Bool) (f n : ℕ) → n ≤ f → least p f n ≡ None
@@ -81,7 +73,8 @@ module _ (p q : ℕ → Bool) (s i : ℕ) (le : s ≤ i) where
       from_itself n = grind (arith, nat_tests)
 
       none_before : any p (i + 1) (i + 1) ≡ false
-      none_before = any-is_some_least p (i + 1) (i + 1) ∙ ap is_some (least-empty_range p (i + 1) (i + 1) (omega arith))
+      none_before = sym (is_some-least p (i + 1) (i + 1)) ∙ ap is_some
+          (least-empty_range p (i + 1) (i + 1) (omega arith))
 
   -- otherwise the first `p` since `q` stays, if there is one
   pub since-before : q (i + 1) ≡ false → first_since (i + 1)
@@ -91,7 +84,7 @@ module _ (p q : ℕ → Bool) (s i : ℕ) (le : s ≤ i) where
       ap (λ (o : Option ℕ). unwrap_or o (s + 1)) (greatest-not_at_next q s i none) in
       let f = since_last q s i in
       ap (λ (f : ℕ). least p f (i + 1 + 1)) same ∙ least-step p f (i + 1)
-      ∙ rw (any-is_some_least p f (i + 1), reached f (since_last-le q s i le)) refl
+      ∙ rw (sym (is_some-least p f (i + 1)), reached f (since_last-le q s i le)) refl
     where
       reached : (f : ℕ) → f ≤ i + 1 → nat_le f (i + 1) ≡ true
       reached f le = grind (arith, nat_tests)

@@ -15,14 +15,11 @@ use Rattle.vme_trace.specs.Trace.{changed}
 use Rattle.vme_trace.specs.WellFormed.{are_changes}
 use Rattle.vme_trace.specs.declared.level.Level.{Level}
 use Rattle.vme_trace.specs.declared.step.Change.{Change}
-use Rattle.vme_trace.proofs.Changing.{level-kept, slots-kept}
+use Rattle.vme_trace.proofs.Changing.{level-kept, slots-kept, exists_below}
 use Rattle.vme_trace.proofs.Ranges.{any-holds, any-least, clash, least-found}
 use Rattle.vme_dtb.proofs.StillSteps.{never_falls, never_rises}
 use Rattle.vme_auditor.specs.Events.{net_falls, net_rises}
 use Rattle.vme_auditor.proofs.Truth.{or_swapped}
-
-exists_below : (slots l : ℕ) → slots ≤ 21 → has_line slots l ≡ true → l < line_count
-exists_below slots l few h = grind (arith, nat_tests)
 
 same_truth : (a b : Bool) → (a ≡ true → b ≡ true) → (b ≡ true → a ≡ true) → a ≡ b
 same_truth true true f g = refl

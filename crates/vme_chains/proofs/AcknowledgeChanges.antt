@@ -8,7 +8,7 @@ use Rattle.std.proofs.lemmas.Bool.{and_left, and_parts, eqb-true}
 use Rattle.std.proofs.Math.Bool.{and-false, and-true}
 use Rattle.vme_trace.specs.Edges.{falls_between, low_near}
 use Rattle.vme_trace.specs.Instants.{any, least}
-use Rattle.vme_trace.specs.LineNumbers.{line_count, has_line, input_of}
+use Rattle.vme_trace.specs.LineNumbers.{line_count, input_of}
 use Rattle.vme_trace.specs.Levels.{Levels, level_at, is_low, is_high}
 use Rattle.vme_trace.specs.Trace.{changed}
 use Rattle.vme_trace.specs.WellFormed.{are_changes}
@@ -17,7 +17,7 @@ use Rattle.vme_trace.specs.declared.level.Level.{Level}
 use Rattle.vme_trace.specs.declared.level.Level.TheVariants.{Low, High, Unknown}
 use Rattle.vme_trace.specs.declared.step.Change.{Change}
 use Rattle.vme_trace.proofs.Ranges.{fails-any, least-is, least-none, least-alike}
-use Rattle.vme_trace.proofs.Changing.{level-kept}
+use Rattle.vme_trace.proofs.Changing.{level-kept, exists_below}
 use Rattle.vme_chains.specs.AcknowledgeRules.{first_changed, passes_on, passes_unasked}
 
 -- no line below `lowest` is changed
@@ -35,9 +35,6 @@ below_changes v lowest l (c ∷ cs) h b =
 
     unlike : (k m l : ℕ) → nat_le k m ≡ true → l < k → ((m == l) || false) ≡ false
     unlike k m l h b = grind (arith, nat_tests)
-
-exists_below : (slots l : ℕ) → slots ≤ 21 → has_line slots l ≡ true → l < line_count
-exists_below slots l few h = grind (arith, nat_tests)
 
 -- if p fails on unchanged lines, the first changed line with p is the least line with p
 module _ (v : Levels) (p : ℕ → Bool) (few : v.slots ≤ 21) where

@@ -10,7 +10,8 @@ use Rattle.vme_trace.specs.Trace.{Trace, levels_at}
 use Rattle.vme_trace.specs.Signals.{near, low, high, falls, rises}
 use Rattle.vme_trace.specs.Tenures.{is_granting, grant_falls, taken_grant, tenure_level, tenure_slot, has_reached}
 use Rattle.vme_trace.specs.declared.level.Level.TheVariants.{Unknown}
-use Rattle.vme_trace.proofs.Ranges.{any-alike, every-alike, least-alike, least-found, any-holds, least-none-any}
+use Rattle.vme_trace.proofs.Ranges.{any-alike, every-alike, least-alike, least-found}
+use Rattle.vme_trace.proofs.Ranges.{is_some-least}
 use Rattle.vme_trace.proofs.OpenTransfers.{suc-sub-one}
 use Rattle.vme_trace.proofs.StretchEnds.{slots_at}
 use Rattle.vme_chains.specs.GrantLevels.{shown, is_low_in, is_high_in, falls_between, rises_between, low_near}
@@ -19,14 +20,6 @@ use Rattle.vme_chains.specs.GrantLevels.{taken_at, taken_in, taken_between, is_u
 use Rattle.vme_chains.specs.GrantMemory.{is_in}
 use Rattle.vme_chains.proofs.GrantRanges.{greatest-alike}
 use Rattle.vme_chains.proofs.GrantLines.{net_exists}
-
--- there is a least number with p exactly if some number in the range has p
-pub some-least : (p : ℕ → Bool) (f n : ℕ) → is_some (least p f n) ≡ any p f n
-some-least p f n = by_least (least p f n) refl
-  where
-    by_least : (o : Option ℕ) → least p f n ≡ o → is_some o ≡ any p f n
-    by_least None e = sym (least-none-any p f n e)
-    by_least (Some i) e = let h = least-found p f n i e in sym (any-holds p f n i h.first h.below h.holds)
 
 module _ (t : Trace) where
   shown_at : (k l : ℕ) → has_line t.opening.slots l ≡ true → shown (levels_at t k) l ≡ level_at (levels_at t k) l
@@ -110,7 +103,7 @@ module _ (t : Trace) where
 
     pub is_granting-is : (k : ℕ) → is_some (granted_level (levels_at t k)) ≡ is_granting t k
     unfolding is_granting
-    is_granting-is k = ap is_some (granted_level-is k) ∙ some-least _ 0 4
+    is_granting-is k = ap is_some (granted_level-is k) ∙ is_some-least _ 0 4
 
     reaches-is : (k n i : ℕ) → n < 4 → i < t.opening.slots + 1 → reaches (levels_at t k) n i ≡ has_reached t k n i
     unfolding has_reached

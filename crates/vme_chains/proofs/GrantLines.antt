@@ -14,12 +14,9 @@ use Rattle.vme_trace.specs.declared.level.Level.{Level}
 use Rattle.vme_trace.specs.declared.level.Level.TheVariants.{Low, High, Unknown}
 use Rattle.vme_trace.specs.declared.step.Change.{Change}
 use Rattle.vme_trace.proofs.Ranges.{fails-any, least-is, least-none}
-use Rattle.vme_trace.proofs.Changing.{slots-kept, level-kept}
+use Rattle.vme_trace.proofs.Changing.{slots-kept, level-kept, exists_below}
 use Rattle.vme_chains.specs.GrantLevels.{shown, falls_between, rises_between, first_changed}
 use Rattle.vme_chains.proofs.GrantTests.{unlike}
-
-exists_below : (slots l : ℕ) → slots ≤ 21 → has_line slots l ≡ true → l < line_count
-exists_below slots l few h = grind (arith, nat_tests)
 
 one_more : (l k : ℕ) → l < k → l < k + 1
 one_more l k h = omega arith

@@ -18,9 +18,10 @@ use Rattle.vme_trace.specs.Rules.{breaks, is_broken}
 use Rattle.vme_trace.specs.declared.rule.Rule.TheVariants.{U2, U3}
 use Rattle.vme_trace.proofs.OpenTransfers.{ReadsStrobes}
 use Rattle.vme_trace.proofs.Ranges.{fails-any, least-alike, least-is, least-none}
+use Rattle.vme_trace.proofs.Changing.{bus_line_exists}
 use Rattle.vme_dtb.specs.StabilityRules.{lacks, unknown_address, unknown_direction}
 use Rattle.vme_dtb.proofs.StabilityMeaning.{judged, cycle_starts_is, transfer_starts_is}
-use Rattle.vme_dtb.proofs.Needed.{bused_line, needed_below}
+use Rattle.vme_dtb.proofs.Needed.{needed_below}
 
 pub least_and : (b : Bool) (p : ℕ → Bool) → least (λ l. b && p l) 0 line_count ≡ cond b (least p 0 line_count) None
 least_and true p = refl
@@ -75,7 +76,7 @@ module _ (t : Trace) (stretch : Stretch) (reads : ReadsStrobes t stretch) (n : �
       asked (is_judged stretch (suc n)) (has_line t.opening.slots l) (cycle_starts t stretch (suc n))
       (falls_between old new AS) (is_within (needs_of new) l) (is_known_on new l)
       (judged t stretch reads n from before) (cycle_starts_is t stretch reads n from before)
-      (λ e. bused_line t.opening.slots l (omega (arith, needed_below new l e)))
+      (λ e. bus_line_exists t.opening.slots l (omega (arith, needed_below new l e)))
 
   -- the least line that breaks U2 is the least unknown line that the starting cycle needs
   pub address_least : least (breaks t stretch U2 (suc n)) 0 line_count ≡ unknown_address old new

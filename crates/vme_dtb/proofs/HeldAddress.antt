@@ -22,7 +22,7 @@ use Rattle.vme_trace.specs.declared.level.Level.{Level}
 use Rattle.vme_trace.specs.declared.level.Level.TheVariants.{Low, High, Unknown}
 use Rattle.vme_trace.specs.declared.rule.Rule.TheVariants.{U2, U3, U4, S1, S2, S3}
 use Rattle.vme_trace.specs.declared.step.Change.{Change}
-use Rattle.vme_trace.proofs.Changing.{level-kept}
+use Rattle.vme_trace.proofs.Changing.{level-kept, bus_line_exists}
 use Rattle.vme_trace.proofs.OpenTransfers.{suc-sub-one, is_judged-holds}
 use Rattle.vme_trace.proofs.Ranges.{any-alike, any-fails, any-holds, any-least, fails-any, least-found, least-none}
 use Rattle.vme_trace.proofs.Ranges.{least-none-any}
@@ -30,7 +30,7 @@ use Rattle.vme_monitor.proofs.StretchFacts.{IsStretch}
 use Rattle.vme_dtb.specs.StabilityRules.{address_moved, moved_fault, observation_of, stability_rules}
 use Rattle.vme_dtb.specs.declared.holding.Holding.{Holding}
 use Rattle.vme_dtb.proofs.ChangedLines.{edge_is, first_least, same_itself}
-use Rattle.vme_dtb.proofs.Needed.{bused_line, needed_below, needs_same}
+use Rattle.vme_dtb.proofs.Needed.{needed_below, needs_same}
 use Rattle.vme_dtb.proofs.Lasting.{any-and, none_shorter}
 use Rattle.vme_dtb.proofs.StabilityMeaning.{Holds, holds_address, keeps_address_is}
 
@@ -180,7 +180,7 @@ module _ (t : Trace) (stretch : Stretch) where
     no_edge k l from to needed small =
         edge_off (is_judged stretch (suc k)) (has_line t.opening.slots l) (has_edge t l (suc k)) _
         (unbroken_at (suc k) (S1_least (suc k) (no_break n (suc k) unbroken to)) l (omega arith))
-        (is_judged-holds stretch (suc k) (omega arith) (omega arith)) (bused_line t.opening.slots l (omega arith))
+        (is_judged-holds stretch (suc k) (omega arith) (omega arith)) (bus_line_exists t.opening.slots l (omega arith))
         (any-holds (λ j. holds_address t stretch (suc k) j && is_needed (levels_at t j) l) (stretch.start + 1) (suc k) i
         (omega arith) (omega arith) (rw (held_to (suc k) to, needed) refl))
 
@@ -321,7 +321,7 @@ module _ (t : Trace) (stretch : Stretch) where
               && (not (same_level (level_at old l) (level_at (changed old cs) l)) && (true && b))) ≡ b
           by_need true e =
               let small = needed_below old l e in
-              rw (bused_line t.opening.slots l (omega arith), edge_is old cs l fit (omega (arith, inside)), h) refl
+              rw (bus_line_exists t.opening.slots l (omega arith), edge_is old cs l fit (omega (arith, inside)), h) refl
           by_need false e = ends_false (has_line t.opening.slots l)
               (not (same_level (level_at old l) (level_at (changed old cs) l)))
 

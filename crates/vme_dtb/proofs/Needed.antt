@@ -2,7 +2,7 @@
 use Rattle.std.proofs.Common.{◌≡◌, ℕ, ◌+◌, ◌<◌, ◌≤◌, Bool, true, false, ◌||◌, ◌&&◌, not, refl, ◌∙◌, ap, arith, lit≤}
 use Rattle.std.specs.Prelude.{◌==◌, nat_le, if◌then◌else◌}
 use Rattle.std.proofs.lemmas.Bool.Decides.{nat_tests}
-use Rattle.vme_trace.specs.LineNumbers.{AM, IACK, has_line}
+use Rattle.vme_trace.specs.LineNumbers.{AM, IACK}
 use Rattle.vme_trace.specs.Levels.{Levels, level_at, is_low, is_known}
 use Rattle.vme_trace.specs.Cycle.{Needs, is_within, needs_of, class_of, modifier_of, modifier_bit, highest_address}
 use Rattle.vme_trace.specs.Cycle.{has_known_modifier, is_modifier_bit_known, is_block, is_extended, is_standard}
@@ -47,9 +47,6 @@ needed_below v l h = within_below (needs_of v) l (highest_of v (class_of v) refl
 
 pub needed_above : (v : Levels) (l : ℕ) → is_within (needs_of v) l ≡ true → 5 ≤ l
 needed_above v l h = within_above (needs_of v) l h
-
-pub bused_line : (slots l : ℕ) → l < 50 → has_line slots l ≡ true
-bused_line slots l h = grind (arith, nat_tests)
 
 -- IACK* is needed by every cycle
 pub needs_iack : (v : Levels) → is_within (needs_of v) IACK ≡ true

@@ -18,6 +18,7 @@ use Rattle.vme_trace.specs.Rules.{breaks, is_broken, is_option_equal}
 use Rattle.vme_trace.specs.declared.class.Class.TheVariants as class
 use Rattle.vme_trace.specs.declared.rule.Rule.TheVariants.{U2, B4}
 use Rattle.vme_trace.proofs.Ranges.{any-least, least-found, greatest-below}
+use Rattle.vme_trace.proofs.Changing.{bus_line_exists}
 use Rattle.vme_trace.specs.declared.data.Lanes.{Lanes}
 use Rattle.vme_listing.specs.Places.{is_allowed_data, has_data, is_row}
 use Rattle.vme_listing.specs.Recorded.{answered_row, cycle_row, cycle_rows, data_of, direction_of, tenure_row}
@@ -73,10 +74,6 @@ unfolding breaks is_broken tenure_starts
 slot_exists t stretch i starts unbroken = not_past_last_slot (is_judged stretch i) (falls t BBSY i)
     (is_option_equal (tenure_slot t i)
     (t.opening.slots + 1)) starts unbroken
-
--- each line with a number below 50 is on every backplane
-bus_line_exists : (slots l : ℕ) → l < 50 → has_line slots l ≡ true
-bus_line_exists slots l h = grind (arith, nat_tests)
 
 -- a line of the modifier code is needed by a cycle of class F
 needs_modifier : (v : Levels) (n : ℕ) → class_of v ≡ class.F → n < 6 → is_needed v (AM n) ≡ true

@@ -142,8 +142,13 @@ below_changes v lowest l (c ∷ cs) h b =
         unlike : (k m l : ℕ) → nat_le k m ≡ true → l < k → ((m == l) || false) ≡ false
         unlike k m l h b = grind (arith, nat_tests)
 
-exists_below : (slots l : ℕ) → slots ≤ 21 → has_line slots l ≡ true → l < line_count
+-- each line of a backplane of at most 21 slots has a number below `line_count`
+pub exists_below : (slots l : ℕ) → slots ≤ 21 → has_line slots l ≡ true → l < line_count
 exists_below slots l few h = grind (arith, nat_tests)
+
+-- each line with a number below 50, the first of the daisy chains, is on every backplane
+pub bus_line_exists : (slots l : ℕ) → l < 50 → has_line slots l ≡ true
+bus_line_exists slots l h = grind (arith, nat_tests)
 
 one_more : (l k : ℕ) → l < k → l < k + 1
 one_more l k h = omega arith

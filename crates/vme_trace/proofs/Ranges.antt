@@ -2,6 +2,7 @@
 use Rattle.std.proofs.Common.{◌≡◌, ℕ, zero, suc, ◌+◌, ◌<◌, ◌≤◌, Bool, true, false, ◌&&◌, ◌||◌, not, refl, sym, ◌∙◌, ap}
 use Rattle.std.proofs.Common.{arith, add-one, inl, inr, ◌⊎◌, cond, subst, [], ◌∷◌, ◌++◌, append_assoc, append-nil}
 use Rattle.std.specs.Prelude.{Option, None, Some, nat_le}
+use Rattle.std.specs.Option.{is_some}
 use Rattle.std.proofs.lemmas.Bool.Decides.{nat_tests}
 use Rattle.std.proofs.lemmas.Bool.{and_parts, and_right, le-leb, leb-true, lt-leb, or_parts}
 use Rattle.vme_trace.specs.Instants.{any, every, greatest, least, those}
@@ -188,6 +189,14 @@ least-none-any p f (suc n) e =
 -- where p holds of some number of the range, there is a least one
 pub any-least : (p : ℕ → Bool) (f n : ℕ) → any p f n ≡ true → (i : ℕ) × (least p f n ≡ Some i)
 any-least p f n h = some_or_none (least p f n) (λ e. clash (any p f n) h (least-none-any p f n e))
+
+-- there is a least number of which p holds exactly if p holds of some number of the range
+pub is_some-least : (p : ℕ → Bool) (f n : ℕ) → is_some (least p f n) ≡ any p f n
+is_some-least p f n = by_least (least p f n) refl
+  where
+    by_least : (o : Option ℕ) → least p f n ≡ o → is_some o ≡ any p f n
+    by_least None e = sym (least-none-any p f n e)
+    by_least (Some i) e = let h = least-found p f n i e in sym (any-holds p f n i h.first h.below h.holds)
 
 -- where p holds of all of the range and of n, it holds of all of the range with n at its end
 pub every-more : (p : ℕ → Bool) (f n : ℕ) → every p f n ≡ true → p n ≡ true → every p f (n + 1) ≡ true
