@@ -178,11 +178,11 @@ same_kinds a b c d e g p q r =
 
 -- a step s after the steps x: j follows these, and no break is found in them. The step is seen as u and has the changes
 -- cs, the monitors show `shown` of it and then have the memories m, and n are the notes after it.
-module _ (o : Levels) (x : List Step) (s : Step) (j : FollowedSteps) (f : FollowsSteps o x j)
+module _ (o : Levels) (x : List Step) (s : Step) (j : FollowedSteps) (follows : FollowsSteps o x j)
     (no_break : j.notes.found ≡ None)
-    (instant : ℕ) (at : instant ≡ length x + 1) (cs : List Change) (changes_are : cs ≡ s.changes) (u : StepView)
-    (seen : u ≡ seen_in u.before cs) (same : u.before ≡ j.view.before) (shown : AllShown) (m : Memories)
-    (goes : AllGoOn j.memories u.before u.after cs m shown) (n : StepNotes)
+    (instant : ℕ) (instant_is : instant ≡ length x + 1) (cs : List Change) (changes_are : cs ≡ s.changes) (u : StepView)
+    (seen : u ≡ seen_in u.before cs) (view_goes_on : u.before ≡ j.view.before) (shown : AllShown) (m : Memories)
+    (all_go_on : AllGoOn j.memories u.before u.after cs m shown) (n : StepNotes)
     (notes : AreNotesOfStep u.before u.after instant s.time shown j.notes n) where
   -- what is reached before the step
   abbrev r : StepsReached
@@ -193,25 +193,25 @@ module _ (o : Levels) (x : List Step) (s : Step) (j : FollowedSteps) (f : Follow
   levels_next = changed r.levels s.changes
 
   before_is : u.before ≡ r.levels
-  before_is = same ∙ f.before no_break
+  before_is = view_goes_on ∙ follows.before no_break
 
   after_is : u.after ≡ levels_next
   after_is = ap (λ (u : StepView). u.after) seen
       ∙ (ap (λ (v : Levels). changed v cs) before_is ∙ ap (changed r.levels) changes_are)
 
   instant_is_next : instant ≡ r.instant + 1
-  instant_is_next = at ∙ ap (λ (i : ℕ). i + 1) (sym (reached-instant o x))
+  instant_is_next = instant_is ∙ ap (λ (i : ℕ). i + 1) (sym (reached-instant o x))
 
   -- the step is judged, since no break was found before it
   reached_next : reached o (x ++ s ∷ []) ≡ judged r s
   reached_next = reached-more o x s
-      ∙ ap (λ (g : Option Break). if is_some g then passed r s else judged r s) (sym f.found ∙ no_break)
+      ∙ ap (λ (g : Option Break). if is_some g then passed r s else judged r s) (sym follows.found ∙ no_break)
 
   -- the memories, levels and changes of the code are those of the definitions
   alike : {X : Type 0} (g : Memories → Levels → Levels → List Change → X)
       → g j.memories u.before u.after cs ≡ g r.memories r.levels levels_next s.changes
   alike g =
-      ap (λ (m : Memories). g m u.before u.after cs) (f.memories no_break)
+      ap (λ (m : Memories). g m u.before u.after cs) (follows.memories no_break)
       ∙ (ap (λ (v : Levels). g r.memories v u.after cs) before_is
       ∙ (ap (λ (v : Levels). g r.memories r.levels v cs) after_is
       ∙ ap (λ (l : List Change). g r.memories r.levels levels_next l) changes_are))
@@ -220,14 +220,14 @@ module _ (o : Levels) (x : List Step) (s : Step) (j : FollowedSteps) (f : Follow
   fault = first_fault_of r.memories r.levels levels_next s.changes
 
   fault_is : shown.fault ≡ fault
-  fault_is = goes.fault ∙ alike first_fault_of
+  fault_is = all_go_on.fault ∙ alike first_fault_of
 
   abbrev kinds : List MarkKind
   kinds = kinds_of shown.stretch ++ (kinds_of shown.tenure ++ kinds_of shown.transfer)
 
   kinds_are : kinds ≡ kinds_shown r.memories r.levels levels_next s.changes
   kinds_are =
-      same_kinds shown.stretch shown.tenure shown.transfer _ _ _ goes.stretch goes.tenure goes.transfer
+      same_kinds shown.stretch shown.tenure shown.transfer _ _ _ all_go_on.stretch all_go_on.tenure all_go_on.transfer
       ∙ alike kinds_shown
 
   marks_are : map (mark_at instant) kinds ≡ marks_in r s
@@ -245,10 +245,10 @@ module _ (o : Levels) (x : List Step) (s : Step) (j : FollowedSteps) (f : Follow
       ≡ (if is_some g then j.notes.marked else fold marked_next j.notes.marked (map (mark_at instant) kinds))
       → n.marked ≡ marked
       (if is_some (option_map (break_of_fault (r.instant + 1) s.time) g) then r.marks else r.marks ++ marks_in r s)
-  marked-by_fault (Some g) e = e ∙ f.marked
+  marked-by_fault (Some g) e = e ∙ follows.marked
   marked-by_fault None e =
       e
-      ∙ (ap (λ (k : Marked). fold marked_next k (map (mark_at instant) kinds)) f.marked
+      ∙ (ap (λ (k : Marked). fold marked_next k (map (mark_at instant) kinds)) follows.marked
       ∙ (ap (λ (ms : List Mark). fold marked_next (marked r.marks) ms) marks_are
       ∙ sym (fold-append marked_next nothing_marked r.marks (marks_in r s))))
 
@@ -267,18 +267,18 @@ module _ (o : Levels) (x : List Step) (s : Step) (j : FollowedSteps) (f : Follow
   broken-by_fault (Some g) h = (sym notes.seen, h)
 
   seen_is : j.notes.events.seen ≡ length x
-  seen_is = f.seen no_break
+  seen_is = follows.seen no_break
 
   module _ (y : List Step) where
     abbrev t : Trace
     t = recorded o (x ++ s ∷ y)
 
     time_is : s.time ≡ time_at t instant
-    time_is = sym (ap (time_at t) at ∙ time_at-next o x s y)
+    time_is = sym (ap (time_at t) instant_is ∙ time_at-next o x s y)
 
     events_are : AreEvents t n.events
     events_are =
-        notes.events t (f.events (s ∷ y)) (at ∙ ap (λ (i : ℕ). i + 1) (sym seen_is))
+        notes.events t (follows.events (s ∷ y)) (instant_is ∙ ap (λ (i : ℕ). i + 1) (sym seen_is))
         (before_is ∙ sym (ap (levels_at t) seen_is ∙ levels_at-reached o x (s ∷ y)))
         (after_is ∙ sym (ap (λ (i : ℕ). levels_at t (i + 1)) seen_is ∙ levels_at-next o x s y))
         (sym (ap (λ (i : ℕ). time_at t (i + 1)) seen_is ∙ time_at-next o x s y))
@@ -291,14 +291,14 @@ module _ (o : Levels) (x : List Step) (s : Step) (j : FollowedSteps) (f : Follow
         found = found_is ∙ sym (ap (λ (r : StepsReached). r.found) reached_next);
         marked = marked_is ∙ ap (λ (ms : List Mark). marked ms) (sym (ap (λ (r : StepsReached). r.marks) reached_next));
         times = λ y. split_after o x s y (λ (t : Trace). AreTimes t n.times)
-            (notes.times (t y) (f.times (s ∷ y)) (time_is y));
+            (notes.times (t y) (follows.times (s ∷ y)) (time_is y));
         events = λ y. split_after o x s y (λ (t : Trace). AreEvents t n.events) (events_are y);
         broken = subst
             (λ (g : Option Break). IfSome g (λ b. (b.instant ≡ n.events.seen) × (is_some n.events.before ≡ true)))
             (sym notes.found) (broken-by_fault shown.fault notes.broken);
         before = λ e. before ∙ (after_is ∙ sym (ap (λ (r : StepsReached). r.levels) reached_next));
         after = λ e. after ∙ (after_is ∙ sym (ap (λ (r : StepsReached). r.levels) reached_next));
-        memories = λ e. goes.memories ∙ (alike memories_next ∙ sym
+        memories = λ e. all_go_on.memories ∙ (alike memories_next ∙ sym
             (ap (λ (r : StepsReached). r.memories) reached_next));
-        seen = λ e. notes.seen ∙ (at ∙ sym (length-append x (s ∷ [])));
+        seen = λ e. notes.seen ∙ (instant_is ∙ sym (length-append x (s ∷ [])));
       }
