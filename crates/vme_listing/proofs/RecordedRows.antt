@@ -30,7 +30,7 @@ use Rattle.vme_listing.specs.declared.row.Row.TheVariants.{OpenTenure, PendingTr
 use Rattle.vme_listing.proofs.RecordedLanes.{lanes_form}
 use Rattle.vme_listing.proofs.RowForms.{IsMiddle, cycle_form, edge, number, tenure_form}
 
--- the list has at most one row, and that is of instant i and of this kind
+-- the list has at most one row, and that is of instant i and of this kind: 2 is a tenure, 3 a cycle, 4 a transfer
 abbrev pub AtMostOne : ℕ → ℕ → List Row → Type 0
 AtMostOne i kind [] = Unit {0}
 AtMostOne i kind (row ∷ []) = IsMiddle i kind row
