@@ -87,14 +87,6 @@ pub words_unfinished : (line : ℕ) (words : List (List ℕ)) (before : List Tok
     (section_from line before) ≡ unfinished_at line
 words_unfinished line words before cut = ap (with_words_before words) (section_unfinished line before cut)
 
--- with no words so far, nothing is put before the words of a section
-pub words_none : (line : ℕ) (ts : List Token) → section_from line ts ≡ with_words_before [] (section_from line ts)
-words_none line ts = no_words (section_from line ts)
-  where
-    no_words : (read : Result Ended VcdFault) → read ≡ with_words_before [] read
-    no_words (Err fault) = refl
-    no_words (Ok ended) = refl
-
 -- where the words aren't kept
 
 -- words before don't change what follows the section

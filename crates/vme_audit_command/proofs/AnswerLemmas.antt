@@ -15,6 +15,7 @@ use Rattle.vme_audit.specs.Covered.{outcome as outcome_of}
 use Rattle.vme_audit.specs.Parts.{breaks}
 use Rattle.vme_audit.specs.declared.allowance.Allowance.{Allowance}
 use Rattle.vme_stream.specs.Outputs.{FailsToWrite, Writes}
+use Rattle.vme_stream.proofs.OutputLemmas.{FailsToWrite-after, FailsToWrite-longer, Writes-append, Writes-nothing}
 use Rattle.vme_step_auditor.specs.ReadBy.{GivenSteps, read_by, read_of}
 use Rattle.vme_step_reader.specs.StepReading.{StepReading, whole_reading}
 use Rattle.vme_audit_command.specs.Bodies.{AuditsRest, HasGiven, IsLater, WritesRest, ended_at}
@@ -31,8 +32,7 @@ use Rattle.vme_audit_command.specs.declared.written_lines.WriteFault.{WriteFault
 use Rattle.vme_audit_command.specs.declared.written_lines.WriteFault.TheVariants.{Memory, CannotWrite}
 use Rattle.vme_audit_command.proofs.LastLemmas.{prefix-of}
 use Rattle.vme_audit_command.proofs.BodyPieces.{all-left, left_of}
-use Rattle.vme_audit_command.proofs.WriteLemmas.{fails-after, fails-longer, prefix-after, prefix-longer, writes-both}
-use Rattle.vme_audit_command.proofs.WriteLemmas.{writes-nothing}
+use Rattle.vme_audit_command.proofs.WriteLemmas.{prefix-after, prefix-longer}
 
 -- before the first step there are no lines
 pub no-lines : (head : List ℕ) (audit : GivenSteps) → breaks (read_of audit) ≡ [] → lines_of head audit ≡ []
@@ -91,7 +91,7 @@ module _ (skew transfers : ℕ) (is_quiet : Bool) (head : List ℕ) (first later
       reading.fault)
       in
       let all = is ∙ ap (λ (l : List ℕ). l ++ more) (all-is-text lines (lines_of head first) text none same) in
-      subst (λ (l : List ℕ). FailsToWrite u v l) (sym all) (fails-longer u v text more fails)
+      subst (λ (l : List ℕ). FailsToWrite u v l) (sym all) (FailsToWrite-longer u v text more fails)
   ends-without_outcome (NotWritten Memory) ends =
       let options = options_by first.allowances first.stop skew transfers is_quiet in
       let (text, same, some) = ends in
@@ -141,7 +141,7 @@ module _ (skew transfers : ℕ) (is_quiet : Bool) (head : List ℕ) (first later
         let (text, answer, writes) = answer-is in
         let (last, is) = writes-by-first (Ok status) writes_last in
         subst (λ (a : DumpAnswer). EndsAs a u w (Ok status)) (sym answer)
-        (writes-both u v w text _ writes last, ap Ok (sym is))
+        (Writes-append u v w text _ writes last, ap Ok (sym is))
 
     -- if the last lines aren't written, by `fault`, the answer ends without an outcome
     pub ends-last_unwritten : (fault : WriteFault) → WritesLast later (Err fault)
@@ -150,7 +150,7 @@ module _ (skew transfers : ℕ) (is_quiet : Bool) (head : List ℕ) (first later
     ends-last_unwritten CannotWrite writes_last =
         let (text, answer, writes) = answer-is in
         subst (λ (a : DumpAnswer). EndsAs a u w (Err (NotWritten CannotWrite))) (sym answer)
-        (fails-after u v w text _ writes (writes-by-first (Err CannotWrite) writes_last))
+        (FailsToWrite-after u v w text _ writes (writes-by-first (Err CannotWrite) writes_last))
     ends-last_unwritten Memory writes_last =
         let (text, answer, writes) = answer-is in
         subst (λ (a : DumpAnswer). EndsAs a u w (Err (NotWritten Memory))) (sym answer)
@@ -259,7 +259,7 @@ module _ (options : AuditOptions) (head : List ℕ) (binding : BoundLines) (sour
         text,
         all,
         subst (λ (x : Result TextReading CaptureFault). EndsAs (dump_answer options head x) u u (Err (Refused refusal)))
-            (sym is) (writes-nothing u, ap Err same),
+            (sym is) (Writes-nothing u, ap Err same),
       )
   answers-without_definitions new left CannotRead reads = (left_of source.left, all-left source.left, prefix-of u _)
   answers-without_definitions new left (NotWritten CannotWrite) reads = absurd reads.2

@@ -12,6 +12,7 @@ use Rattle.vme_trace.specs.WellFormed.{malformed_step}
 use Rattle.vme_trace.specs.declared.step.Step.{Step}
 use Rattle.vme_trace.specs.declared.verdict.Break.{Break}
 use Rattle.vme_stream.specs.Outputs.{Writes}
+use Rattle.vme_stream.proofs.OutputLemmas.{FailsToWrite-after, FailsToWrite-longer, Writes-append, Writes-nothing}
 use Rattle.vme_audit.specs.Parts.{breaks}
 use Rattle.vme_audit.specs.declared.allowance.Allowance.{Allowance}
 use Rattle.vme_audit_command.specs.DumpAudits.{AuditGoesOn, GoesOn, WritesText, break_lines, given_more, line_of_break}
@@ -19,8 +20,8 @@ use Rattle.vme_audit_command.specs.DumpAudits.{lines_of}
 use Rattle.vme_step_auditor.specs.ReadBy.{BreaksGoOn, GivenSteps, read_by, read_of}
 use Rattle.vme_audit_command.specs.declared.written_lines.WriteFault.{WriteFault}
 use Rattle.vme_audit_command.specs.declared.written_lines.WriteFault.TheVariants.{Memory, CannotWrite}
-use Rattle.vme_audit_command.proofs.WriteLemmas.{fails-after, fails-longer, prefix-after, prefix-longer}
-use Rattle.vme_audit_command.proofs.WriteLemmas.{writes-as-prefix, writes-both, writes-nothing}
+use Rattle.vme_audit_command.proofs.WriteLemmas.{prefix-after, prefix-longer}
+use Rattle.vme_audit_command.proofs.WriteLemmas.{writes-as-prefix}
 
 -- when steps are added to a recording, its breaks stay
 abbrev pub ReadGoesOn : Type 0
@@ -50,7 +51,7 @@ pub no-memory : (A : Type 0) → ReadGoesOn → (head : List ℕ) (audit : Given
     → AuditGoesOn {A = A} head audit steps w w (Err Memory)
 no-memory A law head audit steps w formed few =
     let (text, same) = lines-go-on law head audit.allowances audit.stop audit.recording steps formed few in
-    (text, same, prefix-longer w w [] text (writes-as-prefix w w [] (writes-nothing w)))
+    (text, same, prefix-longer w w [] text (writes-as-prefix w w [] (Writes-nothing w)))
 
 -- ---- a step
 
@@ -95,14 +96,14 @@ goes-after before middle after u v w (Ok x) one two =
     let (second, more, told) = two in (
       first ++ second,
       more ∙ ap (λ (l : List ℕ). l ++ second) is ∙ append_assoc before first second,
-      writes-both u v w first second writes told,
+      Writes-append u v w first second writes told,
     )
 goes-after before middle after u v w (Err CannotWrite) one two =
     let (first, is, writes) = one in
     let (second, more, told) = two in (
       first ++ second,
       more ∙ ap (λ (l : List ℕ). l ++ second) is ∙ append_assoc before first second,
-      fails-after u v w first second writes told,
+      FailsToWrite-after u v w first second writes told,
     )
 goes-after before middle after u v w (Err Memory) one two =
     let (first, is, writes) = one in
@@ -121,7 +122,7 @@ goes-further A B before after all u v CannotWrite goes more =
     let (later, same) = more in (
       text ++ later,
       same ∙ ap (λ (l : List ℕ). l ++ later) is ∙ append_assoc before text later,
-      fails-longer u v text later fails,
+      FailsToWrite-longer u v text later fails,
     )
 goes-further A B before after all u v Memory goes more =
     let (text, is, some) = goes in
@@ -177,7 +178,7 @@ lines-next head first audit later step u v w is one two =
       text ++ more,
       ap (lines_of head) is ∙ grown ∙ ap (λ (l : List ℕ). l ++ more) same
           ∙ append_assoc (lines_of head first) text more,
-      writes-both u v w text more writes told,
+      Writes-append u v w text more writes told,
     )
 
 -- if the audit of a step ends with an error, so does that of all steps

@@ -7,6 +7,7 @@ use Rattle.vme_trace.specs.Streams.{Reading, Writing}
 use Rattle.vme_trace.specs.Trace.{Trace}
 use Rattle.vme_bind.specs.TextReading.{TextReading}
 use Rattle.vme_stream.specs.Outputs.{Writes}
+use Rattle.vme_stream.proofs.OutputLemmas.{Writes-append, Writes-nothing}
 use Rattle.vme_audit_command.specs.Bodies.{AuditsBody, HasGiven, TakesPiece, WritesRest}
 use Rattle.vme_audit_command.specs.Definitions.{GivenIsPrefix, unread}
 use Rattle.vme_audit_command.specs.declared.dump_input.ReadFault.{ReadFault}
@@ -23,7 +24,6 @@ use Rattle.vme_audit_command.proofs.BodyLemmas.{ReadGoesOn}
 use Rattle.vme_dump_input.proofs.ReadSteps.{StepsFollow, TimeGoesOn}
 use Rattle.vme_audit_command.proofs.Onward.{given-on}
 use Rattle.vme_audit_command.proofs.PieceLemmas.{ends-after, memory-ends}
-use Rattle.vme_audit_command.proofs.WriteLemmas.{writes-both, writes-nothing}
 
 -- what is left of a source after its first bytes were read
 abbrev pub left_of : Option (List ℕ) → List ℕ
@@ -72,7 +72,7 @@ underway-first head source old audit r held = record {
   passes = λ rest. refl;
   same = refl;
   lines = sym (append-nil (lines_of head audit));
-  writes = writes-nothing old;
+  writes = Writes-nothing old;
 }
 
 module _ (skew : Option ℕ) (head : List ℕ) (source now : Reading) (old new : Writing) (first audit : GivenSteps)
@@ -98,7 +98,7 @@ module _ (skew : Option ℕ) (head : List ℕ) (source now : Reading) (old new :
             ∙ passes rest;
         same = same ∙ ap (λ (a : GivenSteps). given_recording a later.recording) u.same;
         lines = lines ∙ ap (λ (l : List ℕ). l ++ text) u.lines ∙ append_assoc (lines_of head first) u.text text;
-        writes = writes-both old new after u.text text u.writes writes;
+        writes = Writes-append old new after u.text text u.writes writes;
       }
 
   -- more is read

@@ -10,12 +10,13 @@ use Rattle.vme_auditor.specs.declared.findings.AuditFindings.{AuditFindings}
 use Rattle.vme_auditor.specs.declared.findings.BreakCounts.{BreakCounts}
 use Rattle.vme_audit_lines.specs.AuditLines.{count_lines, outcome_status, unasked}
 use Rattle.vme_stream.specs.Outputs.{Writes}
+use Rattle.vme_stream.proofs.OutputLemmas.{FailsToWrite-after, FailsToWrite-longer, Writes-append, Writes-nothing}
 use Rattle.vme_audit_command.specs.DumpAudits.{WritesPrefix, WritesText}
 use Rattle.vme_audit_command.specs.LastLines.{WritesOutcome, count_lines_of}
 use Rattle.vme_audit_command.specs.declared.written_lines.WriteFault.{WriteFault}
 use Rattle.vme_audit_command.specs.declared.written_lines.WriteFault.TheVariants.{Memory, CannotWrite}
-use Rattle.vme_audit_command.proofs.WriteLemmas.{fails-after, fails-longer, prefix-after, prefix-longer}
-use Rattle.vme_audit_command.proofs.WriteLemmas.{writes-as-prefix, writes-both, writes-nothing}
+use Rattle.vme_audit_command.proofs.WriteLemmas.{prefix-after, prefix-longer}
+use Rattle.vme_audit_command.proofs.WriteLemmas.{writes-as-prefix}
 
 -- the lines of the counts and findings are those of the recording
 pub counts-are : (allowances : List Allowance) (head : List ℕ) (a : Trace) (c : BreakCounts) (f : AuditFindings)
@@ -26,7 +27,7 @@ counts-are allowances head a c f counted found asked =
 
 -- nothing of a text was written, which is a prefix of it
 pub prefix-of : (w : Writing) (text : List ℕ) → WritesPrefix w w text
-prefix-of w text = prefix-longer w w [] text (writes-as-prefix w w [] (writes-nothing w))
+prefix-of w text = prefix-longer w w [] text (writes-as-prefix w w [] (Writes-nothing w))
 
 -- the outcome was written; after that the only error is want of memory
 pub outcome-written : (o : Outcome) (u v : Writing) (text : List ℕ) (result : Result ℕ WriteFault)
@@ -48,12 +49,12 @@ outcome-unwritten A o u v text Memory tells = tells
 -- an outcome after another text
 pub outcome-after : (o : Outcome) (u v w : Writing) (text more : List ℕ) (result : Result ℕ WriteFault)
     → Writes u v text → WritesOutcome more o v w result → WritesOutcome (text ++ more) o u w result
-outcome-after o u v w text more (Ok status) one two = (writes-both u v w text more one two.0, two.1)
-outcome-after o u v w text more (Err CannotWrite) one two = fails-after u v w text more one two
+outcome-after o u v w text more (Ok status) one two = (Writes-append u v w text more one two.0, two.1)
+outcome-after o u v w text more (Err CannotWrite) one two = FailsToWrite-after u v w text more one two
 outcome-after o u v w text more (Err Memory) one two = prefix-after u v w text more one two
 
 -- an outcome after another text that wasn't written
 pub outcome-unreached : (A : Type 0) (o : Outcome) (u v : Writing) (text more : List ℕ) (fault : WriteFault)
     → WritesText {A = A} u v (Err fault) text → WritesOutcome (text ++ more) o u v (Err fault)
-outcome-unreached A o u v text more CannotWrite tells = fails-longer u v text more tells
+outcome-unreached A o u v text more CannotWrite tells = FailsToWrite-longer u v text more tells
 outcome-unreached A o u v text more Memory tells = prefix-longer u v text more tells

@@ -16,6 +16,7 @@ use Rattle.vme_stream.specs.Outputs.{Writes}
 use Rattle.vme_stream.specs.Refusals.{dump_refusal}
 use Rattle.vme_stream.specs.declared.refusal.Refusal.{Refusal}
 use Rattle.vme_stream.specs.declared.refusal.Refusal.TheVariants.{BadDump}
+use Rattle.vme_stream.proofs.OutputLemmas.{FailsToWrite-after, FailsToWrite-longer, Writes-append, Writes-nothing}
 use Rattle.vme_audit.specs.Parts.{breaks}
 use Rattle.vme_audit.specs.declared.allowance.Allowance.{Allowance}
 use Rattle.vme_audit_command.specs.Bodies.{WritesRest, WritesUntil, ended_at}
@@ -28,8 +29,8 @@ use Rattle.vme_audit_command.specs.declared.written_lines.WriteFault.{WriteFault
 use Rattle.vme_audit_command.specs.declared.written_lines.WriteFault.TheVariants.{CannotWrite, Memory}
 use Rattle.vme_audit_command.proofs.BodyLemmas.{ReadGoesOn, lines-go-on, no-memory}
 use Rattle.vme_audit_command.proofs.Onward.{ExtendsTo}
-use Rattle.vme_audit_command.proofs.WriteLemmas.{fails-after, fails-longer, prefix-after, prefix-longer}
-use Rattle.vme_audit_command.proofs.WriteLemmas.{writes-as-prefix, writes-both, writes-nothing}
+use Rattle.vme_audit_command.proofs.WriteLemmas.{prefix-after, prefix-longer}
+use Rattle.vme_audit_command.proofs.WriteLemmas.{writes-as-prefix}
 
 -- ---- one part of a body after another
 
@@ -37,10 +38,10 @@ use Rattle.vme_audit_command.proofs.WriteLemmas.{writes-as-prefix, writes-both, 
 pub until-after : {A : Type 0} (ended : Result Trace Refusal) (a : Trace) (u v w : Writing) (x y : List ℕ)
     (result : Result A NoOutcome) → Writes u v x → WritesUntil ended a v w y result
     → WritesUntil ended a u w (x ++ y) result
-until-after ended a u v w x y (Ok _) one two = (writes-both u v w x y one two.0, two.1)
-until-after ended a u v w x y (Err (Refused refusal)) one two = (writes-both u v w x y one two.0, two.1)
+until-after ended a u v w x y (Ok _) one two = (Writes-append u v w x y one two.0, two.1)
+until-after ended a u v w x y (Err (Refused refusal)) one two = (Writes-append u v w x y one two.0, two.1)
 until-after ended a u v w x y (Err CannotRead) one two = prefix-after u v w x y one two
-until-after ended a u v w x y (Err (NotWritten CannotWrite)) one two = fails-after u v w x y one two
+until-after ended a u v w x y (Err (NotWritten CannotWrite)) one two = FailsToWrite-after u v w x y one two
 until-after ended a u v w x y (Err (NotWritten Memory)) one two = prefix-after u v w x y one two
 
 pub ends-after : {A : Type 0} (head : List ℕ) (audit : GivenSteps) (told more : List ℕ) (reading : TextReading)
@@ -60,7 +61,7 @@ unwritten-ends A B ended a before after all later u v CannotWrite goes more =
     let (text, same, fails) = goes in (
       text ++ later,
       more ∙ ap (λ (l : List ℕ). l ++ later) same ∙ append_assoc before text later,
-      fails-longer u v text later fails,
+      FailsToWrite-longer u v text later fails,
     )
 unwritten-ends A B ended a before after all later u v Memory goes more =
     let (text, same, some) = goes in (
@@ -78,7 +79,7 @@ memory-ends A law head audit reading t w on =
     let (text, same) = lines-go-on law head audit.allowances audit.stop audit.recording on.more here on.few in (
       text,
       ap (break_lines audit.allowances audit.stop head) on.is ∙ same,
-      prefix-longer w w [] text (writes-as-prefix w w [] (writes-nothing w)),
+      prefix-longer w w [] text (writes-as-prefix w w [] (Writes-nothing w)),
     )
 
 -- ---- steps that come out

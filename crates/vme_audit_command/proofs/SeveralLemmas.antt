@@ -17,7 +17,7 @@ use Rattle.vme_audit_command.specs.DumpEnds.{CannotWriteDump, WritesDump}
 use Rattle.vme_audit_command.specs.SeveralDumps.{AuditsDumps, CannotWriteDumps, DumpEnd, MayEnd, NamedReading}
 use Rattle.vme_audit_command.specs.SeveralDumps.{TriesEach, WritesDumps, audit_status, cannot_write_line}
 use Rattle.vme_audit_command.specs.SeveralDumps.{first_occurred}
-use Rattle.vme_audit_command.proofs.WriteLemmas.{fails-after, writes-both, writes-nothing}
+use Rattle.vme_audit_command.proofs.WriteLemmas.{FailsToWrite-after, Writes-append, Writes-nothing}
 
 -- ---- the status
 
@@ -119,7 +119,7 @@ module _ (options : AuditOptions) (bound : BoundLines) where
     ends = [];
     each = tt;
     afters_are = refl;
-    out_is = writes-nothing out;
+    out_is = Writes-nothing out;
     err_is = refl;
     status_is = refl;
   }
@@ -138,7 +138,7 @@ module _ (options : AuditOptions) (bound : BoundLines) where
           ∙ ap (λ (r : Reading). map (λ (x : DumpEnd). x.after) before.ends ++ r ∷ []) (sym one.after_is)
           ∙ sym (map-append (λ (x : DumpEnd). x.after) before.ends (one.end ∷ []));
       out_is = subst (Writes a c) (flat-then (λ (x : DumpEnd). x.out) before.ends one.end)
-          (writes-both a b c _ one.end.out before.out_is one.out_is);
+          (Writes-append a b c _ one.end.out before.out_is one.out_is);
       err_is = subst (TriesEach e h) (flat-then (λ (x : DumpEnd). x.errors) before.ends one.end)
           (tries-then e p h _ one.end.errors before.err_is one.err_is);
       status_is = ap (λ (n : ℕ). audit_status (n ∷ ended ∷ [])) before.status_is
@@ -164,7 +164,7 @@ module _ (options : AuditOptions) (bound : BoundLines) where
       afters_are = ap (λ (l : List Reading). l ++ after ∷ map (λ (n : NamedReading). n.dump) others) before.afters_are;
       bytes = one.bytes;
       all = one.all;
-      out_is = fails-after a b c _ _ before.out_is one.out_is;
+      out_is = FailsToWrite-after a b c _ _ before.out_is one.out_is;
       err_is = tries-then e p h _ (cannot_write_line ∷ []) before.err_is (tries-one p h cannot_write_line one.err_is);
       status_is = refl;
     }

@@ -1,5 +1,5 @@
-use Rattle.vme_audit_command.proofs.WriteLemmas.{writes-nothing}
 use Rattle.vme_audit_command.proofs.command.audit.Goals as goal
+use Rattle.vme_stream.proofs.OutputLemmas.{Writes-nothing}
 
 pub returns-in-Err-clause-refused : goal.returns-in-Err-clause-refused
 returns-in-Err-clause-refused g c =
@@ -9,7 +9,7 @@ returns-in-Err-clause-refused g c =
       refusal = c.in-Err.refusal;
       read = read;
       gives = gives;
-      out_is = writes-nothing (g.O.Sink.writing c.args.out.now);
+      out_is = Writes-nothing (g.O.Sink.writing c.args.out.now);
       err_is = rw c.refusal_line.ensures at c.complain.ensures;
       status_is = c.status.ensures;
     }

@@ -1,12 +1,12 @@
 use Rattle.std.proofs.Common.{subst, ◌∙◌}
+use Rattle.vme_stream.proofs.OutputLemmas.{Writes-nothing}
 use Rattle.vme_step_auditor.specs.ReadBy.{read_of}
 use Rattle.vme_audit_command.specs.DumpAudits.{WritesText}
 use Rattle.vme_audit_command.proofs.LastLemmas.{counts-are, prefix-of}
-use Rattle.vme_audit_command.proofs.WriteLemmas.{writes-nothing}
 use Rattle.vme_audit_command.proofs.dump_audit.write_counts.Goals as goal
 
 pub returns-then-is_quiet : goal.returns-then-is_quiet
-returns-then-is_quiet g c = λ formed. rw c.if-is_quiet.true (writes-nothing (g.O.Sink.writing c.args.out.now))
+returns-then-is_quiet g c = λ formed. rw c.if-is_quiet.true (Writes-nothing (g.O.Sink.writing c.args.out.now))
 
 pub returns-in-Ok : goal.returns-in-Ok
 returns-in-Ok g c = λ formed.

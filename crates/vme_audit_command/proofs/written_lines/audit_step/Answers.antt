@@ -2,10 +2,10 @@ use Rattle.std.proofs.Common.{◌≡◌, ◌∷◌, ◌++◌, [], None, List, �
 use Rattle.vme_trace.specs.WellFormed.{malformed_step}
 use Rattle.vme_auditor.specs.Breaks.{as_break}
 use Rattle.vme_stream.specs.Texts.{line_of}
+use Rattle.vme_stream.proofs.OutputLemmas.{Writes-nothing}
 use Rattle.vme_audit_lines.specs.AuditLines.{audit_break_text}
 use Rattle.vme_audit_command.specs.DumpAudits.{given_more, line_of_break, lines_of}
 use Rattle.vme_audit_command.proofs.BodyLemmas.{break-written, no-memory, nothing-written, writes-further-text}
-use Rattle.vme_audit_command.proofs.WriteLemmas.{writes-nothing}
 use Rattle.vme_audit_command.proofs.written_lines.audit_step.Goals as goal
 
 pub returns-in-Ok-Some-clause-writes : goal.returns-in-Ok-Some-clause-writes
@@ -39,7 +39,7 @@ returns-in-Ok-None-clause-writes g c =
       [],
       nothing-written head audit c.take.new.self steps c.in-Ok-None.ensures.given
           (rw c.in-Ok-None.field-0-is at c.in-Ok-None.ensures.told here),
-      writes-nothing (g.O.Sink.writing c.args.out.now),
+      Writes-nothing (g.O.Sink.writing c.args.out.now),
     )
 
 pub returns-in-Err-clause-writes : goal.returns-in-Err-clause-writes

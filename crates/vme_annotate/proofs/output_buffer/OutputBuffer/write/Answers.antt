@@ -1,6 +1,7 @@
 use Rattle.std.proofs.Common.{Bool, [], ◌++◌, sym, subst}
+use Rattle.vme_stream.proofs.OutputLemmas.{FailsToWrite-longer}
 use Rattle.vme_annotate.specs.Outputs.{HasPutBy}
-use Rattle.vme_annotate.proofs.PutLemmas.{FailsToWrite-longer, HasPutBy-write}
+use Rattle.vme_annotate.proofs.PutLemmas.{HasPutBy-write}
 use Rattle.vme_annotate.proofs.output_buffer.OutputBuffer.write.Goals as goal
 
 pub returns-then-self-clause-put : goal.returns-then-self-clause-put
