@@ -32,7 +32,7 @@ use Rattle.vme_audit_command.specs.declared.written_lines.WriteFault.{WriteFault
 use Rattle.vme_audit_command.specs.declared.written_lines.WriteFault.TheVariants.{Memory, CannotWrite}
 use Rattle.vme_audit_command.proofs.LastLemmas.{prefix-of}
 use Rattle.vme_audit_command.proofs.BodyPieces.{all-left, left_of}
-use Rattle.vme_audit_command.proofs.WriteLemmas.{prefix-after, prefix-longer}
+use Rattle.vme_audit_command.proofs.WriteLemmas.{WritesPrefix-after, WritesPrefix-longer}
 
 -- before the first step there are no lines
 pub no-lines : (head : List ℕ) (audit : GivenSteps) → breaks (read_of audit) ≡ [] → lines_of head audit ≡ []
@@ -82,7 +82,7 @@ module _ (skew transfers : ℕ) (is_quiet : Bool) (head : List ℕ) (first later
       reading.fault)
       in
       let all = is ∙ ap (λ (l : List ℕ). l ++ more) (all-is-text lines (lines_of head first) text none same) in
-      subst (λ (l : List ℕ). WritesPrefix u v l) (sym all) (prefix-longer u v text more some)
+      subst (λ (l : List ℕ). WritesPrefix u v l) (sym all) (WritesPrefix-longer u v text more some)
   ends-without_outcome (NotWritten CannotWrite) ends =
       let options = options_by first.allowances first.stop skew transfers is_quiet in
       let (text, same, fails) = ends in
@@ -100,7 +100,7 @@ module _ (skew transfers : ℕ) (is_quiet : Bool) (head : List ℕ) (first later
       reading.fault)
       in
       let all = is ∙ ap (λ (l : List ℕ). l ++ more) (all-is-text lines (lines_of head first) text none same) in
-      subst (λ (l : List ℕ). WritesPrefix u v l) (sym all) (prefix-longer u v text more some)
+      subst (λ (l : List ℕ). WritesPrefix u v l) (sym all) (WritesPrefix-longer u v text more some)
 
   -- after the lines of the breaks the last lines are written
   module _ (w : Writing) (kept : IsLater first later)
@@ -154,7 +154,7 @@ module _ (skew transfers : ℕ) (is_quiet : Bool) (head : List ℕ) (first later
     ends-last_unwritten Memory writes_last =
         let (text, answer, writes) = answer-is in
         subst (λ (a : DumpAnswer). EndsAs a u w (Err (NotWritten Memory))) (sym answer)
-        (prefix-after u v w text _ writes (writes-by-first (Err Memory) writes_last))
+        (WritesPrefix-after u v w text _ writes (writes-by-first (Err Memory) writes_last))
 
 -- ---- after the definitions
 

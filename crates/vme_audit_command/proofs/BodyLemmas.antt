@@ -20,8 +20,8 @@ use Rattle.vme_audit_command.specs.DumpAudits.{lines_of}
 use Rattle.vme_step_auditor.specs.ReadBy.{BreaksGoOn, GivenSteps, read_by, read_of}
 use Rattle.vme_audit_command.specs.declared.written_lines.WriteFault.{WriteFault}
 use Rattle.vme_audit_command.specs.declared.written_lines.WriteFault.TheVariants.{Memory, CannotWrite}
-use Rattle.vme_audit_command.proofs.WriteLemmas.{prefix-after, prefix-longer}
-use Rattle.vme_audit_command.proofs.WriteLemmas.{writes-as-prefix}
+use Rattle.vme_audit_command.proofs.WriteLemmas.{WritesPrefix-after, WritesPrefix-longer}
+use Rattle.vme_audit_command.proofs.WriteLemmas.{WritesPrefix-whole}
 
 -- when steps are added to a recording, its breaks stay
 abbrev pub ReadGoesOn : Type 0
@@ -51,7 +51,7 @@ pub no-memory : (A : Type 0) → ReadGoesOn → (head : List ℕ) (audit : Given
     → AuditGoesOn {A = A} head audit steps w w (Err Memory)
 no-memory A law head audit steps w formed few =
     let (text, same) = lines-go-on law head audit.allowances audit.stop audit.recording steps formed few in
-    (text, same, prefix-longer w w [] text (writes-as-prefix w w [] (Writes-nothing w)))
+    (text, same, WritesPrefix-longer w w [] text (WritesPrefix-whole w w [] (Writes-nothing w)))
 
 -- ---- a step
 
@@ -110,7 +110,7 @@ goes-after before middle after u v w (Err Memory) one two =
     let (second, more, told) = two in (
       first ++ second,
       more ∙ ap (λ (l : List ℕ). l ++ second) is ∙ append_assoc before first second,
-      prefix-after u v w first second writes told,
+      WritesPrefix-after u v w first second writes told,
     )
 
 -- after an error a prefix of any longer text was written
@@ -129,7 +129,7 @@ goes-further A B before after all u v Memory goes more =
     let (later, same) = more in (
       text ++ later,
       same ∙ ap (λ (l : List ℕ). l ++ later) is ∙ append_assoc before text later,
-      prefix-longer u v text later some,
+      WritesPrefix-longer u v text later some,
     )
 
 -- ---- steps one by one

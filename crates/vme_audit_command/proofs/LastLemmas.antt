@@ -15,8 +15,8 @@ use Rattle.vme_audit_command.specs.DumpAudits.{WritesPrefix, WritesText}
 use Rattle.vme_audit_command.specs.LastLines.{WritesOutcome, count_lines_of}
 use Rattle.vme_audit_command.specs.declared.written_lines.WriteFault.{WriteFault}
 use Rattle.vme_audit_command.specs.declared.written_lines.WriteFault.TheVariants.{Memory, CannotWrite}
-use Rattle.vme_audit_command.proofs.WriteLemmas.{prefix-after, prefix-longer}
-use Rattle.vme_audit_command.proofs.WriteLemmas.{writes-as-prefix}
+use Rattle.vme_audit_command.proofs.WriteLemmas.{WritesPrefix-after, WritesPrefix-longer}
+use Rattle.vme_audit_command.proofs.WriteLemmas.{WritesPrefix-whole}
 
 -- the lines of the counts and findings are those of the recording
 pub counts-are : (allowances : List Allowance) (head : List ℕ) (a : Trace) (c : BreakCounts) (f : AuditFindings)
@@ -27,7 +27,7 @@ counts-are allowances head a c f counted found asked =
 
 -- nothing of a text was written, which is a prefix of it
 pub prefix-of : (w : Writing) (text : List ℕ) → WritesPrefix w w text
-prefix-of w text = prefix-longer w w [] text (writes-as-prefix w w [] (Writes-nothing w))
+prefix-of w text = WritesPrefix-longer w w [] text (WritesPrefix-whole w w [] (Writes-nothing w))
 
 -- the outcome was written; after that the only error is want of memory
 pub outcome-written : (o : Outcome) (u v : Writing) (text : List ℕ) (result : Result ℕ WriteFault)
@@ -38,7 +38,7 @@ outcome-written o u v text (Err CannotWrite) writes ok err = absurd (differ err)
   where
     differ : CannotWrite ≡ Memory → ⊥
     differ same = cc
-outcome-written o u v text (Err Memory) writes ok err = writes-as-prefix u v text writes
+outcome-written o u v text (Err Memory) writes ok err = WritesPrefix-whole u v text writes
 
 -- the outcome wasn't written
 pub outcome-unwritten : (A : Type 0) (o : Outcome) (u v : Writing) (text : List ℕ) (fault : WriteFault)
@@ -51,10 +51,10 @@ pub outcome-after : (o : Outcome) (u v w : Writing) (text more : List ℕ) (resu
     → Writes u v text → WritesOutcome more o v w result → WritesOutcome (text ++ more) o u w result
 outcome-after o u v w text more (Ok status) one two = (Writes-append u v w text more one two.0, two.1)
 outcome-after o u v w text more (Err CannotWrite) one two = FailsToWrite-after u v w text more one two
-outcome-after o u v w text more (Err Memory) one two = prefix-after u v w text more one two
+outcome-after o u v w text more (Err Memory) one two = WritesPrefix-after u v w text more one two
 
 -- an outcome after another text that wasn't written
 pub outcome-unreached : (A : Type 0) (o : Outcome) (u v : Writing) (text more : List ℕ) (fault : WriteFault)
     → WritesText {A = A} u v (Err fault) text → WritesOutcome (text ++ more) o u v (Err fault)
 outcome-unreached A o u v text more CannotWrite tells = FailsToWrite-longer u v text more tells
-outcome-unreached A o u v text more Memory tells = prefix-longer u v text more tells
+outcome-unreached A o u v text more Memory tells = WritesPrefix-longer u v text more tells

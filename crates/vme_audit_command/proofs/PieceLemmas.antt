@@ -29,8 +29,8 @@ use Rattle.vme_audit_command.specs.declared.written_lines.WriteFault.{WriteFault
 use Rattle.vme_audit_command.specs.declared.written_lines.WriteFault.TheVariants.{CannotWrite, Memory}
 use Rattle.vme_audit_command.proofs.BodyLemmas.{ReadGoesOn, lines-go-on, no-memory}
 use Rattle.vme_audit_command.proofs.Onward.{ExtendsTo}
-use Rattle.vme_audit_command.proofs.WriteLemmas.{prefix-after, prefix-longer}
-use Rattle.vme_audit_command.proofs.WriteLemmas.{writes-as-prefix}
+use Rattle.vme_audit_command.proofs.WriteLemmas.{WritesPrefix-after, WritesPrefix-longer}
+use Rattle.vme_audit_command.proofs.WriteLemmas.{WritesPrefix-whole}
 
 -- ---- one part of a body after another
 
@@ -40,9 +40,9 @@ pub until-after : {A : Type 0} (ended : Result Trace Refusal) (a : Trace) (u v w
     → WritesUntil ended a u w (x ++ y) result
 until-after ended a u v w x y (Ok _) one two = (Writes-append u v w x y one two.0, two.1)
 until-after ended a u v w x y (Err (Refused refusal)) one two = (Writes-append u v w x y one two.0, two.1)
-until-after ended a u v w x y (Err CannotRead) one two = prefix-after u v w x y one two
+until-after ended a u v w x y (Err CannotRead) one two = WritesPrefix-after u v w x y one two
 until-after ended a u v w x y (Err (NotWritten CannotWrite)) one two = FailsToWrite-after u v w x y one two
-until-after ended a u v w x y (Err (NotWritten Memory)) one two = prefix-after u v w x y one two
+until-after ended a u v w x y (Err (NotWritten Memory)) one two = WritesPrefix-after u v w x y one two
 
 pub ends-after : {A : Type 0} (head : List ℕ) (audit : GivenSteps) (told more : List ℕ) (reading : TextReading)
     (t : Trace) (u v w : Writing) (result : Result A NoOutcome) → Writes u v more
@@ -67,7 +67,7 @@ unwritten-ends A B ended a before after all later u v Memory goes more =
     let (text, same, some) = goes in (
       text ++ later,
       more ∙ ap (λ (l : List ℕ). l ++ later) same ∙ append_assoc before text later,
-      prefix-longer u v text later some,
+      WritesPrefix-longer u v text later some,
     )
 
 -- memory runs out before the end of a body
@@ -79,7 +79,7 @@ memory-ends A law head audit reading t w on =
     let (text, same) = lines-go-on law head audit.allowances audit.stop audit.recording on.more here on.few in (
       text,
       ap (break_lines audit.allowances audit.stop head) on.is ∙ same,
-      prefix-longer w w [] text (writes-as-prefix w w [] (Writes-nothing w)),
+      WritesPrefix-longer w w [] text (WritesPrefix-whole w w [] (Writes-nothing w)),
     )
 
 -- ---- steps that come out

@@ -8,16 +8,20 @@ use Rattle.vme_stream.specs.Outputs.{Writes}
 use Rattle.vme_stream.proofs.OutputLemmas.{take-of_append}
 use Rattle.vme_audit_command.specs.DumpAudits.{WritesPrefix}
 
-pub writes-as-prefix : (a b : Writing) (x : List ℕ) → Writes a b x → WritesPrefix a b x
-writes-as-prefix a b x one = ((length x, subst (Appends a.taken b.taken) (sym (take-length x)) one.0), one.1)
+-- a write of `x` writes a prefix of `x`
+pub WritesPrefix-whole : (a b : Writing) (x : List ℕ) → Writes a b x → WritesPrefix a b x
+WritesPrefix-whole a b x one = ((length x, subst (Appends a.taken b.taken) (sym (take-length x)) one.0), one.1)
 
-pub prefix-longer : (a b : Writing) (x y : List ℕ) → WritesPrefix a b x → WritesPrefix a b (x ++ y)
-prefix-longer a b x y one =
+-- a prefix of `x` that is written is one of `x ++ y`
+pub WritesPrefix-longer : (a b : Writing) (x y : List ℕ) → WritesPrefix a b x → WritesPrefix a b (x ++ y)
+WritesPrefix-longer a b x y one =
     let ((n, appends), same) = one in
     ((length (take n x), subst (Appends a.taken b.taken) (take-of_append x y n) appends), same)
 
-pub prefix-after : (a b c : Writing) (x y : List ℕ) → Writes a b x → WritesPrefix b c y → WritesPrefix a c (x ++ y)
-prefix-after a b c x y one two =
+-- a write of `x`, and then of a prefix of `y`, is a write of a prefix of `x ++ y`
+pub WritesPrefix-after : (a b c : Writing) (x y : List ℕ) → Writes a b x → WritesPrefix b c y
+    → WritesPrefix a c (x ++ y)
+WritesPrefix-after a b c x y one two =
     let ((n, appends), same) = two in
     let both = Appends-trans a.taken b.taken c.taken x (take n y) one.0 appends in
     ((length x + n, subst (Appends a.taken c.taken) (sym (take-append-add x y n)) both), same ∙ one.1)

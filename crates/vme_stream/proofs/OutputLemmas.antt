@@ -15,6 +15,7 @@ splits_later all done rest n split =
     split ∙ ap (λ l. done ++ l) (sym (take-append-drop n rest)) ∙ sym (append_assoc done (take n rest) (drop n rest))
     ∙ ap (λ l. (done ++ take n rest) ++ l) (sym (take_rest rest n))
 
+-- what stands before `rest` is as many of the first bytes of `all` as it has
 pub front_is : (all done rest : List ℕ) → all ≡ done ++ rest → done ≡ take (length done) all
 front_is all done rest split = sym (ap (take (length done)) split ∙ take-append_seam done rest)
 
