@@ -1,13 +1,13 @@
 -- The steps that a reader of a dump returns may follow those that it returned before.
-use Rattle.std.proofs.Common.{◌≡◌, ◌≤◌, ℕ, List, [], ◌∷◌, ◌++◌, Option, None, Some, sym, ap, subst, ◌∙◌, append_assoc}
+use Rattle.std.proofs.Common.{◌≡◌, ◌≤◌, ℕ, List, [], ◌++◌, Option, None, Some, sym, ap, subst, ◌∙◌, append_assoc}
 use Rattle.std.proofs.Common.{refl, length}
 use Rattle.std.specs.Prelude.{All}
-use Rattle.std.proofs.lemmas.List.Elements.{All-cons, All-head, All-nil, All-tail}
 use Rattle.vme_trace.specs.Followed.{with_steps}
 use Rattle.vme_trace.specs.LineNumbers.{line_count}
 use Rattle.vme_trace.specs.Trace.{Trace}
 use Rattle.vme_trace.specs.WellFormed.{malformed_step}
 use Rattle.vme_trace.specs.declared.step.Step.{Step}
+use Rattle.vme_trace.proofs.ListLaws.{All-front}
 use Rattle.vcd_read.specs.declared.fault.FaultKind.{FaultKind}
 use Rattle.vcd_read.specs.declared.fault.FaultKind.TheVariants as vcd
 use Rattle.vme_bind.specs.TextReading.{StopsAs, TextReading}
@@ -38,12 +38,6 @@ TimeGoesOn = (r : StepReading) (rest : List ℕ) → (whole_reading r []).time �
 abbrev pub GivenIsPrefix : Type 0
 GivenIsPrefix = (r : StepReading) (rest : List ℕ)
     → (more : List Step) × ((whole_reading r rest).recorded ≡ with_steps r.given more)
-
--- what all elements of `xs ++ ys` have, all of `xs` have
-All-prefix : (P : Step → Type 0) (xs ys : List Step) → All P (xs ++ ys) → All P xs
-All-prefix P [] ys h = All-nil P
-All-prefix P (x ∷ xs) ys h = All-cons P x xs (All-head P x (xs ++ ys) h)
-    (All-prefix P xs ys (All-tail P x (xs ++ ys) h))
 
 -- ---- what is settled
 
@@ -131,11 +125,11 @@ module _ (follows : StepsFollow) (within : StepsWithin) (on : TimeGoesOn) (front
           formed = sym (ap malformed_step given) ∙ formed;
           whole = whole;
           few = few;
-          follows = All-prefix (λ (step : Step). (whole_reading r []).time ≤ step.time) steps more
+          follows = All-front (λ (step : Step). (whole_reading r []).time ≤ step.time) steps more
               (follows r bytes (steps ++ more) is);
         };
         within = subst (λ (n : ℕ). All (λ (step : Step). step.time ≤ n) steps) time-of_piece
-            (All-prefix (λ (step : Step). step.time ≤ (whole_reading r bytes).time) steps more
+            (All-front (λ (step : Step). step.time ≤ (whole_reading r bytes).time) steps more
             (within r bytes (steps ++ more) is));
         on = subst (λ (n : ℕ). (whole_reading r []).time ≤ n) time-of_piece (on r bytes);
       }

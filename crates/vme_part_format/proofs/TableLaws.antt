@@ -8,6 +8,7 @@ use Rattle.std.specs.Int.{w32, to_le_bytes}
 use Rattle.std.proofs.lemmas.Bool.{ltb-true, lt-ltb, eqb-false, eqb-true, false_from_ne_true}
 use Rattle.std.proofs.lemmas.Grind.{flat_map-append}
 use Rattle.std.proofs.lemmas.List.Elements.{All-append, All-cons, All-nil}
+use Rattle.vme_trace.proofs.ListLaws.{All-front, All-back}
 use Rattle.vme_part_format.specs.declared.fault.PartFaultKind.TheVariants as fault
 use Rattle.vme_part_format.specs.declared.table.TableEntry.{TableEntry}
 use Rattle.vme_part_format.specs.Bounds.{CanWrite, FitNodes, FitsEntry, FitsNode, FitsTable}
@@ -327,15 +328,6 @@ pub can_write : (listing : Bool) (memories : ℕ) (ns : List NodeValue) → memo
     → HasNodes listing ns → (n : ℕ) → n < memories + length ns → CanWrite listing n
 can_write true memories ns most few has n lt = omega (arith, lt, few)
 can_write false memories ns most few has n lt = omega (arith, lt, most, ap (length {A = NodeValue}) has)
-
-All-front : {X : Type 0} (P : X → Type 0) (xs ys : List X) → All P (xs ++ ys) → All P xs
-All-front P [] ys h = All-nil P
-All-front P (x ∷ xs) ys h =
-    All-cons P x xs (h 0 x (omega arith)) (All-front P xs ys (λ k d lt. h (suc k) d (omega arith)))
-
-All-back : {X : Type 0} (P : X → Type 0) (xs ys : List X) → All P (xs ++ ys) → All P ys
-All-back P [] ys h = h
-All-back P (x ∷ xs) ys h = All-back P xs ys (λ k d lt. h (suc k) d (omega arith))
 
 node_count_again : (listing : Bool) (memories : ℕ) (ns : List NodeValue) (rest : List ℕ)
     → memories + length ns < 2 ^ 32 → HasNodes listing ns

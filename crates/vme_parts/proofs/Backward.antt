@@ -3,13 +3,14 @@ use Rattle.std.proofs.Common.{◌≡◌, ℕ, List, [], ◌∷◌, ◌++◌, map
 use Rattle.std.specs.Prelude.{All}
 use Rattle.std.proofs.lemmas.List.{map_push, take-map}
 use Rattle.std.proofs.lemmas.List.Elements.{All-same, All-take}
+use Rattle.vme_trace.proofs.ListLaws.{All-front}
 use Rattle.vme_part_format.specs.Sizes.{IsCompact}
 use Rattle.vme_part_format.specs.Tables.{SegmentValue, segment_value}
 use Rattle.vme_part_format.specs.declared.segment.Segment.{Segment}
 use Rattle.vme_parts.specs.Buddies.{AreBuddies}
 use Rattle.vme_parts.specs.Gathering.{Gathered, IsSegment}
 use Rattle.vme_parts.specs.Joined.{IsOfBoth}
-use Rattle.vme_parts.proofs.Gathering.{all_front, all_last, gathered_merged}
+use Rattle.vme_parts.proofs.Gathering.{all_last, gathered_merged}
 
 popped_values : (old new : List Segment) (x : Segment) → old ≡ new ++ x ∷ []
     → map segment_value old ≡ map segment_value new ++ segment_value x ∷ []
@@ -18,7 +19,7 @@ popped_values old new x e = ap (map segment_value) e ∙ map_push segment_value 
 pub popped_front : (old new : List Segment) (x : Segment) → old ≡ new ++ x ∷ [] → All IsSegment (map segment_value old)
     → All IsSegment (map segment_value new)
 popped_front old new x e all =
-    all_front IsSegment (map segment_value new) (segment_value x ∷ [])
+    All-front IsSegment (map segment_value new) (segment_value x ∷ [])
     (All-same IsSegment (map segment_value new ++ segment_value x ∷ []) (map segment_value old)
     (sym (popped_values old new x e)) all)
 

@@ -1,13 +1,12 @@
 -- Segments that are gathered one by one.
-use Rattle.std.proofs.Common.{inl, inr, ◌≡◌, ℕ, Bool, List, [], ◌∷◌, ◌++◌, length, take, drop, refl}
+use Rattle.std.proofs.Common.{inl, inr, ◌≡◌, ℕ, Bool, List, [], ◌∷◌, ◌++◌, refl}
 use Rattle.std.proofs.Common.{sym, subst}
 use Rattle.std.proofs.Common.{Option, Some, None, append_assoc, arith}
 use Rattle.std.specs.Prelude.{◌⊎◌, All, Contains}
-use Rattle.std.proofs.Math.Seq.{drop-append_seam, take-append_seam}
-use Rattle.std.proofs.lemmas.List.Elements.{All-contains, All-drop, All-head, All-push, All-same, All-tail}
-use Rattle.std.proofs.lemmas.List.Elements.{All-take}
+use Rattle.std.proofs.lemmas.List.Elements.{All-contains, All-head, All-push, All-tail}
 use Rattle.std.proofs.lemmas.List.Elements.{Contains-append_left, Contains-append_right}
 use Rattle.std.proofs.lemmas.List.Elements.{Contains-push, Contains-push_cases}
+use Rattle.vme_trace.proofs.ListLaws.{All-front, All-back}
 use Rattle.vme_part_format.specs.Bounds.{FitSegments, FitsSegment}
 use Rattle.vme_part_format.specs.Sizes.{IsCompact}
 use Rattle.vme_part_format.specs.Tables.{SegmentValue, last_of}
@@ -18,14 +17,6 @@ use Rattle.vme_parts.specs.Joined.{IsOfBoth}
 use Rattle.vme_parts.specs.Stands.{SegmentStandsFor}
 use Rattle.vme_parts.proofs.Merging.{both_fit, both_stand, covered_first, covered_second, covers_both}
 
-pub all_front : {X : Type 0} (P : X → Type 0) (xs ys : List X) → All P (xs ++ ys) → All P xs
-all_front P xs ys all = All-same P xs (take (length xs) (xs ++ ys)) (sym (take-append_seam xs ys))
-    (All-take P (length xs) (xs ++ ys) all)
-
-all_back : {X : Type 0} (P : X → Type 0) (xs ys : List X) → All P (xs ++ ys) → All P ys
-all_back P xs ys all = All-same P ys (drop (length xs) (xs ++ ys)) (sym (drop-append_seam xs ys))
-    (All-drop P (length xs) (xs ++ ys) all)
-
 pub all_last : {X : Type 0} (P : X → Type 0) (xs : List X) (x : X) → All P (xs ++ x ∷ []) → P x
 all_last P xs x all = All-contains P (xs ++ x ∷ []) x all (Contains-push xs x)
 
@@ -33,8 +24,8 @@ all_last P xs x all = All-contains P (xs ++ x ∷ []) x all (Contains-push xs x)
 all_merged : {X : Type 0} (P : X → Type 0) (xs : List X) (s t r : X) → (P s → P t → P r) → All P (xs ++ s ∷ t ∷ [])
     → All P (xs ++ r ∷ [])
 all_merged P xs s t r both all =
-    let back = all_back P xs (s ∷ t ∷ []) all in
-    All-push P xs r (all_front P xs (s ∷ t ∷ []) all)
+    let back = All-back P xs (s ∷ t ∷ []) all in
+    All-push P xs r (All-front P xs (s ∷ t ∷ []) all)
     (both (All-head P s (t ∷ []) back) (All-head P t [] (All-tail P s (t ∷ []) back)))
 
 cover_more : (xs : List SegmentValue) (x : SegmentValue) (n : ℕ) → SegmentsCover xs n → SegmentsCover (xs ++ x ∷ []) n
@@ -73,12 +64,12 @@ gathered_pushed done ss x g order =
       );
       stand = λ listing files all.
           let P : SegmentValue → Type 0 = λ s. SegmentStandsFor listing s (files_of files s) in
-          All-push P ss x (g.stand listing files (all_front P done (x ∷ []) all)) (all_last P done x all);
+          All-push P ss x (g.stand listing files (All-front P done (x ∷ []) all)) (all_last P done x all);
       fits = λ listing all.
-          All-push (FitsSegment listing) ss x (g.fits listing (all_front (FitsSegment listing) done (x ∷ []) all))
+          All-push (FitsSegment listing) ss x (g.fits listing (All-front (FitsSegment listing) done (x ∷ []) all))
           (all_last (FitsSegment listing) done x all);
       compact = λ all.
-          All-push IsCompact ss x (g.compact (all_front IsCompact done (x ∷ []) all)) (all_last IsCompact done x all);
+          All-push IsCompact ss x (g.compact (All-front IsCompact done (x ∷ []) all)) (all_last IsCompact done x all);
     }
   where
     to : (n : ℕ) → (SegmentsCover ss n → SegmentsCover done n) → (SegmentsCover ss n ⊎ SegmentCovers x n)
@@ -103,9 +94,9 @@ gathered_within done ss x s g there within =
       );
       stand = λ listing files all.
           let P : SegmentValue → Type 0 = λ s. SegmentStandsFor listing s (files_of files s) in
-          g.stand listing files (all_front P done (x ∷ []) all);
-      fits = λ listing all. g.fits listing (all_front (FitsSegment listing) done (x ∷ []) all);
-      compact = λ all. g.compact (all_front IsCompact done (x ∷ []) all);
+          g.stand listing files (All-front P done (x ∷ []) all);
+      fits = λ listing all. g.fits listing (All-front (FitsSegment listing) done (x ∷ []) all);
+      compact = λ all. g.compact (All-front IsCompact done (x ∷ []) all);
     }
   where
     back : (n : ℕ) → (SegmentsCover done n → SegmentsCover ss n) → (SegmentsCover done n ⊎ SegmentCovers x n)
