@@ -1,4 +1,5 @@
--- What happens at a judged instant, of the events that rules refer to, is what the step to it shows.
+-- The events of a step to a judged instant, as the audit notes them by what the step shows, are those that the
+-- definitions see at that instant.
 use Rattle.std.proofs.Common.{◌≡◌, ℕ, suc, ◌<◌, ◌≤◌, Bool, true, false, not, ◌&&◌, ◌||◌, List, [], ◌∷◌, length}
 use Rattle.std.proofs.Common.{refl}
 use Rattle.std.proofs.Common.{sym, ◌∙◌, ap, cond, Option, None, Some}
@@ -58,152 +59,178 @@ use Rattle.vme_audit.specs.Event.{Event, event_of}
 use Rattle.vme_audit.specs.Event as event
 use Rattle.vme_auditor.specs.Events.{asks_by, at_step, has_happened, is_interrupt_cycle, is_interrupt_entered}
 use Rattle.vme_auditor.specs.declared.asked.AskedEvents.{AskedEvents}
-use Rattle.vme_auditor.proofs.EventFields.{any_falls, any_rises, goes_on, is_block_answered, is_interrupt_answered}
-use Rattle.vme_auditor.proofs.EventFields.{is_single_answered, on_acknowledge_fall, on_answer, on_answer_fall}
-use Rattle.vme_auditor.proofs.EventFields.{on_answer_rise, on_arbiter_fall, on_block_again, on_cycle, on_cycle_end}
-use Rattle.vme_auditor.proofs.EventFields.{on_interrupt, on_interrupt_again, on_single_again, on_slot_grant_fall}
-use Rattle.vme_auditor.proofs.EventFields.{on_slot_grant_rise, on_stretch, on_strobe_fall, on_strobe_rise, on_tenure}
-use Rattle.vme_auditor.proofs.EventFields.{on_transfer, on_write}
-use Rattle.vme_auditor.proofs.NetEvents.{arbiter_any, falls_any, grants_any, rises_any}
+use Rattle.vme_auditor.proofs.EventFields.{any_falls, any_rises, answers_again, is_block_answered}
+use Rattle.vme_auditor.proofs.EventFields.{is_interrupt_answered}
+use Rattle.vme_auditor.proofs.EventFields.{is_single_answered, acknowledge_fall-at_step, answer-at_step}
+use Rattle.vme_auditor.proofs.EventFields.{answer_fall-at_step}
+use Rattle.vme_auditor.proofs.EventFields.{answer_rise-at_step, arbiter_fall-at_step, block_again-at_step}
+use Rattle.vme_auditor.proofs.EventFields.{cycle-at_step, cycle_end-at_step}
+use Rattle.vme_auditor.proofs.EventFields.{interrupt-at_step, interrupt_again-at_step, single_again-at_step}
+use Rattle.vme_auditor.proofs.EventFields.{slot_grant_fall-at_step}
+use Rattle.vme_auditor.proofs.EventFields.{slot_grant_rise-at_step, stretch-at_step, strobe_fall-at_step}
+use Rattle.vme_auditor.proofs.EventFields.{strobe_rise-at_step, tenure-at_step}
+use Rattle.vme_auditor.proofs.EventFields.{transfer-at_step, write-at_step}
+use Rattle.vme_auditor.proofs.NetEvents.{any-arbiter_grant, any-falls_between, any-is_grant, any-rises_between}
 use Rattle.vme_auditor.proofs.Truth.{or_swapped}
 
-and_both : (a b c d : Bool) → a ≡ c → b ≡ d → (a && b) ≡ (c && d)
-and_both a b c d e f = rw (e, f) refl
+-- `&&` of equal truth values
+and-equal_parts : (a b c d : Bool) → a ≡ c → b ≡ d → (a && b) ≡ (c && d)
+and-equal_parts a b c d e f = rw (e, f) refl
 
-or_both : (a b c d : Bool) → a ≡ c → b ≡ d → (a || b) ≡ (c || d)
-or_both a b c d e f = rw (e, f) refl
+-- `||` of equal truth values
+or-equal_parts : (a b c d : Bool) → a ≡ c → b ≡ d → (a || b) ≡ (c || d)
+or-equal_parts a b c d e f = rw (e, f) refl
 
-some_if : {A : Type 0} (b : Bool) (a : A) → is_some (cond b (Some a) None) ≡ b
-some_if true a = refl
-some_if false a = refl
+-- an option that has a value under the condition `b` has one exactly if `b` holds
+is_some-cond : {A : Type 0} (b : Bool) (a : A) → is_some (cond b (Some a) None) ≡ b
+is_some-cond true a = refl
+is_some-cond false a = refl
 
-true_if : (b w : Bool) → option_map_or (λ (w : Bool). w) (cond b (Some w) None) false ≡ (b && w)
-true_if true w = refl
-true_if false w = refl
+-- an option that has the value `w` under the condition `b` holds, with `false` for none, exactly if both hold
+option_map_or-cond : (b w : Bool) → option_map_or (λ (w : Bool). w) (cond b (Some w) None) false ≡ (b && w)
+option_map_or-cond true w = refl
+option_map_or-cond false w = refl
 
-map_some : {A B : Type 0} (f : A → B) (o : Option A) → is_some (option_map f o) ≡ is_some o
-map_some f None = refl
-map_some f (Some a) = refl
+-- applying a function to the value of an option leaves whether there is one
+is_some-option_map : {A B : Type 0} (f : A → B) (o : Option A) → is_some (option_map f o) ≡ is_some o
+is_some-option_map f None = refl
+is_some-option_map f (Some a) = refl
 
-if_some : (b : Bool) (o : Option ℕ) → is_some (cond b o None) ≡ (b && is_some o)
-if_some true o = refl
-if_some false o = refl
+-- the option `o` under the condition `b` has a value exactly if `b` holds and `o` has one
+is_some-cond_option : (b : Bool) (o : Option ℕ) → is_some (cond b o None) ≡ (b && is_some o)
+is_some-cond_option true o = refl
+is_some-cond_option false o = refl
 
 -- for a property `is` of cycles with an answer: it holds after a step exactly if it held before and no cycle starts
-entered_goes : (is : CyclePhase → Bool) → ((k : Class) → is (unanswered_of k) ≡ false)
+cycle_entered-answered : (is : CyclePhase → Bool) → ((k : Class) → is (unanswered_of k) ≡ false)
     → (c : CyclePhase) (s : Option CycleStart)
     → (not (is_some s) && is c) ≡ is (cycle_entered c s)
-entered_goes is fresh c None = refl
-entered_goes is fresh c (Some s) = sym (fresh s.class)
+cycle_entered-answered is fresh c None = refl
+cycle_entered-answered is fresh c (Some s) = sym (fresh s.class)
 
-single_fresh : (k : Class) → is_single_answered (unanswered_of k) ≡ false
-single_fresh class.S = refl
-single_fresh class.K = refl
-single_fresh class.I = refl
-single_fresh class.F = refl
+-- a cycle without an answer is no single cycle with one
+is_single_answered-unanswered : (k : Class) → is_single_answered (unanswered_of k) ≡ false
+is_single_answered-unanswered class.S = refl
+is_single_answered-unanswered class.K = refl
+is_single_answered-unanswered class.I = refl
+is_single_answered-unanswered class.F = refl
 
-block_fresh : (k : Class) → is_block_answered (unanswered_of k) ≡ false
-block_fresh class.S = refl
-block_fresh class.K = refl
-block_fresh class.I = refl
-block_fresh class.F = refl
+-- a cycle without an answer is no block transfer with one
+is_block_answered-unanswered : (k : Class) → is_block_answered (unanswered_of k) ≡ false
+is_block_answered-unanswered class.S = refl
+is_block_answered-unanswered class.K = refl
+is_block_answered-unanswered class.I = refl
+is_block_answered-unanswered class.F = refl
 
-interrupt_fresh : (k : Class) → is_interrupt_answered (unanswered_of k) ≡ false
-interrupt_fresh class.S = refl
-interrupt_fresh class.K = refl
-interrupt_fresh class.I = refl
-interrupt_fresh class.F = refl
+-- a cycle without an answer is no interrupt acknowledge with one
+is_interrupt_answered-unanswered : (k : Class) → is_interrupt_answered (unanswered_of k) ≡ false
+is_interrupt_answered-unanswered class.S = refl
+is_interrupt_answered-unanswered class.K = refl
+is_interrupt_answered-unanswered class.I = refl
+is_interrupt_answered-unanswered class.F = refl
 
-interrupt_class : (k : Class) → is_interrupt k ≡ is_interrupt_acknowledge (unanswered_of k)
-interrupt_class class.S = refl
-interrupt_class class.K = refl
-interrupt_class class.I = refl
-interrupt_class class.F = refl
+-- a class is that of an interrupt acknowledge exactly if its cycle without an answer is one
+is_interrupt-unanswered : (k : Class) → is_interrupt k ≡ is_interrupt_acknowledge (unanswered_of k)
+is_interrupt-unanswered class.S = refl
+is_interrupt-unanswered class.K = refl
+is_interrupt-unanswered class.I = refl
+is_interrupt-unanswered class.F = refl
 
-interrupt_cycle : (c : CyclePhase) → is_interrupt_cycle c ≡ is_interrupt_acknowledge c
-interrupt_cycle Free = refl
-interrupt_cycle Single = refl
-interrupt_cycle SingleRead = refl
-interrupt_cycle SingleDone = refl
-interrupt_cycle Block = refl
-interrupt_cycle BlockReading = refl
-interrupt_cycle BlockWriting = refl
-interrupt_cycle Interrupt = refl
-interrupt_cycle InterruptDone = refl
+-- the auditor's test for an interrupt acknowledge is that of vme_dtb
+is_interrupt_cycle-acknowledge : (c : CyclePhase) → is_interrupt_cycle c ≡ is_interrupt_acknowledge c
+is_interrupt_cycle-acknowledge Free = refl
+is_interrupt_cycle-acknowledge Single = refl
+is_interrupt_cycle-acknowledge SingleRead = refl
+is_interrupt_cycle-acknowledge SingleDone = refl
+is_interrupt_cycle-acknowledge Block = refl
+is_interrupt_cycle-acknowledge BlockReading = refl
+is_interrupt_cycle-acknowledge BlockWriting = refl
+is_interrupt_cycle-acknowledge Interrupt = refl
+is_interrupt_cycle-acknowledge InterruptDone = refl
 
-interrupt_entered : (c : CyclePhase) (s : Option CycleStart) → is_interrupt_entered c s ≡ is_interrupt_acknowledge
+-- the cycle after a step, of which `s` is the start if one starts, is an interrupt acknowledge by both tests, or by
+-- none
+is_interrupt_entered-acknowledge : (c : CyclePhase) (s : Option CycleStart) → is_interrupt_entered c s
+    ≡ is_interrupt_acknowledge
     (cycle_entered c s)
-interrupt_entered c None = interrupt_cycle c
-interrupt_entered c (Some s) = interrupt_class s.class
+is_interrupt_entered-acknowledge c None = is_interrupt_cycle-acknowledge c
+is_interrupt_entered-acknowledge c (Some s) = is_interrupt-unanswered s.class
 
-acknowledged_is : (c : CyclePhase) → is_answered_interrupt_acknowledge c ≡ is_interrupt_answered c
-acknowledged_is Free = refl
-acknowledged_is Single = refl
-acknowledged_is SingleRead = refl
-acknowledged_is SingleDone = refl
-acknowledged_is Block = refl
-acknowledged_is BlockReading = refl
-acknowledged_is BlockWriting = refl
-acknowledged_is Interrupt = refl
-acknowledged_is InterruptDone = refl
+-- the auditor's test for an interrupt acknowledge with an answer is that of vme_dtb
+is_interrupt_answered-acknowledge : (c : CyclePhase) → is_answered_interrupt_acknowledge c ≡ is_interrupt_answered c
+is_interrupt_answered-acknowledge Free = refl
+is_interrupt_answered-acknowledge Single = refl
+is_interrupt_answered-acknowledge SingleRead = refl
+is_interrupt_answered-acknowledge SingleDone = refl
+is_interrupt_answered-acknowledge Block = refl
+is_interrupt_answered-acknowledge BlockReading = refl
+is_interrupt_answered-acknowledge BlockWriting = refl
+is_interrupt_answered-acknowledge Interrupt = refl
+is_interrupt_answered-acknowledge InterruptDone = refl
 
 module _ (t : Trace) (stretch : Stretch) where
-  single_later : (c : Class) (rs : List ℕ) → (is_single c && has_earlier_answer rs) ≡ is_single_answered
+  -- a cycle of class `c` with the answers `rs` is single and has an answer exactly if its phase says so
+  is_single_answered-of_answers : (c : Class) (rs : List ℕ) → (is_single c && has_earlier_answer rs)
+      ≡ is_single_answered
       (told t stretch c rs)
-  single_later class.S [] = refl
-  single_later class.S (r ∷ []) = by_write (answers_write t stretch r)
+  is_single_answered-of_answers class.S [] = refl
+  is_single_answered-of_answers class.S (r ∷ []) = by_write (answers_write t stretch r)
     where
       by_write : (b : Bool) → true ≡ is_single_answered (cond b SingleDone SingleRead)
       by_write true = refl
       by_write false = refl
-  single_later class.S (r ∷ q ∷ rs) = refl
-  single_later class.K [] = refl
-  single_later class.K (r ∷ rs) = by_write (answers_write t stretch r)
+  is_single_answered-of_answers class.S (r ∷ q ∷ rs) = refl
+  is_single_answered-of_answers class.K [] = refl
+  is_single_answered-of_answers class.K (r ∷ rs) = by_write (answers_write t stretch r)
     where
       by_write : (b : Bool) → false ≡ is_single_answered (cond b BlockWriting BlockReading)
       by_write true = refl
       by_write false = refl
-  single_later class.I [] = refl
-  single_later class.I (r ∷ rs) = refl
-  single_later class.F rs = refl
+  is_single_answered-of_answers class.I [] = refl
+  is_single_answered-of_answers class.I (r ∷ rs) = refl
+  is_single_answered-of_answers class.F rs = refl
 
-  block_later : (c : Class) (rs : List ℕ) → (is_block_class c && has_earlier_answer rs)
+  -- a cycle of class `c` with the answers `rs` is a block transfer and has an answer exactly if its phase says so
+  is_block_answered-of_answers : (c : Class) (rs : List ℕ) → (is_block_class c && has_earlier_answer rs)
       ≡ is_block_answered (told t stretch c rs)
-  block_later class.S [] = refl
-  block_later class.S (r ∷ []) = by_write (answers_write t stretch r)
+  is_block_answered-of_answers class.S [] = refl
+  is_block_answered-of_answers class.S (r ∷ []) = by_write (answers_write t stretch r)
     where
       by_write : (b : Bool) → false ≡ is_block_answered (cond b SingleDone SingleRead)
       by_write true = refl
       by_write false = refl
-  block_later class.S (r ∷ q ∷ rs) = refl
-  block_later class.K [] = refl
-  block_later class.K (r ∷ rs) = by_write (answers_write t stretch r)
+  is_block_answered-of_answers class.S (r ∷ q ∷ rs) = refl
+  is_block_answered-of_answers class.K [] = refl
+  is_block_answered-of_answers class.K (r ∷ rs) = by_write (answers_write t stretch r)
     where
       by_write : (b : Bool) → true ≡ is_block_answered (cond b BlockWriting BlockReading)
       by_write true = refl
       by_write false = refl
-  block_later class.I [] = refl
-  block_later class.I (r ∷ rs) = refl
-  block_later class.F rs = refl
+  is_block_answered-of_answers class.I [] = refl
+  is_block_answered-of_answers class.I (r ∷ rs) = refl
+  is_block_answered-of_answers class.F rs = refl
 
-  in_single : (j : ℕ) → in_cycle t stretch (λ i. is_single (class_at t stretch i) && has_earlier_answer
+  -- the cycle at instant j is single and has an answer before j exactly if its phase before j says so
+  in_cycle-single_answered : (j : ℕ) → in_cycle t stretch (λ i. is_single (class_at t stretch i) && has_earlier_answer
       (answers_of t stretch i j)) j
       ≡ is_single_answered (cycle_before t stretch j)
   unfolding in_cycle
-  in_single j = by_cycle (cycle_of t stretch j)
+  in_cycle-single_answered j = by_cycle (cycle_of t stretch j)
     where
       by_cycle : (o : Option ℕ)
           → option_map_or (λ i. is_single (class_at t stretch i) && has_earlier_answer (answers_of t stretch i j)) o
           false
           ≡ is_single_answered (told_of t stretch o j)
       by_cycle None = refl
-      by_cycle (Some i) = single_later (class_at t stretch i) (answers_of t stretch i j)
+      by_cycle (Some i) = is_single_answered-of_answers (class_at t stretch i) (answers_of t stretch i j)
 
-  in_block : (j : ℕ) → in_cycle t stretch (λ i. is_block_class (class_at t stretch i) && has_earlier_answer
+  -- the cycle at instant j is a block transfer and has an answer before j exactly if its phase before j says so
+  in_cycle-block_answered : (j : ℕ)
+      → in_cycle t stretch (λ i. is_block_class (class_at t stretch i) && has_earlier_answer
       (answers_of t stretch i j)) j
       ≡ is_block_answered (cycle_before t stretch j)
   unfolding in_cycle
-  in_block j = by_cycle (cycle_of t stretch j)
+  in_cycle-block_answered j = by_cycle (cycle_of t stretch j)
     where
       by_cycle : (o : Option ℕ)
           → option_map_or (λ i. is_block_class (class_at t stretch i) && has_earlier_answer (answers_of t stretch i j))
@@ -211,173 +238,220 @@ module _ (t : Trace) (stretch : Stretch) where
           false
           ≡ is_block_answered (told_of t stretch o j)
       by_cycle None = refl
-      by_cycle (Some i) = block_later (class_at t stretch i) (answers_of t stretch i j)
+      by_cycle (Some i) = is_block_answered-of_answers (class_at t stretch i) (answers_of t stretch i j)
 
+-- the step from instant n to n + 1, both in the stretch, in a well-formed recording; `m` is the memory of the handshake
+-- monitor at n. Each lemma with `event` says that an event is shown by the step exactly if it happens at n + 1
 module _ (t : Trace) (ok : malformed_step t ≡ None) (few : t.opening.slots ≤ 21) (stretch : Stretch)
     (facts : IsStretch t stretch)
     (n : ℕ) (from : stretch.start ≤ n) (before : suc n < stretch.end) (within : n < length t.steps)
     (m : HandshakeMemory)
     (holds : Holds t stretch n m) where
+  -- the levels before the step
   abbrev v : Levels
   v = old t n
 
+  -- the levels after the step
   abbrev w : Levels
   w = new t n
 
+  -- the changes of the step
   abbrev cs : List Change
   cs = changes_of (slice_get t.steps n)
 
-  abbrev seen : Edges
-  seen = edges_between v w
+  -- the edges of the step
+  abbrev step_edges : Edges
+  step_edges = edges_between v w
 
+  -- the marks that the handshake monitor shows at the step
   abbrev pub shown : StepMarks
-  shown = (dtb_next m v w seen).shown
+  shown = (dtb_next m v w step_edges).shown
 
-  abbrev inside : TransferPhase
-  inside = entered m.transfer v w
+  -- the phase of the transfer after the step, before an answer counts
+  abbrev transfer_entered : TransferPhase
+  transfer_entered = entered m.transfer v w
 
+  -- a cycle starts
   cycle_event : is_some shown.cycle ≡ cycle_starts t stretch (suc n)
   cycle_event =
-      some_if (falls_between v w AS) (cycle_start_of w) ∙ sym (cycle_starts_is t stretch facts.reads n from before m
+      is_some-cond (falls_between v w AS) (cycle_start_of w)
+      ∙ sym (cycle_starts_is t stretch facts.reads n from before m
       holds)
 
+  -- the address strobe rises
   cycle_end_event : rises_between v w AS ≡ rises t AS (suc n)
   cycle_end_event = sym (rises_is t n AS)
 
+  -- a transfer starts
   transfer_event : is_some shown.transfer ≡ transfer_starts t stretch (suc n)
   transfer_event =
-      some_if (starts_between v w) (is_low (level_at w WRITE)) ∙ sym (starts_is t n stretch from before)
+      is_some-cond (starts_between v w) (is_low (level_at w WRITE)) ∙ sym (starts_is t n stretch from before)
 
+  -- a write starts
   write_event : option_map_or (λ (w : Bool). w) shown.transfer false ≡ write_starts t stretch (suc n)
   unfolding is_write low
   write_event =
-      true_if (starts_between v w) (is_low (level_at w WRITE))
+      option_map_or-cond (starts_between v w) (is_low (level_at w WRITE))
       ∙ ap (λ b. b && is_low (level_at w WRITE)) (sym (starts_is t n stretch from before))
 
+  -- the step is within a transfer that started before
   within_event : is_within m.transfer ≡ within_transfer t stretch (suc n)
   within_event = sym (started_is t stretch facts.reads n from before m.transfer holds.transfer)
 
+  -- a strobe rises within a transfer
   strobe_rise_event : (is_within m.transfer && strobe_rises_between v w)
       ≡ (strobe_rises t (suc n) && within_transfer t stretch (suc n))
   strobe_rise_event =
       and_comm (is_within m.transfer) (strobe_rises_between v w)
-      ∙ and_both _ _ _ _ (or_both _ _ _ _ (sym (rises_is t n DS0)) (sym (rises_is t n DS1))) within_event
+      ∙ and-equal_parts _ _ _ _ (or-equal_parts _ _ _ _ (sym (rises_is t n DS0)) (sym (rises_is t n DS1))) within_event
 
+  -- a strobe falls within a transfer
   strobe_fall_event : (is_within m.transfer && strobe_falls_between v w)
       ≡ (strobe_falls t (suc n) && within_transfer t stretch (suc n))
   strobe_fall_event =
       and_comm (is_within m.transfer) (strobe_falls_between v w)
-      ∙ and_both _ _ _ _ (or_both _ _ _ _ (sym (falls_is t n DS0)) (sym (falls_is t n DS1))) within_event
+      ∙ and-equal_parts _ _ _ _ (or-equal_parts _ _ _ _ (sym (falls_is t n DS0)) (sym (falls_is t n DS1))) within_event
 
+  -- an answer line falls
   answer_fall_event : answer_between v w ≡ answer_falls t (suc n)
-  answer_fall_event = or_both _ _ _ _ (sym (falls_is t n DTACK)) (sym (falls_is t n BERR))
+  answer_fall_event = or-equal_parts _ _ _ _ (sym (falls_is t n DTACK)) (sym (falls_is t n BERR))
 
+  -- an answer line rises
   answer_rise_event : (rises_between v w DTACK || rises_between v w BERR) ≡ answer_rises t (suc n)
-  answer_rise_event = or_both _ _ _ _ (sym (rises_is t n DTACK)) (sym (rises_is t n BERR))
+  answer_rise_event = or-equal_parts _ _ _ _ (sym (rises_is t n DTACK)) (sym (rises_is t n BERR))
 
+  -- a transfer is answered
   answer_event : is_some shown.answer ≡ is_answer t stretch (suc n)
   answer_event =
-      map_some _ (answer_in inside seen) ∙ if_some (is_unanswered inside) seen.answer_fall
+      is_some-option_map _ (answer_in transfer_entered step_edges)
+      ∙ is_some-cond_option (is_unanswered transfer_entered) step_edges.answer_fall
       ∙ sym (answer_is t stretch facts.reads n from before m holds)
 
-  cycle_here : cycle_before t stretch (suc n) ≡ cycle_entered m.cycle shown.cycle
-  cycle_here = here_is t stretch facts.reads n from before m holds
+  -- the phase of the cycle at n + 1, before an answer there, is that of the memory, or that of the cycle that starts
+  cycle_before-entered : cycle_before t stretch (suc n) ≡ cycle_entered m.cycle shown.cycle
+  cycle_before-entered = here_is t stretch facts.reads n from before m holds
 
+  -- a transfer of an interrupt acknowledge is answered
   interrupt_event : (is_some shown.answer && is_interrupt_entered m.cycle shown.cycle)
       ≡ answered_in_class t stretch is_interrupt (suc n)
   interrupt_event =
-      and_both _ _ _ _ answer_event
-      (interrupt_entered m.cycle shown.cycle ∙ ap is_interrupt_acknowledge (sym cycle_here)
+      and-equal_parts _ _ _ _ answer_event
+      (is_interrupt_entered-acknowledge m.cycle shown.cycle ∙ ap is_interrupt_acknowledge (sym cycle_before-entered)
       ∙ sym (in_interrupt_acknowledge t stretch (suc n)))
 
-  -- an answer in a cycle that had one before
+  -- a transfer is answered in a cycle of a chosen class that had an answer before, if the phase of the cycle says which
+  -- cycles these are
   again_event : (is : CyclePhase → Bool) (chosen : Class → Bool) → ((k : Class) → is (unanswered_of k) ≡ false)
       → in_cycle t stretch (λ i. chosen (class_at t stretch i) && has_earlier_answer (answers_of t stretch i (suc n)))
       (suc n)
       ≡ is (cycle_before t stretch (suc n))
-      → goes_on is m.cycle shown.cycle shown.answer ≡ answered_again_in_class t stretch chosen (suc n)
-  again_event is chosen fresh so =
-      and_both _ _ _ _ answer_event
-      (entered_goes is fresh m.cycle shown.cycle ∙ ap is (sym cycle_here) ∙ sym so)
+      → answers_again is m.cycle shown.cycle shown.answer ≡ answered_again_in_class t stretch chosen (suc n)
+  again_event is chosen fresh answered_before =
+      and-equal_parts _ _ _ _ answer_event
+      (cycle_entered-answered is fresh m.cycle shown.cycle ∙ ap is (sym cycle_before-entered) ∙ sym answered_before)
 
+  -- a tenure starts
   tenure_event : falls_between v w BBSY ≡ tenure_starts t stretch (suc n)
   unfolding tenure_starts
   tenure_event = sym (falls_is t n BBSY) ∙ ap (λ b. b && falls t BBSY (suc n)) (sym (judged t n stretch from before))
 
-  -- edges of nets
-  narrow : v.slots ≤ 21
-  narrow = rw (slots_at t n) few
+  -- the levels before the step have at most 21 slots, as the opening has
+  few_slots : v.slots ≤ 21
+  few_slots = rw (slots_at t n) few
 
-  after_is : changed v cs ≡ w
-  after_is = sym (levels_step t n within)
+  -- the changes make the levels after the step from those before
+  changed-after : changed v cs ≡ w
+  changed-after = sym (levels_step t n within)
 
-  nets_fall : (chosen : ℕ → Bool) (e : AskedEvents) → any_falls e m v w cs shown chosen
+  -- some change of the step lets a chosen line fall exactly if a chosen line falls at n + 1
+  any_falls-at : (chosen : ℕ → Bool) (e : AskedEvents) → any_falls e m v w cs shown chosen
       ≡ any (λ l. chosen l && falls t l (suc n)) 0 line_count
-  nets_fall chosen e =
-      ap (λ (w : Levels). any_falls e m v w cs shown chosen) (sym after_is)
-      ∙ sym (falls_any v narrow cs (changes_fit t n ok within) chosen)
-      ∙ ap (λ (w : Levels). any (λ l. chosen l && falls_between v w l) 0 line_count) after_is
+  any_falls-at chosen e =
+      ap (λ (w : Levels). any_falls e m v w cs shown chosen) (sym changed-after)
+      ∙ sym (any-falls_between v few_slots cs (changes_fit t n ok within) chosen)
+      ∙ ap (λ (w : Levels). any (λ l. chosen l && falls_between v w l) 0 line_count) changed-after
       ∙ any-alike (λ l. chosen l && falls_between v w l) (λ l. chosen l && falls t l (suc n)) 0 line_count
       (λ l a b. ap (λ x. chosen l && x) (sym (falls_is t n l)))
 
-  nets_rise : (chosen : ℕ → Bool) (e : AskedEvents) → any_rises e m v w cs shown chosen
+  -- some change of the step lets a chosen line rise exactly if a chosen line rises at n + 1
+  any_rises-at : (chosen : ℕ → Bool) (e : AskedEvents) → any_rises e m v w cs shown chosen
       ≡ any (λ l. chosen l && rises t l (suc n)) 0 line_count
-  nets_rise chosen e =
-      ap (λ (w : Levels). any_rises e m v w cs shown chosen) (sym after_is)
-      ∙ sym (rises_any v narrow cs (changes_fit t n ok within) chosen)
-      ∙ ap (λ (w : Levels). any (λ l. chosen l && rises_between v w l) 0 line_count) after_is
+  any_rises-at chosen e =
+      ap (λ (w : Levels). any_rises e m v w cs shown chosen) (sym changed-after)
+      ∙ sym (any-rises_between v few_slots cs (changes_fit t n ok within) chosen)
+      ∙ ap (λ (w : Levels). any (λ l. chosen l && rises_between v w l) 0 line_count) changed-after
       ∙ any-alike (λ l. chosen l && rises_between v w l) (λ l. chosen l && rises t l (suc n)) 0 line_count
       (λ l a b. ap (λ x. chosen l && x) (sym (rises_is t n l)))
 
+  -- the arbiter grants
   arbiter_event : (e : AskedEvents) → any_falls e m v w cs shown is_arbiter_grant ≡ grant_falls t (suc n)
   unfolding grant_falls
-  arbiter_event e = nets_fall is_arbiter_grant e ∙ arbiter_any (λ l. falls t l (suc n))
+  arbiter_event e = any_falls-at is_arbiter_grant e ∙ any-arbiter_grant (λ l. falls t l (suc n))
 
+  -- the arbiter or a slot grants
   grant_event : (e : AskedEvents)
       → (any_falls e m v w cs shown is_arbiter_grant || any_falls e m v w cs shown is_slot_grant)
       ≡ any_grant_falls t (suc n)
-  grant_event e = grants_any v w cs ∙ nets_fall is_grant e
+  grant_event e = any-is_grant v w cs ∙ any_falls-at is_grant e
 
   module _ (e : AskedEvents) where
-    abbrev more : AskedEvents
-    more = at_step e m v w cs shown
+    -- the events that happened, after the step
+    abbrev after_step : AskedEvents
+    after_step = at_step e m v w cs shown
 
-    add : (a b c d : Bool) → a ≡ (b || c) → c ≡ d → a ≡ (b || d)
-    add a b c d p q = p ∙ ap (λ x. b || x) q
+    -- the right side of `||` may be replaced by an equal one
+    or-equal_right : (a b c d : Bool) → a ≡ (b || c) → c ≡ d → a ≡ (b || d)
+    or-equal_right a b c d p q = p ∙ ap (λ x. b || x) q
 
-    by_event : (v : Event) → has_happened more v ≡ (has_happened e v || event_happens t stretch v (suc n))
-    by_event event.stretch = on_stretch e m v w cs shown ∙ sym (or-false e.stretch)
-    by_event event.cycle = add _ _ _ _ (on_cycle e m v w cs shown) cycle_event
-    by_event event.cycle_end = add _ _ _ _ (on_cycle_end e m v w cs shown) cycle_end_event
-    by_event event.transfer = add _ _ _ _ (on_transfer e m v w cs shown) transfer_event
-    by_event event.write = add _ _ _ _ (on_write e m v w cs shown) write_event
-    by_event event.strobe_rise = add _ _ _ _ (on_strobe_rise e m v w cs shown) strobe_rise_event
-    by_event event.strobe_fall = add _ _ _ _ (on_strobe_fall e m v w cs shown) strobe_fall_event
-    by_event event.answer_fall = add _ _ _ _ (on_answer_fall e m v w cs shown) answer_fall_event
-    by_event event.answer_rise = add _ _ _ _ (on_answer_rise e m v w cs shown) answer_rise_event
-    by_event event.answer = add _ _ _ _ (on_answer e m v w cs shown) answer_event
-    by_event event.single_again =
-        add _ _ _ _ (on_single_again e m v w cs shown)
-        (again_event is_single_answered is_single single_fresh (in_single t stretch (suc n)))
-    by_event event.block_again =
-        add _ _ _ _ (on_block_again e m v w cs shown)
-        (again_event is_block_answered is_block_class block_fresh (in_block t stretch (suc n)))
-    by_event event.interrupt = add _ _ _ _ (on_interrupt e m v w cs shown) interrupt_event
-    by_event event.interrupt_again =
-        add _ _ _ _ (on_interrupt_again e m v w cs shown)
-        (again_event is_interrupt_answered is_interrupt interrupt_fresh
-        (in_answered_interrupt_acknowledge t stretch (suc n) ∙ acknowledged_is (cycle_before t stretch (suc n))))
-    by_event event.slot_grant_fall = add _ _ _ _ (on_slot_grant_fall e m v w cs shown) (nets_fall is_slot_grant e)
-    by_event event.slot_grant_rise = add _ _ _ _ (on_slot_grant_rise e m v w cs shown) (nets_rise is_slot_grant e)
-    by_event event.arbiter_fall = add _ _ _ _ (on_arbiter_fall e m v w cs shown) (arbiter_event e)
-    by_event event.grant_fall =
-        or_both _ _ _ _ (on_arbiter_fall e m v w cs shown) (on_slot_grant_fall e m v w cs shown)
+    -- an event has happened after the step exactly if it had before, or happens at n + 1
+    has_happened-after_step : (v : Event) → has_happened after_step v
+        ≡ (has_happened e v || event_happens t stretch v (suc n))
+    has_happened-after_step event.stretch = stretch-at_step e m v w cs shown ∙ sym (or-false e.stretch)
+    has_happened-after_step event.cycle = or-equal_right _ _ _ _ (cycle-at_step e m v w cs shown) cycle_event
+    has_happened-after_step event.cycle_end =
+        or-equal_right _ _ _ _ (cycle_end-at_step e m v w cs shown) cycle_end_event
+    has_happened-after_step event.transfer = or-equal_right _ _ _ _ (transfer-at_step e m v w cs shown) transfer_event
+    has_happened-after_step event.write = or-equal_right _ _ _ _ (write-at_step e m v w cs shown) write_event
+    has_happened-after_step event.strobe_rise =
+        or-equal_right _ _ _ _ (strobe_rise-at_step e m v w cs shown) strobe_rise_event
+    has_happened-after_step event.strobe_fall =
+        or-equal_right _ _ _ _ (strobe_fall-at_step e m v w cs shown) strobe_fall_event
+    has_happened-after_step event.answer_fall =
+        or-equal_right _ _ _ _ (answer_fall-at_step e m v w cs shown) answer_fall_event
+    has_happened-after_step event.answer_rise =
+        or-equal_right _ _ _ _ (answer_rise-at_step e m v w cs shown) answer_rise_event
+    has_happened-after_step event.answer = or-equal_right _ _ _ _ (answer-at_step e m v w cs shown) answer_event
+    has_happened-after_step event.single_again =
+        or-equal_right _ _ _ _ (single_again-at_step e m v w cs shown)
+        (again_event is_single_answered is_single is_single_answered-unanswered
+        (in_cycle-single_answered t stretch (suc n)))
+    has_happened-after_step event.block_again =
+        or-equal_right _ _ _ _ (block_again-at_step e m v w cs shown)
+        (again_event is_block_answered is_block_class is_block_answered-unanswered
+        (in_cycle-block_answered t stretch (suc n)))
+    has_happened-after_step event.interrupt =
+        or-equal_right _ _ _ _ (interrupt-at_step e m v w cs shown) interrupt_event
+    has_happened-after_step event.interrupt_again =
+        or-equal_right _ _ _ _ (interrupt_again-at_step e m v w cs shown)
+        (again_event is_interrupt_answered is_interrupt is_interrupt_answered-unanswered
+        (in_answered_interrupt_acknowledge t stretch (suc n)
+        ∙ is_interrupt_answered-acknowledge (cycle_before t stretch (suc n))))
+    has_happened-after_step event.slot_grant_fall =
+        or-equal_right _ _ _ _ (slot_grant_fall-at_step e m v w cs shown) (any_falls-at is_slot_grant e)
+    has_happened-after_step event.slot_grant_rise =
+        or-equal_right _ _ _ _ (slot_grant_rise-at_step e m v w cs shown) (any_rises-at is_slot_grant e)
+    has_happened-after_step event.arbiter_fall =
+        or-equal_right _ _ _ _ (arbiter_fall-at_step e m v w cs shown) (arbiter_event e)
+    has_happened-after_step event.grant_fall =
+        or-equal_parts _ _ _ _ (arbiter_fall-at_step e m v w cs shown) (slot_grant_fall-at_step e m v w cs shown)
         ∙ or_swapped e.arbiter_fall (any_falls e m v w cs shown is_arbiter_grant) e.slot_grant_fall
         (any_falls e m v w cs shown is_slot_grant)
         ∙ ap (λ x. (e.arbiter_fall || e.slot_grant_fall) || x) (grant_event e)
-    by_event event.tenure = add _ _ _ _ (on_tenure e m v w cs shown) tenure_event
-    by_event event.acknowledge_fall = add _ _ _ _ (on_acknowledge_fall e m v w cs shown) (nets_fall is_slot_iack e)
+    has_happened-after_step event.tenure = or-equal_right _ _ _ _ (tenure-at_step e m v w cs shown) tenure_event
+    has_happened-after_step event.acknowledge_fall =
+        or-equal_right _ _ _ _ (acknowledge_fall-at_step e m v w cs shown) (any_falls-at is_slot_iack e)
 
-    pub asked_here : (r : Rule) → asks_by more r ≡ (asks_by e r || happens t stretch r (suc n))
+    -- a rule is asked after the step exactly if it was before, or its event happens at n + 1
+    pub asks_by-after_step : (r : Rule) → asks_by after_step r ≡ (asks_by e r || happens t stretch r (suc n))
     unfolding happens
-    asked_here r = by_event (event_of r)
+    asks_by-after_step r = has_happened-after_step (event_of r)

@@ -47,8 +47,8 @@ use Rattle.vme_auditor.specs.Audited.{events_by, events_in, with_stretch}
 use Rattle.vme_auditor.specs.Events.{asks_by, at_step}
 use Rattle.vme_auditor.specs.Memories.{handshake_at, known_at}
 use Rattle.vme_auditor.specs.declared.asked.AskedEvents.{AskedEvents}
-use Rattle.vme_auditor.proofs.AskedAt.{asked_here, shown}
-use Rattle.vme_auditor.proofs.EventFields.{on_stretch}
+use Rattle.vme_auditor.proofs.AskedAt.{asks_by-after_step, shown}
+use Rattle.vme_auditor.proofs.EventFields.{stretch-at_step}
 
 pub any_both : {A : Type 0} (p : A → Bool) (xs ys : List A) → list_any p (xs ++ ys) ≡ (list_any p xs || list_any p ys)
 any_both p [] ys = refl
@@ -104,7 +104,7 @@ starts_shown m v w cs = observed_starts m v w (end_among w cs) (touches_control 
 -- the events of a step leave `stretch` as it is
 in_stretch : (e : AskedEvents) (m : StretchPhase HandshakeMemory) (o : Option End) (v w : Levels) (cs : List Change)
     (kinds : StepMarks) → (events_in e m o v w cs kinds).stretch ≡ e.stretch
-in_stretch e (phase.InStretch p) None v w cs kinds = on_stretch e p v w cs kinds
+in_stretch e (phase.InStretch p) None v w cs kinds = stretch-at_step e p v w cs kinds
 in_stretch e (phase.InStretch p) (Some o) v w cs kinds = refl
 in_stretch e phase.Waiting o v w cs kinds = refl
 in_stretch e phase.Reset o v w cs kinds = refl
@@ -341,7 +341,7 @@ module _ (t : Trace) (ok : malformed_step t ≡ None) (few : t.opening.slots ≤
           judged_on : HaveHappened e (suc n)
           judged_on =
               next_is ∙ ap (λ (e : AskedEvents). asks_by e r) now_is
-              ∙ asked_here t ok few here facts n work.running.from on.before within p holds before r
+              ∙ asks_by-after_step t ok few here facts n work.running.from on.before within p holds before r
               ∙ ap (λ b. b || happens t here r (suc n)) (so_far ∙ ap (λ b. asks_by e r || b) (past_and_here n))
               ∙ or_assoc (asks_by e r) (list_any (happened_by n) work.past || happened_by n here)
               (happens t here r (suc n))
