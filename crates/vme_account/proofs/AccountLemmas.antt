@@ -35,7 +35,7 @@ use Rattle.vme_summary.proofs.MarkedListing.{marked_is_listed}
 use Rattle.vme_auditor.specs.JoinedMarks.{joined_marks, kinds_shown}
 use Rattle.vme_auditor.specs.Memories.{fault_at, memories_at, memories_next}
 use Rattle.vme_auditor.specs.declared.memories.Memories.{Memories}
-use Rattle.vme_auditor.proofs.AskedParts.{KnowsStart, known_left, quiet_memories}
+use Rattle.vme_auditor.proofs.AskedParts.{KnowsStart, known-unbroken, unbroken_memories}
 use Rattle.vme_auditor.proofs.FirstBreaks.{named_is_least, named_on}
 use Rattle.vme_auditor.proofs.ReturnedBreaks.{FindsFirst}
 use Rattle.vme_auditor.proofs.WholeRecordings.{first_determines_verdict, first_is}
@@ -77,8 +77,8 @@ later o n m ms s f =
 -- if no break is found, the monitors' memories are those after all steps
 quiet-reached : (x : List Step) (o : Levels) (n : ℕ) (m : Memories) (ms : List Mark)
     → (fold with_step (unbroken_at o n m ms) x).found ≡ None
-    → (fold with_step (unbroken_at o n m ms) x).memories ≡ quiet_memories m o x
-unfolding quiet_memories
+    → (fold with_step (unbroken_at o n m ms) x).memories ≡ unbroken_memories m o x
+unfolding unbroken_memories
 quiet-reached [] o n m ms none = refl
 quiet-reached (s ∷ x) o n m ms none =
     by_fault (fault_at m o (changed o s.changes) s.changes (n + 1) s.time) none
@@ -88,9 +88,9 @@ quiet-reached (s ∷ x) o n m ms none =
     by_fault : (f : Option Break) → (fold with_step (later o n m ms s f) x).found ≡ None
         → ((fold with_step (later o n m ms s None) x).found ≡ None
         → (fold with_step (later o n m ms s None) x).memories
-        ≡ quiet_memories (memories_next m o (changed o s.changes) s.changes) (changed o s.changes) x)
+        ≡ unbroken_memories (memories_next m o (changed o s.changes) s.changes) (changed o s.changes) x)
         → (fold with_step (later o n m ms s f) x).memories
-        ≡ quiet_memories (memories_next m o (changed o s.changes) s.changes) (changed o s.changes) x
+        ≡ unbroken_memories (memories_next m o (changed o s.changes) s.changes) (changed o s.changes) x
     by_fault (Some b) none rest = absurd (cc (sym none ∙ found_stays x (later o n m ms s (Some b)) b refl))
     by_fault None none rest = rest none
 
@@ -101,7 +101,7 @@ unfolding reached
 started-reached starts t ok few none =
     ap (λ (m : Memories). has_started m.known)
     (quiet-reached t.steps t.opening 0 (memories_at t.opening) (opening_marks t.opening) none)
-    ∙ (ap has_started (known_left t.steps (memories_at t.opening) t.opening) ∙ starts t ok few)
+    ∙ (ap has_started (known-unbroken t.steps (memories_at t.opening) t.opening) ∙ starts t ok few)
 
 -- ---- the listing
 

@@ -24,7 +24,7 @@ use Rattle.vme_auditor.specs.declared.asked.AskedEvents.{AskedEvents}
 use Rattle.vme_auditor.specs.declared.audit.Audit.{Audit}
 use Rattle.vme_auditor.specs.declared.tally.StartedTransfer.{StartedTransfer}
 use Rattle.vme_auditor.specs.declared.tally.Tally.{Tally}
-use Rattle.vme_auditor.proofs.AskedParts.{KnowsStart, events_along, parts_happened}
+use Rattle.vme_auditor.proofs.AskedParts.{KnowsStart, events-after_steps, HaveHappened-every}
 use Rattle.vme_auditor.proofs.CountedParts.{parts_counted, parts_hung, started_of}
 use Rattle.vme_auditor.proofs.JudgedParts.{last_along, memories_along, parts_judged}
 use Rattle.vme_auditor.proofs.MarkCounts.{nothing_counted, sum_nothing}
@@ -80,8 +80,8 @@ module _ (finds : FindsFirst) (o : Levels) (x : List Step) (n : ℕ) (view : Ste
   unfolding reached_after parts is_asked
   finds_asked starts r =
       ap (λ (a : Audit). asks_by a.events r) keeps.audit_is
-      ∙ ap (λ (e : AskedEvents). asks_by e r) (events_along x (reached_at o))
-      ∙ parts_happened finds starts r (length x) 0 o x nothing_happened (omega arith) ok few
+      ∙ ap (λ (e : AskedEvents). asks_by e r) (events-after_steps x (reached_at o))
+      ∙ HaveHappened-every finds starts r (length x) 0 o x nothing_happened (omega arith) ok few
       ∙ by_nothing (asks_by nothing_happened r) (nothing_asked r)
     where
       by_nothing : (b : Bool) → b ≡ false → (b || is_asked (recorded o x) r) ≡ is_asked (recorded o x) r

@@ -23,7 +23,7 @@ use Rattle.vme_auditor.specs.Breaks.{last_instant_of}
 use Rattle.vme_auditor.specs.FirstBreak.{first_break_from}
 use Rattle.vme_auditor.specs.Memories.{first_fault_of, memories_at, memories_next}
 use Rattle.vme_auditor.specs.declared.memories.Memories.{Memories}
-use Rattle.vme_auditor.proofs.AskedParts.{KnowsStart, known_left, quiet_memories}
+use Rattle.vme_auditor.proofs.AskedParts.{KnowsStart, known-unbroken, unbroken_memories}
 use Rattle.vme_auditor.proofs.CountedParts.{last_from_any}
 use Rattle.vme_auditor.proofs.FirstBreaks.{first_within}
 use Rattle.vme_auditor.proofs.ReturnedBreaks.{FindsFirst, levels_next, memories_after, memories_stepped, recorded}
@@ -47,7 +47,7 @@ memories_along (s ∷ x) r =
 
 -- the memories up to the first break, and after it
 abbrev memories_to : Memories → Levels → List Step → Option Break → Memories
-memories_to m o x None = quiet_memories m o x
+memories_to m o x None = unbroken_memories m o x
 memories_to m o x (Some b) =
     let left = levels_at (recorded o x) b.instant in
     memories_from (memories_at left) left (drop b.instant x)
@@ -61,7 +61,7 @@ module _ (m : Memories) (o : Levels) (s : Step) (x : List Step) where
 
   to_later : (found : Option Break) → memories_to next after x found
       ≡ memories_to m o (s ∷ x) (option_map (shifted_break 1) found)
-  unfolding quiet_memories
+  unfolding unbroken_memories
   to_later None = refl
   to_later (Some b) = rw (add-one b.instant, levels_next o s x b.instant) refl
 
@@ -70,13 +70,13 @@ module _ (m : Memories) (o : Levels) (s : Step) (x : List Step) where
       → memories_from (memories_after f after next) after x
       ≡ memories_to m o (s ∷ x)
       (earlier (option_map (break_of_fault 1 time) f) (option_map (shifted_break 1) (first_break_from next after x)))
-  unfolding levels_at quiet_memories
+  unfolding levels_at unbroken_memories
   to_stepped None time so_far = so_far ∙ to_later (first_break_from next after x)
   to_stepped (Some f) time so_far = refl
 
 memories_first : (x : List Step) (m : Memories) (o : Levels) → memories_from m o x
     ≡ memories_to m o x (first_break_from m o x)
-unfolding memories_from quiet_memories first_break_from
+unfolding memories_from unbroken_memories first_break_from
 memories_first [] m o = refl
 memories_first (s ∷ x) m o =
     to_stepped m o s x (first_fault_of m o (changed o s.changes) s.changes) s.time
@@ -99,10 +99,10 @@ module _ (finds : FindsFirst) (starts : KnowsStart) where
     abbrev here : Part
     here = record { start = start; trace = recorded o x }
 
-    judged_last : has_started (quiet_memories (memories_at o) o x).known ≡ is_judged_part here
+    judged_last : has_started (unbroken_memories (memories_at o) o x).known ≡ is_judged_part here
     unfolding is_judged_part
     judged_last =
-        ap has_started (known_left x (memories_at o) o) ∙ starts (recorded o x) ok few
+        ap has_started (known-unbroken x (memories_at o) o) ∙ starts (recorded o x) ok few
         ∙ same_started (judged_stretches (recorded o x))
 
     judged_by : (n : ℕ) → length x ≤ suc n → AreJudged n → (found : Option Break) → BreakWithin (length x) found
@@ -117,7 +117,7 @@ module _ (finds : FindsFirst) (starts : KnowsStart) where
         ∙ ap is_judged_part (sym (last_from_any n here (part_after here b)))
 
   pub parts_judged : (n : ℕ) → AreJudged n
-  unfolding parts_from own_break first_break_from memories_from quiet_memories
+  unfolding parts_from own_break first_break_from memories_from unbroken_memories
   parts_judged zero start o [] short ok few = judged_last start o [] ok few
   parts_judged zero start o (s ∷ x) short ok few = absurd (omega arith)
   parts_judged (suc n) start o x short ok few =
