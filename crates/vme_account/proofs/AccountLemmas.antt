@@ -36,7 +36,7 @@ use Rattle.vme_auditor.specs.JoinedMarks.{joined_marks, kinds_shown}
 use Rattle.vme_auditor.specs.Memories.{fault_at, memories_at, memories_next}
 use Rattle.vme_auditor.specs.declared.memories.Memories.{Memories}
 use Rattle.vme_auditor.proofs.AskedParts.{KnowsStart, known-unbroken, unbroken_memories}
-use Rattle.vme_auditor.proofs.FirstBreaks.{named_is_least, named_on}
+use Rattle.vme_auditor.proofs.FirstBreaks.{named_break-verdict, named_break-verdict_on}
 use Rattle.vme_auditor.proofs.ReturnedBreaks.{FindsFirst}
 use Rattle.vme_auditor.proofs.WholeRecordings.{first_determines_verdict, first_is}
 use Rattle.vme_account.proofs.ReachedLemmas.{after_fault, unbroken_at, found_stays, reached-first, reached-marks}
@@ -64,7 +64,8 @@ unnamed-verdict t e = conforms (judged_stretches t) e
     conforms : (stretches : List Stretch) → named_break (judge all_rules t stretches) ≡ None
         → judge all_rules t stretches ≡ cond (has_any_stretch stretches) Conforming NeverIdle
     conforms [] e = refl
-    conforms (stretch ∷ stretches) e = ap verdict_on (sym (named_on (least_of all_rules t (stretch ∷ stretches))) ∙ e)
+    conforms (stretch ∷ stretches) e =
+        ap verdict_on (sym (named_break-verdict_on (least_of all_rules t (stretch ∷ stretches))) ∙ e)
 
 -- ---- whether anything is judged
 
@@ -157,7 +158,7 @@ module _ (finds : FindsFirst) (shows : ShowsMarks) (t : Trace) (ok : malformed_s
   marks_are =
       reached-marks t.opening t.steps
       ∙ (ap (λ (o : Option Break). opening_marks t.opening ++ marks_listed o
-      (joined_marks (memories_at t.opening) t.opening t.steps)) (sym (finds t ok few) ∙ named_is_least t)
+      (joined_marks (memories_at t.opening) t.opening t.steps)) (sym (finds t ok few) ∙ named_break-verdict t)
       ∙ ap (λ (ms : List Mark). opening_marks t.opening ++ marks_listed first ms) (shows t ok few))
 
   -- the listing has the rows of the marks that are reached, and a verdict after them

@@ -47,7 +47,7 @@ use Rattle.vme_auditor.specs.declared.memories.Memories.{Memories}
 use Rattle.vme_auditor.proofs.AskedSteps.{asked_to, happened_by, list_any-later_stretches, HaveHappened-asked_to}
 use Rattle.vme_auditor.proofs.AskedSteps.{known_phase, phase_at}
 use Rattle.vme_auditor.proofs.AskedSteps.{asks_by-with_stretch, stretch-asked_to}
-use Rattle.vme_auditor.proofs.FirstBreaks.{first_within}
+use Rattle.vme_auditor.proofs.FirstBreaks.{BreakWithin-first_break}
 use Rattle.vme_auditor.proofs.ReturnedBreaks.{FindsFirst, levels_next, memories_after, memories_stepped, recorded}
 use Rattle.vme_auditor.proofs.ReturnedBreaks.{rest_slots, rest_sound}
 use Rattle.vme_auditor.proofs.Truth.{or_fails}
@@ -477,4 +477,4 @@ module _ (finds : FindsFirst) (starts : KnowsStart) where
           events_from-first_break x (memories_at o) o (with_stretch e (has_started (memories_at o).known)),
         )
         (asks_by-part start o x e ok few n short (HaveHappened-every n) (first_break_from (memories_at o) o x)
-        (first_within x (memories_at o) o) refl)
+        (BreakWithin-first_break x (memories_at o) o) refl)

@@ -1,4 +1,4 @@
--- What an audit has found of the recording that it took.
+-- What an audit has found after the steps of a recording is what the definitions say of the recording.
 use Rattle.std.proofs.Common.{◌≡◌, ℕ, ◌+◌, ◌-◌, ◌^◌, ◌≤◌, suc, Bool, false, ◌||◌, List, length, refl, sym, ◌∙◌, ap}
 use Rattle.std.proofs.Common.{arith, Option, None, Some}
 use Rattle.std.specs.Option.{option_map}
@@ -25,8 +25,8 @@ use Rattle.vme_auditor.specs.declared.audit.Audit.{Audit}
 use Rattle.vme_auditor.specs.declared.tally.StartedTransfer.{StartedTransfer}
 use Rattle.vme_auditor.specs.declared.tally.Tally.{Tally}
 use Rattle.vme_auditor.proofs.AskedParts.{KnowsStart, events-after_steps, HaveHappened-every}
-use Rattle.vme_auditor.proofs.CountedParts.{parts_counted, parts_hung, started_of}
-use Rattle.vme_auditor.proofs.JudgedParts.{last_along, memories_along, parts_judged}
+use Rattle.vme_auditor.proofs.CountedParts.{AreCounted-every, AreHung-every, started_of}
+use Rattle.vme_auditor.proofs.JudgedParts.{HasLastBreak-steps, memories-after_steps, AreJudged-every}
 use Rattle.vme_auditor.proofs.MarkCounts.{nothing_counted, sum_nothing}
 use Rattle.vme_auditor.proofs.PartRows.{ShowsMarks}
 use Rattle.vme_auditor.proofs.TalliedSteps.{tally_along, tally_by}
@@ -34,13 +34,13 @@ use Rattle.vme_auditor.proofs.TallyBounds.{Fits, IsExact, pending_exact, tally_e
 use Rattle.vme_auditor.proofs.ReturnedBreaks.{FindsFirst, recorded, returned_are_breaks}
 
 -- no rule is asked before a recording
-nothing_asked : (r : Rule) → asks_by nothing_happened r ≡ false
-nothing_asked rule.U1 = refl
-nothing_asked r = refl
+asks_by-nothing : (r : Rule) → asks_by nothing_happened r ≡ false
+asks_by-nothing rule.U1 = refl
+asks_by-nothing r = refl
 
 -- nothing is counted before a recording
-nothing_fits : Fits 0 0 0 0 nothing_counted None
-nothing_fits =
+Fits-nothing : Fits 0 0 0 0 nothing_counted None
+Fits-nothing =
     record {
       resets = omega arith;
       tenures = omega arith;
@@ -52,72 +52,85 @@ nothing_fits =
       served = omega arith;
     }
 
-same_hang : (t : Trace) (h : Option ℕ) → option_map {U = ℕ × ℕ} (λ (s : StartedTransfer). (s.instant, s.time))
+-- the start of a transfer of the last part is that in the recording
+started_at-last_part : (t : Trace) (h : Option ℕ)
+    → option_map {U = ℕ × ℕ} (λ (s : StartedTransfer). (s.instant, s.time))
     (option_map (started_of (last_part t)) h)
     ≡ option_map (started_at t) h
-same_hang t None = refl
-same_hang t (Some start) = refl
+started_at-last_part t None = refl
+started_at-last_part t (Some start) = refl
 
 module _ (finds : FindsFirst) (o : Levels) (x : List Step) (n : ℕ) (view : StepView) (a : Audit)
     (keeps : HasAudited o x n view a) (ok : malformed_step (recorded o x) ≡ None) (few : o.slots ≤ 21) where
+  -- what the audit has reached after the steps
   abbrev reached : AuditReached
   reached = reached_after o x
 
-  pub finds_last_break : a.last_break ≡ last_instant_of (breaks (recorded o x))
+  -- the last break is that of the recording
+  pub last_break-found : a.last_break ≡ last_instant_of (breaks (recorded o x))
   unfolding reached_after
-  finds_last_break =
-      ap (λ (a : Audit). a.last_break) keeps.audit_is ∙ last_along x (reached_at o) refl
+  last_break-found =
+      ap (λ (a : Audit). a.last_break) keeps.audit_is ∙ HasLastBreak-steps x (reached_at o) refl
       ∙ ap last_instant_of (sym (returned_are_breaks finds (recorded o x) ok few))
 
-  pub finds_judged : KnowsStart → has_started a.memories.known ≡ is_judged_part (last_part (recorded o x))
+  -- the monitors have started exactly if the last part is judged
+  pub judged-found : KnowsStart → has_started a.memories.known ≡ is_judged_part (last_part (recorded o x))
   unfolding reached_after parts
-  finds_judged starts =
+  judged-found starts =
       ap (λ (a : Audit). has_started a.memories.known) keeps.audit_is
-      ∙ ap has_started (ap (λ m. m.known) (memories_along x (reached_at o)))
-      ∙ parts_judged finds starts (length x) 0 o x (omega arith) ok few
+      ∙ ap has_started (ap (λ m. m.known) (memories-after_steps x (reached_at o)))
+      ∙ AreJudged-every finds starts (length x) 0 o x (omega arith) ok few
 
-  pub finds_asked : KnowsStart → (r : Rule) → asks_by a.events r ≡ is_asked (recorded o x) r
+  -- the rules that are noted as asked are those that the recording asks
+  pub asked-found : KnowsStart → (r : Rule) → asks_by a.events r ≡ is_asked (recorded o x) r
   unfolding reached_after parts is_asked
-  finds_asked starts r =
+  asked-found starts r =
       ap (λ (a : Audit). asks_by a.events r) keeps.audit_is
       ∙ ap (λ (e : AskedEvents). asks_by e r) (events-after_steps x (reached_at o))
       ∙ HaveHappened-every finds starts r (length x) 0 o x nothing_happened (omega arith) ok few
-      ∙ by_nothing (asks_by nothing_happened r) (nothing_asked r)
+      ∙ by_nothing (asks_by nothing_happened r) (asks_by-nothing r)
     where
       by_nothing : (b : Bool) → b ≡ false → (b || is_asked (recorded o x) r) ≡ is_asked (recorded o x) r
       by_nothing b e = rw e refl
 
   module _ (shows : ShowsMarks) (fits : n ≤ 2 ^ 64 - 1) where
+    -- the tally of the steps without saturation
     abbrev exact : Tally
     exact = tally_by suc (memories_at o) o 0 no_counts x
 
-    short : 0 + length x ≤ 2 ^ 64 - 1
-    short = omega (arith, keeps.counted, fits)
+    -- the number of the steps is one of 64 bits
+    steps-below_limit : 0 + length x ≤ 2 ^ 64 - 1
+    steps-below_limit = omega (arith, keeps.counted, fits)
 
-    is_exact : IsExact (0 + length x) (0 + length x) (0 + length x) (0 + length x)
+    -- the saturating tally is the exact one
+    IsExact-steps : IsExact (0 + length x) (0 + length x) (0 + length x) (0 + length x)
         (tally_by counted (memories_at o) o 0 no_counts x) exact
-    is_exact = tally_exact x (memories_at o) o 0 no_counts 0 nothing_fits short
+    IsExact-steps = tally_exact x (memories_at o) o 0 no_counts 0 Fits-nothing steps-below_limit
 
-    tally_is : a.tally ≡ exact
+    -- the tally of the audit is the exact one
+    tally-exact : a.tally ≡ exact
     unfolding reached_after
-    tally_is =
-        ap (λ (a : Audit). a.tally) keeps.audit_is ∙ tally_along x (reached_at o) ∙ is_exact.same
+    tally-exact =
+        ap (λ (a : Audit). a.tally) keeps.audit_is ∙ tally_along x (reached_at o) ∙ IsExact-steps.same
 
-    pub finds_counts : counts_so_far counted a.tally ≡ counts (recorded o x)
+    -- the counts are those of the recording
+    pub counts-found : counts_so_far counted a.tally ≡ counts (recorded o x)
     unfolding parts
-    finds_counts =
-        ap (counts_so_far counted) tally_is
+    counts-found =
+        ap (counts_so_far counted) tally-exact
         ∙ ap (λ (a : Tally). a.counts)
-        (pending_exact (0 + length x) (0 + length x) (0 + length x) (0 + length x) exact is_exact.fits short).same
-        ∙ parts_counted finds shows (length x) 0 o x nothing_counted (omega arith) ok few
+        (pending_exact (0 + length x) (0 + length x) (0 + length x) (0 + length x) exact IsExact-steps.fits
+        steps-below_limit).same
+        ∙ AreCounted-every finds shows (length x) 0 o x nothing_counted (omega arith) ok few
         ∙ sum_nothing (counts (recorded o x))
 
-    pub finds_hang : option_map {U = ℕ × ℕ} (λ (s : StartedTransfer). (s.instant, s.time)) (hang_so_far a.tally)
+    -- the transfer that hangs is the one of the recording
+    pub hang-found : option_map {U = ℕ × ℕ} (λ (s : StartedTransfer). (s.instant, s.time)) (hang_so_far a.tally)
         ≡ option_map (started_at (recorded o x)) (hang (recorded o x))
     unfolding parts hang
-    finds_hang =
+    hang-found =
         ap (λ (a : Tally). option_map {U = ℕ × ℕ} (λ (s : StartedTransfer). (s.instant, s.time))
-        (hang_so_far a)) tally_is
+        (hang_so_far a)) tally-exact
         ∙ ap (option_map {U = ℕ × ℕ} (λ (s : StartedTransfer). (s.instant, s.time)))
-        (parts_hung finds shows (length x) 0 o x nothing_counted (omega arith) ok few)
-        ∙ same_hang (recorded o x) (hanging (rows_of (last_part (recorded o x))))
+        (AreHung-every finds shows (length x) 0 o x nothing_counted (omega arith) ok few)
+        ∙ started_at-last_part (recorded o x) (hanging (rows_of (last_part (recorded o x))))

@@ -21,66 +21,73 @@ use Rattle.vme_auditor.specs.Growth.{StepBreaks}
 use Rattle.vme_auditor.specs.Memories.{first_fault_of}
 use Rattle.vme_auditor.proofs.ReturnedBreaks.{FindsFirst, returned_are_breaks}
 
-own_instant : (n time : ℕ) (f : Option Fault) → IfSome (option_map (break_of_fault n time) f) (λ b. b.instant ≡ n)
-own_instant n time None = tt
-own_instant n time (Some f) = refl
+-- the break of a fault at instant n is at n
+instant-break_of_fault : (n time : ℕ) (f : Option Fault)
+    → IfSome (option_map (break_of_fault n time) f) (λ b. b.instant ≡ n)
+instant-break_of_fault n time None = tt
+instant-break_of_fault n time (Some f) = refl
 
-own_within : (n m time : ℕ) → n ≤ m → (f : Option Fault)
+-- the break of a fault at instant n is at m or before, if n is
+All-break_of_fault : (n m time : ℕ) → n ≤ m → (f : Option Fault)
     → All (λ (b : Break). b.instant ≤ m) (option_to_list (option_map (break_of_fault n time) f))
-own_within n m time le None = All-nil (λ (b : Break). b.instant ≤ m)
-own_within n m time le (Some f) =
+All-break_of_fault n m time le None = All-nil (λ (b : Break). b.instant ≤ m)
+All-break_of_fault n m time le (Some f) =
     All-cons (λ (b : Break). b.instant ≤ m) (break_of_fault n time f) [] le (All-nil (λ (b : Break). b.instant ≤ m))
 
 -- no returned break is after the last step
-returned_within : (x : List Step) (r : AuditReached) → All (λ (b : Break). b.instant ≤ r.instant) r.returned
+All-returned : (x : List Step) (r : AuditReached) → All (λ (b : Break). b.instant ≤ r.instant) r.returned
     → All (λ (b : Break). b.instant ≤ r.instant + length x) (fold with_step r x).returned
-returned_within [] r so_far =
+All-returned [] r so_far =
     All-weaker (λ (b : Break). b.instant ≤ r.instant) (λ (b : Break). b.instant ≤ r.instant + 0) (λ b le. omega arith)
     r.returned so_far
-returned_within (s ∷ x) r so_far =
+All-returned (s ∷ x) r so_far =
     let n = r.instant + 1 in
     let found = first_fault_of r.audit.memories r.levels (changed r.levels s.changes) s.changes in
     let before = All-weaker (λ (b : Break). b.instant ≤ r.instant) (λ (b : Break). b.instant ≤ n) (λ b le. omega arith)
     r.returned so_far in
     let next = All-append (λ (b : Break). b.instant ≤ n) r.returned
     (option_to_list (option_map (break_of_fault n s.time) found))
-    before (own_within n n s.time (omega arith) found) in
+    before (All-break_of_fault n n s.time (omega arith) found) in
     All-weaker (λ (b : Break). b.instant ≤ n + length x) (λ (b : Break). b.instant ≤ r.instant + length (s ∷ x))
-    (λ b le. omega arith) (fold with_step (with_step r s) x).returned (returned_within x (with_step r s) next)
+    (λ b le. omega arith) (fold with_step (with_step r s) x).returned (All-returned x (with_step r s) next)
 
-instant_after : (x : List Step) (r : AuditReached) → (fold with_step r x).instant ≡ r.instant + length x
-instant_after [] r = omega arith
-instant_after (s ∷ x) r = instant_after x (with_step r s) ∙ omega arith
+-- after the steps `x` the instant is greater by their number
+instant-fold : (x : List Step) (r : AuditReached) → (fold with_step r x).instant ≡ r.instant + length x
+instant-fold [] r = omega arith
+instant-fold (s ∷ x) r = instant-fold x (with_step r s) ∙ omega arith
 
 module _ (finds : FindsFirst) where
-  pub none_before : (o : Levels) → o.slots ≤ 21 → breaks (record { opening = o; steps = [] }) ≡ []
+  -- a recording without steps has no break
+  pub breaks-no_step : (o : Levels) → o.slots ≤ 21 → breaks (record { opening = o; steps = [] }) ≡ []
   unfolding reached_after malformed_step least
-  none_before o few = returned_are_breaks finds (record { opening = o; steps = [] }) refl few
+  breaks-no_step o few = returned_are_breaks finds (record { opening = o; steps = [] }) refl few
 
-  pub breaks_within : (t : Trace) → malformed_step t ≡ None → t.opening.slots ≤ 21
+  -- no break of a recording is after its last step
+  pub All-breaks_within : (t : Trace) → malformed_step t ≡ None → t.opening.slots ≤ 21
       → All (λ (b : Break). b.instant ≤ length t.steps) (breaks t)
   unfolding reached_after
-  breaks_within t ok few =
+  All-breaks_within t ok few =
       subst (λ (bs : List Break). All (λ (b : Break). b.instant ≤ length t.steps) bs)
       (sym (returned_are_breaks finds t ok few))
       (All-weaker (λ (b : Break). b.instant ≤ 0 + length t.steps) (λ (b : Break). b.instant ≤ length t.steps)
       (λ b le. omega arith) (reached_after t.opening t.steps).returned
-      (returned_within t.steps (reached_at t.opening) (All-nil (λ (b : Break). b.instant ≤ 0))))
+      (All-returned t.steps (reached_at t.opening) (All-nil (λ (b : Break). b.instant ≤ 0))))
 
-  pub step_breaks : (t : Trace) (s : Step) → malformed_step (with_steps t (s ∷ [])) ≡ None → t.opening.slots ≤ 21
+  -- each step of a well-formed recording breaks at most one rule, at its own instant
+  pub StepBreaks-every : (t : Trace) (s : Step) → malformed_step (with_steps t (s ∷ [])) ≡ None → t.opening.slots ≤ 21
       → StepBreaks t s
   unfolding reached_after
-  step_breaks t s ok few =
+  StepBreaks-every t s ok few =
       let r = reached_after t.opening t.steps in
       let fault = first_fault_of r.audit.memories r.levels (changed r.levels s.changes) s.changes in
-      let n : r.instant ≡ length t.steps = instant_after t.steps (reached_at t.opening) ∙ omega arith in
+      let n : r.instant ≡ length t.steps = instant-fold t.steps (reached_at t.opening) ∙ omega arith in
       let more : reached_after t.opening (t.steps ++ s ∷ []) ≡ with_step r s =
       fold-append with_step (reached_at t.opening) t.steps (s ∷ []) in
       record {
         found = option_map (break_of_fault (r.instant + 1) s.time) fault;
         own =
             subst (λ k. IfSome (option_map (break_of_fault (r.instant + 1) s.time) fault) (λ b. b.instant ≡ k + 1)) n
-            (own_instant (r.instant + 1) s.time fault);
+            (instant-break_of_fault (r.instant + 1) s.time fault);
         grown =
             returned_are_breaks finds (with_steps t (s ∷ [])) ok few
             ∙ ap (λ (r : AuditReached). r.returned) more

@@ -38,7 +38,7 @@ use Rattle.vme_audit.specs.Parts.{named_break}
 use Rattle.vme_auditor.specs.JoinedMarks.{joined_marks, kinds_shown}
 use Rattle.vme_auditor.specs.Memories.{memories_at, memories_next}
 use Rattle.vme_auditor.specs.declared.memories.Memories.{Memories}
-use Rattle.vme_auditor.proofs.FirstBreaks.{named_is_least}
+use Rattle.vme_auditor.proofs.FirstBreaks.{named_break-verdict}
 use Rattle.vme_auditor.proofs.MarkHangs.{never_hangs, never_is}
 
 abbrev is_no_verdict : Row → Bool
@@ -146,7 +146,7 @@ pub part_rows : ShowsMarks → (start : ℕ) (t : Trace) → malformed_step t �
     → CountAlike (rows_of (record { start = start; trace = t }))
     (marked_rows None (marks_listed first_break (joined_marks (memories_at t.opening) t.opening t.steps)))
 part_rows shows start t ok few first_break e =
-    let least : least_of rules_in_force t (judged_stretches t) ≡ first_break = sym (named_is_least t) ∙ e in
+    let least : least_of rules_in_force t (judged_stretches t) ≡ first_break = sym (named_break-verdict t) ∙ e in
     let rows = rows_alike t.opening (has_any_stretch (judged_stretches t)) first_break (all_marks t)
     (no_marks_unstarted t (judged_stretches t)) in
     alike (rows_of (record { start = start; trace = t }))

@@ -23,7 +23,7 @@ use Rattle.vme_auditor.specs.Audited.{AuditReached, reached_after, reached_at, w
 use Rattle.vme_auditor.specs.FirstBreak.{first_break_from}
 use Rattle.vme_auditor.specs.Memories.{fault_at, first_fault_of, memories_at, memories_next}
 use Rattle.vme_auditor.specs.declared.memories.Memories.{Memories}
-use Rattle.vme_auditor.proofs.FirstBreaks.{first_within}
+use Rattle.vme_auditor.proofs.FirstBreaks.{BreakWithin-first_break}
 
 abbrev pub recorded : Levels → List Step → Trace
 recorded o x = record { opening = o; steps = x }
@@ -161,7 +161,7 @@ module _ (finds : FindsFirst) where
   breaks_returned (suc n) start o x few ok slots =
       rw (finds (recorded o x) ok slots, returned_first x (memories_at o) o start)
       (breaks_after_first n start o x few ok slots (breaks_returned n) (first_break_from (memories_at o) o x)
-      (first_within x (memories_at o) o))
+      (BreakWithin-first_break x (memories_at o) o))
 
   -- the breaks of a recording are those that an audit returns
   pub returned_are_breaks : (t : Trace) → malformed_step t ≡ None → t.opening.slots ≤ 21

@@ -31,7 +31,7 @@ use Rattle.vme_auditor.specs.Tallied.{at_answer, at_break, at_cycle, at_reset, a
 use Rattle.vme_auditor.specs.declared.memories.Memories.{Memories}
 use Rattle.vme_auditor.specs.declared.tally.StartedTransfer.{StartedTransfer}
 use Rattle.vme_auditor.specs.declared.tally.Tally.{Tally}
-use Rattle.vme_auditor.proofs.FirstBreaks.{first_within}
+use Rattle.vme_auditor.proofs.FirstBreaks.{BreakWithin-first_break}
 use Rattle.vme_auditor.proofs.MarkCounts.{kind_tallied, mark_tallied}
 use Rattle.vme_auditor.proofs.ShownKinds.{grant_own, handshake_own, known_own}
 use Rattle.vme_auditor.proofs.ReturnedBreaks.{levels_next, memories_after, memories_stepped, recorded}
@@ -258,7 +258,7 @@ module _ (m : Memories) (o : Levels) (s : Step) (x : List Step) (n : ℕ) (a : T
       ≡ tally_from m o n a (s ∷ x)
       (earlier (option_map (break_of_fault 1 s.time) f) (option_map (shifted_break 1) (first_break_from next after x)))
   unfolding levels_at quiet_tally
-  from_stepped None so_far = so_far ∙ from_later (first_break_from next after x) (first_within x next after)
+  from_stepped None so_far = so_far ∙ from_later (first_break_from next after x) (BreakWithin-first_break x next after)
   from_stepped (Some f) so_far = refl
 
 pub tally_first : (x : List Step) (m : Memories) (o : Levels) (n : ℕ) (a : Tally) → tally_by suc m o n a x

@@ -18,7 +18,7 @@ use Rattle.vme_audit.specs.Counted.{count_of, counts, counts_of_rows, rows_of}
 use Rattle.vme_audit.specs.Covered.{has_stretch, is_judged_part}
 use Rattle.vme_audit.specs.Parts.{Part, breaks, breaks_of, last_from, last_part, moved_by, named_break, own_break}
 use Rattle.vme_audit.specs.Parts.{part_after, parts, parts_from, whole}
-use Rattle.vme_auditor.proofs.FirstBreaks.{named_on}
+use Rattle.vme_auditor.proofs.FirstBreaks.{named_break-verdict_on}
 use Rattle.vme_auditor.proofs.MarkCounts.{same_counts}
 
 moved_none : (b : Break) → moved_by 0 b ≡ b
@@ -71,7 +71,7 @@ module _ (t : Trace) where
           → judge all_rules t stretches ≡ cond (is_unreadable b.rule) (Unreadable b) (Broken b)
       determined_by [] e = absurd (cc)
       determined_by (stretch ∷ stretches) e =
-          ap verdict_on (sym (named_on (least_of all_rules t (stretch ∷ stretches))) ∙ e)
+          ap verdict_on (sym (named_break-verdict_on (least_of all_rules t (stretch ∷ stretches))) ∙ e)
 
   -- a recording without a break is its only part
   one_part : (n : ℕ) → named_break (verdict t) ≡ None → parts_from n here ≡ here ∷ []
@@ -95,7 +95,7 @@ module _ (t : Trace) where
           → judge all_rules t stretches ≡ cond (has_stretch stretches) Conforming NeverIdle
       conforms [] e = refl
       conforms (stretch ∷ stretches) e =
-          ap verdict_on (sym (named_on (least_of all_rules t (stretch ∷ stretches))) ∙ e)
+          ap verdict_on (sym (named_break-verdict_on (least_of all_rules t (stretch ∷ stretches))) ∙ e)
 
   pub no_breaks : named_break (verdict t) ≡ None → breaks t ≡ []
   unfolding parts own_break

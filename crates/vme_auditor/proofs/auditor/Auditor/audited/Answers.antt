@@ -7,7 +7,7 @@ use Rattle.vme_summary.specs.Runs.{known_run}
 use Rattle.vme_auditor.specs.Findings.{AreFindingsOf}
 use Rattle.vme_auditor.specs.declared.findings.AuditFindings.{AuditFindings}
 use Rattle.vme_auditor.specs.declared.tally.StartedTransfer.{StartedTransfer}
-use Rattle.vme_auditor.proofs.Found.{finds_asked, finds_counts, finds_hang, finds_judged, finds_last_break}
+use Rattle.vme_auditor.proofs.Found.{asked-found, counts-found, hang-found, judged-found, last_break-found}
 use Rattle.vme_auditor.proofs.auditor.Auditor.audited.Goals as goal
 
 pub returns : goal.returns
@@ -28,18 +28,18 @@ returns c =
     (λ ok. record {
       counts =
           c.counts.ensures
-          ∙ finds_counts finds i.opening i.taken.items i.steps i.view i.audit c.self.invariant ok few
+          ∙ counts-found finds i.opening i.taken.items i.steps i.view i.audit c.self.invariant ok few
           c.marks_are_found.ensures fits;
-      asked = λ r. finds_asked finds i.opening i.taken.items i.steps i.view i.audit c.self.invariant ok few
+      asked = λ r. asked-found finds i.opening i.taken.items i.steps i.view i.audit c.self.invariant ok few
           (λ t ok few. c.known_over_recordings.ensures.started t ok few) r;
       judged =
           c.have_started.ensures
-          ∙ finds_judged finds i.opening i.taken.items i.steps i.view i.audit c.self.invariant ok few
+          ∙ judged-found finds i.opening i.taken.items i.steps i.view i.audit c.self.invariant ok few
           (λ t ok few. c.known_over_recordings.ensures.started t ok few);
-      last_break = finds_last_break finds i.opening i.taken.items i.steps i.view i.audit c.self.invariant ok few;
+      last_break = last_break-found finds i.opening i.taken.items i.steps i.view i.audit c.self.invariant ok few;
       hang =
           c.start_of.ensures
           ∙ ap (option_map {U = ℕ × ℕ} (λ (s : StartedTransfer). (s.instant, s.time))) c.hang.ensures
-          ∙ finds_hang finds i.opening i.taken.items i.steps i.view i.audit c.self.invariant ok few
+          ∙ hang-found finds i.opening i.taken.items i.steps i.view i.audit c.self.invariant ok few
           c.marks_are_found.ensures fits;
     })

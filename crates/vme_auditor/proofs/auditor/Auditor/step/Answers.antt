@@ -6,7 +6,7 @@ use Rattle.vme_trace.specs.WellFormed.{malformed_step}
 use Rattle.vme_trace.specs.declared.step.Step.{Step}
 use Rattle.vme_audit.specs.Parts.{breaks}
 use Rattle.vme_auditor.specs.Breaks.{as_break}
-use Rattle.vme_auditor.proofs.Folds.{keeps_next, returned_next}
+use Rattle.vme_auditor.proofs.Folds.{HasAudited-next, breaks-next}
 use Rattle.vme_auditor.proofs.auditor.Auditor.step.Goals as goal
 
 pub invariant_of-self : goal.invariant_of-self
@@ -14,7 +14,7 @@ invariant_of-self c =
     let i = c.self.inside in
     let later : c.in-Some.instant ≡ i.steps + 1 = omega (arith, c.in-Some.ensures) in
     rw c.and-taken.ensures
-    (keeps_next i.opening i.taken.items c.args.step.now i.steps i.view i.audit c.self.invariant
+    (HasAudited-next i.opening i.taken.items c.args.step.now i.steps i.view i.audit c.self.invariant
     c.as_slice-changes.result.now c.as_slice-changes.ensures c.go_to.new.self c.go_to.ensures.seen
     c.go_to.ensures.before
     c.in-Some.instant later c.go_past.new.self c.go_on-found.new.self c.go_past.ensures.before c.go_past.ensures.after
@@ -30,7 +30,7 @@ returns-clause-told c =
     (λ (y : List Step). malformed_step (record { opening = i.opening; steps = y }) ≡ None
     → breaks (record { opening = i.opening; steps = y }) ≡ breaks c.args.self.now ++ option_to_list found)
     (sym c.and-taken.ensures)
-    (λ ok. returned_next i.opening i.taken.items c.args.step.now i.steps i.view i.audit c.self.invariant
+    (λ ok. breaks-next i.opening i.taken.items c.args.step.now i.steps i.view i.audit c.self.invariant
     c.as_slice-changes.result.now c.as_slice-changes.ensures c.go_to.new.self c.go_to.ensures.seen
     c.go_to.ensures.before c.in-Some.instant later c.first_break_is_found.ensures ok few found
     c.go_on-found.ensures.found
