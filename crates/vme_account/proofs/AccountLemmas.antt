@@ -38,7 +38,7 @@ use Rattle.vme_auditor.specs.declared.memories.Memories.{Memories}
 use Rattle.vme_auditor.proofs.AskedParts.{KnowsStart, known-unbroken, unbroken_memories}
 use Rattle.vme_auditor.proofs.FirstBreaks.{named_break-verdict, named_break-verdict_on}
 use Rattle.vme_auditor.proofs.ReturnedBreaks.{FindsFirst}
-use Rattle.vme_auditor.proofs.WholeRecordings.{first_determines_verdict, first_is}
+use Rattle.vme_auditor.proofs.WholeRecordings.{first_determines_verdict, slice_get-breaks}
 use Rattle.vme_account.proofs.ReachedLemmas.{after_fault, unbroken_at, found_stays, reached-first, reached-marks}
 use Rattle.vme_account.specs.UnendedRows.{open_row}
 use Rattle.vme_account.specs.StepsReached.{StepsReached, reached, with_step}
@@ -53,7 +53,7 @@ use Rattle.vme_account.specs.declared.row_kind.RowKind.TheVariants as kind
 
 -- if the verdict names a break, that break determines it
 pub named-verdict : (t : Trace) (b : Break) → named_break (verdict t) ≡ Some b → verdict t ≡ verdict_on (Some b)
-named-verdict t b e = first_determines_verdict t b (first_is t ∙ e)
+named-verdict t b e = first_determines_verdict t b (slice_get-breaks t ∙ e)
 
 -- if the verdict names no break, it depends on whether anything is judged
 pub unnamed-verdict : (t : Trace) → named_break (verdict t) ≡ None → verdict t

@@ -48,8 +48,9 @@ use Rattle.vme_auditor.proofs.AskedSteps.{asked_to, happened_by, list_any-later_
 use Rattle.vme_auditor.proofs.AskedSteps.{known_phase, phase_at}
 use Rattle.vme_auditor.proofs.AskedSteps.{asks_by-with_stretch, stretch-asked_to}
 use Rattle.vme_auditor.proofs.FirstBreaks.{BreakWithin-first_break}
-use Rattle.vme_auditor.proofs.ReturnedBreaks.{FindsFirst, levels_next, memories_after, memories_stepped, recorded}
-use Rattle.vme_auditor.proofs.ReturnedBreaks.{rest_slots, rest_sound}
+use Rattle.vme_auditor.proofs.ReturnedBreaks.{FindsFirst, levels_at-later_step, memories_after, memories-with_step}
+use Rattle.vme_auditor.proofs.ReturnedBreaks.{recorded}
+use Rattle.vme_auditor.proofs.ReturnedBreaks.{slots-rest_after, well_formed-rest_after}
 use Rattle.vme_auditor.proofs.Truth.{or_fails}
 
 -- the noted events after one more step `s`, by monitors with memories `m`, before a break is looked at
@@ -94,7 +95,7 @@ events-after_steps (s ∷ x) r =
     let after = changed r.levels s.changes in
     let q = with_step r s in
     events-after_steps x q
-    ∙ ap (λ (m : Memories). events_from m after q.audit.events x) (memories_stepped r s)
+    ∙ ap (λ (m : Memories). events_from m after q.audit.events x) (memories-with_step r s)
     ∙ ap (λ (e : AskedEvents). events_from (memories_after (first_fault_of r.audit.memories r.levels after s.changes)
     after (memories_next r.audit.memories r.levels after s.changes)) after e x) (events-with_step r s)
 
@@ -141,7 +142,7 @@ module _ (m : Memories) (o : Levels) (s : Step) (x : List Step) (e : AskedEvents
       ≡ events_around_break m o e (s ∷ x) (option_map (shifted_break 1) found)
   unfolding unbroken_events
   events_around_break-shifted None = refl
-  events_around_break-shifted (Some b) = rw (add-one b.instant, levels_next o s x b.instant) refl
+  events_around_break-shifted (Some b) = rw (add-one b.instant, levels_at-later_step o s x b.instant) refl
 
   -- if the events after `x` are those around the first break of `x`, so are those after `s` and `x`
   events_around_break-step : (f : Option Fault) (time : ℕ) → events_from next after noted x
@@ -448,8 +449,8 @@ module _ (finds : FindsFirst) (starts : KnowsStart) where
         asks_by-broken_part happened_by found =
             happened_by (start + b.instant) left (drop b.instant x)
             (unbroken_events (memories_at o) o fresh (take b.instant x)) length-after_break
-            (rest_sound (recorded o x) b.instant ok)
-            (subst (λ k. k ≤ 21) (sym (rest_slots (recorded o x) b.instant)) few)
+            (well_formed-rest_after (recorded o x) b.instant ok)
+            (subst (λ k. k ≤ 21) (sym (slots-rest_after (recorded o x) b.instant)) few)
             ∙ ap (λ c. c || list_any (asks r) (parts_from n (part_after here b)))
             (Asks-every o x ok few (Some b) b.instant w.1 (add-one b.instant) e
             (has_started-at_break o x ok few b found w.1) r)

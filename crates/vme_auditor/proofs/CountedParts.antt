@@ -30,13 +30,14 @@ use Rattle.vme_auditor.specs.Tallied.{at_break, counts_so_far, hang_so_far}
 use Rattle.vme_auditor.specs.declared.tally.StartedTransfer.{StartedTransfer}
 use Rattle.vme_auditor.specs.declared.tally.Tally.{Tally}
 use Rattle.vme_auditor.proofs.FirstBreaks.{BreakWithin-first_break}
-use Rattle.vme_auditor.proofs.MarkCounts.{mark_tallied, marks_counted, same_counts, sum_assoc}
-use Rattle.vme_auditor.proofs.MarkCounts.{sum_nothing}
+use Rattle.vme_auditor.proofs.MarkCounts.{mark_tallied, AreCounted-marks, Counts-equal, sum_of-assoc}
+use Rattle.vme_auditor.proofs.MarkCounts.{sum_of-nothing}
 use Rattle.vme_auditor.proofs.MarkCounts.{sum_of, tally}
-use Rattle.vme_auditor.proofs.MarkHangs.{has_reset, marks_hang}
-use Rattle.vme_auditor.proofs.PartRows.{CountAlike, ShowsMarks, marks_cut, part_rows}
-use Rattle.vme_auditor.proofs.TalliedSteps.{quiet_marks, quiet_tally, tally_by, tally_first, tally_from}
-use Rattle.vme_auditor.proofs.ReturnedBreaks.{FindsFirst, recorded, rest_slots, rest_sound}
+use Rattle.vme_auditor.proofs.MarkHangs.{has_reset, Hangs-marks}
+use Rattle.vme_auditor.proofs.PartRows.{CountAlike, ShowsMarks, marks_before-steps, CountAlike-part}
+use Rattle.vme_auditor.proofs.TalliedSteps.{unbroken_tally-marks, unbroken_tally, tally_by, tally_by-first_break}
+use Rattle.vme_auditor.proofs.TalliedSteps.{tally_around_break}
+use Rattle.vme_auditor.proofs.ReturnedBreaks.{FindsFirst, recorded, slots-rest_after, well_formed-rest_after}
 
 -- the number of rows of `xs ++ ys` that `is` holds of is the sum of those of `xs` and of `ys`
 count_of-append : (is : Row → Bool) (xs ys : List Row) → count_of is (xs ++ ys) ≡ count_of is xs + count_of is ys
@@ -46,7 +47,7 @@ count_of-append is xs ys = ap length (filter-append is xs ys) ∙ length-append 
 counts_of_rows-append : (xs ys : List Row) → counts_of_rows (xs ++ ys) ≡ sum_of (counts_of_rows xs) (counts_of_rows ys)
 unfolding counts_of_rows
 counts_of_rows-append xs ys =
-    same_counts (counts_of_rows (xs ++ ys)) (sum_of (counts_of_rows xs) (counts_of_rows ys)) (count_of-append _ xs ys)
+    Counts-equal (counts_of_rows (xs ++ ys)) (sum_of (counts_of_rows xs) (counts_of_rows ys)) (count_of-append _ xs ys)
     (count_of-append _ xs ys) (count_of-append _ xs ys) (count_of-append _ xs ys) (count_of-append _ xs ys)
     (count_of-append _ xs ys)
     (count_of-append _ xs ys) (count_of-append _ xs ys) (count_of-append _ xs ys) (count_of-append _ xs ys)
@@ -82,22 +83,22 @@ module _ (start : ℕ) (o : Levels) (x : List Step) where
   marks = joined_marks (memories_at o) o x
 
   -- in a part without a break the steps and their marks give the same tally
-  quiet_tally-marks : (c : Counts) → quiet_tally (memories_at o) o start (fresh c) x
+  unbroken_tally-part_marks : (c : Counts) → unbroken_tally (memories_at o) o start (fresh c) x
       ≡ fold (mark_tallied (started_of part)) (fresh c) marks
-  quiet_tally-marks c = quiet_marks x (memories_at o) o start (fresh c) (started_of part) (λ i. refl)
+  unbroken_tally-part_marks c = unbroken_tally-marks x (memories_at o) o start (fresh c) (started_of part) (λ i. refl)
 
   -- where breaks are ignored, the counts after the part are those before it and those of the rows of its marks
-  counts-quiet_tally : (c : Counts) → counts_so_far suc (quiet_tally (memories_at o) o start (fresh c) x)
+  counts-unbroken_tally : (c : Counts) → counts_so_far suc (unbroken_tally (memories_at o) o start (fresh c) x)
       ≡ sum_of c (counts_of_rows (marked_rows None marks))
-  counts-quiet_tally c =
-      ap (counts_so_far suc) (quiet_tally-marks c) ∙ marks_counted (started_of part) marks c None None None
-      ∙ ap (sum_of c) (sum_nothing (counts_of_rows (marked_rows None marks)))
+  counts-unbroken_tally c =
+      ap (counts_so_far suc) (unbroken_tally-part_marks c) ∙ AreCounted-marks (started_of part) marks c None None None
+      ∙ ap (sum_of c) (sum_of-nothing (counts_of_rows (marked_rows None marks)))
 
   -- where breaks are ignored, the transfer that hangs is the one that hangs by the rows of the marks
-  hang-quiet_tally : (c : Counts) → hang_so_far (quiet_tally (memories_at o) o start (fresh c) x)
+  hang-unbroken_tally : (c : Counts) → hang_so_far (unbroken_tally (memories_at o) o start (fresh c) x)
       ≡ option_map (started_of part) (hanging (marked_rows None marks))
-  hang-quiet_tally c =
-      ap hang_so_far (quiet_tally-marks c) ∙ marks_hang (started_of part) marks c None None None
+  hang-unbroken_tally c =
+      ap hang_so_far (unbroken_tally-part_marks c) ∙ Hangs-marks (started_of part) marks c None None None
       ∙ by_test (has_reset marks)
     where
       by_test : (b : Bool)
@@ -108,13 +109,13 @@ module _ (start : ℕ) (o : Levels) (x : List Step) where
 
 -- the counts of a part before its break at instant `i` are those of the rows of the marks before `i`
 counts-up_to_break : (start : ℕ) (o : Levels) (x : List Step) (c : Counts) (i : ℕ) → 0 < i
-    → counts_so_far suc (quiet_tally (memories_at o) o start (fresh c) (take (i - 1) x))
+    → counts_so_far suc (unbroken_tally (memories_at o) o start (fresh c) (take (i - 1) x))
     ≡ sum_of c (counts_of_rows (marked_rows None (marks_before i (joined_marks (memories_at o) o x))))
 counts-up_to_break start o x c i h =
     let one_more : suc (i - 1) ≡ i = omega arith in
-    counts-quiet_tally start o (take (i - 1) x) c
+    counts-unbroken_tally start o (take (i - 1) x) c
     ∙ ap (λ (ms : List Mark). sum_of c (counts_of_rows (marked_rows None ms)))
-    (sym (marks_cut (i - 1) x (memories_at o) o)
+    (sym (marks_before-steps (i - 1) x (memories_at o) o)
     ∙ ap (λ k. marks_before k (joined_marks (memories_at o) o x)) one_more)
 
 -- the last part of `q` and the parts after it doesn't depend on the part before
@@ -130,7 +131,7 @@ module _ (finds : FindsFirst) (shows : ShowsMarks) where
       → CountAlike (rows_of (record { start = start; trace = recorded o x }))
       (marked_rows None (marks_listed e (joined_marks (memories_at o) o x)))
   rows_of-marks start o x ok slots e found =
-      part_rows shows start (recorded o x) ok slots e (finds (recorded o x) ok slots ∙ found)
+      CountAlike-part shows start (recorded o x) ok slots e (finds (recorded o x) ok slots ∙ found)
 
   -- the counts from the start of a part on, where `c` are the counts before it
   abbrev AreCounted : ℕ → Type 0
@@ -157,18 +158,18 @@ module _ (finds : FindsFirst) (shows : ShowsMarks) where
 
     -- the counts after a part without a break are those before it and those of its rows
     counts-last_part : first_break_from (memories_at o) o x ≡ None
-        → counts_so_far suc (quiet_tally (memories_at o) o start (fresh c) x)
+        → counts_so_far suc (unbroken_tally (memories_at o) o start (fresh c) x)
         ≡ sum_of c (counts_of_rows (rows_of here ++ []))
     counts-last_part e =
-        counts-quiet_tally start o x c ∙ ap (sum_of c) (sym (rows_of-marks start o x ok slots None e).counted)
+        counts-unbroken_tally start o x c ∙ ap (sum_of c) (sym (rows_of-marks start o x ok slots None e).counted)
         ∙ ap (λ (rows : List Row). sum_of c (counts_of_rows rows)) (sym (append-nil (rows_of here)))
 
     -- the transfer that hangs after a part without a break is the one that hangs by its rows
     hang-last_part : first_break_from (memories_at o) o x ≡ None
-        → hang_so_far (quiet_tally (memories_at o) o start (fresh c) x)
+        → hang_so_far (unbroken_tally (memories_at o) o start (fresh c) x)
         ≡ option_map (started_of here) (hanging (rows_of here))
     hang-last_part e =
-        hang-quiet_tally start o x c
+        hang-unbroken_tally start o x c
         ∙ ap (option_map (started_of here)) (sym (rows_of-marks start o x ok slots None e).hangs)
 
     module _ (n : ℕ) (few : length x ≤ suc n) where
@@ -184,15 +185,15 @@ module _ (finds : FindsFirst) (shows : ShowsMarks) where
 
         -- the rest after the break is well formed
         well_formed-after_break : malformed_step (recorded left (drop b.instant x)) ≡ None
-        well_formed-after_break = rest_sound (recorded o x) b.instant ok
+        well_formed-after_break = well_formed-rest_after (recorded o x) b.instant ok
 
         -- the levels at the break have at most 21 slots
         slots-after_break : left.slots ≤ 21
-        slots-after_break = subst (λ k. k ≤ 21) (sym (rest_slots (recorded o x) b.instant)) slots
+        slots-after_break = subst (λ k. k ≤ 21) (sym (slots-rest_after (recorded o x) b.instant)) slots
 
         -- the tally before the break
         abbrev so_far : Tally
-        so_far = quiet_tally (memories_at o) o start (fresh c) (take (b.instant - 1) x)
+        so_far = unbroken_tally (memories_at o) o start (fresh c) (take (b.instant - 1) x)
 
         -- the tally after the break goes on from the counts alone
         tally-after_break : tally_by suc (memories_at left) left (start + b.instant) (at_break suc so_far)
@@ -209,7 +210,7 @@ module _ (finds : FindsFirst) (shows : ShowsMarks) where
 
         -- the counts after a part with a break, and the parts after it, are those before it and those of all their rows
         counts-broken_part : AreCounted n → first_break_from (memories_at o) o x ≡ Some b
-            → counts_so_far suc (tally_from (memories_at o) o start (fresh c) x (Some b))
+            → counts_so_far suc (tally_around_break (memories_at o) o start (fresh c) x (Some b))
             ≡ sum_of c (counts_of_rows (rows_of here ++ others))
         counts-broken_part counted e =
             ap (counts_so_far suc) tally-after_break
@@ -218,12 +219,12 @@ module _ (finds : FindsFirst) (shows : ShowsMarks) where
             ∙ ap (λ (d : Counts). sum_of d (counts_of_rows others))
             (counts-up_to_break start o x c b.instant w.0
             ∙ ap (sum_of c) (sym (rows_of-marks start o x ok slots (Some b) e).counted))
-            ∙ sum_assoc c (counts_of_rows (rows_of here)) (counts_of_rows others)
+            ∙ sum_of-assoc c (counts_of_rows (rows_of here)) (counts_of_rows others)
             ∙ ap (sum_of c) (sym (counts_of_rows-append (rows_of here) others))
 
         -- the transfer that hangs after a part with a break is the one that hangs by the rows of the last part
         hang-broken_part : AreHung n
-            → hang_so_far (tally_from (memories_at o) o start (fresh c) x (Some b))
+            → hang_so_far (tally_around_break (memories_at o) o start (fresh c) x (Some b))
             ≡ option_map (started_of (last_from here (parts_from n (part_after here b))))
             (hanging (rows_of (last_from here (parts_from n (part_after here b)))))
         hang-broken_part hung =
@@ -237,7 +238,7 @@ module _ (finds : FindsFirst) (shows : ShowsMarks) where
       -- all their rows
       counts-part : AreCounted n → (e : Option Break) → BreakWithin (length x) e → first_break_from (memories_at o) o x
           ≡ e
-          → counts_so_far suc (tally_from (memories_at o) o start (fresh c) x e)
+          → counts_so_far suc (tally_around_break (memories_at o) o start (fresh c) x e)
           ≡ sum_of c (counts_of_rows (rows_of here
           ++ flat_map rows_of (option_map_or (λ b. parts_from n (part_after here b)) e [])))
       counts-part counted None w e = counts-last_part e
@@ -247,27 +248,27 @@ module _ (finds : FindsFirst) (shows : ShowsMarks) where
       -- part
       hang-part : AreHung n → (e : Option Break) → BreakWithin (length x) e → first_break_from (memories_at o) o x ≡ e
           → let last = last_from here (option_map_or (λ b. parts_from n (part_after here b)) e []) in
-          hang_so_far (tally_from (memories_at o) o start (fresh c) x e)
+          hang_so_far (tally_around_break (memories_at o) o start (fresh c) x e)
           ≡ option_map (started_of last) (hanging (rows_of last))
       hang-part hung None w e = hang-last_part e
       hang-part hung (Some b) w e = hang-broken_part b w hung
 
   -- `AreCounted` holds of parts of any number of steps
   pub AreCounted-every : (n : ℕ) → AreCounted n
-  unfolding parts_from own_break first_break_from tally_by quiet_tally
+  unfolding parts_from own_break first_break_from tally_by unbroken_tally
   AreCounted-every zero start o [] c few ok slots = counts-last_part start o [] c ok slots refl
   AreCounted-every zero start o (s ∷ x) c few ok slots = absurd (omega arith)
   AreCounted-every (suc n) start o x c few ok slots =
-      rw (finds (recorded o x) ok slots, tally_first x (memories_at o) o start (fresh c))
+      rw (finds (recorded o x) ok slots, tally_by-first_break x (memories_at o) o start (fresh c))
       (counts-part start o x c ok slots n few (AreCounted-every n) (first_break_from (memories_at o) o x)
       (BreakWithin-first_break x (memories_at o) o) refl)
 
   -- `AreHung` holds of parts of any number of steps
   pub AreHung-every : (n : ℕ) → AreHung n
-  unfolding parts_from own_break first_break_from tally_by quiet_tally
+  unfolding parts_from own_break first_break_from tally_by unbroken_tally
   AreHung-every zero start o [] c few ok slots = hang-last_part start o [] c ok slots refl
   AreHung-every zero start o (s ∷ x) c few ok slots = absurd (omega arith)
   AreHung-every (suc n) start o x c few ok slots =
-      rw (finds (recorded o x) ok slots, tally_first x (memories_at o) o start (fresh c))
+      rw (finds (recorded o x) ok slots, tally_by-first_break x (memories_at o) o start (fresh c))
       (hang-part start o x c ok slots n few (AreHung-every n) (first_break_from (memories_at o) o x)
       (BreakWithin-first_break x (memories_at o) o) refl)

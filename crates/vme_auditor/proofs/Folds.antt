@@ -15,7 +15,7 @@ use Rattle.vme_summary.proofs.Sound.{sound_apart}
 use Rattle.vme_auditor.specs.Audited.{AuditReached, HasAudited, begun_at, reached_after, reached_at, stepped, with_step}
 use Rattle.vme_auditor.specs.Memories.{fault_at}
 use Rattle.vme_auditor.specs.declared.audit.Audit.{Audit}
-use Rattle.vme_auditor.proofs.ReturnedBreaks.{FindsFirst, returned_are_breaks}
+use Rattle.vme_auditor.proofs.ReturnedBreaks.{FindsFirst, breaks-returned}
 
 -- an audit after the steps `x` and one more is the one after `x`, and then one step
 fold-next : (x : List Step) (r : AuditReached) (s : Step) → fold with_step r (x ++ s ∷ [])
@@ -106,11 +106,11 @@ module _ (o : Levels) (x : List Step) (s : Step) (n : ℕ) (v : StepView) (a : A
       → (found : Option Break) → found ≡ fault_at a.memories u.before u.after cs later s.time
       → breaks (recorded o (x ++ s ∷ [])) ≡ breaks (recorded o x) ++ option_to_list found
   breaks-next finds ok few found e =
-      returned_are_breaks finds (recorded o (x ++ s ∷ [])) ok few
+      breaks-returned finds (recorded o (x ++ s ∷ [])) ok few
       ∙ ap (λ (r : AuditReached). r.returned) reached-next
       ∙ ap (λ (bs : List Break). bs ++ option_to_list (fault_at r.audit.memories r.levels (changed r.levels s.changes)
       s.changes (r.instant + 1) s.time))
-      (sym (returned_are_breaks finds (recorded o x) (sound_apart o x (s ∷ []) ok).first few))
+      (sym (breaks-returned finds (recorded o x) (sound_apart o x (s ∷ []) ok).first few))
       ∙ ap (λ (e : Option Break). breaks (recorded o x) ++ option_to_list e)
       (sym (e ∙ fault_at-equal a r.audit u.before r.levels u.after (changed r.levels s.changes) cs s.changes later
       (r.instant + 1) k.audit_is levels-before levels-after own instant-next))

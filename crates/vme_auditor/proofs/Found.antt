@@ -27,11 +27,11 @@ use Rattle.vme_auditor.specs.declared.tally.Tally.{Tally}
 use Rattle.vme_auditor.proofs.AskedParts.{KnowsStart, events-after_steps, HaveHappened-every}
 use Rattle.vme_auditor.proofs.CountedParts.{AreCounted-every, AreHung-every, started_of}
 use Rattle.vme_auditor.proofs.JudgedParts.{HasLastBreak-steps, memories-after_steps, AreJudged-every}
-use Rattle.vme_auditor.proofs.MarkCounts.{nothing_counted, sum_nothing}
+use Rattle.vme_auditor.proofs.MarkCounts.{nothing_counted, sum_of-nothing}
 use Rattle.vme_auditor.proofs.PartRows.{ShowsMarks}
-use Rattle.vme_auditor.proofs.TalliedSteps.{tally_along, tally_by}
+use Rattle.vme_auditor.proofs.TalliedSteps.{tally-after_steps, tally_by}
 use Rattle.vme_auditor.proofs.TallyBounds.{Fits, IsExact, pending_exact, tally_exact}
-use Rattle.vme_auditor.proofs.ReturnedBreaks.{FindsFirst, recorded, returned_are_breaks}
+use Rattle.vme_auditor.proofs.ReturnedBreaks.{FindsFirst, recorded, breaks-returned}
 
 -- no rule is asked before a recording
 asks_by-nothing : (r : Rule) → asks_by nothing_happened r ≡ false
@@ -71,7 +71,7 @@ module _ (finds : FindsFirst) (o : Levels) (x : List Step) (n : ℕ) (view : Ste
   unfolding reached_after
   last_break-found =
       ap (λ (a : Audit). a.last_break) keeps.audit_is ∙ HasLastBreak-steps x (reached_at o) refl
-      ∙ ap last_instant_of (sym (returned_are_breaks finds (recorded o x) ok few))
+      ∙ ap last_instant_of (sym (breaks-returned finds (recorded o x) ok few))
 
   -- the monitors have started exactly if the last part is judged
   pub judged-found : KnowsStart → has_started a.memories.known ≡ is_judged_part (last_part (recorded o x))
@@ -111,7 +111,7 @@ module _ (finds : FindsFirst) (o : Levels) (x : List Step) (n : ℕ) (view : Ste
     tally-exact : a.tally ≡ exact
     unfolding reached_after
     tally-exact =
-        ap (λ (a : Audit). a.tally) keeps.audit_is ∙ tally_along x (reached_at o) ∙ IsExact-steps.same
+        ap (λ (a : Audit). a.tally) keeps.audit_is ∙ tally-after_steps x (reached_at o) ∙ IsExact-steps.same
 
     -- the counts are those of the recording
     pub counts-found : counts_so_far counted a.tally ≡ counts (recorded o x)
@@ -122,7 +122,7 @@ module _ (finds : FindsFirst) (o : Levels) (x : List Step) (n : ℕ) (view : Ste
         (pending_exact (0 + length x) (0 + length x) (0 + length x) (0 + length x) exact IsExact-steps.fits
         steps-below_limit).same
         ∙ AreCounted-every finds shows (length x) 0 o x nothing_counted (omega arith) ok few
-        ∙ sum_nothing (counts (recorded o x))
+        ∙ sum_of-nothing (counts (recorded o x))
 
     -- the transfer that hangs is the one of the recording
     pub hang-found : option_map {U = ℕ × ℕ} (λ (s : StartedTransfer). (s.instant, s.time)) (hang_so_far a.tally)

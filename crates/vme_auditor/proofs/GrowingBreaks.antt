@@ -19,7 +19,7 @@ use Rattle.vme_summary.proofs.Sound.{sound_apart}
 use Rattle.vme_auditor.specs.Audited.{AuditReached, reached_after, reached_at, with_step}
 use Rattle.vme_auditor.specs.Growth.{StepBreaks}
 use Rattle.vme_auditor.specs.Memories.{first_fault_of}
-use Rattle.vme_auditor.proofs.ReturnedBreaks.{FindsFirst, returned_are_breaks}
+use Rattle.vme_auditor.proofs.ReturnedBreaks.{FindsFirst, breaks-returned}
 
 -- the break of a fault at instant n is at n
 instant-break_of_fault : (n time : ℕ) (f : Option Fault)
@@ -60,7 +60,7 @@ module _ (finds : FindsFirst) where
   -- a recording without steps has no break
   pub breaks-no_step : (o : Levels) → o.slots ≤ 21 → breaks (record { opening = o; steps = [] }) ≡ []
   unfolding reached_after malformed_step least
-  breaks-no_step o few = returned_are_breaks finds (record { opening = o; steps = [] }) refl few
+  breaks-no_step o few = breaks-returned finds (record { opening = o; steps = [] }) refl few
 
   -- no break of a recording is after its last step
   pub All-breaks_within : (t : Trace) → malformed_step t ≡ None → t.opening.slots ≤ 21
@@ -68,7 +68,7 @@ module _ (finds : FindsFirst) where
   unfolding reached_after
   All-breaks_within t ok few =
       subst (λ (bs : List Break). All (λ (b : Break). b.instant ≤ length t.steps) bs)
-      (sym (returned_are_breaks finds t ok few))
+      (sym (breaks-returned finds t ok few))
       (All-weaker (λ (b : Break). b.instant ≤ 0 + length t.steps) (λ (b : Break). b.instant ≤ length t.steps)
       (λ b le. omega arith) (reached_after t.opening t.steps).returned
       (All-returned t.steps (reached_at t.opening) (All-nil (λ (b : Break). b.instant ≤ 0))))
@@ -89,8 +89,8 @@ module _ (finds : FindsFirst) where
             subst (λ k. IfSome (option_map (break_of_fault (r.instant + 1) s.time) fault) (λ b. b.instant ≡ k + 1)) n
             (instant-break_of_fault (r.instant + 1) s.time fault);
         grown =
-            returned_are_breaks finds (with_steps t (s ∷ [])) ok few
+            breaks-returned finds (with_steps t (s ∷ [])) ok few
             ∙ ap (λ (r : AuditReached). r.returned) more
             ∙ ap (λ (bs : List Break). bs ++ option_to_list (option_map (break_of_fault (r.instant + 1) s.time) fault))
-            (sym (returned_are_breaks finds t (sound_apart t.opening t.steps (s ∷ []) ok).first few));
+            (sym (breaks-returned finds t (sound_apart t.opening t.steps (s ∷ []) ok).first few));
       }

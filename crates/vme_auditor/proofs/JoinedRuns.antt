@@ -19,9 +19,11 @@ use Rattle.vme_summary.specs.Runs.{acknowledge_run, grant_run, handshake_run, kn
 use Rattle.vme_auditor.specs.JoinedMarks.{joined_marks, kinds_shown}
 use Rattle.vme_auditor.specs.Memories.{grant_at, handshake_at, known_at, memories_next}
 use Rattle.vme_auditor.specs.declared.memories.Memories.{Memories}
-use Rattle.vme_auditor.proofs.ShownKinds.{AllBelow, AllFrom, acknowledge_own, from_both, grant_own, handshake_own}
-use Rattle.vme_auditor.proofs.ShownKinds.{known_own, stability_own, stretch_below, tenure_below, tenure_from}
-use Rattle.vme_auditor.proofs.ShownKinds.{transfer_from}
+use Rattle.vme_auditor.proofs.ShownKinds.{AllBelow, AllFrom, IsNothing-acknowledge, AllFrom-append, OfTenure-grant}
+use Rattle.vme_auditor.proofs.ShownKinds.{OfTransfer-handshake}
+use Rattle.vme_auditor.proofs.ShownKinds.{OfStretch-known, IsNothing-stability, AllBelow-stretch, AllBelow-tenure}
+use Rattle.vme_auditor.proofs.ShownKinds.{AllFrom-tenure}
+use Rattle.vme_auditor.proofs.ShownKinds.{AllFrom-transfer}
 
 -- marks of these kinds at the instant 1
 abbrev pub marked : List MarkKind → List Mark
@@ -81,7 +83,7 @@ stability_has_no_marks [] m o = refl
 stability_has_no_marks (s ∷ x) m o =
     let after = changed o s.changes in
     let next = memories_next m o after s.changes in
-    rw (stability_own m o after s.changes) (ap (map (shifted_mark 1)) (stability_has_no_marks x next after))
+    rw (IsNothing-stability m o after s.changes) (ap (map (shifted_mark 1)) (stability_has_no_marks x next after))
 
 -- the monitor of interrupt acknowledges shows no marks
 acknowledge_has_no_marks : (x : List Step) (m : Memories) (o : Levels) → (acknowledge_run m.acknowledge o x).marks ≡ []
@@ -90,7 +92,7 @@ acknowledge_has_no_marks [] m o = refl
 acknowledge_has_no_marks (s ∷ x) m o =
     let after = changed o s.changes in
     let next = memories_next m o after s.changes in
-    rw (acknowledge_own m o after s.changes) (ap (map (shifted_mark 1)) (acknowledge_has_no_marks x next after))
+    rw (IsNothing-acknowledge m o after s.changes) (ap (map (shifted_mark 1)) (acknowledge_has_no_marks x next after))
 
 -- the merged marks of the stretches, of the tenures, and of the cycles and transfers are the joined marks
 three_joined : (x : List Step) (m : Memories) (o : Levels)
@@ -111,12 +113,13 @@ three_joined (s ∷ x) m o =
     let handshake_within = run_within handshake_at x next.handshake after in
     let grant_within = run_within grant_at x next.grant after in
     let two_within = (both_within (length x) handshake grant handshake_within grant_within).1 in
-    let d_from : AllFrom 5 (kinds_of d) = transfer_from 5 (omega arith) d (handshake_own m o after s.changes) in
-    let g_below : AllBelow 5 (kinds_of g) = tenure_below g (grant_own m o after s.changes) in
-    let k_below : AllBelow 2 (kinds_of k) = stretch_below k (known_own m o after s.changes) in
-    let gd_from : AllFrom 2 (kinds_of g ++ kinds_of d) = from_both 2 (kinds_of g) (kinds_of d)
-    (tenure_from g (grant_own m o after s.changes))
-    (transfer_from 2 (omega arith) d (handshake_own m o after s.changes)) in
+    let d_from : AllFrom 5 (kinds_of d) =
+    AllFrom-transfer 5 (omega arith) d (OfTransfer-handshake m o after s.changes) in
+    let g_below : AllBelow 5 (kinds_of g) = AllBelow-tenure g (OfTenure-grant m o after s.changes) in
+    let k_below : AllBelow 2 (kinds_of k) = AllBelow-stretch k (OfStretch-known m o after s.changes) in
+    let gd_from : AllFrom 2 (kinds_of g ++ kinds_of d) = AllFrom-append 2 (kinds_of g) (kinds_of d)
+    (AllFrom-tenure g (OfTenure-grant m o after s.changes))
+    (AllFrom-transfer 2 (omega arith) d (OfTransfer-handshake m o after s.changes)) in
     ap (merged (marked (kinds_of k) ++ map (shifted_mark 1) known.marks))
     (merged_joined 1 (length x) (marked (kinds_of d)) (marked (kinds_of g)) handshake.marks grant.marks
     (marked_within (kinds_of d)) (marked_within (kinds_of g)) handshake_within.1 grant_within.1

@@ -26,8 +26,9 @@ use Rattle.vme_auditor.specs.declared.memories.Memories.{Memories}
 use Rattle.vme_auditor.proofs.AskedParts.{KnowsStart, known-unbroken, unbroken_memories}
 use Rattle.vme_auditor.proofs.CountedParts.{last_from-parts}
 use Rattle.vme_auditor.proofs.FirstBreaks.{BreakWithin-first_break}
-use Rattle.vme_auditor.proofs.ReturnedBreaks.{FindsFirst, levels_next, memories_after, memories_stepped, recorded}
-use Rattle.vme_auditor.proofs.ReturnedBreaks.{rest_slots, rest_sound}
+use Rattle.vme_auditor.proofs.ReturnedBreaks.{FindsFirst, levels_at-later_step, memories_after, memories-with_step}
+use Rattle.vme_auditor.proofs.ReturnedBreaks.{recorded}
+use Rattle.vme_auditor.proofs.ReturnedBreaks.{slots-rest_after, well_formed-rest_after}
 
 -- the memories of the monitors after steps `x`, where they start anew at each break
 unfoldable pub memories_from : Memories → Levels → List Step → Memories
@@ -44,7 +45,7 @@ unfolding memories_from
 memories-after_steps [] r = refl
 memories-after_steps (s ∷ x) r =
     memories-after_steps x (with_step r s)
-    ∙ ap (λ (m : Memories). memories_from m (changed r.levels s.changes) x) (memories_stepped r s)
+    ∙ ap (λ (m : Memories). memories_from m (changed r.levels s.changes) x) (memories-with_step r s)
 
 -- the memories after steps `x`, of which `b` is the first break: from there on the monitors start anew
 abbrev memories_around_break : Memories → Levels → List Step → Option Break → Memories
@@ -67,7 +68,7 @@ module _ (m : Memories) (o : Levels) (s : Step) (x : List Step) where
       ≡ memories_around_break m o (s ∷ x) (option_map (shifted_break 1) found)
   unfolding unbroken_memories
   memories_around_break-shifted None = refl
-  memories_around_break-shifted (Some b) = rw (add-one b.instant, levels_next o s x b.instant) refl
+  memories_around_break-shifted (Some b) = rw (add-one b.instant, levels_at-later_step o s x b.instant) refl
 
   -- if the memories after `x` are those around the first break of `x`, so are those after `s` and `x`
   memories_around_break-step : (f : Option Fault) (time : ℕ) → memories_from next after x
@@ -124,8 +125,8 @@ module _ (finds : FindsFirst) (starts : KnowsStart) where
     judged-part n short judged (Some b) w =
         let fewer : length (drop b.instant x) ≤ n = simp length-drop (omega arith) in
         judged (start + b.instant) (levels_at (recorded o x) b.instant) (drop b.instant x) fewer
-        (rest_sound (recorded o x) b.instant ok)
-        (subst (λ k. k ≤ 21) (sym (rest_slots (recorded o x) b.instant)) few)
+        (well_formed-rest_after (recorded o x) b.instant ok)
+        (subst (λ k. k ≤ 21) (sym (slots-rest_after (recorded o x) b.instant)) few)
         ∙ ap is_judged_part (sym (last_from-parts n here (part_after here b)))
 
   -- `AreJudged` holds of parts of any number of steps

@@ -18,7 +18,7 @@ use Rattle.vme_audit.specs.declared.outcome.CoverageGap.{CoverageGap}
 use Rattle.vme_audit.specs.declared.outcome.CoverageGap.TheVariants.{FewAnswers, NeverIdle}
 use Rattle.vme_audit.specs.declared.outcome.Outcome.{Outcome}
 use Rattle.vme_audit.specs.declared.outcome.Outcome.TheVariants.{Broken, Conforming, NotCovered, Unreadable}
-use Rattle.vme_auditor.proofs.WholeRecordings.{no_breaks, none_named, unbroken_verdict}
+use Rattle.vme_auditor.proofs.WholeRecordings.{breaks-unbroken, named_break-no_breaks, verdict-unbroken}
 
 -- an outcome, by whether breaks are wrong, whether they are unreadable, the gap and how many breaks are allowed
 abbrev chosen : Bool → Bool → Option CoverageGap → ℕ → Outcome
@@ -144,7 +144,7 @@ module _ (allowances : List Allowance) (wanted : ℕ) (t : Trace) where
   verdict-conforming e =
       let none = of_breaks-conforming allowances (gap wanted t) (breaks t) e in
       let whole = chosen-conforming _ _ (gap wanted t) _ 0 e in
-      unbroken_verdict t (none_named t none)
+      verdict-unbroken t (named_break-no_breaks t none)
       ∙ ap (λ b. cond b verdict_is.Conforming verdict_is.NeverIdle)
       (judged-no_gap (is_judged_part (last_part t)) (nat_lt (answered (counts t)) wanted) (never_idle (breaks t))
       (FewAnswers (answered (counts t)) wanted) (option_map (hang_from (last_part t)) (hang t)) whole)
@@ -156,7 +156,7 @@ module _ (allowances : List Allowance) (wanted : ℕ) (t : Trace) where
       let idle = judged-never_idle (last_part t) (is_judged_part (last_part t)) _ (breaks t) (answered (counts t))
       wanted (hang t)
       (chosen-not_covered _ _ (gap wanted t) _ NeverIdle e) in
-      unbroken_verdict t (none_named t idle.1)
+      verdict-unbroken t (named_break-no_breaks t idle.1)
       ∙ ap (λ b. cond b verdict_is.Conforming verdict_is.NeverIdle) idle.0
 
   -- if the verdict is that the bus was never idle, so is the outcome
@@ -164,7 +164,7 @@ module _ (allowances : List Allowance) (wanted : ℕ) (t : Trace) where
   unfolding outcome gap
   never_idle_outcome e =
       let none = ap named_break e in
-      rw (no_breaks t none, unjudged (is_judged_part (last_part t)) (sym (unbroken_verdict t none) ∙ e)) refl
+      rw (breaks-unbroken t none, unjudged (is_judged_part (last_part t)) (sym (verdict-unbroken t none) ∙ e)) refl
     where
       unjudged : (b : Bool) → cond b verdict_is.Conforming verdict_is.NeverIdle ≡ verdict_is.NeverIdle → b ≡ false
       unjudged true e = absurd (cc)

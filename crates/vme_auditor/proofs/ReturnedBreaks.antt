@@ -25,6 +25,7 @@ use Rattle.vme_auditor.specs.Memories.{fault_at, first_fault_of, memories_at, me
 use Rattle.vme_auditor.specs.declared.memories.Memories.{Memories}
 use Rattle.vme_auditor.proofs.FirstBreaks.{BreakWithin-first_break}
 
+-- the recording of the steps `x` after the opening `o`
 abbrev pub recorded : Levels → List Step → Trace
 recorded o x = record { opening = o; steps = x }
 
@@ -43,10 +44,10 @@ returned_by m o n (s ∷ x) =
     (n + 1) x
 
 -- the memories of an audit after one more step
-pub memories_stepped : (r : AuditReached) (s : Step) → (with_step r s).audit.memories
+pub memories-with_step : (r : AuditReached) (s : Step) → (with_step r s).audit.memories
     ≡ memories_after (first_fault_of r.audit.memories r.levels (changed r.levels s.changes) s.changes)
     (changed r.levels s.changes) (memories_next r.audit.memories r.levels (changed r.levels s.changes) s.changes)
-memories_stepped r s = by_fault (first_fault_of r.audit.memories r.levels (changed r.levels s.changes) s.changes) refl
+memories-with_step r s = by_fault (first_fault_of r.audit.memories r.levels (changed r.levels s.changes) s.changes) refl
   where
     by_fault : (f : Option Fault) → first_fault_of r.audit.memories r.levels (changed r.levels s.changes) s.changes ≡ f
         → (with_step r s).audit.memories ≡ memories_after f (changed r.levels s.changes)
@@ -54,22 +55,25 @@ memories_stepped r s = by_fault (first_fault_of r.audit.memories r.levels (chang
     by_fault None e = rw e refl
     by_fault (Some f) e = rw e refl
 
-returned_along : (x : List Step) (r : AuditReached) → (fold with_step r x).returned
+-- the breaks that an audit has returned after the steps `x` are those before, and those returned by its monitors from
+-- then on
+returned-after_steps : (x : List Step) (r : AuditReached) → (fold with_step r x).returned
     ≡ r.returned ++ returned_by r.audit.memories r.levels r.instant x
 unfolding returned_by
-returned_along [] r = sym (append-nil r.returned)
-returned_along (s ∷ x) r =
+returned-after_steps [] r = sym (append-nil r.returned)
+returned-after_steps (s ∷ x) r =
     let after = changed r.levels s.changes in
     let found = option_to_list (fault_at r.audit.memories r.levels after s.changes (r.instant + 1) s.time) in
-    returned_along x (with_step r s)
+    returned-after_steps x (with_step r s)
     ∙ append_assoc r.returned found (returned_by (with_step r s).audit.memories after (r.instant + 1) x)
-    ∙ ap (λ (m : Memories). r.returned ++ (found ++ returned_by m after (r.instant + 1) x)) (memories_stepped r s)
+    ∙ ap (λ (m : Memories). r.returned ++ (found ++ returned_by m after (r.instant + 1) x)) (memories-with_step r s)
 
-pub levels_next : (o : Levels) (s : Step) (x : List Step) (n : ℕ) → levels_at (recorded o (s ∷ x)) (suc n)
+-- the levels after one more instant, with a step before the others, are those after the others from there
+pub levels_at-later_step : (o : Levels) (s : Step) (x : List Step) (n : ℕ) → levels_at (recorded o (s ∷ x)) (suc n)
     ≡ levels_at (recorded (changed o s.changes) x) n
 unfolding levels_at
-levels_next o s x zero = refl
-levels_next o s x (suc n) = rw (levels_next o s x n) refl
+levels_at-later_step o s x zero = refl
+levels_at-later_step o s x (suc n) = rw (levels_at-later_step o s x n) refl
 
 -- the breaks returned where judging starts anew at levels `o`
 abbrev returned_on_restart : Levels → ℕ → List Step → List Break
@@ -81,12 +85,13 @@ returned_after o n x None = []
 returned_after o n x (Some b) =
     moved_by n b ∷ returned_on_restart (levels_at (recorded o x) b.instant) (n + b.instant) (drop b.instant x)
 
-returned_after_shifted : (o : Levels) (n : ℕ) (s : Step) (x : List Step) (e : Option Break)
+-- the break found in `x` is one instant later if a step comes before
+returned_after-shifted : (o : Levels) (n : ℕ) (s : Step) (x : List Step) (e : Option Break)
     → returned_after (changed o s.changes) (n + 1) x e ≡ returned_after o n (s ∷ x) (option_map (shifted_break 1) e)
-returned_after_shifted o n s x None = refl
-returned_after_shifted o n s x (Some b) =
+returned_after-shifted o n s x None = refl
+returned_after-shifted o n s x (Some b) =
     let same : (n + 1) + b.instant ≡ n + suc b.instant = omega arith in
-    rw (add-one b.instant, levels_next o s x b.instant, same) refl
+    rw (add-one b.instant, levels_at-later_step o s x b.instant, same) refl
 
 -- the breaks returned from a step on are the first break and those returned after it
 module _ (o : Levels) (s : Step) (x : List Step) (n : ℕ) where
@@ -94,34 +99,38 @@ module _ (o : Levels) (s : Step) (x : List Step) (n : ℕ) where
   after = changed o s.changes
 
   -- if the breaks returned after step `s` are the first one there and those after it, so are those from `s` on
-  first_stepped : (f : Option Fault) (m : Memories) → returned_by m after (n + 1) x
+  returned_by-step : (f : Option Fault) (m : Memories) → returned_by m after (n + 1) x
       ≡ returned_after after (n + 1) x (first_break_from m after x)
       → option_to_list (option_map (break_of_fault (n + 1) s.time) f)
       ++ returned_by (memories_after f after m) after (n + 1) x ≡ returned_after o n (s ∷ x)
       (earlier (option_map (break_of_fault 1 s.time) f) (option_map (shifted_break 1) (first_break_from m after x)))
   unfolding levels_at
-  first_stepped None m so_far = so_far ∙ returned_after_shifted o n s x (first_break_from m after x)
-  first_stepped (Some f) m so_far = refl
+  returned_by-step None m so_far = so_far ∙ returned_after-shifted o n s x (first_break_from m after x)
+  returned_by-step (Some f) m so_far = refl
 
-returned_first : (x : List Step) (m : Memories) (o : Levels) (n : ℕ) → returned_by m o n x
+-- the breaks returned at steps are the first one and those returned after it
+returned_by-first_break : (x : List Step) (m : Memories) (o : Levels) (n : ℕ) → returned_by m o n x
     ≡ returned_after o n x (first_break_from m o x)
 unfolding returned_by first_break_from
-returned_first [] m o n = refl
-returned_first (s ∷ x) m o n =
+returned_by-first_break [] m o n = refl
+returned_by-first_break (s ∷ x) m o n =
     let after = changed o s.changes in
     let next = memories_next m o after s.changes in
-    first_stepped o s x n (first_fault_of m o after s.changes) next (returned_first x next after (n + 1))
+    returned_by-step o s x n (first_fault_of m o after s.changes) next (returned_by-first_break x next after (n + 1))
 
--- what remains of a recording after an instant has the same slots, and is well formed if the recording is
-slots_after : (x : List Step) (o : Levels) → (levels_after o x).slots ≡ o.slots
-slots_after [] o = refl
-slots_after (s ∷ x) o = slots_after x (changed o s.changes) ∙ slots-kept o s.changes
+-- steps leave the number of slots as it is
+slots-levels_after : (x : List Step) (o : Levels) → (levels_after o x).slots ≡ o.slots
+slots-levels_after [] o = refl
+slots-levels_after (s ∷ x) o = slots-levels_after x (changed o s.changes) ∙ slots-kept o s.changes
 
-pub rest_slots : (t : Trace) (j : ℕ) → (rest_after t j).opening.slots ≡ t.opening.slots
-rest_slots t j = ap (λ (v : Levels). v.slots) (levels_at-taken t j) ∙ slots_after (take j t.steps) t.opening
+-- what remains of a recording after an instant has the same slots
+pub slots-rest_after : (t : Trace) (j : ℕ) → (rest_after t j).opening.slots ≡ t.opening.slots
+slots-rest_after t j =
+    ap (λ (v : Levels). v.slots) (levels_at-taken t j) ∙ slots-levels_after (take j t.steps) t.opening
 
-pub rest_sound : (t : Trace) (j : ℕ) → malformed_step t ≡ None → malformed_step (rest_after t j) ≡ None
-rest_sound t j ok =
+-- what remains of a well-formed recording after an instant is well formed
+pub well_formed-rest_after : (t : Trace) (j : ℕ) → malformed_step t ≡ None → malformed_step (rest_after t j) ≡ None
+well_formed-rest_after t j ok =
     let whole : malformed_step (recorded t.opening (take j t.steps ++ drop j t.steps)) ≡ None =
     subst (λ (x : List Step). malformed_step (recorded t.opening x) ≡ None) (sym (take-append-drop j t.steps)) ok in
     subst (λ (v : Levels). malformed_step (recorded v (drop j t.steps)) ≡ None) (sym (levels_at-taken t j))
@@ -139,34 +148,36 @@ module _ (finds : FindsFirst) where
       → o.slots ≤ 21
       → breaks_of (parts_from n (record { start = start; trace = recorded o x })) ≡ returned_on_restart o start x
 
-  breaks_after_first : (n start : ℕ) (o : Levels) (x : List Step) → length x ≤ suc n
+  -- the break of a part, if it has one, and the breaks of the parts after it are those returned after it
+  breaks_of-after_first : (n start : ℕ) (o : Levels) (x : List Step) → length x ≤ suc n
       → malformed_step (recorded o x) ≡ None → o.slots ≤ 21 → AreReturned n → (e : Option Break)
       → BreakWithin (length x) e
       → option_to_list (option_map (moved_by start) e) ++ breaks_of (option_map_or
       (λ b. parts_from n (part_after (record { start = start; trace = recorded o x }) b)) e [])
       ≡ returned_after o start x e
-  breaks_after_first n start o x few ok slots returned None w = refl
-  breaks_after_first n start o x few ok slots returned (Some b) w =
+  breaks_of-after_first n start o x few ok slots returned None w = refl
+  breaks_of-after_first n start o x few ok slots returned (Some b) w =
       let fewer : length (drop b.instant x) ≤ n = simp length-drop (omega arith) in
       ap (λ bs. moved_by start b ∷ bs)
       (returned (start + b.instant) (levels_at (recorded o x) b.instant) (drop b.instant x) fewer
-      (rest_sound (recorded o x) b.instant ok)
-      (subst (λ k. k ≤ 21) (sym (rest_slots (recorded o x) b.instant)) slots))
+      (well_formed-rest_after (recorded o x) b.instant ok)
+      (subst (λ k. k ≤ 21) (sym (slots-rest_after (recorded o x) b.instant)) slots))
 
-  breaks_returned : (n : ℕ) → AreReturned n
+  -- `AreReturned` holds of parts of any number of steps
+  AreReturned-every : (n : ℕ) → AreReturned n
   unfolding parts_from own_break first_break_from
-  breaks_returned zero start o [] few ok slots =
-      rw (finds (recorded o []) ok slots) (sym (returned_first [] (memories_at o) o start))
-  breaks_returned zero start o (s ∷ x) few ok slots = absurd (omega arith)
-  breaks_returned (suc n) start o x few ok slots =
-      rw (finds (recorded o x) ok slots, returned_first x (memories_at o) o start)
-      (breaks_after_first n start o x few ok slots (breaks_returned n) (first_break_from (memories_at o) o x)
+  AreReturned-every zero start o [] few ok slots =
+      rw (finds (recorded o []) ok slots) (sym (returned_by-first_break [] (memories_at o) o start))
+  AreReturned-every zero start o (s ∷ x) few ok slots = absurd (omega arith)
+  AreReturned-every (suc n) start o x few ok slots =
+      rw (finds (recorded o x) ok slots, returned_by-first_break x (memories_at o) o start)
+      (breaks_of-after_first n start o x few ok slots (AreReturned-every n) (first_break_from (memories_at o) o x)
       (BreakWithin-first_break x (memories_at o) o))
 
   -- the breaks of a recording are those that an audit returns
-  pub returned_are_breaks : (t : Trace) → malformed_step t ≡ None → t.opening.slots ≤ 21
+  pub breaks-returned : (t : Trace) → malformed_step t ≡ None → t.opening.slots ≤ 21
       → breaks t ≡ (reached_after t.opening t.steps).returned
   unfolding parts reached_after
-  returned_are_breaks t ok slots =
-      breaks_returned (length t.steps) 0 t.opening t.steps (omega arith) ok slots
-      ∙ sym (returned_along t.steps (reached_at t.opening))
+  breaks-returned t ok slots =
+      AreReturned-every (length t.steps) 0 t.opening t.steps (omega arith) ok slots
+      ∙ sym (returned-after_steps t.steps (reached_at t.opening))

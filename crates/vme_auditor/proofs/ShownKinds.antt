@@ -1,4 +1,5 @@
--- Each monitor shows only marks of its own kinds at a step.
+-- Each monitor shows only marks of its own kinds at a step, and the numbers of the kinds are in the order of the
+-- monitors.
 use Rattle.std.proofs.Common.{◌≡◌, ℕ, ◌<◌, ◌≤◌, Bool, true, false, ◌||◌, List, [], ◌∷◌, ◌++◌, refl, sym, subst, arith}
 use Rattle.std.proofs.Common.{lit<, lit≤, cond, Option, None, Some}
 use Rattle.std.specs.Option.{is_some, option_map, option_map_or, option_to_list}
@@ -35,55 +36,66 @@ use Rattle.vme_chains.specs.AcknowledgeRules.{acknowledge_start_marks, acknowled
 use Rattle.vme_auditor.specs.Memories.{acknowledge_at, grant_at, handshake_at, known_at, stability_at}
 use Rattle.vme_auditor.specs.declared.memories.Memories.{Memories}
 
--- a machine run over stretches shows its start marks, its reset marks, or what its rules show
+-- if the start marks, the reset marks and what the rules show satisfy `AreItsKinds`, so does what a machine run over
+-- stretches shows
 module _ {P S : Type 0} (begin : Levels → P) (start_marks : Levels → StepMarks) (reset_marks : StepMarks)
     (end_fault : ℕ → Option Fault)
-    (next : P → Levels → Levels → S → Next P) (IsOwn : StepMarks → Type 0) (none : IsOwn no_step_marks)
-    (opened : (v : Levels) → IsOwn (start_marks v)) (reset : IsOwn reset_marks)
-    (stepped : (p : P) (v w : Levels) (s : S) → IsOwn (next p v w s).shown) where
-  waiting_own : (m : StretchPhase P) (w : Levels) (b : Bool)
-      → IsOwn (cond b (record { memory = phase.InStretch (begin w); fault = None; shown = start_marks w })
+    (next : P → Levels → Levels → S → Next P) (AreItsKinds : StepMarks → Type 0) (none : AreItsKinds no_step_marks)
+    (opened : (v : Levels) → AreItsKinds (start_marks v)) (reset : AreItsKinds reset_marks)
+    (stepped : (p : P) (v w : Levels) (s : S) → AreItsKinds (next p v w s).shown) where
+  -- at a step of a machine that waits
+  AreItsKinds-waiting : (m : StretchPhase P) (w : Levels) (b : Bool)
+      → AreItsKinds (cond b (record { memory = phase.InStretch (begin w); fault = None; shown = start_marks w })
       (quiet m)).shown
-  waiting_own m w true = opened w
-  waiting_own m w false = none
+  AreItsKinds-waiting m w true = opened w
+  AreItsKinds-waiting m w false = none
 
-  seen_own : (p : P) (v w : Levels) (s : Option S) → IsOwn (option_map_or (next p v w) s (quiet p)).shown
-  seen_own p v w None = none
-  seen_own p v w (Some s) = stepped p v w s
+  -- at a step of the rules, with an observation or without one
+  AreItsKinds-observation : (p : P) (v w : Levels) (s : Option S)
+      → AreItsKinds (option_map_or (next p v w) s (quiet p)).shown
+  AreItsKinds-observation p v w None = none
+  AreItsKinds-observation p v w (Some s) = stepped p v w s
 
-  judging_own : (p : P) (v w : Levels) (e : Option End) (s : Option S)
-      → IsOwn (judging begin start_marks reset_marks end_fault next p v w e s).shown
-  judging_own p v w (Some end.Reset) s = reset
-  judging_own p v w (Some (end.Lost l)) s = none
-  judging_own p v w None s = seen_own p v w s
+  -- at a step in a stretch
+  AreItsKinds-judging : (p : P) (v w : Levels) (e : Option End) (s : Option S)
+      → AreItsKinds (judging begin start_marks reset_marks end_fault next p v w e s).shown
+  AreItsKinds-judging p v w (Some end.Reset) s = reset
+  AreItsKinds-judging p v w (Some (end.Lost l)) s = none
+  AreItsKinds-judging p v w None s = AreItsKinds-observation p v w s
 
   module _ (observation : Levels → Levels → List Change → Option S) (v w : Levels) (cs : List Change) where
-    phase_step_own : (m : StretchPhase P)
-        → IsOwn (phase_step begin start_marks reset_marks end_fault next m v w
+    -- at a step in any phase
+    AreItsKinds-phase_step : (m : StretchPhase P)
+        → AreItsKinds (phase_step begin start_marks reset_marks end_fault next m v w
         (record { end = end_among w cs; inner = observation v w cs })).shown
-    phase_step_own phase.Waiting = waiting_own phase.Waiting w (is_idle w)
-    phase_step_own (phase.InStretch p) = judging_own p v w (end_among w cs) (observation v w cs)
-    phase_step_own phase.Reset = waiting_own phase.Reset w (is_idle w)
-    phase_step_own phase.Ended = none
+    AreItsKinds-phase_step phase.Waiting = AreItsKinds-waiting phase.Waiting w (is_idle w)
+    AreItsKinds-phase_step (phase.InStretch p) = AreItsKinds-judging p v w (end_among w cs) (observation v w cs)
+    AreItsKinds-phase_step phase.Reset = AreItsKinds-waiting phase.Reset w (is_idle w)
+    AreItsKinds-phase_step phase.Ended = none
 
-    observed_own : (m : StretchPhase P) (b : Bool)
-        → IsOwn (option_map_or (phase_step begin start_marks reset_marks end_fault next m v w)
+    -- at a step at which something is observed, or nothing
+    AreItsKinds-observed : (m : StretchPhase P) (b : Bool)
+        → AreItsKinds (option_map_or (phase_step begin start_marks reset_marks end_fault next m v w)
         (cond b (Some (record { end = end_among w cs; inner = observation v w cs })) None) (quiet m)).shown
-    observed_own m true = phase_step_own m
-    observed_own m false = none
+    AreItsKinds-observed m true = AreItsKinds-phase_step m
+    AreItsKinds-observed m false = none
 
-    pub shown_own : (m : StretchPhase P)
-        → IsOwn (machine_step (observed observation) (phase_step begin start_marks reset_marks end_fault next) m v w
+    -- at each step
+    pub AreItsKinds-machine_step : (m : StretchPhase P)
+        → AreItsKinds (machine_step (observed observation) (phase_step begin start_marks reset_marks end_fault next) m v
+        w
         cs).shown
-    shown_own m = observed_own m (touches_control w.slots cs || is_some (observation v w cs))
+    AreItsKinds-machine_step m = AreItsKinds-observed m (touches_control w.slots cs || is_some (observation v w cs))
 
--- the kinds of the stretch, of the tenure, and of the cycle and the transfer
+-- the marks are of the stretch
 abbrev pub OfStretch : StepMarks → Type 0
 OfStretch k = k ≡ record no_step_marks { reset = k.reset; start = k.start }
 
+-- the marks are of the tenure
 abbrev pub OfTenure : StepMarks → Type 0
 OfTenure k = k ≡ record no_step_marks { opened = k.opened; tenure = k.tenure; tenure_end = k.tenure_end }
 
+-- the marks are of the cycle and the transfer
 abbrev pub OfTransfer : StepMarks → Type 0
 OfTransfer k = k ≡ record no_step_marks {
   cycle = k.cycle;
@@ -93,33 +105,44 @@ OfTransfer k = k ≡ record no_step_marks {
   close = k.close;
 }
 
+-- there are no marks
 abbrev IsNothing : StepMarks → Type 0
 IsNothing k = k ≡ no_step_marks
 
 module _ (m : Memories) (v w : Levels) (cs : List Change) where
-  pub known_own : OfStretch (known_at m.known v w cs).shown
-  known_own =
-      shown_own known_begin known_start_marks known_reset_marks known_end_fault known_next OfStretch refl (λ v. refl)
+  -- the monitor of stretches shows only marks of the stretch
+  pub OfStretch-known : OfStretch (known_at m.known v w cs).shown
+  OfStretch-known =
+      AreItsKinds-machine_step known_begin known_start_marks known_reset_marks known_end_fault known_next OfStretch refl
+      (λ v. refl)
       refl (λ p v w s. refl) known_observation v w cs m.known
 
-  pub grant_own : OfTenure (grant_at m.grant v w cs).shown
-  grant_own =
-      shown_own grant_begin grant_start_marks no_step_marks grant_end_fault grant_next OfTenure refl (λ v. refl) refl
+  -- the grant monitor shows only marks of the tenure
+  pub OfTenure-grant : OfTenure (grant_at m.grant v w cs).shown
+  OfTenure-grant =
+      AreItsKinds-machine_step grant_begin grant_start_marks no_step_marks grant_end_fault grant_next OfTenure refl
+      (λ v. refl) refl
       (λ p v w s. refl) grant_observation v w cs m.grant
 
-  pub handshake_own : OfTransfer (handshake_at m.handshake v w cs).shown
-  handshake_own =
-      shown_own dtb_begin dtb_start_marks no_step_marks dtb_end_fault dtb_step OfTransfer refl (λ v. refl) refl
+  -- the handshake monitor shows only marks of the cycle and the transfer
+  pub OfTransfer-handshake : OfTransfer (handshake_at m.handshake v w cs).shown
+  OfTransfer-handshake =
+      AreItsKinds-machine_step dtb_begin dtb_start_marks no_step_marks dtb_end_fault dtb_step OfTransfer refl
+      (λ v. refl) refl
       (λ p v w s. refl) dtb_observation v w cs m.handshake
 
-  pub stability_own : IsNothing (stability_at m.stability v w cs).shown
-  stability_own =
-      shown_own stability_begin stability_start_marks no_step_marks stability_end_fault stability_next IsNothing refl
+  -- the stability monitor shows nothing
+  pub IsNothing-stability : IsNothing (stability_at m.stability v w cs).shown
+  IsNothing-stability =
+      AreItsKinds-machine_step stability_begin stability_start_marks no_step_marks stability_end_fault stability_next
+      IsNothing refl
       (λ v. refl) refl (λ p v w s. refl) stability_observation v w cs m.stability
 
-  pub acknowledge_own : IsNothing (acknowledge_at m.acknowledge v w cs).shown
-  acknowledge_own =
-      shown_own acknowledge_begin acknowledge_start_marks no_step_marks acknowledge_end_fault acknowledge_next IsNothing
+  -- the acknowledge monitor shows nothing
+  pub IsNothing-acknowledge : IsNothing (acknowledge_at m.acknowledge v w cs).shown
+  IsNothing-acknowledge =
+      AreItsKinds-machine_step acknowledge_begin acknowledge_start_marks no_step_marks acknowledge_end_fault
+      acknowledge_next IsNothing
       refl (λ v. refl) refl (λ p v w s. refl) acknowledge_observation v w cs m.acknowledge
 
 -- all kinds have numbers below `n` (`AllBelow`), or from `n` on (`AllFrom`)
@@ -131,74 +154,87 @@ abbrev pub AllFrom : ℕ → List MarkKind → Type 0
 AllFrom n [] = Unit {0}
 AllFrom n (k ∷ ks) = (n ≤ kind_number k) × AllFrom n ks
 
-pub from_both : (n : ℕ) (ks ls : List MarkKind) → AllFrom n ks → AllFrom n ls → AllFrom n (ks ++ ls)
-from_both n [] ls p q = q
-from_both n (k ∷ ks) ls p q = (p.0, from_both n ks ls p.1 q)
+-- two lists of kinds with numbers from `n` on make one
+pub AllFrom-append : (n : ℕ) (ks ls : List MarkKind) → AllFrom n ks → AllFrom n ls → AllFrom n (ks ++ ls)
+AllFrom-append n [] ls p q = q
+AllFrom-append n (k ∷ ks) ls p q = (p.0, AllFrom-append n ks ls p.1 q)
 
-when_from : (n : ℕ) (b : Bool) (k : MarkKind) → n ≤ kind_number k → AllFrom n (option_to_list (when b k))
-when_from n true k h = (h, tt)
-when_from n false k h = tt
+-- a kind from `n` on, or none
+AllFrom-when : (n : ℕ) (b : Bool) (k : MarkKind) → n ≤ kind_number k → AllFrom n (option_to_list (when b k))
+AllFrom-when n true k h = (h, tt)
+AllFrom-when n false k h = tt
 
-map_from : {A : Type 0} (n : ℕ) (f : A → MarkKind) (o : Option A) → ((a : A) → n ≤ kind_number (f a))
+-- a kind from `n` on for the value of an option, or none
+AllFrom-option_map : {A : Type 0} (n : ℕ) (f : A → MarkKind) (o : Option A) → ((a : A) → n ≤ kind_number (f a))
     → AllFrom n (option_to_list (option_map f o))
-map_from n f None h = tt
-map_from n f (Some a) h = (h a, tt)
+AllFrom-option_map n f None h = tt
+AllFrom-option_map n f (Some a) h = (h a, tt)
 
-answer_from : (line : ℕ) (lanes : Option Lanes) → 5 ≤ kind_number (answer_kind line lanes)
-answer_from line None = lit≤ tt
-answer_from line (Some lanes) = lit≤ tt
+-- the number of an answer's kind is at least 5
+kind_number-answer_kind : (line : ℕ) (lanes : Option Lanes) → 5 ≤ kind_number (answer_kind line lanes)
+kind_number-answer_kind line None = lit≤ tt
+kind_number-answer_kind line (Some lanes) = lit≤ tt
 
 -- the kinds of the stretch have numbers below 2
-stretch_pieces : (reset start : Bool) → AllBelow 2 (kinds_of (record no_step_marks { reset = reset; start = start }))
-stretch_pieces true true = (lit< tt, (lit< tt, tt))
-stretch_pieces true false = (lit< tt, tt)
-stretch_pieces false true = (lit< tt, tt)
-stretch_pieces false false = tt
+AllBelow-stretch_fields : (reset start : Bool)
+    → AllBelow 2 (kinds_of (record no_step_marks { reset = reset; start = start }))
+AllBelow-stretch_fields true true = (lit< tt, (lit< tt, tt))
+AllBelow-stretch_fields true false = (lit< tt, tt)
+AllBelow-stretch_fields false true = (lit< tt, tt)
+AllBelow-stretch_fields false false = tt
 
-pub stretch_below : (k : StepMarks) → OfStretch k → AllBelow 2 (kinds_of k)
-stretch_below k own = subst (λ (k : StepMarks). AllBelow 2 (kinds_of k)) (sym own) (stretch_pieces k.reset k.start)
+-- marks of the stretch have kinds below 2
+pub AllBelow-stretch : (k : StepMarks) → OfStretch k → AllBelow 2 (kinds_of k)
+AllBelow-stretch k own =
+    subst (λ (k : StepMarks). AllBelow 2 (kinds_of k)) (sym own) (AllBelow-stretch_fields k.reset k.start)
 
--- the kinds of the tenure have numbers from 2 on, and below 5
+-- the marks of the tenure with these fields
 abbrev of_tenure : Bool → Option BusGrant → Bool → StepMarks
 of_tenure opened tenure tenure_end =
     record no_step_marks { opened = opened; tenure = tenure; tenure_end = tenure_end }
 
-tenure_below_pieces : (opened : Bool) (tenure : Option BusGrant) (tenure_end : Bool)
+-- they have kinds below 5
+AllBelow-tenure_fields : (opened : Bool) (tenure : Option BusGrant) (tenure_end : Bool)
     → AllBelow 5 (kinds_of (of_tenure opened tenure tenure_end))
-tenure_below_pieces true (Some g) true = (lit< tt, (lit< tt, (lit< tt, tt)))
-tenure_below_pieces true (Some g) false = (lit< tt, (lit< tt, tt))
-tenure_below_pieces true None true = (lit< tt, (lit< tt, tt))
-tenure_below_pieces true None false = (lit< tt, tt)
-tenure_below_pieces false (Some g) true = (lit< tt, (lit< tt, tt))
-tenure_below_pieces false (Some g) false = (lit< tt, tt)
-tenure_below_pieces false None true = (lit< tt, tt)
-tenure_below_pieces false None false = tt
+AllBelow-tenure_fields true (Some g) true = (lit< tt, (lit< tt, (lit< tt, tt)))
+AllBelow-tenure_fields true (Some g) false = (lit< tt, (lit< tt, tt))
+AllBelow-tenure_fields true None true = (lit< tt, (lit< tt, tt))
+AllBelow-tenure_fields true None false = (lit< tt, tt)
+AllBelow-tenure_fields false (Some g) true = (lit< tt, (lit< tt, tt))
+AllBelow-tenure_fields false (Some g) false = (lit< tt, tt)
+AllBelow-tenure_fields false None true = (lit< tt, tt)
+AllBelow-tenure_fields false None false = tt
 
-pub tenure_below : (k : StepMarks) → OfTenure k → AllBelow 5 (kinds_of k)
-tenure_below k own = subst (λ (k : StepMarks). AllBelow 5 (kinds_of k)) (sym own)
-    (tenure_below_pieces k.opened k.tenure k.tenure_end)
+-- marks of the tenure have kinds below 5
+pub AllBelow-tenure : (k : StepMarks) → OfTenure k → AllBelow 5 (kinds_of k)
+AllBelow-tenure k own = subst (λ (k : StepMarks). AllBelow 5 (kinds_of k)) (sym own)
+    (AllBelow-tenure_fields k.opened k.tenure k.tenure_end)
 
-tenure_from_pieces : (opened : Bool) (tenure : Option BusGrant) (tenure_end : Bool)
+-- marks of the tenure with these fields have kinds from 2 on
+AllFrom-tenure_fields : (opened : Bool) (tenure : Option BusGrant) (tenure_end : Bool)
     → AllFrom 2 (kinds_of (of_tenure opened tenure tenure_end))
-tenure_from_pieces true (Some g) true = (lit≤ tt, (lit≤ tt, (lit≤ tt, tt)))
-tenure_from_pieces true (Some g) false = (lit≤ tt, (lit≤ tt, tt))
-tenure_from_pieces true None true = (lit≤ tt, (lit≤ tt, tt))
-tenure_from_pieces true None false = (lit≤ tt, tt)
-tenure_from_pieces false (Some g) true = (lit≤ tt, (lit≤ tt, tt))
-tenure_from_pieces false (Some g) false = (lit≤ tt, tt)
-tenure_from_pieces false None true = (lit≤ tt, tt)
-tenure_from_pieces false None false = tt
+AllFrom-tenure_fields true (Some g) true = (lit≤ tt, (lit≤ tt, (lit≤ tt, tt)))
+AllFrom-tenure_fields true (Some g) false = (lit≤ tt, (lit≤ tt, tt))
+AllFrom-tenure_fields true None true = (lit≤ tt, (lit≤ tt, tt))
+AllFrom-tenure_fields true None false = (lit≤ tt, tt)
+AllFrom-tenure_fields false (Some g) true = (lit≤ tt, (lit≤ tt, tt))
+AllFrom-tenure_fields false (Some g) false = (lit≤ tt, tt)
+AllFrom-tenure_fields false None true = (lit≤ tt, tt)
+AllFrom-tenure_fields false None false = tt
 
-pub tenure_from : (k : StepMarks) → OfTenure k → AllFrom 2 (kinds_of k)
-tenure_from k own = subst (λ (k : StepMarks). AllFrom 2 (kinds_of k)) (sym own)
-    (tenure_from_pieces k.opened k.tenure k.tenure_end)
+-- marks of the tenure have kinds from 2 on
+pub AllFrom-tenure : (k : StepMarks) → OfTenure k → AllFrom 2 (kinds_of k)
+AllFrom-tenure k own = subst (λ (k : StepMarks). AllFrom 2 (kinds_of k)) (sym own)
+    (AllFrom-tenure_fields k.opened k.tenure k.tenure_end)
 
 -- the kinds of the cycle and the transfer have numbers from 5 on
 module _ (n : ℕ) (few : n ≤ 5) where
-  enough : (k : ℕ) → 5 ≤ k → n ≤ k
-  enough k h = omega arith
+  -- a number from 5 on is at least n
+  le-from_5 : (k : ℕ) → 5 ≤ k → n ≤ k
+  le-from_5 k h = omega arith
 
-  transfer_pieces : (cycle : Option CycleStart) (cycle_end : Bool) (transfer : Option Bool)
+  -- marks of the cycle and the transfer with these fields have kinds from n on
+  AllFrom-transfer_fields : (cycle : Option CycleStart) (cycle_end : Bool) (transfer : Option Bool)
       (answer : Option TransferAnswer)
       (close : Bool)
       → AllFrom n (kinds_of (record no_step_marks {
@@ -208,20 +244,22 @@ module _ (n : ℕ) (few : n ≤ 5) where
         answer = answer;
         close = close;
       }))
-  transfer_pieces cycle cycle_end transfer answer close =
+  AllFrom-transfer_fields cycle cycle_end transfer answer close =
       let first = option_to_list (option_map cycle_kind cycle) in
       let second = option_to_list (when cycle_end CycleEnd) in
       let third = option_to_list (option_map Transfer transfer) in
       let fourth = option_to_list (option_map answered_kind answer) in
-      from_both n (first ++ second ++ third ++ fourth) (option_to_list (when close Close))
-      (from_both n (first ++ second ++ third) fourth
-      (from_both n (first ++ second) third
-      (from_both n first second (map_from n cycle_kind cycle (λ a. enough 5 (lit≤ tt)))
-      (when_from n cycle_end CycleEnd (enough 6 (lit≤ tt))))
-      (map_from n Transfer transfer (λ a. enough 7 (lit≤ tt))))
-      (map_from n answered_kind answer (λ a. enough (kind_number (answered_kind a)) (answer_from a.line a.lanes))))
-      (when_from n close Close (enough 9 (lit≤ tt)))
+      AllFrom-append n (first ++ second ++ third ++ fourth) (option_to_list (when close Close))
+      (AllFrom-append n (first ++ second ++ third) fourth
+      (AllFrom-append n (first ++ second) third
+      (AllFrom-append n first second (AllFrom-option_map n cycle_kind cycle (λ a. le-from_5 5 (lit≤ tt)))
+      (AllFrom-when n cycle_end CycleEnd (le-from_5 6 (lit≤ tt))))
+      (AllFrom-option_map n Transfer transfer (λ a. le-from_5 7 (lit≤ tt))))
+      (AllFrom-option_map n answered_kind answer
+      (λ a. le-from_5 (kind_number (answered_kind a)) (kind_number-answer_kind a.line a.lanes))))
+      (AllFrom-when n close Close (le-from_5 9 (lit≤ tt)))
 
-  pub transfer_from : (k : StepMarks) → OfTransfer k → AllFrom n (kinds_of k)
-  transfer_from k own = subst (λ (k : StepMarks). AllFrom n (kinds_of k)) (sym own)
-      (transfer_pieces k.cycle k.cycle_end k.transfer k.answer k.close)
+  -- marks of the cycle and the transfer have kinds from n on
+  pub AllFrom-transfer : (k : StepMarks) → OfTransfer k → AllFrom n (kinds_of k)
+  AllFrom-transfer k own = subst (λ (k : StepMarks). AllFrom n (kinds_of k)) (sym own)
+      (AllFrom-transfer_fields k.cycle k.cycle_end k.transfer k.answer k.close)

@@ -1,4 +1,4 @@
--- A tally step by step, and what the marks of the steps add to it one by one, are the same.
+-- What steps add to a tally, and what the marks of the steps add to it one by one, are the same.
 use Rattle.std.proofs.Common.{◌≡◌, ℕ, suc, ◌+◌, ◌-◌, Bool, true, false, List, [], ◌∷◌, ◌++◌, length}
 use Rattle.std.proofs.Common.{map}
 use Rattle.std.proofs.Common.{take, drop, refl, sym, ◌∙◌, ap, arith, add-one, cond, Option, None, Some}
@@ -33,15 +33,16 @@ use Rattle.vme_auditor.specs.declared.tally.StartedTransfer.{StartedTransfer}
 use Rattle.vme_auditor.specs.declared.tally.Tally.{Tally}
 use Rattle.vme_auditor.proofs.FirstBreaks.{BreakWithin-first_break}
 use Rattle.vme_auditor.proofs.MarkCounts.{kind_tallied, mark_tallied}
-use Rattle.vme_auditor.proofs.ShownKinds.{grant_own, handshake_own, known_own}
-use Rattle.vme_auditor.proofs.ReturnedBreaks.{levels_next, memories_after, memories_stepped, recorded}
+use Rattle.vme_auditor.proofs.ShownKinds.{OfTenure-grant, OfTransfer-handshake, OfStretch-known}
+use Rattle.vme_auditor.proofs.ReturnedBreaks.{levels_at-later_step, memories_after, memories-with_step, recorded}
 
 -- what the kinds of one instant add, one by one
 module _ (at : ℕ → StartedTransfer) (i : ℕ) where
+  -- the tally after a mark of this kind at instant `i`
   abbrev kind_step : Tally → MarkKind → Tally
   kind_step a k = kind_tallied at a i k
 
-  -- what the kinds of one instant add, all at once
+  -- the tally after all marks of instant `i` at once
   abbrev kinds_tallied : Tally → StepMarks → Tally
   kinds_tallied a k =
       let b = cond k.reset (at_reset suc a) a in
@@ -51,46 +52,55 @@ module _ (at : ℕ → StartedTransfer) (i : ℕ) where
       option_map_or (at_answer suc e) k.answer e
 
   -- the kinds `xs`, and after them `ys`, take tally `a` to `c`
-  two : (xs ys : List MarkKind) (a b c : Tally) → fold kind_step a xs ≡ b → fold kind_step b ys ≡ c
+  fold-append_kinds : (xs ys : List MarkKind) (a b c : Tally) → fold kind_step a xs ≡ b → fold kind_step b ys ≡ c
       → fold kind_step a (xs ++ ys) ≡ c
-  two xs ys a b c p q = fold-append kind_step a xs ys ∙ ap (λ (b : Tally). fold kind_step b ys) p ∙ q
+  fold-append_kinds xs ys a b c p q = fold-append kind_step a xs ys ∙ ap (λ (b : Tally). fold kind_step b ys) p ∙ q
 
-  when_kept : (b : Bool) (k : MarkKind) (a : Tally) → kind_step a k ≡ a → fold kind_step a (option_to_list (when b k))
+  -- a kind that adds nothing, or none, leaves the tally as it is
+  fold-when : (b : Bool) (k : MarkKind) (a : Tally) → kind_step a k ≡ a → fold kind_step a (option_to_list (when b k))
       ≡ a
-  when_kept true k a e = e
-  when_kept false k a e = refl
+  fold-when true k a e = e
+  fold-when false k a e = refl
 
-  of_reset : (b : Bool) (a : Tally) → fold kind_step a (option_to_list (when b kind.Reset))
+  -- a reset, or none
+  fold-reset : (b : Bool) (a : Tally) → fold kind_step a (option_to_list (when b kind.Reset))
       ≡ cond b (at_reset suc a) a
-  of_reset true a = refl
-  of_reset false a = refl
+  fold-reset true a = refl
+  fold-reset false a = refl
 
-  of_tenure : (o : Option BusGrant) (a : Tally) → fold kind_step a (option_to_list (option_map tenure_kind o))
+  -- the start of a tenure, or none
+  fold-tenure : (o : Option BusGrant) (a : Tally) → fold kind_step a (option_to_list (option_map tenure_kind o))
       ≡ option_map_or (at_tenure suc a) o a
-  of_tenure None a = refl
-  of_tenure (Some g) a = refl
+  fold-tenure None a = refl
+  fold-tenure (Some g) a = refl
 
-  of_cycle : (o : Option CycleStart) (a : Tally) → fold kind_step a (option_to_list (option_map cycle_kind o))
+  -- the start of a cycle, or none
+  fold-cycle : (o : Option CycleStart) (a : Tally) → fold kind_step a (option_to_list (option_map cycle_kind o))
       ≡ option_map_or (at_cycle suc a) o a
-  of_cycle None a = refl
-  of_cycle (Some c) a = refl
+  fold-cycle None a = refl
+  fold-cycle (Some c) a = refl
 
-  of_transfer : (o : Option Bool) (a : Tally) → fold kind_step a (option_to_list (option_map kind.Transfer o))
+  -- the start of a transfer, or none
+  fold-transfer : (o : Option Bool) (a : Tally) → fold kind_step a (option_to_list (option_map kind.Transfer o))
       ≡ option_map_or (at_transfer suc a (at i)) o a
-  of_transfer None a = refl
-  of_transfer (Some w) a = refl
+  fold-transfer None a = refl
+  fold-transfer (Some w) a = refl
 
-  by_lanes : (line : ℕ) (lanes : Option Lanes) (a : Tally) → kind_step a (answer_kind line lanes)
+  -- an answer, with data or without
+  kind_step-answer_kind : (line : ℕ) (lanes : Option Lanes) (a : Tally) → kind_step a (answer_kind line lanes)
       ≡ at_answer suc a (record { line = line; lanes = lanes })
-  by_lanes line None a = refl
-  by_lanes line (Some lanes) a = refl
+  kind_step-answer_kind line None a = refl
+  kind_step-answer_kind line (Some lanes) a = refl
 
-  of_answer : (o : Option TransferAnswer) (a : Tally) → fold kind_step a (option_to_list (option_map answered_kind o))
+  -- an answer, or none
+  fold-answer : (o : Option TransferAnswer) (a : Tally) → fold kind_step a (option_to_list (option_map answered_kind o))
       ≡ option_map_or (at_answer suc a) o a
-  of_answer None a = refl
-  of_answer (Some x) a = by_lanes x.line x.lanes a
+  fold-answer None a = refl
+  fold-answer (Some x) a = kind_step-answer_kind x.line x.lanes a
 
+  -- the kinds of the marks `k`, one after the other
   module _ (k : StepMarks) (a : Tally) where
+    -- that of a reset, if there is one; below, likewise
     abbrev resets : List MarkKind
     resets = option_to_list (when k.reset kind.Reset)
 
@@ -121,54 +131,61 @@ module _ (at : ℕ → StartedTransfer) (i : ℕ) where
     abbrev closes : List MarkKind
     closes = option_to_list (when k.close kind.Close)
 
-    kinds_folded : fold kind_step a (kinds_of k) ≡ kinds_tallied a k
-    kinds_folded =
+    -- one by one the marks add what they add all at once
+    fold-kinds_of : fold kind_step a (kinds_of k) ≡ kinds_tallied a k
+    fold-kinds_of =
         let b = cond k.reset (at_reset suc a) a in
         let c = option_map_or (at_tenure suc b) k.tenure b in
         let d = option_map_or (at_cycle suc c) k.cycle c in
         let e = option_map_or (at_transfer suc d (at i)) k.transfer d in
         let f = option_map_or (at_answer suc e) k.answer e in
-        let first = two resets starts a b b (of_reset k.reset a) (when_kept k.start kind.Start b refl) in
-        let second = two (resets ++ starts) opens a b b first (when_kept k.opened kind.Open b refl) in
-        let third = two (resets ++ starts ++ opens) tenures a b c second (of_tenure k.tenure b) in
-        let fourth = two (resets ++ starts ++ opens ++ tenures) tenure_ends a c c third
-        (when_kept k.tenure_end kind.TenureEnd c refl) in
-        let fifth = two (resets ++ starts ++ opens ++ tenures ++ tenure_ends) cycles a c d fourth
-        (of_cycle k.cycle c) in
-        let sixth = two (resets ++ starts ++ opens ++ tenures ++ tenure_ends ++ cycles) cycle_ends a d d fifth
-        (when_kept k.cycle_end kind.CycleEnd d refl) in
-        let seventh = two (resets ++ starts ++ opens ++ tenures ++ tenure_ends ++ cycles ++ cycle_ends) transfers a d e
-        sixth (of_transfer k.transfer d) in
-        let eighth = two (resets ++ starts ++ opens ++ tenures ++ tenure_ends ++ cycles ++ cycle_ends ++ transfers)
+        let first = fold-append_kinds resets starts a b b (fold-reset k.reset a)
+        (fold-when k.start kind.Start b refl) in
+        let second = fold-append_kinds (resets ++ starts) opens a b b first (fold-when k.opened kind.Open b refl) in
+        let third = fold-append_kinds (resets ++ starts ++ opens) tenures a b c second (fold-tenure k.tenure b) in
+        let fourth = fold-append_kinds (resets ++ starts ++ opens ++ tenures) tenure_ends a c c third
+        (fold-when k.tenure_end kind.TenureEnd c refl) in
+        let fifth = fold-append_kinds (resets ++ starts ++ opens ++ tenures ++ tenure_ends) cycles a c d fourth
+        (fold-cycle k.cycle c) in
+        let sixth = fold-append_kinds (resets ++ starts ++ opens ++ tenures ++ tenure_ends ++ cycles) cycle_ends a d d
+        fifth
+        (fold-when k.cycle_end kind.CycleEnd d refl) in
+        let seventh = fold-append_kinds (resets ++ starts ++ opens ++ tenures ++ tenure_ends ++ cycles ++ cycle_ends)
+        transfers a d e
+        sixth (fold-transfer k.transfer d) in
+        let eighth = fold-append_kinds
+        (resets ++ starts ++ opens ++ tenures ++ tenure_ends ++ cycles ++ cycle_ends ++ transfers)
         answers
-        a e f seventh (of_answer k.answer e) in
-        two (resets ++ starts ++ opens ++ tenures ++ tenure_ends ++ cycles ++ cycle_ends ++ transfers ++ answers)
+        a e f seventh (fold-answer k.answer e) in
+        fold-append_kinds (resets ++ starts ++ opens ++ tenures ++ tenure_ends ++ cycles ++ cycle_ends ++ transfers
+        ++ answers)
         closes a
-        f f eighth (when_kept k.close kind.Close f refl)
+        f f eighth (fold-when k.close kind.Close f refl)
 
-  marks_of_kinds : (ks : List MarkKind) (a : Tally) → fold (mark_tallied at) a (map (mark_at i) ks)
+  -- marks of instant `i` add what their kinds add
+  fold-marks_of_kinds : (ks : List MarkKind) (a : Tally) → fold (mark_tallied at) a (map (mark_at i) ks)
       ≡ fold kind_step a ks
-  marks_of_kinds [] a = refl
-  marks_of_kinds (k ∷ ks) a = marks_of_kinds ks (kind_step a k)
+  fold-marks_of_kinds [] a = refl
+  fold-marks_of_kinds (k ∷ ks) a = fold-marks_of_kinds ks (kind_step a k)
 
 -- the marks of a step add to a tally what the step does
-step_tallied : (at : ℕ → StartedTransfer) (m : Memories) (o after : Levels) (s : Step) (a : Tally)
+fold-kinds_shown : (at : ℕ → StartedTransfer) (m : Memories) (o after : Levels) (s : Step) (a : Tally)
     → fold (mark_tallied at) a (map (mark_at 1) (kinds_shown m o after s.changes))
     ≡ tallied suc a (at 1).instant (at 1).time (known_at m.known o after s.changes).shown
     (grant_at m.grant o after s.changes).shown (handshake_at m.handshake o after s.changes).shown
-step_tallied at m o after s a =
+fold-kinds_shown at m o after s a =
     let k = (known_at m.known o after s.changes).shown in
     let g = (grant_at m.grant o after s.changes).shown in
     let d = (handshake_at m.handshake o after s.changes).shown in
     let b = cond k.reset (at_reset suc a) a in
     let c = option_map_or (at_tenure suc b) g.tenure b in
-    marks_of_kinds at 1 (kinds_shown m o after s.changes) a
-    ∙ two at 1 (kinds_of k) (kinds_of g ++ kinds_of d) a b (kinds_tallied at 1 c d)
-    (kinds_folded at 1 k a ∙ ap (kinds_tallied at 1 a) (known_own m o after s.changes))
-    (two at 1 (kinds_of g) (kinds_of d) b c (kinds_tallied at 1 c d)
-    (kinds_folded at 1 g b ∙ ap (kinds_tallied at 1 b) (grant_own m o after s.changes))
-    (kinds_folded at 1 d c))
-    ∙ ap (kinds_tallied at 1 c) (handshake_own m o after s.changes)
+    fold-marks_of_kinds at 1 (kinds_shown m o after s.changes) a
+    ∙ fold-append_kinds at 1 (kinds_of k) (kinds_of g ++ kinds_of d) a b (kinds_tallied at 1 c d)
+    (fold-kinds_of at 1 k a ∙ ap (kinds_tallied at 1 a) (OfStretch-known m o after s.changes))
+    (fold-append_kinds at 1 (kinds_of g) (kinds_of d) b c (kinds_tallied at 1 c d)
+    (fold-kinds_of at 1 g b ∙ ap (kinds_tallied at 1 b) (OfTenure-grant m o after s.changes))
+    (fold-kinds_of at 1 d c))
+    ∙ ap (kinds_tallied at 1 c) (OfTransfer-handshake m o after s.changes)
 
 -- the tally after a step: at a break the part ends
 abbrev pub tally_after : (ℕ → ℕ) → Option Fault → Tally → ℕ → ℕ → StepMarks → StepMarks → StepMarks → Tally
@@ -185,12 +202,13 @@ tally_by more m o n a (s ∷ x) =
     (tally_after more fault a (n + 1) s.time (known_at m.known o after s.changes).shown
     (grant_at m.grant o after s.changes).shown (handshake_at m.handshake o after s.changes).shown) x
 
-tally_stepped : (r : AuditReached) (s : Step) → (with_step r s).audit.tally
+-- the tally of an audit after one more step
+tally-with_step : (r : AuditReached) (s : Step) → (with_step r s).audit.tally
     ≡ tally_after counted (first_fault_of r.audit.memories r.levels (changed r.levels s.changes) s.changes)
     r.audit.tally (r.instant + 1) s.time (known_at r.audit.memories.known r.levels (changed r.levels s.changes)
     s.changes).shown (grant_at r.audit.memories.grant r.levels (changed r.levels s.changes) s.changes).shown
     (handshake_at r.audit.memories.handshake r.levels (changed r.levels s.changes) s.changes).shown
-tally_stepped r s = by_fault (first_fault_of r.audit.memories r.levels (changed r.levels s.changes) s.changes) refl
+tally-with_step r s = by_fault (first_fault_of r.audit.memories r.levels (changed r.levels s.changes) s.changes) refl
   where
     by_fault : (f : Option Fault) → first_fault_of r.audit.memories r.levels (changed r.levels s.changes) s.changes ≡ f
         → (with_step r s).audit.tally
@@ -201,81 +219,90 @@ tally_stepped r s = by_fault (first_fault_of r.audit.memories r.levels (changed 
     by_fault None e = rw e refl
     by_fault (Some f) e = rw e refl
 
-pub tally_along : (x : List Step) (r : AuditReached) → (fold with_step r x).audit.tally
+-- the tally of an audit after the steps `x` is that of its monitors, from its state on
+pub tally-after_steps : (x : List Step) (r : AuditReached) → (fold with_step r x).audit.tally
     ≡ tally_by counted r.audit.memories r.levels r.instant r.audit.tally x
 unfolding tally_by
-tally_along [] r = refl
-tally_along (s ∷ x) r =
+tally-after_steps [] r = refl
+tally-after_steps (s ∷ x) r =
     let after = changed r.levels s.changes in
     let q = with_step r s in
-    tally_along x q
-    ∙ ap (λ (m : Memories). tally_by counted m after (r.instant + 1) q.audit.tally x) (memories_stepped r s)
+    tally-after_steps x q
+    ∙ ap (λ (m : Memories). tally_by counted m after (r.instant + 1) q.audit.tally x) (memories-with_step r s)
     ∙ ap (λ (a : Tally). tally_by counted (memories_after (first_fault_of r.audit.memories r.levels after s.changes)
-    after (memories_next r.audit.memories r.levels after s.changes)) after (r.instant + 1) a x) (tally_stepped r s)
+    after (memories_next r.audit.memories r.levels after s.changes)) after (r.instant + 1) a x) (tally-with_step r s)
 
 -- the tally after steps `x`, where breaks are ignored
-unfoldable pub quiet_tally : Memories → Levels → ℕ → Tally → List Step → Tally
-quiet_tally m o n a [] = a
-quiet_tally m o n a (s ∷ x) =
+unfoldable pub unbroken_tally : Memories → Levels → ℕ → Tally → List Step → Tally
+unbroken_tally m o n a [] = a
+unbroken_tally m o n a (s ∷ x) =
     let after = changed o s.changes in
-    quiet_tally (memories_next m o after s.changes) after (n + 1)
+    unbroken_tally (memories_next m o after s.changes) after (n + 1)
     (tallied suc a (n + 1) s.time (known_at m.known o after s.changes).shown
     (grant_at m.grant o after s.changes).shown (handshake_at m.handshake o after s.changes).shown) x
 
 -- the tally up to the first break, and after it
-abbrev pub tally_from : Memories → Levels → ℕ → Tally → List Step → Option Break → Tally
-tally_from m o n a x None = quiet_tally m o n a x
-tally_from m o n a x (Some b) =
+abbrev pub tally_around_break : Memories → Levels → ℕ → Tally → List Step → Option Break → Tally
+tally_around_break m o n a x None = unbroken_tally m o n a x
+tally_around_break m o n a x (Some b) =
     let left = levels_at (recorded o x) b.instant in
     tally_by suc (memories_at left) left (n + b.instant)
-    (at_break suc (quiet_tally m o n a (take (b.instant - 1) x))) (drop b.instant x)
+    (at_break suc (unbroken_tally m o n a (take (b.instant - 1) x))) (drop b.instant x)
 
 module _ (m : Memories) (o : Levels) (s : Step) (x : List Step) (n : ℕ) (a : Tally) where
+  -- the levels after the step
   abbrev after : Levels
   after = changed o s.changes
 
+  -- the memories after the step, if it is no break
   abbrev next : Memories
   next = memories_next m o after s.changes
 
-  abbrev more : Tally
-  more = tallied suc a (n + 1) s.time (known_at m.known o after s.changes).shown
+  -- the tally after the step, if it is no break
+  abbrev next_tally : Tally
+  next_tally = tallied suc a (n + 1) s.time (known_at m.known o after s.changes).shown
       (grant_at m.grant o after s.changes).shown (handshake_at m.handshake o after s.changes).shown
 
-  from_later : (e : Option Break) → BreakWithin (length x) e
-      → tally_from next after (n + 1) more x e ≡ tally_from m o n a (s ∷ x) (option_map (shifted_break 1) e)
-  unfolding quiet_tally
-  from_later None w = refl
-  from_later (Some b) w =
+  -- the break found in `x` is one instant later if `s` comes before
+  tally_around_break-shifted : (e : Option Break) → BreakWithin (length x) e
+      → tally_around_break next after (n + 1) next_tally x e
+      ≡ tally_around_break m o n a (s ∷ x) (option_map (shifted_break 1) e)
+  unfolding unbroken_tally
+  tally_around_break-shifted None w = refl
+  tally_around_break-shifted (Some b) w =
       let one_less : (b.instant + 1) - 1 ≡ suc (b.instant - 1) = omega arith in
       let same : (n + 1) + b.instant ≡ n + suc b.instant = omega arith in
-      rw (one_less, add-one b.instant, levels_next o s x b.instant, same) refl
+      rw (one_less, add-one b.instant, levels_at-later_step o s x b.instant, same) refl
 
-  from_stepped : (f : Option Fault) → tally_by suc next after (n + 1) more x
-      ≡ tally_from next after (n + 1) more x (first_break_from next after x)
+  -- if the tally after `x` is that around the first break of `x`, so is that after `s` and `x`
+  tally_around_break-step : (f : Option Fault) → tally_by suc next after (n + 1) next_tally x
+      ≡ tally_around_break next after (n + 1) next_tally x (first_break_from next after x)
       → tally_by suc (memories_after f after next) after (n + 1)
       (tally_after suc f a (n + 1) s.time (known_at m.known o after s.changes).shown
       (grant_at m.grant o after s.changes).shown (handshake_at m.handshake o after s.changes).shown) x
-      ≡ tally_from m o n a (s ∷ x)
+      ≡ tally_around_break m o n a (s ∷ x)
       (earlier (option_map (break_of_fault 1 s.time) f) (option_map (shifted_break 1) (first_break_from next after x)))
-  unfolding levels_at quiet_tally
-  from_stepped None so_far = so_far ∙ from_later (first_break_from next after x) (BreakWithin-first_break x next after)
-  from_stepped (Some f) so_far = refl
+  unfolding levels_at unbroken_tally
+  tally_around_break-step None so_far =
+      so_far ∙ tally_around_break-shifted (first_break_from next after x) (BreakWithin-first_break x next after)
+  tally_around_break-step (Some f) so_far = refl
 
-pub tally_first : (x : List Step) (m : Memories) (o : Levels) (n : ℕ) (a : Tally) → tally_by suc m o n a x
-    ≡ tally_from m o n a x (first_break_from m o x)
-unfolding tally_by quiet_tally first_break_from
-tally_first [] m o n a = refl
-tally_first (s ∷ x) m o n a =
-    from_stepped m o s x n a (first_fault_of m o (changed o s.changes) s.changes)
-    (tally_first x (next m o s x n a) (after m o s x n a) (n + 1) (more m o s x n a))
+-- the tally after steps is that around their first break
+pub tally_by-first_break : (x : List Step) (m : Memories) (o : Levels) (n : ℕ) (a : Tally) → tally_by suc m o n a x
+    ≡ tally_around_break m o n a x (first_break_from m o x)
+unfolding tally_by unbroken_tally first_break_from
+tally_by-first_break [] m o n a = refl
+tally_by-first_break (s ∷ x) m o n a =
+    tally_around_break-step m o s x n a (first_fault_of m o (changed o s.changes) s.changes)
+    (tally_by-first_break x (next m o s x n a) (after m o s x n a) (n + 1) (next_tally m o s x n a))
 
 -- marks that are one instant later add the same as the marks with `at` one instant later
-later_marks : (at : ℕ → StartedTransfer) (ms : List Mark) (a : Tally) → fold (mark_tallied at) a
+fold-shifted_marks : (at : ℕ → StartedTransfer) (ms : List Mark) (a : Tally) → fold (mark_tallied at) a
     (map (shifted_mark 1) ms)
     ≡ fold (mark_tallied (λ i. at (i + 1))) a ms
-later_marks at [] a = refl
-later_marks at (m ∷ ms) a =
-    later_marks at ms (mark_tallied at a (shifted_mark 1 m))
+fold-shifted_marks at [] a = refl
+fold-shifted_marks at (m ∷ ms) a =
+    fold-shifted_marks at ms (mark_tallied at a (shifted_mark 1 m))
     ∙ ap (λ (b : Tally). fold (mark_tallied (λ i. at (i + 1))) b ms) (by_kind m.instant m.kind)
   where
     by_kind : (i : ℕ) (k : MarkKind) → kind_tallied at a (i + 1) k ≡ kind_tallied (λ i. at (i + 1)) a i k
@@ -296,22 +323,22 @@ abbrev pub StartsAt : ℕ → List Step → (ℕ → StartedTransfer) → Type 0
 StartsAt n x at = (i : ℕ) → at (suc i) ≡ record { instant = n + suc i; time = time_of (slice_get x i) }
 
 -- where breaks are ignored, steps add to a tally what their marks do
-pub quiet_marks : (x : List Step) (m : Memories) (o : Levels) (n : ℕ) (a : Tally) (at : ℕ → StartedTransfer)
-    → StartsAt n x at → quiet_tally m o n a x ≡ fold (mark_tallied at) a (joined_marks m o x)
-unfolding quiet_tally joined_marks
-quiet_marks [] m o n a at starts = refl
-quiet_marks (s ∷ x) m o n a at starts =
+pub unbroken_tally-marks : (x : List Step) (m : Memories) (o : Levels) (n : ℕ) (a : Tally) (at : ℕ → StartedTransfer)
+    → StartsAt n x at → unbroken_tally m o n a x ≡ fold (mark_tallied at) a (joined_marks m o x)
+unfolding unbroken_tally joined_marks
+unbroken_tally-marks [] m o n a at starts = refl
+unbroken_tally-marks (s ∷ x) m o n a at starts =
     let after = changed o s.changes in
     let next = memories_next m o after s.changes in
     let k = (known_at m.known o after s.changes).shown in
     let g = (grant_at m.grant o after s.changes).shown in
     let d = (handshake_at m.handshake o after s.changes).shown in
     let first : fold (mark_tallied at) a (map (mark_at 1) (kinds_shown m o after s.changes))
-    ≡ tallied suc a (n + 1) s.time k g d = step_tallied at m o after s a
+    ≡ tallied suc a (n + 1) s.time k g d = fold-kinds_shown at m o after s a
     ∙ ap (λ (t : StartedTransfer). tallied suc a t.instant t.time k g d) (starts 0) in
-    quiet_marks x next after (n + 1) (tallied suc a (n + 1) s.time k g d) (λ i. at (i + 1))
+    unbroken_tally-marks x next after (n + 1) (tallied suc a (n + 1) s.time k g d) (λ i. at (i + 1))
     (later_starts s x n at starts)
-    ∙ sym (later_marks at (joined_marks next after x) (tallied suc a (n + 1) s.time k g d))
+    ∙ sym (fold-shifted_marks at (joined_marks next after x) (tallied suc a (n + 1) s.time k g d))
     ∙ ap (λ (b : Tally). fold (mark_tallied at) b (map (shifted_mark 1) (joined_marks next after x))) (sym first)
     ∙ sym (fold-append (mark_tallied at) a (map (mark_at 1) (kinds_shown m o after s.changes))
     (map (shifted_mark 1) (joined_marks next after x)))

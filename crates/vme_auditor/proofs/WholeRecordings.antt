@@ -19,53 +19,59 @@ use Rattle.vme_audit.specs.Covered.{has_stretch, is_judged_part}
 use Rattle.vme_audit.specs.Parts.{Part, breaks, breaks_of, last_from, last_part, moved_by, named_break, own_break}
 use Rattle.vme_audit.specs.Parts.{part_after, parts, parts_from, whole}
 use Rattle.vme_auditor.proofs.FirstBreaks.{named_break-verdict_on}
-use Rattle.vme_auditor.proofs.MarkCounts.{same_counts}
+use Rattle.vme_auditor.proofs.MarkCounts.{Counts-equal}
 
-moved_none : (b : Break) → moved_by 0 b ≡ b
-moved_none b = ap (λ i. record { instant = i; time = b.time; rule = b.rule; line = b.line }) (nothing b.instant)
+-- a break of a part that opens at 0 is the same in the whole
+moved_by-zero : (b : Break) → moved_by 0 b ≡ b
+moved_by-zero b = ap (λ i. record { instant = i; time = b.time; rule = b.rule; line = b.line }) (nothing b.instant)
   where
     nothing : (i : ℕ) → 0 + i ≡ i
     nothing i = omega arith
 
 -- a recording's first break is that of its first part
 module _ (t : Trace) where
+  -- the whole recording as a part
   abbrev here : Part
   here = whole t
 
-  own_first : (e : Option Break) (behind : Break → List Break)
-      → slice_get (option_to_list (option_map (moved_by 0) e) ++ option_map_or behind e []) 0 ≡ e
-  own_first None behind = refl
-  own_first (Some b) behind = ap Some (moved_none b)
+  -- the first of the breaks of a part and of later ones is the part's, and there is none if the part has none
+  slice_get-first_break : (e : Option Break) (later : Break → List Break)
+      → slice_get (option_to_list (option_map (moved_by 0) e) ++ option_map_or later e []) 0 ≡ e
+  slice_get-first_break None later = refl
+  slice_get-first_break (Some b) later = ap Some (moved_by-zero b)
 
-  breaks_after_first : (n : ℕ) (e : Option Break)
+  -- the breaks of the parts after a break, if there is one
+  breaks_of-option : (n : ℕ) (e : Option Break)
       → breaks_of (option_map_or (λ b. parts_from n (part_after here b)) e [])
       ≡ option_map_or (λ b. breaks_of (parts_from n (part_after here b))) e []
-  breaks_after_first n None = refl
-  breaks_after_first n (Some b) = refl
+  breaks_of-option n None = refl
+  breaks_of-option n (Some b) = refl
 
-  first_from : (n : ℕ) → slice_get (breaks_of (parts_from n here)) 0 ≡ named_break (verdict t)
+  -- the first break of the parts is the one that the verdict names
+  slice_get-parts_from : (n : ℕ) → slice_get (breaks_of (parts_from n here)) 0 ≡ named_break (verdict t)
   unfolding parts_from own_break
-  first_from zero =
+  slice_get-parts_from zero =
       ap (λ (bs : List Break). slice_get bs 0) (append-nil (option_to_list (option_map (moved_by 0) (own_break here))))
       ∙ alone (own_break here)
     where
       alone : (e : Option Break) → slice_get (option_to_list (option_map (moved_by 0) e)) 0 ≡ e
       alone None = refl
-      alone (Some b) = ap Some (moved_none b)
-  first_from (suc n) =
+      alone (Some b) = ap Some (moved_by-zero b)
+  slice_get-parts_from (suc n) =
       ap (λ (bs : List Break). slice_get (option_to_list (option_map (moved_by 0) (own_break here)) ++ bs) 0)
-      (breaks_after_first n (own_break here))
-      ∙ own_first (own_break here) (λ b. breaks_of (parts_from n (part_after here b)))
+      (breaks_of-option n (own_break here))
+      ∙ slice_get-first_break (own_break here) (λ b. breaks_of (parts_from n (part_after here b)))
 
-  pub first_is : slice_get (breaks t) 0 ≡ named_break (verdict t)
+  -- the first break of a recording is the one that its verdict names
+  pub slice_get-breaks : slice_get (breaks t) 0 ≡ named_break (verdict t)
   unfolding parts
-  first_is = first_from (length t.steps)
+  slice_get-breaks = slice_get-parts_from (length t.steps)
 
   -- the rule of the first break determines the verdict
   pub first_determines_verdict : (b : Break) → slice_get (breaks t) 0 ≡ Some b
       → verdict t ≡ cond (is_unreadable b.rule) (Unreadable b) (Broken b)
   unfolding verdict_by
-  first_determines_verdict b e = determined_by (judged_stretches t) (sym first_is ∙ e)
+  first_determines_verdict b e = determined_by (judged_stretches t) (sym slice_get-breaks ∙ e)
     where
       determined_by : (stretches : List Stretch) → named_break (judge all_rules t stretches) ≡ Some b
           → judge all_rules t stretches ≡ cond (is_unreadable b.rule) (Unreadable b) (Broken b)
@@ -74,22 +80,23 @@ module _ (t : Trace) where
           ap verdict_on (sym (named_break-verdict_on (least_of all_rules t (stretch ∷ stretches))) ∙ e)
 
   -- a recording without a break is its only part
-  one_part : (n : ℕ) → named_break (verdict t) ≡ None → parts_from n here ≡ here ∷ []
+  parts_from-unbroken : (n : ℕ) → named_break (verdict t) ≡ None → parts_from n here ≡ here ∷ []
   unfolding parts_from own_break
-  one_part zero e = refl
-  one_part (suc n) e = rw e refl
+  parts_from-unbroken zero e = refl
+  parts_from-unbroken (suc n) e = rw e refl
 
-  pub none_named : breaks t ≡ [] → named_break (verdict t) ≡ None
-  none_named e = sym first_is ∙ ap (λ (bs : List Break). slice_get bs 0) e
+  -- the verdict on a recording without breaks names none
+  pub named_break-no_breaks : breaks t ≡ [] → named_break (verdict t) ≡ None
+  named_break-no_breaks e = sym slice_get-breaks ∙ ap (λ (bs : List Break). slice_get bs 0) e
 
-  -- what is judged in a recording without a break conforms
-  pub unbroken_verdict : named_break (verdict t) ≡ None
+  -- a verdict that names no break is "conforming" if something is judged, else "never idle"
+  pub verdict-unbroken : named_break (verdict t) ≡ None
       → verdict t ≡ cond (is_judged_part (last_part t)) Conforming NeverIdle
   unfolding parts verdict_by is_judged_part
-  unbroken_verdict e =
+  verdict-unbroken e =
       conforms (judged_stretches t) e
       ∙ ap (λ (ps : List Part). cond (is_judged_part (last_from here ps)) Conforming NeverIdle)
-      (sym (one_part (length t.steps) e))
+      (sym (parts_from-unbroken (length t.steps) e))
     where
       conforms : (stretches : List Stretch) → named_break (judge all_rules t stretches) ≡ None
           → judge all_rules t stretches ≡ cond (has_stretch stretches) Conforming NeverIdle
@@ -97,49 +104,60 @@ module _ (t : Trace) where
       conforms (stretch ∷ stretches) e =
           ap verdict_on (sym (named_break-verdict_on (least_of all_rules t (stretch ∷ stretches))) ∙ e)
 
-  pub no_breaks : named_break (verdict t) ≡ None → breaks t ≡ []
+  -- a recording whose verdict names no break has none
+  pub breaks-unbroken : named_break (verdict t) ≡ None → breaks t ≡ []
   unfolding parts own_break
-  no_breaks e = ap breaks_of (one_part (length t.steps) e) ∙ rw e refl
+  breaks-unbroken e = ap breaks_of (parts_from-unbroken (length t.steps) e) ∙ rw e refl
 
--- verdict rows aren't counted
-verdict_only : (r : Row) → is_verdict r ≡ true → (v : ListedVerdict) × (r ≡ row.Verdict v)
-verdict_only (row.Start i) h = absurd (cc)
-verdict_only (row.Reset i) h = absurd (cc)
-verdict_only (row.OpenTenure i end) h = absurd (cc)
-verdict_only (row.Tenure i level slot end) h = absurd (cc)
-verdict_only (row.AddressedCycle i class modifier address end) h = absurd (cc)
-verdict_only (row.FreeCycle i modifier end) h = absurd (cc)
-verdict_only (row.InterruptCycle i level end) h = absurd (cc)
-verdict_only (row.Transfer direction line i cycle answer close lanes) h = absurd (cc)
-verdict_only (row.PendingTransfer i direction) h = absurd (cc)
-verdict_only (row.Verdict v) h = (v, refl)
+-- a row of a verdict is made by `Verdict`
+is_verdict-only : (r : Row) → is_verdict r ≡ true → (v : ListedVerdict) × (r ≡ row.Verdict v)
+is_verdict-only (row.Start i) h = absurd (cc)
+is_verdict-only (row.Reset i) h = absurd (cc)
+is_verdict-only (row.OpenTenure i end) h = absurd (cc)
+is_verdict-only (row.Tenure i level slot end) h = absurd (cc)
+is_verdict-only (row.AddressedCycle i class modifier address end) h = absurd (cc)
+is_verdict-only (row.FreeCycle i modifier end) h = absurd (cc)
+is_verdict-only (row.InterruptCycle i level end) h = absurd (cc)
+is_verdict-only (row.Transfer direction line i cycle answer close lanes) h = absurd (cc)
+is_verdict-only (row.PendingTransfer i direction) h = absurd (cc)
+is_verdict-only (row.Verdict v) h = (v, refl)
 
 module _ (is : Row → Bool) (no : (v : ListedVerdict) → is (row.Verdict v) ≡ false) where
-  one_more : (r : Row) (kept rows : List Row) (b c : Bool) → is_verdict r ≡ b → is r ≡ c
+  -- leaving out a row, if it is a verdict, leaves the count as it is
+  count_of-not_verdict : (r : Row) (kept rows : List Row) (b c : Bool) → is_verdict r ≡ b → is r ≡ c
       → count_of is kept ≡ count_of is rows → count_of is (cond (not b) (r ∷ kept) kept) ≡ count_of is (r ∷ rows)
-  one_more r kept rows true c h e so_far =
-      let verdict = verdict_only r h in
+  count_of-not_verdict r kept rows true c h e so_far =
+      let verdict = is_verdict-only r h in
       let none : is r ≡ false = ap is verdict.1 ∙ no verdict.0 in
       rw none so_far
-  one_more r kept rows false true h e so_far = rw e (ap suc so_far)
-  one_more r kept rows false false h e so_far = rw e so_far
+  count_of-not_verdict r kept rows false true h e so_far = rw e (ap suc so_far)
+  count_of-not_verdict r kept rows false false h e so_far = rw e so_far
 
-  uncounted : (rows : List Row) → count_of is (filter (λ row. not (is_verdict row)) rows) ≡ count_of is rows
-  uncounted [] = refl
-  uncounted (r ∷ rows) =
-      one_more r (filter (λ row. not (is_verdict row)) rows) rows (is_verdict r) (is r) refl refl (uncounted rows)
+  -- leaving out the verdicts leaves the count of rows that are no verdict
+  count_of-without_verdicts : (rows : List Row) → count_of is (filter (λ row. not (is_verdict row)) rows)
+      ≡ count_of is rows
+  count_of-without_verdicts [] = refl
+  count_of-without_verdicts (r ∷ rows) =
+      count_of-not_verdict r (filter (λ row. not (is_verdict row)) rows) rows (is_verdict r) (is r) refl refl
+      (count_of-without_verdicts rows)
 
-uncounted_all : (rows : List Row) → counts_of_rows (filter (λ row. not (is_verdict row)) rows) ≡ counts_of_rows rows
+-- leaving out the verdicts leaves all counts as they are
+counts_of_rows-without_verdicts : (rows : List Row) → counts_of_rows (filter (λ row. not (is_verdict row)) rows)
+    ≡ counts_of_rows rows
 unfolding counts_of_rows
-uncounted_all rows =
-    same_counts (counts_of_rows (filter (λ row. not (is_verdict row)) rows)) (counts_of_rows rows)
-    (uncounted _ (λ v. refl) rows) (uncounted _ (λ v. refl) rows) (uncounted _ (λ v. refl) rows)
-    (uncounted _ (λ v. refl) rows) (uncounted _ (λ v. refl) rows) (uncounted _ (λ v. refl) rows)
-    (uncounted _ (λ v. refl) rows) (uncounted _ (λ v. refl) rows) (uncounted _ (λ v. refl) rows)
-    (uncounted _ (λ v. refl) rows) (uncounted _ (λ v. refl) rows)
+counts_of_rows-without_verdicts rows =
+    Counts-equal (counts_of_rows (filter (λ row. not (is_verdict row)) rows)) (counts_of_rows rows)
+    (count_of-without_verdicts _ (λ v. refl) rows) (count_of-without_verdicts _ (λ v. refl) rows)
+    (count_of-without_verdicts _ (λ v. refl) rows)
+    (count_of-without_verdicts _ (λ v. refl) rows) (count_of-without_verdicts _ (λ v. refl) rows)
+    (count_of-without_verdicts _ (λ v. refl) rows)
+    (count_of-without_verdicts _ (λ v. refl) rows) (count_of-without_verdicts _ (λ v. refl) rows)
+    (count_of-without_verdicts _ (λ v. refl) rows)
+    (count_of-without_verdicts _ (λ v. refl) rows) (count_of-without_verdicts _ (λ v. refl) rows)
 
-pub listed_counts : (t : Trace) → named_break (verdict t) ≡ None → counts t ≡ counts_of_rows (recorded_rows t)
+-- the counts of a recording without a break are those of the rows of its listing
+pub counts-recorded_rows : (t : Trace) → named_break (verdict t) ≡ None → counts t ≡ counts_of_rows (recorded_rows t)
 unfolding parts
-listed_counts t e =
-    ap (λ (ps : List Part). counts_of_rows (flat_map rows_of ps)) (one_part t (length t.steps) e)
-    ∙ ap counts_of_rows (append-nil (rows_of (whole t))) ∙ uncounted_all (recorded_rows t)
+counts-recorded_rows t e =
+    ap (λ (ps : List Part). counts_of_rows (flat_map rows_of ps)) (parts_from-unbroken t (length t.steps) e)
+    ∙ ap counts_of_rows (append-nil (rows_of (whole t))) ∙ counts_of_rows-without_verdicts (recorded_rows t)

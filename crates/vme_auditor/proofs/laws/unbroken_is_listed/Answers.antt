@@ -1,12 +1,13 @@
 -- A recording without a break is its only part.
-use Rattle.vme_auditor.proofs.WholeRecordings.{listed_counts, no_breaks, none_named, unbroken_verdict}
+use Rattle.vme_auditor.proofs.WholeRecordings.{counts-recorded_rows, breaks-unbroken, named_break-no_breaks}
+use Rattle.vme_auditor.proofs.WholeRecordings.{verdict-unbroken}
 use Rattle.vme_auditor.proofs.laws.unbroken_is_listed.Goals as goal
 
 pub returns-clause-breaks : goal.returns-clause-breaks
-returns-clause-breaks c = λ t. (none_named t, no_breaks t)
+returns-clause-breaks c = λ t. (named_break-no_breaks t, breaks-unbroken t)
 
 pub returns-clause-verdict : goal.returns-clause-verdict
-returns-clause-verdict c = λ t e. unbroken_verdict t (none_named t e)
+returns-clause-verdict c = λ t e. verdict-unbroken t (named_break-no_breaks t e)
 
 pub returns-clause-counts : goal.returns-clause-counts
-returns-clause-counts c = λ t e. listed_counts t (none_named t e)
+returns-clause-counts c = λ t e. counts-recorded_rows t (named_break-no_breaks t e)
