@@ -27,7 +27,7 @@ use Rattle.vme_listing.specs.Recorded.{address_to, cycle_row, transfer_row, answ
 use Rattle.vme_listing.specs.declared.row.Row.{Row}
 use Rattle.vme_listing.specs.declared.row.Row.TheVariants.{OpenTenure, Tenure}
 use Rattle.vme_split.specs.Split.{bit_of, ShowNumber, address_line, ShowsModifier, ShowsAddress, IsOfItsCode}
-use Rattle.vme_split.proofs.Unbroken.{IsUnbroken, held}
+use Rattle.vme_split.proofs.Unbroken.{IsUnbroken, is_broken-unbroken}
 use Rattle.vme_split.proofs.EachRow.{all_before, all_tenure, all_cycle_of, all_transfer}
 
 -- ---- a number by its bits
@@ -224,7 +224,8 @@ module _ (t : Trace) (stretch : Stretch) (end : ℕ) (most : end ≤ stretch.end
       ≡ true → known t l i ≡ true
   unfolding is_broken
   needed_known i before starts l few needed = by (cycle_starts t stretch i) (is_needed (levels_at t i) l) (known t l i)
-      starts needed (held t stretch end most unbroken rule.U2 i l (cycle_judged i starts) before (omega (arith, few))
+      starts needed (is_broken-unbroken t stretch end most unbroken rule.U2 i l (cycle_judged i starts) before
+      (omega (arith, few))
       (bused t.opening.slots l few))
     where
       by : (a b c : Bool) → a ≡ true → b ≡ true → (a && b && not c) ≡ false → c ≡ true

@@ -22,9 +22,9 @@ use Rattle.vme_listing.specs.Recorded.{answer_line, cycle_row, transfer_row, ans
 use Rattle.vme_listing.specs.declared.row.Direction.TheVariants.{Read, Write}
 use Rattle.vme_listing.specs.declared.row.Row.TheVariants.{Transfer, PendingTransfer}
 use Rattle.vme_split.specs.Split.{ShowsAcknowledge, ShowsDirection}
-use Rattle.vme_split.proofs.Unbroken.{IsUnbroken, held}
-use Rattle.vme_split.proofs.Known.{IsWatched, high_is}
-use Rattle.vme_split.proofs.Transfers.{after_start}
+use Rattle.vme_split.proofs.Unbroken.{IsUnbroken, is_broken-unbroken}
+use Rattle.vme_split.proofs.Known.{IsWatched, high-watched}
+use Rattle.vme_split.proofs.Transfers.{transfer_starts-after}
 use Rattle.vme_split.proofs.EachRow.{all_before, all_tenure, all_cycle, all_cycle_of, all_transfer}
 
 high_of_known : (x : Level) → is_known x ≡ true → is_low x ≡ false → is_high x ≡ true
@@ -68,13 +68,13 @@ module _ (t : Trace) (stretch : Stretch) (is : IsStretchOf t stretch) (end : ℕ
       ≡ c → ShowsAcknowledge t (cycle_row i (levels_at t i) e c)
   unfolding low
   of_cycle i before starts e class.I of = acknowledges_low (levels_at t i) of
-  of_cycle i before starts e class.S of = high_is t stretch is IACK iack_watched i
+  of_cycle i before starts e class.S of = high-watched t stretch is IACK iack_watched i
       (omega (arith, cycle_judged i starts))
       (omega arith) ∙ ap not (acknowledges_none (levels_at t i) (λ h. let same : class.S ≡ class.I = sym of ∙ h in cc))
-  of_cycle i before starts e class.K of = high_is t stretch is IACK iack_watched i
+  of_cycle i before starts e class.K of = high-watched t stretch is IACK iack_watched i
       (omega (arith, cycle_judged i starts))
       (omega arith) ∙ ap not (acknowledges_none (levels_at t i) (λ h. let same : class.K ≡ class.I = sym of ∙ h in cc))
-  of_cycle i before starts e class.F of = high_is t stretch is IACK iack_watched i
+  of_cycle i before starts e class.F of = high-watched t stretch is IACK iack_watched i
       (omega (arith, cycle_judged i starts))
       (omega arith) ∙ ap not (acknowledges_none (levels_at t i) (λ h. let same : class.F ≡ class.I = sym of ∙ h in cc))
 
@@ -99,7 +99,8 @@ module _ (t : Trace) (stretch : Stretch) (is : IsStretchOf t stretch) (end : ℕ
   write_known : (i : ℕ) → i < end → transfer_starts t stretch i ≡ true → known t WRITE i ≡ true
   unfolding is_broken
   write_known i before starts = by (transfer_starts t stretch i) (known t WRITE i) starts
-      (held t stretch end most unbroken rule.U3 i WRITE (after_start t stretch i starts) before (lit< tt) refl)
+      (is_broken-unbroken t stretch end most unbroken rule.U3 i WRITE (transfer_starts-after t stretch i starts) before
+      (lit< tt) refl)
     where
       by : (a b : Bool) → a ≡ true → (true && a && not b) ≡ false → b ≡ true
       by true true h e = refl

@@ -30,12 +30,14 @@ use Rattle.vme_listing.specs.declared.row.Row.TheVariants.{OpenTenure, Tenure}
 use Rattle.vme_split.specs.Split.{ShowsGrant, IsOpenAtStart, Interval, interval, Covers, StartsInOne, IsOfASlot}
 use Rattle.vme_split.specs.Split.{IsAnsweredInCycle, AwaitsAnswer, is_traffic, tenure_in, cycle_in, KeepsRules}
 use Rattle.vme_split.proofs.Lists.{past_or_below, greatest-is, greatest-found}
-use Rattle.vme_split.proofs.Intervals.{Covering, covering, goes_on}
-use Rattle.vme_split.proofs.Unbroken.{IsUnbroken, held}
+use Rattle.vme_split.proofs.Intervals.{Covering, Covering-at, least-after_covering}
+use Rattle.vme_split.proofs.Unbroken.{IsUnbroken, is_broken-unbroken}
 use Rattle.vme_split.proofs.Cycles as cycles
 use Rattle.vme_split.proofs.Tenures as tenures
-use Rattle.vme_split.proofs.Answering.{unclosed, lasts_on, reply_at, answered_is, first_reply, addressed}
-use Rattle.vme_split.proofs.Transfers.{after_start, CycleCovers, cycle_there, cycle_begun, low_near}
+use Rattle.vme_split.proofs.Answering.{least-unanswered, lasts-until_high, reply_at, is_answered-reply_at}
+use Rattle.vme_split.proofs.Answering.{least-answers, near_low-reply}
+use Rattle.vme_split.proofs.Transfers.{transfer_starts-after, CycleCovers, CycleCovers-low, CycleCovers-starts}
+use Rattle.vme_split.proofs.Transfers.{near-low_as}
 use Rattle.vme_split.proofs.Classes.{cycles_of_classes}
 use Rattle.vme_split.proofs.Directions.{acknowledges_shown, directions_shown}
 use Rattle.vme_split.proofs.WrittenData.{data_shown}
@@ -89,9 +91,10 @@ module _ (t : Trace) (stretch : Stretch) (is : IsStretchOf t stretch) (end : ℕ
       → tenure_slot t i ≡ Some slot → (level < 4) × (1 ≤ slot) × (slot ≤ t.opening.slots)
   unfolding is_broken
   of_a_slot i before starts level slot l e =
-      let there = tenures.judged_falls t stretch is end within most unbroken i starts in
+      let there = tenures.tenure_starts-falls_after t stretch is end within most unbroken i starts in
       let bounds = slot_within t i slot e in
-      let past = off_past (falls t BBSY i) _ there.1 (held t stretch end most unbroken rule.B4 i BBSY there.0 before
+      let past = off_past (falls t BBSY i) _ there.1
+      (is_broken-unbroken t stretch end most unbroken rule.B4 i BBSY there.0 before
       (lit< tt) refl) in
       let other = eqb-false slot (t.opening.slots + 1)
       (sym (ap (λ (o : Option ℕ). is_option_equal o (t.opening.slots + 1)) e) ∙ past) in
@@ -194,7 +197,7 @@ module _ (t : Trace) (stretch : Stretch) (is : IsStretchOf t stretch) (end : ℕ
   open_first : All (IsOpenAtStart stretch.start) (rows_before t stretch end end)
   open_first = all_before (IsOpenAtStart stretch.start) t stretch end
       (λ i before. all_tenure_at (IsOpenAtStart stretch.start) t stretch end i (λ same e. same)
-      (λ starts level slot e l s. (tenures.judged_falls t stretch is end within most unbroken i starts).0))
+      (λ starts level slot e l s. (tenures.tenure_starts-falls_after t stretch is end within most unbroken i starts).0))
       (λ i before. all_cycle (IsOpenAtStart stretch.start) t stretch end i (in_cycle i))
       (λ i before. all_transfer (IsOpenAtStart stretch.start) t stretch end i
       (λ starts. in_transfer_row i (least (answers t stretch i) i end)))
@@ -243,7 +246,7 @@ module _ (t : Trace) (stretch : Stretch) (is : IsStretchOf t stretch) (end : ℕ
   busy_near : (i : ℕ) → stretch.start < i → i < end → falls t AS i ≡ true → near (low t BBSY) i ≡ true
   unfolding is_broken
   busy_near i after before down = by (falls t AS i) (near (low t BBSY) i) down
-      (held t stretch end most unbroken rule.B3 i
+      (is_broken-unbroken t stretch end most unbroken rule.B3 i
       AS after before (lit< tt) refl)
     where
       by : (a b : Bool) → a ≡ true → (true && a && not b) ≡ false → b ≡ true
@@ -260,8 +263,9 @@ module _ (t : Trace) (stretch : Stretch) (is : IsStretchOf t stretch) (end : ℕ
 
   TenureCovers : ℕ → Type 0
   TenureCovers k = Covering (low t BBSY) (tenure_starts t stretch) (rises t BBSY) (rises t BBSY) stretch.start end
-      (tenures.starts_is t stretch is end within most unbroken) (tenures.ends_is t stretch is end within most unbroken)
-      (tenures.stop_is t stretch is end within most unbroken) k
+      (tenures.tenure_starts-levels t stretch is end within most unbroken)
+      (tenures.rises-levels t stretch is end within most unbroken)
+      (tenures.rises-while_low t stretch is end within most unbroken) k
 
   in_tenure : (i : ℕ) → i < end → cycle_starts t stretch i ≡ true
       → StartsInOne (flat_map tenure_in (rows_before t stretch end end)) (cycles.cycle_at t stretch end i)
@@ -269,10 +273,13 @@ module _ (t : Trace) (stretch : Stretch) (is : IsStretchOf t stretch) (end : ℕ
   in_tenure i before starts =
       let down = cycle_judged i starts in
       let there = line_near t BBSY stretch.start i down.0 (busy_near i down.0 before down.1) in
-      let cover : TenureCovers there.0 = covering (low t BBSY) (tenure_starts t stretch) (rises t BBSY) (rises t BBSY)
+      let cover : TenureCovers there.0 =
+      Covering-at (low t BBSY) (tenure_starts t stretch) (rises t BBSY) (rises t BBSY)
       stretch.start end
-      (tenures.starts_is t stretch is end within most unbroken) (tenures.ends_is t stretch is end within most unbroken)
-      (tenures.stop_is t stretch is end within most unbroken) there.0 there.1 (omega (arith, there.2, before)) there.4
+      (tenures.tenure_starts-levels t stretch is end within most unbroken)
+      (tenures.rises-levels t stretch is end within most unbroken)
+      (tenures.rises-while_low t stretch is end within most unbroken) there.0 there.1 (omega (arith, there.2, before))
+      there.4
       in (
         tenure_from cover.first,
         subst (λ xs. Contains xs (tenure_from cover.first))
@@ -280,10 +287,13 @@ module _ (t : Trace) (stretch : Stretch) (is : IsStretchOf t stretch) (end : ℕ
             (omega (arith, there.2, before)) cover cover.begun),
         (
           omega (arith, cover.to, there.2),
-          if_some (least (rises t BBSY) (cover.first + 1) end) (λ e. i ≤ e) (λ e f. let later = goes_on (low t BBSY)
+          if_some (least (rises t BBSY) (cover.first + 1) end) (λ e. i ≤ e)
+              (λ e f. let later = least-after_covering (low t BBSY)
               (tenure_starts t stretch) (rises t BBSY) (rises t BBSY) stretch.start end
-              (tenures.starts_is t stretch is end within most unbroken) (tenures.ends_is t stretch is end within most
-              unbroken) (tenures.stop_is t stretch is end within most unbroken) there.0 (omega (arith, there.2, before))
+              (tenures.tenure_starts-levels t stretch is end within most unbroken)
+              (tenures.rises-levels t stretch is end within most
+              unbroken) (tenures.rises-while_low t stretch is end within most unbroken) there.0
+              (omega (arith, there.2, before))
               cover e f in omega (arith, later, there.3)),
         ),
       )
@@ -325,7 +335,7 @@ module _ (t : Trace) (stretch : Stretch) (is : IsStretchOf t stretch) (end : ℕ
   module _ (i r : ℕ) (starts : transfer_starts t stretch i ≡ true)
       (e : least (reply_at t stretch i) i end ≡ Some r) where
     after : stretch.start < i
-    after = after_start t stretch i starts
+    after = transfer_starts-after t stretch i starts
 
     found : IsLeast (reply_at t stretch i) i end r
     found = least-found (reply_at t stretch i) i end r e
@@ -361,18 +371,18 @@ module _ (t : Trace) (stretch : Stretch) (is : IsStretchOf t stretch) (end : ℕ
     Near = (k : ℕ) × (stretch.start ≤ k) × (k ≤ r) × (r ≤ k + 1) × (low t AS k ≡ true)
 
     there : Near
-    there = low_near t stretch is end within most r (omega (arith, found.first, after))
-        (addressed t stretch is end within most unbroken i r after starts e)
+    there = near-low_as t stretch is end within most r (omega (arith, found.first, after))
+        (near_low-reply t stretch is end within most unbroken i r after starts e)
 
     cover : CycleCovers t stretch is end within most there.0
-    cover = cycle_there t stretch is end within most there.0 there.1 (omega (arith, there.2, found.below)) there.4
+    cover = CycleCovers-low t stretch is end within most there.0 there.1 (omega (arith, there.2, found.below)) there.4
 
     -- no cycle starts after the covering one, up to r
     none_later : (k : ℕ) → cover.first < k → k < r + 1 → cycle_starts t stretch k ≡ false
     none_later k a b =
         let back : k ≡ (k - 1) + 1 = omega (arith, a) in
         ap (cycle_starts t stretch) back
-        ∙ (cycles.starts_is t stretch is end within most (k - 1) (omega (arith, cover.from, a))
+        ∙ (cycles.cycle_starts-levels t stretch is end within most (k - 1) (omega (arith, cover.from, a))
         (omega (arith, back, b, found.below))
         ∙ ap (λ v. not v && low t AS (k - 1 + 1)) (cover.held (k - 1) (omega (arith, a))
         (omega (arith, back, b, there.3))))
@@ -380,13 +390,13 @@ module _ (t : Trace) (stretch : Stretch) (is : IsStretchOf t stretch) (end : ℕ
     its_cycle : cycle_of t stretch r ≡ Some cover.first
     unfolding cycle_of
     its_cycle =
-        let begun = cycle_begun t stretch is end within most there.0 cover in
+        let begun = CycleCovers-starts t stretch is end within most there.0 cover in
         greatest-is (cycle_starts t stretch) (stretch.start + 1) (r + 1) cover.first (omega (arith, begun.0))
         (omega (arith, cover.to, there.2)) begun.1 none_later
 
     in_its_cycle : (o : Option ℕ) × Contains cycles_listed (interval cover.first o) × Covers (interval cover.first o) r
     in_its_cycle =
-        let begun = cycle_begun t stretch is end within most there.0 cover in (
+        let begun = CycleCovers-starts t stretch is end within most there.0 cover in (
           least (rises t AS) (cover.first + 1) end,
           subst (λ xs. Contains xs (cycles.cycle_at t stretch end cover.first))
               (sym (cycles.cycles_of_rows t stretch end within))
@@ -396,9 +406,12 @@ module _ (t : Trace) (stretch : Stretch) (is : IsStretchOf t stretch) (end : ℕ
           (
             omega (arith, cover.to, there.2),
             if_some (least (rises t AS) (cover.first + 1) end) (λ c. r ≤ c) (λ c f.
-                let later = goes_on (low t AS) (cycle_starts t stretch) (rises t AS) (rises t AS) stretch.start end
-                (cycles.starts_is t stretch is end within most) (cycles.ends_is t stretch is end within most)
-                (cycles.stop_is t stretch is end within most) there.0 (omega (arith, there.2, found.below)) cover c f in
+                let later = least-after_covering (low t AS) (cycle_starts t stretch) (rises t AS) (rises t AS)
+                stretch.start end
+                (cycles.cycle_starts-levels t stretch is end within most)
+                (cycles.rises-levels t stretch is end within most)
+                (cycles.rises-while_low t stretch is end within most) there.0 (omega (arith, there.2, found.below))
+                cover c f in
                 omega (arith, later, there.3)),
           ),
         )
@@ -412,10 +425,11 @@ module _ (t : Trace) (stretch : Stretch) (is : IsStretchOf t stretch) (end : ℕ
       (nat_lt i j)
       (is_answered t stretch i (j + 1))
       (in_transfer-is t stretch (λ k. nat_lt k j && not (is_answered t stretch k (j + 1))) i j
-      (after_start t stretch i starts)
+      (transfer_starts-after t stretch i starts)
       (omega arith) starts lasting)
-      (lt-ltb i j order) (answered_is t stretch i (j + 1) ∙ none)
-      (held t stretch end most unbroken rule.H7 j AS (omega (arith, after_start t stretch i starts)) before (lit< tt)
+      (lt-ltb i j order) (is_answered-reply_at t stretch i (j + 1) ∙ none)
+      (is_broken-unbroken t stretch end most unbroken rule.H7 j AS
+      (omega (arith, transfer_starts-after t stretch i starts)) before (lit< tt)
       refl)
     where
       by : (a x n d : Bool) → x ≡ (n && not d) → n ≡ true → d ≡ false → (true && a && x) ≡ false → a ≡ false
@@ -425,7 +439,7 @@ module _ (t : Trace) (stretch : Stretch) (is : IsStretchOf t stretch) (end : ℕ
   awaits_answer : (i : ℕ) → transfer_starts t stretch i ≡ true → AwaitsAnswer t end
       (transfer_row t stretch end i (least (answers t stretch i) i end))
   awaits_answer i starts = subst (λ (o : Option ℕ). AwaitsAnswer t end (transfer_row t stretch end i o))
-      (sym (first_reply t stretch i end)) (by (least (reply_at t stretch i) i end) refl)
+      (sym (least-answers t stretch i end)) (by (least (reply_at t stretch i) i end) refl)
     where
       row_told : (r : ℕ) (o : Option ℕ) (c : ℕ) → o ≡ Some c → least (reply_at t stretch i) i end ≡ Some r
           → AwaitsAnswer t end (answered_row t stretch end i r o)
@@ -433,7 +447,8 @@ module _ (t : Trace) (stretch : Stretch) (is : IsStretchOf t stretch) (end : ℕ
       row_told r (Some k) c e f = λ j a b.
           let found = least-found (reply_at t stretch i) i end r f in
           awaited i j starts a (omega (arith, found.below))
-          (lasts_on t stretch is i j (after_start t stretch i starts) (omega arith) (omega (arith, found.below))
+          (lasts-until_high t stretch is i j (transfer_starts-after t stretch i starts) (omega arith)
+          (omega (arith, found.below))
           (λ m x y. still i r starts f m x (omega arith)))
           (fails-any (reply_at t stretch i) i (j + 1) (λ m x y. any-fails (reply_at t stretch i) i r m found.least x
           (omega arith)))
@@ -441,9 +456,10 @@ module _ (t : Trace) (stretch : Stretch) (is : IsStretchOf t stretch) (end : ℕ
       by : (o : Option ℕ) → least (reply_at t stretch i) i end ≡ o → AwaitsAnswer t end (transfer_row t stretch end i o)
       by None e = λ j a b.
           awaited i j starts a b
-          (lasts_on t stretch is i j (after_start t stretch i starts) (omega arith) (omega arith)
+          (lasts-until_high t stretch is i j (transfer_starts-after t stretch i starts) (omega arith) (omega arith)
           (λ m x y. any-fails (strobes_high t) (i + 1) end m (least-none-any (strobes_high t) (i + 1) end
-          (unclosed t stretch is end within most unbroken i (after_start t stretch i starts) starts e)) (omega arith)
+          (least-unanswered t stretch is end within most unbroken i (transfer_starts-after t stretch i starts) starts
+          e)) (omega arith)
           (omega arith)))
           (fails-any (reply_at t stretch i) i (j + 1) (λ m x y. any-fails (reply_at t stretch i) i end m
           (least-none-any (reply_at t stretch i) i end e) x (omega arith)))
@@ -453,7 +469,7 @@ module _ (t : Trace) (stretch : Stretch) (is : IsStretchOf t stretch) (end : ℕ
       (transfer_row t stretch end i (least (answers t stretch i) i end))
   answered_in_cycle i starts = subst (λ (o : Option ℕ). IsAnsweredInCycle cycles_listed
       (transfer_row t stretch end i o))
-      (sym (first_reply t stretch i end)) (by (least (reply_at t stretch i) i end) refl)
+      (sym (least-answers t stretch i end)) (by (least (reply_at t stretch i) i end) refl)
     where
       by : (o : Option ℕ) → least (reply_at t stretch i) i end ≡ o → IsAnsweredInCycle cycles_listed
           (transfer_row t stretch end i o)

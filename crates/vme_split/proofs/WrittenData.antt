@@ -23,8 +23,8 @@ use Rattle.vme_listing.specs.declared.row.Row.TheVariants.{Transfer}
 use Rattle.vme_split.specs.Split.{ShowsData}
 use Rattle.vme_split.proofs.Lists.{same_or_after}
 use Rattle.vme_split.proofs.Unbroken.{IsUnbroken}
-use Rattle.vme_split.proofs.Transfers.{after_start}
-use Rattle.vme_split.proofs.Answering.{low_there}
+use Rattle.vme_split.proofs.Transfers.{transfer_starts-after}
+use Rattle.vme_split.proofs.Answering.{strobes_high-at_transfer}
 use Rattle.vme_split.proofs.EachRow.{all_before, all_tenure, all_cycle, all_transfer}
 
 first_of : (a b c : Bool) → (a && b && c) ≡ true → a ≡ true
@@ -69,7 +69,8 @@ module _ (t : Trace) (stretch : Stretch) (is : IsStretchOf t stretch) (end : ℕ
         where
           by : (i ≡ r - 1) ⊎ (i + 1 ≤ r - 1) → ⊥
           by (inl same) = clash (strobes_high t i) (ap (strobes_high t) same ∙ high_before h)
-              (low_there t stretch is end within most unbroken i (after_start t stretch i starts) starts before)
+              (strobes_high-at_transfer t stretch is end within most unbroken i
+              (transfer_starts-after t stretch i starts) starts before)
           by (inr more) = clash (strobes_high t (r - 1)) (high_before h)
               (any-fails (strobes_high t) (i + 1) r (r - 1) unclosed more (omega (arith, later)))
 
