@@ -28,7 +28,7 @@ use Rattle.vme_listing.specs.declared.row.Row.{Row}
 use Rattle.vme_listing.specs.declared.row.Row.TheVariants.{OpenTenure, Tenure}
 use Rattle.vme_split.specs.Split.{bit_of, ShowNumber, address_line, ShowsModifier, ShowsAddress, IsOfItsCode}
 use Rattle.vme_split.proofs.Unbroken.{IsUnbroken, is_broken-unbroken}
-use Rattle.vme_split.proofs.EachRow.{all_before, all_tenure, all_cycle_of, all_transfer}
+use Rattle.vme_split.proofs.EachRow.{All-rows_before, All-tenure_rows, All-cycle_rows_start, All-transfer_rows}
 
 -- ---- a number by its bits
 
@@ -301,10 +301,11 @@ module _ (t : Trace) (stretch : Stretch) (end : ℕ) (most : end ≤ stretch.end
       → ((i : ℕ) (e : Option ℕ) → P (OpenTenure i e)) → ((i level slot : ℕ) (e : Option ℕ) → P (Tenure i level slot e))
       → ((i : ℕ) (o : Option ℕ) → P (transfer_row t stretch end i o))
       → All P (rows_before t stretch end end)
-  of_cycles P cycles opened tenures transfers = all_before P t stretch end
-      (λ i before. all_tenure P t stretch end i (λ e. opened i e) (λ starts level slot e l s. tenures i level slot e))
-      (λ i before. all_cycle_of P t stretch end i (λ starts. cycles i before starts))
-      (λ i before. all_transfer P t stretch end i (λ starts. transfers i (least (answers t stretch i) i end)))
+  of_cycles P cycles opened tenures transfers = All-rows_before P t stretch end
+      (λ i before. All-tenure_rows P t stretch end i (λ e. opened i e)
+      (λ starts level slot e l s. tenures i level slot e))
+      (λ i before. All-cycle_rows_start P t stretch end i (λ starts. cycles i before starts))
+      (λ i before. All-transfer_rows P t stretch end i (λ starts. transfers i (least (answers t stretch i) i end)))
       end (omega arith)
 
   pub modifiers_shown : All (ShowsModifier t) (rows_before t stretch end end)

@@ -25,16 +25,19 @@ use Rattle.vme_split.specs.Split.{ShowsAcknowledge, ShowsDirection}
 use Rattle.vme_split.proofs.Unbroken.{IsUnbroken, is_broken-unbroken}
 use Rattle.vme_split.proofs.Known.{IsWatched, high-watched}
 use Rattle.vme_split.proofs.Transfers.{transfer_starts-after}
-use Rattle.vme_split.proofs.EachRow.{all_before, all_tenure, all_cycle, all_cycle_of, all_transfer}
+use Rattle.vme_split.proofs.EachRow.{All-rows_before, All-tenure_rows, All-cycle_rows, All-cycle_rows_start}
+use Rattle.vme_split.proofs.EachRow.{All-transfer_rows}
 
-high_of_known : (x : Level) → is_known x ≡ true → is_low x ≡ false → is_high x ≡ true
-high_of_known Low h e = absurd (cc)
-high_of_known High h e = refl
-high_of_known Unknown h e = absurd (cc)
+-- a known level that isn't low is high
+is_high-known_not_low : (x : Level) → is_known x ≡ true → is_low x ≡ false → is_high x ≡ true
+is_high-known_not_low Low h e = absurd (cc)
+is_high-known_not_low High h e = refl
+is_high-known_not_low Unknown h e = absurd (cc)
 
-acknowledges_low : (v : Levels) → class_of v ≡ class.I → is_low (level_at v IACK) ≡ true
+-- where the class is that of an interrupt acknowledge, IACK is low
+is_low-acknowledge : (v : Levels) → class_of v ≡ class.I → is_low (level_at v IACK) ≡ true
 unfolding class_of
-acknowledges_low v h = by (is_low (level_at v IACK)) (has_known_modifier v) (is_block (modifier_of v))
+is_low-acknowledge v h = by (is_low (level_at v IACK)) (has_known_modifier v) (is_block (modifier_of v))
     (highest_address (modifier_of v) == 0) h
   where
     by : (a b c d : Bool) → (if a then class.I else if not b then class.F else if c then class.K else if d then class.F
@@ -45,9 +48,10 @@ acknowledges_low v h = by (is_low (level_at v IACK)) (has_known_modifier v) (is_
     by false true false true h = absurd (cc)
     by false true false false h = absurd (cc)
 
-acknowledges_none : (v : Levels) → (class_of v ≡ class.I → ⊥) → is_low (level_at v IACK) ≡ false
+-- where the class is another, IACK isn't low
+is_low-no_acknowledge : (v : Levels) → (class_of v ≡ class.I → ⊥) → is_low (level_at v IACK) ≡ false
 unfolding class_of
-acknowledges_none v h = by (is_low (level_at v IACK)) (has_known_modifier v) (is_block (modifier_of v))
+is_low-no_acknowledge v h = by (is_low (level_at v IACK)) (has_known_modifier v) (is_block (modifier_of v))
     (highest_address (modifier_of v) == 0) h
   where
     by : (a b c d : Bool) → ((if a then class.I else if not b then class.F else if c then class.K else if d then class.F
@@ -55,35 +59,44 @@ acknowledges_none v h = by (is_low (level_at v IACK)) (has_known_modifier v) (is
     by true b c d h = absurd (h refl)
     by false b c d h = refl
 
-iack_watched : IsWatched IACK
-iack_watched = (lit< tt, λ slots. refl)
+-- IACK is a control line of every backplane
+IsWatched-IACK : IsWatched IACK
+IsWatched-IACK = (lit< tt, λ slots. refl)
 
 module _ (t : Trace) (stretch : Stretch) (is : IsStretchOf t stretch) (end : ℕ) (within : stretch.start < end)
     (most : end ≤ stretch.end) (unbroken : IsUnbroken t stretch end) where
-  cycle_judged : (i : ℕ) → cycle_starts t stretch i ≡ true → stretch.start < i
+  -- a cycle starts after the start of the stretch
+  cycle_starts-after : (i : ℕ) → cycle_starts t stretch i ≡ true → stretch.start < i
   unfolding cycle_starts
-  cycle_judged i e = grind (arith, nat_tests)
+  cycle_starts-after i e = grind (arith, nat_tests)
 
-  of_cycle : (i : ℕ) → i < end → cycle_starts t stretch i ≡ true → (e : Option ℕ) (c : Class) → class_of (levels_at t i)
+  -- the row of a cycle is of an interrupt acknowledge just if IACK is low as the cycle starts
+  ShowsAcknowledge-cycle_row : (i : ℕ) → i < end → cycle_starts t stretch i ≡ true → (e : Option ℕ) (c : Class)
+      → class_of (levels_at t i)
       ≡ c → ShowsAcknowledge t (cycle_row i (levels_at t i) e c)
   unfolding low
-  of_cycle i before starts e class.I of = acknowledges_low (levels_at t i) of
-  of_cycle i before starts e class.S of = high-watched t stretch is IACK iack_watched i
-      (omega (arith, cycle_judged i starts))
-      (omega arith) ∙ ap not (acknowledges_none (levels_at t i) (λ h. let same : class.S ≡ class.I = sym of ∙ h in cc))
-  of_cycle i before starts e class.K of = high-watched t stretch is IACK iack_watched i
-      (omega (arith, cycle_judged i starts))
-      (omega arith) ∙ ap not (acknowledges_none (levels_at t i) (λ h. let same : class.K ≡ class.I = sym of ∙ h in cc))
-  of_cycle i before starts e class.F of = high-watched t stretch is IACK iack_watched i
-      (omega (arith, cycle_judged i starts))
-      (omega arith) ∙ ap not (acknowledges_none (levels_at t i) (λ h. let same : class.F ≡ class.I = sym of ∙ h in cc))
+  ShowsAcknowledge-cycle_row i before starts e class.I of = is_low-acknowledge (levels_at t i) of
+  ShowsAcknowledge-cycle_row i before starts e class.S of = high-watched t stretch is IACK IsWatched-IACK i
+      (omega (arith, cycle_starts-after i starts))
+      (omega arith) ∙ ap not (is_low-no_acknowledge (levels_at t i)
+      (λ h. let same : class.S ≡ class.I = sym of ∙ h in cc))
+  ShowsAcknowledge-cycle_row i before starts e class.K of = high-watched t stretch is IACK IsWatched-IACK i
+      (omega (arith, cycle_starts-after i starts))
+      (omega arith) ∙ ap not (is_low-no_acknowledge (levels_at t i)
+      (λ h. let same : class.K ≡ class.I = sym of ∙ h in cc))
+  ShowsAcknowledge-cycle_row i before starts e class.F of = high-watched t stretch is IACK IsWatched-IACK i
+      (omega (arith, cycle_starts-after i starts))
+      (omega arith) ∙ ap not (is_low-no_acknowledge (levels_at t i)
+      (λ h. let same : class.F ≡ class.I = sym of ∙ h in cc))
 
-  pub acknowledges_shown : All (ShowsAcknowledge t) (rows_before t stretch end end)
-  acknowledges_shown = all_before (ShowsAcknowledge t) t stretch end
-      (λ i before. all_tenure (ShowsAcknowledge t) t stretch end i (λ e. tt) (λ starts level slot e l s. tt))
-      (λ i before. all_cycle_of (ShowsAcknowledge t) t stretch end i (λ starts. of_cycle i before starts
+  -- each row of a cycle shows whether it is an interrupt acknowledge
+  pub All-ShowsAcknowledge : All (ShowsAcknowledge t) (rows_before t stretch end end)
+  All-ShowsAcknowledge = All-rows_before (ShowsAcknowledge t) t stretch end
+      (λ i before. All-tenure_rows (ShowsAcknowledge t) t stretch end i (λ e. tt) (λ starts level slot e l s. tt))
+      (λ i before. All-cycle_rows_start (ShowsAcknowledge t) t stretch end i
+      (λ starts. ShowsAcknowledge-cycle_row i before starts
       (least (rises t AS) (i + 1) end) (class_of (levels_at t i)) refl))
-      (λ i before. all_transfer (ShowsAcknowledge t) t stretch end i
+      (λ i before. All-transfer_rows (ShowsAcknowledge t) t stretch end i
       (λ starts. in_transfer_row i (least (answers t stretch i) i end)))
       end (omega arith)
     where
@@ -96,9 +109,9 @@ module _ (t : Trace) (stretch : Stretch) (is : IsStretchOf t stretch) (end : ℕ
       in_transfer_row i (Some r) = in_answered i r (cycle_of t stretch r)
 
   -- WRITE is known as a transfer starts
-  write_known : (i : ℕ) → i < end → transfer_starts t stretch i ≡ true → known t WRITE i ≡ true
+  known-write : (i : ℕ) → i < end → transfer_starts t stretch i ≡ true → known t WRITE i ≡ true
   unfolding is_broken
-  write_known i before starts = by (transfer_starts t stretch i) (known t WRITE i) starts
+  known-write i before starts = by (transfer_starts t stretch i) (known t WRITE i) starts
       (is_broken-unbroken t stretch end most unbroken rule.U3 i WRITE (transfer_starts-after t stretch i starts) before
       (lit< tt) refl)
     where
@@ -107,44 +120,52 @@ module _ (t : Trace) (stretch : Stretch) (is : IsStretchOf t stretch) (end : ℕ
       by true false h e = absurd (cc)
       by false b h e = absurd (cc)
 
-  write_high : (i : ℕ) → i < end → transfer_starts t stretch i ≡ true → low t WRITE i ≡ false → high t WRITE i ≡ true
+  -- WRITE is high as a transfer starts, if it isn't low
+  high-write : (i : ℕ) → i < end → transfer_starts t stretch i ≡ true → low t WRITE i ≡ false → high t WRITE i ≡ true
   unfolding low high known
-  write_high i before starts off = high_of_known (level t WRITE i) (write_known i before starts) off
+  high-write i before starts off = is_high-known_not_low (level t WRITE i) (known-write i before starts) off
 
   module _ (i : ℕ) (before : i < end) (starts : transfer_starts t stretch i ≡ true) where
-    pending : ShowsDirection t (transfer_row t stretch end i None)
+    -- the row of a transfer without an answer shows its direction
+    ShowsDirection-pending : ShowsDirection t (transfer_row t stretch end i None)
     unfolding is_write
-    pending = by (low t WRITE i) refl
+    ShowsDirection-pending = by (low t WRITE i) refl
       where
         by : (b : Bool) → low t WRITE i ≡ b → ShowsDirection t (PendingTransfer i (if b then Write else Read))
         by true h = h
-        by false h = write_high i before starts h
+        by false h = high-write i before starts h
 
-    answered : (r c : ℕ) → ShowsDirection t (answered_row t stretch end i r (Some c))
+    -- the row of an answered transfer shows its direction
+    ShowsDirection-answered : (r c : ℕ) → ShowsDirection t (answered_row t stretch end i r (Some c))
     unfolding is_write
-    answered r c = by (low t WRITE i) refl
+    ShowsDirection-answered r c = by (low t WRITE i) refl
       where
         by : (b : Bool) → low t WRITE i ≡ b → ShowsDirection t (Transfer (if b then Write else Read)
             (answer_line t stretch end r) i c r (least (strobes_high t) (i + 1) end) (data_of t stretch end i r))
         by true h = h
-        by false h = write_high i before starts h
+        by false h = high-write i before starts h
 
-    outside : (r : ℕ) → ShowsDirection t (answered_row t stretch end i r None)
-    outside r = pending
+    -- so does the row of one whose answer is in no cycle
+    ShowsDirection-no_cycle : (r : ℕ) → ShowsDirection t (answered_row t stretch end i r None)
+    ShowsDirection-no_cycle r = ShowsDirection-pending
 
-    of_answer : (r : ℕ) (o : Option ℕ) → ShowsDirection t (answered_row t stretch end i r o)
-    of_answer r None = outside r
-    of_answer r (Some c) = answered r c
+    -- the row of a transfer that is answered in a cycle, or in none, shows its direction
+    ShowsDirection-answered_row : (r : ℕ) (o : Option ℕ) → ShowsDirection t (answered_row t stretch end i r o)
+    ShowsDirection-answered_row r None = ShowsDirection-no_cycle r
+    ShowsDirection-answered_row r (Some c) = ShowsDirection-answered r c
 
-    of_transfer : (o : Option ℕ) → ShowsDirection t (transfer_row t stretch end i o)
-    of_transfer None = pending
-    of_transfer (Some r) = of_answer r (cycle_of t stretch r)
+    -- the row of a transfer shows its direction
+    ShowsDirection-transfer_row : (o : Option ℕ) → ShowsDirection t (transfer_row t stretch end i o)
+    ShowsDirection-transfer_row None = ShowsDirection-pending
+    ShowsDirection-transfer_row (Some r) = ShowsDirection-answered_row r (cycle_of t stretch r)
 
-  pub directions_shown : All (ShowsDirection t) (rows_before t stretch end end)
-  directions_shown = all_before (ShowsDirection t) t stretch end
-      (λ i before. all_tenure (ShowsDirection t) t stretch end i (λ e. tt) (λ starts level slot e l s. tt))
-      (λ i before. all_cycle (ShowsDirection t) t stretch end i (in_cycle i))
-      (λ i before. all_transfer (ShowsDirection t) t stretch end i (λ starts. of_transfer i before starts
+  -- each row of a transfer shows its direction
+  pub All-ShowsDirection : All (ShowsDirection t) (rows_before t stretch end end)
+  All-ShowsDirection = All-rows_before (ShowsDirection t) t stretch end
+      (λ i before. All-tenure_rows (ShowsDirection t) t stretch end i (λ e. tt) (λ starts level slot e l s. tt))
+      (λ i before. All-cycle_rows (ShowsDirection t) t stretch end i (in_cycle i))
+      (λ i before. All-transfer_rows (ShowsDirection t) t stretch end i
+      (λ starts. ShowsDirection-transfer_row i before starts
       (least (answers t stretch i) i end)))
       end (omega arith)
     where

@@ -39,11 +39,12 @@ use Rattle.vme_split.proofs.Answering.{least-answers, near_low-reply}
 use Rattle.vme_split.proofs.Transfers.{transfer_starts-after, CycleCovers, CycleCovers-low, CycleCovers-starts}
 use Rattle.vme_split.proofs.Transfers.{near-low_as}
 use Rattle.vme_split.proofs.Classes.{cycles_of_classes}
-use Rattle.vme_split.proofs.Directions.{acknowledges_shown, directions_shown}
-use Rattle.vme_split.proofs.WrittenData.{data_shown}
+use Rattle.vme_split.proofs.Directions.{All-ShowsAcknowledge, All-ShowsDirection}
+use Rattle.vme_split.proofs.WrittenData.{All-ShowsData}
 use Rattle.vme_split.proofs.Codes.{classes_of_codes, modifiers_shown, addresses_shown}
-use Rattle.vme_split.proofs.EachRow.{contains_those, all_those, all_before, all_tenure, all_tenure_at, all_cycle}
-use Rattle.vme_split.proofs.EachRow.{all_transfer}
+use Rattle.vme_split.proofs.EachRow.{Contains-map_those, All-map_those, All-rows_before, All-tenure_rows}
+use Rattle.vme_split.proofs.EachRow.{All-tenure_rows_open, All-cycle_rows}
+use Rattle.vme_split.proofs.EachRow.{All-transfer_rows}
 
 -- the slot of a tenure is one of the backplane, or one more than the last
 slot_within : (t : Trace) (i slot : ℕ) → tenure_slot t i ≡ Some slot → (1 ≤ slot) × (slot ≤ t.opening.slots + 1)
@@ -105,12 +106,12 @@ module _ (t : Trace) (stretch : Stretch) (is : IsStretchOf t stretch) (end : ℕ
       off_past false b h e = absurd (cc)
 
   slots_held : All (IsOfASlot t.opening.slots) (rows_before t stretch end end)
-  slots_held = all_before (IsOfASlot t.opening.slots) t stretch end
-      (λ i before. all_tenure (IsOfASlot t.opening.slots) t stretch end i (λ e. tt)
+  slots_held = All-rows_before (IsOfASlot t.opening.slots) t stretch end
+      (λ i before. All-tenure_rows (IsOfASlot t.opening.slots) t stretch end i (λ e. tt)
       (λ starts level slot e l s. of_a_slot i
       before starts level slot l s))
-      (λ i before. all_cycle (IsOfASlot t.opening.slots) t stretch end i (in_cycle i))
-      (λ i before. all_transfer (IsOfASlot t.opening.slots) t stretch end i
+      (λ i before. All-cycle_rows (IsOfASlot t.opening.slots) t stretch end i (in_cycle i))
+      (λ i before. All-transfer_rows (IsOfASlot t.opening.slots) t stretch end i
       (λ starts. in_transfer_row i (least (answers t stretch i) i end)))
       end (omega arith)
     where
@@ -172,11 +173,12 @@ module _ (t : Trace) (stretch : Stretch) (is : IsStretchOf t stretch) (end : ℕ
           )
 
   grants_shown : All (ShowsGrant t) (rows_before t stretch end end)
-  grants_shown = all_before (ShowsGrant t) t stretch end
-      (λ i before. all_tenure (ShowsGrant t) t stretch end i (λ e. tt) (λ starts level slot e l s. grant_there i before
+  grants_shown = All-rows_before (ShowsGrant t) t stretch end
+      (λ i before. All-tenure_rows (ShowsGrant t) t stretch end i (λ e. tt)
+      (λ starts level slot e l s. grant_there i before
       starts level slot e l s))
-      (λ i before. all_cycle (ShowsGrant t) t stretch end i (in_cycle i))
-      (λ i before. all_transfer (ShowsGrant t) t stretch end i
+      (λ i before. All-cycle_rows (ShowsGrant t) t stretch end i (in_cycle i))
+      (λ i before. All-transfer_rows (ShowsGrant t) t stretch end i
       (λ starts. in_transfer_row i (least (answers t stretch i) i end)))
       end (omega arith)
     where
@@ -195,11 +197,11 @@ module _ (t : Trace) (stretch : Stretch) (is : IsStretchOf t stretch) (end : ℕ
       in_transfer_row i (Some r) = in_answered i r (cycle_of t stretch r)
 
   open_first : All (IsOpenAtStart stretch.start) (rows_before t stretch end end)
-  open_first = all_before (IsOpenAtStart stretch.start) t stretch end
-      (λ i before. all_tenure_at (IsOpenAtStart stretch.start) t stretch end i (λ same e. same)
+  open_first = All-rows_before (IsOpenAtStart stretch.start) t stretch end
+      (λ i before. All-tenure_rows_open (IsOpenAtStart stretch.start) t stretch end i (λ same e. same)
       (λ starts level slot e l s. (tenures.tenure_starts-falls_after t stretch is end within most unbroken i starts).0))
-      (λ i before. all_cycle (IsOpenAtStart stretch.start) t stretch end i (in_cycle i))
-      (λ i before. all_transfer (IsOpenAtStart stretch.start) t stretch end i
+      (λ i before. All-cycle_rows (IsOpenAtStart stretch.start) t stretch end i (in_cycle i))
+      (λ i before. All-transfer_rows (IsOpenAtStart stretch.start) t stretch end i
       (λ starts. in_transfer_row i (least (answers t stretch i) i end)))
       end (omega arith)
     where
@@ -219,11 +221,11 @@ module _ (t : Trace) (stretch : Stretch) (is : IsStretchOf t stretch) (end : ℕ
       in_transfer_row i (Some r) = in_answered i r (cycle_of t stretch r)
 
   traffic_alone : All (λ row. is_traffic row ≡ true) (rows_before t stretch end end)
-  traffic_alone = all_before (λ row. is_traffic row ≡ true) t stretch end
-      (λ i before. all_tenure (λ row. is_traffic row ≡ true) t stretch end i (λ e. refl)
+  traffic_alone = All-rows_before (λ row. is_traffic row ≡ true) t stretch end
+      (λ i before. All-tenure_rows (λ row. is_traffic row ≡ true) t stretch end i (λ e. refl)
       (λ starts level slot e l s. refl))
-      (λ i before. all_cycle (λ row. is_traffic row ≡ true) t stretch end i (in_cycle i))
-      (λ i before. all_transfer (λ row. is_traffic row ≡ true) t stretch end i
+      (λ i before. All-cycle_rows (λ row. is_traffic row ≡ true) t stretch end i (in_cycle i))
+      (λ i before. All-transfer_rows (λ row. is_traffic row ≡ true) t stretch end i
       (λ starts. in_transfer_row i (least (answers t stretch i) i end)))
       end (omega arith)
     where
@@ -316,7 +318,8 @@ module _ (t : Trace) (stretch : Stretch) (is : IsStretchOf t stretch) (end : ℕ
       by k below c (inr begun) =
           Contains-append_right (cond (low t BBSY stretch.start) (tenure_from stretch.start ∷ []) [])
           _ (tenure_from c.first)
-          (contains_those tenure_from (tenure_starts t stretch) (stretch.start + 1) end c.first (omega (arith, begun.0))
+          (Contains-map_those tenure_from (tenure_starts t stretch) (stretch.start + 1) end c.first
+          (omega (arith, begun.0))
           (omega (arith, c.to, below)) begun.1)
 
   cycles_held : All (StartsInOne (flat_map tenure_in (rows_before t stretch end end)))
@@ -324,7 +327,7 @@ module _ (t : Trace) (stretch : Stretch) (is : IsStretchOf t stretch) (end : ℕ
   cycles_held =
       subst (All (StartsInOne (flat_map tenure_in (rows_before t stretch end end))))
       (sym (cycles.cycles_of_rows t stretch end within))
-      (all_those (StartsInOne (flat_map tenure_in (rows_before t stretch end end))) (cycles.cycle_at t stretch end)
+      (All-map_those (StartsInOne (flat_map tenure_in (rows_before t stretch end end))) (cycles.cycle_at t stretch end)
       (cycle_starts t stretch) end end (stretch.start + 1) (omega arith) (λ i from before starts. in_tenure i before
       starts))
 
@@ -400,7 +403,7 @@ module _ (t : Trace) (stretch : Stretch) (is : IsStretchOf t stretch) (end : ℕ
           least (rises t AS) (cover.first + 1) end,
           subst (λ xs. Contains xs (cycles.cycle_at t stretch end cover.first))
               (sym (cycles.cycles_of_rows t stretch end within))
-              (contains_those (cycles.cycle_at t stretch end) (cycle_starts t stretch) (stretch.start + 1) end
+              (Contains-map_those (cycles.cycle_at t stretch end) (cycle_starts t stretch) (stretch.start + 1) end
               cover.first
               (omega (arith, begun.0)) (omega (arith, cover.to, there.2, found.below)) begun.1),
           (
@@ -485,10 +488,10 @@ module _ (t : Trace) (stretch : Stretch) (is : IsStretchOf t stretch) (end : ℕ
       → All P (rows_before t stretch end end)
 
   by_transfers : (P : Row → Type 0) → transfers_held P
-  by_transfers P opened started cycle transfer = all_before P t stretch end
-      (λ i before. all_tenure P t stretch end i (opened i) (λ starts level slot e l s. started i level slot e))
-      (λ i before. all_cycle P t stretch end i (cycle i (levels_at t i) (least (rises t AS) (i + 1) end)))
-      (λ i before. all_transfer P t stretch end i (transfer i))
+  by_transfers P opened started cycle transfer = All-rows_before P t stretch end
+      (λ i before. All-tenure_rows P t stretch end i (opened i) (λ starts level slot e l s. started i level slot e))
+      (λ i before. All-cycle_rows P t stretch end i (cycle i (levels_at t i) (least (rises t AS) (i + 1) end)))
+      (λ i before. All-transfer_rows P t stretch end i (transfer i))
       end (omega arith)
 
   no_answer : (i : ℕ) (v : Levels) (e : Option ℕ) (c : Class) → IsAnsweredInCycle cycles_listed (cycle_row i v e c)
@@ -512,12 +515,12 @@ module _ (t : Trace) (stretch : Stretch) (is : IsStretchOf t stretch) (end : ℕ
     answers_in_cycles = by_transfers (IsAnsweredInCycle cycles_listed) (λ i e. tt) (λ i level slot e. tt) no_answer
         answered_in_cycle;
     cycles_of_classes = cycles_of_classes t stretch is end within most unbroken;
-    acknowledges = acknowledges_shown t stretch is end within most unbroken;
+    acknowledges = All-ShowsAcknowledge t stretch is end within most unbroken;
     codes_of_classes = classes_of_codes t stretch end most unbroken;
     modifiers = modifiers_shown t stretch end most unbroken;
     addresses = addresses_shown t stretch end most unbroken;
-    directions = directions_shown t stretch is end within most unbroken;
-    written_data = data_shown t stretch is end within most unbroken;
+    directions = All-ShowsDirection t stretch is end within most unbroken;
+    written_data = All-ShowsData t stretch is end within most unbroken;
     strobe_awaits = by_transfers (AwaitsAnswer t end) (λ i e. tt) (λ i level slot e. tt) no_wait awaits_answer;
     nothing_else = traffic_alone;
   }

@@ -1,4 +1,4 @@
--- Rows of the same cycle agree, and so do rows of the same transfer.
+-- Rows of the same cycle agree, and so do rows of the same transfer, if they show what the lines show.
 use Rattle.std.proofs.Common.{◌≡◌, ℕ, zero, suc, ◌*◌, ◌/◌, ◌%◌, ◌^◌, ◌<◌, true, refl, sym, ◌∙◌, ap}
 use Rattle.std.proofs.Common.{ap₂, subst, arith, pow-suc, inl, inr}
 use Rattle.std.specs.Prelude.{Option, None, Some}
@@ -22,54 +22,63 @@ use Rattle.vme_split.specs.Split.{bit_of, ShowsBit, ShowNumber, address_line, da
 use Rattle.vme_split.specs.Split.{ShowsAcknowledge, ShowsModifier, ShowsAddress, ShowsDirection, ShowsData, IsOfItsCode}
 use Rattle.vme_split.specs.Split.{AgreeOnCycle, AgreeOnTransfer}
 
-not_both : (t : Trace) (line i : ℕ) → high t line i ≡ true → low t line i ≡ true → ⊥
+-- a line isn't both high and low
+high-not_low : (t : Trace) (line i : ℕ) → high t line i ≡ true → low t line i ≡ true → ⊥
 unfolding high low
-not_both t line i h l = clash (is_low (level t line i)) l (high_not_low (level t line i) h)
+high-not_low t line i h l = clash (is_low (level t line i)) l (high_not_low (level t line i) h)
 
-same_bit : (t : Trace) (line i a b : ℕ) → ShowsBit t line i a → ShowsBit t line i b → a ≡ b
-same_bit t line i a b (inl x) (inl y) = x.0 ∙ sym y.0
-same_bit t line i a b (inl x) (inr y) = absurd (not_both t line i x.1 y.1)
-same_bit t line i a b (inr x) (inl y) = absurd (not_both t line i y.1 x.1)
-same_bit t line i a b (inr x) (inr y) = x.0 ∙ sym y.0
+-- a line shows one bit at an instant
+ShowsBit-equal : (t : Trace) (line i a b : ℕ) → ShowsBit t line i a → ShowsBit t line i b → a ≡ b
+ShowsBit-equal t line i a b (inl x) (inl y) = x.0 ∙ sym y.0
+ShowsBit-equal t line i a b (inl x) (inr y) = absurd (high-not_low t line i x.1 y.1)
+ShowsBit-equal t line i a b (inr x) (inl y) = absurd (high-not_low t line i y.1 x.1)
+ShowsBit-equal t line i a b (inr x) (inr y) = x.0 ∙ sym y.0
 
 -- bit n + 1 of a number is bit n of its half
-shifted : (x n : ℕ) → bit_of x (suc n) ≡ bit_of (x / 2) n
-shifted x n =
+bit_of-half : (x n : ℕ) → bit_of x (suc n) ≡ bit_of (x / 2) n
+bit_of-half x n =
     let p = pow-suc 2 n in let twice : 2 ^ suc n ≡ 2 * 2 ^ n = omega (arith, p) in
     ap (λ (y : ℕ). x / y % 2) twice ∙ ap (λ (y : ℕ). y % 2) (sym (div-div-eq-div-mul x 2 (2 ^ n)))
 
 -- numbers below 2 to the power `count` with the same bits are equal
-equal_by_bits : (count x y : ℕ) → x < 2 ^ count → y < 2 ^ count → ((n : ℕ) → n < count → bit_of x n ≡ bit_of y n)
+equal-bits : (count x y : ℕ) → x < 2 ^ count → y < 2 ^ count → ((n : ℕ) → n < count → bit_of x n ≡ bit_of y n)
     → x ≡ y
-equal_by_bits zero x y a b bits = let a' : x < 1 = a in let b' : y < 1 = b in omega (arith, a', b')
-equal_by_bits (suc count) x y a b bits =
+equal-bits zero x y a b bits = let a' : x < 1 = a in let b' : y < 1 = b in omega (arith, a', b')
+equal-bits (suc count) x y a b bits =
     let p = pow-suc 2 count in let a' : x / 2 < 2 ^ count = omega (arith, a, p) in
     let b' : y / 2 < 2 ^ count = omega (arith, b, p) in
-    let half : x / 2 ≡ y / 2 = equal_by_bits count (x / 2) (y / 2) a' b'
-    (λ n small. sym (shifted x n) ∙ (bits (suc n) (omega (arith, small)) ∙ shifted y n)) in
+    let half : x / 2 ≡ y / 2 = equal-bits count (x / 2) (y / 2) a' b'
+    (λ n small. sym (bit_of-half x n) ∙ (bits (suc n) (omega (arith, small)) ∙ bit_of-half y n)) in
     let least : x / 1 % 2 ≡ y / 1 % 2 = bits 0 (omega arith) in omega (arith, half, least)
 
-same_number : (t : Trace) (line : ℕ → ℕ) (count i x y : ℕ) → ShowNumber t line count i x → ShowNumber t line count i y
+-- lines show one number at an instant
+ShowNumber-equal : (t : Trace) (line : ℕ → ℕ) (count i x y : ℕ) → ShowNumber t line count i x
+    → ShowNumber t line count i y
     → x ≡ y
-same_number t line count i x y a b = equal_by_bits count x y a.0 b.0
-    (λ n small. same_bit t (line n) i (bit_of x n) (bit_of y n) (a.1 n small) (b.1 n small))
+ShowNumber-equal t line count i x y a b = equal-bits count x y a.0 b.0
+    (λ n small. ShowsBit-equal t (line n) i (bit_of x n) (bit_of y n) (a.1 n small) (b.1 n small))
 
-same_number_at : (t : Trace) (line : ℕ → ℕ) (count i j x y : ℕ) → i ≡ j → ShowNumber t line count i x
+-- lines show one number at instants that are the same
+ShowNumber-equal_at : (t : Trace) (line : ℕ → ℕ) (count i j x y : ℕ) → i ≡ j → ShowNumber t line count i x
     → ShowNumber t line count j y → x ≡ y
-same_number_at t line count i j x y q a b =
-    same_number t line count i x y a (subst (λ (k : ℕ). ShowNumber t line count k y) (sym q) b)
+ShowNumber-equal_at t line count i j x y q a b =
+    ShowNumber-equal t line count i x y a (subst (λ (k : ℕ). ShowNumber t line count k y) (sym q) b)
 
-same_code : (t : Trace) (i j m n : ℕ) → i ≡ j → ShowNumber t (λ k. AM k) 6 i m → ShowNumber t (λ k. AM k) 6 j n → m ≡ n
-same_code t i j m n q a b = same_number_at t (λ k. AM k) 6 i j m n q a b
+-- the lines of the modifier show one code at an instant
+ShowNumber-code : (t : Trace) (i j m n : ℕ) → i ≡ j → ShowNumber t (λ k. AM k) 6 i m → ShowNumber t (λ k. AM k) 6 j n
+    → m ≡ n
+ShowNumber-code t i j m n q a b = ShowNumber-equal_at t (λ k. AM k) 6 i j m n q a b
 
-same_place : (t : Trace) (i j m n a b : ℕ) → i ≡ j → m ≡ n
+-- the address lines that are meaningful with a code show one address at an instant
+ShowNumber-address : (t : Trace) (i j m n a b : ℕ) → i ≡ j → m ≡ n
     → (a % 2 ≡ 0) × ShowNumber t (λ k. address_line k) (highest_address m) i (a / 2)
     → (b % 2 ≡ 0) × ShowNumber t (λ k. address_line k) (highest_address n) j (b / 2) → a ≡ b
-same_place t i j m n a b q p x y =
-    let half : a / 2 ≡ b / 2 = same_number_at t (λ k. address_line k) (highest_address m) i j (a / 2) (b / 2) q x.1
+ShowNumber-address t i j m n a b q p x y =
+    let half : a / 2 ≡ b / 2 = ShowNumber-equal_at t (λ k. address_line k) (highest_address m) i j (a / 2) (b / 2) q x.1
     (subst (λ (k : ℕ). ShowNumber t (λ k. address_line k) (highest_address k) j (b / 2)) (sym p) y.1) in
     omega (arith, half, x.0, y.0)
 
+-- rows of cycles that show what the lines show as the cycle starts agree if the cycles start at one instant
 pub cycles_alike : (t : Trace) (told other : Row) → ShowsAcknowledge t told → ShowsAcknowledge t other
     → IsOfItsCode told → IsOfItsCode other → ShowsModifier t told → ShowsModifier t other
     → ShowsAddress t told → ShowsAddress t other → AgreeOnCycle told other
@@ -82,19 +91,19 @@ cycles_alike t (AddressedCycle i c m a e) (Reset i') ack ack' of of' code code' 
 cycles_alike t (AddressedCycle i c m a e) (OpenTenure i' e') ack ack' of of' code code' place place' = tt
 cycles_alike t (AddressedCycle i c m a e) (Tenure i' l' s' e') ack ack' of of' code code' place place' = tt
 cycles_alike t (AddressedCycle i class.S m a e) (AddressedCycle i' class.S m' a' e') ack ack' of of' code code' place
-    place' = λ q. let same = same_code t i i' m m' q code code' in
-    (refl, same, same_place t i i' m m' a a' q same place place')
+    place' = λ q. let same = ShowNumber-code t i i' m m' q code code' in
+    (refl, same, ShowNumber-address t i i' m m' a a' q same place place')
 cycles_alike t (AddressedCycle i class.S m a e) (AddressedCycle i' class.K m' a' e') ack ack' of of' code code' place
-    place' = λ q. absurd (clash (is_block m) (ap is_block (same_code t i i' m m' q code code') ∙ of') of.0)
+    place' = λ q. absurd (clash (is_block m) (ap is_block (ShowNumber-code t i i' m m' q code code') ∙ of') of.0)
 cycles_alike t (AddressedCycle i class.S m a e) (AddressedCycle i' class.I m' a' e') ack ack' of of' code code' place
     place' = absurd of'
 cycles_alike t (AddressedCycle i class.S m a e) (AddressedCycle i' class.F m' a' e') ack ack' of of' code code' place
     place' = absurd of'
 cycles_alike t (AddressedCycle i class.K m a e) (AddressedCycle i' class.S m' a' e') ack ack' of of' code code' place
-    place' = λ q. absurd (clash (is_block m) of (ap is_block (same_code t i i' m m' q code code') ∙ of'.0))
+    place' = λ q. absurd (clash (is_block m) of (ap is_block (ShowNumber-code t i i' m m' q code code') ∙ of'.0))
 cycles_alike t (AddressedCycle i class.K m a e) (AddressedCycle i' class.K m' a' e') ack ack' of of' code code' place
-    place' = λ q. let same = same_code t i i' m m' q code code' in
-    (refl, same, same_place t i i' m m' a a' q same place place')
+    place' = λ q. let same = ShowNumber-code t i i' m m' q code code' in
+    (refl, same, ShowNumber-address t i i' m m' a a' q same place place')
 cycles_alike t (AddressedCycle i class.K m a e) (AddressedCycle i' class.I m' a' e') ack ack' of of' code code' place
     place' = absurd of'
 cycles_alike t (AddressedCycle i class.K m a e) (AddressedCycle i' class.F m' a' e') ack ack' of of' code code' place
@@ -116,13 +125,13 @@ cycles_alike t (AddressedCycle i class.F m a e) (AddressedCycle i' class.I m' a'
 cycles_alike t (AddressedCycle i class.F m a e) (AddressedCycle i' class.F m' a' e') ack ack' of of' code code' place
     place' = absurd of
 cycles_alike t (AddressedCycle i class.S m a e) (FreeCycle i' m' e') ack ack' of of' code code' place place' = λ q. of.1
-    (ap highest_address (same_code t i i' m m' q code code') ∙ of'.1)
+    (ap highest_address (ShowNumber-code t i i' m m' q code code') ∙ of'.1)
 cycles_alike t (AddressedCycle i class.K m a e) (FreeCycle i' m' e') ack ack' of of' code code' place place' = λ q.
-    clash (is_block m) of (ap is_block (same_code t i i' m m' q code code') ∙ of'.0)
+    clash (is_block m) of (ap is_block (ShowNumber-code t i i' m m' q code code') ∙ of'.0)
 cycles_alike t (AddressedCycle i class.I m a e) (FreeCycle i' m' e') ack ack' of of' code code' place place' = absurd of
 cycles_alike t (AddressedCycle i class.F m a e) (FreeCycle i' m' e') ack ack' of of' code code' place place' = absurd of
 cycles_alike t (AddressedCycle i c m a e) (InterruptCycle i' l' e') ack ack' of of' code code' place place' = λ q.
-    not_both t IACK i ack (ap (low t IACK) q ∙ ack')
+    high-not_low t IACK i ack (ap (low t IACK) q ∙ ack')
 cycles_alike t (AddressedCycle i c m a e) (Transfer d' l' i' c' r' k' x') ack ack' of of' code code' place place' = tt
 cycles_alike t (AddressedCycle i c m a e) (PendingTransfer i' d') ack ack' of of' code code' place place' = tt
 cycles_alike t (AddressedCycle i c m a e) (row.Verdict o') ack ack' of of' code code' place place' = tt
@@ -131,9 +140,10 @@ cycles_alike t (FreeCycle i m e) (Reset i') ack ack' of of' code code' place pla
 cycles_alike t (FreeCycle i m e) (OpenTenure i' e') ack ack' of of' code code' place place' = tt
 cycles_alike t (FreeCycle i m e) (Tenure i' l' s' e') ack ack' of of' code code' place place' = tt
 cycles_alike t (FreeCycle i m e) (AddressedCycle i' c' m' a' e') ack ack' of of' code code' place place' = tt
-cycles_alike t (FreeCycle i m e) (FreeCycle i' m' e') ack ack' of of' code code' place place' = λ q. same_code t i i' m
+cycles_alike t (FreeCycle i m e) (FreeCycle i' m' e') ack ack' of of' code code' place place' =
+    λ q. ShowNumber-code t i i' m
     m' q code code'
-cycles_alike t (FreeCycle i m e) (InterruptCycle i' l' e') ack ack' of of' code code' place place' = λ q. not_both t
+cycles_alike t (FreeCycle i m e) (InterruptCycle i' l' e') ack ack' of of' code code' place place' = λ q. high-not_low t
     IACK i ack (ap (low t IACK) q ∙ ack')
 cycles_alike t (FreeCycle i m e) (Transfer d' l' i' c' r' k' x') ack ack' of of' code code' place place' = tt
 cycles_alike t (FreeCycle i m e) (PendingTransfer i' d') ack ack' of of' code code' place place' = tt
@@ -145,7 +155,7 @@ cycles_alike t (InterruptCycle i l e) (Tenure i' l' s' e') ack ack' of of' code 
 cycles_alike t (InterruptCycle i l e) (AddressedCycle i' c' m' a' e') ack ack' of of' code code' place place' = tt
 cycles_alike t (InterruptCycle i l e) (FreeCycle i' m' e') ack ack' of of' code code' place place' = tt
 cycles_alike t (InterruptCycle i l e) (InterruptCycle i' l' e') ack ack' of of' code code' place place' = λ q.
-    same_number_at t (λ k. address_line k) 3 i i' l l' q place place'
+    ShowNumber-equal_at t (λ k. address_line k) 3 i i' l l' q place place'
 cycles_alike t (InterruptCycle i l e) (Transfer d' l' i' c' r' k' x') ack ack' of of' code code' place place' = tt
 cycles_alike t (InterruptCycle i l e) (PendingTransfer i' d') ack ack' of of' code code' place place' = tt
 cycles_alike t (InterruptCycle i l e) (row.Verdict o') ack ack' of of' code code' place place' = tt
@@ -153,6 +163,7 @@ cycles_alike t (Transfer d l i c r k x) other ack ack' of of' code code' place p
 cycles_alike t (PendingTransfer i d) other ack ack' of of' code code' place place' = tt
 cycles_alike t (row.Verdict o) other ack ack' of of' code code' place place' = tt
 
+-- rows of transfers that show the direction and the data agree if the transfers start at one instant
 pub transfers_alike : (t : Trace) (told other : Row) → ShowsDirection t told → ShowsDirection t other
     → ShowsData t told → ShowsData t other → AgreeOnTransfer told other
 transfers_alike t (Start i) other way way' lanes lanes' = tt
@@ -172,9 +183,9 @@ transfers_alike t (Transfer d l i c r k x) (InterruptCycle i' l' e') way way' la
 transfers_alike t (Transfer Read l i c r k x) (Transfer Read l' i' c' r' k' x') way way' lanes lanes' = λ q.
     (refl, λ p. subst (λ (y : Option Lanes). HaveSameData y x') (sym lanes) tt)
 transfers_alike t (Transfer Read l i c r k x) (Transfer Write l' i' c' r' k' x') way way' lanes lanes' = λ q. absurd
-    (not_both t WRITE i way (ap (low t WRITE) q ∙ way'))
+    (high-not_low t WRITE i way (ap (low t WRITE) q ∙ way'))
 transfers_alike t (Transfer Write l i c r k x) (Transfer Read l' i' c' r' k' x') way way' lanes lanes' = λ q. absurd
-    (not_both t WRITE i' way' (ap (low t WRITE) (sym q) ∙ way))
+    (high-not_low t WRITE i' way' (ap (low t WRITE) (sym q) ∙ way))
 transfers_alike t (Transfer Write l i c r k None) (Transfer Write l' i' c' r' k' x') way way' lanes lanes' = λ q.
     (refl, λ p. tt)
 transfers_alike t (Transfer Write l i c r k (Some x)) (Transfer Write l' i' c' r' k' None) way way' lanes lanes' = λ q.
@@ -193,9 +204,9 @@ transfers_alike t (PendingTransfer i d) (InterruptCycle i' l' e') way way' lanes
 transfers_alike t (PendingTransfer i d) (Transfer d' l' i' c' r' k' x') way way' lanes lanes' = tt
 transfers_alike t (PendingTransfer i Read) (PendingTransfer i' Read) way way' lanes lanes' = λ q. refl
 transfers_alike t (PendingTransfer i Read) (PendingTransfer i' Write) way way' lanes lanes' = λ q. absurd
-    (not_both t WRITE i way (ap (low t WRITE) q ∙ way'))
+    (high-not_low t WRITE i way (ap (low t WRITE) q ∙ way'))
 transfers_alike t (PendingTransfer i Write) (PendingTransfer i' Read) way way' lanes lanes' = λ q. absurd
-    (not_both t WRITE i' way' (ap (low t WRITE) (sym q) ∙ way))
+    (high-not_low t WRITE i' way' (ap (low t WRITE) (sym q) ∙ way))
 transfers_alike t (PendingTransfer i Write) (PendingTransfer i' Write) way way' lanes lanes' = λ q. refl
 transfers_alike t (PendingTransfer i d) (row.Verdict o') way way' lanes lanes' = tt
 transfers_alike t (row.Verdict o) other way way' lanes lanes' = tt

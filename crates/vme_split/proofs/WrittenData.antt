@@ -1,4 +1,4 @@
--- The data in the rows of writes.
+-- The data in the rows of writes are the levels of the data lines.
 use Rattle.std.proofs.Common.{◌≡◌, ℕ, ◌+◌, ◌-◌, ◌<◌, ◌≤◌, Bool, true, false, ◌&&◌, not, if◌then◌else◌, refl, sym, ◌∙◌}
 use Rattle.std.proofs.Common.{ap}
 use Rattle.std.proofs.Common.{arith, All, inl, inr, ◌⊎◌}
@@ -25,95 +25,110 @@ use Rattle.vme_split.proofs.Lists.{same_or_after}
 use Rattle.vme_split.proofs.Unbroken.{IsUnbroken}
 use Rattle.vme_split.proofs.Transfers.{transfer_starts-after}
 use Rattle.vme_split.proofs.Answering.{strobes_high-at_transfer}
-use Rattle.vme_split.proofs.EachRow.{all_before, all_tenure, all_cycle, all_transfer}
+use Rattle.vme_split.proofs.EachRow.{All-rows_before, All-tenure_rows, All-cycle_rows, All-transfer_rows}
 
-first_of : (a b c : Bool) → (a && b && c) ≡ true → a ≡ true
-first_of true b c h = refl
-first_of false b c h = absurd (cc)
+-- the first part of a conjunction of three that holds
+and-first_of_three : (a b c : Bool) → (a && b && c) ≡ true → a ≡ true
+and-first_of_three true b c h = refl
+and-first_of_three false b c h = absurd (cc)
 
-second_of : (a b c : Bool) → (a && b && c) ≡ true → b ≡ true
-second_of true true c h = refl
-second_of true false c h = absurd (cc)
-second_of false b c h = absurd (cc)
+-- the second part
+and-second_of_three : (a b c : Bool) → (a && b && c) ≡ true → b ≡ true
+and-second_of_three true true c h = refl
+and-second_of_three true false c h = absurd (cc)
+and-second_of_three false b c h = absurd (cc)
 
-third_of : (a b c : Bool) → (a && b && c) ≡ true → c ≡ true
-third_of true true true h = refl
-third_of true true false h = absurd (cc)
-third_of true false c h = absurd (cc)
-third_of false b c h = absurd (cc)
+-- the third part
+and-third_of_three : (a b c : Bool) → (a && b && c) ≡ true → c ≡ true
+and-third_of_three true true true h = refl
+and-third_of_three true true false h = absurd (cc)
+and-third_of_three true false c h = absurd (cc)
+and-third_of_three false b c h = absurd (cc)
 
-is_later : (i r : ℕ) → i + 1 ≤ r → (i == r) ≡ false
-is_later i r h = grind (arith, nat_tests)
+-- a number isn't equal to a greater one
+eqb-later : (i r : ℕ) → i + 1 ≤ r → (i == r) ≡ false
+eqb-later i r h = grind (arith, nat_tests)
 
 module _ (t : Trace) (stretch : Stretch) (is : IsStretchOf t stretch) (end : ℕ) (within : stretch.start < end)
     (most : end ≤ stretch.end)
     (unbroken : IsUnbroken t stretch end) where
+  -- the transfer that starts at i and lasts at r
   module _ (i r : ℕ) (before : i < end) (starts : transfer_starts t stretch i ≡ true)
       (there : lasts t stretch i r ≡ true)
     where
-      order : i ≤ r
+      -- it lasts only from its start on
+      lasts-order : i ≤ r
       unfolding lasts
-      order = leb-true i r (first_of (nat_le i r) _ _ there)
+      lasts-order = leb-true i r (and-first_of_three (nat_le i r) _ _ there)
 
-      unclosed : any (strobes_high t) (i + 1) r ≡ false
+      -- at no instant after its start and before r both strobes are high
+      strobes_high-none : any (strobes_high t) (i + 1) r ≡ false
       unfolding lasts
-      unclosed = sym (not-not (any (strobes_high t) (i + 1) r)) ∙ ap not (third_of (nat_le i r) _ _ there)
+      strobes_high-none =
+          sym (not-not (any (strobes_high t) (i + 1) r)) ∙ ap not (and-third_of_three (nat_le i r) _ _ there)
 
-      high_before : transfer_starts t stretch r ≡ true → strobes_high t (r - 1) ≡ true
+      -- where a transfer starts at r, both strobes were high before
+      strobes_high-before : transfer_starts t stretch r ≡ true → strobes_high t (r - 1) ≡ true
       unfolding transfer_starts
-      high_before h = second_of _ (strobes_high t (r - 1)) _ h
+      strobes_high-before h = and-second_of_three _ (strobes_high t (r - 1)) _ h
 
       -- no other transfer starts at r, in the transfer that starts at i
-      none_later : i + 1 ≤ r → transfer_starts t stretch r ≡ true → ⊥
-      none_later later h = by (same_or_after i (r - 1) (omega (arith, later)))
+      transfer_starts-none_later : i + 1 ≤ r → transfer_starts t stretch r ≡ true → ⊥
+      transfer_starts-none_later later h = by (same_or_after i (r - 1) (omega (arith, later)))
         where
           by : (i ≡ r - 1) ⊎ (i + 1 ≤ r - 1) → ⊥
-          by (inl same) = clash (strobes_high t i) (ap (strobes_high t) same ∙ high_before h)
+          by (inl same) = clash (strobes_high t i) (ap (strobes_high t) same ∙ strobes_high-before h)
               (strobes_high-at_transfer t stretch is end within most unbroken i
               (transfer_starts-after t stretch i starts) starts before)
-          by (inr more) = clash (strobes_high t (r - 1)) (high_before h)
-              (any-fails (strobes_high t) (i + 1) r (r - 1) unclosed more (omega (arith, later)))
+          by (inr more) = clash (strobes_high t (r - 1)) (strobes_high-before h)
+              (any-fails (strobes_high t) (i + 1) r (r - 1) strobes_high-none more (omega (arith, later)))
 
-      starts_alike : transfer_starts t stretch r ≡ (i == r)
-      starts_alike = by (same_or_after i r order)
+      -- a transfer starts at r just if r is the start of this one
+      transfer_starts-same : transfer_starts t stretch r ≡ (i == r)
+      transfer_starts-same = by (same_or_after i r lasts-order)
         where
           by : (i ≡ r) ⊎ (i + 1 ≤ r) → transfer_starts t stretch r ≡ (i == r)
           by (inl same) = ap (transfer_starts t stretch) (sym same) ∙ (starts ∙ sym (eq-eqb i r same))
-          by (inr later) = false_from_ne_true (transfer_starts t stretch r) (none_later later)
-              ∙ sym (is_later i r later)
+          by (inr later) = false_from_ne_true (transfer_starts t stretch r) (transfer_starts-none_later later)
+              ∙ sym (eqb-later i r later)
 
-      answered : (c : ℕ) → ShowsData t (answered_row t stretch end i r (Some c))
+      -- the row of the transfer, answered at r in a cycle, shows its data
+      ShowsData-answered : (c : ℕ) → ShowsData t (answered_row t stretch end i r (Some c))
       unfolding data_at
-      answered c = by (is_write t stretch i)
+      ShowsData-answered c = by (is_write t stretch i)
         where
           by : (b : Bool) → ShowsData t (Transfer (if b then Write else Read) (answer_line t stretch end r) i c r
               (least (strobes_high t) (i + 1) end) (if b then Some (data_at t stretch r) else None))
-          by true = ap (λ (b : Bool). lanes_at (levels_at t (if b then r else r - 1))) starts_alike
+          by true = ap (λ (b : Bool). lanes_at (levels_at t (if b then r else r - 1))) transfer_starts-same
           by false = refl
 
-      of_answer : (o : Option ℕ) → ShowsData t (answered_row t stretch end i r o)
-      of_answer None = tt
-      of_answer (Some c) = answered c
+      -- the row of the transfer, answered at r in a cycle or in none, shows its data
+      ShowsData-answered_row : (o : Option ℕ) → ShowsData t (answered_row t stretch end i r o)
+      ShowsData-answered_row None = tt
+      ShowsData-answered_row (Some c) = ShowsData-answered c
 
-  lasting : (i r : ℕ) → answers t stretch i r ≡ true → lasts t stretch i r ≡ true
+  -- a transfer lasts at its answer
+  lasts-answers : (i r : ℕ) → answers t stretch i r ≡ true → lasts t stretch i r ≡ true
   unfolding answers
-  lasting i r h = first_of (lasts t stretch i r) _ _ h
+  lasts-answers i r h = and-first_of_three (lasts t stretch i r) _ _ h
 
-  of_transfer : (i : ℕ) → i < end → transfer_starts t stretch i ≡ true → (o : Option ℕ)
+  -- the row of a transfer shows its data
+  ShowsData-transfer_row : (i : ℕ) → i < end → transfer_starts t stretch i ≡ true → (o : Option ℕ)
       → least (answers t stretch i) i end
       ≡ o
       → ShowsData t (transfer_row t stretch end i o)
-  of_transfer i before starts None e = tt
-  of_transfer i before starts (Some r) e =
-      of_answer i r before starts (lasting i r (least-found (answers t stretch i) i end r e).holds)
+  ShowsData-transfer_row i before starts None e = tt
+  ShowsData-transfer_row i before starts (Some r) e =
+      ShowsData-answered_row i r before starts (lasts-answers i r (least-found (answers t stretch i) i end r e).holds)
       (cycle_of t stretch r)
 
-  pub data_shown : All (ShowsData t) (rows_before t stretch end end)
-  data_shown = all_before (ShowsData t) t stretch end
-      (λ i before. all_tenure (ShowsData t) t stretch end i (λ e. tt) (λ starts level slot e l s. tt))
-      (λ i before. all_cycle (ShowsData t) t stretch end i (in_cycle i))
-      (λ i before. all_transfer (ShowsData t) t stretch end i
-      (λ starts. of_transfer i before starts (least (answers t stretch i) i end) refl))
+  -- each row of a transfer shows its data
+  pub All-ShowsData : All (ShowsData t) (rows_before t stretch end end)
+  All-ShowsData = All-rows_before (ShowsData t) t stretch end
+      (λ i before. All-tenure_rows (ShowsData t) t stretch end i (λ e. tt) (λ starts level slot e l s. tt))
+      (λ i before. All-cycle_rows (ShowsData t) t stretch end i (in_cycle i))
+      (λ i before. All-transfer_rows (ShowsData t) t stretch end i
+      (λ starts. ShowsData-transfer_row i before starts (least (answers t stretch i) i end) refl))
       end (omega arith)
     where
       in_cycle : (i : ℕ) (c : Class) → ShowsData t (cycle_row i (levels_at t i) (least (rises t AS) (i + 1) end) c)

@@ -4,7 +4,7 @@ use Rattle.vme_trace.specs.Streams.{Reading, Writing}
 use Rattle.vme_trace.specs.Trace.{Trace}
 use Rattle.vme_listing.specs.Recorded.{recorded_rows}
 use Rattle.vme_stream.specs.Outputs.{Writes}
-use Rattle.vme_split.proofs.Listings.{listing_splits}
+use Rattle.vme_split.proofs.Listings.{Splits-listing}
 use Rattle.vme_stream.specs.declared.refusal.Refusal.{Refusal}
 use Rattle.vme_commands.specs.Listings.{listing_answer_by}
 use Rattle.vme_commands.proofs.ListLemmas.{WritesListing-unwritten, WritesListing-exact}
@@ -38,4 +38,4 @@ returns-clause-split g c b d t binding_told dump_told written enough is =
     let told = WritesListing-exact c.args.skew binding dump c.args.block out err c.list_by.result c.list_by.ensures
     b d binding_told dump_told written enough in
     let text = subst (λ (r : Result Trace Refusal). Writes out.0 out.1 (listing_answer_by r).out) is told.out_is in
-    (recorded_rows t, listing_splits t, text)
+    (recorded_rows t, Splits-listing t, text)

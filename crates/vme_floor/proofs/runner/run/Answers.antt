@@ -5,7 +5,7 @@ use Rattle.vme_trace.specs.Verdict.{rules_in_force, verdict_by}
 use Rattle.vme_trace.specs.declared.block.Block.{Block}
 use Rattle.vme_listing.specs.Recorded.{recorded_rows}
 use Rattle.vme_split.specs.Split.{Splits}
-use Rattle.vme_split.proofs.Listings.{listing_splits}
+use Rattle.vme_split.proofs.Listings.{Splits-listing}
 use Rattle.vme_floor.specs.Claims.{IsFault}
 use Rattle.vme_floor.specs.declared.report.Report.{Report}
 use Rattle.vme_floor.specs.declared.report.RunFault.{RunFault}
@@ -15,7 +15,7 @@ use Rattle.vme_floor.proofs.runner.run.Goals as goal
 
 split_of : (r : Result Report RunFault) → IfOk r (λ x. x.verdict ≡ verdict_by rules_in_force x.capture)
     → IfOk r (λ x. Splits x.capture x.verdict (recorded_rows x.capture))
-split_of (Ok x) is = subst (λ v. Splits x.capture v (recorded_rows x.capture)) (sym is) (listing_splits x.capture)
+split_of (Ok x) is = subst (λ v. Splits x.capture v (recorded_rows x.capture)) (sym is) (Splits-listing x.capture)
 split_of (Err fault) is = tt
 
 pub returns-clause-split : goal.returns-clause-split

@@ -4,7 +4,7 @@ use Rattle.vme_trace.specs.Verdict.{verdict}
 use Rattle.vme_listing.specs.Listed.{Listed}
 use Rattle.vme_listing.specs.Recorded.{listing_of}
 use Rattle.vme_split.specs.Split.{Splits}
-use Rattle.vme_split.proofs.Listings.{listing_splits}
+use Rattle.vme_split.proofs.Listings.{Splits-listing}
 use Rattle.vme_summary.specs.Splitting.{SplitsItsRecording}
 use Rattle.vme_summary.specs.Stands.{IsListingOf}
 use Rattle.vme_summary.specs.declared.span.Span.{Span}
@@ -25,7 +25,7 @@ split_of : (s : Span) (listing : Listed) → IsListingOf s listing → SplitsIts
 split_of s listing is blocks t stands joins =
     let same : Some (listing_of t) ≡ Some listing = sym (ap (option_map listing_of) joins) ∙ is blocks stands in
     let told : listing_of t ≡ listing = cc in
-    subst (λ (l : Listed). Splits t (verdict t) l.rows) told (listing_splits t)
+    subst (λ (l : Listed). Splits t (verdict t) l.rows) told (Splits-listing t)
 
 pub returns-clause-split : goal.returns-clause-split
 returns-clause-split c =
