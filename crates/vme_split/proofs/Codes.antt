@@ -1,4 +1,5 @@
--- The modifier codes and addresses in the rows of cycles, and the levels of their lines.
+-- The modifier code, the address or level, and the class in the row of a cycle are what the lines show as the cycle
+-- starts, if no rule is broken.
 use Rattle.std.proofs.Common.{◌≡◌, ◌≢◌, ◌⊎◌, ℕ, zero, suc, ◌+◌, ◌*◌, ◌/◌, ◌%◌, ◌^◌, ◌<◌, ◌≤◌, Bool, true, false, ◌&&◌}
 use Rattle.std.proofs.Common.{not, if◌then◌else◌, refl, sym, ◌∙◌, ap, arith, subst, inl, inr, All}
 use Rattle.std.specs.Prelude.{Option, None, Some, ◌==◌}
@@ -37,47 +38,55 @@ abbrev value : (ℕ → Bool) → ℕ → ℕ
 value p zero = 0
 value p (suc n) = (if p 0 then 1 else 0) + 2 * value (λ i. p (suc i)) n
 
-bit_small : (b : Bool) → (if b then 1 else 0) ≤ 1
-bit_small true = omega arith
-bit_small false = omega arith
+-- a bit is at most 1
+bit-le_1 : (b : Bool) → (if b then 1 else 0) ≤ 1
+bit-le_1 true = omega arith
+bit-le_1 false = omega arith
 
-value_small : (p : ℕ → Bool) (n : ℕ) → value p n < 2 ^ n
-value_small p zero = omega arith
-value_small p (suc n) =
-    let low = value_small (λ i. p (suc i)) n in let b = bit_small (p 0) in
+-- the number of n bits is below 2 to the power n
+value-below : (p : ℕ → Bool) (n : ℕ) → value p n < 2 ^ n
+value-below p zero = omega arith
+value-below p (suc n) =
+    let low = value-below (λ i. p (suc i)) n in let b = bit-le_1 (p 0) in
     let e : 2 ^ suc n ≡ 2 ^ n * 2 = pow-suc 2 n in omega (arith, low, b, e)
 
-lowest : (b v : ℕ) → b ≤ 1 → (b + 2 * v) / 1 % 2 ≡ b
-lowest b v h = omega arith
+-- the lowest bit of b + 2 v is b
+bit_of-lowest : (b v : ℕ) → b ≤ 1 → (b + 2 * v) / 1 % 2 ≡ b
+bit_of-lowest b v h = omega arith
 
-half : (b v : ℕ) → b ≤ 1 → (b + 2 * v) / 2 ≡ v
-half b v h = omega arith
+-- the half of b + 2 v is v
+div-half : (b v : ℕ) → b ≤ 1 → (b + 2 * v) / 2 ≡ v
+div-half b v h = omega arith
 
-shifted : (b v k : ℕ) → b ≤ 1 → bit_of (b + 2 * v) (suc k) ≡ bit_of v k
-shifted b v k h =
+-- bit k + 1 of b + 2 v is bit k of v
+bit_of-shifted : (b v k : ℕ) → b ≤ 1 → bit_of (b + 2 * v) (suc k) ≡ bit_of v k
+bit_of-shifted b v k h =
     ap (λ (x : ℕ). x % 2)
     (ap (λ (y : ℕ). (b + 2 * v) / y) (pow-succ' 2 k)
-    ∙ (sym (div-div-eq-div-mul (b + 2 * v) 2 (2 ^ k)) ∙ ap (λ (x : ℕ). x / 2 ^ k) (half b v h)))
+    ∙ (sym (div-div-eq-div-mul (b + 2 * v) 2 (2 ^ k)) ∙ ap (λ (x : ℕ). x / 2 ^ k) (div-half b v h)))
 
-value_bit : (p : ℕ → Bool) (n k : ℕ) → k < n → bit_of (value p n) k ≡ (if p k then 1 else 0)
-value_bit p zero k h = absurd (omega (arith, h))
-value_bit p (suc n) zero h = lowest (if p 0 then 1 else 0) (value (λ i. p (suc i)) n) (bit_small (p 0))
-value_bit p (suc n) (suc k) h = shifted (if p 0 then 1 else 0) (value (λ i. p (suc i)) n) k (bit_small (p 0))
-    ∙ value_bit (λ i. p (suc i)) n k (omega (arith, h))
+-- bit k of the number is 1 where p holds of k
+bit_of-value : (p : ℕ → Bool) (n k : ℕ) → k < n → bit_of (value p n) k ≡ (if p k then 1 else 0)
+bit_of-value p zero k h = absurd (omega (arith, h))
+bit_of-value p (suc n) zero h = bit_of-lowest (if p 0 then 1 else 0) (value (λ i. p (suc i)) n) (bit-le_1 (p 0))
+bit_of-value p (suc n) (suc k) h = bit_of-shifted (if p 0 then 1 else 0) (value (λ i. p (suc i)) n) k (bit-le_1 (p 0))
+    ∙ bit_of-value (λ i. p (suc i)) n k (omega (arith, h))
 
-doubled : (b : Bool) (n : ℕ) → (if b then 2 ^ suc n else 0) ≡ 2 * (if b then 2 ^ n else 0)
-doubled true n = pow-succ' 2 n
-doubled false n = refl
+-- the weight of bit n + 1 is twice that of bit n, where the bit is set
+pow-doubled : (b : Bool) (n : ℕ) → (if b then 2 ^ suc n else 0) ≡ 2 * (if b then 2 ^ n else 0)
+pow-doubled true n = pow-succ' 2 n
+pow-doubled false n = refl
 
-one_more : (b : Bool) → (if b then 1 else 0) + 2 * 0 ≡ 0 + (if b then 2 ^ 0 else 0)
-one_more true = refl
-one_more false = refl
+-- the number of one bit is that bit
+value-one_bit : (b : Bool) → (if b then 1 else 0) + 2 * 0 ≡ 0 + (if b then 2 ^ 0 else 0)
+value-one_bit true = refl
+value-one_bit false = refl
 
 -- the value of n + 1 bits is that of the lower n bits, and the weight of bit n where it is set
-extended : (p : ℕ → Bool) (n : ℕ) → value p (suc n) ≡ value p n + (if p n then 2 ^ n else 0)
-extended p zero = one_more (p 0)
-extended p (suc n) =
-    let rest = extended (λ i. p (suc i)) n in let top = doubled (p (suc n)) n in
+value-next_bit : (p : ℕ → Bool) (n : ℕ) → value p (suc n) ≡ value p n + (if p n then 2 ^ n else 0)
+value-next_bit p zero = value-one_bit (p 0)
+value-next_bit p (suc n) =
+    let rest = value-next_bit (λ i. p (suc i)) n in let top = pow-doubled (p (suc n)) n in
     topped (if p 0 then 1 else 0) (value (λ i. p (suc i)) (suc n)) (value (λ i. p (suc i)) n)
     (if p (suc n) then 2 ^ n else 0) (if p (suc n) then 2 ^ suc n else 0) rest top
   where
@@ -86,81 +95,96 @@ extended p (suc n) =
 
 -- ---- the modifier code and the address by their lines
 
-six : (a b c d e f : ℕ) → a + 2 * b + 4 * c + 8 * d + 16 * e + 32 * f
+-- six bits with their weights, doubled from the last on
+sum-six_weights : (a b c d e f : ℕ) → a + 2 * b + 4 * c + 8 * d + 16 * e + 32 * f
     ≡ a + 2 * (b + 2 * (c + 2 * (d + 2 * (e + 2 * (f + 2 * 0)))))
-six a b c d e f = omega arith
+sum-six_weights a b c d e f = omega arith
 
-modifier_value : (v : Levels) → modifier_of v ≡ value (λ n. is_high_on v (AM n)) 6
+-- the modifier code is the number of its six lines
+modifier_of-value : (v : Levels) → modifier_of v ≡ value (λ n. is_high_on v (AM n)) 6
 unfolding modifier_of
-modifier_value v = six (modifier_bit v 0) (modifier_bit v 1) (modifier_bit v 2) (modifier_bit v 3) (modifier_bit v 4)
+modifier_of-value v =
+    sum-six_weights (modifier_bit v 0) (modifier_bit v 1) (modifier_bit v 2) (modifier_bit v 3) (modifier_bit v 4)
     (modifier_bit v 5)
 
-address_value : (v : Levels) (n : ℕ) → address_to v n ≡ 2 * value (λ k. is_high_on v (address_line k)) n
-address_value v zero = refl
-address_value v (suc n) =
+-- the address up to n lines is twice the number of these lines
+address_to-value : (v : Levels) (n : ℕ) → address_to v n ≡ 2 * value (λ k. is_high_on v (address_line k)) n
+address_to-value v zero = refl
+address_to-value v (suc n) =
     let p : ℕ → Bool = λ k. is_high_on v (address_line k) in
     topped (address_to v n) (if p n then 2 ^ suc n else 0) (value p n) (if p n then 2 ^ n else 0) (value p (suc n))
-    (address_value v n) (doubled (p n) n) (extended p n)
+    (address_to-value v n) (pow-doubled (p n) n) (value-next_bit p n)
   where
     topped : (a y w x z : ℕ) → a ≡ 2 * w → y ≡ 2 * x → z ≡ w + x → a + y ≡ 2 * z
     topped a y w x z e f g = omega (arith, e, f, g)
 
-even : (a x : ℕ) → a ≡ 2 * x → a % 2 ≡ 0
-even a x e = omega (arith, e)
+-- twice a number is even
+mod-twice : (a x : ℕ) → a ≡ 2 * x → a % 2 ≡ 0
+mod-twice a x e = omega (arith, e)
 
-halved : (a x : ℕ) → a ≡ 2 * x → a / 2 ≡ x
-halved a x e = omega (arith, e)
+-- the half of twice a number is that number
+div-twice : (a x : ℕ) → a ≡ 2 * x → a / 2 ≡ x
+div-twice a x e = omega (arith, e)
 
-shown_bit : (x : Level) → is_known x ≡ true → (bit : ℕ) → bit ≡ (if is_high x then 1 else 0)
+-- a known level is high where its bit is 1, and low where it is 0
+is_known-bit : (x : Level) → is_known x ≡ true → (bit : ℕ) → bit ≡ (if is_high x then 1 else 0)
     → ((bit ≡ 1) × (is_high x ≡ true)) ⊎ ((bit ≡ 0) × (is_low x ≡ true))
-shown_bit High k bit e = inl (e, refl)
-shown_bit Low k bit e = inr (e, refl)
-shown_bit Unknown k bit e = absurd (cc)
+is_known-bit High k bit e = inl (e, refl)
+is_known-bit Low k bit e = inr (e, refl)
+is_known-bit Unknown k bit e = absurd (cc)
 
 -- known lines show the number of their levels
-shown : (t : Trace) (i : ℕ) (line : ℕ → ℕ) (count : ℕ) → ((n : ℕ) → n < count → known t (line n) i ≡ true)
+ShowNumber-known : (t : Trace) (i : ℕ) (line : ℕ → ℕ) (count : ℕ) → ((n : ℕ) → n < count → known t (line n) i ≡ true)
     → ShowNumber t line count i (value (λ n. is_high_on (levels_at t i) (line n)) count)
 unfolding low high known
-shown t i line count k = (
-  value_small (λ n. is_high_on (levels_at t i) (line n)) count,
-  λ n h. shown_bit
-      (level t (line n) i) (k n h) _ (value_bit (λ n. is_high_on (levels_at t i) (line n)) count n h),
+ShowNumber-known t i line count k = (
+  value-below (λ n. is_high_on (levels_at t i) (line n)) count,
+  λ n h. is_known-bit
+      (level t (line n) i) (k n h) _ (bit_of-value (λ n. is_high_on (levels_at t i) (line n)) count n h),
 )
 
 -- ---- the lines that a cycle needs
 
-bused : (slots l : ℕ) → l < 50 → has_line slots l ≡ true
-bused slots l h = grind (arith, nat_tests)
+-- every backplane has the lines below 50
+has_line-below_50 : (slots l : ℕ) → l < 50 → has_line slots l ≡ true
+has_line-below_50 slots l h = grind (arith, nat_tests)
 
-in_modifier : (k n : ℕ) → n < 6 → is_within (record { modifier = true; highest = k }) (6 + n) ≡ true
-in_modifier k n h = grind (arith, nat_tests)
+-- the lines of the modifier are among those that need it
+is_within-modifier : (k n : ℕ) → n < 6 → is_within (record { modifier = true; highest = k }) (6 + n) ≡ true
+is_within-modifier k n h = grind (arith, nat_tests)
 
-in_address : (m : Bool) (k n : ℕ) → n < k → is_within (record { modifier = m; highest = k }) (13 + suc n) ≡ true
-in_address m k n h = grind (arith, nat_tests)
+-- the address lines up to the highest are among those that are needed
+is_within-address : (m : Bool) (k n : ℕ) → n < k → is_within (record { modifier = m; highest = k }) (13 + suc n) ≡ true
+is_within-address m k n h = grind (arith, nat_tests)
 
-modifier_needed : (v : Levels) (c : Class) → class_of v ≡ c → (c ≡ class.I → ⊥) → (n : ℕ) → n < 6 → is_needed v (AM n)
+-- a cycle that is no interrupt acknowledge needs the lines of the modifier
+is_needed-modifier : (v : Levels) (c : Class) → class_of v ≡ c → (c ≡ class.I → ⊥) → (n : ℕ) → n < 6
+    → is_needed v (AM n)
     ≡ true
 unfolding is_needed needs_of
-modifier_needed v class.S e other n h = rw e (in_modifier (highest_address (modifier_of v)) n h)
-modifier_needed v class.K e other n h = rw e (in_modifier (highest_address (modifier_of v)) n h)
-modifier_needed v class.F e other n h = rw e (in_modifier 0 n h)
-modifier_needed v class.I e other n h = absurd (other refl)
+is_needed-modifier v class.S e other n h = rw e (is_within-modifier (highest_address (modifier_of v)) n h)
+is_needed-modifier v class.K e other n h = rw e (is_within-modifier (highest_address (modifier_of v)) n h)
+is_needed-modifier v class.F e other n h = rw e (is_within-modifier 0 n h)
+is_needed-modifier v class.I e other n h = absurd (other refl)
 
-address_needed : (v : Levels) (c : Class) → class_of v ≡ c → (c ≡ class.I → ⊥) → (c ≡ class.F → ⊥) → (n : ℕ)
+-- a cycle with an address needs the address lines that are meaningful with its code
+is_needed-address : (v : Levels) (c : Class) → class_of v ≡ c → (c ≡ class.I → ⊥) → (c ≡ class.F → ⊥) → (n : ℕ)
     → n < highest_address (modifier_of v) → is_needed v (address_line n) ≡ true
 unfolding is_needed needs_of
-address_needed v class.S e other free n h = rw e (in_address true (highest_address (modifier_of v)) n h)
-address_needed v class.K e other free n h = rw e (in_address true (highest_address (modifier_of v)) n h)
-address_needed v class.F e other free n h = absurd (free refl)
-address_needed v class.I e other free n h = absurd (other refl)
+is_needed-address v class.S e other free n h = rw e (is_within-address true (highest_address (modifier_of v)) n h)
+is_needed-address v class.K e other free n h = rw e (is_within-address true (highest_address (modifier_of v)) n h)
+is_needed-address v class.F e other free n h = absurd (free refl)
+is_needed-address v class.I e other free n h = absurd (other refl)
 
-level_needed : (v : Levels) → class_of v ≡ class.I → (n : ℕ) → n < 3 → is_needed v (address_line n) ≡ true
+-- an interrupt acknowledge needs A01 to A03
+is_needed-level : (v : Levels) → class_of v ≡ class.I → (n : ℕ) → n < 3 → is_needed v (address_line n) ≡ true
 unfolding is_needed needs_of
-level_needed v e n h = rw e (in_address false 3 n h)
+is_needed-level v e n h = rw e (is_within-address false 3 n h)
 
-highest_31 : (code : ℕ) → highest_address code ≤ 31
+-- the highest address line is at most A31
+highest_address-le_31 : (code : ℕ) → highest_address code ≤ 31
 unfolding highest_address
-highest_31 code = by (is_extended code) (is_standard code) (is_short code)
+highest_address-le_31 code = by (is_extended code) (is_standard code) (is_short code)
   where
     by : (a b c : Bool) → (if a then 31 else if b then 23 else if c then 15 else 0) ≤ 31
     by true b c = omega arith
@@ -170,10 +194,11 @@ highest_31 code = by (is_extended code) (is_standard code) (is_short code)
 
 -- ---- the class by the modifier code
 
-code_of_single : (v : Levels) → class_of v ≡ class.S → (is_block (modifier_of v) ≡ false)
+-- class S has a code with an address, and of no block
+class_of-single : (v : Levels) → class_of v ≡ class.S → (is_block (modifier_of v) ≡ false)
     × (highest_address (modifier_of v) ≢ 0)
 unfolding class_of
-code_of_single v h = let found = by (is_low (level_at v IACK)) (has_known_modifier v) (is_block (modifier_of v))
+class_of-single v h = let found = by (is_low (level_at v IACK)) (has_known_modifier v) (is_block (modifier_of v))
     (highest_address (modifier_of v) == 0) h in (found.0, eqb-false (highest_address (modifier_of v)) 0 found.1)
   where
     by : (a b c d : Bool) → (if a then class.I else if not b then class.F else if c then class.K else if d then class.F
@@ -184,9 +209,10 @@ code_of_single v h = let found = by (is_low (level_at v IACK)) (has_known_modifi
     by false true false true h = absurd (cc)
     by false true false false h = (refl, refl)
 
-code_of_block : (v : Levels) → class_of v ≡ class.K → is_block (modifier_of v) ≡ true
+-- class K has the code of a block
+class_of-block : (v : Levels) → class_of v ≡ class.K → is_block (modifier_of v) ≡ true
 unfolding class_of
-code_of_block v h = by (is_low (level_at v IACK)) (has_known_modifier v) (is_block (modifier_of v))
+class_of-block v h = by (is_low (level_at v IACK)) (has_known_modifier v) (is_block (modifier_of v))
     (highest_address (modifier_of v) == 0) h
   where
     by : (a b c d : Bool) → (if a then class.I else if not b then class.F else if c then class.K else if d then class.F
@@ -197,10 +223,11 @@ code_of_block v h = by (is_low (level_at v IACK)) (has_known_modifier v) (is_blo
     by false true false true h = absurd (cc)
     by false true false false h = absurd (cc)
 
-code_of_free : (v : Levels) → has_known_modifier v ≡ true → class_of v ≡ class.F → (is_block (modifier_of v) ≡ false)
+-- class F with a known modifier has a code without an address, and of no block
+class_of-free : (v : Levels) → has_known_modifier v ≡ true → class_of v ≡ class.F → (is_block (modifier_of v) ≡ false)
     × (highest_address (modifier_of v) ≡ 0)
 unfolding class_of
-code_of_free v k h = let found = by (is_low (level_at v IACK)) (has_known_modifier v) (is_block (modifier_of v))
+class_of-free v k h = let found = by (is_low (level_at v IACK)) (has_known_modifier v) (is_block (modifier_of v))
     (highest_address (modifier_of v) == 0) k h in (found.0, eqb-true (highest_address (modifier_of v)) 0 found.1)
   where
     by : (a b c d : Bool) → b ≡ true → (if a then class.I else if not b then class.F else if c then class.K else if d
@@ -215,18 +242,19 @@ code_of_free v k h = let found = by (is_low (level_at v IACK)) (has_known_modifi
 
 module _ (t : Trace) (stretch : Stretch) (end : ℕ) (most : end ≤ stretch.end)
     (unbroken : IsUnbroken t stretch end) where
-  cycle_judged : (i : ℕ) → cycle_starts t stretch i ≡ true → stretch.start < i
+  -- a cycle starts after the start of the stretch
+  cycle_starts-after : (i : ℕ) → cycle_starts t stretch i ≡ true → stretch.start < i
   unfolding cycle_starts
-  cycle_judged i e = grind (arith, nat_tests)
+  cycle_starts-after i e = grind (arith, nat_tests)
 
   -- a line that a cycle needs is known as it starts
-  needed_known : (i : ℕ) → i < end → cycle_starts t stretch i ≡ true → (l : ℕ) → l < 50 → is_needed (levels_at t i) l
+  known-needed : (i : ℕ) → i < end → cycle_starts t stretch i ≡ true → (l : ℕ) → l < 50 → is_needed (levels_at t i) l
       ≡ true → known t l i ≡ true
   unfolding is_broken
-  needed_known i before starts l few needed = by (cycle_starts t stretch i) (is_needed (levels_at t i) l) (known t l i)
-      starts needed (is_broken-unbroken t stretch end most unbroken rule.U2 i l (cycle_judged i starts) before
+  known-needed i before starts l few needed = by (cycle_starts t stretch i) (is_needed (levels_at t i) l) (known t l i)
+      starts needed (is_broken-unbroken t stretch end most unbroken rule.U2 i l (cycle_starts-after i starts) before
       (omega (arith, few))
-      (bused t.opening.slots l few))
+      (has_line-below_50 t.opening.slots l few))
     where
       by : (a b c : Bool) → a ≡ true → b ≡ true → (a && b && not c) ≡ false → c ≡ true
       by true true true h k e = refl
@@ -234,82 +262,98 @@ module _ (t : Trace) (stretch : Stretch) (end : ℕ) (most : end ≤ stretch.end
       by true false c h k e = absurd (cc)
       by false b c h k e = absurd (cc)
 
+  -- the cycle that starts at i
   module _ (i : ℕ) (before : i < end) (starts : cycle_starts t stretch i ≡ true) (e : Option ℕ) where
-    modifier_known : (c : Class) → class_of (levels_at t i) ≡ c → (c ≡ class.I → ⊥) → (n : ℕ) → n < 6 → known t (AM n) i
+    -- the lines of its modifier are known, if it is no interrupt acknowledge
+    known-modifier : (c : Class) → class_of (levels_at t i) ≡ c → (c ≡ class.I → ⊥) → (n : ℕ) → n < 6 → known t (AM n) i
         ≡ true
-    modifier_known c of other n low = needed_known i before starts (AM n) (omega (arith, low))
-        (modifier_needed (levels_at t i) c of other n low)
+    known-modifier c of other n low = known-needed i before starts (AM n) (omega (arith, low))
+        (is_needed-modifier (levels_at t i) c of other n low)
 
-    address_known : (c : Class) → class_of (levels_at t i) ≡ c → (c ≡ class.I → ⊥) → (c ≡ class.F → ⊥) → (n : ℕ)
+    -- the address lines that are meaningful with its code are known, if it has an address
+    known-address : (c : Class) → class_of (levels_at t i) ≡ c → (c ≡ class.I → ⊥) → (c ≡ class.F → ⊥) → (n : ℕ)
         → n < highest_address (modifier_of (levels_at t i)) → known t (address_line n) i ≡ true
-    address_known c of other free n low = let top = highest_31 (modifier_of (levels_at t i)) in
-        needed_known i before starts (address_line n) (omega (arith, low, top)) (address_needed (levels_at t i) c of
+    known-address c of other free n low = let top = highest_address-le_31 (modifier_of (levels_at t i)) in
+        known-needed i before starts (address_line n) (omega (arith, low, top)) (is_needed-address (levels_at t i) c of
         other free n low)
 
-    level_known : class_of (levels_at t i) ≡ class.I → (n : ℕ) → n < 3 → known t (address_line n) i ≡ true
-    level_known of n low = needed_known i before starts (address_line n) (omega (arith, low))
-        (level_needed (levels_at t i) of n low)
+    -- A01 to A03 are known, if it is an interrupt acknowledge
+    known-level : class_of (levels_at t i) ≡ class.I → (n : ℕ) → n < 3 → known t (address_line n) i ≡ true
+    known-level of n low = known-needed i before starts (address_line n) (omega (arith, low))
+        (is_needed-level (levels_at t i) of n low)
 
-    code_shown : (c : Class) → class_of (levels_at t i) ≡ c → (c ≡ class.I → ⊥) → ShowNumber t (λ n. AM n) 6 i
+    -- the lines of its modifier show its code, if it is no interrupt acknowledge
+    ShowNumber-modifier : (c : Class) → class_of (levels_at t i) ≡ c → (c ≡ class.I → ⊥) → ShowNumber t (λ n. AM n) 6 i
         (modifier_of (levels_at t i))
-    code_shown c of other = subst (λ (x : ℕ). ShowNumber t (λ n. AM n) 6 i x) (sym (modifier_value (levels_at t i)))
-        (shown t i (λ n. AM n) 6 (modifier_known c of other))
+    ShowNumber-modifier c of other =
+        subst (λ (x : ℕ). ShowNumber t (λ n. AM n) 6 i x) (sym (modifier_of-value (levels_at t i)))
+        (ShowNumber-known t i (λ n. AM n) 6 (known-modifier c of other))
 
-    half_shown : (count : ℕ) → ((n : ℕ) → n < count → known t (address_line n) i ≡ true)
+    -- known address lines show the half of the address
+    ShowNumber-half_address : (count : ℕ) → ((n : ℕ) → n < count → known t (address_line n) i ≡ true)
         → ShowNumber t (λ n. address_line n) count i (address_to (levels_at t i) count / 2)
-    half_shown count k = subst (λ (x : ℕ). ShowNumber t (λ n. address_line n) count i x)
-        (sym (halved (address_to (levels_at t i) count) (value (λ n. is_high_on (levels_at t i) (address_line n)) count)
-        (address_value (levels_at t i) count))) (shown t i (λ n. address_line n) count k)
+    ShowNumber-half_address count k = subst (λ (x : ℕ). ShowNumber t (λ n. address_line n) count i x)
+        (sym (div-twice (address_to (levels_at t i) count)
+        (value (λ n. is_high_on (levels_at t i) (address_line n)) count)
+        (address_to-value (levels_at t i) count))) (ShowNumber-known t i (λ n. address_line n) count k)
 
-    address_shown : (count : ℕ) → ((n : ℕ) → n < count → known t (address_line n) i ≡ true)
+    -- known address lines show the half of the address, and the address is even
+    ShowNumber-address : (count : ℕ) → ((n : ℕ) → n < count → known t (address_line n) i ≡ true)
         → (address_to (levels_at t i) count % 2 ≡ 0) × ShowNumber t (λ n. address_line n) count i
         (address_to (levels_at t i) count / 2)
-    address_shown count k = (
-      even (address_to (levels_at t i) count)
-          (value (λ n. is_high_on (levels_at t i) (address_line n)) count) (address_value (levels_at t i) count),
-      half_shown count k,
+    ShowNumber-address count k = (
+      mod-twice (address_to (levels_at t i) count)
+          (value (λ n. is_high_on (levels_at t i) (address_line n)) count) (address_to-value (levels_at t i) count),
+      ShowNumber-half_address count k,
     )
 
-    modifier_of_cycle : (c : Class) → class_of (levels_at t i) ≡ c → ShowsModifier t (cycle_row i (levels_at t i) e c)
-    modifier_of_cycle class.S of = code_shown class.S of (λ h. absurd (cc))
-    modifier_of_cycle class.K of = code_shown class.K of (λ h. absurd (cc))
-    modifier_of_cycle class.F of = code_shown class.F of (λ h. absurd (cc))
-    modifier_of_cycle class.I of = tt
+    -- the row of the cycle has the code that the lines show
+    ShowsModifier-cycle_row : (c : Class) → class_of (levels_at t i) ≡ c
+        → ShowsModifier t (cycle_row i (levels_at t i) e c)
+    ShowsModifier-cycle_row class.S of = ShowNumber-modifier class.S of (λ h. absurd (cc))
+    ShowsModifier-cycle_row class.K of = ShowNumber-modifier class.K of (λ h. absurd (cc))
+    ShowsModifier-cycle_row class.F of = ShowNumber-modifier class.F of (λ h. absurd (cc))
+    ShowsModifier-cycle_row class.I of = tt
 
-    address_of_cycle : (c : Class) → class_of (levels_at t i) ≡ c → ShowsAddress t (cycle_row i (levels_at t i) e c)
-    address_of_cycle class.S of = address_shown (highest_address (modifier_of (levels_at t i)))
-        (address_known class.S of (λ h. absurd (cc)) (λ h. absurd (cc)))
-    address_of_cycle class.K of = address_shown (highest_address (modifier_of (levels_at t i)))
-        (address_known class.K of (λ h. absurd (cc)) (λ h. absurd (cc)))
-    address_of_cycle class.F of = tt
-    address_of_cycle class.I of = half_shown 3 (level_known of)
+    -- the row of the cycle has the address or the level that the lines show
+    ShowsAddress-cycle_row : (c : Class) → class_of (levels_at t i) ≡ c
+        → ShowsAddress t (cycle_row i (levels_at t i) e c)
+    ShowsAddress-cycle_row class.S of = ShowNumber-address (highest_address (modifier_of (levels_at t i)))
+        (known-address class.S of (λ h. absurd (cc)) (λ h. absurd (cc)))
+    ShowsAddress-cycle_row class.K of = ShowNumber-address (highest_address (modifier_of (levels_at t i)))
+        (known-address class.K of (λ h. absurd (cc)) (λ h. absurd (cc)))
+    ShowsAddress-cycle_row class.F of = tt
+    ShowsAddress-cycle_row class.I of = ShowNumber-half_address 3 (known-level of)
 
-    whole_code : class_of (levels_at t i) ≡ class.F → has_known_modifier (levels_at t i) ≡ true
+    -- the modifier is known, if the class is F
+    has_known_modifier-free : class_of (levels_at t i) ≡ class.F → has_known_modifier (levels_at t i) ≡ true
     unfolding known
-    whole_code of = ap not (fails-any (λ n. not (is_modifier_bit_known (levels_at t i) n)) 0 6
-        (λ n from low. ap not (modifier_known class.F of (λ h. absurd (cc)) n low)))
+    has_known_modifier-free of = ap not (fails-any (λ n. not (is_modifier_bit_known (levels_at t i) n)) 0 6
+        (λ n from low. ap not (known-modifier class.F of (λ h. absurd (cc)) n low)))
 
-    code_of_cycle : (c : Class) → class_of (levels_at t i) ≡ c → IsOfItsCode (cycle_row i (levels_at t i) e c)
-    code_of_cycle class.S of = code_of_single (levels_at t i) of
-    code_of_cycle class.K of = code_of_block (levels_at t i) of
-    code_of_cycle class.F of = code_of_free (levels_at t i) (whole_code of) of
-    code_of_cycle class.I of = tt
+    -- the row of the cycle has the class of its code
+    IsOfItsCode-cycle_row : (c : Class) → class_of (levels_at t i) ≡ c → IsOfItsCode (cycle_row i (levels_at t i) e c)
+    IsOfItsCode-cycle_row class.S of = class_of-single (levels_at t i) of
+    IsOfItsCode-cycle_row class.K of = class_of-block (levels_at t i) of
+    IsOfItsCode-cycle_row class.F of = class_of-free (levels_at t i) (has_known_modifier-free of) of
+    IsOfItsCode-cycle_row class.I of = tt
 
   -- P holds of all rows, where it holds of the rows of cycles, and of each row of another kind
-  of_cycles : (P : Row → Type 0) → ((i : ℕ) → i < end → cycle_starts t stretch i ≡ true
+  All-by_cycle_rows : (P : Row → Type 0) → ((i : ℕ) → i < end → cycle_starts t stretch i ≡ true
       → P (cycle_row i (levels_at t i) (least (rises t AS) (i + 1) end) (class_of (levels_at t i))))
       → ((i : ℕ) (e : Option ℕ) → P (OpenTenure i e)) → ((i level slot : ℕ) (e : Option ℕ) → P (Tenure i level slot e))
       → ((i : ℕ) (o : Option ℕ) → P (transfer_row t stretch end i o))
       → All P (rows_before t stretch end end)
-  of_cycles P cycles opened tenures transfers = All-rows_before P t stretch end
+  All-by_cycle_rows P cycles opened tenures transfers = All-rows_before P t stretch end
       (λ i before. All-tenure_rows P t stretch end i (λ e. opened i e)
       (λ starts level slot e l s. tenures i level slot e))
       (λ i before. All-cycle_rows_start P t stretch end i (λ starts. cycles i before starts))
       (λ i before. All-transfer_rows P t stretch end i (λ starts. transfers i (least (answers t stretch i) i end)))
       end (omega arith)
 
-  pub modifiers_shown : All (ShowsModifier t) (rows_before t stretch end end)
-  modifiers_shown = of_cycles (ShowsModifier t) (λ i before starts. modifier_of_cycle i before starts
+  -- each row of a cycle has the modifier code that the lines show
+  pub All-ShowsModifier : All (ShowsModifier t) (rows_before t stretch end end)
+  All-ShowsModifier = All-by_cycle_rows (ShowsModifier t) (λ i before starts. ShowsModifier-cycle_row i before starts
       (least (rises t AS) (i + 1) end) (class_of (levels_at t i)) refl) (λ i e. tt) (λ i l s e. tt) in_transfer
     where
       in_answered : (i r : ℕ) (o : Option ℕ) → ShowsModifier t (answered_row t stretch end i r o)
@@ -320,8 +364,9 @@ module _ (t : Trace) (stretch : Stretch) (end : ℕ) (most : end ≤ stretch.end
       in_transfer i None = tt
       in_transfer i (Some r) = in_answered i r (cycle_of t stretch r)
 
-  pub addresses_shown : All (ShowsAddress t) (rows_before t stretch end end)
-  addresses_shown = of_cycles (ShowsAddress t) (λ i before starts. address_of_cycle i before starts
+  -- each row of a cycle has the address or the level that the lines show
+  pub All-ShowsAddress : All (ShowsAddress t) (rows_before t stretch end end)
+  All-ShowsAddress = All-by_cycle_rows (ShowsAddress t) (λ i before starts. ShowsAddress-cycle_row i before starts
       (least (rises t AS) (i + 1) end) (class_of (levels_at t i)) refl) (λ i e. tt) (λ i l s e. tt) in_transfer
     where
       in_answered : (i r : ℕ) (o : Option ℕ) → ShowsAddress t (answered_row t stretch end i r o)
@@ -332,8 +377,9 @@ module _ (t : Trace) (stretch : Stretch) (end : ℕ) (most : end ≤ stretch.end
       in_transfer i None = tt
       in_transfer i (Some r) = in_answered i r (cycle_of t stretch r)
 
-  pub classes_of_codes : All IsOfItsCode (rows_before t stretch end end)
-  classes_of_codes = of_cycles IsOfItsCode (λ i before starts. code_of_cycle i before starts
+  -- each row of a cycle has the class of its code
+  pub All-IsOfItsCode : All IsOfItsCode (rows_before t stretch end end)
+  All-IsOfItsCode = All-by_cycle_rows IsOfItsCode (λ i before starts. IsOfItsCode-cycle_row i before starts
       (least (rises t AS) (i + 1) end) (class_of (levels_at t i)) refl) (λ i e. tt) (λ i l s e. tt) in_transfer
     where
       in_answered : (i r : ℕ) (o : Option ℕ) → IsOfItsCode (answered_row t stretch end i r o)

@@ -1,4 +1,4 @@
--- What is listed keeps the rules.
+-- What is listed keeps the rules (`KeepsRules`), if no rule is broken before the end of the listing.
 use Rattle.std.proofs.Common.{lit<, ◌≡◌, ℕ, ◌+◌, ◌-◌, ◌<◌, ◌≤◌, Bool, true, false, ◌&&◌, ◌||◌, not}
 use Rattle.std.proofs.Common.{cond, if◌then◌else◌, refl, sym, ◌∙◌, ap, arith, subst, List, [], ◌∷◌, ◌++◌, map, flat_map}
 use Rattle.std.proofs.Common.{inl, inr, ◌⊎◌, All, Contains}
@@ -41,15 +41,15 @@ use Rattle.vme_split.proofs.Transfers.{near-low_as}
 use Rattle.vme_split.proofs.Classes.{cycles_of_classes}
 use Rattle.vme_split.proofs.Directions.{All-ShowsAcknowledge, All-ShowsDirection}
 use Rattle.vme_split.proofs.WrittenData.{All-ShowsData}
-use Rattle.vme_split.proofs.Codes.{classes_of_codes, modifiers_shown, addresses_shown}
+use Rattle.vme_split.proofs.Codes.{All-IsOfItsCode, All-ShowsModifier, All-ShowsAddress}
 use Rattle.vme_split.proofs.EachRow.{Contains-map_those, All-map_those, All-rows_before, All-tenure_rows}
 use Rattle.vme_split.proofs.EachRow.{All-tenure_rows_open, All-cycle_rows}
 use Rattle.vme_split.proofs.EachRow.{All-transfer_rows}
 
 -- the slot of a tenure is one of the backplane, or one more than the last
-slot_within : (t : Trace) (i slot : ℕ) → tenure_slot t i ≡ Some slot → (1 ≤ slot) × (slot ≤ t.opening.slots + 1)
+tenure_slot-within : (t : Trace) (i slot : ℕ) → tenure_slot t i ≡ Some slot → (1 ≤ slot) × (slot ≤ t.opening.slots + 1)
 unfolding tenure_slot
-slot_within t i slot e = by_level (tenure_level t i) e
+tenure_slot-within t i slot e = by_level (tenure_level t i) e
   where
     counted : (o : Option ℕ) → ((k : ℕ) → o ≡ Some k → k < t.opening.slots + 1) → option_map (λ k. 1 + k) o ≡ Some slot
         → (1 ≤ slot) × (slot ≤ t.opening.slots + 1)
@@ -63,14 +63,15 @@ slot_within t i slot e = by_level (tenure_level t i) e
     by_level (Some n) f = counted (greatest (has_reached t (taken_grant t i) n) 0 (t.opening.slots + 1))
         (greatest-below (has_reached t (taken_grant t i) n) 0 (t.opening.slots + 1)) f
 
-level_within : (t : Trace) (i level : ℕ) → tenure_level t i ≡ Some level → level < 4
+-- the level of a tenure is one from 0 to 3
+tenure_level-below_4 : (t : Trace) (i level : ℕ) → tenure_level t i ≡ Some level → level < 4
 unfolding tenure_level
-level_within t i level e = (least-found (λ n. low t (grant n 0) (taken_grant t i)) 0 4 level e).below
+tenure_level-below_4 t i level e = (least-found (λ n. low t (grant n 0) (taken_grant t i)) 0 4 level e).below
 
 -- where line l is low near r, it is low at an instant k: r or the one before
-line_near : (t : Trace) (l s r : ℕ) → s < r → near (low t l) r ≡ true → (k : ℕ) × (s ≤ k) × (k ≤ r) × (r ≤ k + 1)
+near-low_line : (t : Trace) (l s r : ℕ) → s < r → near (low t l) r ≡ true → (k : ℕ) × (s ≤ k) × (k ≤ r) × (r ≤ k + 1)
     × (low t l k ≡ true)
-line_near t l s r after h = by (cases_Bool (low t l r))
+near-low_line t l s r after h = by (cases_Bool (low t l r))
   where
     first : (a b : Bool) → (a || b) ≡ true → b ≡ false → a ≡ true
     first true b e f = refl
@@ -81,34 +82,37 @@ line_near t l s r after h = by (cases_Bool (low t l r))
     by (inl now) = (r, omega arith, omega arith, omega arith, now)
     by (inr off) = (r - 1, omega arith, omega arith, omega arith, first (low t l (r - 1)) (low t l r) h off)
 
-if_some : (o : Option ℕ) (P : ℕ → Type 0) → ((e : ℕ) → o ≡ Some e → P e) → IfSome o P
-if_some None P h = tt
-if_some (Some e) P h = h e refl
+-- P holds of the value of an option, if there is one, if it holds of each value that it may have
+IfSome-value : (o : Option ℕ) (P : ℕ → Type 0) → ((e : ℕ) → o ≡ Some e → P e) → IfSome o P
+IfSome-value None P h = tt
+IfSome-value (Some e) P h = h e refl
 
 module _ (t : Trace) (stretch : Stretch) (is : IsStretchOf t stretch) (end : ℕ) (within : stretch.start < end)
     (most : end ≤ stretch.end) (unbroken : IsUnbroken t stretch end) where
-  -- tenures
-  of_a_slot : (i : ℕ) → i < end → tenure_starts t stretch i ≡ true → (level slot : ℕ) → tenure_level t i ≡ Some level
+  -- a tenure is of a level from 0 to 3 and of a slot of the backplane, by rule B4
+  IsOfASlot-tenure : (i : ℕ) → i < end → tenure_starts t stretch i ≡ true → (level slot : ℕ) → tenure_level t i
+      ≡ Some level
       → tenure_slot t i ≡ Some slot → (level < 4) × (1 ≤ slot) × (slot ≤ t.opening.slots)
   unfolding is_broken
-  of_a_slot i before starts level slot l e =
+  IsOfASlot-tenure i before starts level slot l e =
       let there = tenures.tenure_starts-falls_after t stretch is end within most unbroken i starts in
-      let bounds = slot_within t i slot e in
+      let bounds = tenure_slot-within t i slot e in
       let past = off_past (falls t BBSY i) _ there.1
       (is_broken-unbroken t stretch end most unbroken rule.B4 i BBSY there.0 before
       (lit< tt) refl) in
       let other = eqb-false slot (t.opening.slots + 1)
       (sym (ap (λ (o : Option ℕ). is_option_equal o (t.opening.slots + 1)) e) ∙ past) in
-      (level_within t i level l, bounds.0, omega (arith, bounds.1, other))
+      (tenure_level-below_4 t i level l, bounds.0, omega (arith, bounds.1, other))
     where
       off_past : (a b : Bool) → a ≡ true → (true && a && b) ≡ false → b ≡ false
       off_past true b h e = e
       off_past false b h e = absurd (cc)
 
-  slots_held : All (IsOfASlot t.opening.slots) (rows_before t stretch end end)
-  slots_held = All-rows_before (IsOfASlot t.opening.slots) t stretch end
+  -- each tenure of the rows is of a level and of a slot of the backplane
+  All-IsOfASlot : All (IsOfASlot t.opening.slots) (rows_before t stretch end end)
+  All-IsOfASlot = All-rows_before (IsOfASlot t.opening.slots) t stretch end
       (λ i before. All-tenure_rows (IsOfASlot t.opening.slots) t stretch end i (λ e. tt)
-      (λ starts level slot e l s. of_a_slot i
+      (λ starts level slot e l s. IsOfASlot-tenure i
       before starts level slot l s))
       (λ i before. All-cycle_rows (IsOfASlot t.opening.slots) t stretch end i (in_cycle i))
       (λ i before. All-transfer_rows (IsOfASlot t.opening.slots) t stretch end i
@@ -131,11 +135,11 @@ module _ (t : Trace) (stretch : Stretch) (is : IsStretchOf t stretch) (end : ℕ
       in_transfer_row i (Some r) = in_answered i r (cycle_of t stretch r)
 
   -- the nets of a tenure's level are low up to its slot, at the instant whose grant it takes
-  grant_there : (i : ℕ) → i < end → tenure_starts t stretch i ≡ true → (level slot : ℕ) (e : Option ℕ)
+  ShowsGrant-tenure : (i : ℕ) → i < end → tenure_starts t stretch i ≡ true → (level slot : ℕ) (e : Option ℕ)
       → tenure_level t i
       ≡ Some level → tenure_slot t i ≡ Some slot → ShowsGrant t (row.Tenure i level slot e)
   unfolding tenure_slot has_reached taken_grant
-  grant_there i before starts level slot e l s = by (greatest (has_reached t (taken_grant t i) level) 0
+  ShowsGrant-tenure i before starts level slot e l s = by (greatest (has_reached t (taken_grant t i) level) 0
       (t.opening.slots + 1)) refl
       (sym (ap (λ (o : Option ℕ). option_map (λ k. 1 + k)
       (option_and_then (λ n. greatest (has_reached t (taken_grant t i) n) 0 (t.opening.slots + 1)) o)) l) ∙ s)
@@ -154,7 +158,7 @@ module _ (t : Trace) (stretch : Stretch) (is : IsStretchOf t stretch) (end : ℕ
       by (Some k) f g =
           let same : 1 + k ≡ slot = cc in
           let found = greatest-found (has_reached t (taken_grant t i) level) 0 (t.opening.slots + 1) k f in
-          let of = of_a_slot i before starts level slot l s in (
+          let of = IsOfASlot-tenure i before starts level slot l s in (
             taken_grant t i,
             first (is_granting t i),
             second (is_granting t i),
@@ -172,10 +176,11 @@ module _ (t : Trace) (stretch : Stretch) (is : IsStretchOf t stretch) (end : ℕ
             ),
           )
 
-  grants_shown : All (ShowsGrant t) (rows_before t stretch end end)
-  grants_shown = All-rows_before (ShowsGrant t) t stretch end
+  -- each tenure of the rows takes a grant
+  All-ShowsGrant : All (ShowsGrant t) (rows_before t stretch end end)
+  All-ShowsGrant = All-rows_before (ShowsGrant t) t stretch end
       (λ i before. All-tenure_rows (ShowsGrant t) t stretch end i (λ e. tt)
-      (λ starts level slot e l s. grant_there i before
+      (λ starts level slot e l s. ShowsGrant-tenure i before
       starts level slot e l s))
       (λ i before. All-cycle_rows (ShowsGrant t) t stretch end i (in_cycle i))
       (λ i before. All-transfer_rows (ShowsGrant t) t stretch end i
@@ -196,8 +201,9 @@ module _ (t : Trace) (stretch : Stretch) (is : IsStretchOf t stretch) (end : ℕ
       in_transfer_row i None = tt
       in_transfer_row i (Some r) = in_answered i r (cycle_of t stretch r)
 
-  open_first : All (IsOpenAtStart stretch.start) (rows_before t stretch end end)
-  open_first = All-rows_before (IsOpenAtStart stretch.start) t stretch end
+  -- a tenure of the rows is open just if it begins with the stretch
+  All-IsOpenAtStart : All (IsOpenAtStart stretch.start) (rows_before t stretch end end)
+  All-IsOpenAtStart = All-rows_before (IsOpenAtStart stretch.start) t stretch end
       (λ i before. All-tenure_rows_open (IsOpenAtStart stretch.start) t stretch end i (λ same e. same)
       (λ starts level slot e l s. (tenures.tenure_starts-falls_after t stretch is end within most unbroken i starts).0))
       (λ i before. All-cycle_rows (IsOpenAtStart stretch.start) t stretch end i (in_cycle i))
@@ -220,8 +226,9 @@ module _ (t : Trace) (stretch : Stretch) (is : IsStretchOf t stretch) (end : ℕ
       in_transfer_row i None = tt
       in_transfer_row i (Some r) = in_answered i r (cycle_of t stretch r)
 
-  traffic_alone : All (λ row. is_traffic row ≡ true) (rows_before t stretch end end)
-  traffic_alone = All-rows_before (λ row. is_traffic row ≡ true) t stretch end
+  -- the rows are of tenures, cycles and transfers alone
+  All-is_traffic : All (λ row. is_traffic row ≡ true) (rows_before t stretch end end)
+  All-is_traffic = All-rows_before (λ row. is_traffic row ≡ true) t stretch end
       (λ i before. All-tenure_rows (λ row. is_traffic row ≡ true) t stretch end i (λ e. refl)
       (λ starts level slot e l s. refl))
       (λ i before. All-cycle_rows (λ row. is_traffic row ≡ true) t stretch end i (in_cycle i))
@@ -244,10 +251,10 @@ module _ (t : Trace) (stretch : Stretch) (is : IsStretchOf t stretch) (end : ℕ
       in_transfer_row i None = refl
       in_transfer_row i (Some r) = in_answered i r (cycle_of t stretch r)
 
-  -- cycles
-  busy_near : (i : ℕ) → stretch.start < i → i < end → falls t AS i ≡ true → near (low t BBSY) i ≡ true
+  -- BBSY is low where the address strobe falls, or just before, by rule B3
+  near-low_busy : (i : ℕ) → stretch.start < i → i < end → falls t AS i ≡ true → near (low t BBSY) i ≡ true
   unfolding is_broken
-  busy_near i after before down = by (falls t AS i) (near (low t BBSY) i) down
+  near-low_busy i after before down = by (falls t AS i) (near (low t BBSY) i) down
       (is_broken-unbroken t stretch end most unbroken rule.B3 i
       AS after before (lit< tt) refl)
     where
@@ -256,25 +263,29 @@ module _ (t : Trace) (stretch : Stretch) (is : IsStretchOf t stretch) (end : ℕ
       by true false h e = absurd (cc)
       by false b h e = absurd (cc)
 
-  cycle_judged : (i : ℕ) → cycle_starts t stretch i ≡ true → (stretch.start < i) × (falls t AS i ≡ true)
+  -- a cycle starts after the start of the stretch, where the address strobe falls
+  cycle_starts-falls_after : (i : ℕ) → cycle_starts t stretch i ≡ true → (stretch.start < i) × (falls t AS i ≡ true)
   unfolding cycle_starts
-  cycle_judged i e = (grind (arith, nat_tests), grind (arith, nat_tests))
+  cycle_starts-falls_after i e = (grind (arith, nat_tests), grind (arith, nat_tests))
 
+  -- the tenure that begins at an instant
   abbrev tenure_from : ℕ → Interval
   tenure_from = tenures.tenure_at t stretch is end within most unbroken
 
+  -- BBSY is low at k since the start of a tenure, or of the stretch
   TenureCovers : ℕ → Type 0
   TenureCovers k = Covering (low t BBSY) (tenure_starts t stretch) (rises t BBSY) (rises t BBSY) stretch.start end
       (tenures.tenure_starts-levels t stretch is end within most unbroken)
       (tenures.rises-levels t stretch is end within most unbroken)
       (tenures.rises-while_low t stretch is end within most unbroken) k
 
-  in_tenure : (i : ℕ) → i < end → cycle_starts t stretch i ≡ true
+  -- one of the tenures covers the start of a cycle
+  StartsInOne-cycle : (i : ℕ) → i < end → cycle_starts t stretch i ≡ true
       → StartsInOne (flat_map tenure_in (rows_before t stretch end end)) (cycles.cycle_at t stretch end i)
   unfolding TenureCovers
-  in_tenure i before starts =
-      let down = cycle_judged i starts in
-      let there = line_near t BBSY stretch.start i down.0 (busy_near i down.0 before down.1) in
+  StartsInOne-cycle i before starts =
+      let down = cycle_starts-falls_after i starts in
+      let there = near-low_line t BBSY stretch.start i down.0 (near-low_busy i down.0 before down.1) in
       let cover : TenureCovers there.0 =
       Covering-at (low t BBSY) (tenure_starts t stretch) (rises t BBSY) (rises t BBSY)
       stretch.start end
@@ -289,7 +300,7 @@ module _ (t : Trace) (stretch : Stretch) (is : IsStretchOf t stretch) (end : ℕ
             (omega (arith, there.2, before)) cover cover.begun),
         (
           omega (arith, cover.to, there.2),
-          if_some (least (rises t BBSY) (cover.first + 1) end) (λ e. i ≤ e)
+          IfSome-value (least (rises t BBSY) (cover.first + 1) end) (λ e. i ≤ e)
               (λ e f. let later = least-after_covering (low t BBSY)
               (tenure_starts t stretch) (rises t BBSY) (rises t BBSY) stretch.start end
               (tenures.tenure_starts-levels t stretch is end within most unbroken)
@@ -322,35 +333,41 @@ module _ (t : Trace) (stretch : Stretch) (is : IsStretchOf t stretch) (end : ℕ
           (omega (arith, begun.0))
           (omega (arith, c.to, below)) begun.1)
 
-  cycles_held : All (StartsInOne (flat_map tenure_in (rows_before t stretch end end)))
+  -- each cycle starts in one of the tenures
+  All-StartsInOne : All (StartsInOne (flat_map tenure_in (rows_before t stretch end end)))
       (flat_map cycle_in (rows_before t stretch end end))
-  cycles_held =
+  All-StartsInOne =
       subst (All (StartsInOne (flat_map tenure_in (rows_before t stretch end end))))
       (sym (cycles.cycles_of_rows t stretch end within))
       (All-map_those (StartsInOne (flat_map tenure_in (rows_before t stretch end end))) (cycles.cycle_at t stretch end)
-      (cycle_starts t stretch) end end (stretch.start + 1) (omega arith) (λ i from before starts. in_tenure i before
+      (cycle_starts t stretch) end end (stretch.start + 1) (omega arith)
+      (λ i from before starts. StartsInOne-cycle i before
       starts))
 
-  -- transfers
+  -- the cycles of the rows
   abbrev cycles_listed : List Interval
   cycles_listed = flat_map cycle_in (rows_before t stretch end end)
 
+  -- the transfer that starts at i, and its answer r
   module _ (i r : ℕ) (starts : transfer_starts t stretch i ≡ true)
       (e : least (reply_at t stretch i) i end ≡ Some r) where
-    after : stretch.start < i
-    after = transfer_starts-after t stretch i starts
+    -- it starts after the start of the stretch
+    starts_after : stretch.start < i
+    starts_after = transfer_starts-after t stretch i starts
 
-    found : IsLeast (reply_at t stretch i) i end r
-    found = least-found (reply_at t stretch i) i end r e
+    -- r is the first fall of an answer line in it
+    IsLeast-answer : IsLeast (reply_at t stretch i) i end r
+    IsLeast-answer = least-found (reply_at t stretch i) i end r e
 
-    lasting : lasts t stretch i r ≡ true
-    lasting = (and_parts (lasts t stretch i r) (answer_falls t r) found.holds).0
+    -- it lasts at its answer
+    lasts-answer : lasts t stretch i r ≡ true
+    lasts-answer = (and_parts (lasts t stretch i r) (answer_falls t r) IsLeast-answer.holds).0
 
     -- at no instant between the transfer's start and its answer are both strobes high
-    still : (m : ℕ) → i < m → m < r → strobes_high t m ≡ false
+    strobes_high-none : (m : ℕ) → i < m → m < r → strobes_high t m ≡ false
     unfolding lasts
-    still m a b = any-fails (strobes_high t) (i + 1) r m (last_part (nat_le i r) (is_judged stretch r)
-        (any (strobes_high t) (i + 1) r) lasting) (omega arith) b
+    strobes_high-none m a b = any-fails (strobes_high t) (i + 1) r m (last_part (nat_le i r) (is_judged stretch r)
+        (any (strobes_high t) (i + 1) r) lasts-answer) (omega arith) b
       where
         last_part : (x y z : Bool) → (x && y && not z) ≡ true → z ≡ false
         last_part true true true h = absurd (cc)
@@ -358,72 +375,84 @@ module _ (t : Trace) (stretch : Stretch) (is : IsStretchOf t stretch) (end : ℕ
         last_part true false z h = absurd (cc)
         last_part false y z h = absurd (cc)
 
-    in_its_transfer : Covers (interval i (least (strobes_high t) (i + 1) end)) r
-    in_its_transfer = (
-      found.first,
-      if_some (least (strobes_high t) (i + 1) end) (λ c. r ≤ c)
+    -- the transfer covers its answer
+    Covers-answer : Covers (interval i (least (strobes_high t) (i + 1) end)) r
+    Covers-answer = (
+      IsLeast-answer.first,
+      IfSome-value (least (strobes_high t) (i + 1) end) (λ c. r ≤ c)
           (λ c f. by c (least-found (strobes_high t) (i + 1) end c f) (past_or_below c r)),
     )
       where
         by : (c : ℕ) → IsLeast (strobes_high t) (i + 1) end c → (r ≤ c) ⊎ (c < r) → r ≤ c
         by c close (inl past) = past
-        by c close (inr before) = absurd (clash (strobes_high t c) close.holds (still c (omega (arith, close.first))
+        by c close (inr before) =
+            absurd (clash (strobes_high t c) close.holds (strobes_high-none c (omega (arith, close.first))
             before))
 
+    -- the address strobe is low at an instant that is r or the one before
     abbrev Near : Type 0
     Near = (k : ℕ) × (stretch.start ≤ k) × (k ≤ r) × (r ≤ k + 1) × (low t AS k ≡ true)
 
-    there : Near
-    there = near-low_as t stretch is end within most r (omega (arith, found.first, after))
-        (near_low-reply t stretch is end within most unbroken i r after starts e)
+    -- the address strobe is low near the answer
+    low-near_answer : Near
+    low-near_answer = near-low_as t stretch is end within most r (omega (arith, IsLeast-answer.first, starts_after))
+        (near_low-reply t stretch is end within most unbroken i r starts_after starts e)
 
-    cover : CycleCovers t stretch is end within most there.0
-    cover = CycleCovers-low t stretch is end within most there.0 there.1 (omega (arith, there.2, found.below)) there.4
+    -- a cycle covers that instant
+    covering_cycle : CycleCovers t stretch is end within most low-near_answer.0
+    covering_cycle =
+        CycleCovers-low t stretch is end within most low-near_answer.0 low-near_answer.1
+        (omega (arith, low-near_answer.2, IsLeast-answer.below)) low-near_answer.4
 
     -- no cycle starts after the covering one, up to r
-    none_later : (k : ℕ) → cover.first < k → k < r + 1 → cycle_starts t stretch k ≡ false
-    none_later k a b =
+    cycle_starts-none_later : (k : ℕ) → covering_cycle.first < k → k < r + 1 → cycle_starts t stretch k ≡ false
+    cycle_starts-none_later k a b =
         let back : k ≡ (k - 1) + 1 = omega (arith, a) in
         ap (cycle_starts t stretch) back
-        ∙ (cycles.cycle_starts-levels t stretch is end within most (k - 1) (omega (arith, cover.from, a))
-        (omega (arith, back, b, found.below))
-        ∙ ap (λ v. not v && low t AS (k - 1 + 1)) (cover.held (k - 1) (omega (arith, a))
-        (omega (arith, back, b, there.3))))
+        ∙ (cycles.cycle_starts-levels t stretch is end within most (k - 1) (omega (arith, covering_cycle.from, a))
+        (omega (arith, back, b, IsLeast-answer.below))
+        ∙ ap (λ v. not v && low t AS (k - 1 + 1)) (covering_cycle.held (k - 1) (omega (arith, a))
+        (omega (arith, back, b, low-near_answer.3))))
 
-    its_cycle : cycle_of t stretch r ≡ Some cover.first
+    -- the answer belongs to the covering cycle
+    cycle_of-answer : cycle_of t stretch r ≡ Some covering_cycle.first
     unfolding cycle_of
-    its_cycle =
-        let begun = CycleCovers-starts t stretch is end within most there.0 cover in
-        greatest-is (cycle_starts t stretch) (stretch.start + 1) (r + 1) cover.first (omega (arith, begun.0))
-        (omega (arith, cover.to, there.2)) begun.1 none_later
+    cycle_of-answer =
+        let begun = CycleCovers-starts t stretch is end within most low-near_answer.0 covering_cycle in
+        greatest-is (cycle_starts t stretch) (stretch.start + 1) (r + 1) covering_cycle.first (omega (arith, begun.0))
+        (omega (arith, covering_cycle.to, low-near_answer.2)) begun.1 cycle_starts-none_later
 
-    in_its_cycle : (o : Option ℕ) × Contains cycles_listed (interval cover.first o) × Covers (interval cover.first o) r
-    in_its_cycle =
-        let begun = CycleCovers-starts t stretch is end within most there.0 cover in (
-          least (rises t AS) (cover.first + 1) end,
-          subst (λ xs. Contains xs (cycles.cycle_at t stretch end cover.first))
+    -- the covering cycle is one of those that are listed, and covers the answer
+    cycle_covers-answer : (o : Option ℕ) × Contains cycles_listed (interval covering_cycle.first o)
+        × Covers (interval covering_cycle.first o) r
+    cycle_covers-answer =
+        let begun = CycleCovers-starts t stretch is end within most low-near_answer.0 covering_cycle in (
+          least (rises t AS) (covering_cycle.first + 1) end,
+          subst (λ xs. Contains xs (cycles.cycle_at t stretch end covering_cycle.first))
               (sym (cycles.cycles_of_rows t stretch end within))
               (Contains-map_those (cycles.cycle_at t stretch end) (cycle_starts t stretch) (stretch.start + 1) end
-              cover.first
-              (omega (arith, begun.0)) (omega (arith, cover.to, there.2, found.below)) begun.1),
+              covering_cycle.first
+              (omega (arith, begun.0)) (omega (arith, covering_cycle.to, low-near_answer.2, IsLeast-answer.below))
+              begun.1),
           (
-            omega (arith, cover.to, there.2),
-            if_some (least (rises t AS) (cover.first + 1) end) (λ c. r ≤ c) (λ c f.
+            omega (arith, covering_cycle.to, low-near_answer.2),
+            IfSome-value (least (rises t AS) (covering_cycle.first + 1) end) (λ c. r ≤ c) (λ c f.
                 let later = least-after_covering (low t AS) (cycle_starts t stretch) (rises t AS) (rises t AS)
                 stretch.start end
                 (cycles.cycle_starts-levels t stretch is end within most)
                 (cycles.rises-levels t stretch is end within most)
-                (cycles.rises-while_low t stretch is end within most) there.0 (omega (arith, there.2, found.below))
-                cover c f in
-                omega (arith, later, there.3)),
+                (cycles.rises-while_low t stretch is end within most) low-near_answer.0
+                (omega (arith, low-near_answer.2, IsLeast-answer.below))
+                covering_cycle c f in
+                omega (arith, later, low-near_answer.3)),
           ),
         )
 
   -- the address strobe doesn't rise in a transfer that isn't answered yet at j
-  awaited : (i j : ℕ) → transfer_starts t stretch i ≡ true → i < j → j < end → lasts t stretch i j ≡ true
+  rises-awaiting : (i j : ℕ) → transfer_starts t stretch i ≡ true → i < j → j < end → lasts t stretch i j ≡ true
       → any (reply_at t stretch i) i (j + 1) ≡ false → rises t AS j ≡ false
   unfolding is_broken
-  awaited i j starts order before lasting none =
+  rises-awaiting i j starts order before lasting none =
       by (rises t AS j) (in_transfer t stretch (λ k. nat_lt k j && not (is_answered t stretch k (j + 1))) j)
       (nat_lt i j)
       (is_answered t stretch i (j + 1))
@@ -439,9 +468,10 @@ module _ (t : Trace) (stretch : Stretch) (is : IsStretchOf t stretch) (end : ℕ
       by true x n d h k e f = absurd (clash x (h ∙ (ap (λ b. b && not d) k ∙ ap not e)) f)
       by false x n d h k e f = refl
 
-  awaits_answer : (i : ℕ) → transfer_starts t stretch i ≡ true → AwaitsAnswer t end
+  -- the address strobe doesn't rise from the start of a transfer to its answer, or to the end without one
+  AwaitsAnswer-transfer_row : (i : ℕ) → transfer_starts t stretch i ≡ true → AwaitsAnswer t end
       (transfer_row t stretch end i (least (answers t stretch i) i end))
-  awaits_answer i starts = subst (λ (o : Option ℕ). AwaitsAnswer t end (transfer_row t stretch end i o))
+  AwaitsAnswer-transfer_row i starts = subst (λ (o : Option ℕ). AwaitsAnswer t end (transfer_row t stretch end i o))
       (sym (least-answers t stretch i end)) (by (least (reply_at t stretch i) i end) refl)
     where
       row_told : (r : ℕ) (o : Option ℕ) (c : ℕ) → o ≡ Some c → least (reply_at t stretch i) i end ≡ Some r
@@ -449,16 +479,16 @@ module _ (t : Trace) (stretch : Stretch) (is : IsStretchOf t stretch) (end : ℕ
       row_told r None c e f = absurd (cc)
       row_told r (Some k) c e f = λ j a b.
           let found = least-found (reply_at t stretch i) i end r f in
-          awaited i j starts a (omega (arith, found.below))
+          rises-awaiting i j starts a (omega (arith, found.below))
           (lasts-until_high t stretch is i j (transfer_starts-after t stretch i starts) (omega arith)
           (omega (arith, found.below))
-          (λ m x y. still i r starts f m x (omega arith)))
+          (λ m x y. strobes_high-none i r starts f m x (omega arith)))
           (fails-any (reply_at t stretch i) i (j + 1) (λ m x y. any-fails (reply_at t stretch i) i r m found.least x
           (omega arith)))
 
       by : (o : Option ℕ) → least (reply_at t stretch i) i end ≡ o → AwaitsAnswer t end (transfer_row t stretch end i o)
       by None e = λ j a b.
-          awaited i j starts a b
+          rises-awaiting i j starts a b
           (lasts-until_high t stretch is i j (transfer_starts-after t stretch i starts) (omega arith) (omega arith)
           (λ m x y. any-fails (strobes_high t) (i + 1) end m (least-none-any (strobes_high t) (i + 1) end
           (least-unanswered t stretch is end within most unbroken i (transfer_starts-after t stretch i starts) starts
@@ -466,11 +496,13 @@ module _ (t : Trace) (stretch : Stretch) (is : IsStretchOf t stretch) (end : ℕ
           (omega arith)))
           (fails-any (reply_at t stretch i) i (j + 1) (λ m x y. any-fails (reply_at t stretch i) i end m
           (least-none-any (reply_at t stretch i) i end e) x (omega arith)))
-      by (Some r) e = row_told r (cycle_of t stretch r) (cover i r starts e).first (its_cycle i r starts e) e
+      by (Some r) e =
+          row_told r (cycle_of t stretch r) (covering_cycle i r starts e).first (cycle_of-answer i r starts e) e
 
-  answered_in_cycle : (i : ℕ) → transfer_starts t stretch i ≡ true → IsAnsweredInCycle cycles_listed
+  -- the row of a transfer has its answer in the transfer and in a cycle that is listed
+  IsAnsweredInCycle-transfer_row : (i : ℕ) → transfer_starts t stretch i ≡ true → IsAnsweredInCycle cycles_listed
       (transfer_row t stretch end i (least (answers t stretch i) i end))
-  answered_in_cycle i starts = subst (λ (o : Option ℕ). IsAnsweredInCycle cycles_listed
+  IsAnsweredInCycle-transfer_row i starts = subst (λ (o : Option ℕ). IsAnsweredInCycle cycles_listed
       (transfer_row t stretch end i o))
       (sym (least-answers t stretch i end)) (by (least (reply_at t stretch i) i end) refl)
     where
@@ -478,49 +510,59 @@ module _ (t : Trace) (stretch : Stretch) (is : IsStretchOf t stretch) (end : ℕ
           (transfer_row t stretch end i o)
       by None e = tt
       by (Some r) e = subst (λ (c : Option ℕ). IsAnsweredInCycle cycles_listed (answered_row t stretch end i r c))
-          (sym (its_cycle i r starts e)) (in_its_transfer i r starts e, in_its_cycle i r starts e)
+          (sym (cycle_of-answer i r starts e)) (Covers-answer i r starts e, cycle_covers-answer i r starts e)
 
-  abbrev transfers_held : (P : Row → Type 0) → Type 0
-  transfers_held P = ((i : ℕ) (e : Option ℕ) → P (OpenTenure i e)) → ((i level slot : ℕ) (e : Option ℕ)
+  -- P holds of each row, if it does of any row of a tenure or a cycle, and of the row of each transfer that starts
+  abbrev AllByTransfers : (P : Row → Type 0) → Type 0
+  AllByTransfers P = ((i : ℕ) (e : Option ℕ) → P (OpenTenure i e)) → ((i level slot : ℕ) (e : Option ℕ)
       → P (Tenure i level slot e)) → ((i : ℕ) (v : Levels) (e : Option ℕ) (c : Class) → P (cycle_row i v e c))
       → ((i : ℕ) → transfer_starts t stretch i ≡ true → P (transfer_row t stretch end i
       (least (answers t stretch i) i end)))
       → All P (rows_before t stretch end end)
 
-  by_transfers : (P : Row → Type 0) → transfers_held P
-  by_transfers P opened started cycle transfer = All-rows_before P t stretch end
+  -- that is so of each P
+  AllByTransfers-rows : (P : Row → Type 0) → AllByTransfers P
+  AllByTransfers-rows P opened started cycle transfer = All-rows_before P t stretch end
       (λ i before. All-tenure_rows P t stretch end i (opened i) (λ starts level slot e l s. started i level slot e))
       (λ i before. All-cycle_rows P t stretch end i (cycle i (levels_at t i) (least (rises t AS) (i + 1) end)))
       (λ i before. All-transfer_rows P t stretch end i (transfer i))
       end (omega arith)
 
-  no_answer : (i : ℕ) (v : Levels) (e : Option ℕ) (c : Class) → IsAnsweredInCycle cycles_listed (cycle_row i v e c)
-  no_answer i v e class.S = tt
-  no_answer i v e class.K = tt
-  no_answer i v e class.I = tt
-  no_answer i v e class.F = tt
+  -- the row of a cycle has no answer
+  IsAnsweredInCycle-cycle_row : (i : ℕ) (v : Levels) (e : Option ℕ) (c : Class)
+      → IsAnsweredInCycle cycles_listed (cycle_row i v e c)
+  IsAnsweredInCycle-cycle_row i v e class.S = tt
+  IsAnsweredInCycle-cycle_row i v e class.K = tt
+  IsAnsweredInCycle-cycle_row i v e class.I = tt
+  IsAnsweredInCycle-cycle_row i v e class.F = tt
 
-  no_wait : (i : ℕ) (v : Levels) (e : Option ℕ) (c : Class) → AwaitsAnswer t end (cycle_row i v e c)
-  no_wait i v e class.S = tt
-  no_wait i v e class.K = tt
-  no_wait i v e class.I = tt
-  no_wait i v e class.F = tt
+  -- the row of a cycle awaits no answer
+  AwaitsAnswer-cycle_row : (i : ℕ) (v : Levels) (e : Option ℕ) (c : Class) → AwaitsAnswer t end (cycle_row i v e c)
+  AwaitsAnswer-cycle_row i v e class.S = tt
+  AwaitsAnswer-cycle_row i v e class.K = tt
+  AwaitsAnswer-cycle_row i v e class.I = tt
+  AwaitsAnswer-cycle_row i v e class.F = tt
 
-  pub nested : KeepsRules t stretch.start end (rows_before t stretch end end)
-  nested = record {
-    tenures_of_slots = slots_held;
-    open_at_start = open_first;
-    grants = grants_shown;
-    cycles_in_tenures = cycles_held;
-    answers_in_cycles = by_transfers (IsAnsweredInCycle cycles_listed) (λ i e. tt) (λ i level slot e. tt) no_answer
-        answered_in_cycle;
+  -- the rows of a stretch keep the rules
+  pub KeepsRules-rows_before : KeepsRules t stretch.start end (rows_before t stretch end end)
+  KeepsRules-rows_before = record {
+    tenures_of_slots = All-IsOfASlot;
+    open_at_start = All-IsOpenAtStart;
+    grants = All-ShowsGrant;
+    cycles_in_tenures = All-StartsInOne;
+    answers_in_cycles =
+        AllByTransfers-rows (IsAnsweredInCycle cycles_listed) (λ i e. tt) (λ i level slot e. tt)
+        IsAnsweredInCycle-cycle_row
+        IsAnsweredInCycle-transfer_row;
     cycles_of_classes = cycles_of_classes t stretch is end within most unbroken;
     acknowledges = All-ShowsAcknowledge t stretch is end within most unbroken;
-    codes_of_classes = classes_of_codes t stretch end most unbroken;
-    modifiers = modifiers_shown t stretch end most unbroken;
-    addresses = addresses_shown t stretch end most unbroken;
+    codes_of_classes = All-IsOfItsCode t stretch end most unbroken;
+    modifiers = All-ShowsModifier t stretch end most unbroken;
+    addresses = All-ShowsAddress t stretch end most unbroken;
     directions = All-ShowsDirection t stretch is end within most unbroken;
     written_data = All-ShowsData t stretch is end within most unbroken;
-    strobe_awaits = by_transfers (AwaitsAnswer t end) (λ i e. tt) (λ i level slot e. tt) no_wait awaits_answer;
-    nothing_else = traffic_alone;
+    strobe_awaits =
+        AllByTransfers-rows (AwaitsAnswer t end) (λ i e. tt) (λ i level slot e. tt) AwaitsAnswer-cycle_row
+        AwaitsAnswer-transfer_row;
+    nothing_else = All-is_traffic;
   }
