@@ -1,4 +1,4 @@
--- What the levels before and after a step show, by the definitions on instants.
+-- What the levels before and after a step show of grants and requests is what the definitions say of the instants.
 use Rattle.std.proofs.Common.{◌≡◌, ℕ, zero, suc, ◌+◌, ◌-◌, ◌<◌, ◌≤◌, Bool, true, false, ◌&&◌, ◌||◌, not, refl, sym, ◌∙◌}
 use Rattle.std.proofs.Common.{ap, arith, Option, Some, None, cond}
 use Rattle.std.specs.Prelude.{option_map, option_and_then, ◌==◌}
@@ -19,132 +19,167 @@ use Rattle.vme_chains.specs.GrantLevels.{high_near, requested_in, grant_begins, 
 use Rattle.vme_chains.specs.GrantLevels.{taken_at, taken_in, taken_between, is_ungranted}
 use Rattle.vme_chains.specs.GrantMemory.{is_in}
 use Rattle.vme_chains.proofs.GrantRanges.{greatest-alike}
-use Rattle.vme_chains.proofs.GrantLines.{net_exists}
+use Rattle.vme_chains.proofs.GrantLines.{has_line-net}
 
 module _ (t : Trace) where
-  shown_at : (k l : ℕ) → has_line t.opening.slots l ≡ true → shown (levels_at t k) l ≡ level_at (levels_at t k) l
-  shown_at k l h = rw (slots_at t k, h) refl
+  -- a line that the backplane has is shown with its level
+  shown-existing : (k l : ℕ) → has_line t.opening.slots l ≡ true → shown (levels_at t k) l ≡ level_at (levels_at t k) l
+  shown-existing k l h = rw (slots_at t k, h) refl
 
-  absent_at : (k l : ℕ) → has_line t.opening.slots l ≡ false → shown (levels_at t k) l ≡ Unknown
-  absent_at k l h = rw (slots_at t k, h) refl
+  -- a line that it doesn't have is shown as unknown
+  shown-absent : (k l : ℕ) → has_line t.opening.slots l ≡ false → shown (levels_at t k) l ≡ Unknown
+  shown-absent k l h = rw (slots_at t k, h) refl
 
-  pub low-is : (k l : ℕ) → has_line t.opening.slots l ≡ true → is_low_in (levels_at t k) l ≡ low t l k
+  -- a line of the backplane is shown low just if it is low at the instant
+  pub is_low_in-low : (k l : ℕ) → has_line t.opening.slots l ≡ true → is_low_in (levels_at t k) l ≡ low t l k
   unfolding low
-  low-is k l h = ap is_low (shown_at k l h)
+  is_low_in-low k l h = ap is_low (shown-existing k l h)
 
-  pub high-is : (k l : ℕ) → has_line t.opening.slots l ≡ true → is_high_in (levels_at t k) l ≡ high t l k
+  -- a line of the backplane is shown high just if it is high at the instant
+  pub is_high_in-high : (k l : ℕ) → has_line t.opening.slots l ≡ true → is_high_in (levels_at t k) l ≡ high t l k
   unfolding high
-  high-is k l h = ap is_high (shown_at k l h)
+  is_high_in-high k l h = ap is_high (shown-existing k l h)
 
-  before_is : (p : ℕ → Bool) (n : ℕ) → p (suc n - 1) ≡ p n
-  before_is p n = ap p (suc-sub-one n)
+  -- the instant before n + 1 is n
+  before-suc : (p : ℕ → Bool) (n : ℕ) → p (suc n - 1) ≡ p n
+  before-suc p n = ap p (suc-sub-one n)
 
-  both : {a b c d : Bool} → a ≡ c → b ≡ d → (a && b) ≡ (c && d)
-  both e h = rw (e, h) refl
+  -- `&&` of equal truth values
+  and-equal : {a b c d : Bool} → a ≡ c → b ≡ d → (a && b) ≡ (c && d)
+  and-equal e h = rw (e, h) refl
 
-  either : {a b c d : Bool} → a ≡ c → b ≡ d → (a || b) ≡ (c || d)
-  either e h = rw (e, h) refl
+  -- `||` of equal truth values
+  or-equal : {a b c d : Bool} → a ≡ c → b ≡ d → (a || b) ≡ (c || d)
+  or-equal e h = rw (e, h) refl
 
-  pub falls-is : (n l : ℕ) → has_line t.opening.slots l ≡ true → falls_between (levels_at t n) (levels_at t (suc n)) l
+  -- a line of the backplane falls between the levels just if it falls at n + 1
+  pub falls_between-falls : (n l : ℕ) → has_line t.opening.slots l ≡ true
+      → falls_between (levels_at t n) (levels_at t (suc n)) l
       ≡ falls t l (suc n)
   unfolding falls
-  falls-is n l h = both (high-is n l h ∙ sym (before_is (high t l) n)) (low-is (suc n) l h)
+  falls_between-falls n l h =
+      and-equal (is_high_in-high n l h ∙ sym (before-suc (high t l) n)) (is_low_in-low (suc n) l h)
 
-  pub rises-is : (n l : ℕ) → has_line t.opening.slots l ≡ true → rises_between (levels_at t n) (levels_at t (suc n)) l
+  -- a line of the backplane rises between the levels just if it rises at n + 1
+  pub rises_between-rises : (n l : ℕ) → has_line t.opening.slots l ≡ true
+      → rises_between (levels_at t n) (levels_at t (suc n)) l
       ≡ rises t l (suc n)
   unfolding rises
-  rises-is n l h = both (low-is n l h ∙ sym (before_is (low t l) n)) (high-is (suc n) l h)
+  rises_between-rises n l h =
+      and-equal (is_low_in-low n l h ∙ sym (before-suc (low t l) n)) (is_high_in-high (suc n) l h)
 
-  pub falls-absent : (n l : ℕ) → has_line t.opening.slots l ≡ false → falls_between (levels_at t n)
+  -- a line that the backplane doesn't have doesn't fall between the levels
+  pub falls_between-absent : (n l : ℕ) → has_line t.opening.slots l ≡ false → falls_between (levels_at t n)
       (levels_at t (suc n)) l ≡ false
-  falls-absent n l h = ap (λ x. is_high x && is_low_in (levels_at t (suc n)) l) (absent_at n l h)
+  falls_between-absent n l h = ap (λ x. is_high x && is_low_in (levels_at t (suc n)) l) (shown-absent n l h)
 
-  pub rises-absent : (n l : ℕ) → has_line t.opening.slots l ≡ false → rises_between (levels_at t n)
+  -- a line that the backplane doesn't have doesn't rise between the levels
+  pub rises_between-absent : (n l : ℕ) → has_line t.opening.slots l ≡ false → rises_between (levels_at t n)
       (levels_at t (suc n)) l ≡ false
-  rises-absent n l h = ap (λ x. is_low x && is_high_in (levels_at t (suc n)) l) (absent_at n l h)
+  rises_between-absent n l h = ap (λ x. is_low x && is_high_in (levels_at t (suc n)) l) (shown-absent n l h)
 
-  pub low_near-is : (n l : ℕ) → has_line t.opening.slots l ≡ true → low_near (levels_at t n) (levels_at t (suc n)) l
+  -- a line of the backplane is low on a side of the step just if it is low at n + 1 or before
+  pub low_near-near : (n l : ℕ) → has_line t.opening.slots l ≡ true → low_near (levels_at t n) (levels_at t (suc n)) l
       ≡ near (low t l) (suc n)
-  low_near-is n l h = either (low-is n l h ∙ sym (before_is (low t l) n)) (low-is (suc n) l h)
+  low_near-near n l h = or-equal (is_low_in-low n l h ∙ sym (before-suc (low t l) n)) (is_low_in-low (suc n) l h)
 
-  pub high_near-is : (n l : ℕ) → has_line t.opening.slots l ≡ true → high_near (levels_at t n) (levels_at t (suc n)) l
+  -- a line of the backplane is high on a side of the step just if it is high at n + 1 or before
+  pub high_near-near : (n l : ℕ) → has_line t.opening.slots l ≡ true → high_near (levels_at t n) (levels_at t (suc n)) l
       ≡ near (high t l) (suc n)
-  high_near-is n l h = either (high-is n l h ∙ sym (before_is (high t l) n)) (high-is (suc n) l h)
+  high_near-near n l h = or-equal (is_high_in-high n l h ∙ sym (before-suc (high t l) n)) (is_high_in-high (suc n) l h)
 
-  pub requested-is : (k l : ℕ) → l < 4 → is_in (requested_in (levels_at t k)) l ≡ low t (BR l) k
-  requested-is k zero h = low-is k 46 refl
-  requested-is k (suc zero) h = low-is k 47 refl
-  requested-is k (suc (suc zero)) h = low-is k 48 refl
-  requested-is k (suc (suc (suc zero))) h = low-is k 49 refl
-  requested-is k (suc (suc (suc (suc l)))) h = absurd (omega arith)
+  -- a level is requested just if its request line is low
+  pub requested_in-low : (k l : ℕ) → l < 4 → is_in (requested_in (levels_at t k)) l ≡ low t (BR l) k
+  requested_in-low k zero h = is_low_in-low k 46 refl
+  requested_in-low k (suc zero) h = is_low_in-low k 47 refl
+  requested_in-low k (suc (suc zero)) h = is_low_in-low k 48 refl
+  requested_in-low k (suc (suc (suc zero))) h = is_low_in-low k 49 refl
+  requested_in-low k (suc (suc (suc (suc l)))) h = absurd (omega arith)
 
   module _ (few : t.opening.slots ≤ 21) where
-    first_net : (n : ℕ) → n < 4 → has_line t.opening.slots (grant n 0) ≡ true
-    first_net n level = net_exists t.opening.slots n 0 level (omega arith) few
+    -- the backplane has the first net of each grant chain
+    has_line-first_net : (n : ℕ) → n < 4 → has_line t.opening.slots (grant n 0) ≡ true
+    has_line-first_net n level = has_line-net t.opening.slots n 0 level (omega arith) few
 
-    pub grant_begins-is : (n : ℕ) → grant_begins (levels_at t n) (levels_at t (suc n)) ≡ grant_falls t (suc n)
+    -- the arbiter begins to grant between the levels just if it does at n + 1
+    pub grant_begins-grant_falls : (n : ℕ) → grant_begins (levels_at t n) (levels_at t (suc n)) ≡ grant_falls t (suc n)
     unfolding grant_falls
-    grant_begins-is n = any-alike _ _ 0 4 (λ i a b. falls-is n (grant i 0) (first_net i b))
+    grant_begins-grant_falls n = any-alike _ _ 0 4 (λ i a b. falls_between-falls n (grant i 0) (has_line-first_net i b))
 
-    pub other_low-is : (k l : ℕ) → any (λ n. not (grant n 0 == l) && is_low_in (levels_at t k) (grant n 0)) 0 4
+    -- the arbiter grants on a net other than l by the levels just if it does at the instant
+    pub any-other_granted : (k l : ℕ) → any (λ n. not (grant n 0 == l) && is_low_in (levels_at t k) (grant n 0)) 0 4
         ≡ any (λ n. not (grant n 0 == l) && low t (grant n 0) k) 0 4
-    other_low-is k l = any-alike _ _ 0 4 (λ i a b. both refl (low-is k (grant i 0) (first_net i b)))
+    any-other_granted k l =
+        any-alike _ _ 0 4 (λ i a b. and-equal refl (is_low_in-low k (grant i 0) (has_line-first_net i b)))
 
     -- the least level that is granted at instant k
     abbrev pub level_on : ℕ → Option ℕ
     level_on k = least (λ n. low t (grant n 0) k) 0 4
 
+    -- the slot that the grant of that level has reached at instant k
     abbrev pub slot_on : ℕ → Option ℕ
     slot_on k = option_map (λ i. 1 + i) (option_and_then (λ n. greatest (has_reached t k n) 0 (t.opening.slots + 1))
         (level_on k))
 
-    granted_level-is : (k : ℕ) → granted_level (levels_at t k) ≡ level_on k
-    granted_level-is k = least-alike _ _ 0 4 (λ i a b. low-is k (grant i 0) (first_net i b))
+    -- the least level that is granted by the levels is that of the instant
+    granted_level-level_on : (k : ℕ) → granted_level (levels_at t k) ≡ level_on k
+    granted_level-level_on k = least-alike _ _ 0 4 (λ i a b. is_low_in-low k (grant i 0) (has_line-first_net i b))
 
-    pub is_granting-is : (k : ℕ) → is_some (granted_level (levels_at t k)) ≡ is_granting t k
+    -- a level is granted by the levels just if one is at the instant
+    pub granted_level-is_granting : (k : ℕ) → is_some (granted_level (levels_at t k)) ≡ is_granting t k
     unfolding is_granting
-    is_granting-is k = ap is_some (granted_level-is k) ∙ is_some-least _ 0 4
+    granted_level-is_granting k = ap is_some (granted_level-level_on k) ∙ is_some-least _ 0 4
 
-    reaches-is : (k n i : ℕ) → n < 4 → i < t.opening.slots + 1 → reaches (levels_at t k) n i ≡ has_reached t k n i
+    -- a grant has reached a net by the levels just if it has at the instant
+    reaches-has_reached : (k n i : ℕ) → n < 4 → i < t.opening.slots + 1 → reaches (levels_at t k) n i
+        ≡ has_reached t k n i
     unfolding has_reached
-    reaches-is k n i level within = every-alike _ _ 0 (i + 1) (λ net a b. low-is k (grant n net)
-        (net_exists t.opening.slots n net level (omega arith) few))
+    reaches-has_reached k n i level within = every-alike _ _ 0 (i + 1) (λ net a b. is_low_in-low k (grant n net)
+        (has_line-net t.opening.slots n net level (omega arith) few))
 
-    furthest : (k : ℕ) (o : Option ℕ) → level_on k ≡ o
+    -- the last net that the grant of the least level has reached is the same by the levels and at the instant
+    greatest-reaches : (k : ℕ) (o : Option ℕ) → level_on k ≡ o
         → option_and_then (λ n. greatest (reaches (levels_at t k) n) 0 (t.opening.slots + 1)) o ≡ option_and_then
         (λ n. greatest (has_reached t k n) 0 (t.opening.slots + 1)) o
-    furthest k None e = refl
-    furthest k (Some n) e =
+    greatest-reaches k None e = refl
+    greatest-reaches k (Some n) e =
         let found = least-found (λ n. low t (grant n 0) k) 0 4 n e in
-        greatest-alike _ _ 0 (t.opening.slots + 1) (λ i a b. reaches-is k n i found.below b)
+        greatest-alike _ _ 0 (t.opening.slots + 1) (λ i a b. reaches-has_reached k n i found.below b)
 
-    reached_slot-is : (k : ℕ) → reached_slot (levels_at t k) ≡ slot_on k
-    reached_slot-is k =
+    -- the slot that the grant has reached is the same by the levels and at the instant
+    reached_slot-slot_on : (k : ℕ) → reached_slot (levels_at t k) ≡ slot_on k
+    reached_slot-slot_on k =
         ap (λ s. option_map (λ i. 1 + i) (option_and_then (λ n. greatest (reaches (levels_at t k) n) 0 (s + 1))
         (granted_level (levels_at t k)))) (slots_at t k)
         ∙ ap (λ o. option_map (λ i. 1 + i)
-        (option_and_then (λ n. greatest (reaches (levels_at t k) n) 0 (t.opening.slots + 1)) o)) (granted_level-is k)
-        ∙ ap (option_map (λ i. 1 + i)) (furthest k (level_on k) refl)
+        (option_and_then (λ n. greatest (reaches (levels_at t k) n) 0 (t.opening.slots + 1)) o))
+        (granted_level-level_on k)
+        ∙ ap (option_map (λ i. 1 + i)) (greatest-reaches k (level_on k) refl)
 
-    taken_alike : (a b c d : Option ℕ) → a ≡ b → c ≡ d → taken_at a c ≡ taken_at b d
-    taken_alike a b c d e h = rw (e, h) refl
+    -- grants of equal levels and slots are equal
+    taken_at-equal : (a b c d : Option ℕ) → a ≡ b → c ≡ d → taken_at a c ≡ taken_at b d
+    taken_at-equal a b c d e h = rw (e, h) refl
 
-    taken_in-is : (k : ℕ) → taken_in (levels_at t k) ≡ taken_at (level_on k) (slot_on k)
-    taken_in-is k = taken_alike _ _ _ _ (granted_level-is k) (reached_slot-is k)
+    -- the grant by the levels is that of the instant
+    taken_in-level_on : (k : ℕ) → taken_in (levels_at t k) ≡ taken_at (level_on k) (slot_on k)
+    taken_in-level_on k = taken_at-equal _ _ _ _ (granted_level-level_on k) (reached_slot-slot_on k)
 
     -- the grant by which a tenure starts at n + 1
-    pub taken_between-is : (n : ℕ) → taken_between (levels_at t n) (levels_at t (suc n))
+    pub taken_between-tenure : (n : ℕ) → taken_between (levels_at t n) (levels_at t (suc n))
         ≡ taken_at (tenure_level t (suc n)) (tenure_slot t (suc n))
     unfolding tenure_level tenure_slot taken_grant
-    taken_between-is n = ap (λ b. cond b (taken_in (levels_at t (suc n))) (taken_in (levels_at t n)))
-        (is_granting-is (suc n)) ∙ by_grant (is_granting t (suc n))
+    taken_between-tenure n = ap (λ b. cond b (taken_in (levels_at t (suc n))) (taken_in (levels_at t n)))
+        (granted_level-is_granting (suc n)) ∙ by_grant (is_granting t (suc n))
       where
         by_grant : (b : Bool)
             → cond b (taken_in (levels_at t (suc n))) (taken_in (levels_at t n))
             ≡ taken_at (level_on (cond b (suc n) (suc n - 1))) (slot_on (cond b (suc n) (suc n - 1)))
-        by_grant true = taken_in-is (suc n)
-        by_grant false = taken_in-is n ∙ ap (λ k. taken_at (level_on k) (slot_on k)) (sym (suc-sub-one n))
+        by_grant true = taken_in-level_on (suc n)
+        by_grant false = taken_in-level_on n ∙ ap (λ k. taken_at (level_on k) (slot_on k)) (sym (suc-sub-one n))
 
-    pub is_ungranted-is : (n : ℕ) → is_ungranted (levels_at t n) (levels_at t (suc n))
+    -- no level is granted on either side of the step just if none is at n + 1 or before
+    pub is_ungranted-is_granting : (n : ℕ) → is_ungranted (levels_at t n) (levels_at t (suc n))
         ≡ not (near (is_granting t) (suc n))
-    is_ungranted-is n = ap not (either (is_granting-is n ∙ sym (before_is (is_granting t) n)) (is_granting-is (suc n)))
+    is_ungranted-is_granting n =
+        ap not (or-equal (granted_level-is_granting n ∙ sym (before-suc (is_granting t) n))
+        (granted_level-is_granting (suc n)))

@@ -1,22 +1,27 @@
--- Tests of lines and instants, shared by the rules.
+-- Tests of lines, instants and kinds of lines, shared by the proofs about grants.
 use Rattle.std.proofs.Common.{◌≡◌, ℕ, suc, ◌+◌, ◌<◌, ◌≤◌, Bool, true, false, ◌&&◌, refl, arith, ◌⊎◌}
 use Rattle.std.specs.Prelude.{◌==◌}
 use Rattle.std.proofs.lemmas.Bool.Decides.{nat_tests}
 
-pub unlike : (a b : ℕ) → b < a → (a == b) ≡ false
-unlike a b h = grind (arith, nat_tests)
+-- a number isn't equal to a lesser one
+pub eqb-greater : (a b : ℕ) → b < a → (a == b) ≡ false
+eqb-greater a b h = grind (arith, nat_tests)
 
-pub start_or_after : (s n : ℕ) → s ≤ suc n → (s ≡ suc n) ⊎ (s ≤ n)
-start_or_after s n h = grind arith
+-- a number up to n + 1 is n + 1, or at most n
+pub le-suc_cases : (s n : ℕ) → s ≤ suc n → (s ≡ suc n) ⊎ (s ≤ n)
+le-suc_cases s n h = grind arith
 
-pub one_more : (n : ℕ) → suc n + 1 ≡ suc (suc n)
-one_more n = omega arith
+-- one more than n + 1 is n + 2
+pub add-one_suc : (n : ℕ) → suc n + 1 ≡ suc (suc n)
+add-one_suc n = omega arith
 
 -- a rule on one kind of line isn't broken on a line of another kind
-pub off_kind : (judged has kind edge rest : Bool) → kind ≡ false → (judged && has && (kind && edge && rest)) ≡ false
-off_kind judged has kind edge rest h = grind (arith, nat_tests)
+pub rule-other_kind : (judged has kind edge rest : Bool) → kind ≡ false → (judged && has && (kind && edge && rest))
+    ≡ false
+rule-other_kind judged has kind edge rest h = grind (arith, nat_tests)
 
 -- on a line of its kind, a rule is a test of the edge and `rest`
-pub on_kind : (judged has kind edge edge' rest rest' : Bool) → judged ≡ true → has ≡ true → kind ≡ true → edge' ≡ edge
+pub rule-same_kind : (judged has kind edge edge' rest rest' : Bool) → judged ≡ true → has ≡ true → kind ≡ true → edge'
+    ≡ edge
     → rest' ≡ rest → (judged && has && (kind && edge && rest)) ≡ (edge' && rest')
-on_kind judged has kind edge edge' rest rest' j h k e r = rw (j, h, k, e, r) refl
+rule-same_kind judged has kind edge edge' rest rest' j h k e r = rw (j, h, k, e, r) refl
