@@ -21,14 +21,15 @@ use Rattle.vme_trace.proofs.Changing.{level-kept, exists_below}
 use Rattle.vme_chains.specs.AcknowledgeRules.{first_changed, passes_on, passes_unasked}
 
 -- no line below `lowest` is changed
-below_changes : (v : Levels) (lowest l : ℕ) (cs : List Change) → are_changes v lowest cs ≡ true → l < lowest
+is_changed-below : (v : Levels) (lowest l : ℕ) (cs : List Change) → are_changes v lowest cs ≡ true → l < lowest
     → is_changed cs l ≡ false
 unfolding are_changes
-below_changes v lowest l [] h b = refl
-below_changes v lowest l (c ∷ cs) h b =
+is_changed-below v lowest l [] h b = refl
+is_changed-below v lowest l (c ∷ cs) h b =
     let parts = and_parts _ _ h in
     let low = and_parts _ _ (and_parts _ _ parts.0).0 in
-    rw (below_changes v (c.line + 1) l cs parts.1 (before lowest c.line l low.0 b)) (unlike lowest c.line l low.0 b)
+    rw (is_changed-below v (c.line + 1) l cs parts.1 (before lowest c.line l low.0 b))
+    (unlike lowest c.line l low.0 b)
   where
     before : (k m l : ℕ) → nat_le k m ≡ true → l < k → l < m + 1
     before k m l h b = grind (arith, nat_tests)
@@ -38,38 +39,53 @@ below_changes v lowest l (c ∷ cs) h b =
 
 -- if p fails on unchanged lines, the first changed line with p is the least line with p
 module _ (v : Levels) (p : ℕ → Bool) (few : v.slots ≤ 21) where
-  here_or_later : (c : Change) (cs : List Change) (b : Bool) → p c.line ≡ b → c.line < line_count → any p 0 c.line
+  -- if no line below that of the change `c` has p, and `first_changed` finds the least line with p after `c`, it finds
+  -- it from `c` on
+  first_changed-here_or_later : (c : Change) (cs : List Change) (b : Bool) → p c.line ≡ b → c.line < line_count
+      → any p 0 c.line
       ≡ false → (b ≡ false → first_changed p cs ≡ least p 0 line_count)
       → cond b (Some c.line) (first_changed p cs) ≡ least p 0 line_count
-  here_or_later c cs true e below before rest = sym (least-is p 0 line_count c.line (omega arith) below e before)
-  here_or_later c cs false e below before rest = rest refl
+  first_changed-here_or_later c cs true e below before rest =
+      sym (least-is p 0 line_count c.line (omega arith) below e before)
+  first_changed-here_or_later c cs false e below before rest = rest refl
 
-  unlike : (a b : ℕ) → b < a → (a == b) ≡ false
-  unlike a b h = grind (arith, nat_tests)
+  -- a number isn't equal to a lesser one
+  eqb-greater : (a b : ℕ) → b < a → (a == b) ≡ false
+  eqb-greater a b h = grind (arith, nat_tests)
 
-  past_first : (l k : ℕ) → l < k → l < k + 1
-  past_first l k h = omega arith
+  -- what is less than k is less than k + 1
+  lt-add_one : (l k : ℕ) → l < k → l < k + 1
+  lt-add_one l k h = omega arith
 
-  kept_else : (c : Change) (cs : List Change) → ((l : ℕ) → is_changed (c ∷ cs) l ≡ false → p l ≡ false) → p c.line
+  -- if p fails on the line of `c` and on the lines that `c` and `cs` leave unchanged, it fails on those that `cs` leave
+  -- unchanged
+  fails-unchanged_else : (c : Change) (cs : List Change) → ((l : ℕ) → is_changed (c ∷ cs) l ≡ false → p l ≡ false)
+      → p c.line
       ≡ false → (l : ℕ) → is_changed cs l ≡ false → p l ≡ false
-  kept_else c cs kept here l h = by_line (c.line == l) refl
+  fails-unchanged_else c cs kept here l h = by_line (c.line == l) refl
     where
       by_line : (b : Bool) → (c.line == l) ≡ b → p l ≡ false
       by_line true e = ap p (sym (eqb-true c.line l e)) ∙ here
       by_line false e = kept l (rw (e, h) refl)
 
-  pub first-least : (lowest : ℕ) (cs : List Change) → are_changes v lowest cs ≡ true
+  -- the first changed line with p is the least line with p
+  pub first_changed-least : (lowest : ℕ) (cs : List Change) → are_changes v lowest cs ≡ true
       → ((l : ℕ) → is_changed cs l ≡ false → p l ≡ false) → first_changed p cs ≡ least p 0 line_count
   unfolding are_changes
-  first-least lowest [] h kept = sym (least-none p 0 line_count (fails-any p 0 line_count (λ l a b. kept l refl)))
-  first-least lowest (c ∷ cs) h kept =
+  first_changed-least lowest [] h kept =
+      sym (least-none p 0 line_count (fails-any p 0 line_count (λ l a b. kept l refl)))
+  first_changed-least lowest (c ∷ cs) h kept =
       let parts = and_parts _ _ h in
       let exists = (and_parts _ _ (and_parts _ _ parts.0).0).1 in
-      here_or_later c cs (p c.line) refl (exists_below v.slots c.line few exists)
+      first_changed-here_or_later c cs (p c.line) refl (exists_below v.slots c.line few exists)
       (fails-any p 0 c.line
-      (λ l a b. kept l (rw (unlike c.line l b, below_changes v (c.line + 1) l cs parts.1 (past_first l c.line b))
+      (λ l a b. kept l (rw (
+        eqb-greater c.line l b,
+        is_changed-below v (c.line + 1) l cs parts.1
+            (lt-add_one l c.line b),
+      )
       refl)))
-      (λ e. first-least (c.line + 1) cs parts.1 (kept_else c cs kept e))
+      (λ e. first_changed-least (c.line + 1) cs parts.1 (fails-unchanged_else c cs kept e))
 
 -- the least line with p, if b
 pub least-when : (p : ℕ → Bool) (b : Bool) (n : ℕ) → least (λ l. p l && b) 0 n ≡ cond b (least p 0 n) None
@@ -77,32 +93,38 @@ least-when p true n = least-alike (λ l. p l && true) p 0 n (λ l from to. and-t
 least-when p false n = least-none (λ l. p l && false) 0 n (fails-any (λ l. p l && false) 0 n
     (λ l from to. and-false (p l)))
 
-pub still_level : (x : Level) → (is_high x && is_low x) ≡ false
-still_level Low = refl
-still_level High = refl
-still_level Unknown = refl
+-- a level isn't both high and low
+pub is_high-no_fall : (x : Level) → (is_high x && is_low x) ≡ false
+is_high-no_fall Low = refl
+is_high-no_fall High = refl
+is_high-no_fall Unknown = refl
 
 -- a line that isn't changed doesn't fall
-pub falls_not : (v w : Levels) (l : ℕ) → level_at w l ≡ level_at v l → falls_between v w l ≡ false
-falls_not v w l e = rw e (still_level (level_at v l))
+pub falls_between-unchanged : (v w : Levels) (l : ℕ) → level_at w l ≡ level_at v l → falls_between v w l ≡ false
+falls_between-unchanged v w l e = rw e (is_high-no_fall (level_at v l))
 
-pub passes_not : (v : Levels) (cs : List Change) (l : ℕ) → is_changed cs l ≡ false → passes_on v (changed v cs) l
+-- a slot whose output isn't changed doesn't pass an acknowledge on
+pub passes_on-unchanged : (v : Levels) (cs : List Change) (l : ℕ) → is_changed cs l ≡ false
+    → passes_on v (changed v cs) l
     ≡ false
-passes_not v cs l h = rw (falls_not v (changed v cs) l (level-kept v cs l h)) (and-false _)
+passes_on-unchanged v cs l h = rw (falls_between-unchanged v (changed v cs) l (level-kept v cs l h)) (and-false _)
 
-pub unasked_not : (v : Levels) (cs : List Change) (l : ℕ) → is_changed cs l ≡ false → passes_unasked v (changed v cs) l
+-- a slot whose output isn't changed doesn't pass one on while its input isn't low
+pub passes_unasked-unchanged : (v : Levels) (cs : List Change) (l : ℕ) → is_changed cs l ≡ false
+    → passes_unasked v (changed v cs) l
     ≡ false
-unasked_not v cs l h = and_left (passes_on v (changed v cs) l) _ (passes_not v cs l h)
+passes_unasked-unchanged v cs l h = and_left (passes_on v (changed v cs) l) _ (passes_on-unchanged v cs l h)
 
-pub none_of : {A : Type 0} (o : Option A) → is_some o ≡ false → o ≡ None
-none_of None h = refl
-none_of (Some x) h = absurd (cc)
+-- an option without a value is `None`
+pub is_some-none : {A : Type 0} (o : Option A) → is_some o ≡ false → o ≡ None
+is_some-none None h = refl
+is_some-none (Some x) h = absurd (cc)
 
 -- if no slot passes an acknowledge on, none does while its input isn't low
-pub unasked_none : (v w : Levels) (cs : List Change) → is_some (first_changed (passes_on v w) cs) ≡ false
+pub passes_unasked-none : (v w : Levels) (cs : List Change) → is_some (first_changed (passes_on v w) cs) ≡ false
     → first_changed (passes_unasked v w) cs ≡ None
-unasked_none v w [] h = refl
-unasked_none v w (c ∷ cs) h = past_first (passes_on v w c.line) refl h (unasked_none v w cs)
+passes_unasked-none v w [] h = refl
+passes_unasked-none v w (c ∷ cs) h = past_first (passes_on v w c.line) refl h (passes_unasked-none v w cs)
   where
     past_first : (b : Bool) → passes_on v w c.line ≡ b
         → is_some (cond b (Some c.line) (first_changed (passes_on v w) cs)) ≡ false

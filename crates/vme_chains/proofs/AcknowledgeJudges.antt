@@ -29,9 +29,10 @@ use Rattle.vme_chains.specs.AcknowledgeRules.{first_changed, memory_after, passe
 use Rattle.vme_chains.specs.AcknowledgeRules.{is_addressed}
 use Rattle.vme_chains.specs.declared.acknowledge.AcknowledgeMemory.{AcknowledgeMemory}
 use Rattle.vme_chains.specs.declared.acknowledge.PassingSlots.{PassingSlots}
-use Rattle.vme_chains.proofs.AcknowledgeBreaks.{least_input, least_strobes, least_answer}
-use Rattle.vme_chains.proofs.AcknowledgeChanges.{first-least, none_of, passes_not, unasked_none, unasked_not}
-use Rattle.vme_chains.proofs.AcknowledgeMeaning.{Holds, holds_start, holds_next, memory_same}
+use Rattle.vme_chains.proofs.AcknowledgeBreaks.{least-I1, least-I2, least-I3}
+use Rattle.vme_chains.proofs.AcknowledgeChanges.{first_changed-least, is_some-none, passes_on-unchanged}
+use Rattle.vme_chains.proofs.AcknowledgeChanges.{passes_unasked-none, passes_unasked-unchanged}
+use Rattle.vme_chains.proofs.AcknowledgeMeaning.{Holds, Holds-start, Holds-next, memory_after-unchanged}
 
 module _ (t : Trace) (stretch : Stretch) (ok : malformed_step t ≡ None) (few : t.opening.slots ≤ 21)
     (facts : IsStretch t stretch) where
@@ -64,8 +65,8 @@ module _ (t : Trace) (stretch : Stretch) (ok : malformed_step t ≡ None) (few :
     first_changed-passes_on =
         subst (λ (w : Levels). first_changed (passes_on old w) changes ≡ least (passes_on old w) 0 line_count)
         (sym (levels_step t n within))
-        (first-least old (passes_on old (changed old changes)) few_slots 0 changes (changes_fit t n ok within)
-        (passes_not old changes))
+        (first_changed-least old (passes_on old (changed old changes)) few_slots 0 changes (changes_fit t n ok within)
+        (passes_on-unchanged old changes))
 
     -- the first changed line for which `passes_unasked` holds is the least of all lines for which it holds
     first_changed-passes_unasked : first_changed (passes_unasked old new) changes
@@ -73,8 +74,9 @@ module _ (t : Trace) (stretch : Stretch) (ok : malformed_step t ≡ None) (few :
     first_changed-passes_unasked =
         subst (λ (w : Levels). first_changed (passes_unasked old w) changes ≡ least (passes_unasked old w) 0 line_count)
         (sym (levels_step t n within))
-        (first-least old (passes_unasked old (changed old changes)) few_slots 0 changes (changes_fit t n ok within)
-        (unasked_not old changes))
+        (first_changed-least old (passes_unasked old (changed old changes)) few_slots 0 changes
+        (changes_fit t n ok within)
+        (passes_unasked-unchanged old changes))
 
     -- the machine's step from n, with an observation or without
     next_is : (m : AcknowledgeMemory) → Holds t stretch n m
@@ -104,15 +106,15 @@ module _ (t : Trace) (stretch : Stretch) (ok : malformed_step t ≡ None) (few :
         by_observation false e =
             let still = or_parts (is_some (first_changed (passes_on old new) changes)) (changes_memory old new) e in
             rw (
-              unasked_none old new changes still.0,
-              none_of (first_changed (passes_on old new) changes) still.0,
-              memory_same t stretch facts n from before m h still.1,
+              passes_unasked-none old new changes still.0,
+              is_some-none (first_changed (passes_on old new) changes) still.0,
+              memory_after-unchanged t stretch facts n from before m h still.1,
             ) refl
 
     -- the memory is right of the instant n + 1, if it is right of n
     holds_after : (m : AcknowledgeMemory) → Holds t stretch n m → Holds t stretch (suc n) (next_at step t m n).memory
     holds_after m h = subst (λ (x : Next AcknowledgeMemory). Holds t stretch (suc n) x.memory) (sym (next_is m h))
-        (holds_next t stretch facts n from before m h)
+        (Holds-next t stretch facts n from before m h)
 
     -- the machine's fault at instant n + 1 is the first broken rule
     fault_is : (m : AcknowledgeMemory) → Holds t stretch n m → option_map (break_of_fault (suc n) (time_at t (suc n)))
@@ -122,9 +124,9 @@ module _ (t : Trace) (stretch : Stretch) (ok : malformed_step t ≡ None) (few :
         ap (λ (x : Next AcknowledgeMemory). option_map (break_of_fault (suc n) (time_at t (suc n))) x.fault)
         (next_is m h)
         ∙ rw (
-          least_input t stretch n from before,
-          least_strobes t stretch n from before,
-          least_answer t stretch n from before m
+          least-I1 t stretch n from before,
+          least-I2 t stretch n from before,
+          least-I3 t stretch n from before m
               h,
           first_changed-passes_unasked,
           first_changed-passes_on,
@@ -172,14 +174,14 @@ module _ (t : Trace) (stretch : Stretch) (ok : malformed_step t ≡ None) (few :
   -- the memory is right of each instant of the stretch
   holds_at : (n : ℕ) → stretch.start ≤ n → n < stretch.end → n ≤ length t.steps → Holds t stretch n (memory_at n)
   holds_at zero from before within = let e : stretch.start ≡ 0 = omega arith in
-      subst (λ k. Holds t stretch k (acknowledge_begin (levels_at t stretch.start))) e (holds_start t stretch facts)
+      subst (λ k. Holds t stretch k (acknowledge_begin (levels_at t stretch.start))) e (Holds-start t stretch facts)
   holds_at (suc n) from before within =
       elim (first_or_later stretch.start n from) [
         | inl first ↦
             let e : stretch.start ≡ suc n = omega arith in
             rw (memory_early step t (acknowledge_begin (levels_at t stretch.start)) stretch.start (suc n) first)
             (subst (λ k. Holds t stretch k (acknowledge_begin (levels_at t stretch.start))) e
-            (holds_start t stretch facts))
+            (Holds-start t stretch facts))
         | inr later ↦ rw (le-ltb n stretch.start later) (holds_after n later before (omega arith) (memory_at n)
             (holds_at n later (omega arith) (omega arith)))
       ]

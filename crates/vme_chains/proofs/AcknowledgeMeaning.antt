@@ -1,4 +1,5 @@
--- What the memory (state of the automaton) means at an instant, and that a step keeps it right.
+-- What the memory of the acknowledge monitor (the state of its automaton) means at an instant, and that a step keeps it
+-- right.
 use Rattle.std.proofs.Common.{◌≡◌, ℕ, suc, ◌+◌, ◌<◌, ◌≤◌, Bool, true, false, ◌||◌, ◌&&◌, not, refl, sym, ◌∙◌, ap}
 use Rattle.std.proofs.Common.{arith, cond, lit<}
 use Rattle.std.specs.Prelude.{Some, nat_le}
@@ -47,16 +48,17 @@ module _ (t : Trace) (stretch : Stretch) where
     pub cycle : low t AS n ≡ true → HasOpenCycle n m.answered_by_dtack
 
   -- the memory says whether DTACK* answered a transfer of the cycle of n up to n
-  pub in_cycle_is : (n : ℕ) (m : AcknowledgeMemory) → Holds n m → low t AS n ≡ true → in_cycle t stretch
+  pub in_cycle-answered_by_dtack : (n : ℕ) (m : AcknowledgeMemory) → Holds n m → low t AS n ≡ true → in_cycle t stretch
       (λ i. any dtack_answers i (suc n)) n ≡ m.answered_by_dtack
   unfolding in_cycle
-  in_cycle_is n m h on = let o = h.cycle on in rw (o.last) o.reply
+  in_cycle-answered_by_dtack n m h on = let o = h.cycle on in rw (o.last) o.reply
 
-  start_after : (n : ℕ) → cycle_of t stretch (suc n) ≡ cond (nat_le (stretch.start + 1) (suc n)
+  -- the cycle of n + 1 is the one that starts there, if one does, else that of n
+  cycle_of-next : (n : ℕ) → cycle_of t stretch (suc n) ≡ cond (nat_le (stretch.start + 1) (suc n)
       && cycle_starts t stretch
       (suc n)) (Some (suc n)) (cycle_of t stretch n)
   unfolding cycle_of
-  start_after n =
+  cycle_of-next n =
       greatest-step (cycle_starts t stretch) (stretch.start + 1) (suc n)
       ∙ ap (cond (nat_le (stretch.start + 1) (suc n) && cycle_starts t stretch (suc n)) (Some (suc n)))
       (ap (greatest (cycle_starts t stretch) (stretch.start + 1)) (more n))
@@ -64,43 +66,49 @@ module _ (t : Trace) (stretch : Stretch) where
       more : (n : ℕ) → suc n ≡ n + 1
       more n = omega arith
 
-  start_within : (n i : ℕ) → cycle_of t stretch n ≡ Some i → i < n + 1
+  -- the cycle of n starts at n or before
+  cycle_of-within : (n i : ℕ) → cycle_of t stretch n ≡ Some i → i < n + 1
   unfolding cycle_of
-  start_within n i e = greatest-below (cycle_starts t stretch) (stretch.start + 1) (n + 1) i e
+  cycle_of-within n i e = greatest-below (cycle_starts t stretch) (stretch.start + 1) (n + 1) i e
 
   module _ (facts : IsStretch t stretch) where
-    strobe_high_at_start : is_high (level_at (levels_at t stretch.start) AS) ≡ true
+    -- the address strobe is high at the start of the stretch
+    is_high-as_at_start : is_high (level_at (levels_at t stretch.start) AS) ≡ true
     unfolding is_idle
-    strobe_high_at_start = not-false _ (any-fails (λ k. not (is_idle_on (levels_at t stretch.start) k)) 0 line_count AS
+    is_high-as_at_start = not-false _ (any-fails (λ k. not (is_idle_on (levels_at t stretch.start) k)) 0 line_count AS
         (not-true _ facts.idle) (omega arith) (lit< tt))
 
     -- the memory is right of the start of a stretch, at which no transfer is open
-    pub holds_start : Holds stretch.start (acknowledge_begin (levels_at t stretch.start))
+    pub Holds-start : Holds stretch.start (acknowledge_begin (levels_at t stretch.start))
     unfolding low
-    holds_start = record {
+    Holds-start = record {
       transfer = says_start t stretch facts.reads;
       idle = λ off. refl;
       cycle = λ on. absurd
           (clash (is_low (level_at (levels_at t stretch.start) AS)) on
-          (high_not_low (level_at (levels_at t stretch.start) AS) strobe_high_at_start));
+          (high_not_low (level_at (levels_at t stretch.start) AS) is_high-as_at_start));
     }
 
     -- the step to n + 1
     module _ (n : ℕ) (from : stretch.start ≤ n) (before : suc n < stretch.end) where
+      -- the levels before the step
       abbrev pub old : Levels
       old = levels_at t n
 
+      -- the levels after the step
       abbrev pub new : Levels
       new = levels_at t (suc n)
 
-      falls_is : (l : ℕ) → falls t l (suc n) ≡ falls_between old new l
+      -- a line falls at n + 1 just if it falls between the levels
+      falls-next : (l : ℕ) → falls t l (suc n) ≡ falls_between old new l
       unfolding falls high low
-      falls_is l = rw (suc-sub-one n) refl
+      falls-next l = rw (suc-sub-one n) refl
 
-      dtack_answers_is : (m : TransferPhase) → IsTransferPhase t stretch n m → dtack_answers (suc n)
+      -- DTACK answers a transfer at n + 1 just if the phase of the transfer and the levels say so
+      dtack_answers-next : (m : TransferPhase) → IsTransferPhase t stretch n m → dtack_answers (suc n)
           ≡ is_answered_by_dtack m old
           new
-      dtack_answers_is m is_phase = rw (is_answer_is t stretch facts.reads n from before m is_phase, falls_is DTACK)
+      dtack_answers-next m is_phase = rw (is_answer_is t stretch facts.reads n from before m is_phase, falls-next DTACK)
           (by_tests (is_unanswered (entered m old new)) (falls_between old new DTACK) (falls_between old new BERR))
         where
           by_tests : (u d b : Bool) → ((u && (d || b)) && d) ≡ (u && d)
@@ -109,30 +117,34 @@ module _ (t : Trace) (stretch : Stretch) where
           by_tests true false false = refl
           by_tests false d b = refl
 
-      starts_is : cycle_starts t stretch (suc n) ≡ falls_between old new AS
+      -- a cycle starts at n + 1 just if the address strobe falls
+      cycle_starts-next : cycle_starts t stretch (suc n) ≡ falls_between old new AS
       unfolding cycle_starts
-      starts_is = rw (is_judged-holds stretch (suc n) (omega arith) before, falls_is AS) refl
+      cycle_starts-next = rw (is_judged-holds stretch (suc n) (omega arith) before, falls-next AS) refl
 
-      in_range : nat_le (stretch.start + 1) (suc n) ≡ true
-      in_range = grind (arith, nat_tests)
+      -- n + 1 is after the start of the stretch
+      nat_le-next : nat_le (stretch.start + 1) (suc n) ≡ true
+      nat_le-next = grind (arith, nat_tests)
 
-      next_cycle : cycle_of t stretch (suc n) ≡ cond (falls_between old new AS) (Some (suc n)) (cycle_of t stretch n)
-      next_cycle = start_after n ∙ rw (in_range, starts_is) refl
+      -- the cycle of n + 1 is the one that starts there, if the address strobe falls, else that of n
+      cycle_of-falls : cycle_of t stretch (suc n)
+          ≡ cond (falls_between old new AS) (Some (suc n)) (cycle_of t stretch n)
+      cycle_of-falls = cycle_of-next n ∙ rw (nat_le-next, cycle_starts-next) refl
 
       -- the cycle of n runs on at n + 1
-      goes_on : (m : AcknowledgeMemory) → Holds n m → falls_between old new AS ≡ false → low t AS n ≡ true
+      HasOpenCycle-goes_on : (m : AcknowledgeMemory) → Holds n m → falls_between old new AS ≡ false → low t AS n ≡ true
           → is_low (level_at new AS) ≡ true → HasOpenCycle (suc n) (answered_by_dtack_after m old new)
-      goes_on m h no_fall on stays =
+      HasOpenCycle-goes_on m h no_fall on stays =
           let o = h.cycle on in
           record {
             start = o.start;
-            last = next_cycle ∙ rw no_fall o.last;
+            last = cycle_of-falls ∙ rw no_fall o.last;
             reply =
                 any-suc dtack_answers o.start (suc n)
                 ∙ rw (
                   o.reply,
-                  within o.start n (start_within n o.start o.last),
-                  dtack_answers_is m.transfer h.transfer,
+                  within o.start n (cycle_of-within n o.start o.last),
+                  dtack_answers-next m.transfer h.transfer,
                   stays,
                 ) refl;
           }
@@ -141,109 +153,125 @@ module _ (t : Trace) (stretch : Stretch) where
           within i n h = grind (arith, nat_tests)
 
       -- a cycle starts at n + 1
-      starts_here : (m : AcknowledgeMemory) → IsTransferPhase t stretch n m.transfer → m.answered_by_dtack ≡ false
+      HasOpenCycle-starts : (m : AcknowledgeMemory) → IsTransferPhase t stretch n m.transfer → m.answered_by_dtack
+          ≡ false
           → falls_between old
           new AS ≡ true → is_low (level_at new AS) ≡ true → HasOpenCycle (suc n) (answered_by_dtack_after m old new)
-      starts_here m is_phase fresh fall on =
+      HasOpenCycle-starts m is_phase fresh fall on =
           let empty : any dtack_answers (suc n) (suc n) ≡ false = fails-any dtack_answers (suc n) (suc n)
           (λ i a b. absurd (omega arith)) in
           record {
             start = suc n;
-            last = next_cycle ∙ rw fall refl;
+            last = cycle_of-falls ∙ rw fall refl;
             reply =
                 any-suc dtack_answers (suc n) (suc n)
-                ∙ rw (empty, itself (suc n), dtack_answers_is m.transfer is_phase, fresh, on) refl;
+                ∙ rw (empty, itself (suc n), dtack_answers-next m.transfer is_phase, fresh, on) refl;
           }
         where
           itself : (i : ℕ) → nat_le i i ≡ true
           itself i = grind (arith, nat_tests)
 
-      falls_if_known : (x y : Level) → is_known x ≡ true → is_low x ≡ false → is_low y ≡ true → (is_high x && is_low y)
+      -- a known level that isn't low, and is low after the step, falls
+      falls-known_not_low : (x y : Level) → is_known x ≡ true → is_low x ≡ false → is_low y ≡ true
+          → (is_high x && is_low y)
           ≡ true
-      falls_if_known High y h k e = e
-      falls_if_known Low y h k e = absurd (cc)
-      falls_if_known Unknown y h k e = absurd (cc)
+      falls-known_not_low High y h k e = e
+      falls-known_not_low Low y h k e = absurd (cc)
+      falls-known_not_low Unknown y h k e = absurd (cc)
 
-      no_fall_from_low : (x y : Level) → is_low x ≡ true → (is_high x && is_low y) ≡ false
-      no_fall_from_low Low y h = refl
-      no_fall_from_low High y h = absurd (cc)
-      no_fall_from_low Unknown y h = absurd (cc)
+      -- a low level doesn't fall
+      falls-not_from_low : (x y : Level) → is_low x ≡ true → (is_high x && is_low y) ≡ false
+      falls-not_from_low Low y h = refl
+      falls-not_from_low High y h = absurd (cc)
+      falls-not_from_low Unknown y h = absurd (cc)
 
-      strobe_known : is_known (level_at old AS) ≡ true
-      strobe_known = facts.known n AS from (omega arith) (lit< tt) refl
+      -- the address strobe is known before the step
+      is_known-as : is_known (level_at old AS) ≡ true
+      is_known-as = facts.known n AS from (omega arith) (lit< tt) refl
 
-      cycle_next : (m : AcknowledgeMemory) → Holds n m → low t AS (suc n) ≡ true
+      -- if the address strobe is low at n + 1, the cycle there is open, and the memory says whether DTACK answered a
+      -- transfer of it
+      HasOpenCycle-next : (m : AcknowledgeMemory) → Holds n m → low t AS (suc n) ≡ true
           → HasOpenCycle (suc n) (answered_by_dtack_after m old new)
       unfolding low
-      cycle_next m h on = by_level (is_low (level_at old AS)) refl
+      HasOpenCycle-next m h on = by_level (is_low (level_at old AS)) refl
         where
           by_level : (b : Bool) → is_low (level_at old AS) ≡ b → HasOpenCycle (suc n)
               (answered_by_dtack_after m old new)
-          by_level true e = goes_on m h (no_fall_from_low (level_at old AS) (level_at new AS) e) e on
-          by_level false e = starts_here m h.transfer (h.idle e) (falls_if_known (level_at old AS) (level_at new AS)
-              strobe_known
+          by_level true e = HasOpenCycle-goes_on m h (falls-not_from_low (level_at old AS) (level_at new AS) e) e on
+          by_level false e =
+              HasOpenCycle-starts m h.transfer (h.idle e) (falls-known_not_low (level_at old AS) (level_at new AS)
+              is_known-as
               e on) on
 
-      idle_next : (m : AcknowledgeMemory) → low t AS (suc n) ≡ false → answered_by_dtack_after m old new ≡ false
+      -- if the address strobe isn't low at n + 1, the memory says that DTACK answered none
+      answered_by_dtack-idle : (m : AcknowledgeMemory) → low t AS (suc n) ≡ false → answered_by_dtack_after m old new
+          ≡ false
       unfolding low
-      idle_next m off = rw off refl
+      answered_by_dtack-idle m off = rw off refl
 
       -- the memory is right of n + 1
-      pub holds_next : (m : AcknowledgeMemory) → Holds n m → Holds (suc n) (memory_after m old new)
-      holds_next m h = record {
+      pub Holds-next : (m : AcknowledgeMemory) → Holds n m → Holds (suc n) (memory_after m old new)
+      Holds-next m h = record {
         transfer = tracked_is t stretch facts.reads n from before m.transfer h.transfer;
         idle
-            = idle_next m;
-        cycle = cycle_next m h;
+            = answered_by_dtack-idle m;
+        cycle = HasOpenCycle-next m h;
       }
 
       -- if both strobes are high at n, no transfer is open
-      closed_there : (p : TransferPhase) → IsTransferPhase t stretch n p → strobes_high_in old ≡ true → p ≡ Closed
+      transfer-closed : (p : TransferPhase) → IsTransferPhase t stretch n p → strobes_high_in old ≡ true → p ≡ Closed
       unfolding high
-      closed_there Closed is_phase h = refl
-      closed_there Reading is_phase h = absurd (clash (strobes_high t n) h
+      transfer-closed Closed is_phase h = refl
+      transfer-closed Reading is_phase h = absurd (clash (strobes_high t n) h
           (is_phase.1.still n is_phase.1.within (omega arith)))
-      closed_there Writing is_phase h = absurd (clash (strobes_high t n) h
+      transfer-closed Writing is_phase h = absurd (clash (strobes_high t n) h
           (is_phase.1.still n is_phase.1.within (omega arith)))
-      closed_there Answered is_phase h = absurd (clash (strobes_high t n) h
+      transfer-closed Answered is_phase h = absurd (clash (strobes_high t n) h
           (is_phase.2.still n is_phase.2.within (omega arith)))
 
-      same_transfer : (p q : TransferPhase) (b l h a : Bool) → (b ≡ true → p ≡ Closed) → cond b l h ≡ false → a ≡ false
+      -- where no transfer starts, closes or is answered, the phase of the transfer stays
+      tracked-unchanged : (p q : TransferPhase) (b l h a : Bool) → (b ≡ true → p ≡ Closed) → cond b l h ≡ false → a
+          ≡ false
           → cond h Closed (answered_by a (cond (b && l) q p)) ≡ p
-      same_transfer p q true l h a closed still none = let off : l ≡ false = still in
+      tracked-unchanged p q true l h a closed still none = let off : l ≡ false = still in
           rw (off, none) (either h (closed refl))
         where
           either : (h : Bool) → p ≡ Closed → cond h Closed p ≡ p
           either true e = sym e
           either false e = refl
-      same_transfer p q false l h a closed still none = let off : h ≡ false = still in rw (off, none) refl
+      tracked-unchanged p q false l h a closed still none = let off : h ≡ false = still in rw (off, none) refl
 
-      same_answered_by_dtack : (x y : Level) (a u : Bool) → is_known y ≡ true → (is_low x ≡ false → a ≡ false)
+      -- where the address strobe doesn't rise and DTACK doesn't fall, whether DTACK answered a transfer of the cycle
+      -- stays
+      answered_by_dtack-unchanged : (x y : Level) (a u : Bool) → is_known y ≡ true → (is_low x ≡ false → a ≡ false)
           → (is_low x && is_high y) ≡ false → (is_low y && (a || (u && false))) ≡ a
-      same_answered_by_dtack x Unknown a u k idle r = absurd (cc)
-      same_answered_by_dtack x High false u k idle r = refl
-      same_answered_by_dtack x Low false true k idle r = refl
-      same_answered_by_dtack x Low false false k idle r = refl
-      same_answered_by_dtack x Low true u k idle r = refl
-      same_answered_by_dtack Low High true u k idle r = absurd (cc)
-      same_answered_by_dtack High High true u k idle r = sym (idle refl)
-      same_answered_by_dtack Unknown High true u k idle r = sym (idle refl)
+      answered_by_dtack-unchanged x Unknown a u k idle r = absurd (cc)
+      answered_by_dtack-unchanged x High false u k idle r = refl
+      answered_by_dtack-unchanged x Low false true k idle r = refl
+      answered_by_dtack-unchanged x Low false false k idle r = refl
+      answered_by_dtack-unchanged x Low true u k idle r = refl
+      answered_by_dtack-unchanged Low High true u k idle r = absurd (cc)
+      answered_by_dtack-unchanged High High true u k idle r = sym (idle refl)
+      answered_by_dtack-unchanged Unknown High true u k idle r = sym (idle refl)
 
       -- if `changes_memory` is false, the memory stays
-      pub memory_same : (m : AcknowledgeMemory) → Holds n m → changes_memory old new ≡ false → memory_after m old new
+      pub memory_after-unchanged : (m : AcknowledgeMemory) → Holds n m → changes_memory old new ≡ false
+          → memory_after m old new
           ≡ m
       unfolding low
-      memory_same m h still =
+      memory_after-unchanged m h still =
           let address = or_parts (changes_strobes old new || answer_between old new) (is_low (level_at old AS)
           && is_high (level_at new AS)) still in
           let answer = or_parts (changes_strobes old new) (answer_between old new) address.0 in
           let done = or_parts (falls_between old new DTACK) (falls_between old new BERR) answer.1 in
           rw (
-            same_transfer m.transfer (cond (is_low (level_at new WRITE)) Writing Reading) (strobes_high_in old)
-                (strobe_low_in new) (strobes_high_in new) (answer_between old new) (closed_there m.transfer h.transfer)
+            tracked-unchanged m.transfer (cond (is_low (level_at new WRITE)) Writing Reading) (strobes_high_in old)
+                (strobe_low_in new) (strobes_high_in new) (answer_between old new)
+                (transfer-closed m.transfer h.transfer)
                 answer.0 answer.1,
             done.0,
-            same_answered_by_dtack (level_at old AS) (level_at new AS) m.answered_by_dtack
+            answered_by_dtack-unchanged (level_at old AS) (level_at new AS) m.answered_by_dtack
                 (is_unanswered (entered m.transfer old new)) (facts.known (suc n) AS (omega arith) before (lit< tt)
                 refl)
                 h.idle address.1,
