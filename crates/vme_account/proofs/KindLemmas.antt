@@ -17,6 +17,7 @@ use Rattle.vme_account.specs.declared.row_kind.RowKind.TheVariants as kind
 abbrev pub weight : RowKind → Row → ℕ
 weight k r = one_if (is_of k r)
 
+-- the row of a tenure that is open at the start
 open_tenure : (k : RowKind) (i : ℕ) (e : Option ℕ) → weight k (row.OpenTenure i e) ≡ weight k (row.OpenTenure i None)
 open_tenure kind.OpenTenures i e = refl
 open_tenure (kind.Tenures level slot) i e = refl
@@ -31,6 +32,7 @@ open_tenure kind.Errors i e = refl
 open_tenure kind.Pending i e = refl
 open_tenure kind.Resets i e = refl
 
+-- the row of a tenure that starts
 tenure : (k : RowKind) (i granted taken : ℕ) (e : Option ℕ)
     → weight k (row.Tenure i granted taken e) ≡ weight k (row.Tenure i granted taken None)
 tenure kind.OpenTenures i granted taken e = refl
@@ -46,69 +48,74 @@ tenure kind.Errors i granted taken e = refl
 tenure kind.Pending i granted taken e = refl
 tenure kind.Resets i granted taken e = refl
 
-addressed : (k : RowKind) (i : ℕ) (c : Class) (modifier address : ℕ) (e : Option ℕ)
+-- the row of a cycle with an address
+weight-addressed_cycle : (k : RowKind) (i : ℕ) (c : Class) (modifier address : ℕ) (e : Option ℕ)
     → weight k (row.AddressedCycle i c modifier address e) ≡ weight k (row.AddressedCycle i c modifier address None)
-addressed kind.OpenTenures i c modifier address e = refl
-addressed (kind.Tenures level slot) i c modifier address e = refl
-addressed kind.Singles i c modifier address e = refl
-addressed kind.Blocks i c modifier address e = refl
-addressed kind.Frees i c modifier address e = refl
-addressed kind.Acknowledges i c modifier address e = refl
-addressed kind.Reads i c modifier address e = refl
-addressed kind.Writes i c modifier address e = refl
-addressed kind.Done i c modifier address e = refl
-addressed kind.Errors i c modifier address e = refl
-addressed kind.Pending i c modifier address e = refl
-addressed kind.Resets i c modifier address e = refl
+weight-addressed_cycle kind.OpenTenures i c modifier address e = refl
+weight-addressed_cycle (kind.Tenures level slot) i c modifier address e = refl
+weight-addressed_cycle kind.Singles i c modifier address e = refl
+weight-addressed_cycle kind.Blocks i c modifier address e = refl
+weight-addressed_cycle kind.Frees i c modifier address e = refl
+weight-addressed_cycle kind.Acknowledges i c modifier address e = refl
+weight-addressed_cycle kind.Reads i c modifier address e = refl
+weight-addressed_cycle kind.Writes i c modifier address e = refl
+weight-addressed_cycle kind.Done i c modifier address e = refl
+weight-addressed_cycle kind.Errors i c modifier address e = refl
+weight-addressed_cycle kind.Pending i c modifier address e = refl
+weight-addressed_cycle kind.Resets i c modifier address e = refl
 
-free : (k : RowKind) (i modifier : ℕ) (e : Option ℕ)
+-- the row of a free cycle
+weight-free_cycle : (k : RowKind) (i modifier : ℕ) (e : Option ℕ)
     → weight k (row.FreeCycle i modifier e) ≡ weight k (row.FreeCycle i modifier None)
-free kind.OpenTenures i modifier e = refl
-free (kind.Tenures level slot) i modifier e = refl
-free kind.Singles i modifier e = refl
-free kind.Blocks i modifier e = refl
-free kind.Frees i modifier e = refl
-free kind.Acknowledges i modifier e = refl
-free kind.Reads i modifier e = refl
-free kind.Writes i modifier e = refl
-free kind.Done i modifier e = refl
-free kind.Errors i modifier e = refl
-free kind.Pending i modifier e = refl
-free kind.Resets i modifier e = refl
+weight-free_cycle kind.OpenTenures i modifier e = refl
+weight-free_cycle (kind.Tenures level slot) i modifier e = refl
+weight-free_cycle kind.Singles i modifier e = refl
+weight-free_cycle kind.Blocks i modifier e = refl
+weight-free_cycle kind.Frees i modifier e = refl
+weight-free_cycle kind.Acknowledges i modifier e = refl
+weight-free_cycle kind.Reads i modifier e = refl
+weight-free_cycle kind.Writes i modifier e = refl
+weight-free_cycle kind.Done i modifier e = refl
+weight-free_cycle kind.Errors i modifier e = refl
+weight-free_cycle kind.Pending i modifier e = refl
+weight-free_cycle kind.Resets i modifier e = refl
 
-interrupt : (k : RowKind) (i asked : ℕ) (e : Option ℕ)
+-- the row of an interrupt acknowledge
+weight-interrupt_cycle : (k : RowKind) (i asked : ℕ) (e : Option ℕ)
     → weight k (row.InterruptCycle i asked e) ≡ weight k (row.InterruptCycle i asked None)
-interrupt kind.OpenTenures i asked e = refl
-interrupt (kind.Tenures level slot) i asked e = refl
-interrupt kind.Singles i asked e = refl
-interrupt kind.Blocks i asked e = refl
-interrupt kind.Frees i asked e = refl
-interrupt kind.Acknowledges i asked e = refl
-interrupt kind.Reads i asked e = refl
-interrupt kind.Writes i asked e = refl
-interrupt kind.Done i asked e = refl
-interrupt kind.Errors i asked e = refl
-interrupt kind.Pending i asked e = refl
-interrupt kind.Resets i asked e = refl
+weight-interrupt_cycle kind.OpenTenures i asked e = refl
+weight-interrupt_cycle (kind.Tenures level slot) i asked e = refl
+weight-interrupt_cycle kind.Singles i asked e = refl
+weight-interrupt_cycle kind.Blocks i asked e = refl
+weight-interrupt_cycle kind.Frees i asked e = refl
+weight-interrupt_cycle kind.Acknowledges i asked e = refl
+weight-interrupt_cycle kind.Reads i asked e = refl
+weight-interrupt_cycle kind.Writes i asked e = refl
+weight-interrupt_cycle kind.Done i asked e = refl
+weight-interrupt_cycle kind.Errors i asked e = refl
+weight-interrupt_cycle kind.Pending i asked e = refl
+weight-interrupt_cycle kind.Resets i asked e = refl
 
-transfer : (k : RowKind) (i : ℕ) (d : Direction) (e : Option ℕ) (r cycle : ℕ) (a : TransferAnswer)
+-- the row of an answered transfer
+weight-transfer : (k : RowKind) (i : ℕ) (d : Direction) (e : Option ℕ) (r cycle : ℕ) (a : TransferAnswer)
     → weight k (row.Transfer d (marked_line a.line) i cycle r e a.lanes)
     ≡ weight k (row.Transfer d (marked_line a.line) i cycle r None a.lanes)
-transfer kind.OpenTenures i d e r cycle a = refl
-transfer (kind.Tenures level slot) i d e r cycle a = refl
-transfer kind.Singles i d e r cycle a = refl
-transfer kind.Blocks i d e r cycle a = refl
-transfer kind.Frees i d e r cycle a = refl
-transfer kind.Acknowledges i d e r cycle a = refl
-transfer kind.Reads i d e r cycle a = refl
-transfer kind.Writes i d e r cycle a = refl
-transfer kind.Done i d e r cycle a = refl
-transfer kind.Errors i d e r cycle a = refl
-transfer kind.Pending i d e r cycle a = refl
-transfer kind.Resets i d e r cycle a = refl
+weight-transfer kind.OpenTenures i d e r cycle a = refl
+weight-transfer (kind.Tenures level slot) i d e r cycle a = refl
+weight-transfer kind.Singles i d e r cycle a = refl
+weight-transfer kind.Blocks i d e r cycle a = refl
+weight-transfer kind.Frees i d e r cycle a = refl
+weight-transfer kind.Acknowledges i d e r cycle a = refl
+weight-transfer kind.Reads i d e r cycle a = refl
+weight-transfer kind.Writes i d e r cycle a = refl
+weight-transfer kind.Done i d e r cycle a = refl
+weight-transfer kind.Errors i d e r cycle a = refl
+weight-transfer kind.Pending i d e r cycle a = refl
+weight-transfer kind.Resets i d e r cycle a = refl
 
-pub kind-ignores-end : (k : RowKind) → IgnoresEnd (weight k)
-kind-ignores-end k = record {
+-- whether a row is of a kind doesn't depend on where the row ends
+pub IgnoresEnd-weight : (k : RowKind) → IgnoresEnd (weight k)
+IgnoresEnd-weight k = record {
   open_tenure = open_tenure k;
   tenure = tenure k;
   cycle = by_class;
@@ -117,12 +124,12 @@ kind-ignores-end k = record {
   where
     by_class : (i modifier address : ℕ) (e : Option ℕ) (c : Class)
         → weight k (marked_cycle i modifier address e c) ≡ weight k (marked_cycle i modifier address None c)
-    by_class i modifier address e class.S = addressed k i class.S modifier _ e
-    by_class i modifier address e class.K = addressed k i class.K modifier _ e
-    by_class i modifier address e class.F = free k i modifier e
-    by_class i modifier address e class.I = interrupt k i _ e
+    by_class i modifier address e class.S = weight-addressed_cycle k i class.S modifier _ e
+    by_class i modifier address e class.K = weight-addressed_cycle k i class.K modifier _ e
+    by_class i modifier address e class.F = weight-free_cycle k i modifier e
+    by_class i modifier address e class.I = weight-interrupt_cycle k i _ e
 
     by_cycle : (i : ℕ) (d : Direction) (e : Option ℕ) (r : ℕ) (latest : Option ℕ) (a : TransferAnswer)
         → weight k (marked_answer i d e r latest a) ≡ weight k (marked_answer i d None r latest a)
     by_cycle i d e r None a = refl
-    by_cycle i d e r (Some cycle) a = transfer k i d e r cycle a
+    by_cycle i d e r (Some cycle) a = weight-transfer k i d e r cycle a

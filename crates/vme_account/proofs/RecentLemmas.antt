@@ -1,4 +1,4 @@
--- The last steps of a recording, after one more step.
+-- The last steps of a recording after one more step, and what follows from them of its levels and times.
 use Rattle.std.proofs.Common.{◌≡◌, ◌+◌, ◌-◌, ◌<◌, ◌≤◌, ◌++◌, ◌∷◌, [], ℕ, suc, zero, List, drop, length, refl, sym, ap}
 use Rattle.std.proofs.Common.{◌∙◌, append_assoc, arith, length-append, length-drop}
 use Rattle.std.specs.Prelude.{None, Some, slice_get}
@@ -13,90 +13,107 @@ use Rattle.vme_account.specs.RecentSteps.{levels_of, with_step}
 
 -- ---- the earlier instants stay
 
-get_before : (xs ys : List Step) (n : ℕ) → n < length xs → slice_get (xs ++ ys) n ≡ slice_get xs n
-get_before [] ys n lt = absurd (omega (arith, lt))
-get_before (x ∷ xs) ys zero lt = refl
-get_before (x ∷ xs) ys (suc n) lt = get_before xs ys n (omega (arith, lt))
+-- elements at the end leave those before
+slice_get-append : (xs ys : List Step) (n : ℕ) → n < length xs → slice_get (xs ++ ys) n ≡ slice_get xs n
+slice_get-append [] ys n lt = absurd (omega (arith, lt))
+slice_get-append (x ∷ xs) ys zero lt = refl
+slice_get-append (x ∷ xs) ys (suc n) lt = slice_get-append xs ys n (omega (arith, lt))
 
-pub levels-stay : (t : Trace) (s : Step) (n : ℕ) → n ≤ length t.steps → levels_at (with_step t s) n ≡ levels_at t n
-levels-stay t s n le =
+-- one more step leaves the levels of the instants before it
+pub levels_at-with_step : (t : Trace) (s : Step) (n : ℕ) → n ≤ length t.steps → levels_at (with_step t s) n
+    ≡ levels_at t n
+levels_at-with_step t s n le =
     levels_at-taken (with_step t s) n
     ∙ ap (levels_after t.opening) (take-append-le n t.steps (s ∷ []) le) ∙ sym (levels_at-taken t n)
 
-pub time-stays : (t : Trace) (s : Step) (n : ℕ) → n ≤ length t.steps → time_at (with_step t s) n ≡ time_at t n
-time-stays t s zero le = refl
-time-stays t s (suc n) le = ap time_of (get_before t.steps (s ∷ []) n (omega (arith, le)))
+-- one more step leaves the times of the instants before it
+pub time_at-with_step : (t : Trace) (s : Step) (n : ℕ) → n ≤ length t.steps → time_at (with_step t s) n ≡ time_at t n
+time_at-with_step t s zero le = refl
+time_at-with_step t s (suc n) le = ap time_of (slice_get-append t.steps (s ∷ []) n (omega (arith, le)))
 
-drop_before : (xs ys : List Step) (n : ℕ) → n ≤ length xs → drop n (xs ++ ys) ≡ drop n xs ++ ys
-drop_before xs ys zero le = refl
-drop_before [] ys (suc n) le = absurd (omega (arith, le))
-drop_before (x ∷ xs) ys (suc n) le = drop_before xs ys n (omega (arith, le))
+-- what is left of appended lists, if only elements of the first are dropped
+drop-append : (xs ys : List Step) (n : ℕ) → n ≤ length xs → drop n (xs ++ ys) ≡ drop n xs ++ ys
+drop-append xs ys zero le = refl
+drop-append [] ys (suc n) le = absurd (omega (arith, le))
+drop-append (x ∷ xs) ys (suc n) le = drop-append xs ys n (omega (arith, le))
 
-pub kept-more : (t : Trace) (s : Step) (first : ℕ) (older newer : List Step) → older ++ newer ≡ drop first t.steps
+-- the steps from `first` on, after one more step
+pub drop-with_step : (t : Trace) (s : Step) (first : ℕ) (older newer : List Step) → older ++ newer ≡ drop first t.steps
     → first ≤ length t.steps → older ++ (newer ++ s ∷ []) ≡ drop first (t.steps ++ s ∷ [])
-kept-more t s first older newer is le =
+drop-with_step t s first older newer is le =
     sym (append_assoc older newer (s ∷ [])) ∙ ap (λ (xs : List Step). xs ++ s ∷ []) is
-    ∙ sym (drop_before t.steps (s ∷ []) first le)
+    ∙ sym (drop-append t.steps (s ∷ []) first le)
 
 -- ---- what is forgotten
 
+-- no steps
 abbrev no_steps : List Step
 no_steps = []
 
-drop_nothing : (k : ℕ) → drop k no_steps ≡ no_steps
-drop_nothing zero = refl
-drop_nothing (suc k) = refl
+-- dropping from no steps leaves none
+drop-no_steps : (k : ℕ) → drop k no_steps ≡ no_steps
+drop-no_steps zero = refl
+drop-no_steps (suc k) = refl
 
-get_nothing : (k : ℕ) → slice_get no_steps k ≡ None
-get_nothing zero = refl
-get_nothing (suc k) = refl
+-- no steps have no element
+slice_get-no_steps : (k : ℕ) → slice_get no_steps k ≡ None
+slice_get-no_steps zero = refl
+slice_get-no_steps (suc k) = refl
 
-drop_more : (xs : List Step) (n m : ℕ) → drop (n + m) xs ≡ drop m (drop n xs)
-drop_more xs zero m = ap (λ (k : ℕ). drop k xs) (omega arith)
-drop_more [] (suc n) m = drop_nothing (suc n + m) ∙ sym (drop_nothing m)
-drop_more (x ∷ xs) (suc n) m =
+-- dropping n and then m elements is dropping n + m
+drop-add : (xs : List Step) (n m : ℕ) → drop (n + m) xs ≡ drop m (drop n xs)
+drop-add xs zero m = ap (λ (k : ℕ). drop k xs) (omega arith)
+drop-add [] (suc n) m = drop-no_steps (suc n + m) ∙ sym (drop-no_steps m)
+drop-add (x ∷ xs) (suc n) m =
     let e : suc n + m ≡ suc (n + m) = omega arith in
-    ap (λ (k : ℕ). drop k (x ∷ xs)) e ∙ drop_more xs n m
+    ap (λ (k : ℕ). drop k (x ∷ xs)) e ∙ drop-add xs n m
 
+-- the steps from `first` on are `older` and then `newer`
 module _ (t : Trace) (first : ℕ) (older newer : List Step) (kept : older ++ newer ≡ drop first t.steps) where
-  pub newer-is-drop : newer ≡ drop (first + length older) t.steps
-  newer-is-drop = sym (drop_more t.steps first (length older) ∙ ap (drop (length older)) (sym kept)
+  -- `newer` are the steps after `older`
+  pub drop-newer : newer ≡ drop (first + length older) t.steps
+  drop-newer = sym (drop-add t.steps first (length older) ∙ ap (drop (length older)) (sym kept)
       ∙ drop_at older newer (length older) refl)
 
-  pub newer-begins-within : first ≤ length t.steps → first + length older ≤ length t.steps
-  newer-begins-within le =
+  -- `older` ends within the recording
+  pub length-older_within : first ≤ length t.steps → first + length older ≤ length t.steps
+  length-older_within le =
       let long : length (older ++ newer) ≡ length t.steps - first = ap length kept ∙ length-drop first t.steps in
       omega (arith, long, length-append older newer, le)
 
 -- ---- the step at a place
 
-pub step-at : (t : Trace) (first n : ℕ) (kept : List Step) → kept ≡ drop first t.steps → first ≤ n
+-- the step at a place of the kept ones is the step at its instant
+pub slice_get-kept : (t : Trace) (first n : ℕ) (kept : List Step) → kept ≡ drop first t.steps → first ≤ n
     → slice_get kept (n - first) ≡ slice_get t.steps n
-step-at t first n kept is le =
+slice_get-kept t first n kept is le =
     ap (λ (xs : List Step). slice_get xs (n - first)) is ∙ get_dropped t.steps first (n - first)
     ∙ ap (slice_get t.steps) (omega (arith, le))
   where
     get_dropped : (xs : List Step) (m k : ℕ) → slice_get (drop m xs) k ≡ slice_get xs (m + k)
     get_dropped xs zero k = ap (slice_get xs) (omega arith)
-    get_dropped [] (suc m) k = get_nothing k ∙ sym (get_nothing (suc m + k))
+    get_dropped [] (suc m) k = slice_get-no_steps k ∙ sym (slice_get-no_steps (suc m + k))
     get_dropped (x ∷ xs) (suc m) k =
         let e : suc m + k ≡ suc (m + k) = omega arith in
         get_dropped xs m k ∙ sym (ap (slice_get (x ∷ xs)) e)
 
-pub next-some : (t : Trace) (n : ℕ) (v w : Levels) (step : Step) → slice_get t.steps n ≡ Some step → v ≡ levels_at t n
+-- the levels after a step are those that its changes make
+pub levels_at-next_step : (t : Trace) (n : ℕ) (v w : Levels) (step : Step) → slice_get t.steps n ≡ Some step → v
+    ≡ levels_at t n
     → w ≡ changed v step.changes → w ≡ levels_at t (n + 1)
-next-some t n v w step there is made = made ∙ ap (λ (u : Levels). changed u step.changes) is
+levels_at-next_step t n v w step there is made = made ∙ ap (λ (u : Levels). changed u step.changes) is
     ∙ sym (levels_at-step t n ∙ ap (after (levels_at t n)) there)
 
-pub next-none : (t : Trace) (n : ℕ) (v : Levels) → slice_get t.steps n ≡ None → v ≡ levels_at t n
+-- without a step the levels stay
+pub levels_at-no_step : (t : Trace) (n : ℕ) (v : Levels) → slice_get t.steps n ≡ None → v ≡ levels_at t n
     → v ≡ levels_at t (n + 1)
-next-none t n v none is = is ∙ sym (levels_at-step t n ∙ ap (after (levels_at t n)) none)
+levels_at-no_step t n v none is = is ∙ sym (levels_at-step t n ∙ ap (after (levels_at t n)) none)
 
 -- the levels of one more instant
-pub levels-more : (t : Trace) (first place : ℕ) (items : List Levels) (v : Levels) → first ≤ place → items
+pub levels_of-next : (t : Trace) (first place : ℕ) (items : List Levels) (v : Levels) → first ≤ place → items
     ≡ levels_of t first (place - first + 1) → v ≡ levels_at t (place + 1)
     → items ++ v ∷ [] ≡ levels_of t first (place + 1 - first + 1)
-levels-more t first place items v le is now =
+levels_of-next t first place items v le is now =
     let count : place + 1 - first + 1 ≡ (place - first + 1) + 1 = omega arith in
     let at : first + (place - first + 1) ≡ place + 1 = omega arith in
     ap (λ (l : List Levels). l ++ v ∷ []) is

@@ -24,33 +24,37 @@ use Rattle.vme_account.specs.declared.related_event.StepEvent.TheVariants.{Answe
 use Rattle.vme_account.specs.declared.related_event.StepEvent.TheVariants.{StrobeRises, TransferStarts}
 use Rattle.vme_account.specs.declared.stretch_events.StretchEvents.{StretchEvents}
 
-differs : (n j : ℕ) → n < j → (n == j) ≡ false
-differs n j less = grind (arith, nat_tests)
+-- a number isn't equal to a greater one
+eqb-less : (n j : ℕ) → n < j → (n == j) ≡ false
+eqb-less n j less = grind (arith, nat_tests)
 
 module _ (t : Trace) where
   -- ---- the last of two
 
-  moment_later : (x y : Option ℕ) → moment t (later_instant x y) ≡ later (moment t x) (moment t y)
-  moment_later None y = refl
-  moment_later (Some a) None = refl
-  moment_later (Some a) (Some b) = by_test (nat_le a b)
+  -- the moment of the later of two instants is the later of their moments
+  moment-later : (x y : Option ℕ) → moment t (later_instant x y) ≡ later (moment t x) (moment t y)
+  moment-later None y = refl
+  moment-later (Some a) None = refl
+  moment-later (Some a) (Some b) = by_test (nat_le a b)
     where
       by_test : (c : Bool) → moment t (cond c (Some b) (Some a)) ≡ cond c (Some (moment_at t b)) (Some (moment_at t a))
       by_test true = refl
       by_test false = refl
 
+  -- the moment of the last instant from f on and before n at which p holds
   abbrev last_at : (ℕ → Bool) → ℕ → ℕ → Option Moment
   last_at p f n = moment t (greatest p f n)
 
-  either : (p q : ℕ → Bool) (f n : ℕ) → last_at (λ i. p i || q i) f n ≡ later (last_at p f n) (last_at q f n)
-  either p q f n = ap (moment t) (greatest-either p q f n) ∙ moment_later (greatest p f n) (greatest q f n)
+  -- the last moment of either property is the later of their last moments
+  last_at-either : (p q : ℕ → Bool) (f n : ℕ) → last_at (λ i. p i || q i) f n ≡ later (last_at p f n) (last_at q f n)
+  last_at-either p q f n = ap (moment t) (greatest-either p q f n) ∙ moment-later (greatest p f n) (greatest q f n)
 
   -- the later of the last moments of `p` and of `q` is the last moment of either
-  two : (p q : ℕ → Bool) (f n : ℕ) (a b : Option Moment) → a ≡ last_at p f n → b ≡ last_at q f n
+  later-either : (p q : ℕ → Bool) (f n : ℕ) (a b : Option Moment) → a ≡ last_at p f n → b ≡ last_at q f n
       → later a b ≡ last_at (λ i. p i || q i) f n
-  two p q f n a b e g =
+  later-either p q f n a b e g =
       ap (λ (o : Option Moment). later o b) e ∙ (ap (λ (o : Option Moment). later (last_at p f n) o) g
-      ∙ sym (either p q f n))
+      ∙ sym (last_at-either p q f n))
 
   -- ---- the last time, and the first since another
 
@@ -59,45 +63,49 @@ module _ (t : Trace) where
   grants l i = happens t (Falls (grant l 0)) i
 
   module _ (s i : ℕ) (e : LastEvents) (last : AreLast t s i e) where
-    pub last-of : (k : StepEvent) → is_kept_last k ≡ true → last_of e k
+    -- when an event last happened is its last instant up to `i`, if that is kept
+    pub last_of-greatest : (k : StepEvent) → is_kept_last k ≡ true → last_of e k
         ≡ moment t (greatest (happens t k) (s + 1) (i + 1))
     unfolding happens
-    last-of (Falls l) kept = last.falls l (ltb-true l line_count kept)
-    last-of (Rises l) kept = last.rises l (ltb-true l line_count kept)
-    last-of StrobeRises kept =
-        two (happens t (Rises DS0)) (happens t (Rises DS1)) (s + 1) (i + 1) (last_rise e DS0) (last_rise e DS1)
+    last_of-greatest (Falls l) kept = last.falls l (ltb-true l line_count kept)
+    last_of-greatest (Rises l) kept = last.rises l (ltb-true l line_count kept)
+    last_of-greatest StrobeRises kept =
+        later-either (happens t (Rises DS0)) (happens t (Rises DS1)) (s + 1) (i + 1) (last_rise e DS0) (last_rise e DS1)
         (last.rises DS0 (omega arith)) (last.rises DS1 (omega arith))
-    last-of TransferStarts kept = last.transfer
-    last-of AnswerFalls kept = absurd (cc kept)
-    last-of GrantFalls kept =
-        two (λ i. (grants 0 i || grants 1 i) || grants 2 i) (grants 3) (s + 1) (i + 1)
+    last_of-greatest TransferStarts kept = last.transfer
+    last_of-greatest AnswerFalls kept = absurd (cc kept)
+    last_of-greatest GrantFalls kept =
+        later-either (λ i. (grants 0 i || grants 1 i) || grants 2 i) (grants 3) (s + 1) (i + 1)
         (later (later (last_fall e (grant 0 0)) (last_fall e (grant 1 0))) (last_fall e (grant 2 0)))
         (last_fall e (grant 3 0))
-        (two (λ i. grants 0 i || grants 1 i) (grants 2) (s + 1) (i + 1)
+        (later-either (λ i. grants 0 i || grants 1 i) (grants 2) (s + 1) (i + 1)
         (later (last_fall e (grant 0 0)) (last_fall e (grant 1 0))) (last_fall e (grant 2 0))
-        (two (grants 0) (grants 1) (s + 1) (i + 1) (last_fall e (grant 0 0)) (last_fall e (grant 1 0))
+        (later-either (grants 0) (grants 1) (s + 1) (i + 1) (last_fall e (grant 0 0)) (last_fall e (grant 1 0))
         (last.falls (grant 0 0) (omega arith)) (last.falls (grant 1 0) (omega arith)))
         (last.falls (grant 2 0) (omega arith)))
         (last.falls (grant 3 0) (omega arith))
 
   module _ (s i : ℕ) (le : s ≤ i) (p q : StepEvent) where
+    -- the moment of the first `p` up to `i`, since the instant `o`, or since judging started
     abbrev first_since : Option ℕ → Option Moment
     first_since o = moment t (least (happens t p) (unwrap_or o (s + 1)) (i + 1))
 
+    -- the first `p` since the last `q` up to `i`, unless `o` is the next instant
     abbrev unless_now : Option ℕ → Option Moment
     unless_now o = cond (is_at (moment t o) (i + 1)) None (first_since (greatest (happens t q) (s + 1) (i + 1)))
 
-    not_now : (o : Option ℕ) → ((n : ℕ) → o ≡ Some n → n < i + 1) → unless_now o
+    -- an instant `o` that isn't the next one changes nothing
+    unless_now-earlier : (o : Option ℕ) → ((n : ℕ) → o ≡ Some n → n < i + 1) → unless_now o
         ≡ first_since (greatest (happens t q) (s + 1) (i + 1))
-    not_now None w = refl
-    not_now (Some n) w = ap
+    unless_now-earlier None w = refl
+    unless_now-earlier (Some n) w = ap
         (λ (c : Bool). cond c None (first_since (greatest (happens t q) (s + 1) (i + 1))))
-        (differs n (i + 1) (w n refl))
+        (eqb-less n (i + 1) (w n refl))
 
     -- if `q` happens at the next instant, there is no `p` since `q` before that instant
-    pub first-then : unless_now (greatest (happens t q) (s + 1) (i + 1 + 1))
+    pub unless_now-next : unless_now (greatest (happens t q) (s + 1) (i + 1 + 1))
         ≡ moment t (least (happens t p) (since t q s (i + 1)) (i + 1))
-    first-then = by_test (happens t q (i + 1)) refl
+    unless_now-next = by_test (happens t q (i + 1)) refl
       where
         by_test : (b : Bool) → happens t q (i + 1) ≡ b → unless_now (greatest (happens t q) (s + 1) (i + 1 + 1))
             ≡ moment t (least (happens t p) (since t q s (i + 1)) (i + 1))
@@ -113,7 +121,8 @@ module _ (t : Trace) where
             let same : greatest (happens t q) (s + 1) (i + 1 + 1) ≡ greatest (happens t q) (s + 1) (i + 1) =
             greatest-not_at_next (happens t q) s i none in
             ap unless_now same
-            ∙ (not_now (greatest (happens t q) (s + 1) (i + 1)) (greatest-below (happens t q) (s + 1) (i + 1))
+            ∙ (unless_now-earlier (greatest (happens t q) (s + 1) (i + 1))
+            (greatest-below (happens t q) (s + 1) (i + 1))
             ∙ sym (ap first_since same))
 
   -- ---- all of them
@@ -121,37 +130,42 @@ module _ (t : Trace) where
   module _ (s i : ℕ) (le : s ≤ i) (now before : LastEvents) (is_now : AreLast t s (i + 1) now)
       (is_before : AreLast t s i before) where
     -- the first `p` since `q`, by the last `q`, and by the first `p` one instant before
-    first_at : (p q : StepEvent) (last first : Option Moment)
+    first-since_last : (p q : StepEvent) (last first : Option Moment)
         → last ≡ moment t (greatest (happens t q) (s + 1) (i + 1 + 1))
         → first ≡ moment t (least (happens t p) (since t q s i) (i + 1)) → cond (is_at last (i + 1)) None first
         ≡ moment t (least (happens t p) (since t q s (i + 1)) (i + 1))
-    first_at p q last first e g =
+    first-since_last p q last first e g =
         ap (λ (o : Option Moment). cond (is_at o (i + 1)) None first) e
         ∙ (ap (λ (o : Option Moment). cond (is_at (moment t (greatest (happens t q) (s + 1) (i + 1 + 1))) (i + 1)) None
-        o) g ∙ first-then s i le p q)
+        o) g ∙ unless_now-next s i le p q)
 
-    kept_at : (occurrence : Occurrence) (k : StepEvent) → is_kept_at occurrence k ≡ true
+    -- the moment that is meant, by the events up to the next instant and up to `i`, is that of the instant that is
+    -- searched, if it is kept
+    moment_before-searched : (occurrence : Occurrence) (k : StepEvent) → is_kept_at occurrence k ≡ true
         → moment_before now (i + 1) before occurrence k ≡ moment t (searched t occurrence k s (i + 1))
-    kept_at Last k kept = last-of s i before is_before k kept
-    kept_at LastOrNow k kept = last-of s (i + 1) now is_now k kept
-    kept_at FirstInTransfer AnswerFalls kept =
-        first_at AnswerFalls TransferStarts now.transfer before.answer_in_transfer is_now.transfer
+    moment_before-searched Last k kept = last_of-greatest s i before is_before k kept
+    moment_before-searched LastOrNow k kept = last_of-greatest s (i + 1) now is_now k kept
+    moment_before-searched FirstInTransfer AnswerFalls kept =
+        first-since_last AnswerFalls TransferStarts now.transfer before.answer_in_transfer is_now.transfer
         is_before.answer_in_transfer
-    kept_at FirstInTransfer k kept = absurd (cc kept)
-    kept_at FirstInCycle AnswerFalls kept =
-        first_at AnswerFalls (Falls AS) (last_fall now AS) before.answer_in_cycle (is_now.falls AS (omega arith))
+    moment_before-searched FirstInTransfer k kept = absurd (cc kept)
+    moment_before-searched FirstInCycle AnswerFalls kept =
+        first-since_last AnswerFalls (Falls AS) (last_fall now AS) before.answer_in_cycle
+        (is_now.falls AS (omega arith))
         is_before.answer_in_cycle
-    kept_at FirstInCycle (Falls l) kept =
-        first_at (Falls DTACK) (Falls AS) (last_fall now AS) before.dtack_in_cycle (is_now.falls AS (omega arith))
+    moment_before-searched FirstInCycle (Falls l) kept =
+        first-since_last (Falls DTACK) (Falls AS) (last_fall now AS) before.dtack_in_cycle
+        (is_now.falls AS (omega arith))
         is_before.dtack_in_cycle
         ∙ ap (λ (x : ℕ). moment t (least (happens t (Falls x)) (since t (Falls AS) s (i + 1)) (i + 1)))
         (sym (eqb-true l DTACK kept))
-    kept_at FirstInCycle k kept = absurd (cc kept)
+    moment_before-searched FirstInCycle k kept = absurd (cc kept)
 
-  pub moment-kept : (e : StretchEvents) (before : LastEvents) → AreEvents t e → e.before ≡ Some before
+  -- the moment that is meant, by the events of a stretch, is that of the instant that is searched, if it is kept
+  pub moment_before-kept : (e : StretchEvents) (before : LastEvents) → AreEvents t e → e.before ≡ Some before
       → (occurrence : Occurrence) (k : StepEvent) → is_kept_at occurrence k ≡ true
       → moment_before e.last e.seen before occurrence k ≡ moment t (searched t occurrence k e.start e.seen)
-  moment-kept e before events is occurrence k kept =
+  moment_before-kept e before events is occurrence k kept =
       let both = subst
       (λ (o : Option LastEvents). IfSome o (λ b. (e.start < e.seen) × AreLast t e.start (e.seen - 1) b)) is
       events.before in
@@ -159,5 +173,5 @@ module _ (t : Trace) where
       subst
       (λ (j : ℕ). moment_before e.last j before occurrence k ≡ moment t (searched t occurrence k e.start j))
       (sym at)
-      (kept_at e.start (e.seen - 1) (omega (arith, both.0)) e.last before
+      (moment_before-searched e.start (e.seen - 1) (omega (arith, both.0)) e.last before
       (subst (λ (j : ℕ). AreLast t e.start j e.last) at events.last) both.1 occurrence k kept)

@@ -10,40 +10,45 @@ use Rattle.vme_account.specs.Accounts.{IsRunning, KeepsAccount}
 use Rattle.vme_account.specs.declared.running_account.RunningAccount.{RunningAccount}
 
 -- a fact `P` that doesn't depend on the result
-pub if-ok : {A B P : Type 0} → P → (r : Result A B) → IfOk r (λ a. P)
-if-ok p (Ok a) = p
-if-ok p (Err e) = tt
+pub IfOk-constant : {A B P : Type 0} → P → (r : Result A B) → IfOk r (λ a. P)
+IfOk-constant p (Ok a) = p
+IfOk-constant p (Err e) = tt
 
 -- the state before the first step
-pub running-first : (o : Levels) (a : Option (Box RunningAccount)) → IfSome a (λ b. KeepsAccount o [] b.value)
+pub IsRunning-first : (o : Levels) (a : Option (Box RunningAccount)) → IfSome a (λ b. KeepsAccount o [] b.value)
     → IsRunning o [] a 0
-running-first o a keeps = record { counted = omega arith; kept = λ e. keeps }
+IsRunning-first o a keeps = record { counted = omega arith; kept = λ e. keeps }
 
 -- after a failed allocation only the count is known
-pub running-lost : (o : Levels) (x : List Step) (a : Option (Box RunningAccount)) (count : ℕ) → IsRunning o x a count
+pub IsRunning-lost : (o : Levels) (x : List Step) (a : Option (Box RunningAccount)) (count : ℕ) → IsRunning o x a count
     → IsRunning o x None count
-running-lost o x a count i = record { counted = i.counted; kept = λ e. tt }
+IsRunning-lost o x a count i = record { counted = i.counted; kept = λ e. tt }
 
 module _ (o : Levels) (x : List Step) (s : Step) (a : Option (Box RunningAccount)) (count more : ℕ)
     (i : IsRunning o x a count) (next : more ≡ min (count + 1) (capture_limit + 1)) where
-  longer : length (x ++ s ∷ []) ≡ length x + 1
-  longer = length-append x (s ∷ [])
+  -- the steps with one more are one more
+  length-next : length (x ++ s ∷ []) ≡ length x + 1
+  length-next = length-append x (s ∷ [])
 
+  -- the count with one more is that of the steps
   counted : more ≡ min (length (x ++ s ∷ [])) (capture_limit + 1)
-  counted = omega (arith, next, i.counted, longer)
+  counted = omega (arith, next, i.counted, length-next)
 
   -- if there are too many steps, or an allocation failed, a step is counted and not kept
-  pub running-passed : IsRunning o (x ++ s ∷ []) None more
-  running-passed = record { counted = counted; kept = λ few. tt }
+  pub IsRunning-passed : IsRunning o (x ++ s ∷ []) None more
+  IsRunning-passed = record { counted = counted; kept = λ few. tt }
 
   -- a step that is kept
   module _ (few : more ≤ 67108864) (b : Box RunningAccount) (some : a ≡ Some b) where
-    pub running-keeps : KeepsAccount o x b.value
-    running-keeps = rw some at i.kept (omega (arith, few, next))
+    -- the account so far follows the steps before it
+    pub KeepsAccount-running : KeepsAccount o x b.value
+    KeepsAccount-running = rw some at i.kept (omega (arith, few, next))
 
-    pub running-short : length x < 67108864
-    running-short = omega (arith, few, next, i.counted)
+    -- there are fewer steps than the limit
+    pub length-below_limit : length x < 67108864
+    length-below_limit = omega (arith, few, next, i.counted)
 
-    pub running-taken : (b' : Box RunningAccount) → (KeepsAccount o x b.value → KeepsAccount o (x ++ s ∷ []) b'.value)
+    -- after a step that is taken the account follows the steps with it
+    pub IsRunning-taken : (b' : Box RunningAccount) → (KeepsAccount o x b.value → KeepsAccount o (x ++ s ∷ []) b'.value)
         → IsRunning o (x ++ s ∷ []) (Some b') more
-    running-taken b' takes = record { counted = counted; kept = λ few. takes running-keeps }
+    IsRunning-taken b' takes = record { counted = counted; kept = λ few. takes KeepsAccount-running }

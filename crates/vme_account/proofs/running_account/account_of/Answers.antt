@@ -4,7 +4,8 @@ use Rattle.vme_monitor.specs.OverStretches.{has_started}
 use Rattle.vme_summary.specs.Runs.{known_run}
 use Rattle.vme_trace.specs.Levels.{Levels}
 use Rattle.vme_trace.specs.declared.step.Step.{Step}
-use Rattle.vme_account.proofs.AccountLemmas.{counts-listed, found-named, open-listed, started-reached}
+use Rattle.vme_account.proofs.AccountLemmas.{count_by-recorded, found-named_break, open_row-recorded}
+use Rattle.vme_account.proofs.AccountLemmas.{has_started-reached}
 use Rattle.vme_account.proofs.FollowLemmas.{levels_at-last}
 use Rattle.vme_account.specs.FollowedSteps.{recorded}
 use Rattle.vme_account.specs.KnownTimes.{AreTimes}
@@ -24,16 +25,16 @@ returns c = λ t keeps opens ok.
     let is_marked = ap (λ (r : RunningAccount). r.judged.notes.marked) c.deref.ensures ∙ j.marked in
     record {
       opening = opens;
-      found = j.found ∙ found-named finds shows t ok few;
+      found = j.found ∙ found-named_break finds shows t ok few;
       started = λ none.
           ap (λ (m : Memories). has_started m.known) (j.memories none)
-          ∙ started-reached (λ t ok few. c.known_over_recordings.ensures.started t ok few) t ok few
+          ∙ has_started-reached (λ t ok few. c.known_over_recordings.ensures.started t ok few) t ok few
           (sym j.found ∙ none);
       after = λ none. j.after none ∙ sym (levels_at-last t.opening t.steps);
       unended = λ p. c.opened-opened.ensures.listed (reached t.opening t.steps).marks p is_marked
-          ∙ open-listed finds shows t ok few p;
+          ∙ open_row-recorded finds shows t ok few p;
       counts = λ k is. c.in_ok-counts.ensures.listed (reached t.opening t.steps).marks k is_marked is
-          ∙ counts-listed finds shows t ok few k;
+          ∙ count_by-recorded finds shows t ok few k;
       kept = keeps.kept;
       times = subst (λ (x : List Step). AreTimes (recorded t.opening x) c.args.running.value.judged.notes.times)
           (append-nil t.steps) (j.times []);

@@ -3,7 +3,7 @@ use Rattle.std.specs.Prelude.{None, IfOk, IfSome}
 use Rattle.vme_trace.specs.Trace.{Trace}
 use Rattle.vme_trace.specs.WellFormed.{capture_limit, malformed_step}
 use Rattle.vme_account.specs.Accounts.{IsAccountOf, KeepsAccount}
-use Rattle.vme_account.proofs.VisitorLemmas.{if-ok}
+use Rattle.vme_account.proofs.VisitorLemmas.{IfOk-constant}
 use Rattle.vme_account.proofs.account_visitor.AccountVisitor.finish.Goals as goal
 
 pub returns-in-Some-clause-account : goal.returns-in-Some-clause-account
@@ -19,7 +19,7 @@ returns-in-Some-clause-account c =
 pub returns-in-Some-clause-short : goal.returns-in-Some-clause-short
 returns-in-Some-clause-short c =
     subst (λ (t : Trace). IfOk c.ended.result (λ account. length t.steps ≤ 67108864)) c.self.view_is
-    (if-ok (omega (arith, c.self.invariant.counted, c.if-count-gt-MOST_TAKEN.false)) c.ended.result)
+    (IfOk-constant (omega (arith, c.self.invariant.counted, c.if-count-gt-MOST_TAKEN.false)) c.ended.result)
 
 pub returns-then-count-gt-MOST_STEPS-clause-too_many_steps : goal.returns-then-count-gt-MOST_STEPS-clause-too_many_steps
 returns-then-count-gt-MOST_STEPS-clause-too_many_steps c = λ is.

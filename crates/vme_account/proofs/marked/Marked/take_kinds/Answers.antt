@@ -2,11 +2,12 @@ use Rattle.std.specs.Prelude.{option_map}
 use Rattle.std.specs.Option.{option_to_list}
 use Rattle.vme_monitor.specs.Run.{answered_kind, cycle_kind, tenure_kind, when}
 use Rattle.vme_monitor.specs.declared.mark.MarkKind.TheVariants as kind
-use Rattle.vme_account.proofs.MarkedLemmas.{ten-kinds}
+use Rattle.vme_account.proofs.MarkedLemmas.{taken_kinds-ten}
 use Rattle.vme_account.proofs.marked.Marked.take_kinds.Goals as goal
 
 pub returns : goal.returns
-returns c = ten-kinds c.args.instant c.take_kind-10.result c.args.self.now c.take_kind.new.self c.take_kind-2.new.self
+returns c =
+    taken_kinds-ten c.args.instant c.take_kind-10.result c.args.self.now c.take_kind.new.self c.take_kind-2.new.self
     c.take_kind-3.new.self c.take_kind-4.new.self c.take_kind-5.new.self c.take_kind-6.new.self c.take_kind-7.new.self
     c.take_kind-8.new.self c.take_kind-9.new.self c.take_kind-10.new.self
     (option_to_list (when c.args.shown.now.reset kind.Reset)) (option_to_list (when c.args.shown.now.start kind.Start))

@@ -1,4 +1,4 @@
-use Rattle.vme_account.proofs.RecentLemmas.{levels-more}
+use Rattle.vme_account.proofs.RecentLemmas.{levels_of-next}
 use Rattle.vme_account.proofs.recent_steps.RecentSteps.levels_from.Goals as goal
 
 pub loop-instant-preserved : goal.loop-instant-preserved
@@ -7,6 +7,6 @@ loop-instant-preserved c = λ t recent.
     let next = c.advance.ensures t recent before.0 in (
       next,
       rw c.in_ok-push-2.ensures.items
-          (levels-more t c.args.first c.loop-instant.instant c.loop-instant.levels.items c.advance.new.lines
+          (levels_of-next t c.args.first c.loop-instant.instant c.loop-instant.levels.items c.advance.new.lines
           c.loop-instant.auto.instant before.1 next),
     )

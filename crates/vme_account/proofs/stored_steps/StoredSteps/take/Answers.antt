@@ -1,5 +1,5 @@
 use Rattle.std.proofs.Common.{◌+◌, arith, refl}
-use Rattle.vme_account.proofs.StoredLemmas.{passed-one}
+use Rattle.vme_account.proofs.StoredLemmas.{AreStored-passed}
 use Rattle.vme_account.proofs.stored_steps.StoredSteps.take.Goals as goal
 
 pub overflow_add-self : goal.overflow_add-self
@@ -8,4 +8,5 @@ overflow_add-self c =
     omega (arith, kept.counted, short)
 
 pub returns-else-is_wanted : goal.returns-else-is_wanted
-returns-else-is_wanted c = λ o x kept. passed-one o x c.args.step c.args.self.now (c.args.self.now.steps + 1) kept refl
+returns-else-is_wanted c =
+    λ o x kept. AreStored-passed o x c.args.step c.args.self.now (c.args.self.now.steps + 1) kept refl

@@ -1,10 +1,10 @@
 use Rattle.std.proofs.Common.{◌∙◌}
 use Rattle.std.specs.Prelude.{take}
-use Rattle.vme_account.proofs.StoredLemmas.{cut-time}
+use Rattle.vme_account.proofs.StoredLemmas.{time_at-cut}
 use Rattle.vme_account.specs.FollowedSteps.{recorded}
 use Rattle.vme_account.proofs.stored_steps.StoredSteps.time_at.Goals as goal
 
 pub returns : goal.returns
 returns c = λ t kept within.
     c.time_at.ensures (recorded t.opening (take c.args.self.now.end t.steps)) kept.recent
-    ∙ cut-time t c.args.self.now.end c.args.instant within
+    ∙ time_at-cut t c.args.self.now.end c.args.instant within
