@@ -1,4 +1,4 @@
--- The claims, from the work of all workers and the contents of the closed board.
+-- The claims of a run follow from the work of all workers and the contents of the closed board.
 use Rattle.std.proofs.Common.{◌≡◌, ℕ, zero, suc, ◌+◌, ◌<◌, ◌≤◌, cond, List, length, map, slice_get, Option, Some, None}
 use Rattle.std.proofs.Common.{sym, refl, ap, ◌∙◌, subst, arith, eq-eqb, ⊎_elim}
 use Rattle.std.proofs.lemmas.Option.{none-some, same_Some, slice_get_within}
@@ -24,92 +24,111 @@ use Rattle.vme_floor.specs.declared.answer.Reply.{Reply}
 use Rattle.vme_book.specs.Inserted as Inserted
 use Rattle.vme_book.specs.Inserted.{IsWhole}
 use Rattle.vme_book.specs.declared.book.Whole.{Whole}
-use Rattle.vme_floor.proofs.Collecting.{count_all, place_of}
-use Rattle.vme_floor.proofs.Ordering.{all_at, all_count}
-use Rattle.vme_floor.proofs.Places.{each_at, get_within}
-use Rattle.vme_floor.proofs.Weighing.{draws_of, files_of, weigh_draws, weigh_filings, weigh_two, weigh_some, is_filing}
-use Rattle.vme_floor.proofs.Weighing.{filing_here, one_block}
+use Rattle.vme_floor.proofs.Collecting.{block_count-all, slice_get-stored}
+use Rattle.vme_floor.proofs.Ordering.{slice_get-contents, length-contents}
+use Rattle.vme_floor.proofs.Places.{Each-at, slice_get-within}
+use Rattle.vme_floor.proofs.Weighing.{draws_of, files_of, weigh-draws_of, weigh-files_of, weigh-two, weigh-some}
+use Rattle.vme_floor.proofs.Weighing.{filing-positive}
+use Rattle.vme_floor.proofs.Weighing.{filing-here, HasPair-one_block}
 
+-- a place without a block
 abbrev no_block : Option Block
 no_block = None
 
-some_none : (b : Block) → Some b ≡ no_block → ⊥
-some_none b e = none-some b (sym e)
+-- a place with a block isn't one without
+Some-not_none : (b : Block) → Some b ≡ no_block → ⊥
+Some-not_none b e = none-some b (sym e)
 
 module _ (total : ℕ) (ds : List Block) (v : View) (replies : List Reply) (answers : List Answer)
     (w : IsWork total ds v replies) (are : AreReplies replies answers) (count : length answers ≡ length ds) where
-  reply_at : (k : ℕ) (r : Reply) → slice_get replies k ≡ Some r → IsReply total ds v.list r
-  reply_at k r at = each_at (IsReply total ds v.list) replies k r w.right at
+  -- each reply is to one of the deliveries, and right for it
+  IsReply-at : (k : ℕ) (r : Reply) → slice_get replies k ≡ Some r → IsReply total ds v.list r
+  IsReply-at k r at = Each-at (IsReply total ds v.list) replies k r w.right at
 
-  right_at : (d : ℕ) (a : Answer) (b : Block) → slice_get answers d ≡ Some a → slice_get ds d ≡ Some b → IsRightAnswer
+  -- the answer to a delivery is right for its block, and the list has the block if it was filed
+  IsRightAnswer-at : (d : ℕ) (a : Answer) (b : Block) → slice_get answers d ≡ Some a → slice_get ds d ≡ Some b
+      → IsRightAnswer
       total b a
       × IsListed v.list b a
-  right_at d a b at there = let p = are d a at in (reply_at p.0 (reply_of d a) p.1).1 b there
+  IsRightAnswer-at d a b at there = let p = are d a at in (IsReply-at p.0 (reply_of d a) p.1).1 b there
 
-  same_reply : (k l : ℕ) (r s : Reply) → slice_get replies k ≡ Some r → slice_get replies l ≡ Some s → r.delivery
+  -- replies to one delivery are the same
+  reply-of_delivery : (k l : ℕ) (r s : Reply) → slice_get replies k ≡ Some r → slice_get replies l ≡ Some s → r.delivery
       ≡ s.delivery → r ≡ s
-  same_reply k l r s at there e = dite (ℕ_discrete k l)
+  reply-of_delivery k l r s at there e = dite (ℕ_discrete k l)
       (λ z. same_Some r s (sym at ∙ (ap (slice_get replies) z ∙ there)))
-      (λ ne. let two = weigh_two (draws_of r.delivery) replies k l r s ne at there in
-      let d = weigh_draws r.delivery replies in let o = w.draws_once r.delivery in let drew = w.drew r.delivery in
+      (λ ne. let two = weigh-two (draws_of r.delivery) replies k l r s ne at there in
+      let d = weigh-draws_of r.delivery replies in let o = w.draws_once r.delivery in let drew = w.drew r.delivery in
       let one : ℕ = 1 in let nil : ℕ = 0 in let a : draws_of r.delivery r ≡ one = ap (λ b. cond b one nil)
       (eq-eqb r.delivery r.delivery refl) in let b : draws_of r.delivery s ≡ one = ap (λ b. cond b one nil)
       (eq-eqb r.delivery s.delivery e) in absurd (omega (arith, two, d, o, drew, a, b)))
 
-  answer_of : (k : ℕ) (r : Reply) → slice_get replies k ≡ Some r → slice_get answers r.delivery ≡ Some r.answer
-  answer_of k r at =
-      let near = (reply_at k r at).0 in let a = get_within answers r.delivery (omega (arith, near, count)) in
+  -- the answer to the delivery of a reply is that of the reply
+  slice_get-answer : (k : ℕ) (r : Reply) → slice_get replies k ≡ Some r → slice_get answers r.delivery ≡ Some r.answer
+  slice_get-answer k r at =
+      let near = (IsReply-at k r at).0 in let a = slice_get-within answers r.delivery (omega (arith, near, count)) in
       let p = are r.delivery a.0 a.1 in
-      let same : reply_of r.delivery a.0 ≡ r = same_reply p.0 k (reply_of r.delivery a.0) r p.1 at refl in
+      let same : reply_of r.delivery a.0 ≡ r = reply-of_delivery p.0 k (reply_of r.delivery a.0) r p.1 at refl in
       a.1 ∙ ap (λ (x : Reply). Some x.answer) same
 
   -- the block of a delivery that was answered Filed is in the list
-  listed_of : (d : ℕ) (b : Block) → FiledAs ds answers d b → HasPair v.list b.number b
-  listed_of d b f = (right_at d Filed b f.0 f.1).1
+  HasPair-filed : (d : ℕ) (b : Block) → FiledAs ds answers d b → HasPair v.list b.number b
+  HasPair-filed d b f = (IsRightAnswer-at d Filed b f.0 f.1).1
 
   -- each block in the list is that of a delivery that was answered Filed
-  filed_of : (n : ℕ) (b : Block) → HasPair v.list n b → (b.number ≡ n) × IsFiled ds answers b
-  filed_of n b h =
-      let some = weigh_some (files_of ds n) replies (omega (
+  IsFiled-listed : (n : ℕ) (b : Block) → HasPair v.list n b → (b.number ≡ n) × IsFiled ds answers b
+  IsFiled-listed n b h =
+      let some = weigh-some (files_of ds n) replies (omega (
         arith,
-        weigh_filings ds n replies,
+        weigh-files_of ds n replies,
         w.filed n,
         occurs_of_pair
             v.list n b h,
       )) in
-      let k : ℕ = some.0 in let r : Reply = some.1 in let is = is_filing r.answer (number_at ds r.delivery) n some.3 in
-      let t = reply_at k r some.2 in let c = get_within ds r.delivery t.0 in
+      let k : ℕ = some.0 in let r : Reply = some.1 in let is =
+      filing-positive r.answer (number_at ds r.delivery) n some.3 in
+      let t = IsReply-at k r some.2 in let c = slice_get-within ds r.delivery t.0 in
       let number : c.0.number ≡ n = sym (ap number_in c.1) ∙ sym is.1 in
       let there : HasPair v.list c.0.number c.0 = subst (λ (a : Answer). IsListed v.list c.0 a) is.0 (t.1 c.0 c.1).1 in
-      let same : c.0 ≡ b = one_block v.list n c.0 b (w.files_once n) (subst (λ (m : ℕ). HasPair v.list m c.0) number
+      let same : c.0 ≡ b = HasPair-one_block v.list n c.0 b (w.files_once n)
+      (subst (λ (m : ℕ). HasPair v.list m c.0) number
       there) h in (
         sym (ap (λ (x : Block). x.number) same) ∙ number,
-        (r.delivery, (answer_of k r some.2 ∙ ap (λ (a : Answer). Some a) is.0, c.1 ∙ ap (λ (x : Block). Some x) same)),
+        (
+          r.delivery,
+          (
+            slice_get-answer k r some.2 ∙ ap (λ (a : Answer). Some a) is.0,
+            c.1
+                ∙ ap (λ (x : Block). Some x) same,
+          ),
+        ),
       )
 
-  filed_once : (d e : ℕ) (b c : Block) → FiledAs ds answers d b → FiledAs ds answers e c → b.number ≡ c.number → d ≡ e
-  filed_once d e b c f g same =
+  -- no two deliveries of one number were filed
+  FiledAs-once : (d e : ℕ) (b c : Block) → FiledAs ds answers d b → FiledAs ds answers e c → b.number ≡ c.number → d ≡ e
+  FiledAs-once d e b c f g same =
       let p = are d Filed f.0 in let q = are e Filed g.0 in let n : ℕ = b.number in dite (ℕ_discrete p.0 q.0)
       (λ s. ap (λ (x : Reply). x.delivery) (same_Some (reply_of d Filed) (reply_of e Filed)
       (sym p.1 ∙ (ap (slice_get replies) s ∙ q.1))))
-      (λ ne. let two = weigh_two (files_of ds n) replies p.0 q.0 (reply_of d Filed) (reply_of e Filed) ne p.1 q.1 in
-      let k = weigh_filings ds n replies in
-      let a = filing_here (number_at ds d) n (sym (ap number_in f.1)) in
-      let z = filing_here (number_at ds e) n (same ∙ sym (ap number_in g.1)) in
+      (λ ne. let two = weigh-two (files_of ds n) replies p.0 q.0 (reply_of d Filed) (reply_of e Filed) ne p.1 q.1 in
+      let k = weigh-files_of ds n replies in
+      let a = filing-here (number_at ds d) n (sym (ap number_in f.1)) in
+      let z = filing-here (number_at ds e) n (same ∙ sym (ap number_in g.1)) in
       absurd (omega (arith, two, k, a, z, w.filed n, w.files_once n)))
 
   -- if a reply says that n is filed, some delivery of n was filed
-  told_filed : (n : ℕ) → 0 < filings ds replies n → IsFiledNumber ds answers n
-  told_filed n told =
-      let some = weigh_some (files_of ds n) replies (omega (arith, weigh_filings ds n replies, told)) in
-      let k : ℕ = some.0 in let r : Reply = some.1 in let is = is_filing r.answer (number_at ds r.delivery) n some.3 in
-      let c = get_within ds r.delivery (reply_at k r some.2).0 in (
+  IsFiledNumber-filings : (n : ℕ) → 0 < filings ds replies n → IsFiledNumber ds answers n
+  IsFiledNumber-filings n said =
+      let some = weigh-some (files_of ds n) replies (omega (arith, weigh-files_of ds n replies, said)) in
+      let k : ℕ = some.0 in let r : Reply = some.1 in let is =
+      filing-positive r.answer (number_at ds r.delivery) n some.3 in
+      let c = slice_get-within ds r.delivery (IsReply-at k r some.2).0 in (
         c.0,
         sym (ap number_in c.1) ∙ sym is.1,
         (
           r.delivery,
           (
-            answer_of k r some.2 ∙ ap (λ (a : Answer). Some a) is.0,
+            slice_get-answer k r some.2 ∙ ap (λ (a : Answer). Some a) is.0,
             c.1,
           ),
         ),
@@ -117,39 +136,41 @@ module _ (total : ℕ) (ds : List Block) (v : View) (replies : List Reply) (answ
 
   -- if a delivery was answered Doubled, and the bench did all that it has seen done, some delivery of its number was
   -- filed
-  doubled_filed : DidAll v → (d : ℕ) (b : Block) → slice_get answers d ≡ Some Doubled → slice_get ds d ≡ Some b
+  IsFiledNumber-doubled : DidAll v → (d : ℕ) (b : Block) → slice_get answers d ≡ Some Doubled → slice_get ds d ≡ Some b
       → IsFiledNumber ds answers b.number
-  doubled_filed did d b at there =
+  IsFiledNumber-doubled did d b at there =
       let p = are d Doubled at in let n_is : number_at ds d ≡ b.number = ap number_in there in
-      let saw : HasSeen v (number_at ds d) Claimed = each_at (IsSeenIf ds v) replies p.0 (reply_of d Doubled) w.doubled
+      let saw : HasSeen v (number_at ds d) Claimed = Each-at (IsSeenIf ds v) replies p.0 (reply_of d Doubled) w.doubled
       p.1 refl in
       let one = did.list b.number (subst (λ (m : ℕ). HasSeen v m Claimed) n_is saw) in let filed = w.filed b.number in
-      told_filed b.number (omega (arith, one, filed))
+      IsFiledNumber-filings b.number (omega (arith, one, filed))
 
   -- the first claim
-  pub answered : DidAll v → HasAnswers total ds answers
-  answered did = record {
+  pub HasAnswers-work : DidAll v → HasAnswers total ds answers
+  HasAnswers-work did = record {
     count = count;
-    right = λ d a b at here. (right_at d a b at here).0;
-    once = filed_once;
-    doubled = doubled_filed did;
+    right = λ d a b at here. (IsRightAnswer-at d a b at here).0;
+    once = FiledAs-once;
+    doubled = IsFiledNumber-doubled did;
   }
 
   module _ (contents : List (Option Block)) (is_closed : IsClosed total v contents) where
-    filed_at : (n : ℕ) (b : Block) → slice_get contents n ≡ Some (Some b) → (b.number ≡ n) × IsFiled ds answers b
-    filed_at n b at = filed_of n b (is_closed.only n b at)
+    -- the block at a place of the contents has that number, and was filed
+    IsFiled-content : (n : ℕ) (b : Block) → slice_get contents n ≡ Some (Some b) → (b.number ≡ n) × IsFiled ds answers b
+    IsFiled-content n b at = IsFiled-listed n b (is_closed.only n b at)
 
+    -- if each place has a block, the blocks are the filed ones
     content : (bs : List Block) → contents ≡ map Some bs → IsContent total ds answers bs
     content bs all = record {
-      count = all_count bs contents (sym all) ∙ is_closed.count;
-      numbered = λ n b at. (filed_at n b (all_at bs contents (sym all) n b at)).0;
-      filed = λ n b at. (filed_at n b (all_at bs contents (sym all) n b at)).1;
+      count = length-contents bs contents (sym all) ∙ is_closed.count;
+      numbered = λ n b at. (IsFiled-content n b (slice_get-contents bs contents (sym all) n b at)).0;
+      filed = λ n b at. (IsFiled-content n b (slice_get-contents bs contents (sym all) n b at)).1;
     }
 
     -- the second claim
-    pub recorded : (whole : Whole) (bs : List Block) → IsWhole contents whole bs → IsRecorded total ds answers
+    pub IsRecorded-whole : (whole : Whole) (bs : List Block) → IsWhole contents whole bs → IsRecorded total ds answers
         whole.capture whole.span
-    recorded whole bs is = record {
+    IsRecorded-whole whole bs is = record {
       blocks = bs;
       content = content bs is.all;
       joins = is.stands.extent.join;
@@ -159,18 +180,20 @@ module _ (total : ℕ) (ds : List Block) (v : View) (replies : List Reply) (answ
     }
 
     -- the third claim
-    pub least_missing : (n : ℕ) → Inserted.IsLeastMissing contents n → IsLeastUnfiled total ds answers n
-    least_missing n e = record {
+    pub IsLeastUnfiled-missing : (n : ℕ) → Inserted.IsLeastMissing contents n → IsLeastUnfiled total ds answers n
+    IsLeastUnfiled-missing n e = record {
       within = let c = is_closed.count in let l = e.within in omega (arith, c, l);
-      missing = λ f. some_none f.0
+      missing = λ f. Some-not_none f.0
           (same_Some (Some f.0) no_block (sym (ap (slice_get contents) (sym f.1) ∙ is_closed.listed f.0.number f.0
-          (listed_of f.2.0 f.0 f.2.1)) ∙ place_of contents n no_block e.within e.missing));
+          (HasPair-filed f.2.0 f.0 f.2.1)) ∙ slice_get-stored contents n no_block e.within e.missing));
       least = λ k l. let c = e.before k l in let w = e.within in
-          let f = filed_at k c.0 (place_of contents k (Some c.0) (omega (arith, w, l)) c.1) in (c.0, f.0, f.1);
+          let f = IsFiled-content k c.0 (slice_get-stored contents k (Some c.0) (omega (arith, w, l)) c.1) in
+          (c.0, f.0, f.1);
     }
 
-    pub first_torn : (n : ℕ) (bs : List Block) → Inserted.IsLeastTorn contents n bs → IsTorn total ds answers n
-    first_torn n bs torn = record {
+    -- if the block of n doesn't join those before it, and all do before, the claim of a torn number holds
+    pub IsTorn-first : (n : ℕ) (bs : List Block) → Inserted.IsLeastTorn contents n bs → IsTorn total ds answers n
+    IsTorn-first n bs torn = record {
       blocks = bs;
       content = content bs torn.all;
       torn = record
@@ -178,50 +201,57 @@ module _ (total : ℕ) (ds : List Block) (v : View) (replies : List Reply) (answ
     }
 
 -- if `lack s h` is 0 and s is positive, so is h
-lack_none : (s h : ℕ) → lack s h ≡ 0 → 0 < s → 0 < h
-lack_none zero h e some = absurd (omega (arith, some))
-lack_none (suc s) zero e some = absurd (omega (arith, e))
-lack_none (suc s) (suc h) e some = omega arith
+lt-no_lack : (s h : ℕ) → lack s h ≡ 0 → 0 < s → 0 < h
+lt-no_lack zero h e some = absurd (omega (arith, some))
+lt-no_lack (suc s) zero e some = absurd (omega (arith, e))
+lt-no_lack (suc s) (suc h) e some = omega arith
 
-none_missing : (saw had : List ℕ) (limit : ℕ) → missing_count saw had limit ≤ 0 → (n : ℕ) → n < limit → 0 < occurrences
+-- if no number below `limit` is missing, each that was seen there was had
+occurrences-none_missing : (saw had : List ℕ) (limit : ℕ) → missing_count saw had limit ≤ 0 → (n : ℕ) → n < limit
+    → 0 < occurrences
     n saw → 0 < occurrences n had
-none_missing saw had zero none n low some = absurd (omega (arith, low))
-none_missing saw had (suc k) none n low some = dite (ℕ_discrete n k)
+occurrences-none_missing saw had zero none n low some = absurd (omega (arith, low))
+occurrences-none_missing saw had (suc k) none n low some = dite (ℕ_discrete n k)
     (λ is. let z : 0 < occurrences k saw = subst (λ (y : ℕ). 0 < occurrences y saw) is some in
-    subst (λ (y : ℕ). 0 < occurrences y had) (sym is) (lack_none (occurrences k saw) (occurrences k had)
+    subst (λ (y : ℕ). 0 < occurrences y had) (sym is) (lt-no_lack (occurrences k saw) (occurrences k had)
     (omega (arith, none)) z))
-    (λ ne. none_missing saw had k (omega (arith, none)) n (omega (arith, low, ne)) some)
+    (λ ne. occurrences-none_missing saw had k (omega (arith, none)) n (omega (arith, low, ne)) some)
 
 -- the blocks that were collected, and the contents of the closed board
 module _ (total : ℕ) (ds : List Block) (v : View) (replies : List Reply) (c : Collection) (closed : Closed)
     (k : IsAccount total ds v replies c closed) where
   -- no block that was collected is left on the board
-  pub apart : (n : ℕ) (b d : Block) → HasBlock c.book n b → HasBlock closed.contents.items n d → ⊥
-  apart n b d at left =
+  pub HasBlock-apart : (n : ℕ) (b d : Block) → HasBlock c.book n b → HasBlock closed.contents.items n d → ⊥
+  HasBlock-apart n b d at left =
       let h = occurs_of_pair v.takes n b (k.collected.took n b at) in
-      some_none d (same_Some (Some d) no_block (sym left ∙ k.closing.gone n h))
+      Some-not_none d (same_Some (Some d) no_block (sym left ∙ k.closing.gone n h))
 
   module _ (others : closed.others ≡ 0) (taken : closed.taken ≡ 0) where
-    seen_listed : (n : ℕ) → n < total → 0 < occurrences n v.filed → 0 < occurrences n (numbers v.list)
-    seen_listed n low some = let most = k.closing.saw_filed in none_missing v.filed (numbers v.list) total
+    -- each number that was seen filed is in the list, if others filed none
+    occurrences-seen_listed : (n : ℕ) → n < total → 0 < occurrences n v.filed → 0 < occurrences n (numbers v.list)
+    occurrences-seen_listed n low some =
+        let most = k.closing.saw_filed in occurrences-none_missing v.filed (numbers v.list) total
         (omega (arith, most, others)) n low some
 
-    seen_took : (n : ℕ) → n < total → 0 < occurrences n v.taken → 0 < occurrences n (numbers v.takes)
-    seen_took n low some = let most = k.closing.saw_taken in none_missing v.taken (numbers v.takes) total
+    -- each number that was seen taken was taken by the bench, if none was taken by others
+    occurrences-seen_taken : (n : ℕ) → n < total → 0 < occurrences n v.taken → 0 < occurrences n (numbers v.takes)
+    occurrences-seen_taken n low some =
+        let most = k.closing.saw_taken in occurrences-none_missing v.taken (numbers v.takes) total
         (omega (arith, most, taken)) n low some
 
     -- each block that was collected was filed by the bench
-    collected_listed : (n : ℕ) (b : Block) → HasBlock c.book n b → HasPair v.list n b
-    collected_listed n b at =
+    HasPair-collected : (n : ℕ) (b : Block) → HasBlock c.book n b → HasPair v.list n b
+    HasPair-collected n b at =
         let took = k.collected.took n b at in
         let low : n < total = let l = k.collected.long in let w = slice_get_within c.book n (Some b) at in
         omega (arith, l, w) in
-        let p = pair_of_occurs v.list n (seen_listed n low (k.collected.saw n (occurs_of_pair v.takes n b took))) in
+        let p = pair_of_occurs v.list n
+        (occurrences-seen_listed n low (k.collected.saw n (occurs_of_pair v.takes n b took))) in
         subst (λ (x : Block). HasPair v.list n x) (k.same n p.0 b p.1 took) p.1
 
     -- the blocks that were collected and those left on the board are exactly those that the bench filed
-    pub closed_all : (all : List (Option Block)) → IsUnion c.book closed.contents.items all → IsClosed total v all
-    closed_all all u = record {
+    pub IsClosed-union : (all : List (Option Block)) → IsUnion c.book closed.contents.items all → IsClosed total v all
+    IsClosed-union all u = record {
       count = u.long ∙ k.collected.long;
       listed = λ n b h. dite (ℕ_discrete (occurrences n (numbers v.takes)) 0)
           (λ z. let at = k.closing.untaken taken n b h z in
@@ -229,21 +259,21 @@ module _ (total : ℕ) (ds : List Block) (v : View) (replies : List Reply) (c : 
           (λ ne. let p = pair_of_occurs v.takes n (omega (arith, ne)) in
           u.first n b (k.collected.kept n b (subst (λ (x : Block). HasPair v.takes n x) (sym (k.same n b p.0 h p.1))
           p.1)));
-      only = λ n b at. ⊎_elim (λ x. collected_listed n b x) (λ x. k.closing.only others n b x.1) (u.only n b at);
+      only = λ n b at. ⊎_elim (λ x. HasPair-collected n b x) (λ x. k.closing.only others n b x.1) (u.only n b at);
     }
 
     -- if each number that the bench filed was taken, and each place has a block, all blocks were collected
-    pub all_early : (all : List (Option Block)) → IsUnion c.book closed.contents.items all → OwnAreTaken v
+    pub count-all_early : (all : List (Option Block)) → IsUnion c.book closed.contents.items all → OwnAreTaken v
         → ((n : ℕ) → n < total → (b : Block) × HasBlock all n b) → c.count ≡ total
-    all_early all u own there =
+    count-all_early all u own there =
         let long = k.collected.long in let counted = k.collected.counted in
-        let full = count_all c.book (λ n low.
+        let full = block_count-all c.book (λ n low.
         let near : n < total = omega (arith, low, long) in
         let b = there n near in
-        let h = (closed_all all u).only n b.0 b.1 in
+        let h = (IsClosed-union all u).only n b.0 b.1 in
         let gone : 0 < occurrences n (numbers v.takes) + occurrences n v.taken = own n (occurs_of_pair v.list n b.0 h)
         in
         let took : 0 < occurrences n (numbers v.takes) = dite (ℕ_discrete (occurrences n v.taken) 0)
-        (λ z. omega (arith, gone, z)) (λ ne. seen_took n near (omega (arith, ne))) in
+        (λ z. omega (arith, gone, z)) (λ ne. occurrences-seen_taken n near (omega (arith, ne))) in
         let p = pair_of_occurs v.takes n took in (p.0, k.collected.kept n p.0 p.1)) in
         omega (arith, full, counted, long)

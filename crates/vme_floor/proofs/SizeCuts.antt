@@ -20,17 +20,19 @@ use Rattle.vme_floor.specs.Cuts.{IsCutOf}
 use Rattle.vme_floor.specs.declared.answer.Answer.TheVariants as answer
 
 module _ (t : Trace) (size : ℕ) where
+  -- the blocks
   abbrev blocks : List Block
   blocks = blocks_of size t
 
-  count_is : length blocks ≡ block_count size t
-  count_is = length-map-range_with_len (block_at size t) 0 (block_count size t)
+  -- their number
+  length-blocks : length blocks ≡ block_count size t
+  length-blocks = length-map-range_with_len (block_at size t) 0 (block_count size t)
 
   -- the block with the index n is the block n of the cut
-  pub block_there : (n : ℕ) (b : Block) → slice_get blocks n ≡ Some b → (n < block_count size t)
+  pub slice_get-blocks : (n : ℕ) (b : Block) → slice_get blocks n ≡ Some b → (n < block_count size t)
       × (b ≡ block_at size t n)
-  block_there n b at =
-      let low = slice_get_within blocks n b at in let below : n < block_count size t = let long = count_is in
+  slice_get-blocks n b at =
+      let low = slice_get_within blocks n b at in let below : n < block_count size t = let long = length-blocks in
       omega (arith, low, long) in
       let is : get_or blocks n b ≡ block_at size t n = get_or-map-range_with_len (block_at size t) 0
       (block_count size t) n n b below (omega arith) in (
@@ -39,17 +41,18 @@ module _ (t : Trace) (size : ℕ) where
             is)),
       )
 
-  accepted_by : (within long : Bool) (step : Option ℕ) → within ≡ true → long ≡ false → step ≡ None
+  -- a block within the limits, not too long and well formed, has no refusal
+  first_refusal-none : (within long : Bool) (step : Option ℕ) → within ≡ true → long ≡ false → step ≡ None
       → (if within then (if long then Some answer.TooLong else malformed_refusal step) else Some answer.Stranger) ≡ None
-  accepted_by true true step e f g = absurd (cc)
-  accepted_by true false None e f g = refl
-  accepted_by true false (Some k) e f g = absurd (none-some k (sym g))
-  accepted_by false long step e f g = absurd (cc)
+  first_refusal-none true true step e f g = absurd (cc)
+  first_refusal-none true false None e f g = refl
+  first_refusal-none true false (Some k) e f g = absurd (none-some k (sym g))
+  first_refusal-none false long step e f g = absurd (cc)
 
   module _ (sound : malformed_step t ≡ None) (some : 0 < size) (few : size ≤ 65536) where
     -- a block is a part of the recording, so its steps are well-formed
-    block_sound : (k : ℕ) → malformed_step (trace_of (block_at size t k)) ≡ None
-    block_sound k =
+    well_formed-block : (k : ℕ) → malformed_step (trace_of (block_at size t k)) ≡ None
+    well_formed-block k =
         let m : ℕ = k * size in
         let parts = sound_apart t.opening (take m t.steps) (drop m t.steps)
         (subst (λ xs. malformed_step (record { opening = t.opening; steps = xs }) ≡ None)
@@ -61,25 +64,30 @@ module _ (t : Trace) (size : ℕ) where
         subst (λ (v : Levels). malformed_step (record { opening = v; steps = take size (drop m t.steps) }) ≡ None)
         (sym (levels_at-taken t m)) here.first
 
-    block_short : (k : ℕ) → length (take size (drop (k * size) t.steps)) ≤ 65536
-    block_short k = let long = length-take size (drop (k * size) t.steps) in
+    -- a block has at most 65,536 steps
+    length-block : (k : ℕ) → length (take size (drop (k * size) t.steps)) ≤ 65536
+    length-block k = let long = length-take size (drop (k * size) t.steps) in
         let most = min_left size (length (drop (k * size) t.steps)) in omega (arith, long, most, few)
       where
         min_left : (m n : ℕ) → min m n ≤ m
         min_left m n = omega arith
 
-    block_accepted : (n : ℕ) → n < block_count size t → first_refusal (block_count size t) (block_at size t n) ≡ None
-    block_accepted n low = accepted_by (nat_lt n (block_count size t))
+    -- no block has a refusal
+    first_refusal-block : (n : ℕ) → n < block_count size t → first_refusal (block_count size t) (block_at size t n)
+        ≡ None
+    first_refusal-block n low = first_refusal-none (nat_lt n (block_count size t))
         (nat_lt 65536 (length (take size (drop (n * size) t.steps)))) (malformed_step (trace_of (block_at size t n)))
         (lt-ltb n (block_count size t) low) (le-ltb 65536 (length (take size (drop (n * size) t.steps)))
-        (block_short n)) (block_sound n)
+        (length-block n)) (well_formed-block n)
 
-    pub size_cuts : IsCutOf t (block_count size t) blocks
-    size_cuts = record {
-      count = count_is;
-      numbered = λ n b at. ap (λ (x : Block). x.number) (block_there n b at).1;
-      accepted = λ n b at. let there = block_there n b at in subst (λ (x : Block). first_refusal (block_count size t) x
-          ≡ None) (sym there.1) (block_accepted n there.0);
+    -- the blocks are a cut of the recording
+    pub IsCutOf-blocks : IsCutOf t (block_count size t) blocks
+    IsCutOf-blocks = record {
+      count = length-blocks;
+      numbered = λ n b at. ap (λ (x : Block). x.number) (slice_get-blocks n b at).1;
+      accepted =
+          λ n b at. let there = slice_get-blocks n b at in subst (λ (x : Block). first_refusal (block_count size t) x
+          ≡ None) (sym there.1) (first_refusal-block n there.0);
       joins = parts_join t size sound 0 0 0 (block_count size t) refl;
       joined = cut_whole t size some;
     }

@@ -17,7 +17,7 @@ use Rattle.vme_floor.specs.declared.answer.Answer.{Answer}
 use Rattle.vme_floor.specs.declared.report.Report.{Report}
 use Rattle.vme_floor.specs.declared.report.RunFault.{RunFault}
 use Rattle.vme_floor.specs.declared.report.RunFault.TheVariants as fault
-use Rattle.vme_floor.proofs.Cutting.{same_lists, not_torn, out_of_range}
+use Rattle.vme_floor.proofs.Cutting.{list-equal, IsLeastTornBlock-never, in_range-not_out}
 use Rattle.vme_pod_check.specs.Deliveries.{AreDeliveries, AreTakenFrom}
 use Rattle.vme_pod_check.specs.Outcomes.{MayCome}
 use Rattle.vme_pod_check.specs.Judgements.{NeedsThreads}
@@ -33,7 +33,7 @@ all_at P (y ∷ ys) (suc k) x all at = all_at P ys k x (λ j d l. all (suc j) d 
 -- the content of deliveries of some blocks is those blocks
 pub content_is : (blocks deliveries : List Block) (answers : List Answer) (content : List Block) (total : ℕ) → total
     ≡ length blocks → AreTakenFrom blocks deliveries → IsContent total deliveries answers content → content ≡ blocks
-content_is blocks deliveries answers content total count of c = same_lists content blocks (c.count ∙ count) (λ n b at.
+content_is blocks deliveries answers content total count of c = list-equal content blocks (c.count ∙ count) (λ n b at.
     let f = c.filed n b at in let own : slice_get blocks b.number ≡ Some b = all_at
     (λ (x : Block). slice_get blocks x.number ≡ Some x) deliveries f.0 b of f.1.1 in
     ap (λ (k : ℕ). slice_get blocks k) (sym (c.numbered n b at)) ∙ own)
@@ -81,17 +81,18 @@ too_long blocks deliveries total is few short many = omega arith
 may_come : (blocks deliveries : List Block) (total workers : ℕ) (f : RunFault) → total ≡ length blocks → 0 < total
     → total ≤ 4096 → 0 < workers → workers ≤ 64
     → BlocksJoin blocks → AreDeliveries blocks deliveries → IsFault total deliveries workers f → MayCome f
-may_come blocks ds total w fault.BadTotal is positive few some most join d r = out_of_range total 4096 positive few r
+may_come blocks ds total w fault.BadTotal is positive few some most join d r =
+    in_range-not_out total 4096 positive few r
 may_come blocks ds total w fault.BadDraws is positive few some most join d r = too_long (length blocks) (length ds)
     total is few d.count r.2
-may_come blocks ds total w fault.BadWorkers is positive few some most join d r = out_of_range w 64 some most r.3
+may_come blocks ds total w fault.BadWorkers is positive few some most join d r = in_range-not_out w 64 some most r.3
 may_come blocks ds total w fault.Memory is positive few some most join d r = tt
 may_come blocks ds total w fault.NoWorker is positive few some most join d r = tt
 may_come blocks ds total w fault.Stray is positive few some most join d r = r
 may_come blocks ds total w (fault.Missing n answers) is positive few some most join d r = tt
 may_come blocks ds total w (fault.Torn n answers) is positive few some most join d r =
     let torn = r.1 in
-    not_torn torn.blocks n
+    IsLeastTornBlock-never torn.blocks n
     (subst BlocksJoin (sym (content_is blocks ds answers torn.blocks total is d.of torn.content)) join) torn.torn
 
 pub outcome_may_come : (blocks deliveries : List Block) (total workers : ℕ) (outcome : Result Report RunFault) → total

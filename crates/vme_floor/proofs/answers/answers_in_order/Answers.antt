@@ -2,7 +2,7 @@ use Rattle.std.proofs.Common.{◌≡◌, ℕ, refl, [], ◌∷◌, length, lengt
 use Rattle.std.proofs.Common.{arith}
 use Rattle.std.proofs.lemmas.Option.{slice_get_read}
 use Rattle.vme_floor.specs.declared.answer.Answer.{Answer}
-use Rattle.vme_floor.proofs.Replying.{undrawn, pushes}
+use Rattle.vme_floor.proofs.Replying.{occurrences-no_reply, answers-pushed}
 use Rattle.vme_floor.proofs.answers.answers_in_order.Goals as goal
 
 abbrev nothing : Option Answer
@@ -15,7 +15,7 @@ returns-in_default-index-clause-undrawn c _ =
     let at : slice_get table i ≡ Some nothing = slice_get_read table (length table) i c.index.result.now refl
     (let l = inv.long in omega (arith, l, test)) c.index.ensures ∙ ap (λ (o : Option Answer). Some o)
     c.in_default-index.is in
-    (i, test, undrawn c.args.replies.now i (λ k l t here is. inv.none i at k l t here is))
+    (i, test, occurrences-no_reply c.args.replies.now i (λ k l t here is. inv.none i at k l t here is))
 
 pub loop-i-preserved : goal.loop-i-preserved
 loop-i-preserved c =
@@ -28,6 +28,6 @@ loop-i-preserved c =
     let long = length-append c.loop-i.answers.items (c.in-Some.answer ∷ []) in let w0 = was.0 in (
       ap length e ∙ omega (arith, long, w0),
       omega (arith, cap, w1),
-      λ d a is. pushes table c.loop-i.answers.items i
+      λ d a is. answers-pushed table c.loop-i.answers.items i
           c.in-Some.answer was.0 at was.2 d a (ap (λ xs. slice_get xs d) (sym e) ∙ is),
     )

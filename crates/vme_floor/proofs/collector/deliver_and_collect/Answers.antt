@@ -5,8 +5,8 @@ use Rattle.vme_core.specs.declared.view.View.{View}
 use Rattle.vme_board.specs.Benches.{total_of, view_of}
 use Rattle.vme_floor.specs.declared.answer.Reply.{Reply}
 use Rattle.vme_floor.specs.Works.{number_at, number_in, IsDelivered, IsNext}
-use Rattle.vme_floor.proofs.Collecting.{own_stay_taken}
-use Rattle.vme_floor.proofs.Working.{works_same}
+use Rattle.vme_floor.proofs.Collecting.{OwnAreTaken-next}
+use Rattle.vme_floor.proofs.Working.{IsWork-more}
 use Rattle.vme_floor.proofs.collector.deliver_and_collect.Goals as goal
 
 pub draws-preserved : goal.draws-preserved
@@ -25,10 +25,10 @@ draws-preserved g c =
       work = record {
         of = after.board;
         draws = done.draws;
-        did = works_same total ds v w
+        did = IsWork-more total ds v w
             c.deliver_next.new.work.replies.items after.rest.list after.rest.draws after.rest.sees done.did;
       };
       collected = after.collected;
-      own = own_stay_taken board ds u v w reply b.number next after.rest n_is after.gone c.draws.invariant.own;
+      own = OwnAreTaken-next board ds u v w reply b.number next after.rest n_is after.gone c.draws.invariant.own;
       share = after.rest.share ∙ (c.in_ok-reply.ensures.share ∙ c.draws.invariant.share);
     }

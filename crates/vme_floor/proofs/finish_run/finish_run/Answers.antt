@@ -8,9 +8,10 @@ use Rattle.vme_floor.specs.Accounts.{AreReplies, IsClosed}
 use Rattle.vme_floor.specs.Works.{replied}
 use Rattle.vme_floor.specs.declared.answer.Answer.{Answer}
 use Rattle.vme_floor.specs.declared.answer.Reply.{Reply}
-use Rattle.vme_floor.proofs.Collecting.{count_limit}
-use Rattle.vme_floor.proofs.Ordering.{all_there}
-use Rattle.vme_floor.proofs.Accounts.{all_early, answered, apart, closed_all, first_torn, least_missing, recorded}
+use Rattle.vme_floor.proofs.Collecting.{block_count-le_length}
+use Rattle.vme_floor.proofs.Ordering.{HasBlock-contents}
+use Rattle.vme_floor.proofs.Accounts.{count-all_early, HasAnswers-work, HasBlock-apart, IsClosed-union, IsTorn-first}
+use Rattle.vme_floor.proofs.Accounts.{IsLeastUnfiled-missing, IsRecorded-whole}
 use Rattle.vme_floor.proofs.finish_run.finish_run.Goals as goal
 
 are_all : (lent replies : List Reply) (answers : List Answer) → lent ≡ replies → AreReplies lent answers
@@ -18,7 +19,8 @@ are_all : (lent replies : List Reply) (answers : List Answer) → lent ≡ repli
 are_all lent replies answers is are = subst (λ (rs : List Reply). AreReplies rs answers) is are
 
 pub insert_all-requires-clause-apart : goal.insert_all-requires-clause-apart
-insert_all-requires-clause-apart c n b d at left = apart c.args.total c.args.deliveries.now c.requires.account.0
+insert_all-requires-clause-apart c n b d at left =
+    HasBlock-apart c.args.total c.args.deliveries.now c.requires.account.0
     c.args.replies.items c.args.collection c.args.closed c.requires.account.1 n b d at left
 
 -- the first claim
@@ -26,21 +28,21 @@ pub returns-in-Ok-close-clause-answers : goal.returns-in-Ok-close-clause-answers
 returns-in-Ok-close-clause-answers c =
     let are = are_all c.as_slice.result.now c.args.replies.items c.in-Ok.answers c.as_slice.ensures.value
     c.in-Ok.ensures.replies in
-    answered c.args.total c.args.deliveries.now c.requires.account.0 c.args.replies.items c.in-Ok.answers
+    HasAnswers-work c.args.total c.args.deliveries.now c.requires.account.0 c.args.replies.items c.in-Ok.answers
     c.requires.account.1.work are c.in-Ok.ensures.count c.requires.account.1.did
 
 pub returns-in-Err-default-Missing-clause-answers : goal.returns-in-Err-default-Missing-clause-answers
 returns-in-Err-default-Missing-clause-answers c =
     let are = are_all c.as_slice.result.now c.args.replies.items c.in-Ok.answers c.as_slice.ensures.value
     c.in-Ok.ensures.replies in
-    answered c.args.total c.args.deliveries.now c.requires.account.0 c.args.replies.items c.in-Ok.answers
+    HasAnswers-work c.args.total c.args.deliveries.now c.requires.account.0 c.args.replies.items c.in-Ok.answers
     c.requires.account.1.work are c.in-Ok.ensures.count c.requires.account.1.did
 
 pub returns-in-Err-default-Torn-clause-answers : goal.returns-in-Err-default-Torn-clause-answers
 returns-in-Err-default-Torn-clause-answers c =
     let are = are_all c.as_slice.result.now c.args.replies.items c.in-Ok.answers c.as_slice.ensures.value
     c.in-Ok.ensures.replies in
-    answered c.args.total c.args.deliveries.now c.requires.account.0 c.args.replies.items c.in-Ok.answers
+    HasAnswers-work c.args.total c.args.deliveries.now c.requires.account.0 c.args.replies.items c.in-Ok.answers
     c.requires.account.1.work are c.in-Ok.ensures.count c.requires.account.1.did
 
 -- the second claim
@@ -49,24 +51,26 @@ returns-in-Ok-close-clause-recorded c =
     let are = are_all c.as_slice.result.now c.args.replies.items c.in-Ok.answers c.as_slice.ensures.value
     c.in-Ok.ensures.replies in let v : View = c.requires.account.0 in let k = c.requires.account.1 in
     let all : List (Option Block) = c.in-Ok-insert_all.book in let whole = c.in-Ok-close.ensures.whole in
-    let closed : IsClosed c.args.total v all = closed_all c.args.total c.args.deliveries.now v c.args.replies.items
+    let closed : IsClosed c.args.total v all = IsClosed-union c.args.total c.args.deliveries.now v c.args.replies.items
     c.args.collection c.args.closed k k.no_others k.no_taken all c.in-Ok-insert_all.ensures in
-    recorded c.args.total c.args.deliveries.now v c.args.replies.items c.in-Ok.answers k.work are c.in-Ok.ensures.count
+    IsRecorded-whole c.args.total c.args.deliveries.now v c.args.replies.items c.in-Ok.answers k.work are
+    c.in-Ok.ensures.count
     all closed c.in-Ok-close.whole whole.0 whole.1
 
 -- how many blocks were taken early
 pub returns-in-Ok-close-clause-within : goal.returns-in-Ok-close-clause-within
 returns-in-Ok-close-clause-within c =
-    let k = c.requires.account.1.collected in let most = count_limit c.args.collection.book in
+    let k = c.requires.account.1.collected in let most = block_count-le_length c.args.collection.book in
     let counted = k.counted in let long = k.long in omega (arith, most, counted, long)
 
 pub returns-in-Ok-close-clause-own : goal.returns-in-Ok-close-clause-own
 returns-in-Ok-close-clause-own c v k own =
     let all : List (Option Block) = c.in-Ok-insert_all.book in let whole = c.in-Ok-close.ensures.whole in
     let union = c.in-Ok-insert_all.ensures in let long = union.long in let held = k.collected.long in
-    all_early c.args.total c.args.deliveries.now v c.args.replies.items c.args.collection c.args.closed k k.no_others
+    count-all_early c.args.total c.args.deliveries.now v c.args.replies.items c.args.collection c.args.closed k
+    k.no_others
     k.no_taken all union own
-    (λ n low. all_there whole.0 all (sym whole.1.all) n (omega (arith, low, long, held)))
+    (λ n low. HasBlock-contents whole.0 all (sym whole.1.all) n (omega (arith, low, long, held)))
 
 -- the third claim
 pub returns-in-Err-default-Missing-clause-refusals : goal.returns-in-Err-default-Missing-clause-refusals
@@ -74,11 +78,11 @@ returns-in-Err-default-Missing-clause-refusals c =
     let are = are_all c.as_slice.result.now c.args.replies.items c.in-Ok.answers c.as_slice.ensures.value
     c.in-Ok.ensures.replies in let v : View = c.requires.account.0 in let k = c.requires.account.1 in
     let all : List (Option Block) = c.in-Ok-insert_all.book in
-    let closed : IsClosed c.args.total v all = closed_all c.args.total c.args.deliveries.now v c.args.replies.items
+    let closed : IsClosed c.args.total v all = IsClosed-union c.args.total c.args.deliveries.now v c.args.replies.items
     c.args.collection c.args.closed k k.no_others k.no_taken all c.in-Ok-insert_all.ensures in
     let why : Inserted.IsLeastMissing all c.in-Err-default-Missing.number = subst (RefusesClose all)
     c.in-Err-default-Missing.field-0-1-is c.in-Err-default-Missing.ensures.why in
-    least_missing c.args.total c.args.deliveries.now v c.args.replies.items c.in-Ok.answers k.work are
+    IsLeastUnfiled-missing c.args.total c.args.deliveries.now v c.args.replies.items c.in-Ok.answers k.work are
     c.in-Ok.ensures.count all closed c.in-Err-default-Missing.number why
 
 pub returns-in-Err-default-Torn-clause-refusals : goal.returns-in-Err-default-Torn-clause-refusals
@@ -86,11 +90,11 @@ returns-in-Err-default-Torn-clause-refusals c =
     let are = are_all c.as_slice.result.now c.args.replies.items c.in-Ok.answers c.as_slice.ensures.value
     c.in-Ok.ensures.replies in let v : View = c.requires.account.0 in let k = c.requires.account.1 in
     let all : List (Option Block) = c.in-Ok-insert_all.book in
-    let closed : IsClosed c.args.total v all = closed_all c.args.total c.args.deliveries.now v c.args.replies.items
+    let closed : IsClosed c.args.total v all = IsClosed-union c.args.total c.args.deliveries.now v c.args.replies.items
     c.args.collection c.args.closed k k.no_others k.no_taken all c.in-Ok-insert_all.ensures in
     let why : (bs : List Block) × Inserted.IsLeastTorn all c.in-Err-default-Torn.number bs = subst (RefusesClose all)
     c.in-Err-default-Torn.field-0-1-is c.in-Err-default-Torn.ensures.why in
-    first_torn c.args.total c.args.deliveries.now v c.args.replies.items c.in-Ok.answers k.work are
+    IsTorn-first c.args.total c.args.deliveries.now v c.args.replies.items c.in-Ok.answers k.work are
     c.in-Ok.ensures.count all closed c.in-Err-default-Torn.number why.0 why.1
 
 -- the benches account for the board: each delivery was drawn by one of them

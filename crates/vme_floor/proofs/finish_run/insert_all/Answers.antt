@@ -1,8 +1,9 @@
 use Rattle.std.proofs.Common.{rules, ◌≡◌, ℕ, ◌+◌, ◌<◌, List, Option, None, subst, ap, arith, length}
 use Rattle.std.specs.Vec.Iter.{into_iter_items}
 use Rattle.vme_trace.specs.declared.block.Block.{Block}
-use Rattle.vme_floor.proofs.Collecting.{place_of}
-use Rattle.vme_floor.proofs.Uniting.{IsPart, at_i, never_refused, part_first, part_next, part_skip}
+use Rattle.vme_floor.proofs.Collecting.{slice_get-stored}
+use Rattle.vme_floor.proofs.Uniting.{IsPart, slice_get-block, RefusesBlock-never, IsPart-first, IsPart-next}
+use Rattle.vme_floor.proofs.Uniting.{IsPart-skip}
 use Rattle.vme_floor.proofs.finish_run.insert_all.Goals as goal
 
 pub loop-content-init : goal.loop-content-init
@@ -15,7 +16,7 @@ loop-content-init c =
       part = (
         0,
         subst (λ (l : List (Option Block)). IsPart c.args.book ys 0 c.args.book l) all
-            (part_first c.args.book ys),
+            (IsPart-first c.args.book ys),
       );
       counted = search rules;
     }
@@ -29,7 +30,7 @@ loop-content-preserved-in_default c =
       finite = tt;
       part = (
         i + 1,
-        part_skip c.args.book c.args.contents.items i c.loop-content.book
+        IsPart-skip c.args.book c.args.contents.items i c.loop-content.book
             (into_iter_items c.loop-content.content-iterator) (into_iter_items c.next.new.self) c.in-Some.content
             inv.part.1
             steps.0 c.in_default.is,
@@ -44,9 +45,10 @@ unreachable-requires c =
     let xs : List (Option Block) = c.args.book in let ys : List (Option Block) = c.args.contents.items in
     let rest : List (Option Block) = into_iter_items c.loop-content.content-iterator in
     let more : List (Option Block) = into_iter_items c.next.new.self in
-    let number : b.number ≡ i = c.requires.numbered i b (at_i xs ys i c.loop-content.book rest more c.in-Some.content
+    let number : b.number ≡ i =
+    c.requires.numbered i b (slice_get-block xs ys i c.loop-content.book rest more c.in-Some.content
     inv.part.1 steps.0 b c.in-Some-content.is c.requires.apart) in
-    never_refused xs ys i c.loop-content.book rest more c.in-Some.content inv.part.1 steps.0 b c.in-Some-content.is
+    RefusesBlock-never xs ys i c.loop-content.book rest more c.in-Some.content inv.part.1 steps.0 b c.in-Some-content.is
     c.requires.apart c.requires.long b.number c.in-Err.fault number c.in-Err.ensures.why c.in_default-fault.not-Memory
 
 pub loop-content-preserved : goal.loop-content-preserved
@@ -58,7 +60,8 @@ loop-content-preserved c =
     let rest : List (Option Block) = into_iter_items c.loop-content.content-iterator in
     let more : List (Option Block) = into_iter_items c.next.new.self in
     let insert = c.in_default-insert.ensures in
-    let number : b.number ≡ i = c.requires.numbered i b (at_i xs ys i zs rest more c.in-Some.content inv.part.1 steps.0
+    let number : b.number ≡ i =
+    c.requires.numbered i b (slice_get-block xs ys i zs rest more c.in-Some.content inv.part.1 steps.0
     b c.in-Some-content.is c.requires.apart) in
     let known : b.number < length zs = insert.known in
     let counted = inv.counted in let less = steps.1 in let long = ap (λ (l : List (Option Block)). length l) steps.0 in
@@ -67,9 +70,9 @@ loop-content-preserved c =
       finite = tt;
       part = (
         i + 1,
-        part_next xs ys i zs rest more c.in-Some.content inv.part.1 steps.0 b c.in-Some-content.is
+        IsPart-next xs ys i zs rest more c.in-Some.content inv.part.1 steps.0 b c.in-Some-content.is
             c.requires.apart b.number c.insert.new.self number insert.inserted
-            (place_of zs b.number None known insert.free)
+            (slice_get-stored zs b.number None known insert.free)
             (omega (arith, known, number)),
       );
       counted = omega (arith, counted, less, long);

@@ -10,7 +10,7 @@ use Rattle.vme_floor.specs.Claims.{IsFault}
 use Rattle.vme_floor.specs.declared.report.Report.{Report}
 use Rattle.vme_floor.specs.declared.report.RunFault.{RunFault}
 use Rattle.vme_floor.specs.declared.report.RunFault.TheVariants.{Stray}
-use Rattle.vme_floor.proofs.Cutting.{outcome_of}
+use Rattle.vme_floor.proofs.Cutting.{IsOutcomeOf-result}
 use Rattle.vme_floor.proofs.runner.run.Goals as goal
 
 split_of : (r : Result Report RunFault) → IfOk r (λ x. x.verdict ≡ verdict_by rules_in_force x.capture)
@@ -34,5 +34,5 @@ returns-clause-accounted g c = not_stray c.args.total c.args.deliveries.now c.ar
 pub returns-clause-cut : goal.returns-clause-cut
 returns-clause-cut g c t blocks cut are range =
     let done = c.run_deliveries.ensures in
-    outcome_of t c.args.total c.args.workers blocks c.args.deliveries.now cut are range c.run_deliveries.result
+    IsOutcomeOf-result t c.args.total c.args.workers blocks c.args.deliveries.now cut are range c.run_deliveries.result
     done.answers done.recorded done.verdict done.refusals

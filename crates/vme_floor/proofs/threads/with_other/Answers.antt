@@ -8,8 +8,8 @@ use Rattle.vme_floor.specs.declared.answer.Reply.{Reply}
 use Rattle.vme_floor.specs.declared.collector.CollectingWorker.{CollectingWorker}
 use Rattle.vme_floor.specs.declared.worker.Work.{Work}
 use Rattle.vme_floor.specs.Works.{IsOtherWorkOf, IsWork}
-use Rattle.vme_floor.proofs.Collecting.{collected_both}
-use Rattle.vme_floor.proofs.Working.{works_both, found_both}
+use Rattle.vme_floor.proofs.Collecting.{IsCollected-joint}
+use Rattle.vme_floor.proofs.Working.{IsWork-joint, AllFound-joint}
 use Rattle.vme_floor.proofs.threads.with_other.Goals as goal
 
 pub returns-clause-collected : goal.returns-clause-collected
@@ -24,15 +24,16 @@ returns-clause-collected c =
     let v : View = view_of first.work.bench in let w : View = view_of other.bench in
     let u : View = view_of c.fold-bench.result in
     record {
-      found = found_both v w u (length ds) fold.joint a.found;
+      found = AllFound-joint v w u (length ds) fold.joint a.found;
       work = record {
         of = fold.board;
         draws = a.work.draws;
         did = subst (λ (rs : List Reply). IsWork total ds u rs) (sym c.in_ok-append.ensures.items)
-            (works_both total ds v w u first.work.replies.items other.replies.items fold.joint a.work.did b.is_work.did
+            (IsWork-joint total ds v w u first.work.replies.items other.replies.items fold.joint a.work.did
+            b.is_work.did
             fold.draws fold.lists);
       };
-      collected = collected_both total v w u first.collection fold.joint b.takes a.collected;
+      collected = IsCollected-joint total v w u first.collection fold.joint b.takes a.collected;
     }
 
 pub returns-clause-share : goal.returns-clause-share

@@ -8,14 +8,14 @@ use Rattle.vme_board.specs.Benches.{total_of, view_of}
 use Rattle.vme_floor.specs.Collecting.{IsCollected}
 use Rattle.vme_floor.specs.declared.threads.WorkContext.{WorkContext}
 use Rattle.vme_floor.specs.declared.worker.Work.{Work}
-use Rattle.vme_floor.proofs.Places.{all_more, all_more_at}
-use Rattle.vme_floor.proofs.Sharing.{upto, whole_upto}
+use Rattle.vme_floor.proofs.Places.{all-append_one, all-append_one_at}
+use Rattle.vme_floor.proofs.Sharing.{upto, IsWholeShare-upto}
 use Rattle.vme_core.specs.Shares.{kept_share, IsWholeShare}
 use Rattle.std.specs.Vec.Iter.{into_iter_items, into_iter_len}
 use Rattle.vme_board.specs.declared.bench.Bench.{Bench}
 use Rattle.vme_floor.specs.declared.collector.CollectingWorker.{CollectingWorker}
 use Rattle.vme_core.specs.Views.{kept_view}
-use Rattle.vme_floor.proofs.Collecting.{collected_same}
+use Rattle.vme_floor.proofs.Collecting.{IsCollected-same}
 use Rattle.vme_floor.proofs.threads.work_in_scope.Goals.{else-loop-worker-test, then-loop-worker-test+then-is_err}
 use Rattle.vme_floor.proofs.threads.work_in_scope.Goals.{then-loop-worker-test+else-is_err+in-Err}
 use Rattle.vme_floor.proofs.threads.work_in_scope.Goals as goal
@@ -86,18 +86,18 @@ loop-worker-preserved g c =
         no_draws = ap (λ (v : View). v.draws) split.old ∙ was.new.no_draws;
       };
       collected = subst (λ (v : View). IsCollected (total_of c.args.board.now) v c.args.collection) (sym split.old)
-          (collected_same (total_of c.args.board.now) (view_of c.loop-worker.bench)
+          (IsCollected-same (total_of c.args.board.now) (view_of c.loop-worker.bench)
           (kept_view (view_of c.loop-worker.bench)) c.args.collection was.collected refl (λ n. le_refl _));
       share = ap (λ (v : View). v.share) split.old ∙ (ap kept_share was.share ∙ ap (λ (n : ℕ). n ∷ []) more);
       count = omega (arith, was.count, more);
-      workers = λ k d below. all_more_at (λ n h. h.promise.worker ≡ n + 1) held c.push_reserved.new.self.items
+      workers = λ k d below. all-append_one_at (λ n h. h.promise.worker ≡ n + 1) held c.push_reserved.new.self.items
           c.in-Ok.handle (c.push_reserved.ensures.items ∙ ap (λ hs. hs ++ c.in-Ok.handle ∷ []) c.reserve.ensures.items)
           (ap (λ (a : WorkContext). a.worker) c.in-Ok.ensures.ok
           ∙ (was.count ∙ ap (λ (n : ℕ). n + 1) c.loop-worker.handles.ok.0))
           (λ l e low. was.workers l e (let long = c.loop-worker.handles.ok.0 in omega (arith, low, long))) k d
           (let long = c.push_reserved.new.self.ok.0 in omega (arith, below, long));
       none = λ one. let t = c.loop-worker-test.true in let a = c.loop-worker.auto.worker in absurd (omega arith);
-      assignments = λ k d below. all_more P held c.push_reserved.new.self.items c.in-Ok.handle
+      assignments = λ k d below. all-append_one P held c.push_reserved.new.self.items c.in-Ok.handle
           (c.push_reserved.ensures.items ∙ ap (λ hs. hs ++ c.in-Ok.handle ∷ []) c.reserve.ensures.items) (
             ap (λ (a : WorkContext). a.board.now) c.in-Ok.ensures.ok,
             ap (λ (a : WorkContext). a.deliveries.now)
@@ -164,4 +164,4 @@ returns-in-Ok-all-clause-whole g c =
     let here : (view_of c.in-Ok-all.all.work.bench).share ≡ m
     ∷ upto t = subst (λ (r : Result CollectingWorker AllocError). IfOk r (λ all. (view_of all.work.bench).share ≡ m
     ∷ upto t)) c.in-Ok-all.is was.4 in
-    subst (λ (s : List ℕ). IsWholeShare s) (sym (here ∙ ap (λ (n : ℕ). m ∷ upto n) done)) (whole_upto m)
+    subst (λ (s : List ℕ). IsWholeShare s) (sym (here ∙ ap (λ (n : ℕ). m ∷ upto n) done)) (IsWholeShare-upto m)

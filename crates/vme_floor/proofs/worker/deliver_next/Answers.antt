@@ -9,8 +9,8 @@ use Rattle.vme_floor.specs.declared.answer.Answer.{Answer}
 use Rattle.vme_floor.specs.declared.answer.Reply.{Reply}
 use Rattle.vme_floor.specs.Accounts.{reply_of}
 use Rattle.vme_floor.specs.Works.{number_at, number_in, IsKnownFiled, IsWork, IsListAfter}
-use Rattle.vme_floor.proofs.Collecting.{sees_on}
-use Rattle.vme_floor.proofs.Working.{old_or_filed, unfound_below_less, unrefused, works_on}
+use Rattle.vme_floor.proofs.Collecting.{SeesMore-transitive}
+use Rattle.vme_floor.proofs.Working.{IsOldOrFiled-list_after, unfound_below-lt, number-below_total, IsWork-next}
 use Rattle.vme_floor.proofs.worker.deliver_next.Goals as goal
 
 pub returns-clause-work : goal.returns-clause-work
@@ -27,10 +27,11 @@ returns-clause-work g c =
       did = subst (λ (rs : List Reply). IsWork total ds (view_of delivered.new.bench) rs)
           (sym (c.push_reserved.ensures.items ∙ ap (λ (rs : List Reply). rs ++ reply_of d delivered.result ∷ [])
           c.reserve.ensures.items))
-          (works_on total ds (view_of c.args.work.now.bench) (view_of c.draw.new.self) (view_of delivered.new.bench)
+          (IsWork-next total ds (view_of c.args.work.now.bench) (view_of c.draw.new.self) (view_of delivered.new.bench)
           c.args.work.now.replies.items d b delivered.result was.did draw.fresh.0 draw.won draw.rest.list
           delivered.ensures.draws.draws delivered.ensures.suits delivered.ensures.lists near at
-          (sees_on (view_of c.args.work.now.bench) (view_of c.draw.new.self) (view_of delivered.new.bench) draw.grows
+          (SeesMore-transitive (view_of c.args.work.now.bench) (view_of c.draw.new.self) (view_of delivered.new.bench)
+          draw.grows
           delivered.ensures.sees) delivered.ensures.doubled);
     }
 
@@ -53,16 +54,17 @@ returns-clause-next g c =
     delivered.ensures.lists in
     record {
       within = near;
-      less = unfound_below_less (draws_of board) u.found w.found (λ e. omega (arith, same_at e, draw.grows.found e)) d
+      less = unfound_below-lt (draws_of board) u.found w.found (λ e. omega (arith, same_at e, draw.grows.found e)) d
           draw.some
           draw.fresh.1 (omega (arith, same_at d, found));
       takes = delivered.ensures.takes ∙ draw.rest.takes;
-      sees = sees_on u v w draw.grows delivered.ensures.sees;
+      sees = SeesMore-transitive u v w draw.grows delivered.ensures.sees;
       filed = λ is. subst (λ (m : ℕ). IsKnownFiled (total_of board) w m) (sym n_is)
           (record {
-            within = unrefused (total_of board) b (subst (λ (x : Answer). IsRightAnswer (total_of board) b x) is
+            within =
+                number-below_total (total_of board) b (subst (λ (x : Answer). IsRightAnswer (total_of board) b x) is
                 delivered.ensures.suits);
             sees = delivered.ensures.filed is;
           });
-      lists = λ n some. old_or_filed ds u.list w.list d b a at lists n some;
+      lists = λ n some. IsOldOrFiled-list_after ds u.list w.list d b a at lists n some;
     }

@@ -4,7 +4,7 @@ use Rattle.vme_trace.specs.Trace.{Trace}
 use Rattle.vme_trace.specs.WellFormed.{malformed_step}
 use Rattle.vme_auditor.specs.Findings.{AreFindingsOf}
 use Rattle.vme_step_auditor.specs.ReadBy.{GivenSteps, read_of}
-use Rattle.vme_step_auditor.proofs.ReadOn.{read_sound}
+use Rattle.vme_step_auditor.proofs.ReadOn.{well_formed-read}
 use Rattle.vme_step_auditor.proofs.step_auditor.StepAuditor.audited.Goals as goal
 
 pub returns : goal.returns
@@ -16,5 +16,5 @@ returns c =
     (λ ok.
     let read = c.self.invariant.read ok in
     let sound = subst (λ (t : Trace). malformed_step t ≡ None) (sym read)
-    (read_sound i.rules.allowances.now i.rules.stop given ok) in
+    (well_formed-read i.rules.allowances.now i.rules.stop given ok) in
     subst (AreFindingsOf c.audited.result) read (c.audited.ensures sound))

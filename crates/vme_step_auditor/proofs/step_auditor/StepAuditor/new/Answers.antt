@@ -5,8 +5,8 @@ use Rattle.vme_trace.specs.declared.step.Step.{Step}
 use Rattle.vme_audit.specs.Parts.{breaks}
 use Rattle.vme_step_auditor.specs.ReadBy.{read_by}
 use Rattle.vme_step_auditor.specs.AuditedSteps.{HasAuditedSteps}
-use Rattle.vme_step_auditor.proofs.ReadOn.{reads_unbroken}
-use Rattle.vme_step_auditor.proofs.Taking.{takes_none}
+use Rattle.vme_step_auditor.proofs.ReadOn.{read_by-unbroken}
+use Rattle.vme_step_auditor.proofs.Taking.{HasAuditedSteps-first}
 use Rattle.vme_step_auditor.proofs.step_auditor.StepAuditor.new.Goals as goal
 
 pub invariant_of-result : goal.invariant_of-result
@@ -18,7 +18,8 @@ invariant_of-result c =
     (λ (x : List Step). HasAuditedSteps rules.allowances.now rules.stop (record { opening = o; steps = x }) c.new.result
     c.default.result)
     (sym c.new-2.ensures)
-    (takes_none rules.allowances.now rules.stop o c.new.result c.default.result (c.breaks_grow.ensures.opening o few)
+    (HasAuditedSteps-first rules.allowances.now rules.stop o c.new.result c.default.result
+    (c.breaks_grow.ensures.opening o few)
     c.new.ensures c.default.ensures.0 c.default.ensures.1.0 c.default.ensures.1.1)
 
 pub returns-clause-nothing : goal.returns-clause-nothing
@@ -31,4 +32,4 @@ returns-clause-nothing c =
     subst
     (λ (x : List Step). breaks (read_by rules.allowances.now rules.stop (record { opening = o; steps = x })) ≡ [])
     (sym c.new-2.ensures)
-    (ap (λ (t : Trace). breaks t) (reads_unbroken rules.allowances.now rules.stop first none) ∙ none)
+    (ap (λ (t : Trace). breaks t) (read_by-unbroken rules.allowances.now rules.stop first none) ∙ none)

@@ -11,7 +11,8 @@ use Rattle.vme_auditor.specs.declared.findings.BreakCounts.{BreakCounts}
 use Rattle.vme_step_auditor.specs.ReadBy.{GivenSteps, read_by, read_of}
 use Rattle.vme_step_auditor.specs.Counting.{with_category}
 use Rattle.vme_step_auditor.specs.AuditedSteps.{HasAuditedSteps}
-use Rattle.vme_step_auditor.proofs.Taking.{found_is_added, no_break_added, takes_break, takes_conforming, takes_stopped}
+use Rattle.vme_step_auditor.proofs.Taking.{breaks-found_added, breaks-none_added, HasAuditedSteps-break}
+use Rattle.vme_step_auditor.proofs.Taking.{HasAuditedSteps-conforming, HasAuditedSteps-stopped}
 use Rattle.vme_step_auditor.proofs.step_auditor.StepAuditor.take.Goals as goal
 
 pub invariant_of-self : goal.invariant_of-self
@@ -23,7 +24,8 @@ invariant_of-self c =
     (λ (x : List Step). HasAuditedSteps i.rules.allowances.now i.rules.stop (record { opening = i.opening; steps = x })
     i.auditor i.counts)
     (sym c.and-given.ensures)
-    (takes_stopped c.breaks_grow.ensures.step c.breaks_grow.ensures.within i.rules.allowances.now i.rules.stop given
+    (HasAuditedSteps-stopped c.breaks_grow.ensures.step c.breaks_grow.ensures.within i.rules.allowances.now i.rules.stop
+    given
     i.auditor i.counts c.self.invariant c.args.step.now few (sym c.stops.ensures ∙ c.if-stops.true))
 
 pub returns-then-stops-clause-told : goal.returns-then-stops-clause-told
@@ -37,7 +39,7 @@ returns-then-stops-clause-told c =
     ≡ breaks (read_of c.args.self.now) ++ [])
     (sym c.and-given.ensures)
     (λ ok.
-    no_break_added c.breaks_grow.ensures.step c.breaks_grow.ensures.within i.rules.allowances.now i.rules.stop given
+    breaks-none_added c.breaks_grow.ensures.step c.breaks_grow.ensures.within i.rules.allowances.now i.rules.stop given
     i.auditor i.counts c.self.invariant c.args.step.now few (sym c.stops.ensures ∙ c.if-stops.true) ok
     ∙ ap (λ (g : GivenSteps). breaks (read_of g) ++ []) c.self.view_is)
 
@@ -55,7 +57,8 @@ invariant_of-self-in-Some c =
     (λ (d : BreakCounts). HasAuditedSteps i.rules.allowances.now i.rules.stop
     (record { opening = i.opening; steps = i.given.items ++ c.args.step.now ∷ [] }) c.step.new.self d)
     (sym counts)
-    (takes_break c.breaks_grow.ensures.step c.breaks_grow.ensures.within i.rules.allowances.now i.rules.stop given
+    (HasAuditedSteps-break c.breaks_grow.ensures.step c.breaks_grow.ensures.within i.rules.allowances.now i.rules.stop
+    given
     i.auditor i.counts c.self.invariant c.args.step.now few (sym c.stops.ensures ∙ c.if-stops.false) c.step.new.self
     c.in_ok-found.ensures.recorded (λ e. let refused = c.in_ok-found.ensures.too_many.1 e in absurd (cc))
     (as_break c.in-Some.found)
@@ -71,7 +74,8 @@ invariant_of-self-in-None c =
     (λ (x : List Step). HasAuditedSteps i.rules.allowances.now i.rules.stop (record { opening = i.opening; steps = x })
     c.step.new.self i.counts)
     (sym c.and-given.ensures)
-    (takes_conforming c.breaks_grow.ensures.step c.breaks_grow.ensures.within i.rules.allowances.now i.rules.stop given
+    (HasAuditedSteps-conforming c.breaks_grow.ensures.step c.breaks_grow.ensures.within i.rules.allowances.now
+    i.rules.stop given
     i.auditor i.counts c.self.invariant c.args.step.now few (sym c.stops.ensures ∙ c.if-stops.false) c.step.new.self
     c.in_ok-found.ensures.recorded (λ e. let refused = c.in_ok-found.ensures.too_many.1 e in absurd (cc))
     (λ ok. c.in_ok-found.ensures.told ok
@@ -88,7 +92,7 @@ returns-in-Some-clause-told c =
     ≡ breaks (read_of c.args.self.now) ++ as_break c.in-Some.found ∷ [])
     (sym c.and-given.ensures)
     (λ ok.
-    found_is_added c.breaks_grow.ensures.step c.breaks_grow.ensures.within i.rules.allowances.now i.rules.stop given
+    breaks-found_added c.breaks_grow.ensures.step c.breaks_grow.ensures.within i.rules.allowances.now i.rules.stop given
     i.auditor i.counts c.self.invariant c.args.step.now few (sym c.stops.ensures ∙ c.if-stops.false) c.step.new.self
     c.in_ok-found.ensures.recorded (Some (as_break c.in-Some.found))
     (λ ok. c.in_ok-found.ensures.told ok
@@ -106,7 +110,7 @@ returns-in-None-clause-told c =
     ≡ breaks (read_of c.args.self.now) ++ [])
     (sym c.and-given.ensures)
     (λ ok.
-    found_is_added c.breaks_grow.ensures.step c.breaks_grow.ensures.within i.rules.allowances.now i.rules.stop given
+    breaks-found_added c.breaks_grow.ensures.step c.breaks_grow.ensures.within i.rules.allowances.now i.rules.stop given
     i.auditor i.counts c.self.invariant c.args.step.now few (sym c.stops.ensures ∙ c.if-stops.false) c.step.new.self
     c.in_ok-found.ensures.recorded None
     (λ ok. c.in_ok-found.ensures.told ok
