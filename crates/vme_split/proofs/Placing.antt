@@ -58,7 +58,8 @@ AreInTurn-start : (n : ℕ) (xs : List Interval) (a : Interval) → AreInTurn n 
 AreInTurn-start n [] a turn c = absurd (Contains-nil a c)
 AreInTurn-start n (x ∷ xs) a turn c = elim (Contains-cons_cases x xs a c) [
   | inl is ↦ subst (λ (y : Interval). n ≤ y.start) is turn.0
-  | inr later ↦ let later_start = Follow-start x.start x.end xs a turn.1 later (λ m t. AreInTurn-start m xs a t later) in
+  | inr later ↦ let later_start = Follow-start x.start x.end xs a turn.1 later
+      (λ m t. AreInTurn-start m xs a t later) in
       omega (arith, later_start, turn.0)
 ]
 
