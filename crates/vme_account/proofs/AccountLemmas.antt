@@ -122,12 +122,12 @@ module _ (t : Trace) (nothing : has_any_stretch (judged_stretches t) ≡ false) 
   stretches-none [] e = refl
   stretches-none (stretch ∷ stretches) e = absurd (cc e)
 
-  -- the opening has no marks
+  -- the opening of a recording in which nothing is judged has no marks
   opening_marks-none : (b : Bool) → is_idle t.opening ≡ b → opening_marks t.opening ≡ []
   opening_marks-none false e = rw e refl
   opening_marks-none true e = absurd (cc (sym nothing ∙ has_any_stretch-idle t e))
 
-  -- no marks are listed
+  -- of a recording in which nothing is judged no marks are listed
   marks_listed-none : (o : Option Break) → marks_listed o (all_marks t) ≡ []
   marks_listed-none o =
       ap (λ (stretches : List Stretch). marks_listed o (marks_over (all_over t) t stretches))
@@ -138,7 +138,7 @@ module _ (t : Trace) (nothing : has_any_stretch (judged_stretches t) ≡ false) 
       of_nothing None = refl
       of_nothing (Some b) = refl
 
-  -- so there are none
+  -- a recording in which nothing is judged has no marks
   marks-none : (o : Option Break) → opening_marks t.opening ++ marks_listed o (all_marks t) ≡ []
   marks-none o =
       ap (λ (ms : List Mark). ms ++ marks_listed o (all_marks t)) (opening_marks-none (is_idle t.opening) refl)
@@ -163,7 +163,7 @@ module _ (finds : FindsFirst) (shows : ShowsMarks) (t : Trace) (ok : malformed_s
   abbrev marks : List Mark
   marks = opening_marks t.opening ++ marks_listed first (all_marks t)
 
-  -- the marks that are reached are these
+  -- the marks that are reached are those of the opening and those that are listed
   marks-reached : (reached t.opening t.steps).marks ≡ marks
   marks-reached =
       reached-marks t.opening t.steps
@@ -212,7 +212,7 @@ module _ (finds : FindsFirst) (shows : ShowsMarks) (t : Trace) (ok : malformed_s
   abbrev rows : List Row
   rows = rows_of None (reached t.opening t.steps).marks
 
-  -- they make the listing, with a verdict after them
+  -- the rows of the marks that are reached make the listing, with a verdict after them
   rows-recorded : (v : ListedVerdict) × (rows ++ row.Verdict v ∷ [] ≡ recorded_rows t)
   rows-recorded =
       let (v, is) = rows-with_verdict (has_any_stretch (judged_stretches t)) refl in

@@ -88,7 +88,8 @@ module _ (tenures : List ℕ) (long : length tenures ≡ 88) (level slot : ℕ) 
     abbrev is_this : Bool
     is_this = granted == level && taken == slot
 
-    -- the same, by whether it is and whether it has a place
+    -- counting a tenure adds one to the count if it is of the level and the slot, by whether it is and whether it has a
+    -- place
     by_tests : (same placed : Bool) → is_this ≡ same → is_place granted taken ≡ placed
         → read (cond placed (with_one tenures (place_of granted taken)) tenures) ≡ read tenures + one_if same
     by_tests true placed e o = of_this (eqb-place level slot granted taken e)

@@ -17,7 +17,7 @@ use Rattle.vme_account.specs.declared.row_kind.RowKind.TheVariants as kind
 abbrev pub weight : RowKind → Row → ℕ
 weight k r = one_if (is_of k r)
 
--- the row of a tenure that is open at the start
+-- the kinds of the row of an open tenure don't depend on its end
 open_tenure : (k : RowKind) (i : ℕ) (e : Option ℕ) → weight k (row.OpenTenure i e) ≡ weight k (row.OpenTenure i None)
 open_tenure kind.OpenTenures i e = refl
 open_tenure (kind.Tenures level slot) i e = refl
@@ -32,7 +32,7 @@ open_tenure kind.Errors i e = refl
 open_tenure kind.Pending i e = refl
 open_tenure kind.Resets i e = refl
 
--- the row of a tenure that starts
+-- the kinds of the row of a tenure don't depend on its end
 tenure : (k : RowKind) (i granted taken : ℕ) (e : Option ℕ)
     → weight k (row.Tenure i granted taken e) ≡ weight k (row.Tenure i granted taken None)
 tenure kind.OpenTenures i granted taken e = refl
@@ -48,7 +48,7 @@ tenure kind.Errors i granted taken e = refl
 tenure kind.Pending i granted taken e = refl
 tenure kind.Resets i granted taken e = refl
 
--- the row of a cycle with an address
+-- the kinds of the row of a cycle with an address don't depend on its end
 weight-addressed_cycle : (k : RowKind) (i : ℕ) (c : Class) (modifier address : ℕ) (e : Option ℕ)
     → weight k (row.AddressedCycle i c modifier address e) ≡ weight k (row.AddressedCycle i c modifier address None)
 weight-addressed_cycle kind.OpenTenures i c modifier address e = refl
@@ -64,7 +64,7 @@ weight-addressed_cycle kind.Errors i c modifier address e = refl
 weight-addressed_cycle kind.Pending i c modifier address e = refl
 weight-addressed_cycle kind.Resets i c modifier address e = refl
 
--- the row of a free cycle
+-- the kinds of the row of a free cycle don't depend on its end
 weight-free_cycle : (k : RowKind) (i modifier : ℕ) (e : Option ℕ)
     → weight k (row.FreeCycle i modifier e) ≡ weight k (row.FreeCycle i modifier None)
 weight-free_cycle kind.OpenTenures i modifier e = refl
@@ -80,7 +80,7 @@ weight-free_cycle kind.Errors i modifier e = refl
 weight-free_cycle kind.Pending i modifier e = refl
 weight-free_cycle kind.Resets i modifier e = refl
 
--- the row of an interrupt acknowledge
+-- the kinds of the row of an interrupt acknowledge don't depend on its end
 weight-interrupt_cycle : (k : RowKind) (i asked : ℕ) (e : Option ℕ)
     → weight k (row.InterruptCycle i asked e) ≡ weight k (row.InterruptCycle i asked None)
 weight-interrupt_cycle kind.OpenTenures i asked e = refl
@@ -96,7 +96,7 @@ weight-interrupt_cycle kind.Errors i asked e = refl
 weight-interrupt_cycle kind.Pending i asked e = refl
 weight-interrupt_cycle kind.Resets i asked e = refl
 
--- the row of an answered transfer
+-- the kinds of the row of an answered transfer don't depend on its close
 weight-transfer : (k : RowKind) (i : ℕ) (d : Direction) (e : Option ℕ) (r cycle : ℕ) (a : TransferAnswer)
     → weight k (row.Transfer d (marked_line a.line) i cycle r e a.lanes)
     ≡ weight k (row.Transfer d (marked_line a.line) i cycle r None a.lanes)

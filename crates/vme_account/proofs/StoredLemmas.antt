@@ -32,7 +32,7 @@ AreRecent-all_kept o x k kept all =
     subst (λ (l : List Step). AreRecent k.recent (recorded o l))
     (ap (λ (n : ℕ). take n x) (all ∙ kept.counted) ∙ take-length x) kept.recent
 
--- one more step that is kept
+-- `AreStored` holds after one more step that is kept
 pub AreStored-kept : (o : Levels) (x : List Step) (s : Step) (k : StoredSteps) (r : RecentSteps) (n : ℕ)
     → AreStored o x k
     → n ≡ k.steps + 1 → AreRecent r (recorded o (x ++ s ∷ []))
@@ -46,7 +46,7 @@ AreStored-kept o x s k r n kept next recent =
           (sym (ap (λ (n : ℕ). take n (x ++ s ∷ [])) more ∙ take-length (x ++ s ∷ []))) recent;
     }
 
--- one more step that is only counted
+-- `AreStored` holds after one more step that is only counted
 pub AreStored-passed : (o : Levels) (x : List Step) (s : Step) (k : StoredSteps) (n : ℕ) → AreStored o x k → n
     ≡ k.steps + 1
     → AreStored o (x ++ s ∷ []) (record k { steps = n })
@@ -79,17 +79,17 @@ module _ (t : Trace) (n : ℕ) where
   abbrev cut : Trace
   cut = recorded t.opening (take n t.steps)
 
-  -- its levels up to n are those of the recording
+  -- the levels up to instant n of the recording that is cut there are those of the recording
   levels_at-cut : (i : ℕ) → i ≤ n → levels_at cut i ≡ levels_at t i
   levels_at-cut i le = levels_at-taken cut i ∙ (ap (levels_after t.opening) (take-take n i t.steps le)
       ∙ sym (levels_at-taken t i))
 
-  -- its times up to n are those of the recording
+  -- the times up to instant n of the recording that is cut there are those of the recording
   pub time_at-cut : (i : ℕ) → i ≤ n → time_at cut i ≡ time_at t i
   time_at-cut zero le = refl
   time_at-cut (suc i) le = ap time_of (slice_get-take n i t.steps (omega (arith, le)))
 
-  -- its lists of levels up to n are those of the recording
+  -- the lists of levels up to instant n of the recording that is cut there are those of the recording
   pub levels_of-cut : (first count : ℕ) → first + count ≤ n + 1 → levels_of cut first count ≡ levels_of t first count
   levels_of-cut first zero le = refl
   levels_of-cut first (suc count) le =

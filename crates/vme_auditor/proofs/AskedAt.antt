@@ -241,7 +241,7 @@ module _ (t : Trace) (stretch : Stretch) where
       by_cycle (Some i) = is_block_answered-of_answers (class_at t stretch i) (answers_of t stretch i j)
 
 -- the step from instant n to n + 1, both in the stretch, in a well-formed recording; `m` is the memory of the handshake
--- monitor at n. Each lemma with `event` says that an event is shown by the step exactly if it happens at n + 1
+-- monitor at n
 module _ (t : Trace) (ok : malformed_step t ≡ None) (few : t.opening.slots ≤ 21) (stretch : Stretch)
     (facts : IsStretch t stretch)
     (n : ℕ) (from : stretch.start ≤ n) (before : suc n < stretch.end) (within : n < length t.steps)
@@ -271,56 +271,56 @@ module _ (t : Trace) (ok : malformed_step t ≡ None) (few : t.opening.slots ≤
   abbrev transfer_entered : TransferPhase
   transfer_entered = entered m.transfer v w
 
-  -- a cycle starts
+  -- the step shows the start of a cycle exactly if one starts at n + 1
   cycle_event : is_some shown.cycle ≡ cycle_starts t stretch (suc n)
   cycle_event =
       is_some-cond (falls_between v w AS) (cycle_start_of w)
       ∙ sym (cycle_starts_is t stretch facts.reads n from before m
       holds)
 
-  -- the address strobe rises
+  -- the address strobe rises in the step exactly if it rises at n + 1
   cycle_end_event : rises_between v w AS ≡ rises t AS (suc n)
   cycle_end_event = sym (rises_is t n AS)
 
-  -- a transfer starts
+  -- the step shows the start of a transfer exactly if one starts at n + 1
   transfer_event : is_some shown.transfer ≡ transfer_starts t stretch (suc n)
   transfer_event =
       is_some-cond (starts_between v w) (is_low (level_at w WRITE)) ∙ sym (starts_is t n stretch from before)
 
-  -- a write starts
+  -- the step shows the start of a write exactly if one starts at n + 1
   write_event : option_map_or (λ (w : Bool). w) shown.transfer false ≡ write_starts t stretch (suc n)
   unfolding is_write low
   write_event =
       option_map_or-cond (starts_between v w) (is_low (level_at w WRITE))
       ∙ ap (λ b. b && is_low (level_at w WRITE)) (sym (starts_is t n stretch from before))
 
-  -- the step is within a transfer that started before
+  -- a transfer is open before the step exactly if n + 1 is in a transfer that started before
   within_event : is_within m.transfer ≡ within_transfer t stretch (suc n)
   within_event = sym (started_is t stretch facts.reads n from before m.transfer holds.transfer)
 
-  -- a strobe rises within a transfer
+  -- a strobe rises in the step, within a transfer, exactly if one does at n + 1
   strobe_rise_event : (is_within m.transfer && strobe_rises_between v w)
       ≡ (strobe_rises t (suc n) && within_transfer t stretch (suc n))
   strobe_rise_event =
       and_comm (is_within m.transfer) (strobe_rises_between v w)
       ∙ and-equal_parts _ _ _ _ (or-equal_parts _ _ _ _ (sym (rises_is t n DS0)) (sym (rises_is t n DS1))) within_event
 
-  -- a strobe falls within a transfer
+  -- a strobe falls in the step, within a transfer, exactly if one does at n + 1
   strobe_fall_event : (is_within m.transfer && strobe_falls_between v w)
       ≡ (strobe_falls t (suc n) && within_transfer t stretch (suc n))
   strobe_fall_event =
       and_comm (is_within m.transfer) (strobe_falls_between v w)
       ∙ and-equal_parts _ _ _ _ (or-equal_parts _ _ _ _ (sym (falls_is t n DS0)) (sym (falls_is t n DS1))) within_event
 
-  -- an answer line falls
+  -- an answer line falls in the step exactly if one falls at n + 1
   answer_fall_event : answer_between v w ≡ answer_falls t (suc n)
   answer_fall_event = or-equal_parts _ _ _ _ (sym (falls_is t n DTACK)) (sym (falls_is t n BERR))
 
-  -- an answer line rises
+  -- an answer line rises in the step exactly if one rises at n + 1
   answer_rise_event : (rises_between v w DTACK || rises_between v w BERR) ≡ answer_rises t (suc n)
   answer_rise_event = or-equal_parts _ _ _ _ (sym (rises_is t n DTACK)) (sym (rises_is t n BERR))
 
-  -- a transfer is answered
+  -- the step shows an answer exactly if a transfer is answered at n + 1
   answer_event : is_some shown.answer ≡ is_answer t stretch (suc n)
   answer_event =
       is_some-option_map _ (answer_in transfer_entered step_edges)
@@ -331,7 +331,7 @@ module _ (t : Trace) (ok : malformed_step t ≡ None) (few : t.opening.slots ≤
   cycle_before-entered : cycle_before t stretch (suc n) ≡ cycle_entered m.cycle shown.cycle
   cycle_before-entered = here_is t stretch facts.reads n from before m holds
 
-  -- a transfer of an interrupt acknowledge is answered
+  -- the step shows an answer in an interrupt acknowledge exactly if a transfer of one is answered at n + 1
   interrupt_event : (is_some shown.answer && is_interrupt_entered m.cycle shown.cycle)
       ≡ answered_in_class t stretch is_interrupt (suc n)
   interrupt_event =
@@ -339,8 +339,8 @@ module _ (t : Trace) (ok : malformed_step t ≡ None) (few : t.opening.slots ≤
       (is_interrupt_entered-acknowledge m.cycle shown.cycle ∙ ap is_interrupt_acknowledge (sym cycle_before-entered)
       ∙ sym (in_interrupt_acknowledge t stretch (suc n)))
 
-  -- a transfer is answered in a cycle of a chosen class that had an answer before, if the phase of the cycle says which
-  -- cycles these are
+  -- the step shows an answer in a cycle of a chosen class that had one before exactly if a transfer of such a cycle is
+  -- answered at n + 1, if the phase says which cycles these are
   again_event : (is : CyclePhase → Bool) (chosen : Class → Bool) → ((k : Class) → is (unanswered_of k) ≡ false)
       → in_cycle t stretch (λ i. chosen (class_at t stretch i) && has_earlier_answer (answers_of t stretch i (suc n)))
       (suc n)
@@ -350,7 +350,7 @@ module _ (t : Trace) (ok : malformed_step t ≡ None) (few : t.opening.slots ≤
       and-equal_parts _ _ _ _ answer_event
       (cycle_entered-answered is fresh m.cycle shown.cycle ∙ ap is (sym cycle_before-entered) ∙ sym answered_before)
 
-  -- a tenure starts
+  -- BBSY falls in the step exactly if a tenure starts at n + 1
   tenure_event : falls_between v w BBSY ≡ tenure_starts t stretch (suc n)
   unfolding tenure_starts
   tenure_event = sym (falls_is t n BBSY) ∙ ap (λ b. b && falls t BBSY (suc n)) (sym (judged t n stretch from before))
@@ -383,12 +383,12 @@ module _ (t : Trace) (ok : malformed_step t ≡ None) (few : t.opening.slots ≤
       ∙ any-alike (λ l. chosen l && rises_between v w l) (λ l. chosen l && rises t l (suc n)) 0 line_count
       (λ l a b. ap (λ x. chosen l && x) (sym (rises_is t n l)))
 
-  -- the arbiter grants
+  -- some change lets a grant net of the arbiter fall exactly if the arbiter grants at n + 1
   arbiter_event : (e : AskedEvents) → any_falls e m v w cs shown is_arbiter_grant ≡ grant_falls t (suc n)
   unfolding grant_falls
   arbiter_event e = any_falls-at is_arbiter_grant e ∙ any-arbiter_grant (λ l. falls t l (suc n))
 
-  -- the arbiter or a slot grants
+  -- some change lets a grant net fall exactly if the arbiter or a slot grants at n + 1
   grant_event : (e : AskedEvents)
       → (any_falls e m v w cs shown is_arbiter_grant || any_falls e m v w cs shown is_slot_grant)
       ≡ any_grant_falls t (suc n)

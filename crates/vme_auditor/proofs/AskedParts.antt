@@ -457,7 +457,8 @@ module _ (finds : FindsFirst) (starts : KnowsStart) where
             ∙ or_assoc (asks_by e r) (list_any (asks_in (recorded o x) (Some b) r) (judged_stretches (recorded o x)))
             (list_any (asks r) (parts_from n (part_after here b)))
 
-      -- the same of a part with a break or without one
+      -- after a part with a break or without one, and those after it, a rule is asked exactly if it was before, or one
+      -- of these parts asks it
       asks_by-part : (n : ℕ) → length x ≤ suc n → HaveHappened n → (found : Option Break) → BreakWithin (length x) found
           → first_break_from (memories_at o) o x ≡ found
           → asks_by (events_around_break (memories_at o) o fresh x found) r

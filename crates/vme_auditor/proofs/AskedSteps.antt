@@ -296,7 +296,7 @@ module _ (t : Trace) (ok : malformed_step t ≡ None) (few : t.opening.slots ≤
       abbrev before : AskedEvents
       before = asked_to e n
 
-      -- these and the events of the step, before the start of a stretch is noted
+      -- the events up to n and those of the step, before the start of a stretch is noted
       abbrev now : AskedEvents
       now = events_in before (phase_at n) ends v w (cs_at n) kinds
 

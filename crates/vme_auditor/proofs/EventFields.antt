@@ -90,7 +90,7 @@ is_interrupt_answered c = false
 abbrev pub answers_again : (CyclePhase → Bool) → CyclePhase → Option CycleStart → Option TransferAnswer → Bool
 answers_again is cycle starts answer = is_some answer && (not (is_some starts) && is cycle)
 
--- a further answer is one of a single cycle if that had an answer before
+-- after a further answer `single_again` has happened exactly if it had before, or the cycle is single and had an answer
 single_again-further_taken : (e : AskedEvents) (cycle : CyclePhase) → (further_taken e cycle).single_again
     ≡ (e.single_again || is_single_answered cycle)
 single_again-further_taken e Free = sym (or-false e.single_again)
@@ -103,7 +103,8 @@ single_again-further_taken e BlockWriting = sym (or-false e.single_again)
 single_again-further_taken e Interrupt = sym (or-false e.single_again)
 single_again-further_taken e InterruptDone = sym (or-false e.single_again)
 
--- a further answer is one of a block transfer if that had an answer before
+-- after a further answer `block_again` has happened exactly if it had before, or the cycle is a block transfer and had
+-- an answer
 block_again-further_taken : (e : AskedEvents) (cycle : CyclePhase) → (further_taken e cycle).block_again
     ≡ (e.block_again || is_block_answered cycle)
 block_again-further_taken e Free = sym (or-false e.block_again)
@@ -116,7 +117,8 @@ block_again-further_taken e BlockWriting = sym (or-true e.block_again)
 block_again-further_taken e Interrupt = sym (or-false e.block_again)
 block_again-further_taken e InterruptDone = sym (or-false e.block_again)
 
--- a further answer is one of an interrupt acknowledge if that had an answer before
+-- after a further answer `interrupt_again` has happened exactly if it had before, or the cycle is an interrupt
+-- acknowledge and had an answer
 interrupt_again-further_taken : (e : AskedEvents) (cycle : CyclePhase) → (further_taken e cycle).interrupt_again
     ≡ (e.interrupt_again || is_interrupt_answered cycle)
 interrupt_again-further_taken e Free = sym (or-false e.interrupt_again)
@@ -131,7 +133,8 @@ interrupt_again-further_taken e InterruptDone = sym (or-true e.interrupt_again)
 
 -- the step is in the cycle `cycle`, unless one starts at it
 module _ (cycle : CyclePhase) where
-  -- an answer, or none, is a further one of a single cycle
+  -- after an answer, or none, `single_again` has happened exactly if it had before, or the answer is a further one of a
+  -- single cycle
   single_again-answer_taken : (e : AskedEvents) (starts : Option CycleStart) (answer : Option TransferAnswer)
       → (answer_taken e cycle starts answer).single_again
       ≡ (e.single_again || answers_again is_single_answered cycle starts answer)
@@ -141,7 +144,8 @@ module _ (cycle : CyclePhase) where
       (record e { answer = true; interrupt = e.interrupt || is_interrupt_entered cycle None }) cycle
   single_again-answer_taken e (Some s) (Some a) = sym (or-false e.single_again)
 
-  -- an answer, or none, is a further one of a block transfer
+  -- after an answer, or none, `block_again` has happened exactly if it had before, or the answer is a further one of a
+  -- block transfer
   block_again-answer_taken : (e : AskedEvents) (starts : Option CycleStart) (answer : Option TransferAnswer)
       → (answer_taken e cycle starts answer).block_again
       ≡ (e.block_again || answers_again is_block_answered cycle starts answer)
@@ -151,7 +155,8 @@ module _ (cycle : CyclePhase) where
       cycle
   block_again-answer_taken e (Some s) (Some a) = sym (or-false e.block_again)
 
-  -- an answer, or none, is a further one of an interrupt acknowledge
+  -- after an answer, or none, `interrupt_again` has happened exactly if it had before, or the answer is a further one
+  -- of an interrupt acknowledge
   interrupt_again-answer_taken : (e : AskedEvents) (starts : Option CycleStart) (answer : Option TransferAnswer)
       → (answer_taken e cycle starts answer).interrupt_again
       ≡ (e.interrupt_again || answers_again is_interrupt_answered cycle starts answer)
@@ -185,7 +190,7 @@ module _ (cycle : CyclePhase) where
   interrupt-further_taken e Interrupt = refl
   interrupt-further_taken e InterruptDone = refl
 
-  -- an answer is the event `answer`
+  -- after an answer, or none, `answer` has happened exactly if it had before, or there is an answer
   answer-answer_taken : (e : AskedEvents) (starts : Option CycleStart) (answer : Option TransferAnswer)
       → (answer_taken e cycle starts answer).answer ≡ (e.answer || is_some answer)
   answer-answer_taken e starts None = sym (or-false e.answer)
@@ -195,7 +200,8 @@ module _ (cycle : CyclePhase) where
       ∙ sym (or-true e.answer)
   answer-answer_taken e (Some s) (Some a) = sym (or-true e.answer)
 
-  -- an answer is the event `interrupt` if the cycle after the step is an interrupt acknowledge
+  -- after an answer, or none, `interrupt` has happened exactly if it had before, or there is an answer and the cycle
+  -- after the step is an interrupt acknowledge
   interrupt-answer_taken : (e : AskedEvents) (starts : Option CycleStart) (answer : Option TransferAnswer)
       → (answer_taken e cycle starts answer).interrupt
       ≡ (e.interrupt || (is_some answer && is_interrupt_entered cycle starts))
@@ -205,8 +211,7 @@ module _ (cycle : CyclePhase) where
       cycle
   interrupt-answer_taken e (Some s) (Some a) = refl
 
--- a step to a judged instant: each lemma with `at_step` says that an event has happened after the step exactly if it
--- had before, or if what is said above the lemma holds of the step
+-- what a step to a judged instant does to each event
 module _ (e : AskedEvents) (m : HandshakeMemory) (v w : Levels) (cs : List Change) (shown : StepMarks) where
   -- the noted events after the step
   abbrev stepped : AskedEvents
@@ -216,22 +221,22 @@ module _ (e : AskedEvents) (m : HandshakeMemory) (v w : Levels) (cs : List Chang
   abbrev cycles : AskedEvents
   cycles = cycle_taken e v w shown
 
-  -- those, and the edges of the strobes
+  -- the events of `cycles`, and the edges of the strobes
   abbrev strobes : AskedEvents
   strobes = strobes_taken cycles m.transfer v w
 
-  -- those, and the edges of the answer lines
+  -- the events of `strobes`, and the edges of the answer lines
   abbrev answering : AskedEvents
   answering = record strobes {
     answer_fall = strobes.answer_fall || answer_between v w;
     answer_rise = strobes.answer_rise || rises_between v w DTACK || rises_between v w BERR;
   }
 
-  -- those, and the answer
+  -- the events of `answering`, and the answer
   abbrev answers : AskedEvents
   answers = answer_taken answering m.cycle shown.cycle shown.answer
 
-  -- a cycle starts at the step
+  -- `cycle` has happened after the step exactly if it had before, or a cycle starts
   pub cycle-at_step : stepped.cycle ≡ (e.cycle || is_some shown.cycle)
   cycle-at_step =
       nets_taken-unaltered v w (λ e. e.cycle) (λ e c. refl) cs (tenure_taken answers v w)
@@ -239,7 +244,7 @@ module _ (e : AskedEvents) (m : HandshakeMemory) (v w : Levels) (cs : List Chang
       shown.cycle
       shown.answer
 
-  -- the address strobe rises at the step
+  -- `cycle_end` has happened after the step exactly if it had before, or the address strobe rises
   pub cycle_end-at_step : stepped.cycle_end ≡ (e.cycle_end || rises_between v w AS)
   cycle_end-at_step =
       nets_taken-unaltered v w (λ e. e.cycle_end) (λ e c. refl) cs (tenure_taken answers v w)
@@ -247,7 +252,7 @@ module _ (e : AskedEvents) (m : HandshakeMemory) (v w : Levels) (cs : List Chang
       shown.cycle
       shown.answer
 
-  -- a transfer starts at the step
+  -- `transfer` has happened after the step exactly if it had before, or a transfer starts
   pub transfer-at_step : stepped.transfer ≡ (e.transfer || is_some shown.transfer)
   transfer-at_step =
       nets_taken-unaltered v w (λ e. e.transfer) (λ e c. refl) cs (tenure_taken answers v w)
@@ -255,7 +260,7 @@ module _ (e : AskedEvents) (m : HandshakeMemory) (v w : Levels) (cs : List Chang
       shown.cycle
       shown.answer
 
-  -- a write starts at the step
+  -- `write` has happened after the step exactly if it had before, or a write starts
   pub write-at_step : stepped.write ≡ (e.write || option_map_or (λ write. write) shown.transfer false)
   write-at_step =
       nets_taken-unaltered v w (λ e. e.write) (λ e c. refl) cs (tenure_taken answers v w)
@@ -263,7 +268,7 @@ module _ (e : AskedEvents) (m : HandshakeMemory) (v w : Levels) (cs : List Chang
       shown.cycle
       shown.answer
 
-  -- a strobe rises at the step, within a transfer
+  -- `strobe_rise` has happened after the step exactly if it had before, or a strobe rises within a transfer
   pub strobe_rise-at_step : stepped.strobe_rise ≡ (e.strobe_rise || (is_within m.transfer && strobe_rises_between v w))
   strobe_rise-at_step =
       nets_taken-unaltered v w (λ e. e.strobe_rise) (λ e c. refl) cs (tenure_taken answers v w)
@@ -271,7 +276,7 @@ module _ (e : AskedEvents) (m : HandshakeMemory) (v w : Levels) (cs : List Chang
       shown.cycle
       shown.answer
 
-  -- a strobe falls at the step, within a transfer
+  -- `strobe_fall` has happened after the step exactly if it had before, or a strobe falls within a transfer
   pub strobe_fall-at_step : stepped.strobe_fall ≡ (e.strobe_fall || (is_within m.transfer && strobe_falls_between v w))
   strobe_fall-at_step =
       nets_taken-unaltered v w (λ e. e.strobe_fall) (λ e c. refl) cs (tenure_taken answers v w)
@@ -279,7 +284,7 @@ module _ (e : AskedEvents) (m : HandshakeMemory) (v w : Levels) (cs : List Chang
       shown.cycle
       shown.answer
 
-  -- an answer line falls at the step
+  -- `answer_fall` has happened after the step exactly if it had before, or an answer line falls
   pub answer_fall-at_step : stepped.answer_fall ≡ (e.answer_fall || answer_between v w)
   answer_fall-at_step =
       nets_taken-unaltered v w (λ e. e.answer_fall) (λ e c. refl) cs (tenure_taken answers v w)
@@ -287,7 +292,7 @@ module _ (e : AskedEvents) (m : HandshakeMemory) (v w : Levels) (cs : List Chang
       shown.cycle
       shown.answer
 
-  -- an answer line rises at the step
+  -- `answer_rise` has happened after the step exactly if it had before, or an answer line rises
   pub answer_rise-at_step : stepped.answer_rise ≡ (e.answer_rise || (rises_between v w DTACK || rises_between v w BERR))
   answer_rise-at_step =
       nets_taken-unaltered v w (λ e. e.answer_rise) (λ e c. refl) cs (tenure_taken answers v w)
@@ -296,41 +301,45 @@ module _ (e : AskedEvents) (m : HandshakeMemory) (v w : Levels) (cs : List Chang
       shown.answer
       ∙ or_assoc e.answer_rise (rises_between v w DTACK) (rises_between v w BERR)
 
-  -- a transfer is answered at the step
+  -- `answer` has happened after the step exactly if it had before, or a transfer is answered
   pub answer-at_step : stepped.answer ≡ (e.answer || is_some shown.answer)
   answer-at_step =
       nets_taken-unaltered v w (λ e. e.answer) (λ e c. refl) cs (tenure_taken answers v w)
       ∙ answer-answer_taken m.cycle answering shown.cycle shown.answer
 
-  -- a transfer of an interrupt acknowledge is answered at the step
+  -- `interrupt` has happened after the step exactly if it had before, or a transfer of an interrupt acknowledge is
+  -- answered
   pub interrupt-at_step : stepped.interrupt
       ≡ (e.interrupt || (is_some shown.answer && is_interrupt_entered m.cycle shown.cycle))
   interrupt-at_step =
       nets_taken-unaltered v w (λ e. e.interrupt) (λ e c. refl) cs (tenure_taken answers v w)
       ∙ interrupt-answer_taken m.cycle answering shown.cycle shown.answer
 
-  -- a further transfer of a single cycle is answered at the step
+  -- `single_again` has happened after the step exactly if it had before, or a further transfer of a single cycle is
+  -- answered
   pub single_again-at_step : stepped.single_again
       ≡ (e.single_again || answers_again is_single_answered m.cycle shown.cycle shown.answer)
   single_again-at_step =
       nets_taken-unaltered v w (λ e. e.single_again) (λ e c. refl) cs (tenure_taken answers v w)
       ∙ single_again-answer_taken m.cycle answering shown.cycle shown.answer
 
-  -- a further transfer of a block transfer is answered at the step
+  -- `block_again` has happened after the step exactly if it had before, or a further transfer of a block transfer is
+  -- answered
   pub block_again-at_step : stepped.block_again
       ≡ (e.block_again || answers_again is_block_answered m.cycle shown.cycle shown.answer)
   block_again-at_step =
       nets_taken-unaltered v w (λ e. e.block_again) (λ e c. refl) cs (tenure_taken answers v w)
       ∙ block_again-answer_taken m.cycle answering shown.cycle shown.answer
 
-  -- a further transfer of an interrupt acknowledge is answered at the step
+  -- `interrupt_again` has happened after the step exactly if it had before, or a further transfer of an interrupt
+  -- acknowledge is answered
   pub interrupt_again-at_step : stepped.interrupt_again
       ≡ (e.interrupt_again || answers_again is_interrupt_answered m.cycle shown.cycle shown.answer)
   interrupt_again-at_step =
       nets_taken-unaltered v w (λ e. e.interrupt_again) (λ e c. refl) cs (tenure_taken answers v w)
       ∙ interrupt_again-answer_taken m.cycle answering shown.cycle shown.answer
 
-  -- a tenure starts at the step
+  -- `tenure` has happened after the step exactly if it had before, or BBSY falls
   pub tenure-at_step : stepped.tenure ≡ (e.tenure || falls_between v w BBSY)
   tenure-at_step =
       nets_taken-unaltered v w (λ e. e.tenure) (λ e c. refl) cs (tenure_taken answers v w)
@@ -347,7 +356,7 @@ module _ (e : AskedEvents) (m : HandshakeMemory) (v w : Levels) (cs : List Chang
   abbrev pub any_rises : (ℕ → Bool) → Bool
   any_rises chosen = list_any (λ c. chosen c.line && net_rises v w c.line) cs
 
-  -- a slot begins to grant on at the step
+  -- `slot_grant_fall` has happened after the step exactly if it had before, or a slot begins to grant on
   pub slot_grant_fall-at_step : stepped.slot_grant_fall ≡ (e.slot_grant_fall || any_falls is_slot_grant)
   slot_grant_fall-at_step =
       nets_taken-any v w (λ e. e.slot_grant_fall) (λ c. is_slot_grant c.line && net_falls v w c.line) (λ e c. refl) cs
@@ -357,7 +366,7 @@ module _ (e : AskedEvents) (m : HandshakeMemory) (v w : Levels) (cs : List Chang
       m.cycle
       shown.cycle shown.answer)
 
-  -- a slot ends its grant at the step
+  -- `slot_grant_rise` has happened after the step exactly if it had before, or a slot ends its grant
   pub slot_grant_rise-at_step : stepped.slot_grant_rise ≡ (e.slot_grant_rise || any_rises is_slot_grant)
   slot_grant_rise-at_step =
       nets_taken-any v w (λ e. e.slot_grant_rise) (λ c. is_slot_grant c.line && net_rises v w c.line) (λ e c. refl) cs
@@ -367,7 +376,7 @@ module _ (e : AskedEvents) (m : HandshakeMemory) (v w : Levels) (cs : List Chang
       m.cycle
       shown.cycle shown.answer)
 
-  -- the arbiter grants at the step
+  -- `arbiter_fall` has happened after the step exactly if it had before, or the arbiter grants
   pub arbiter_fall-at_step : stepped.arbiter_fall ≡ (e.arbiter_fall || any_falls is_arbiter_grant)
   arbiter_fall-at_step =
       nets_taken-any v w (λ e. e.arbiter_fall) (λ c. is_arbiter_grant c.line && net_falls v w c.line) (λ e c. refl) cs
@@ -377,7 +386,7 @@ module _ (e : AskedEvents) (m : HandshakeMemory) (v w : Levels) (cs : List Chang
       shown.cycle
       shown.answer)
 
-  -- a slot acknowledges on at the step
+  -- `acknowledge_fall` has happened after the step exactly if it had before, or a slot acknowledges on
   pub acknowledge_fall-at_step : stepped.acknowledge_fall ≡ (e.acknowledge_fall || any_falls is_slot_iack)
   acknowledge_fall-at_step =
       nets_taken-any v w (λ e. e.acknowledge_fall) (λ c. is_slot_iack c.line && net_falls v w c.line) (λ e c. refl) cs
@@ -387,7 +396,7 @@ module _ (e : AskedEvents) (m : HandshakeMemory) (v w : Levels) (cs : List Chang
       m.cycle
       shown.cycle shown.answer)
 
-  -- a step within a stretch doesn't start judging
+  -- `stretch` has happened after the step exactly if it had before
   pub stretch-at_step : stepped.stretch ≡ e.stretch
   stretch-at_step =
       nets_taken-unaltered v w (λ e. e.stretch) (λ e c. refl) cs (tenure_taken answers v w)

@@ -139,7 +139,7 @@ sum_of-assoc b c d =
 
 -- one more of a kind may be counted in the first of three counts or in the last
 module _ (c w r : Counts) where
-  -- one more reset
+  -- one more reset may be counted in the first of three counts or in the last
   sum_of-reset : sum_of (record c { resets = suc c.resets }) (sum_of w r)
       ≡ sum_of c (sum_of w (record r { resets = suc r.resets }))
   sum_of-reset =
@@ -147,7 +147,7 @@ module _ (c w r : Counts) where
       (sum_of c (sum_of w (record r { resets = suc r.resets }))) (omega arith) refl refl refl refl refl refl refl refl
       refl refl
 
-  -- one more tenure
+  -- one more tenure may be counted in the first of three counts or in the last
   sum_of-tenure : sum_of (record c { tenures = suc c.tenures }) (sum_of w r)
       ≡ sum_of c (sum_of w (record r { tenures = suc r.tenures }))
   sum_of-tenure =
@@ -155,7 +155,7 @@ module _ (c w r : Counts) where
       (sum_of c (sum_of w (record r { tenures = suc r.tenures }))) refl (omega arith) refl refl refl refl refl refl refl
       refl refl
 
-  -- one more single cycle
+  -- one more single cycle may be counted in the first of three counts or in the last
   sum_of-single : sum_of (record c { single = suc c.single }) (sum_of w r)
       ≡ sum_of c (sum_of w (record r { single = suc r.single }))
   sum_of-single =
@@ -163,7 +163,7 @@ module _ (c w r : Counts) where
       (sum_of c (sum_of w (record r { single = suc r.single }))) refl refl (omega arith) refl refl refl refl refl refl
       refl refl
 
-  -- one more block transfer
+  -- one more block transfer may be counted in the first of three counts or in the last
   sum_of-block : sum_of (record c { block = suc c.block }) (sum_of w r)
       ≡ sum_of c (sum_of w (record r { block = suc r.block }))
   sum_of-block =
@@ -171,7 +171,7 @@ module _ (c w r : Counts) where
       (sum_of c (sum_of w (record r { block = suc r.block }))) refl refl refl (omega arith) refl refl refl refl refl
       refl refl
 
-  -- one more free cycle
+  -- one more free cycle may be counted in the first of three counts or in the last
   sum_of-free : sum_of (record c { free = suc c.free }) (sum_of w r)
       ≡ sum_of c (sum_of w (record r { free = suc r.free }))
   sum_of-free =
@@ -179,7 +179,7 @@ module _ (c w r : Counts) where
       (sum_of c (sum_of w (record r { free = suc r.free }))) refl refl refl refl (omega arith) refl refl refl refl refl
       refl
 
-  -- one more interrupt acknowledge
+  -- one more interrupt acknowledge may be counted in the first of three counts or in the last
   sum_of-acknowledge : sum_of (record c { acknowledge = suc c.acknowledge }) (sum_of w r)
       ≡ sum_of c (sum_of w (record r { acknowledge = suc r.acknowledge }))
   sum_of-acknowledge =

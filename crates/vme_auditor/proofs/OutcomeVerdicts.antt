@@ -82,7 +82,7 @@ module _ (allowances : List Allowance) (gap : Option CoverageGap) where
         (any_of (filter (λ b. is_unreadable b.rule) kept))
         gap (length (cond allowed (b ∷ filter (is_allowed allowances) bs) (filter (is_allowed allowances) bs)))
 
-    -- it isn't `Conforming 0`
+    -- the outcome of breaks of which `b` is the first isn't `Conforming 0`
     of_breaks_by-conforming : (allowed unreadable : Bool) → is_unreadable b.rule ≡ unreadable
         → of_breaks_by allowed unreadable ≡ Conforming 0 → ⊥
     of_breaks_by-conforming true unreadable e same =

@@ -22,15 +22,15 @@ use Rattle.vme_auditor.specs.declared.findings.BreakCounts.{BreakCounts}
 
 -- the outcome by findings and counts of breaks, case by case
 module _ (f : AuditFindings) (c : BreakCounts) (wanted : ℕ) where
-  -- `Broken`, if a break means that the recording is wrong
+  -- the outcome is `Broken` if a break means that the recording is wrong
   pub outcome_by-broken : 0 < c.broken → Broken ≡ outcome_by f c wanted
   outcome_by-broken h = rw (lt-ltb 0 c.broken h) refl
 
-  -- `Unreadable`, if none does, and one means that it can't be read
+  -- the outcome is `Unreadable` if no break means that the recording is wrong, and one that it can't be read
   pub outcome_by-unreadable : c.broken ≤ 0 → 0 < c.unreadable → Unreadable ≡ outcome_by f c wanted
   outcome_by-unreadable none h = rw (le-ltb 0 c.broken none, lt-ltb 0 c.unreadable h) refl
 
-  -- else by the gap, if there is one
+  -- if all breaks are allowed, the outcome depends on the gap, and without one the recording conforms
   pub outcome_by-gap : c.broken ≤ 0 → c.unreadable ≤ 0 → (gap : Option CoverageGap) → gap ≡ gap_by f wanted
       → option_map_or NotCovered gap (Conforming c.allowed) ≡ outcome_by f c wanted
   outcome_by-gap none no_more gap e =

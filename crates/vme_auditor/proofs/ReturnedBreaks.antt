@@ -95,6 +95,7 @@ returned_after-shifted o n s x (Some b) =
 
 -- the breaks returned from a step on are the first break and those returned after it
 module _ (o : Levels) (s : Step) (x : List Step) (n : ℕ) where
+  -- the levels after step `s`
   abbrev after : Levels
   after = changed o s.changes
 

@@ -43,20 +43,20 @@ module _ {P S : Type 0} (begin : Levels → P) (start_marks : Levels → StepMar
     (next : P → Levels → Levels → S → Next P) (AreItsKinds : StepMarks → Type 0) (none : AreItsKinds no_step_marks)
     (opened : (v : Levels) → AreItsKinds (start_marks v)) (reset : AreItsKinds reset_marks)
     (stepped : (p : P) (v w : Levels) (s : S) → AreItsKinds (next p v w s).shown) where
-  -- at a step of a machine that waits
+  -- what a step of a machine that waits shows satisfies `AreItsKinds`
   AreItsKinds-waiting : (m : StretchPhase P) (w : Levels) (b : Bool)
       → AreItsKinds (cond b (record { memory = phase.InStretch (begin w); fault = None; shown = start_marks w })
       (quiet m)).shown
   AreItsKinds-waiting m w true = opened w
   AreItsKinds-waiting m w false = none
 
-  -- at a step of the rules, with an observation or without one
+  -- what the rules show at a step, with an observation or without one, satisfies `AreItsKinds`
   AreItsKinds-observation : (p : P) (v w : Levels) (s : Option S)
       → AreItsKinds (option_map_or (next p v w) s (quiet p)).shown
   AreItsKinds-observation p v w None = none
   AreItsKinds-observation p v w (Some s) = stepped p v w s
 
-  -- at a step in a stretch
+  -- what a step in a stretch shows satisfies `AreItsKinds`
   AreItsKinds-judging : (p : P) (v w : Levels) (e : Option End) (s : Option S)
       → AreItsKinds (judging begin start_marks reset_marks end_fault next p v w e s).shown
   AreItsKinds-judging p v w (Some end.Reset) s = reset
@@ -64,7 +64,7 @@ module _ {P S : Type 0} (begin : Levels → P) (start_marks : Levels → StepMar
   AreItsKinds-judging p v w None s = AreItsKinds-observation p v w s
 
   module _ (observation : Levels → Levels → List Change → Option S) (v w : Levels) (cs : List Change) where
-    -- at a step in any phase
+    -- what a step in any phase shows satisfies `AreItsKinds`
     AreItsKinds-phase_step : (m : StretchPhase P)
         → AreItsKinds (phase_step begin start_marks reset_marks end_fault next m v w
         (record { end = end_among w cs; inner = observation v w cs })).shown
@@ -73,14 +73,14 @@ module _ {P S : Type 0} (begin : Levels → P) (start_marks : Levels → StepMar
     AreItsKinds-phase_step phase.Reset = AreItsKinds-waiting phase.Reset w (is_idle w)
     AreItsKinds-phase_step phase.Ended = none
 
-    -- at a step at which something is observed, or nothing
+    -- what a step shows at which something is observed, or nothing, satisfies `AreItsKinds`
     AreItsKinds-observed : (m : StretchPhase P) (b : Bool)
         → AreItsKinds (option_map_or (phase_step begin start_marks reset_marks end_fault next m v w)
         (cond b (Some (record { end = end_among w cs; inner = observation v w cs })) None) (quiet m)).shown
     AreItsKinds-observed m true = AreItsKinds-phase_step m
     AreItsKinds-observed m false = none
 
-    -- at each step
+    -- what each step shows satisfies `AreItsKinds`
     pub AreItsKinds-machine_step : (m : StretchPhase P)
         → AreItsKinds (machine_step (observed observation) (phase_step begin start_marks reset_marks end_fault next) m v
         w
@@ -193,7 +193,7 @@ abbrev of_tenure : Bool → Option BusGrant → Bool → StepMarks
 of_tenure opened tenure tenure_end =
     record no_step_marks { opened = opened; tenure = tenure; tenure_end = tenure_end }
 
--- they have kinds below 5
+-- marks of the tenure with these fields have kinds below 5
 AllBelow-tenure_fields : (opened : Bool) (tenure : Option BusGrant) (tenure_end : Bool)
     → AllBelow 5 (kinds_of (of_tenure opened tenure tenure_end))
 AllBelow-tenure_fields true (Some g) true = (lit< tt, (lit< tt, (lit< tt, tt)))

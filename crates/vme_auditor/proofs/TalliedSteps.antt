@@ -62,72 +62,81 @@ module _ (at : ℕ → StartedTransfer) (i : ℕ) where
   fold-when true k a e = e
   fold-when false k a e = refl
 
-  -- a reset, or none
+  -- a reset, or none, adds what `at_reset` does
   fold-reset : (b : Bool) (a : Tally) → fold kind_step a (option_to_list (when b kind.Reset))
       ≡ cond b (at_reset suc a) a
   fold-reset true a = refl
   fold-reset false a = refl
 
-  -- the start of a tenure, or none
+  -- the start of a tenure, or none, adds what `at_tenure` does
   fold-tenure : (o : Option BusGrant) (a : Tally) → fold kind_step a (option_to_list (option_map tenure_kind o))
       ≡ option_map_or (at_tenure suc a) o a
   fold-tenure None a = refl
   fold-tenure (Some g) a = refl
 
-  -- the start of a cycle, or none
+  -- the start of a cycle, or none, adds what `at_cycle` does
   fold-cycle : (o : Option CycleStart) (a : Tally) → fold kind_step a (option_to_list (option_map cycle_kind o))
       ≡ option_map_or (at_cycle suc a) o a
   fold-cycle None a = refl
   fold-cycle (Some c) a = refl
 
-  -- the start of a transfer, or none
+  -- the start of a transfer, or none, adds what `at_transfer` does
   fold-transfer : (o : Option Bool) (a : Tally) → fold kind_step a (option_to_list (option_map kind.Transfer o))
       ≡ option_map_or (at_transfer suc a (at i)) o a
   fold-transfer None a = refl
   fold-transfer (Some w) a = refl
 
-  -- an answer, with data or without
+  -- an answer, with data or without, adds what `at_answer` does
   kind_step-answer_kind : (line : ℕ) (lanes : Option Lanes) (a : Tally) → kind_step a (answer_kind line lanes)
       ≡ at_answer suc a (record { line = line; lanes = lanes })
   kind_step-answer_kind line None a = refl
   kind_step-answer_kind line (Some lanes) a = refl
 
-  -- an answer, or none
+  -- an answer, or none, adds what `at_answer` does
   fold-answer : (o : Option TransferAnswer) (a : Tally) → fold kind_step a (option_to_list (option_map answered_kind o))
       ≡ option_map_or (at_answer suc a) o a
   fold-answer None a = refl
   fold-answer (Some x) a = kind_step-answer_kind x.line x.lanes a
 
-  -- the kinds of the marks `k`, one after the other
+  -- the marks `k` of a step
   module _ (k : StepMarks) (a : Tally) where
-    -- that of a reset, if there is one; below, likewise
+    -- the kind of a reset, if there is one
     abbrev resets : List MarkKind
     resets = option_to_list (when k.reset kind.Reset)
 
+    -- the kind of the start of a stretch, if there is one
     abbrev starts : List MarkKind
     starts = option_to_list (when k.start kind.Start)
 
+    -- the kind of an open tenure, if there is one
     abbrev opens : List MarkKind
     opens = option_to_list (when k.opened kind.Open)
 
+    -- the kind of the start of a tenure, if there is one
     abbrev tenures : List MarkKind
     tenures = option_to_list (option_map tenure_kind k.tenure)
 
+    -- the kind of the end of a tenure, if there is one
     abbrev tenure_ends : List MarkKind
     tenure_ends = option_to_list (when k.tenure_end kind.TenureEnd)
 
+    -- the kind of the start of a cycle, if there is one
     abbrev cycles : List MarkKind
     cycles = option_to_list (option_map cycle_kind k.cycle)
 
+    -- the kind of the end of a cycle, if there is one
     abbrev cycle_ends : List MarkKind
     cycle_ends = option_to_list (when k.cycle_end kind.CycleEnd)
 
+    -- the kind of the start of a transfer, if there is one
     abbrev transfers : List MarkKind
     transfers = option_to_list (option_map kind.Transfer k.transfer)
 
+    -- the kind of an answer, if there is one
     abbrev answers : List MarkKind
     answers = option_to_list (option_map answered_kind k.answer)
 
+    -- the kind of the close of a transfer, if there is one
     abbrev closes : List MarkKind
     closes = option_to_list (when k.close kind.Close)
 

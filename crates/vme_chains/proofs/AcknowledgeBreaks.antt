@@ -28,7 +28,7 @@ and-reordered_once true false falls more = refl
 and-reordered_once false true falls more = refl
 and-reordered_once false false falls more = refl
 
--- the same, with three tests after it
+-- a test of a line with three tests after it, in another order, with whether the backplane has the line asked twice
 and-reordered_thrice : (has slot falls a b c : Bool) → (has && (slot && falls && a && b && c))
     ≡ ((slot && has && has && falls) && (a && b && c))
 and-reordered_thrice true true true a b c = refl

@@ -29,7 +29,7 @@ use Rattle.vme_chains.proofs.GrantTests.{rule-other_kind, rule-same_kind, add-on
 grant-of_arbiter_net : (l : ℕ) → is_arbiter_grant l ≡ true → l ≡ grant (grant_level l) 0
 grant-of_arbiter_net l h = grind (arith, nat_tests)
 
--- its level is one from 0 to 3
+-- the level of a net that the arbiter drives is one from 0 to 3
 grant_level-below_4 : (l : ℕ) → is_arbiter_grant l ≡ true → grant_level l < 4
 grant_level-below_4 l h = grind (arith, nat_tests)
 
@@ -37,15 +37,15 @@ grant_level-below_4 l h = grind (arith, nat_tests)
 is_arbiter_grant-of_level : (n : ℕ) → n < 4 → is_arbiter_grant (grant n 0) ≡ true
 is_arbiter_grant-of_level n h = grind (arith, nat_tests)
 
--- the level of that net is the level
+-- the level of the first net of a level's chain is that level
 grant_level-of_net : (n : ℕ) → n < 4 → grant_level (grant n 0) ≡ n
 grant_level-of_net n h = omega arith
 
--- a lesser net is that of a lesser level
+-- of two nets that the arbiter drives the lesser is that of the lesser level
 lt-lower_net : (m n l : ℕ) → l ≡ grant m 0 → l < grant n 0 → m < n
 lt-lower_net m n l e h = omega arith
 
--- these nets are lines
+-- the first net of a level's chain is a line
 grant-below_line_count : (n : ℕ) → n < 4 → grant n 0 < line_count
 grant-below_line_count n h = omega arith
 

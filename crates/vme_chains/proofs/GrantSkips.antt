@@ -51,7 +51,7 @@ is_grant-not_arbitration l h = grind (arith, nat_tests)
 pub and-other_kind : (kind edge rest : Bool) → kind ≡ false → (kind && edge && rest) ≡ false
 and-other_kind kind edge rest h = rw h refl
 
--- such a step breaks none of G1 to G4
+-- a step that changes no line of the arbitration bus breaks none of G1 to G4
 pub nets_fault-untouched : (v w : Levels) (cs : List Change) → touches_arbitration cs ≡ false → nets_fault v w cs ≡ None
 nets_fault-untouched v w cs h =
     rw (
@@ -76,18 +76,18 @@ is_arbitration-request n h = grind (arith, nat_tests)
 module _ (t : Trace) (stretch : Stretch) (few : t.opening.slots ≤ 21) (n : ℕ) (from : stretch.start ≤ n)
     (before : suc n < stretch.end) (cs : List Change) (step : levels_at t (suc n) ≡ changed (levels_at t n) cs)
     (fit : are_changes (levels_at t n) 0 cs ≡ true) (h : touches_arbitration cs ≡ false) where
-  -- the arbiter begins no grant
+  -- at a step that changes no line of the arbitration bus the arbiter begins no grant
   pub grant_begins-untouched : grant_begins (levels_at t n) (levels_at t (suc n)) ≡ false
   grant_begins-untouched =
       fails-any _ 0 4 (λ i a b. falls_between-unchanged t stretch few n from before cs step fit (grant i 0)
       (is_changed-untouched cs (grant i 0) h (is_arbitration-net i b)))
 
-  -- BBSY doesn't fall
+  -- at a step that changes no line of the arbitration bus BBSY doesn't fall
   pub falls_between-busy_untouched : falls_between (levels_at t n) (levels_at t (suc n)) BBSY ≡ false
   falls_between-busy_untouched =
       falls_between-unchanged t stretch few n from before cs step fit BBSY (is_changed-untouched cs BBSY h refl)
 
-  -- BBSY doesn't rise
+  -- at a step that changes no line of the arbitration bus BBSY doesn't rise
   pub rises_between-busy_untouched : rises_between (levels_at t n) (levels_at t (suc n)) BBSY ≡ false
   rises_between-busy_untouched =
       rises_between-unchanged t stretch few n from before cs step fit BBSY (is_changed-untouched cs BBSY h refl)

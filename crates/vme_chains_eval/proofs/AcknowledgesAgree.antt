@@ -107,6 +107,7 @@ pub acknowledged_twice_agrees : Agrees acknowledged_twice
 unfolding everything rows acknowledged_twice
 acknowledged_twice_agrees = record { well_formed = refl; verdict = refl; rows = refl }
 
+-- all recordings of `acknowledges` have the verdict and the rows that stand beside them
 pub acknowledges_agree : AllAgree acknowledges
 acknowledges_agree = (
   acknowledge_cycle_agrees,

@@ -87,6 +87,7 @@ pub grant_withdrawn_agrees : Agrees grant_withdrawn
 unfolding everything rows grant_withdrawn
 grant_withdrawn_agrees = record { well_formed = refl; verdict = refl; rows = refl }
 
+-- all recordings of `grants` have the verdict and the rows that stand beside them
 pub grants_agree : AllAgree grants
 grants_agree = (
   slot_grants_ungranted_agrees,

@@ -109,6 +109,7 @@ pub past_the_last_slot_as_the_grant_ends_agrees : Agrees past_the_last_slot_as_t
 unfolding everything rows past_the_last_slot_as_the_grant_ends
 past_the_last_slot_as_the_grant_ends_agrees = record { well_formed = refl; verdict = refl; rows = refl }
 
+-- all recordings of `tenures` have the verdict and the rows that stand beside them
 pub tenures_agree : AllAgree tenures
 tenures_agree = (
   tenure_on_level_0_agrees,

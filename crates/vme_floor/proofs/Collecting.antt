@@ -130,11 +130,11 @@ module _ (total : ℕ) (v w : View) (c e : Collection) (m n : ℕ) (b : Block) (
   book-at_number : e.book ≡ set c.book n (Some b)
   book-at_number = book ∙ ap (λ (l : ℕ). set c.book l (Some b)) is
 
-  -- that place was free
+  -- the place of the number was free
   book-free : slice_get c.book n ≡ Some no_block
   book-free = ap (slice_get c.book) (sym is) ∙ free
 
-  -- it has the block now
+  -- the place of the number has the block now
   book-here : slice_get e.book n ≡ Some (Some b)
   book-here =
       ap (λ (xs : Places). slice_get xs n) book-at_number ∙ slice_get-set_here c.book n (Some b) (let l = k.long in
@@ -169,7 +169,7 @@ module _ (total : ℕ) (v w : View) (c e : Collection) (m n : ℕ) (b : Block) (
       (λ ne. let z = occurrences_else l n (numbers v.takes) ne in let s = k.saw l (omega (arith, z, some)) in
       let g = more l in omega (arith, s, g))
 
-  -- `IsCollected` holds then
+  -- `IsCollected` holds after one more block was taken and put into the book
   pub IsCollected-next : IsCollected total w e
   IsCollected-next = record {
     total_is = t ∙ k.total_is;

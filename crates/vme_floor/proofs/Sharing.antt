@@ -14,7 +14,7 @@ FitsIn-upto : (m t : ℕ) → t ≤ m → FitsIn m (upto t)
 FitsIn-upto m zero low = tt
 FitsIn-upto m (suc t) low = fits-append m (upto t) (suc t ∷ []) (FitsIn-upto m t (omega (arith, low))) (low, tt)
 
--- the shares of the workers 1 to t weigh the whole but for what t splits leave
+-- the shares of the workers 1 to t and what is left after t splits weigh the whole
 weight-upto : (m t : ℕ) → t ≤ m → weight m (upto t) + 2 ^ (m - t) ≡ 2 ^ m
 weight-upto m zero low = let e : 2 ^ (m - 0) ≡ 2 ^ m = ap (λ (j : ℕ). 2 ^ j) (let z : m - 0 ≡ m = omega arith in z) in
     omega (arith, e)

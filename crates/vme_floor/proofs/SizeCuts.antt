@@ -20,11 +20,11 @@ use Rattle.vme_floor.specs.Cuts.{IsCutOf}
 use Rattle.vme_floor.specs.declared.answer.Answer.TheVariants as answer
 
 module _ (t : Trace) (size : ℕ) where
-  -- the blocks
+  -- the blocks of `size` steps each
   abbrev blocks : List Block
   blocks = blocks_of size t
 
-  -- their number
+  -- the number of the blocks is `block_count`
   length-blocks : length blocks ≡ block_count size t
   length-blocks = length-map-range_with_len (block_at size t) 0 (block_count size t)
 

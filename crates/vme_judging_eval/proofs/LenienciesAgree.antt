@@ -57,6 +57,7 @@ pub answer_and_direction_after_one_strobe_agrees : Agrees answer_and_direction_a
 unfolding everything rows answer_and_direction_after_one_strobe
 answer_and_direction_after_one_strobe_agrees = record { well_formed = refl; verdict = refl; rows = refl }
 
+-- all recordings of `leniencies` have the verdict and the rows that stand beside them
 pub leniencies_agree : AllAgree leniencies
 leniencies_agree = (
   chain_net_left_low_agrees,

@@ -154,6 +154,7 @@ pub unreadable_after_a_break_before_the_reset_agrees : Agrees unreadable_after_a
 unfolding everything rows unreadable_after_a_break_before_the_reset
 unreadable_after_a_break_before_the_reset_agrees = record { well_formed = refl; verdict = refl; rows = refl }
 
+-- all recordings of `resets` have the verdict and the rows that stand beside them
 pub resets_agree : AllAgree resets
 resets_agree = (
   reset_in_a_read_agrees,

@@ -85,6 +85,7 @@ pub address_and_data_unknown_agrees : Agrees address_and_data_unknown
 unfolding everything rows address_and_data_unknown
 address_and_data_unknown_agrees = record { well_formed = refl; verdict = refl; rows = refl }
 
+-- all recordings of `same_instant` have the verdict and the rows that stand beside them
 pub same_instant_agree : AllAgree same_instant
 same_instant_agree = (
   modifier_and_direction_unknown_agrees,

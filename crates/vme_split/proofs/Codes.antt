@@ -264,25 +264,25 @@ module _ (t : Trace) (stretch : Stretch) (end : ℕ) (most : end ≤ stretch.end
 
   -- the cycle that starts at i
   module _ (i : ℕ) (before : i < end) (starts : cycle_starts t stretch i ≡ true) (e : Option ℕ) where
-    -- the lines of its modifier are known, if it is no interrupt acknowledge
+    -- the lines of the cycle's modifier are known, if it is no interrupt acknowledge
     known-modifier : (c : Class) → class_of (levels_at t i) ≡ c → (c ≡ class.I → ⊥) → (n : ℕ) → n < 6 → known t (AM n) i
         ≡ true
     known-modifier c of other n low = known-needed i before starts (AM n) (omega (arith, low))
         (is_needed-modifier (levels_at t i) c of other n low)
 
-    -- the address lines that are meaningful with its code are known, if it has an address
+    -- the address lines that are meaningful with the cycle's code are known, if it has an address
     known-address : (c : Class) → class_of (levels_at t i) ≡ c → (c ≡ class.I → ⊥) → (c ≡ class.F → ⊥) → (n : ℕ)
         → n < highest_address (modifier_of (levels_at t i)) → known t (address_line n) i ≡ true
     known-address c of other free n low = let top = highest_address-le_31 (modifier_of (levels_at t i)) in
         known-needed i before starts (address_line n) (omega (arith, low, top)) (is_needed-address (levels_at t i) c of
         other free n low)
 
-    -- A01 to A03 are known, if it is an interrupt acknowledge
+    -- A01 to A03 are known, if the cycle is an interrupt acknowledge
     known-level : class_of (levels_at t i) ≡ class.I → (n : ℕ) → n < 3 → known t (address_line n) i ≡ true
     known-level of n low = known-needed i before starts (address_line n) (omega (arith, low))
         (is_needed-level (levels_at t i) of n low)
 
-    -- the lines of its modifier show its code, if it is no interrupt acknowledge
+    -- the lines of the cycle's modifier show its code, if it is no interrupt acknowledge
     ShowNumber-modifier : (c : Class) → class_of (levels_at t i) ≡ c → (c ≡ class.I → ⊥) → ShowNumber t (λ n. AM n) 6 i
         (modifier_of (levels_at t i))
     ShowNumber-modifier c of other =

@@ -145,7 +145,7 @@ module _ (t : Trace) (stretch : Stretch) (is : IsStretchOf t stretch) (end : ℕ
         by true h = h
         by false h = high-write i before starts h
 
-    -- so does the row of one whose answer is in no cycle
+    -- the row of a transfer whose answer is in no cycle shows its direction
     ShowsDirection-no_cycle : (r : ℕ) → ShowsDirection t (answered_row t stretch end i r None)
     ShowsDirection-no_cycle r = ShowsDirection-pending
 

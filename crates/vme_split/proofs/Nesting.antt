@@ -351,15 +351,15 @@ module _ (t : Trace) (stretch : Stretch) (is : IsStretchOf t stretch) (end : ℕ
   -- the transfer that starts at i, and its answer r
   module _ (i r : ℕ) (starts : transfer_starts t stretch i ≡ true)
       (e : least (reply_at t stretch i) i end ≡ Some r) where
-    -- it starts after the start of the stretch
+    -- the transfer starts after the start of the stretch
     starts_after : stretch.start < i
     starts_after = transfer_starts-after t stretch i starts
 
-    -- r is the first fall of an answer line in it
+    -- r is the first fall of an answer line in the transfer
     IsLeast-answer : IsLeast (reply_at t stretch i) i end r
     IsLeast-answer = least-found (reply_at t stretch i) i end r e
 
-    -- it lasts at its answer
+    -- the transfer lasts at its answer
     lasts-answer : lasts t stretch i r ≡ true
     lasts-answer = (and_parts (lasts t stretch i r) (answer_falls t r) IsLeast-answer.holds).0
 
@@ -398,7 +398,7 @@ module _ (t : Trace) (stretch : Stretch) (is : IsStretchOf t stretch) (end : ℕ
     low-near_answer = near-low_as t stretch is end within most r (omega (arith, IsLeast-answer.first, starts_after))
         (near_low-reply t stretch is end within most unbroken i r starts_after starts e)
 
-    -- a cycle covers that instant
+    -- a cycle covers the instant near the answer at which the address strobe is low
     covering_cycle : CycleCovers t stretch is end within most low-near_answer.0
     covering_cycle =
         CycleCovers-low t stretch is end within most low-near_answer.0 low-near_answer.1
@@ -520,7 +520,7 @@ module _ (t : Trace) (stretch : Stretch) (is : IsStretchOf t stretch) (end : ℕ
       (least (answers t stretch i) i end)))
       → All P (rows_before t stretch end end)
 
-  -- that is so of each P
+  -- `AllByTransfers` holds of each P
   AllByTransfers-rows : (P : Row → Type 0) → AllByTransfers P
   AllByTransfers-rows P opened started cycle transfer = All-rows_before P t stretch end
       (λ i before. All-tenure_rows P t stretch end i (opened i) (λ starts level slot e l s. started i level slot e))

@@ -78,19 +78,19 @@ All-bare P Q f [] h = All-nil Q
 All-bare P Q f (r ∷ rows) h = All-cons Q (without_data r) (bare rows) (f r (h zero r (omega arith)))
     (All-bare P Q f rows (λ k d l. h (suc k) d (omega (arith, l))))
 
--- the tenures are the same
+-- rows without their data have the same tenures
 tenure_in-bare : (rows : List Row) → flat_map tenure_in (bare rows) ≡ flat_map tenure_in rows
 tenure_in-bare = flat_map-bare tenure_in (without_data-same tenure_in (λ d l s c a k x. refl))
 
--- the cycles are the same
+-- rows without their data have the same cycles
 cycle_in-bare : (rows : List Row) → flat_map cycle_in (bare rows) ≡ flat_map cycle_in rows
 cycle_in-bare = flat_map-bare cycle_in (without_data-same cycle_in (λ d l s c a k x. refl))
 
--- the transfers are the same
+-- rows without their data have the same transfers
 transfer_in-bare : (rows : List Row) → flat_map transfer_in (bare rows) ≡ flat_map transfer_in rows
 transfer_in-bare = flat_map-bare transfer_in (without_data-same transfer_in (λ d l s c a k x. refl))
 
--- the answers by DTACK are the same
+-- rows without their data have the same answers by DTACK
 dtack_in-bare : (rows : List Row) → flat_map dtack_in (bare rows) ≡ flat_map dtack_in rows
 dtack_in-bare = flat_map-bare dtack_in (without_data-same dtack_in by)
   where
@@ -99,7 +99,7 @@ dtack_in-bare = flat_map-bare dtack_in (without_data-same dtack_in by)
     by d Dtack s c a k x = refl
     by d Berr s c a k x = refl
 
--- the answers by BERR are the same
+-- rows without their data have the same answers by BERR
 berr_in-bare : (rows : List Row) → flat_map berr_in (bare rows) ≡ flat_map berr_in rows
 berr_in-bare = flat_map-bare berr_in (without_data-same berr_in by)
   where
@@ -108,7 +108,7 @@ berr_in-bare = flat_map-bare berr_in (without_data-same berr_in by)
     by d Dtack s c a k x = refl
     by d Berr s c a k x = refl
 
--- the directions of the transfers that name a cycle are the same
+-- rows without their data have the same directions of the transfers that name a cycle
 direction_in-bare : (cycle : ℕ) (rows : List Row) → flat_map (direction_in cycle) (bare rows)
     ≡ flat_map (direction_in cycle) rows
 direction_in-bare cycle =

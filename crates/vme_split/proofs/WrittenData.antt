@@ -32,13 +32,13 @@ and-first_of_three : (a b c : Bool) → (a && b && c) ≡ true → a ≡ true
 and-first_of_three true b c h = refl
 and-first_of_three false b c h = absurd (cc)
 
--- the second part
+-- the second part of a conjunction of three that holds
 and-second_of_three : (a b c : Bool) → (a && b && c) ≡ true → b ≡ true
 and-second_of_three true true c h = refl
 and-second_of_three true false c h = absurd (cc)
 and-second_of_three false b c h = absurd (cc)
 
--- the third part
+-- the third part of a conjunction of three that holds
 and-third_of_three : (a b c : Bool) → (a && b && c) ≡ true → c ≡ true
 and-third_of_three true true true h = refl
 and-third_of_three true true false h = absurd (cc)
@@ -56,7 +56,7 @@ module _ (t : Trace) (stretch : Stretch) (is : IsStretchOf t stretch) (end : ℕ
   module _ (i r : ℕ) (before : i < end) (starts : transfer_starts t stretch i ≡ true)
       (there : lasts t stretch i r ≡ true)
     where
-      -- it lasts only from its start on
+      -- a transfer lasts only from its start on
       lasts-order : i ≤ r
       unfolding lasts
       lasts-order = leb-true i r (and-first_of_three (nat_le i r) _ _ there)

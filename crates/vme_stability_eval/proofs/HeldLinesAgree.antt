@@ -113,6 +113,7 @@ pub lowest_address_line_changes_agrees : Agrees lowest_address_line_changes
 unfolding everything rows lowest_address_line_changes
 lowest_address_line_changes_agrees = record { well_formed = refl; verdict = refl; rows = refl }
 
+-- all recordings of `held_lines` have the verdict and the rows that stand beside them
 pub held_lines_agree : AllAgree held_lines
 held_lines_agree = (
   short_address_agrees,

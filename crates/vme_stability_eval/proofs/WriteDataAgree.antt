@@ -157,6 +157,7 @@ pub data_lost_with_a_bus_error_agrees : Agrees data_lost_with_a_bus_error
 unfolding everything rows data_lost_with_a_bus_error
 data_lost_with_a_bus_error_agrees = record { well_formed = refl; verdict = refl; rows = refl }
 
+-- all recordings of `write_data` have the verdict and the rows that stand beside them
 pub write_data_agree : AllAgree write_data
 write_data_agree = (
   data_unknown_agrees,

@@ -152,7 +152,7 @@ module _ (allowances : List Allowance) where
   module _ (grow : StepsBreak) (within : BreaksWithin) (stop : Option ℕ) (t : Trace) (steps : List Step)
       (ok : malformed_step (with_steps t steps) ≡ None) (few : t.opening.slots ≤ 21)
       (h : is_stopped allowances stop t ≡ true) where
-    -- the audit stays stopped
+    -- an audit that has stopped stays so when further steps come
     pub is_stopped-stays : is_stopped allowances stop (with_steps t steps) ≡ true
     is_stopped-stays = by_stop stop h
       where
@@ -170,7 +170,7 @@ module _ (allowances : List Allowance) where
             (filter-append (is_fault allowances) (breaks t) on.more)
             ∙ lt-ltb (n - 1) (length (so_far ++ faults allowances on.more)) (omega arith)
 
-    -- no more is read
+    -- an audit that has stopped reads nothing of further steps
     pub read_by-stopped : read_by allowances stop (with_steps t steps) ≡ read_by allowances stop t
     unfolding stopped_at
     read_by-stopped = by_stop stop h

@@ -22,7 +22,7 @@ use Rattle.vme_step_auditor.proofs.ReadOn.{read_by-unbroken, is_stopped-stays}
 use Rattle.vme_step_auditor.proofs.Tallying.{AreBreakCountsOf-none, AreBreakCountsOf-break, AreBreakCountsOf-same}
 use Rattle.vme_step_auditor.proofs.Tallying.{all_counted-with_category, faults_counted-faults}
 
--- before the first step
+-- `HasAuditedSteps` holds before the first step
 pub HasAuditedSteps-first : (allowances : List Allowance) (stop : Option ℕ) (o : Levels) (audited : Trace)
     (c : BreakCounts)
     → breaks (record { opening = o; steps = [] }) ≡ [] → audited ≡ record { opening = o; steps = [] }
@@ -56,7 +56,7 @@ module _ (grow : StepsBreak) (within : BreaksWithin) (allowances : List Allowanc
     is_stopped-given : malformed_step next ≡ None → is_stopped allowances stop given ≡ true
     is_stopped-given ok = sym (audited_so_far.stopped (well_formed-front given (s ∷ []) ok)) ∙ h
 
-    -- the step isn't audited
+    -- `HasAuditedSteps` holds after a step that isn't audited, since the audit has stopped
     pub HasAuditedSteps-stopped : HasAuditedSteps allowances stop next audited c
     HasAuditedSteps-stopped =
         record {
@@ -73,7 +73,7 @@ module _ (grow : StepsBreak) (within : BreaksWithin) (allowances : List Allowanc
               (is_stopped-given ok));
         }
 
-    -- what is read has no more breaks
+    -- a step after the audit has stopped adds no break to what is read
     pub breaks-none_added : malformed_step next ≡ None → breaks (read_by allowances stop next)
         ≡ breaks (read_by allowances stop given) ++ []
     breaks-none_added ok =
@@ -92,11 +92,11 @@ module _ (grow : StepsBreak) (within : BreaksWithin) (allowances : List Allowanc
       pub later-next : later ≡ next
       later-next = on ∙ ap (λ (t : Trace). with_steps t (s ∷ [])) (audited_so_far.all_read h)
 
-      -- all of that is read
+      -- an audit that hasn't stopped reads the step
       read_by-next : malformed_step next ≡ None → read_by allowances stop next ≡ next
       read_by-next ok = read_by-step allowances stop given s (grow given s ok slots) (is_stopped-not_yet ok)
 
-      -- the step is audited, if the counts are then those of the breaks
+      -- `HasAuditedSteps` holds after a step that is audited, if the counts are then those of the breaks
       HasAuditedSteps-step : (d : BreakCounts) → all_counted d ≤ all_counted c + 1
           → (length audited.steps ≡ 2 ^ 64 - 1 → ⊥) → (malformed_step next ≡ None → AreBreakCountsOf d allowances later)
           → HasAuditedSteps allowances stop next later d
@@ -132,7 +132,7 @@ module _ (grow : StepsBreak) (within : BreaksWithin) (allowances : List Allowanc
           (audited_so_far.all_read h ∙ sym (read_by-unstopped allowances stop given (is_stopped-not_yet ok)))
 
       module _ (room : length audited.steps ≡ 2 ^ 64 - 1 → ⊥) where
-        -- a step that breaks a rule
+        -- `HasAuditedSteps` holds after a step that breaks a rule, which its category counts
         pub HasAuditedSteps-break : (found : Break)
             → (malformed_step later ≡ None → breaks later ≡ breaks audited ++ found ∷ [])
             → HasAuditedSteps allowances stop next later (with_category c (category_of allowances found))
@@ -143,7 +143,7 @@ module _ (grow : StepsBreak) (within : BreaksWithin) (allowances : List Allowanc
             (λ ok. AreBreakCountsOf-break allowances c audited later found
             (audited_so_far.counted (well_formed-front given (s ∷ []) ok)) (breaks_grow (well_formed-later ok)))
 
-        -- a step that breaks none
+        -- `HasAuditedSteps` holds after a step that breaks no rule
         pub HasAuditedSteps-conforming : (malformed_step later ≡ None → breaks later ≡ breaks audited ++ [])
             → HasAuditedSteps allowances stop next later c
         HasAuditedSteps-conforming breaks_grow =

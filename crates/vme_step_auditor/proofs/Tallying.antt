@@ -55,7 +55,7 @@ module _ (allowances : List Allowance) where
     unreadable : length (unreadables allowances (b ∷ [])) ≡ as_unreadable (category_of allowances b)
     allowed : length (filter (is_allowed allowances) (b ∷ [])) ≡ as_allowed (category_of allowances b)
 
-  -- that is so of each break
+  -- each break adds to the counts by its category
   CountsOnce-every : (b : Break) → CountsOnce b
   CountsOnce-every b = by_tests (is_allowed allowances b) (is_unreadable b.rule) refl refl
     where

@@ -59,6 +59,7 @@ pub acknowledge_line_rises_as_the_cycle_starts_agrees : Agrees acknowledge_line_
 unfolding everything rows acknowledge_line_rises_as_the_cycle_starts
 acknowledge_line_rises_as_the_cycle_starts_agrees = record { well_formed = refl; verdict = refl; rows = refl }
 
+-- all recordings of `cycles` have the verdict and the rows that stand beside them
 pub cycles_agree : AllAgree cycles
 cycles_agree = (
   read_modify_write_agrees,

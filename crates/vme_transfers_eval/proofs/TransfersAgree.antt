@@ -122,6 +122,7 @@ pub transfer_between_two_cycles_agrees : Agrees transfer_between_two_cycles
 unfolding everything rows transfer_between_two_cycles
 transfer_between_two_cycles_agrees = record { well_formed = refl; verdict = refl; rows = refl }
 
+-- all recordings of `transfers` have the verdict and the rows that stand beside them
 pub transfers_agree : AllAgree transfers
 transfers_agree = (
   read_cycle_agrees,
