@@ -15,8 +15,8 @@ use Rattle.vme_bind.specs.BoundGroups.{bound_groups_in}
 use Rattle.vme_bind.specs.Capture.{levels_after, recording, recording_of}
 use Rattle.vme_bind.specs.TextCapture.{or_binding, recording_of_text, recording_read}
 use Rattle.vme_bind.specs.declared.fault.BindFault.{BindFault}
-use Rattle.vme_bind.proofs.CaptureLemmas.{levels-all}
-use Rattle.vme_bind.proofs.TextCaptureLemmas.{recorded-formed}
+use Rattle.vme_bind.proofs.CaptureLemmas.{length-levels_after}
+use Rattle.vme_bind.proofs.TextCaptureLemmas.{recording_of_text-formed}
 use Rattle.vme_skew.specs.Settled.{IsRecording, settled, settled_or}
 use Rattle.vme_skew.proofs.Laws.{is_recording}
 use Rattle.vme_trace.specs.LineNumbers.{line_count}
@@ -111,8 +111,8 @@ module _ (skew : ℕ) (binding : BoundLines) (dump : List ℕ) (t : Trace) (is :
       let read = both_read (bound_groups_in is.contents.variables binding.assignments) _ is.raw is.raw_is in
       record {
         whole = subst (λ (r : Trace). length r.opening.levels ≡ line_count) (ap (trace_in is.raw) read.2)
-            (levels-all binding.slots read.0 is.contents.instants 0);
-        formed = recorded-formed binding dump is.raw recording_of_text-raw;
+            (length-levels_after binding.slots read.0 is.contents.instants 0);
+        formed = recording_of_text-formed binding dump is.raw recording_of_text-raw;
       }
 
   -- the recording `t` is well formed

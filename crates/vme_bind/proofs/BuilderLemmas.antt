@@ -28,9 +28,10 @@ use Rattle.vme_bind.specs.Capture.{level_in, last_bits, values_of, time_of, leve
 use Rattle.vme_bind.specs.Recording.{RecorderLevels, line_change, valued, step_between}
 use Rattle.vme_bind.specs.BuilderState.{BuilderState, IsBegun, builder_change, builder_instant}
 use Rattle.vme_bind.proofs.RecorderLemmas.{same_levels}
-use Rattle.vme_bind.proofs.CaptureLemmas.{AreLineBits, by_values, valued-more, line_bit_level, after_value}
-use Rattle.vme_bind.proofs.CaptureLemmas.{after_value-at}
-use Rattle.vme_bind.proofs.CaptureLemmas.{length-valued, slots-valued, valued-at, levels-all, length-changed}
+use Rattle.vme_bind.proofs.CaptureLemmas.{AreLineBits, by_values, valued-levels_after, line_bit_level, after_value}
+use Rattle.vme_bind.proofs.CaptureLemmas.{level_at-after_value}
+use Rattle.vme_bind.proofs.CaptureLemmas.{length-valued, slots-valued, level_at-valued, length-levels_after}
+use Rattle.vme_bind.proofs.CaptureLemmas.{length-changed}
 use Rattle.vme_bind.proofs.OpeningLemmas.{recording-first, recording-more}
 
 -- a net without a value in the current instant
@@ -134,12 +135,14 @@ module _ (slots : ℕ) (bound_groups : List BoundGroup) (line_bits : NetLines)
       (values_from 0 current) v ∙ len)
       (length-valued line_bits (values_from 0 (slice_set current net (Some bits))) v ∙ len)
       (λ l lt2.
-      after_value-at slots bound_groups line_bits all value before (length-valued line_bits (values_from 0 current) v
+      level_at-after_value slots bound_groups line_bits all value before
+      (length-valued line_bits (values_from 0 current) v
       ∙ len) l lt2
       ∙ ap (cond (is_on net (line_source slots bound_groups l)) (line_bit_level l (line_source slots bound_groups l)
-      bits)) (valued-at slots bound_groups line_bits all (values_from 0 current) v len l lt2)
+      bits)) (level_at-valued slots bound_groups line_bits all (values_from 0 current) v len l lt2)
       ∙ by_values-set l net (line_source slots bound_groups l) current bits (level_at v l) lt
-      ∙ sym (valued-at slots bound_groups line_bits all (values_from 0 (slice_set current net (Some bits))) v len l
+      ∙ sym (level_at-valued slots bound_groups line_bits all (values_from 0 (slice_set current net (Some bits))) v len
+      l
       lt2))
 
 -- ---- the builder's state
@@ -178,7 +181,8 @@ module _ (slots : ℕ) (bound_groups : List BoundGroup) (count : ℕ) (instants 
         now =
             ap (λ (w : Levels). changed w (map (line_change bits) (line_bits_of m.line_bits net))) h.now
             ∙ valued-set slots bound_groups m.line_bits h.line_bits current net bits
-            (levels_after slots bound_groups instants (length done)) within (levels-all slots bound_groups instants
+            (levels_after slots bound_groups instants (length done)) within
+            (length-levels_after slots bound_groups instants
             (length done));
         recorded = h.recorded;
       }
@@ -204,7 +208,7 @@ module _ (slots : ℕ) (bound_groups : List BoundGroup) (count : ℕ) (instants 
       rest in
       let v : Levels = levels_after slots bound_groups instants n in
       let count_more : n + 1 ≡ length (done ++ x ∷ []) = sym (length_push done x) in
-      let levels : m.progress.now ≡ levels_after slots bound_groups instants (n + 1) = h.now ∙ valued-more slots
+      let levels : m.progress.now ≡ levels_after slots bound_groups instants (n + 1) = h.now ∙ valued-levels_after slots
       bound_groups instants m.line_bits h.line_bits n (values_from 0 current) (sym (ap values_of found)) in
       let after : m.progress.now ≡ levels_after slots bound_groups instants (length (done ++ x ∷ [])) = levels
       ∙ ap (λ (k : ℕ). levels_after slots bound_groups instants k) count_more in

@@ -1,4 +1,5 @@
--- The levels after each instant of a dump, and the steps between them.
+-- The levels of the lines after each instant of a dump are those after the instant before it, changed by the instant's
+-- values.
 use Rattle.std.proofs.Common.{◌≡◌, ◌≢◌, ℕ, zero, suc, ◌+◌, ◌<◌, ◌≤◌, Bool, true, false, cond, ◌&&◌, List, [], ◌∷◌, ◌++◌}
 use Rattle.std.proofs.Common.{length, map, refl, sym, ap, ◌∙◌, arith, add-one, inl, inr, ◌⊎◌, Option, Some, None}
 use Rattle.std.specs.Prelude.{nat_lt, ◌==◌, slice_get, is_some, option_and_then}
@@ -35,44 +36,52 @@ use Rattle.vme_bind.proofs.RecorderLemmas.{zero_le}
 
 -- ---- changes of the lines of a range
 
-pub changed-more : (v : Levels) (cs : List Change) (c : Change) → changed v (cs ++ c ∷ []) ≡ set_level (changed v cs)
+-- one change more sets the level of its line
+pub changed-append : (v : Levels) (cs : List Change) (c : Change) → changed v (cs ++ c ∷ []) ≡ set_level (changed v cs)
     c.line c.level
 unfolding changed
-changed-more v [] c = refl
-changed-more v (d ∷ cs) c = changed-more (set_level v d.line d.level) cs c
+changed-append v [] c = refl
+changed-append v (d ∷ cs) c = changed-append (set_level v d.line d.level) cs c
 
+-- changes leave the number of levels as it is
 pub length-changed : (v : Levels) (cs : List Change) → length (changed v cs).levels ≡ length v.levels
 unfolding changed
 length-changed v [] = refl
 length-changed v (c ∷ cs) = length-changed (set_level v c.line c.level) cs ∙ length-set v.levels c.line c.level
 
+-- the change of the line `l` to its level by `g`
 abbrev to_level : (ℕ → Level) → ℕ → Change
 to_level g l = record { line = l; level = g l }
 
+-- whether l, which isn't n, is below n + 1 is whether it is below n
 lt_next : (l n : ℕ) → l ≢ n → nat_lt l n ≡ nat_lt l (n + 1)
 lt_next l n ne = grind (arith, nat_tests)
 
+-- n is below n + 1
 lt_itself : (l n : ℕ) → l ≡ n → nat_lt l (n + 1) ≡ true
 lt_itself l n e = grind (arith, nat_tests)
 
+-- unless l is n and `p` holds for it, it is below n + 1 with `p` exactly if it is below n with `p`
 tests_alike : (p : ℕ → Bool) (l n : ℕ) → (l ≢ n) ⊎ (p l ≡ false) → (nat_lt l n && p l) ≡ (nat_lt l (n + 1) && p l)
 tests_alike p l n (inl ne) = ap (λ (b : Bool). b && p l) (lt_next l n ne)
 tests_alike p l n (inr off) = and_right (nat_lt l n) (p l) off ∙ sym (and_right (nat_lt l (n + 1)) (p l) off)
 
-abbrev at_those : (ℕ → Level) → Levels → ℕ → List ℕ → Level
-at_those g v l xs = level_at (changed v (map (to_level g) xs)) l
+-- the level of the line `l` after the lines `xs` got their levels by `g`
+abbrev level_at_changed : (ℕ → Level) → Levels → ℕ → List ℕ → Level
+level_at_changed g v l xs = level_at (changed v (map (to_level g) xs)) l
 
-at_more : (g : ℕ → Level) (v : Levels) (l n : ℕ) (xs : List ℕ) → at_those g v l (xs ++ n ∷ [])
+-- the line n, after the lines `xs`, gets its level by `g`
+level_at_changed-append : (g : ℕ → Level) (v : Levels) (l n : ℕ) (xs : List ℕ) → level_at_changed g v l (xs ++ n ∷ [])
     ≡ level_at (set_level (changed v (map (to_level g) xs)) n (g n)) l
-at_more g v l n xs = ap (λ (cs : List Change). level_at (changed v cs) l) (map_push (to_level g) xs n)
-    ∙ ap (λ (w : Levels). level_at w l) (changed-more v (map (to_level g) xs) (to_level g n))
+level_at_changed-append g v l n xs = ap (λ (cs : List Change). level_at (changed v cs) l) (map_push (to_level g) xs n)
+    ∙ ap (λ (w : Levels). level_at w l) (changed-append v (map (to_level g) xs) (to_level g n))
 
--- one number more for `changed-those`
-changed_those-step : (p : ℕ → Bool) (g : ℕ → Level) (v : Levels) (n l : ℕ) (b : Bool) → p n ≡ b → n < length v.levels
-    → at_those g v l (those p 0 n) ≡ cond (nat_lt l n && p l) (g l) (level_at v l)
-    → at_those g v l (those p 0 (n + 1)) ≡ cond (nat_lt l (n + 1) && p l) (g l) (level_at v l)
-changed_those-step p g v n l true e lt so_far =
-    ap (at_those g v l) (those-yes p n e) ∙ at_more g v l n (those p 0 n)
+-- what `level_at-changed_those` says of the lines below n, it says of those below n + 1
+level_at_changed-next : (p : ℕ → Bool) (g : ℕ → Level) (v : Levels) (n l : ℕ) (b : Bool) → p n ≡ b → n < length v.levels
+    → level_at_changed g v l (those p 0 n) ≡ cond (nat_lt l n && p l) (g l) (level_at v l)
+    → level_at_changed g v l (those p 0 (n + 1)) ≡ cond (nat_lt l (n + 1) && p l) (g l) (level_at v l)
+level_at_changed-next p g v n l true e lt so_far =
+    ap (level_at_changed g v l) (those-yes p n e) ∙ level_at_changed-append g v l n (those p 0 n)
     ∙ elim (cases_eq l n) [
       | inl same ↦
           ap (level_at (set_level (changed v (map (to_level g) (those p 0 n))) n (g n))) same
@@ -84,24 +93,26 @@ changed_those-step p g v n l true e lt so_far =
           level_at-set_other (changed v (map (to_level g) (those p 0 n))) n l (g n) ne ∙ so_far
           ∙ ap (λ (b : Bool). cond b (g l) (level_at v l)) (tests_alike p l n (inl ne))
     ]
-changed_those-step p g v n l false e lt so_far =
-    ap (at_those g v l) (those-no p n e) ∙ so_far
+level_at_changed-next p g v n l false e lt so_far =
+    ap (level_at_changed g v l) (those-no p n e) ∙ so_far
     ∙ ap (λ (b : Bool). cond b (g l) (level_at v l))
     (tests_alike p l n (elim (cases_eq l n) [ inl same ↦ inr (ap p same ∙ e) | inr ne ↦ inl ne ]))
 
-none_below : (l : ℕ) → nat_lt l 0 ≡ false
-none_below l = grind (arith, nat_tests)
+-- no number is below 0
+nat_lt-zero : (l : ℕ) → nat_lt l 0 ≡ false
+nat_lt-zero l = grind (arith, nat_tests)
 
 -- of the lines below n, those with `p` get the levels of `g`; the other lines keep theirs
-pub changed-those : (p : ℕ → Bool) (g : ℕ → Level) (v : Levels) (n : ℕ) → n ≤ length v.levels → (l : ℕ)
+pub level_at-changed_those : (p : ℕ → Bool) (g : ℕ → Level) (v : Levels) (n : ℕ) → n ≤ length v.levels → (l : ℕ)
     → level_at (changed v (map (λ k. record { line = k; level = g k }) (those p 0 n))) l ≡ cond (nat_lt l n && p l)
     (g l) (level_at v l)
 unfolding changed those
-changed-those p g v zero le l = ap (λ (b : Bool). cond (b && p l) (g l) (level_at v l)) (sym (none_below l))
-changed-those p g v (suc n) le l =
+level_at-changed_those p g v zero le l = ap (λ (b : Bool). cond (b && p l) (g l) (level_at v l)) (sym (nat_lt-zero l))
+level_at-changed_those p g v (suc n) le l =
     let more : n + 1 ≡ suc n = omega arith in
-    ap (λ (m : ℕ). at_those g v l (those p 0 m)) (sym more)
-    ∙ changed_those-step p g v n l (p n) refl (omega (arith, le)) (changed-those p g v n (omega (arith, le)) l)
+    ap (λ (m : ℕ). level_at_changed g v l (those p 0 m)) (sym more)
+    ∙ level_at_changed-next p g v n l (p n) refl (omega (arith, le))
+    (level_at-changed_those p g v n (omega (arith, le)) l)
     ∙ ap (λ (m : ℕ). cond (nat_lt l m && p l) (g l) (level_at v l)) more
 
 -- ---- the values of an instant
@@ -112,16 +123,17 @@ by_values l None values base = base
 by_values l (Some (Always level)) values base = base
 by_values l (Some (AtBit bit)) values base = option_map_or (level_in l bit.place) (last_bits bit.net values) base
 
+-- the level of the line `l` with this source, where its net has the value `bits`
 abbrev pub line_bit_level : ℕ → Option LineSource → List Bit → Level
 line_bit_level l source bits = level_in l (place_in source) bits
 
 -- the level of a line after the first value and then the others is that after all
-value_first : (l : ℕ) (source : Option LineSource) (v : Value) (values : List Value) (base : Level)
+by_values-first : (l : ℕ) (source : Option LineSource) (v : Value) (values : List Value) (base : Level)
     → by_values l source values (cond (is_on v.net source) (line_bit_level l source v.bits) base) ≡ by_values l source
     (v ∷ values) base
-value_first l None v values base = refl
-value_first l (Some (Always level)) v values base = refl
-value_first l (Some (AtBit bit)) v values base = by_last (last_bits bit.net values) (v.net == bit.net)
+by_values-first l None v values base = refl
+by_values-first l (Some (Always level)) v values base = refl
+by_values-first l (Some (AtBit bit)) v values base = by_last (last_bits bit.net values) (v.net == bit.net)
   where
     by_last : (later : Option (List Bit)) (here : Bool)
         → option_map_or (level_in l bit.place) later (cond here (level_in l bit.place v.bits) base)
@@ -130,10 +142,11 @@ value_first l (Some (AtBit bit)) v values base = by_last (last_bits bit.net valu
     by_last None false = refl
     by_last (Some bits) here = refl
 
-nothing_said : (l : ℕ) (source : Option LineSource) (base : Level) → by_values l source [] base ≡ base
-nothing_said l None base = refl
-nothing_said l (Some (Always level)) base = refl
-nothing_said l (Some (AtBit bit)) base = refl
+-- no values leave the level of a line as it was
+by_values-none : (l : ℕ) (source : Option LineSource) (base : Level) → by_values l source [] base ≡ base
+by_values-none l None base = refl
+by_values-none l (Some (Always level)) base = refl
+by_values-none l (Some (AtBit bit)) base = refl
 
 -- the line bits are those of some bound groups
 abbrev pub AreLineBits : ℕ → List BoundGroup → NetLines → Type 0
@@ -141,40 +154,45 @@ AreLineBits slots bound_groups line_bits = (net : ℕ) → line_bits_of line_bit
     ≡ line_bits_below slots bound_groups net
     line_count
 
-line_change_twice : (slots : ℕ) (bound_groups : List BoundGroup) (bits : List Bit) (xs : List ℕ)
+-- the changes of the lines `xs`, by their line bits, are those to the levels of their bits
+line_change-line_bit_at : (slots : ℕ) (bound_groups : List BoundGroup) (bits : List Bit) (xs : List ℕ)
     → map (line_change bits)
     (map (line_bit_at slots bound_groups) xs)
     ≡ map (to_level (λ l. line_bit_level l (line_source slots bound_groups l) bits)) xs
-line_change_twice slots bound_groups bits [] = refl
-line_change_twice slots bound_groups bits (x ∷ xs) = ap
+line_change-line_bit_at slots bound_groups bits [] = refl
+line_change-line_bit_at slots bound_groups bits (x ∷ xs) = ap
     (λ (cs : List Change). to_level (λ l. line_bit_level l (line_source slots bound_groups l) bits) x ∷ cs)
-    (line_change_twice slots bound_groups bits xs)
+    (line_change-line_bit_at slots bound_groups bits xs)
 
+-- the levels after one value of an instant
 abbrev pub after_value : NetLines → Value → Levels → Levels
 after_value line_bits v now = changed now (map (line_change v.bits) (line_bits_of line_bits v.net))
 
 -- the level of a line after one value: that of its bit, where the value is one of its net, or else the one before
-pub after_value-at : (slots : ℕ) (bound_groups : List BoundGroup) (line_bits : NetLines)
+pub level_at-after_value : (slots : ℕ) (bound_groups : List BoundGroup) (line_bits : NetLines)
     → AreLineBits slots bound_groups line_bits
     → (v : Value) (now : Levels) → length now.levels ≡ line_count → (l : ℕ) → l < line_count
     → level_at (after_value line_bits v now) l ≡ cond (is_on v.net (line_source slots bound_groups l))
     (line_bit_level l (line_source slots bound_groups l) v.bits) (level_at now l)
 unfolding is_line_bit
-after_value-at slots bound_groups line_bits all v now e l lt =
+level_at-after_value slots bound_groups line_bits all v now e l lt =
     ap (λ (ts : List LineBit). level_at (changed now (map (line_change v.bits) ts)) l) (all v.net)
-    ∙ ap (λ (cs : List Change). level_at (changed now cs) l) (line_change_twice slots bound_groups v.bits
+    ∙ ap (λ (cs : List Change). level_at (changed now cs) l) (line_change-line_bit_at slots bound_groups v.bits
     (those (is_line_bit slots bound_groups v.net) 0 line_count))
-    ∙ changed-those (is_line_bit slots bound_groups v.net) (λ k. line_bit_level k (line_source slots bound_groups k)
+    ∙ level_at-changed_those (is_line_bit slots bound_groups v.net)
+    (λ k. line_bit_level k (line_source slots bound_groups k)
     v.bits) now line_count (omega (arith, e)) l
     ∙ ap (λ (b : Bool). cond (b && is_line_bit slots bound_groups v.net l)
     (line_bit_level l (line_source slots bound_groups l) v.bits) (level_at now l)) (lt-ltb l line_count lt)
 
+-- the values of an instant leave the number of levels as it is
 pub length-valued : (line_bits : NetLines) (values : List Value) (now : Levels)
     → length (valued line_bits values now).levels ≡ length now.levels
 length-valued line_bits [] now = refl
 length-valued line_bits (v ∷ values) now = length-valued line_bits values (after_value line_bits v now)
     ∙ length-changed now (map (line_change v.bits) (line_bits_of line_bits v.net))
 
+-- the values of an instant leave the number of slots as it is
 pub slots-valued : (line_bits : NetLines) (values : List Value) (now : Levels) → (valued line_bits values now).slots
     ≡ now.slots
 slots-valued line_bits [] now = refl
@@ -182,85 +200,101 @@ slots-valued line_bits (v ∷ values) now = slots-valued line_bits values (after
     ∙ slots-kept now (map (line_change v.bits) (line_bits_of line_bits v.net))
 
 -- the level of a line after the values of an instant
-pub valued-at : (slots : ℕ) (bound_groups : List BoundGroup) (line_bits : NetLines) → AreLineBits slots bound_groups
+pub level_at-valued : (slots : ℕ) (bound_groups : List BoundGroup) (line_bits : NetLines)
+    → AreLineBits slots bound_groups
     line_bits → (values : List Value) (now : Levels) → length now.levels ≡ line_count → (l : ℕ) → l < line_count
     → level_at (valued line_bits values now) l ≡ by_values l (line_source slots bound_groups l) values (level_at now l)
-valued-at slots bound_groups line_bits all [] now e l lt = sym (nothing_said l (line_source slots bound_groups l)
+level_at-valued slots bound_groups line_bits all [] now e l lt =
+    sym (by_values-none l (line_source slots bound_groups l)
     (level_at now l))
-valued-at slots bound_groups line_bits all (v ∷ values) now e l lt =
-    valued-at slots bound_groups line_bits all values (after_value line_bits v now)
+level_at-valued slots bound_groups line_bits all (v ∷ values) now e l lt =
+    level_at-valued slots bound_groups line_bits all values (after_value line_bits v now)
     (length-changed now (map (line_change v.bits) (line_bits_of line_bits v.net)) ∙ e) l lt
     ∙ ap (by_values l (line_source slots bound_groups l) values)
-    (after_value-at slots bound_groups line_bits all v now e l lt)
-    ∙ value_first l (line_source slots bound_groups l) v values (level_at now l)
+    (level_at-after_value slots bound_groups line_bits all v now e l lt)
+    ∙ by_values-first l (line_source slots bound_groups l) v values (level_at now l)
 
 -- ---- one instant more
 
+-- if `p` holds for n, n is the greatest number below n + 1 with `p`
 greatest-yes : (p : ℕ → Bool) (n : ℕ) → p n ≡ true → greatest p 0 (n + 1) ≡ Some n
 unfolding greatest
 greatest-yes p n h = rw (add-one, zero_le n, h) refl
 
+-- if `p` doesn't hold for n, the greatest number below n + 1 with `p` is that below n
 greatest-no : (p : ℕ → Bool) (n : ℕ) → p n ≡ false → greatest p 0 (n + 1) ≡ greatest p 0 n
 unfolding greatest
 greatest-no p n h = rw (add-one, zero_le n, h) refl
 
 module _ (slots : ℕ) (bound_groups : List BoundGroup) (instants : List Instant) where
-  bit_more : (n l net place : ℕ) (here : Option (List Bit)) → bits_at slots bound_groups instants net n ≡ here
+  -- the level of a line by its bit after n + 1 instants: by the bits `here` that its net gets at instant n, or else
+  -- that after n instants
+  level_by-bits : (n l net place : ℕ) (here : Option (List Bit)) → bits_at slots bound_groups instants net n ≡ here
       → option_map_or (level_in l place) (option_and_then (bits_at slots bound_groups instants net)
       (last_change slots bound_groups instants net (n + 1))) Unknown
       ≡ option_map_or (level_in l place) here
       (option_map_or (level_in l place) (option_and_then (bits_at slots bound_groups instants net)
       (last_change slots bound_groups instants net n)) Unknown)
-  bit_more n l net place None e =
+  level_by-bits n l net place None e =
       ap (λ (o : Option ℕ). option_map_or (level_in l place) (option_and_then (bits_at slots bound_groups instants net)
       o) Unknown) (greatest-no (λ i. is_some (bits_at slots bound_groups instants net i)) n (ap is_some e))
-  bit_more n l net place (Some bits) e =
+  level_by-bits n l net place (Some bits) e =
       ap (λ (o : Option ℕ). option_map_or (level_in l place) (option_and_then (bits_at slots bound_groups instants net)
       o) Unknown) (greatest-yes (λ i. is_some (bits_at slots bound_groups instants net i)) n (ap is_some e))
       ∙ ap (λ (o : Option (List Bit)). option_map_or (level_in l place) o Unknown) e
 
-  by_source : (n l : ℕ) (source : Option LineSource) → level_by slots bound_groups instants (n + 1) l source
+  -- the level by a source after n + 1 instants is that after n, changed by the values of instant n
+  level_by-next : (n l : ℕ) (source : Option LineSource) → level_by slots bound_groups instants (n + 1) l source
       ≡ by_values l source (values_of (slice_get instants n)) (level_by slots bound_groups instants n l source)
-  by_source n l None = refl
-  by_source n l (Some (Always level)) = refl
-  by_source n l (Some (AtBit bit)) = bit_more n l bit.net bit.place (bits_at slots bound_groups instants bit.net n) refl
+  level_by-next n l None = refl
+  level_by-next n l (Some (Always level)) = refl
+  level_by-next n l (Some (AtBit bit)) =
+      level_by-bits n l bit.net bit.place (bits_at slots bound_groups instants bit.net n) refl
 
   -- the level after n + 1 instants is the level after n, changed by the values of instant n
-  pub after-more : (n l : ℕ) → level_after slots bound_groups instants (n + 1) l
+  pub level_after-next : (n l : ℕ) → level_after slots bound_groups instants (n + 1) l
       ≡ by_values l (line_source slots bound_groups l) (values_of (slice_get instants n))
       (level_after slots bound_groups instants n l)
   unfolding level_after
-  after-more n l = by_source n l (line_source slots bound_groups l)
+  level_after-next n l = level_by-next n l (line_source slots bound_groups l)
 
-  pub levels-at : (n l : ℕ) → l < line_count → level_at (levels_after slots bound_groups instants n) l
+  -- the level of a line in the levels after n instants
+  pub level_at-levels_after : (n l : ℕ) → l < line_count → level_at (levels_after slots bound_groups instants n) l
       ≡ level_after slots bound_groups instants n l
   unfolding levels_after
-  levels-at n l lt = unwrap_or-slice_get (map (level_after slots bound_groups instants n) (range_with_len 0 line_count))
+  level_at-levels_after n l lt =
+      unwrap_or-slice_get (map (level_after slots bound_groups instants n) (range_with_len 0 line_count))
       l Unknown ∙ get_or-map-range_with_len (level_after slots bound_groups instants n) 0 line_count l l Unknown lt
       (omega arith)
 
-  pub levels-all : (n : ℕ) → length (levels_after slots bound_groups instants n).levels ≡ line_count
+  -- there is one level for each line after n instants
+  pub length-levels_after : (n : ℕ) → length (levels_after slots bound_groups instants n).levels ≡ line_count
   unfolding levels_after
-  levels-all n = length-map-range_with_len (level_after slots bound_groups instants n) 0 line_count
+  length-levels_after n = length-map-range_with_len (level_after slots bound_groups instants n) 0 line_count
 
-  pub levels-slots : (n : ℕ) → (levels_after slots bound_groups instants n).slots ≡ slots
+  -- the levels after n instants are of a backplane of `slots` slots
+  pub slots-levels_after : (n : ℕ) → (levels_after slots bound_groups instants n).slots ≡ slots
   unfolding levels_after
-  levels-slots n = refl
+  slots-levels_after n = refl
 
   -- the values of instant n lead from the levels before it to those after it
-  pub valued-more : (line_bits : NetLines) → AreLineBits slots bound_groups line_bits → (n : ℕ) (values : List Value)
+  pub valued-levels_after : (line_bits : NetLines) → AreLineBits slots bound_groups line_bits
+      → (n : ℕ) (values : List Value)
       → values ≡ values_of (slice_get instants n)
       → valued line_bits values (levels_after slots bound_groups instants n) ≡ levels_after slots bound_groups instants
       (n + 1)
-  valued-more line_bits all n values e =
+  valued-levels_after line_bits all n values e =
       same_levels (valued line_bits values (levels_after slots bound_groups instants n))
       (levels_after slots bound_groups instants (n + 1))
-      (slots-valued line_bits values (levels_after slots bound_groups instants n) ∙ levels-slots n
-      ∙ sym (levels-slots (n + 1)))
-      (length-valued line_bits values (levels_after slots bound_groups instants n) ∙ levels-all n) (levels-all (n + 1))
+      (slots-valued line_bits values (levels_after slots bound_groups instants n) ∙ slots-levels_after n
+      ∙ sym (slots-levels_after (n + 1)))
+      (length-valued line_bits values (levels_after slots bound_groups instants n) ∙ length-levels_after n)
+      (length-levels_after (n + 1))
       (λ l lt.
-      valued-at slots bound_groups line_bits all values (levels_after slots bound_groups instants n) (levels-all n) l lt
+      level_at-valued slots bound_groups line_bits all values (levels_after slots bound_groups instants n)
+      (length-levels_after n) l lt
       ∙ ap (λ (vs : List Value). by_values l (line_source slots bound_groups l) vs
       (level_at (levels_after slots bound_groups instants n) l)) e
-      ∙ ap (by_values l (line_source slots bound_groups l) (values_of (slice_get instants n))) (levels-at n l lt)
-      ∙ sym (after-more n l) ∙ sym (levels-at (n + 1) l lt))
+      ∙ ap (by_values l (line_source slots bound_groups l) (values_of (slice_get instants n)))
+      (level_at-levels_after n l lt)
+      ∙ sym (level_after-next n l) ∙ sym (level_at-levels_after (n + 1) l lt))

@@ -15,7 +15,7 @@ use Rattle.vme_bind.specs.Recording.{RecorderLevels, IsLine, differs, DifferWith
 use Rattle.vme_bind.specs.Recording.{step_between}
 use Rattle.vme_bind.proofs.RecorderLemmas.{those-yes, those-skip, same_unless_differs, same_levels}
 use Rattle.vme_bind.proofs.RecorderLemmas.{level_at-set_same, level_at-set_other, length-set_level}
-use Rattle.vme_bind.proofs.StepsLemmas.{some_of}
+use Rattle.vme_bind.proofs.StepsLemmas.{length-those_positive}
 
 -- a step at `time` with these changes
 abbrev pub one_step : ℕ → List Change → List Step
@@ -52,7 +52,7 @@ step_between-none time a b cs e h = by_any (any (differs a b) 0 line_count) refl
           arith,
           ap length e,
           length-map (those (differs a b) 0 line_count) (change_to b),
-          some_of (differs a b) line_count k,
+          length-those_positive (differs a b) line_count k,
         ))) ∙ h))
     by_any false k = refl
 

@@ -15,44 +15,45 @@ use Rattle.vcd_read.proofs.DetachedLemmas.{learned_state, learned_fold, reached-
 use Rattle.vme_bind.specs.BuilderState.{BuilderState, builder_change, builder_instant}
 use Rattle.vme_bind.specs.SpeculativeReading.{SpeculativeReached, with_recording}
 use Rattle.vme_bind.specs.TextReading.{following, reading_ahead, reading_made, reading_until_fault}
-use Rattle.vme_bind.proofs.SpeculativeReadingLemmas.{behind, behind-change, behind-instant}
+use Rattle.vme_bind.proofs.SpeculativeReadingLemmas.{builder_following, builder_following-change}
+use Rattle.vme_bind.proofs.SpeculativeReadingLemmas.{builder_following-instant}
 
 module _ (t : Trace) where
   abbrev fold_after : BodyFold BuilderState → BodyFold BuilderState
-  fold_after p = learned_fold builder_change builder_instant builder_change builder_instant (behind t)
-      (behind-change t)
-      (behind-instant t) p
+  fold_after p = learned_fold builder_change builder_instant builder_change builder_instant (builder_following t)
+      (builder_following-change t)
+      (builder_following-instant t) p
 
   abbrev state_after : State BuilderState → State BuilderState
-  state_after s = learned_state builder_change builder_instant builder_change builder_instant (behind t)
-      (behind-change t)
-      (behind-instant t) s
+  state_after s = learned_state builder_change builder_instant builder_change builder_instant (builder_following t)
+      (builder_following-change t)
+      (builder_following-instant t) s
 
   -- ---- at the end of a body
 
   ended-behind : (has_instant : Bool) (m : BuilderState) (time : ℕ)
-      → cond has_instant (builder_instant (behind t m) time)
-      (behind t m)
-      ≡ behind t (cond has_instant (builder_instant m time) m)
-  ended-behind true m time = sym (behind-instant t m time)
+      → cond has_instant (builder_instant (builder_following t m) time)
+      (builder_following t m)
+      ≡ builder_following t (cond has_instant (builder_instant m time) m)
+  ended-behind true m time = sym (builder_following-instant t m time)
   ended-behind false m time = refl
 
   stood-behind : (p : BodyFold BuilderState) (stood : Result BodyContext VcdFault)
       → (stood >>= λ end. Ok (ended builder_instant (fold_after p)))
-      ≡ ((stood >>= λ end. Ok (ended builder_instant p)) >>= λ made. Ok (behind t made))
+      ≡ ((stood >>= λ end. Ok (ended builder_instant p)) >>= λ made. Ok (builder_following t made))
   stood-behind p (Ok end) = ap Ok (ended-behind p.has_instant p.accumulator p.time)
   stood-behind p (Err fault) = refl
 
   outcome-behind : (read : Result (State BuilderState) VcdFault)
       → ((read >>= λ end. Ok (state_after end)) >>= at_end builder_instant)
-      ≡ ((read >>= at_end builder_instant) >>= λ made. Ok (behind t made))
+      ≡ ((read >>= at_end builder_instant) >>= λ made. Ok (builder_following t made))
   outcome-behind (Ok s) = stood-behind s.progress (at_the_end s.context)
   outcome-behind (Err fault) = refl
 
   -- ---- a body
 
   made-behind : (complete : Trace) (time : ℕ) (made : Result BuilderState VcdFault)
-      → reading_made (with_steps t complete.steps) time (made >>= λ m. Ok (behind t m))
+      → reading_made (with_steps t complete.steps) time (made >>= λ m. Ok (builder_following t m))
       ≡ following t (reading_made complete time made)
   made-behind complete time (Ok m) = refl
   made-behind complete time (Err fault) = refl
@@ -66,14 +67,16 @@ module _ (t : Trace) where
       let read : Result (State BuilderState) VcdFault = steps builder_change builder_instant nets s items in
       ap (λ (r : State BuilderState). reading_made r.progress.accumulator.recorded r.progress.time
       (steps builder_change builder_instant nets (state_after s) items >>= at_end builder_instant))
-      (reached-learned builder_change builder_instant builder_change builder_instant (behind t) (behind-change t)
-      (behind-instant t)
+      (reached-learned builder_change builder_instant builder_change builder_instant (builder_following t)
+      (builder_following-change t)
+      (builder_following-instant t)
       nets s items)
       ∙ ap (λ (r : Result (State BuilderState) VcdFault). reading_made
       (with_steps t reached.progress.accumulator.recorded.steps)
       reached.progress.time (r >>= at_end builder_instant))
-      (steps-learned builder_change builder_instant builder_change builder_instant (behind t) (behind-change t)
-      (behind-instant t)
+      (steps-learned builder_change builder_instant builder_change builder_instant (builder_following t)
+      (builder_following-change t)
+      (builder_following-instant t)
       nets s items)
       ∙ ap (reading_made (with_steps t reached.progress.accumulator.recorded.steps) reached.progress.time)
       (outcome-behind read)

@@ -27,7 +27,7 @@ use Rattle.vme_bind.specs.PathSearch.{with_candidate, with_variable, seen_in, un
 use Rattle.vme_bind.specs.PathSearch.{bound_groups_of}
 use Rattle.vme_bind.specs.BoundGroups.{bits_meant, candidate, same_bits, only, source_by, source_in, bound_group_by}
 use Rattle.vme_bind.specs.BoundGroups.{bound_group_in, bound_groups_in}
-use Rattle.vme_bind.proofs.PathSearchLemmas.{path_test}
+use Rattle.vme_bind.proofs.PathSearchLemmas.{bytes_eq-path_of}
 use Rattle.vme_bind.proofs.BoundGroupLemmas.{after_bound_groups, push_in, from_place}
 use Rattle.std.proofs.Math.ListN.{drop_of_length-le}
 use Rattle.std.proofs.lemmas.List.{append-nil}
@@ -118,7 +118,7 @@ module _ (named : VariableSelector) (scopes : List (List ℕ)) (net size : ℕ) 
         && bytes_eq (drop (length (path_in scopes)) named.path) r.name) (bits_meant named.selection net size r.index)
         None
     candidate_by = ap (λ (b : Bool). cond b (bits_meant named.selection net size r.index) None)
-        (path_test named.path r.name scopes some)
+        (bytes_eq-path_of named.path r.name scopes some)
 
     -- the candidate of a variable with the path is the bits that are selected of it, if it has them
     pub candidate-here : (matched_scopes : ℕ) (rest : List ℕ) → matched_scopes ≡ scopes_matched named.path scopes

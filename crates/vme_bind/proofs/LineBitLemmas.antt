@@ -29,7 +29,7 @@ use Rattle.vme_bind.specs.NetLines.{line_bits_below}
 use Rattle.vme_bind.specs.Recording.{IsLine, AreLines, line_change, valued}
 use Rattle.vme_bind.proofs.RecorderLemmas.{those-yes, those-no}
 use Rattle.vme_bind.proofs.BoundGroupLemmas.{from_place}
-use Rattle.vme_bind.proofs.CaptureLemmas.{AreLineBits, changed-more}
+use Rattle.vme_bind.proofs.CaptureLemmas.{AreLineBits, changed-append}
 
 -- the lines of a net that has an entry
 pub line_bits_on-at : (nets : List (Vec LineBit)) (net : ℕ) (line_bits : Vec LineBit) → net < length nets
@@ -214,7 +214,7 @@ pub line_change-more : (line_bits : List LineBit) (bits : List Bit) (i : ℕ) (l
     ≡ changed v (map (line_change bits) (take (i + 1) line_bits))
 line_change-more line_bits bits i line_bit v level lt e is =
     ap (set_level (changed v (map (line_change bits) (take i line_bits))) line_bit.line) is
-    ∙ sym (changed-more v (map (line_change bits) (take i line_bits)) (line_change bits line_bit))
+    ∙ sym (changed-append v (map (line_change bits) (take i line_bits)) (line_change bits line_bit))
     ∙ ap (changed v) (sym (map-last (line_change bits) (take i line_bits) line_bit))
     ∙ ap (λ (ts : List LineBit). changed v (map (line_change bits) ts))
     (ap (λ (t : LineBit). take i line_bits ++ t ∷ []) e

@@ -32,8 +32,9 @@ use Rattle.vme_bind.specs.Capture.{values_of, time_of, level_by, level_after, le
 use Rattle.vme_bind.specs.Capture.{limited, capture_of}
 use Rattle.vme_bind.specs.Recording.{RecorderLevels, AreLines, valued, step_between}
 use Rattle.vme_bind.proofs.RecorderLemmas.{level_at-set_same, level_at-set_other, length-set_level, same_levels}
-use Rattle.vme_bind.proofs.CaptureLemmas.{AreLineBits, levels-at, levels-all, levels-slots, valued-more}
-use Rattle.vme_bind.proofs.StepsLemmas.{steps-more, well_formed}
+use Rattle.vme_bind.proofs.CaptureLemmas.{AreLineBits, level_at-levels_after, length-levels_after, slots-levels_after}
+use Rattle.vme_bind.proofs.CaptureLemmas.{valued-levels_after}
+use Rattle.vme_bind.proofs.StepsLemmas.{steps-next_instant, malformed_step-recording}
 use Rattle.vme_bind.proofs.LineBitLemmas.{line_bits-lines}
 
 -- ---- the opening
@@ -119,9 +120,10 @@ pub IsOpened-all : (slots : ℕ) (bound_groups : List BoundGroup) (n : ℕ) (v :
     → IsOpened slots bound_groups n v → (instants : List Instant) → v ≡ levels_after slots bound_groups instants 0
 IsOpened-all slots bound_groups n v e h instants =
     same_levels v (levels_after slots bound_groups instants 0)
-    (h.same_slots ∙ sym (levels-slots slots bound_groups instants 0)) h.all (levels-all slots bound_groups instants 0)
+    (h.same_slots ∙ sym (slots-levels_after slots bound_groups instants 0)) h.all
+    (length-levels_after slots bound_groups instants 0)
     (λ l lt. h.below l (omega (arith, lt, e)) ∙ first_level-level_after slots bound_groups instants l
-    ∙ sym (levels-at slots bound_groups instants 0 l lt))
+    ∙ sym (level_at-levels_after slots bound_groups instants 0 l lt))
 
 -- ---- one instant more
 
@@ -152,7 +154,7 @@ module _ (slots : ℕ) (bound_groups : List BoundGroup) (instants : List Instant
     -- the values of the instant i, x, make the levels after i + 1 instants from those after i
     levels_after-next : valued line_bits x.values (levels_after slots bound_groups instants i) ≡ levels_after slots
         bound_groups instants (i + 1)
-    levels_after-next = valued-more slots bound_groups instants line_bits all i x.values
+    levels_after-next = valued-levels_after slots bound_groups instants line_bits all i x.values
         (sym (ap values_of (slice_get-from_get_or instants i x lt e)))
 
     -- the recorder's levels after the instant i
@@ -177,7 +179,7 @@ module _ (slots : ℕ) (bound_groups : List BoundGroup) (instants : List Instant
         ∙ ap (λ (ss : List Step). (recording slots bound_groups instants i).steps ++ ss)
         (h ∙ ap (λ (q : RecorderLevels). step_between x.time q.shown (valued line_bits x.values q.now)) is
         ∙ ap (step_between x.time (levels_after slots bound_groups instants i)) levels_after-next)
-        ∙ sym (steps-more slots bound_groups instants i x.time (sym
+        ∙ sym (steps-next_instant slots bound_groups instants i x.time (sym
         (ap time_of (slice_get-from_get_or instants i x lt e))))
 
   -- all lines of the net's bits are lines of the backplane, also by the levels after i instants
@@ -186,7 +188,7 @@ module _ (slots : ℕ) (bound_groups : List BoundGroup) (instants : List Instant
       ≡ shown_after i → (net : ℕ) → AreLines p.now.slots (line_bits_of line_bits net)
   AreLines-after line_bits all i p is net =
       subst (λ (s : ℕ). AreLines s (line_bits_of line_bits net))
-      (sym (ap (λ (q : RecorderLevels). q.now.slots) is ∙ levels-slots slots bound_groups instants i))
+      (sym (ap (λ (q : RecorderLevels). q.now.slots) is ∙ slots-levels_after slots bound_groups instants i))
       (line_bits-lines slots bound_groups line_bits all net)
 
 -- ---- the whole recording
@@ -232,7 +234,7 @@ pub recording-more : (slots : ℕ) (bound_groups : List BoundGroup) (instants : 
     (n + 1))) ≡ recording slots bound_groups instants (n + 1)
 recording-more slots bound_groups instants n time e =
     sym (recording-is slots bound_groups instants (n + 1) (recording slots bound_groups instants n).opening _
-    (recording-opening slots bound_groups instants n) (sym (steps-more slots bound_groups instants n time e)))
+    (recording-opening slots bound_groups instants n) (sym (steps-next_instant slots bound_groups instants n time e)))
 
 -- the recording of no instant has no step
 pub recording-no_step : (slots : ℕ) (bound_groups : List BoundGroup) (instants : List Instant) → []
@@ -259,7 +261,8 @@ capture_of-found b dump bound_groups made e is =
 -- the recording of instants whose times ascend is well formed
 pub recording-formed : (slots : ℕ) (bound_groups : List BoundGroup) (instants : List Instant) (made : Trace)
     → TimesAscend instants → recording slots bound_groups instants (length instants) ≡ made → malformed_step made ≡ None
-recording-formed slots bound_groups instants made up is = sym (ap malformed_step is) ∙ well_formed slots bound_groups
+recording-formed slots bound_groups instants made up is =
+    sym (ap malformed_step is) ∙ malformed_step-recording slots bound_groups
     instants (length instants) (omega arith) up
 
 -- if the result `r` and the answer are both the limited recording `t`, the answer gives the result

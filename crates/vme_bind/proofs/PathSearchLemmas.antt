@@ -1,4 +1,5 @@
--- The number of open scopes that a path begins with, and what it determines of the variables in them.
+-- The number of open scopes that the path of a search begins with is right after each scope that opens or closes, and
+-- says which variables have that path.
 use Rattle.std.proofs.Common.{◌≡◌, ℕ, ◌+◌, ◌<◌, ◌≤◌, eqb, Bool, true, false, cond, ◌&&◌, List, [], ◌∷◌, ◌++◌, length}
 use Rattle.std.proofs.Common.{get_or, take, drop, map, refl, sym, ap, ◌∙◌, add-zero, arith, append_assoc, length-append}
 use Rattle.std.specs.Prelude.{bytes_eq, min}
@@ -28,8 +29,9 @@ use Rattle.vme_bind.specs.PathSearch.{Searched, seen_in}
 abbrev Begins : List ℕ → List ℕ → Type 0
 Begins front text = (rest : List ℕ) × (text ≡ front ++ rest)
 
-begins-Decides : (front text : List ℕ) → Decides (begins_with front text) (Begins front text)
-begins-Decides front text =
+-- the test whether `text` begins with `front` decides whether it is `front` and a rest
+begins_with-Decides : (front text : List ℕ) → Decides (begins_with front text) (Begins front text)
+begins_with-Decides front text =
     let same = bytes_eq-Decides (take (length front) text) front in (
       λ e. (
         drop (length front) text,
@@ -40,16 +42,16 @@ begins-Decides front text =
     )
 
 -- `text` begins with `front ++ part` exactly if it begins with `front` and its rest with `part`
-begins_more-Decides : (front part text : List ℕ) → Decides (begins_with front text && begins_with part
+begins_with-Decides_append : (front part text : List ℕ) → Decides (begins_with front text && begins_with part
     (drop (length front) text)) (Begins (front ++ part) text)
-begins_more-Decides front part text =
+begins_with-Decides_append front part text =
     let both = Decides-and {P = Begins front text} {Q = Begins part (drop (length front) text)} (begins_with front text)
-    (begins_with part (drop (length front) text)) (begins-Decides front text)
-    (begins-Decides part (drop (length front) text)) in (
+    (begins_with part (drop (length front) text)) (begins_with-Decides front text)
+    (begins_with-Decides part (drop (length front) text)) in (
       λ e. let h = both.0 e in
-          let behind : h.0.0 ≡ part ++ h.1.0 = sym (ap (drop (length front)) h.0.1 ∙ drop_at front h.0.0 (length front)
+          let rest_is : h.0.0 ≡ part ++ h.1.0 = sym (ap (drop (length front)) h.0.1 ∙ drop_at front h.0.0 (length front)
           refl) ∙ h.1.1 in
-          (h.1.0, h.0.1 ∙ ap (λ (rest : List ℕ). front ++ rest) behind ∙ sym (append_assoc front part h.1.0)),
+          (h.1.0, h.0.1 ∙ ap (λ (rest : List ℕ). front ++ rest) rest_is ∙ sym (append_assoc front part h.1.0)),
       λ h.
           let whole : text ≡ front ++ (part ++ h.0) = h.1 ∙ append_assoc front part h.0 in
           both.1 (
@@ -62,15 +64,16 @@ begins_more-Decides front part text =
           ),
     )
 
+-- a text begins with `front ++ part` exactly if it begins with `front`, and what follows with `part`
 pub begins_with-append : (front part text : List ℕ) → begins_with (front ++ part) text
     ≡ (begins_with front text && begins_with part (drop (length front) text))
 begins_with-append front part text = same_from_decides (begins_with (front ++ part) text) (begins_with front text
-    && begins_with part (drop (length front) text)) (begins-Decides (front ++ part) text)
-    (begins_more-Decides front part text)
+    && begins_with part (drop (length front) text)) (begins_with-Decides (front ++ part) text)
+    (begins_with-Decides_append front part text)
 
 -- a text that is shorter than `front` doesn't begin with it
 pub begins_with-short : (front text : List ℕ) → length text < length front → begins_with front text ≡ false
-begins_with-short front text lt = by_test (begins_with front text) (begins-Decides front text)
+begins_with-short front text lt = by_test (begins_with front text) (begins_with-Decides front text)
   where
     by_test : (b : Bool) → Decides b (Begins front text) → b ≡ false
     by_test false d = refl
@@ -78,16 +81,16 @@ begins_with-short front text lt = by_test (begins_with front text) (begins-Decid
         absurd (omega (arith, lt, ap (λ (xs : List ℕ). length xs) h.1, length-append front h.0))
 
 -- `text` is `front ++ name` exactly if it begins with `front` and its rest is `name`
-behind-Decides : (front name text : List ℕ) → Decides (begins_with front text && bytes_eq (drop (length front) text)
+append-Decides : (front name text : List ℕ) → Decides (begins_with front text && bytes_eq (drop (length front) text)
     name) (front ++ name ≡ text)
-behind-Decides front name text =
+append-Decides front name text =
     let both = Decides-and {P = Begins front text} {Q = drop (length front) text ≡ name} (begins_with front text)
-    (bytes_eq (drop (length front) text) name) (begins-Decides front text)
+    (bytes_eq (drop (length front) text) name) (begins_with-Decides front text)
     (bytes_eq-Decides (drop (length front) text) name) in (
       λ e. let h = both.0 e in
-          let behind : h.0.0 ≡ name = sym (ap (drop (length front)) h.0.1 ∙ drop_at front h.0.0 (length front) refl)
+          let rest_is : h.0.0 ≡ name = sym (ap (drop (length front)) h.0.1 ∙ drop_at front h.0.0 (length front) refl)
           ∙ h.1 in
-          sym (h.0.1 ∙ ap (λ (rest : List ℕ). front ++ rest) behind),
+          sym (h.0.1 ∙ ap (λ (rest : List ℕ). front ++ rest) rest_is),
       λ h. both.1 ((name, sym h), ap (drop (length front)) (sym h) ∙ drop_at front name (length front) refl),
     )
 
@@ -138,83 +141,92 @@ matched_scopes-close path name scopes =
     (begins_with-append (path_in scopes) (with_dot name) path) (matched_scopes-all path scopes)
     (matched_scopes-at_most path scopes)
   where
-    by_tests : (b outer own : Bool) → b ≡ (outer && own) → eqb (scopes_matched path scopes) (length scopes) ≡ outer
+    by_tests : (b outer inner : Bool) → b ≡ (outer && inner) → eqb (scopes_matched path scopes) (length scopes) ≡ outer
         → scopes_matched path scopes ≤ length scopes
         → min (cond b (length scopes + 1) (scopes_matched path scopes)) (length scopes) ≡ scopes_matched path scopes
-    by_tests true true own both all le = grind (arith, nat_tests)
-    by_tests true false own both all le = absurd (cc both)
-    by_tests false outer own both all le = omega (arith, le)
+    by_tests true true inner both all le = grind (arith, nat_tests)
+    by_tests true false inner both all le = absurd (cc both)
+    by_tests false outer inner both all le = omega (arith, le)
 
 -- a variable in the open scopes has `path` exactly if all scopes match and `name` is the rest of the path
-pub path_test : (path name : List ℕ) (scopes : List (List ℕ)) → 0 < length name
+pub bytes_eq-path_of : (path name : List ℕ) (scopes : List (List ℕ)) → 0 < length name
     → bytes_eq (path_of scopes name) path ≡ (eqb (scopes_matched path scopes) (length scopes)
     && bytes_eq (drop (length (path_in scopes)) path) name)
-path_test path name scopes some =
+bytes_eq-path_of path name scopes some =
     ap (λ (p : List ℕ). bytes_eq p path) (path_of-is scopes name some)
     ∙ same_from_decides (bytes_eq (path_in scopes ++ name) path) (begins_with (path_in scopes) path
     && bytes_eq (drop (length (path_in scopes)) path) name) (bytes_eq-Decides (path_in scopes ++ name) path)
-    (behind-Decides (path_in scopes) name path)
+    (append-Decides (path_in scopes) name path)
     ∙ ap (λ (b : Bool). b && bytes_eq (drop (length (path_in scopes)) path) name) (sym (matched_scopes-all path scopes))
 
 -- ---- all searches
 
-pub matched_none : (s : PathSearch) → s.matched_scopes ≡ 0 → HasOpened [] s
+-- where no scope is open, the right number of matched scopes is 0
+pub HasOpened-no_scope : (s : PathSearch) → s.matched_scopes ≡ 0 → HasOpened [] s
 unfolding scopes_matched
-matched_none s e = e
+HasOpened-no_scope s e = e
 
 -- a search with the right `matched_scopes` has it after one more scope is entered
-opened-one : (name : List ℕ) (scopes : List (List ℕ)) (s : PathSearch) → HasOpened scopes s → HasOpened (name ∷ scopes)
+HasOpened-opened : (name : List ℕ) (scopes : List (List ℕ)) (s : PathSearch) → HasOpened scopes s
+    → HasOpened (name ∷ scopes)
     (opened (length scopes) (length (path_in scopes)) (with_dot name) s)
-opened-one name scopes s matched_scopes =
+HasOpened-opened name scopes s matched_scopes =
     let path : List ℕ = path_to_find s.assignment.now.source in
     ap (matched_after (length scopes) (length (path_in scopes)) (with_dot name) path) matched_scopes
     ∙ matched_scopes-open path name scopes
 
-pub same_matched : (scopes : List (List ℕ)) (s s' : PathSearch) → s'.matched_scopes ≡ s.matched_scopes → s'.assignment
+-- a search with the same assignment and the same `matched_scopes` has the right number too
+pub HasOpened-same : (scopes : List (List ℕ)) (s s' : PathSearch) → s'.matched_scopes ≡ s.matched_scopes → s'.assignment
     ≡ s.assignment
     → HasOpened scopes s → HasOpened scopes s'
-same_matched scopes s s' matched_scopes same is = matched_scopes ∙ is
+HasOpened-same scopes s s' matched_scopes same is = matched_scopes ∙ is
     ∙ sym (ap (λ (a : Bor Assignment). scopes_matched (path_to_find a.now.source) scopes) same)
 
-pub opened-all : (name : List ℕ) (scopes : List (List ℕ)) (searches : List PathSearch) → All (HasOpened scopes) searches
+-- if all searches have the right `matched_scopes`, they have it after one more scope is entered
+pub All-opened : (name : List ℕ) (scopes : List (List ℕ)) (searches : List PathSearch) → All (HasOpened scopes) searches
     → All (HasOpened (name ∷ scopes)) (map (opened (length scopes) (length (path_in scopes)) (with_dot name)) searches)
-opened-all name scopes searches all =
+All-opened name scopes searches all =
     All-map (HasOpened (name ∷ scopes)) (opened (length scopes) (length (path_in scopes)) (with_dot name)) searches
-    (λ k s at. opened-one name scopes (get_or searches k s) (all k s at))
+    (λ k s at. HasOpened-opened name scopes (get_or searches k s) (all k s at))
 
 -- a search with the right `matched_scopes` has it after the innermost scope is closed
-closed-one : (name : List ℕ) (scopes : List (List ℕ)) (s : PathSearch) → HasOpened (name ∷ scopes) s → HasOpened scopes
+HasOpened-closed : (name : List ℕ) (scopes : List (List ℕ)) (s : PathSearch) → HasOpened (name ∷ scopes) s
+    → HasOpened scopes
     (closed (length scopes) s)
-closed-one name scopes s matched_scopes = ap (λ (n : ℕ). min n (length scopes)) matched_scopes
+HasOpened-closed name scopes s matched_scopes = ap (λ (n : ℕ). min n (length scopes)) matched_scopes
     ∙ matched_scopes-close (path_to_find s.assignment.now.source) name scopes
 
-pub closed-all : (name : List ℕ) (scopes : List (List ℕ)) (searches : List PathSearch) → All (HasOpened (name ∷ scopes))
+-- if all searches have the right `matched_scopes`, they have it after the innermost scope is closed
+pub All-closed : (name : List ℕ) (scopes : List (List ℕ)) (searches : List PathSearch) → All (HasOpened (name ∷ scopes))
     searches → All (HasOpened scopes) (map (closed (length scopes)) searches)
-closed-all name scopes searches all =
-    All-map (HasOpened scopes) (closed (length scopes)) searches (λ k s at. closed-one name scopes (get_or searches k s)
+All-closed name scopes searches all =
+    All-map (HasOpened scopes) (closed (length scopes)) searches
+    (λ k s at. HasOpened-closed name scopes (get_or searches k s)
     (all k s at))
 
 -- the part of the path that a scope adds
-pub part_after : (name : List ℕ) (scopes : List (List ℕ)) → drop (length (path_in scopes)) (path_in (name ∷ scopes))
+pub drop-path_in : (name : List ℕ) (scopes : List (List ℕ)) → drop (length (path_in scopes)) (path_in (name ∷ scopes))
     ≡ with_dot name
 unfolding path_in
-part_after name scopes = drop_at (path_in scopes) (with_dot name) (length (path_in scopes)) refl
+drop-path_in name scopes = drop_at (path_in scopes) (with_dot name) (length (path_in scopes)) refl
 
 -- ---- one element after the other
 
 -- where the rests of two lists from `i` on are the same, their elements at `i` are
-same_at : {A : Type 0} (xs ys : List A) (i : ℕ) (d : A) → drop i xs ≡ drop i ys → get_or ys i d ≡ get_or xs i d
-same_at {A} xs ys i d e = rw add-zero at (sym (get_or-drop i ys 0 d) ∙ (sym (ap (λ (l : List A). get_or l 0 d) e)
+get_or-same_rest : {A : Type 0} (xs ys : List A) (i : ℕ) (d : A) → drop i xs ≡ drop i ys → get_or ys i d ≡ get_or xs i d
+get_or-same_rest {A} xs ys i d e =
+    rw add-zero at (sym (get_or-drop i ys 0 d) ∙ (sym (ap (λ (l : List A). get_or l 0 d) e)
     ∙ get_or-drop i xs 0 d))
 
 -- seen by `f`, the first `i + 1` elements are changed by `g`, where the first `i` are and element `i` is
-pub stepped_by : {A B : Type 0} (f : A → B) (g : B → B) (xs ys : List A) (i : ℕ) (x y : A) → i < length xs → length xs
+pub take-set_seen : {A B : Type 0} (f : A → B) (g : B → B) (xs ys : List A) (i : ℕ) (x y : A) → i < length xs
+    → length xs
     ≡ length ys → x ≡ get_or xs i x → f y ≡ g (f x)
     → map f (take i xs) ≡ map g (map f (take i ys)) → drop i xs ≡ drop i ys → map f (take (i + 1) (set xs i y))
     ≡ map g (map f (take (i + 1) ys))
-stepped_by f g xs ys i x y h n r e done rest =
+take-set_seen f g xs ys i x y h n r e done rest =
     let k : i < length ys = rw (← n) h in
-    let s : get_or ys i x ≡ x = same_at xs ys i x rest ∙ sym r in
+    let s : get_or ys i x ≡ x = get_or-same_rest xs ys i x rest ∙ sym r in
     rw (
       take_more_set xs i y h,
       take_more ys i x k,
@@ -228,66 +240,77 @@ stepped_by f g xs ys i x y h n r e done rest =
     ) refl
 
 -- the first `i + 1` elements are changed by `g`, where the first `i` are and element `i` is
-pub stepped : {A : Type 0} (g : A → A) (xs ys : List A) (i : ℕ) (x y : A) → i < length xs → length xs ≡ length ys → x
+pub take-set_changed : {A : Type 0} (g : A → A) (xs ys : List A) (i : ℕ) (x y : A) → i < length xs → length xs
+    ≡ length ys → x
     ≡ get_or xs i x → y ≡ g x
     → take i xs ≡ map g (take i ys) → drop i xs ≡ drop i ys → take (i + 1) (set xs i y) ≡ map g (take (i + 1) ys)
-stepped g xs ys i x y h n r e done rest =
+take-set_changed g xs ys i x y h n r e done rest =
     let k : i < length ys = rw (← n) h in
-    let s : get_or ys i x ≡ x = same_at xs ys i x rest ∙ sym r in
+    let s : get_or ys i x ≡ x = get_or-same_rest xs ys i x rest ∙ sym r in
     rw (take_more_set xs i y h, take_more ys i x k, s, map-append g (take i ys) (x ∷ []), done, e) refl
 
-pub stepped_rest : {A : Type 0} (xs ys : List A) (i : ℕ) (y : A) → drop i xs ≡ drop i ys → drop (i + 1) (set xs i y)
+-- setting element `i` leaves the rests after it the same, where those from `i` on are
+pub drop-set_same_rest : {A : Type 0} (xs ys : List A) (i : ℕ) (y : A) → drop i xs ≡ drop i ys
+    → drop (i + 1) (set xs i y)
     ≡ drop (i + 1) ys
-stepped_rest xs ys i y e = drop-set-lt (i + 1) xs i y (omega arith) ∙ drop_more_same xs ys i e
+drop-set_same_rest xs ys i y e = drop-set-lt (i + 1) xs i y (omega arith) ∙ drop_more_same xs ys i e
 
 -- ---- what is lent as a slice and given back
 
-given_back : (searches new : List PathSearch) (len : ℕ) → len ≡ length searches → length new ≡ length searches
+-- where all searches were lent, and `new` is given back, the searches are `new`
+take-given_back : (searches new : List PathSearch) (len : ℕ) → len ≡ length searches → length new ≡ length searches
     → take len (new ++ drop (length new) searches) ≡ new
-given_back searches new len e n = take_at new (drop (length new) searches) len (n ∙ sym e)
+take-given_back searches new len e n = take_at new (drop (length new) searches) len (n ∙ sym e)
 
-same_count : (f : PathSearch → PathSearch) (searches lent new : List PathSearch) → lent ≡ searches → new ≡ map f lent
+-- as many searches are given back as were lent
+length-given_back : (f : PathSearch → PathSearch) (searches lent new : List PathSearch) → lent ≡ searches → new
+    ≡ map f lent
     → length new ≡ length searches
-same_count f searches lent new e is = ap (λ (xs : List PathSearch). length xs) is ∙ length-map lent f
+length-given_back f searches lent new e is = ap (λ (xs : List PathSearch). length xs) is ∙ length-map lent f
     ∙ ap (λ (xs : List PathSearch). length xs) e
 
 -- all searches have the right `matched_scopes` after one more scope is entered, also through a slice
-pub opened-back : (name : List ℕ) (scopes now : List (List ℕ)) (searches lent new : List PathSearch)
+pub All-opened_slice : (name : List ℕ) (scopes now : List (List ℕ)) (searches lent new : List PathSearch)
     (len depth start : ℕ)
     (part : List ℕ) → All (HasOpened scopes) searches → now ≡ name ∷ scopes → len ≡ length searches → lent ≡ searches
     → new ≡ map (opened depth start part) lent → depth ≡ length scopes → start ≡ length (path_in scopes) → part
     ≡ drop start (path_in now) → All (HasOpened now) (take len (new ++ drop (length new) searches))
-opened-back name scopes now searches lent new len depth start part all names e same is d s p =
-    let own : part ≡ with_dot name = p ∙ ap (λ (n : ℕ). drop n (path_in now)) s
-    ∙ ap (λ (ns : List (List ℕ)). drop (length (path_in scopes)) (path_in ns)) names ∙ part_after name scopes in
+All-opened_slice name scopes now searches lent new len depth start part all names e same is d s p =
+    let part_is : part ≡ with_dot name = p ∙ ap (λ (n : ℕ). drop n (path_in now)) s
+    ∙ ap (λ (ns : List (List ℕ)). drop (length (path_in scopes)) (path_in ns)) names ∙ drop-path_in name scopes in
     let mapped : new ≡ map (opened (length scopes) (length (path_in scopes)) (with_dot name)) searches =
     is ∙ ap (λ (xs : List PathSearch). map (opened depth start part) xs) same
     ∙ ap (λ (n : ℕ). map (opened n start part) searches) d
     ∙ ap (λ (n : ℕ). map (opened (length scopes) n part) searches) s
-    ∙ ap (λ (b : List ℕ). map (opened (length scopes) (length (path_in scopes)) b) searches) own in
-    rw (given_back searches new len e (same_count (opened depth start part) searches lent new same is), mapped, names)
-    (opened-all name scopes searches all)
+    ∙ ap (λ (b : List ℕ). map (opened (length scopes) (length (path_in scopes)) b) searches) part_is in
+    rw (
+      take-given_back searches new len e (length-given_back (opened depth start part) searches lent new same is),
+      mapped,
+      names,
+    )
+    (All-opened name scopes searches all)
 
 -- all searches have the right `matched_scopes` after the innermost scope is closed, also through a slice
-pub closed-back : (name : List ℕ) (scopes now : List (List ℕ)) (searches lent new : List PathSearch) (len depth : ℕ)
+pub All-closed_slice : (name : List ℕ) (scopes now : List (List ℕ)) (searches lent new : List PathSearch)
+    (len depth : ℕ)
     → All (HasOpened scopes) searches → scopes ≡ name ∷ now → len ≡ length searches → lent ≡ searches
     → new ≡ map (closed depth) lent → depth ≡ length now → All (HasOpened now)
     (take len (new ++ drop (length new) searches))
-closed-back name scopes now searches lent new len depth all names e same is d =
+All-closed_slice name scopes now searches lent new len depth all names e same is d =
     let mapped : new ≡ map (closed (length now)) searches = is ∙ ap (λ (xs : List PathSearch). map (closed depth) xs)
     same
     ∙ ap (λ (n : ℕ). map (closed n) searches) d in
     let before : All (HasOpened (name ∷ now)) searches = rw names at all in
-    rw (given_back searches new len e (same_count (closed depth) searches lent new same is), mapped)
-    (closed-all name now searches before)
+    rw (take-given_back searches new len e (length-given_back (closed depth) searches lent new same is), mapped)
+    (All-closed name now searches before)
 
 -- a change of the searches that leaves `seen_in` of each as it is, leaves it so for all, also through a slice
-pub seen-back : (f : PathSearch → PathSearch) (searches lent new : List PathSearch) (len : ℕ)
+pub seen_in-same_slice : (f : PathSearch → PathSearch) (searches lent new : List PathSearch) (len : ℕ)
     → ((s : PathSearch) → seen_in (f s) ≡ seen_in s) → len ≡ length searches → lent ≡ searches → new ≡ map f lent
     → map seen_in (take len (new ++ drop (length new) searches)) ≡ map seen_in searches
-seen-back f searches lent new len kept e same is =
+seen_in-same_slice f searches lent new len kept e same is =
     ap (λ (xs : List PathSearch). map seen_in xs)
-    (given_back searches new len e (same_count f searches lent new same is)
+    (take-given_back searches new len e (length-given_back f searches lent new same is)
     ∙ is ∙ ap (λ (xs : List PathSearch). map f xs) same)
     ∙ map-map seen_in f searches ∙ map-same (λ s. seen_in (f s)) seen_in searches kept
   where

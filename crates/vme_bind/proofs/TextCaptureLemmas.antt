@@ -1,4 +1,5 @@
--- The recording that a binding makes of the text of a dump, from the results of reading it.
+-- What a binding makes of the text of a dump: the recording, or the first fault, each from the results of reading the
+-- parts of the text.
 use Rattle.std.proofs.Common.{◌≡◌, ℕ, Bool, true, false, cond, List, [], length, refl, sym, ap, ◌∙◌, subst, Option}
 use Rattle.std.proofs.Common.{Some, None, Result, Ok, Err}
 use Rattle.std.specs.Prelude.{nat_lt, IfOk}
@@ -44,9 +45,11 @@ use Rattle.vme_bind.proofs.BuilderLemmas.{Makes, makes-first, makes-change, make
 
 -- ---- a body
 
+-- a value as a result without a fault
 abbrev ok_of : {A E : Type 0} → A → Result A E
 ok_of x = Ok x
 
+-- a recording as a result without a fault
 abbrev ok_trace : Trace → Result Trace CaptureFault
 ok_trace t = Ok t
 
@@ -55,9 +58,9 @@ abbrev pub instants_in : Result (List Instant) VcdFault → List Instant
 instants_in (Ok instants) = instants
 instants_in (Err fault) = []
 
--- the result for a body where the binding has the fault `own`
+-- the result for a body where the binding has the fault `binding_fault`
 abbrev refused : BindFault → Result (List Instant) VcdFault → Result Trace CaptureFault
-refused own r = or_dump r >>= λ instants. Err (Binding own)
+refused binding_fault r = or_dump r >>= λ instants. Err (Binding binding_fault)
 
 module _ (slots : ℕ) (bound_groups : List BoundGroup) (h : Headed) where
   abbrev pub IsMadeOf : List Instant → CurrentValues → BuilderState → Type 0
@@ -76,10 +79,10 @@ module _ (slots : ℕ) (bound_groups : List BoundGroup) (h : Headed) where
       h.body m (makes-first slots bound_groups (length h.nets) all m begun)
 
   -- a fault that the builder's reading of the body meets is the fault of the body's recording
-  pub body-fails : (m : BuilderState) (fault : VcdFault) → IsBegun slots bound_groups m
+  pub body_recording-fails : (m : BuilderState) (fault : VcdFault) → IsBegun slots bound_groups m
       → ReadFails fault (fold_body builder_change builder_instant h.nets m h.body) → CaptureFailsBy (Dump fault)
       (body_recording slots bound_groups h)
-  body-fails m fault begun fails =
+  body_recording-fails m fault begun fails =
       dump_fails fault.line fault.kind (fails-followed (Ends IsMadeOf) (instants_from h.nets h.body) _ fault
       (builder-follows m begun) fails)
     where
@@ -90,10 +93,10 @@ module _ (slots : ℕ) (bound_groups : List BoundGroup) (h : Headed) where
           (recording slots bound_groups instants (length instants))) e
 
   -- the recording of the whole body is what the builder recorded at its end
-  pub body-recorded : (m end : BuilderState) → IsBegun slots bound_groups m
+  pub body_recording-built : (m end : BuilderState) → IsBegun slots bound_groups m
       → fold_body builder_change builder_instant h.nets m
       h.body ≡ Ok end → body_recording slots bound_groups h ≡ Ok end.recorded
-  body-recorded m end begun ok =
+  body_recording-built m end begun ok =
       let gives = gives-followed (Ends IsMadeOf) (instants_from h.nets h.body) _ end (builder-follows m begun) ok in
       let instants : List Instant = gives.0 in
       let all : instants_in (instants_from h.nets h.body) ≡ instants = ap instants_in gives.1 in
@@ -106,40 +109,42 @@ module _ (slots : ℕ) (bound_groups : List BoundGroup) (h : Headed) where
   -- ---- the result for a body
 
   -- a fault of the builder is the fault of the instants
-  pub follow_err : (instants : Result (List Instant) VcdFault) (taken : Result BuilderState VcdFault) (fault : VcdFault)
+  pub Follows-err : (instants : Result (List Instant) VcdFault) (taken : Result BuilderState VcdFault)
+      (fault : VcdFault)
       → Follows (Ends IsMadeOf) instants taken → taken ≡ Err fault → instants ≡ Err fault
-  follow_err (Ok xs) taken fault follows e = absurd (cc (follows.1, e))
-  follow_err (Err first) taken fault follows e = let same : first ≡ fault = cc (follows, e) in
+  Follows-err (Ok xs) taken fault follows e = absurd (cc (follows.1, e))
+  Follows-err (Err first) taken fault follows e = let same : first ≡ fault = cc (follows, e) in
       ap (λ (f : VcdFault). Err f) same
 
   -- the result for a body by definition is that by the builder: its own fault, or that of the binding, or the recording
-  pub body-outcome : (fault : Option BindFault) (m : BuilderState) → IsBegun slots bound_groups m
+  pub body_outcome-outcome : (fault : Option BindFault) (m : BuilderState) → IsBegun slots bound_groups m
       → body_outcome fault slots
       bound_groups h ≡ outcome fault (fold_body builder_change builder_instant h.nets m h.body)
-  body-outcome fault m begun = by_taken fault (fold_body builder_change builder_instant h.nets m h.body) refl
+  body_outcome-outcome fault m begun = by_taken fault (fold_body builder_change builder_instant h.nets m h.body) refl
     where
       by_taken : (fault : Option BindFault) (taken : Result BuilderState VcdFault)
           → fold_body builder_change builder_instant h.nets
           m h.body ≡ taken → body_outcome fault slots bound_groups h ≡ outcome fault taken
-      by_taken None (Ok end) e = body-recorded m end begun e
-      by_taken (Some own) (Ok end) e =
-          ap (λ (r : Result (List Instant) VcdFault). refused own r)
+      by_taken None (Ok end) e = body_recording-built m end begun e
+      by_taken (Some binding_fault) (Ok end) e =
+          ap (λ (r : Result (List Instant) VcdFault). refused binding_fault r)
           (gives-followed (Ends IsMadeOf) (instants_from h.nets h.body) _ end (builder-follows m begun) e).1
       by_taken None (Err first) e =
           ap (λ (r : Result (List Instant) VcdFault). or_dump r >>= λ instants. Ok
           (recording slots bound_groups instants (length instants)))
-          (follow_err (instants_from h.nets h.body) _ first (builder-follows m begun) e)
-      by_taken (Some own) (Err first) e =
-          ap (λ (r : Result (List Instant) VcdFault). refused own r) (follow_err (instants_from h.nets h.body) _ first
+          (Follows-err (instants_from h.nets h.body) _ first (builder-follows m begun) e)
+      by_taken (Some binding_fault) (Err first) e =
+          ap (λ (r : Result (List Instant) VcdFault). refused binding_fault r)
+          (Follows-err (instants_from h.nets h.body) _ first
           (builder-follows m begun) e)
 
 -- ---- a text
 
 -- a fault of reading the text is the fault of its recording
-pub text-dump : (b : BoundLines) (text : List ℕ) (fault : VcdFault) → ReadFails fault (dump_of text)
+pub recording_of_text-dump_fails : (b : BoundLines) (text : List ℕ) (fault : VcdFault) → ReadFails fault (dump_of text)
     → CaptureFailsBy (Dump fault) (recording_of_text b text)
 unfolding recording_of_text
-text-dump b text fault h = by_kind fault.line fault.kind h
+recording_of_text-dump_fails b text fault h = by_kind fault.line fault.kind h
   where
     by_kind : (line : ℕ) (kind : FaultKind) → ReadFails (record { line = line; kind = kind }) (dump_of text)
         → DumpFails line kind (recording_of_text b text)
@@ -147,151 +152,169 @@ text-dump b text fault h = by_kind fault.line fault.kind h
     by_kind line kind e = ap (recording_read b) e
 
 -- if `r` followed by a total function `f` fails, `r` fails with the same fault
-pub fails_back : {X Y : Type 0} (line : ℕ) (kind : FaultKind) (r : Result X VcdFault) (f : X → Y)
+pub ReadFailsAs-before_total : {X Y : Type 0} (line : ℕ) (kind : FaultKind) (r : Result X VcdFault) (f : X → Y)
     → ReadFailsAs line kind
     (r >>= λ x. Ok (f x)) → ReadFailsAs line kind r
-fails_back line Memory r f h = h
-fails_back line kind (Ok x) f h = absurd (cc h)
-fails_back line kind (Err fault) f h = let same : fault ≡ record { line = line; kind = kind } = cc h in ap Err same
+ReadFailsAs-before_total line Memory r f h = h
+ReadFailsAs-before_total line kind (Ok x) f h = absurd (cc h)
+ReadFailsAs-before_total line kind (Err fault) f h = let same : fault ≡ record { line = line; kind = kind } =
+    cc h in ap Err same
 
 -- a fault of the definitions is the fault of the text's recording
-pub text-head : (b : BoundLines) (text : List ℕ) (seen : List Searched) (fault : VcdFault) → ReadFails fault
+pub recording_of_text-header_fails : (b : BoundLines) (text : List ℕ) (seen : List Searched) (fault : VcdFault)
+    → ReadFails fault
     (header_of with_variable text (nothing_declared seen) (tokens text)) → CaptureFailsBy (Dump fault)
     (recording_of_text b text)
-text-head b text seen fault h =
-    let whole = fails_back fault.line fault.kind (whole_header text) (taken_head with_variable seen)
+recording_of_text-header_fails b text seen fault h =
+    let whole = ReadFailsAs-before_total fault.line fault.kind (whole_header text) (taken_head with_variable seen)
     (rw (header_taken with_variable text seen) at h) in
-    text-dump b text fault (fails_first fault (whole_header text) contents_behind _ (dump_of-header text) whole)
+    recording_of_text-dump_fails b text fault
+    (fails_first fault (whole_header text) contents_behind _ (dump_of-header text) whole)
 
 -- the header of `text` is `h`, and `seen` is `first` after its variables
-abbrev IsWhole : List ℕ → Headed → List Searched → List Searched → Type 0
-IsWhole text h first seen = (variables : List Variable) × (whole_header text ≡ Ok (defined h variables))
+abbrev HasHeader : List ℕ → Headed → List Searched → List Searched → Type 0
+HasHeader text h first seen = (variables : List Variable) × (whole_header text ≡ Ok (defined h variables))
     × (seen ≡ fold with_variable first variables)
 
+-- definitions as a result without a fault
 abbrev ok_defined : Defined (List Searched) → Result (Defined (List Searched)) VcdFault
 ok_defined d = Ok d
 
+-- the values of equal results without a fault are equal
 ok_same : (x y : Defined (List Searched)) → ok_defined x ≡ ok_defined y → x ≡ y
 ok_same x y e = cc
 
-whole_from : (text : List ℕ) (h : Headed) (first seen : List Searched) (r : Result (Defined (List Variable)) VcdFault)
+-- where a search through the header `r` of `text` ends with `h` and `seen`, `HasHeader` holds
+HasHeader-by_result : (text : List ℕ) (h : Headed) (first seen : List Searched)
+    (r : Result (Defined (List Variable)) VcdFault)
     → whole_header text ≡ r → (r >>= λ d. Ok (taken_head with_variable first d)) ≡ Ok (defined h seen)
-    → IsWhole text h first seen
-whole_from text h first seen (Ok d) e is =
+    → HasHeader text h first seen
+HasHeader-by_result text h first seen (Ok d) e is =
     let same = ok_same (taken_head with_variable first d) (defined h seen) is in (
       d.variables,
       e ∙ ap (λ (x : Defined (List Searched)). Ok (defined x.head d.variables)) same,
       sym (ap (λ (x : Defined (List Searched)). x.variables) same),
     )
-whole_from text h first seen (Err fault) e is = absurd (cc is)
+HasHeader-by_result text h first seen (Err fault) e is = absurd (cc is)
 
--- where a search reads the header of `text` without a fault, `IsWhole` holds
-pub whole-of : (text : List ℕ) (h : Headed) (first seen : List Searched) → header_of with_variable text
-    (nothing_declared first) (tokens text) ≡ Ok (defined h seen) → IsWhole text h first seen
-whole-of text h first seen e = whole_from text h first seen (whole_header text) refl
+-- where a search reads the header of `text` without a fault, `HasHeader` holds
+pub HasHeader-searched : (text : List ℕ) (h : Headed) (first seen : List Searched) → header_of with_variable text
+    (nothing_declared first) (tokens text) ≡ Ok (defined h seen) → HasHeader text h first seen
+HasHeader-searched text h first seen e = HasHeader-by_result text h first seen (whole_header text) refl
     (sym (header_taken with_variable text first) ∙ e)
 
 -- what a function gives for the body after the definitions, it gives for the whole text
-pub text-behind : {X : Type 0} (view : X → Trace) (b : BoundLines) (text : List ℕ) (h : Headed)
+pub GivesBy-recording_of_text : {X : Type 0} (view : X → Trace) (b : BoundLines) (text : List ℕ) (h : Headed)
     (first seen : List Searched) (r : Result X CaptureFault) → header_of with_variable text (nothing_declared first)
     (tokens text) ≡ Ok (defined h seen)
     → ((variables : List Variable) → seen ≡ fold with_variable first variables
     → GivesBy view r (recording_after b (defined h variables))) → GivesBy view r (recording_of_text b text)
 unfolding recording_of_text
-text-behind view b text h first seen r head given =
-    let whole = whole-of text h first seen head in
+GivesBy-recording_of_text view b text h first seen r head given =
+    let whole = HasHeader-searched text h first seen head in
     subst (λ (d : Result Contents VcdFault). GivesBy view r (recording_read b d))
     (sym (dump_behind text (defined h whole.0) whole.1)) (given whole.0 whole.2)
 
 -- the recording of a text is that of the body after its definitions
-pub text-is : (b : BoundLines) (text : List ℕ) (h : Headed) (first seen : List Searched) → header_of with_variable text
+pub recording_of_text-after_header : (b : BoundLines) (text : List ℕ) (h : Headed) (first seen : List Searched)
+    → header_of with_variable text
     (nothing_declared first) (tokens text) ≡ Ok (defined h seen)
     → (variables : List Variable) × (seen ≡ fold with_variable first variables)
     × (recording_of_text b text ≡ recording_after b (defined h variables))
 unfolding recording_of_text
-text-is b text h first seen head =
-    let whole = whole-of text h first seen head in
+recording_of_text-after_header b text h first seen head =
+    let whole = HasHeader-searched text h first seen head in
     (whole.0, whole.2, ap (recording_read b) (dump_behind text (defined h whole.0) whole.1))
 
 -- where the binding fits, the recording of the instants is that of the bound groups, or the fault of the dump
-pub by_instants : (b : BoundLines) (variables : List Variable) (bound_groups : List BoundGroup)
+pub recording_read-bound : (b : BoundLines) (variables : List Variable) (bound_groups : List BoundGroup)
     (r : Result (List Instant) VcdFault) → bound_groups_in variables b.assignments ≡ Ok bound_groups
     → recording_read b (r >>= with_variables variables)
     ≡ (or_dump r >>= λ instants. Ok (recording b.slots bound_groups instants (length instants)))
-by_instants b variables bound_groups (Ok instants) e =
+recording_read-bound b variables bound_groups (Ok instants) e =
     let dump : Contents = record { variables = variables; instants = instants } in
     ap or_binding (recording_of-is b dump ∙ ap (λ (r : Result (List BoundGroup) BindFault). r >>= λ bound_groups. Ok
     (recording b.slots bound_groups instants (length instants))) e)
-by_instants b variables bound_groups (Err fault) e = refl
+recording_read-bound b variables bound_groups (Err fault) e = refl
 
--- where the binding has the fault `own`, the result is the fault of the dump, or else `own`
-pub by_refusal : (b : BoundLines) (variables : List Variable) (own : BindFault) (r : Result (List Instant) VcdFault)
-    → bound_groups_in variables b.assignments ≡ Err own
-    → recording_read b (r >>= with_variables variables) ≡ (or_dump r >>= λ instants. Err (Binding own))
-by_refusal b variables own (Ok instants) e =
+-- where the binding has the fault `binding_fault`, the result is the fault of the dump, or else `binding_fault`
+pub recording_read-refused : (b : BoundLines) (variables : List Variable) (binding_fault : BindFault)
+    (r : Result (List Instant) VcdFault)
+    → bound_groups_in variables b.assignments ≡ Err binding_fault
+    → recording_read b (r >>= with_variables variables) ≡ (or_dump r >>= λ instants. Err (Binding binding_fault))
+recording_read-refused b variables binding_fault (Ok instants) e =
     let dump : Contents = record { variables = variables; instants = instants } in
     ap or_binding (recording_of-is b dump ∙ ap (λ (r : Result (List BoundGroup) BindFault). r >>= λ bound_groups. Ok
     (recording b.slots bound_groups instants (length instants))) e)
-by_refusal b variables own (Err fault) e = refl
+recording_read-refused b variables binding_fault (Err fault) e = refl
 
 -- where the binding fits, what a function gives for the body it gives for what is after the definitions
-pub behind-body : {X : Type 0} (view : X → Trace) (b : BoundLines) (h : Headed) (variables : List Variable)
+pub GivesBy-recording_after : {X : Type 0} (view : X → Trace) (b : BoundLines) (h : Headed) (variables : List Variable)
     (bound_groups : List BoundGroup) (r : Result X CaptureFault) → bound_groups_in variables b.assignments
     ≡ Ok bound_groups
     → GivesBy view r (body_recording b.slots bound_groups h) → GivesBy view r (recording_after b (defined h variables))
-behind-body view b h variables bound_groups r e given = subst (GivesBy view r)
-    (sym (by_instants b variables bound_groups (instants_from h.nets h.body) e)) given
+GivesBy-recording_after view b h variables bound_groups r e given = subst (GivesBy view r)
+    (sym (recording_read-bound b variables bound_groups (instants_from h.nets h.body) e)) given
 
 -- ---- a binding that doesn't fit
 
+-- a change of a net, of which nothing is kept
 abbrev passed_change : Unit {0} → ℕ → List Bit → Unit {0}
 passed_change u net bits = u
 
+-- the end of an instant, of which nothing is kept
 abbrev passed_instant : Unit {0} → ℕ → Unit {0}
 passed_instant u time = u
 
+-- nothing is asked of what is made of the instants
 abbrev Passes : List Instant → CurrentValues → Unit {0} → Type 0
 Passes done current u = Unit {0}
 
 -- reading a body without keeping anything follows the body's instants
-passing-follows : (h : Headed) (u : Unit {0}) → Follows (Ends Passes) (instants_from h.nets h.body)
+Follows-passing : (h : Headed) (u : Unit {0}) → Follows (Ends Passes) (instants_from h.nets h.body)
     (fold_body passed_change passed_instant h.nets u h.body)
-passing-follows h u = taken-follows passed_change passed_instant h.nets Passes (λ done current a net bits lt made. tt)
+Follows-passing h u = taken-follows passed_change passed_instant h.nets Passes (λ done current a net bits lt made. tt)
     (λ done current a time made. tt) h.body u tt
 
 -- a fault of the body is the fault of what is after the definitions
-behind_dump : (b : BoundLines) (h : Headed) (variables : List Variable) (line : ℕ) (kind : FaultKind) → ReadFailsAs line
+recording_after-DumpFails : (b : BoundLines) (h : Headed) (variables : List Variable) (line : ℕ) (kind : FaultKind)
+    → ReadFailsAs line
     kind (instants_from h.nets h.body) → DumpFails line kind (recording_after b (defined h variables))
-behind_dump b h variables line Memory e = e
-behind_dump b h variables line kind e = ap (λ (r : Result (List Instant) VcdFault). recording_read b
+recording_after-DumpFails b h variables line Memory e = e
+recording_after-DumpFails b h variables line kind e = ap (λ (r : Result (List Instant) VcdFault). recording_read b
     (r >>= with_variables variables)) e
 
 -- a fault of the body comes before a fault of the binding
-pub behind-first : (b : BoundLines) (h : Headed) (variables : List Variable) (u : Unit {0}) (fault : VcdFault)
+pub recording_after-dump_fails : (b : BoundLines) (h : Headed) (variables : List Variable) (u : Unit {0})
+    (fault : VcdFault)
     → ReadFails fault (fold_body passed_change passed_instant h.nets u h.body)
     → CaptureFailsBy (Dump fault) (recording_after b (defined h variables))
-behind-first b h variables u fault fails = behind_dump b h variables fault.line fault.kind
-    (fails-followed (Ends Passes) (instants_from h.nets h.body) _ fault (passing-follows h u) fails)
+recording_after-dump_fails b h variables u fault fails = recording_after-DumpFails b h variables fault.line fault.kind
+    (fails-followed (Ends Passes) (instants_from h.nets h.body) _ fault (Follows-passing h u) fails)
 
-by_binding : (line : ℕ) (kind : BindFaultKind) (b : BoundLines) (dump : Contents) (answer : Result Trace CaptureFault)
+-- a fault of the binding is the fault of what it makes of the dump
+BindingFails-recording_of : (line : ℕ) (kind : BindFaultKind) (b : BoundLines) (dump : Contents)
+    (answer : Result Trace CaptureFault)
     → answer ≡ or_binding (recording_of b dump)
     → BindFailsAs line kind (bound_groups_in dump.variables b.assignments) → BindingFails line kind answer
-by_binding line NoMemory b dump answer is e = e
-by_binding line kind b dump answer is e =
+BindingFails-recording_of line NoMemory b dump answer is e = e
+BindingFails-recording_of line kind b dump answer is e =
     is ∙ ap or_binding (recording_of-is b dump ∙ ap (λ (r : Result (List BoundGroup) BindFault). r >>= λ bound_groups.
     Ok (recording b.slots bound_groups dump.instants (length dump.instants))) e)
 
 -- a fault of the binding is the result where the body has no fault
-pub behind-binding : (b : BoundLines) (h : Headed) (variables : List Variable) (u end : Unit {0}) (fault : BindFault)
+pub recording_after-binding_fails : (b : BoundLines) (h : Headed) (variables : List Variable) (u end : Unit {0})
+    (fault : BindFault)
     → fold_body passed_change passed_instant h.nets u h.body ≡ Ok end
     → BindFails fault (bound_groups_in variables b.assignments) → CaptureFailsBy (Binding fault)
     (recording_after b (defined h variables))
-behind-binding b h variables u end fault ok fails =
-    let gives = gives-followed (Ends Passes) (instants_from h.nets h.body) _ end (passing-follows h u) ok in
+recording_after-binding_fails b h variables u end fault ok fails =
+    let gives = gives-followed (Ends Passes) (instants_from h.nets h.body) _ end (Follows-passing h u) ok in
     let dump : Contents = record { variables = variables; instants = gives.0 } in
     let is : (instants_from h.nets h.body >>= with_variables variables)
     ≡ Ok dump = ap (λ (r : Result (List Instant) VcdFault). r >>= with_variables variables) gives.1 in
-    by_binding fault.line fault.kind b dump (recording_after b (defined h variables)) (ap (recording_read b) is) fails
+    BindingFails-recording_of fault.line fault.kind b dump (recording_after b (defined h variables))
+    (ap (recording_read b) is) fails
 
 -- ---- the recording, and whether it is too long
 
@@ -299,9 +322,11 @@ behind-binding b h variables u end fault ok fails =
 abbrev in_limit : Result Trace CaptureFault → Result Trace CaptureFault
 in_limit r = r >>= λ t. or_binding (limited t)
 
-capture-recorded : (b : BoundLines) (text : List ℕ) → capture_of_text b text ≡ in_limit (recording_of_text b text)
+-- the capture of a text is its recording, unless that is too long
+capture_of_text-in_limit : (b : BoundLines) (text : List ℕ) → capture_of_text b text
+    ≡ in_limit (recording_of_text b text)
 unfolding capture_of_text recording_of_text
-capture-recorded b text = by_dump (dump_of text)
+capture_of_text-in_limit b text = by_dump (dump_of text)
   where
     by_bound_groups : (dump : Contents) (r : Result (List BoundGroup) BindFault)
         → or_binding (r >>= λ bound_groups. limited (recording b.slots bound_groups dump.instants
@@ -318,27 +343,28 @@ capture-recorded b text = by_dump (dump_of text)
     by_dump (Err fault) = refl
 
 -- a fault of the recording without a limit is the fault of the capture
-pub fails-captured : (b : BoundLines) (text : List ℕ) (fault : CaptureFault) → CaptureFailsBy fault
+pub capture_of_text-fails : (b : BoundLines) (text : List ℕ) (fault : CaptureFault) → CaptureFailsBy fault
     (recording_of_text b text) → CaptureFailsBy fault (capture_of_text b text)
-fails-captured b text (Dump fault) h = by_kind fault.line fault.kind h
+capture_of_text-fails b text (Dump fault) h = by_kind fault.line fault.kind h
   where
     by_kind : (line : ℕ) (kind : FaultKind) → DumpFails line kind (recording_of_text b text) → DumpFails line kind
         (capture_of_text b text)
     by_kind line Memory e = e
-    by_kind line kind e = capture-recorded b text ∙ ap in_limit e
-fails-captured b text (Binding fault) h = by_kind fault.line fault.kind h
+    by_kind line kind e = capture_of_text-in_limit b text ∙ ap in_limit e
+capture_of_text-fails b text (Binding fault) h = by_kind fault.line fault.kind h
   where
     by_kind : (line : ℕ) (kind : BindFaultKind) → BindingFails line kind (recording_of_text b text)
         → BindingFails line kind (capture_of_text b text)
     by_kind line NoMemory e = e
-    by_kind line kind e = capture-recorded b text ∙ ap in_limit e
+    by_kind line kind e = capture_of_text-in_limit b text ∙ ap in_limit e
 
 -- the capture of a text with the recording `t` is `limited t`
-pub captured-by : (b : BoundLines) (text : List ℕ) (t : Trace) (r : Result Trace BindFault) → recording_of_text b text
+pub capture_of_text-limited : (b : BoundLines) (text : List ℕ) (t : Trace) (r : Result Trace BindFault)
+    → recording_of_text b text
     ≡ Ok t → r ≡ limited t → GivesBy (λ (t : Trace). t) (or_binding r) (capture_of_text b text)
-captured-by b text t r e is =
+capture_of_text-limited b text t r e is =
     subst (λ (r : Result Trace BindFault). GivesBy (λ (t : Trace). t) (or_binding r) (capture_of_text b text)) (sym is)
-    (by_test (nat_lt capture_limit (length t.steps)) (capture-recorded b text ∙ ap in_limit e))
+    (by_test (nat_lt capture_limit (length t.steps)) (capture_of_text-in_limit b text ∙ ap in_limit e))
   where
     limited_by : Bool → Result Trace CaptureFault
     limited_by b = or_binding (cond b (Err (record { line = 0; kind = TooManySteps })) (Ok t))
@@ -350,23 +376,26 @@ captured-by b text t r e is =
 
 -- ---- the steps of a recording are well formed
 
+-- the values of equal results without a fault are equal
 same_ok : {A E : Type 0} (x y : A) → ok_of {A = A} {E = E} x ≡ ok_of y → x ≡ y
 same_ok x y e = cc
 
-pub recorded-formed : (b : BoundLines) (text : List ℕ) (t : Trace) → recording_of_text b text ≡ Ok t → malformed_step t
+-- the recording that a binding makes of a text is well formed
+pub recording_of_text-formed : (b : BoundLines) (text : List ℕ) (t : Trace) → recording_of_text b text ≡ Ok t
+    → malformed_step t
     ≡ None
 unfolding recording_of_text
-recorded-formed b text t e = by_dump (dump_of text) refl e
+recording_of_text-formed b text t e = by_dump (dump_of text) refl e
   where
     rises_in : (dump : Contents) (r : Result (Defined (List Variable)) VcdFault) → (r >>= contents_behind) ≡ Ok dump
         → TimesAscend dump.instants
     rises_in dump (Err fault) e = absurd (cc e)
-    rises_in dump (Ok d) e = by_instants (instants_from d.head.nets d.head.body) refl e
+    rises_in dump (Ok d) e = by_result (instants_from d.head.nets d.head.body) refl e
       where
-        by_instants : (r : Result (List Instant) VcdFault) → instants_from d.head.nets d.head.body ≡ r
+        by_result : (r : Result (List Instant) VcdFault) → instants_from d.head.nets d.head.body ≡ r
             → (r >>= with_variables d.variables) ≡ Ok dump → TimesAscend dump.instants
-        by_instants (Err fault) is e = absurd (cc e)
-        by_instants (Ok instants) is e = subst (λ (c : Contents). TimesAscend c.instants) (same_ok _ _ e)
+        by_result (Err fault) is e = absurd (cc e)
+        by_result (Ok instants) is e = subst (λ (c : Contents). TimesAscend c.instants) (same_ok _ _ e)
             (body_rises d.head.nets d.head.body instants is)
 
     by_bound_groups : (dump : Contents) → TimesAscend dump.instants → (r : Result (List BoundGroup) BindFault)
@@ -383,7 +412,7 @@ recorded-formed b text t e = by_dump (dump_of text) refl e
         (bound_groups_in dump.variables b.assignments) (sym (ap or_binding (recording_of-is b dump)) ∙ e)
 
 -- the recording that a function gives for a text is well formed
-pub text-formed : {X : Type 0} (view : X → Trace) (b : BoundLines) (text : List ℕ) (r : Result X CaptureFault)
+pub GivesBy-formed : {X : Type 0} (view : X → Trace) (b : BoundLines) (text : List ℕ) (r : Result X CaptureFault)
     → GivesBy view r (recording_of_text b text) → IfOk r (λ x. malformed_step (view x) ≡ None)
-text-formed view b text (Ok x) given = recorded-formed b text (view x) given
-text-formed view b text (Err fault) given = tt
+GivesBy-formed view b text (Ok x) given = recording_of_text-formed b text (view x) given
+GivesBy-formed view b text (Err fault) given = tt

@@ -27,7 +27,8 @@ use Rattle.vme_bind.specs.BoundGroups.{bound_groups_in}
 use Rattle.vme_bind.specs.TextCapture.{CaptureFailsBy, DumpFails, BindingFails, IsOfBinding, recording_after}
 use Rattle.vme_bind.specs.TextCapture.{recording_of_text}
 use Rattle.vme_bind.specs.TextPieces.{TextContinuesAs, body_outcome, outcome}
-use Rattle.vme_bind.proofs.TextCaptureLemmas.{body-outcome, by_instants, by_refusal, text-head}
+use Rattle.vme_bind.proofs.TextCaptureLemmas.{body_outcome-outcome, recording_read-bound, recording_read-refused}
+use Rattle.vme_bind.proofs.TextCaptureLemmas.{recording_of_text-header_fails}
 
 -- a fault of the dump comes first, whatever the binding has
 dump_fails : (own : Option BindFault) (line : ℕ) (kind : FaultKind) (read : Result (State BuilderState) VcdFault)
@@ -62,7 +63,8 @@ pub begun-outcome : (own : Option BindFault) (slots : ℕ) (bound_groups : List 
     → body_outcome own slots bound_groups (going_on head more)
     ≡ outcome own (rest_of builder_change builder_instant r first more >>= at_end builder_instant)
 begun-outcome own slots bound_groups head made r first more begun nets progress dump_section place body =
-    rw (nets, progress, dump_section, place, body) (body-outcome slots bound_groups (going_on head more) own made begun)
+    rw (nets, progress, dump_section, place, body)
+    (body_outcome-outcome slots bound_groups (going_on head more) own made begun)
 
 -- a result that continues `before2` continues `before`, where the two are the same
 pub leads-same : {X Y : Type 0} (view : X → List Token → Result Y CaptureFault) (r : Result X CaptureFault)
@@ -78,12 +80,13 @@ pub recording_after-fitting : (b : BoundLines) (h : Headed) (variables : List Va
     → bound_groups_in variables b.assignments ≡ Ok bound_groups
     → recording_after b (defined h variables) ≡ body_outcome None b.slots bound_groups h
 recording_after-fitting b h variables bound_groups e =
-    by_instants b variables bound_groups (instants_from h.nets h.body) e
+    recording_read-bound b variables bound_groups (instants_from h.nets h.body) e
 
 pub recording_after-refused : (b : BoundLines) (h : Headed) (variables : List Variable) (bound_groups : List BoundGroup)
     (own : BindFault) → bound_groups_in variables b.assignments ≡ Err own
     → recording_after b (defined h variables) ≡ body_outcome (Some own) b.slots bound_groups h
-recording_after-refused b h variables bound_groups own e = by_refusal b variables own (instants_from h.nets h.body) e
+recording_after-refused b h variables bound_groups own e =
+    recording_read-refused b variables own (instants_from h.nets h.body) e
 
 -- a fault of the binding that isn't want of memory is the answer
 pub refused-is : {Y : Type 0} (own : BindFault) (answer : Result Y BindFault) → IsOfBinding own → BindFails own answer
@@ -138,6 +141,8 @@ unfinished-front b front seen fault is met = by_kind fault.line fault.kind is me
     by_kind : (line : ℕ) (kind : FaultKind) → header_of with_variable front (nothing_declared seen) (tokens front)
         ≡ Err (record { line = line; kind = kind })
         → IsMetAtTheEnd kind → recording_of_text b front ≡ Err (Dump (record { line = line; kind = kind }))
-    by_kind line NoEndDefinitions is met = text-head b front seen (record { line = line; kind = NoEndDefinitions }) is
-    by_kind line UnfinishedSection is met = text-head b front seen (record { line = line; kind = UnfinishedSection }) is
+    by_kind line NoEndDefinitions is met =
+        recording_of_text-header_fails b front seen (record { line = line; kind = NoEndDefinitions }) is
+    by_kind line UnfinishedSection is met =
+        recording_of_text-header_fails b front seen (record { line = line; kind = UnfinishedSection }) is
     by_kind line kind is met = absurd met

@@ -40,10 +40,11 @@ use Rattle.vme_bind.specs.PathSearch.{Searched, with_variable}
 use Rattle.vme_bind.specs.TextCapture.{CaptureFailsBy, DumpFails, or_binding, or_dump}
 use Rattle.vme_bind.specs.TextReading.{StopsAs, TextReading, body_reading, or_fault, reading_after, reading_by}
 use Rattle.vme_bind.specs.TextReading.{reading_made, reading_of_text, reading_until_fault}
-use Rattle.vme_bind.proofs.StepsLemmas.{well_formed}
+use Rattle.vme_bind.proofs.StepsLemmas.{malformed_step-recording}
 use Rattle.vme_bind.proofs.BuilderLemmas.{Makes, makes-first, makes-change, makes-instant}
-use Rattle.vme_bind.proofs.TextCaptureLemmas.{IsMadeOf, builder-follows, fails_back, follow_err, instants_in}
-use Rattle.vme_bind.proofs.TextCaptureLemmas.{whole-of}
+use Rattle.vme_bind.proofs.TextCaptureLemmas.{IsMadeOf, builder-follows, ReadFailsAs-before_total, Follows-err}
+use Rattle.vme_bind.proofs.TextCaptureLemmas.{instants_in}
+use Rattle.vme_bind.proofs.TextCaptureLemmas.{HasHeader-searched}
 
 -- ---- where a body stops
 
@@ -156,7 +157,7 @@ module _ (slots : ℕ) (bound_groups : List BoundGroup) (h : Headed) (m : Builde
         ∙ ap (whole_reading end.recorded) (sym time_before)
     by_taken (Err fault) e =
         ap (reading_by slots bound_groups h)
-        (follow_err slots bound_groups h (instants_from h.nets h.body) _ fault (builder-follows slots bound_groups h m
+        (Follows-err slots bound_groups h (instants_from h.nets h.body) _ fault (builder-follows slots bound_groups h m
         begun) e)
         ∙ stopped_as fault _ _ _ _ (sym recorded_before) (sym time_before)
 
@@ -171,11 +172,11 @@ body_formed slots bound_groups h = by_instants (instants_from h.nets h.body) ref
   where
     by_instants : (r : Result (List Instant) VcdFault) → instants_from h.nets h.body ≡ r → malformed_step
         (reading_by slots bound_groups h r).recorded ≡ None
-    by_instants (Ok instants) is = well_formed slots bound_groups instants (length instants) (omega arith)
+    by_instants (Ok instants) is = malformed_step-recording slots bound_groups instants (length instants) (omega arith)
         (body_rises h.nets h.body instants is)
     by_instants (Err fault) is =
         let all : List Instant = instants_before_fault h.nets h.body in
-        well_formed slots bound_groups all (length all - 1) (omega arith) (before_fault_rises h.nets
+        malformed_step-recording slots bound_groups all (length all - 1) (omega arith) (before_fault_rises h.nets
         (body_from ready h.body))
 
 -- the recorded steps are well formed for any tokens after a place at which nothing is read yet
@@ -228,7 +229,7 @@ pub head_fails : (b : BoundLines) (text : List ℕ) (seen : List Searched) (faul
 unfolding reading_of_text
 head_fails b text seen fault h =
     by_kind fault.line fault.kind
-    (fails_back fault.line fault.kind (whole_header text) (taken_head with_variable seen)
+    (ReadFailsAs-before_total fault.line fault.kind (whole_header text) (taken_head with_variable seen)
     (rw (header_taken with_variable text seen) at h))
   where
     by_kind : (line : ℕ) (kind : FaultKind) → ReadFailsAs line kind (whole_header text) → DumpFails line kind
@@ -257,5 +258,5 @@ pub reading_is : (b : BoundLines) (text : List ℕ) (h : Headed) (first seen : L
     × (reading_of_text b text ≡ reading_after b (defined h variables))
 unfolding reading_of_text
 reading_is b text h first seen head =
-    let whole = whole-of text h first seen head in
+    let whole = HasHeader-searched text h first seen head in
     (whole.0, whole.2, ap (read_of b) whole.1)

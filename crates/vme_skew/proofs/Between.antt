@@ -21,8 +21,8 @@ use Rattle.vme_bind.specs.Recording.{differs, change_to, changes_between, step_b
 use Rattle.vme_bind.proofs.RecorderLemmas.{no_difference_at, same_levels, same_unless_differs, level_at-set_same}
 use Rattle.vme_bind.proofs.RecorderLemmas.{level_at-set_other}
 use Rattle.vme_bind.proofs.RecorderLemmas.{length-set_level}
-use Rattle.vme_bind.proofs.CaptureLemmas.{changed-those, length-changed}
-use Rattle.vme_bind.proofs.StepsLemmas.{some_of}
+use Rattle.vme_bind.proofs.CaptureLemmas.{level_at-changed_those, length-changed}
+use Rattle.vme_bind.proofs.StepsLemmas.{length-those_positive}
 
 -- ---- from levels to the same levels
 
@@ -61,7 +61,7 @@ changes-lead v w one =
     same_levels (changed v (changes_between v w)) w (slots-kept v (changes_between v w) ∙ one.slots)
     (length-changed v (changes_between v w) ∙ one.first) one.second
     (λ l lt.
-    changed-those (differs v w) (level_at w) v line_count (omega (arith, one.first)) l
+    level_at-changed_those (differs v w) (level_at w) v line_count (omega (arith, one.first)) l
     ∙ by_test (nat_lt l line_count) (differs v w l) l (lt-ltb l line_count lt) refl)
   where
     by_test : (a b : Bool) (l : ℕ) → a ≡ true → differs v w l ≡ b → cond (a && b) (level_at w l) (level_at v l)
@@ -268,6 +268,6 @@ between-may v w n clock time leads some later =
     (not_empty (changes_between v w) (omega (
       arith,
       length-map (those (differs v w) 0 line_count) (change_to w),
-      some_of (differs v w) line_count some,
+      length-those_positive (differs v w) line_count some,
     )))
     (are_between v w leads line_count 0 refl)

@@ -13,8 +13,8 @@ use Rattle.vme_bind.specs.TextCapture.{or_binding, recording_of_text}
 use Rattle.vme_bind.specs.TextCapture as text
 use Rattle.vme_bind.specs.declared.fault.BindFault.{BindFault}
 use Rattle.vme_bind.specs.declared.fault.BindFaultKind.TheVariants.{TooManySteps}
-use Rattle.vme_bind.proofs.CaptureLemmas.{levels-all}
-use Rattle.vme_bind.proofs.TextCaptureLemmas.{recorded-formed}
+use Rattle.vme_bind.proofs.CaptureLemmas.{length-levels_after}
+use Rattle.vme_bind.proofs.TextCaptureLemmas.{recording_of_text-formed}
 use Rattle.vme_skew.specs.Settled.{IsRecording, settled_or}
 use Rattle.vme_skew.proofs.Laws.{by_zero}
 
@@ -50,9 +50,10 @@ capture-stays binding bytes contents dump_is =
     made-stays (λ groups. recording binding.slots groups contents.instants (length contents.instants))
     (bound_groups_in contents.variables binding.assignments)
     (λ groups is. record {
-      whole = levels-all binding.slots groups contents.instants 0;
+      whole = length-levels_after binding.slots groups contents.instants 0;
       formed =
-          recorded-formed binding bytes (recording binding.slots groups contents.instants (length contents.instants))
+          recording_of_text-formed binding bytes
+          (recording binding.slots groups contents.instants (length contents.instants))
           (ap (text.recording_read binding) dump_is
           ∙ made-told (λ groups. recording binding.slots groups contents.instants (length contents.instants))
           (bound_groups_in contents.variables binding.assignments) groups is);

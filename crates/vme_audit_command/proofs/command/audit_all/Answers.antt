@@ -1,5 +1,5 @@
 use Rattle.std.proofs.Common.{refl, rules}
-use Rattle.vme_bind.proofs.PathSearchLemmas.{stepped_rest}
+use Rattle.vme_bind.proofs.PathSearchLemmas.{drop-set_same_rest}
 use Rattle.vme_audit_command.proofs.AnswerLemmas.{options_by}
 use Rattle.vme_audit_command.proofs.SeveralLemmas.{cannot-write-next, writes-all-dumps, writes-next-dump}
 use Rattle.vme_audit_command.proofs.SeveralLemmas.{writes-no-dumps}
@@ -15,7 +15,7 @@ loop-named-init g c = record {
 
 pub loop-named-preserved : goal.loop-named-preserved
 loop-named-preserved g c = record {
-  rest = stepped_rest c.loop-named.dumps c.args.dumps.now c.loop-named.named-index c.audit_named-ended.new.named
+  rest = drop-set_same_rest c.loop-named.dumps c.args.dumps.now c.loop-named.named-index c.audit_named-ended.new.named
       c.loop-named.invariant.rest;
   writes = rw c.worse-status.ensures
       (writes-next-dump (options_by c.args.options.allowances.now c.args.options.stop c.args.options.skew

@@ -1,15 +1,16 @@
 use Rattle.std.proofs.Common.{rules, ap, sym, ◌∙◌}
 use Rattle.vme_bind.specs.PathSearch.{opened}
-use Rattle.vme_bind.proofs.PathSearchLemmas.{stepped, stepped_rest}
+use Rattle.vme_bind.proofs.PathSearchLemmas.{take-set_changed, drop-set_same_rest}
 use Rattle.vme_bind.proofs.search.open_all.Goals as goal
 
 pub loop-s-preserved : goal.loop-s-preserved
 loop-s-preserved c =
     let step = opened c.args.depth c.args.start c.args.part.now in
     record {
-      done = stepped step c.loop-s.searches c.args.searches.now c.loop-s.s-index c.s-item.result c.«open».new.self
+      done = take-set_changed step c.loop-s.searches c.args.searches.now c.loop-s.s-index c.s-item.result
+          c.«open».new.self
           (search rules) (search rules) (search rules) (c.«open».ensures ∙ ap step (sym c.s-item.is))
           c.loop-s.invariant.done c.loop-s.invariant.rest;
-      rest = stepped_rest c.loop-s.searches c.args.searches.now c.loop-s.s-index c.«open».new.self
+      rest = drop-set_same_rest c.loop-s.searches c.args.searches.now c.loop-s.s-index c.«open».new.self
           c.loop-s.invariant.rest;
     }

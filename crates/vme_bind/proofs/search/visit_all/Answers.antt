@@ -3,7 +3,7 @@ use Rattle.std.proofs.lemmas.List.Elements.{All-set}
 use Rattle.vcd_read.specs.Header.{variable_in}
 use Rattle.vme_bind.specs.declared.path_search.PathSearch.{PathSearch}
 use Rattle.vme_bind.specs.PathSearch.{HasOpened, seen_in, with_candidate}
-use Rattle.vme_bind.proofs.PathSearchLemmas.{same_matched, stepped_by, stepped_rest}
+use Rattle.vme_bind.proofs.PathSearchLemmas.{HasOpened-same, take-set_seen, drop-set_same_rest}
 use Rattle.vme_bind.proofs.search.visit_all.Goals as goal
 
 pub visit-requires-clause-matched_scopes : goal.visit-requires-clause-matched_scopes
@@ -18,16 +18,16 @@ loop-s-preserved c =
     let scopes = c.args.scopes.now in
     let before = c.loop-s.invariant.matched_scopes c.loop-s.s-index c.s-item.result
     (omega (arith, c.loop-s.auto.searches)) in
-    let matched_scopes : HasOpened scopes c.visit.new.self = same_matched scopes
+    let matched_scopes : HasOpened scopes c.visit.new.self = HasOpened-same scopes
     (get_or c.loop-s.searches c.loop-s.s-index
     c.s-item.result) c.visit.new.self c.visit.ensures.matched_scopes c.visit.ensures.assignment before in
     record {
       matched_scopes = All-set (HasOpened c.args.scopes.now) c.loop-s.searches c.loop-s.s-index c.visit.new.self
           matched_scopes c.loop-s.invariant.matched_scopes;
-      done = stepped_by seen_in step c.loop-s.searches c.args.searches.now c.loop-s.s-index c.s-item.result
+      done = take-set_seen seen_in step c.loop-s.searches c.args.searches.now c.loop-s.s-index c.s-item.result
           c.visit.new.self
           (search rules) (search rules) (search rules) (c.visit.ensures.seen ∙ ap (λ (s : PathSearch). step (seen_in s))
           (sym c.s-item.is)) c.loop-s.invariant.done c.loop-s.invariant.rest;
-      rest = stepped_rest c.loop-s.searches c.args.searches.now c.loop-s.s-index c.visit.new.self
+      rest = drop-set_same_rest c.loop-s.searches c.args.searches.now c.loop-s.s-index c.visit.new.self
           c.loop-s.invariant.rest;
     }

@@ -3,7 +3,7 @@ use Rattle.std.proofs.lemmas.Result.{err_from_is_err_and}
 use Rattle.vme_trace.specs.Trace.{Trace}
 use Rattle.vme_bind.specs.TextCapture.{CaptureFailsBy, recording_of_text}
 use Rattle.vme_bind.specs.declared.fault.CaptureFault.{CaptureFault}
-use Rattle.vme_bind.proofs.TextCaptureLemmas.{recorded-formed}
+use Rattle.vme_bind.proofs.TextCaptureLemmas.{recording_of_text-formed}
 use Rattle.vme_stream.specs.Answers.{dump_read}
 use Rattle.vme_stream.proofs.InputLemmas.{unread}
 use Rattle.vme_stream.proofs.AnswerLemmas.{dump_refused, dump_read-whole, recording_by-fails, recording_by-refused}
@@ -36,7 +36,7 @@ returns-in-Ok-finish g c =
         rw (recording_read-bound binding (Some bytes) bound bound_is, dump_read-whole bytes short)
             (recording_by-text bound bytes t is),
       );
-      formed = recorded-formed bound bytes t is;
+      formed = recording_of_text-formed bound bytes t is;
     }
 
 pub returns-in-Ok-clause-gives : goal.returns-in-Ok-clause-gives

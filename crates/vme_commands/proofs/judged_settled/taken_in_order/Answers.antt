@@ -2,7 +2,7 @@ use Rattle.std.proofs.Common.{◌≡◌, ◌∙◌, Some, Result, Ok, sym, subst
 use Rattle.vme_trace.specs.Trace.{Trace}
 use Rattle.vme_bind.specs.TextCapture.{CaptureFailsBy, recording_of_text}
 use Rattle.vme_bind.specs.declared.fault.CaptureFault.{CaptureFault}
-use Rattle.vme_bind.proofs.TextCaptureLemmas.{recorded-formed}
+use Rattle.vme_bind.proofs.TextCaptureLemmas.{recording_of_text-formed}
 use Rattle.vme_stream.specs.Answers.{dump_read}
 use Rattle.vme_stream.proofs.AnswerLemmas.{dump_refused, dump_read-whole, recording_by-fails, recording_by-refused}
 use Rattle.vme_stream.proofs.AnswerLemmas.{recording_by-text}
@@ -17,7 +17,7 @@ returns-in-Ok-finish g c =
     let is : recording_of_text bound bytes ≡ Ok t = sym (c.new-reader.ensures bytes) ∙ same ∙ rest in
     record {
       gives = (Some bytes, reading, rw (dump_read-whole bytes short) (recording_by-text bound bytes t is));
-      formed = recorded-formed bound bytes t is;
+      formed = recording_of_text-formed bound bytes t is;
     }
 
 pub returns-in-Ok-clause-gives : goal.returns-in-Ok-clause-gives

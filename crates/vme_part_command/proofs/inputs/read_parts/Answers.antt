@@ -1,7 +1,7 @@
 use Rattle.std.proofs.Common.{◌≡◌, ◌++◌, ◌∷◌, ◌∙◌, [], length, map, refl, rules, sym}
 use Rattle.std.proofs.lemmas.List.{length-map, map_push, places}
 use Rattle.std.specs.Prelude.{vec_len}
-use Rattle.vme_bind.proofs.PathSearchLemmas.{stepped_rest}
+use Rattle.vme_bind.proofs.PathSearchLemmas.{drop-set_same_rest}
 use Rattle.vme_part_format.specs.Tables.{part_value}
 use Rattle.vme_part_command.proofs.ReadLemmas.{read_each, read_fault_at, read_more, read_none, same_names}
 use Rattle.vme_part_command.proofs.inputs.read_parts.Goals as goal
@@ -21,7 +21,7 @@ loop-input-preserved g c =
     let e : map part_value c.push.new.self.items ≡ map part_value l.parts.items ++ part_value part ∷ [] =
     rw c.in_ok-push-in-Ok.ensures.items (map_push part_value l.parts.items part) in
     record {
-      rest = stepped_rest l.inputs c.args.inputs.now l.input-index c.part_in.new.input l.invariant.rest;
+      rest = drop-set_same_rest l.inputs c.args.inputs.now l.input-index c.part_in.new.input l.invariant.rest;
       read = rw e (read_more (λ i. g.P.Source.reading i.part) c.args.inputs.now l.inputs l.input-index
           c.input-item.result c.part_in.new.input (map part_value l.parts.items)
           (search rules) (search rules) c.input-item.is l.invariant.rest l.invariant.read (part_value part)

@@ -2,7 +2,7 @@ use Rattle.std.proofs.Common.{◌∙◌, Result, subst, sym}
 use Rattle.vme_stream.proofs.AnswerLemmas.{recording_by-fails, recording_by-text}
 use Rattle.vme_bind.specs.TextCapture.{CaptureFailsBy}
 use Rattle.vme_bind.specs.declared.fault.CaptureFault.{CaptureFault}
-use Rattle.vme_bind.proofs.TextCaptureLemmas.{recorded-formed}
+use Rattle.vme_bind.proofs.TextCaptureLemmas.{recording_of_text-formed}
 use Rattle.vme_trace.specs.Trace.{Trace}
 use Rattle.vme_text_commands.proofs.explained_input.taken_input.Goals as goal
 
@@ -12,7 +12,7 @@ returns-in-Ok-finish g c =
     record {
       gives = λ binding bytes ahead.
           recording_by-text binding bytes t (ahead ∙ c.in-Ok-finish.ensures);
-      formed = λ binding bytes ahead. recorded-formed binding bytes t (ahead ∙ c.in-Ok-finish.ensures);
+      formed = λ binding bytes ahead. recording_of_text-formed binding bytes t (ahead ∙ c.in-Ok-finish.ensures);
     }
 
 pub returns-in-Err-clause-gives : goal.returns-in-Err-clause-gives

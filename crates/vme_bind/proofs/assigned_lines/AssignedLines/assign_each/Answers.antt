@@ -2,7 +2,7 @@ use Rattle.std.proofs.Common.{ℕ, Bool, true, List, ◌∷◌, [], ◌++◌, �
 use Rattle.std.proofs.lemmas.List.{take_more}
 use Rattle.vme_bind.specs.AssignedLines.{with_assigned}
 use Rattle.vme_bind.specs.declared.net_lines.LineBit.{LineBit}
-use Rattle.vme_bind.proofs.AssignedLineLemmas.{with_assigned-more}
+use Rattle.vme_bind.proofs.AssignedLineLemmas.{with_assigned-append}
 use Rattle.vme_bind.proofs.assigned_lines.AssignedLines.assign_each.Goals as goal
 
 pub loop-line_bit-preserved : goal.loop-line_bit-preserved
@@ -13,6 +13,6 @@ loop-line_bit-preserved c =
     let line_bit = c.line_bit-item.result in
     ap (λ (assigned : List Bool). slice_set assigned c.number.result true) c.loop-line_bit.invariant
     ∙ ap (λ (n : ℕ). slice_set (with_assigned (take i line_bits) first) n true) c.number.ensures.number
-    ∙ sym (with_assigned-more (take i line_bits) first line_bit)
+    ∙ sym (with_assigned-append (take i line_bits) first line_bit)
     ∙ ap (λ (ts : List LineBit). with_assigned ts first) (ap (λ (t : LineBit). take i line_bits ++ t ∷ [])
     c.line_bit-item.is ∙ sym (take_more line_bits i line_bit c.loop-line_bit-test.true))

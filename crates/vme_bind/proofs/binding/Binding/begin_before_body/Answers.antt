@@ -8,7 +8,7 @@ use Rattle.vcd_read.specs.Tokens.{Token}
 use Rattle.vme_bind.specs.PathSearch.{Searched, seen_in, unseen, with_variable}
 use Rattle.vme_bind.specs.TextCapture.{CaptureFailsBy}
 use Rattle.vme_bind.specs.declared.fault.CaptureFault.{CaptureFault}
-use Rattle.vme_bind.proofs.TextCaptureLemmas.{text-head, text-is}
+use Rattle.vme_bind.proofs.TextCaptureLemmas.{recording_of_text-header_fails, recording_of_text-after_header}
 use Rattle.vme_bind.proofs.TextPieceLemmas.{unfinished-front}
 use Rattle.vme_bind.specs.TextReading.{TextReading}
 use Rattle.vme_bind.proofs.TextReadingLemmas.{head_fails, reading_is, unfinished_reading}
@@ -24,7 +24,7 @@ returns-in-Ok-begin_body-clause-begins g c = λ whole more e.
     in
     let is = subst (λ (ts : List Token). header_of with_variable whole (nothing_declared first) ts
     ≡ Ok (defined head seen)) (sym e) (found whole more) in
-    let text = text-is b whole head first seen is in
+    let text = recording_of_text-after_header b whole head first seen is in
     text.2 ∙ c.in-Ok-begin_body.ensures.rest text.0 text.1 more
 
 pub returns-in-Ok-Some-clause-begins : goal.returns-in-Ok-Some-clause-begins
@@ -37,7 +37,7 @@ returns-in-Ok-Some-clause-begins g c = λ whole more e.
     in
     let is = subst (λ (ts : List Token). header_of with_variable whole (nothing_declared first) ts
     ≡ Ok (defined head seen)) (sym e) (found whole more) in
-    let text = text-is b whole head first seen is in
+    let text = recording_of_text-after_header b whole head first seen is in
     subst (λ (r : Result Trace CaptureFault). CaptureFailsBy c.in-Err-begin_body.fault r) (sym text.2)
     (c.in-Err-begin_body.ensures.rest text.0 text.1 more)
 
@@ -55,7 +55,7 @@ returns-clause-begins g c = λ whole more e.
     let first : List Searched = map unseen b.assignments in
     let fault = c.in-Err-read_front.fault in
     let fails = rw (c.in-Ok.ensures.seen, c.assignments.ensures) at c.in-Err-read_front.ensures.header in
-    text-head b whole first fault
+    recording_of_text-header_fails b whole first fault
     (subst (λ (ts : List Token). ReadFails fault (header_of with_variable whole (nothing_declared first) ts)) (sym e)
     (fails whole more))
 

@@ -1,6 +1,6 @@
 use Rattle.std.proofs.Common.{rules, map}
 use Rattle.vme_bind.specs.PathSearch.{seen_in, unseen}
-use Rattle.vme_bind.proofs.TextCaptureLemmas.{text-head, text-behind, text-formed}
+use Rattle.vme_bind.proofs.TextCaptureLemmas.{recording_of_text-header_fails, GivesBy-recording_of_text, GivesBy-formed}
 use Rattle.vme_bind.proofs.binding.Binding.record_text.Goals as goal
 
 pub returns-in-Err : goal.returns-in-Err
@@ -12,15 +12,15 @@ returns-in-Ok-read_definitions g c =
     let text = c.args.text.now in
     let first = map unseen b.assignments in
     let head = rw (c.in-Ok.ensures.seen, c.assignments.ensures) at c.in-Ok-read_definitions.ensures in
-    let given = text-behind g.F.StepVisitor.recorded b text c.in-Ok-read_definitions.head first
+    let given = GivesBy-recording_of_text g.F.StepVisitor.recorded b text c.in-Ok-read_definitions.head first
     (map seen_in c.in-Ok-read_definitions.search.searches.items) c.record_head.result head c.record_head.ensures in
-    record { gives = given; formed = text-formed g.F.StepVisitor.recorded b text c.record_head.result given }
+    record { gives = given; formed = GivesBy-formed g.F.StepVisitor.recorded b text c.record_head.result given }
 
 pub returns-in-Err-read_definitions : goal.returns-in-Err-read_definitions
 returns-in-Err-read_definitions g c =
     let fails = rw (c.in-Ok.ensures.seen, c.assignments.ensures) at c.in-Err-read_definitions.ensures in
     record {
-      gives = text-head c.args.self.now c.args.text.now (map unseen c.args.self.now.assignments)
+      gives = recording_of_text-header_fails c.args.self.now c.args.text.now (map unseen c.args.self.now.assignments)
           c.in-Err-read_definitions.fault fails;
       formed = tt;
     }

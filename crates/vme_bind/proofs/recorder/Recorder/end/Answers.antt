@@ -5,7 +5,7 @@ use Rattle.vme_trace.specs.Trace.{levels_after}
 use Rattle.vme_trace.specs.declared.step.Step.{Step}
 use Rattle.std.specs.Prelude.{List}
 use Rattle.vme_bind.specs.Recording.{RecorderLevels, step_between, step_in}
-use Rattle.vme_bind.proofs.SpeculativeReadingLemmas.{end-leads}
+use Rattle.vme_bind.proofs.SpeculativeReadingLemmas.{levels_after-ended_steps}
 use Rattle.vme_bind.proofs.recorder.Recorder.end.Goals as goal
 
 leads-ok : (v : Levels) (steps : List Step) (q r : RecorderLevels) (result : Result (Option Step) AllocError)
@@ -22,6 +22,7 @@ returns-in-Some-clause-leads c =
     let inside = c.self.inside in
     leads-ok p.shown (step_between c.in-Some.time p.shown p.now) c.end_instant.new.self
     (record { shown = p.now; now = p.now }) c.end_instant.result
-    (end-leads p inside.shown inside.now inside.first inside.last (Some c.in-Some.time) (sym c.self.view_is)
+    (levels_after-ended_steps p inside.shown inside.now inside.first inside.last (Some c.in-Some.time)
+    (sym c.self.view_is)
     c.self.invariant)
     c.end_instant.ensures.step c.end_instant.ensures.shown

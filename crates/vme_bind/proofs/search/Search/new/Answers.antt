@@ -2,7 +2,7 @@ use Rattle.std.proofs.Common.{sym, ◌∙◌, [], ◌∷◌, arith}
 use Rattle.std.proofs.lemmas.List.{map-append, take_more}
 use Rattle.std.proofs.lemmas.List.Elements.{All-push}
 use Rattle.vme_bind.specs.PathSearch.{HasOpened, seen_in, unseen}
-use Rattle.vme_bind.proofs.PathSearchLemmas.{matched_none}
+use Rattle.vme_bind.proofs.PathSearchLemmas.{HasOpened-no_scope}
 use Rattle.vme_bind.proofs.search.Search.new.Goals as goal
 
 pub loop-assignment-preserved : goal.loop-assignment-preserved
@@ -20,7 +20,7 @@ loop-assignment-preserved c =
         l.invariant.seen,
       ) (sym (map-append unseen _ (a ∷ [])));
       matched_scopes = rw c.push_reserved.ensures.items (All-push (HasOpened []) l.searches.items c.new.result
-          l.invariant.matched_scopes (matched_none c.new.result c.new.ensures.matched_scopes));
+          l.invariant.matched_scopes (HasOpened-no_scope c.new.result c.new.ensures.matched_scopes));
       count = omega (arith, c.push_reserved.ensures.len, l.invariant.count);
       capacity = c.push_reserved.ensures.capacity ∙ l.invariant.capacity;
     }

@@ -1,7 +1,8 @@
 use Rattle.std.proofs.Common.{rules, ◌≡◌, ◌+◌, true, false, sym, subst}
 use Rattle.vme_trace.specs.Levels.{level_at, set_level}
 use Rattle.vme_bind.specs.AssignedLines.{is_assigned}
-use Rattle.vme_bind.proofs.AssignedLineLemmas.{AreLevelsAfterBelow, left-same, left-assigned}
+use Rattle.vme_bind.proofs.AssignedLineLemmas.{AreLevelsAfterBelow, AreLevelsAfterBelow-not_assigned}
+use Rattle.vme_bind.proofs.AssignedLineLemmas.{AreLevelsAfterBelow-assigned}
 use Rattle.vme_bind.proofs.speculative_reader.SpeculativeChunk.levels_at_end.Goals as goal
 use Rattle.vme_bind.proofs.speculative_reader.SpeculativeChunk.levels_at_end.Goals.{then-has, else-has}
 
@@ -17,10 +18,11 @@ loop-number-preserved c =
           let set : c.if-has.behind ≡ set_level after n w.level.result = search rules in
           let assigned : is_assigned a.assigned n ≡ true = search rules in
           let level : w.level.result ≡ level_at a.detached.progress.accumulator.now n = search rules in
-          subst (AreLevelsAfterBelow a before (n + 1)) (sym set) (left-assigned a before n after c.loop-number.invariant
+          subst (AreLevelsAfterBelow a before (n + 1)) (sym set)
+          (AreLevelsAfterBelow-assigned a before n after c.loop-number.invariant
           w.level.result c.loop-number-test.true assigned level)
       | else-has w ↦
           let assigned : is_assigned a.assigned n ≡ false = search rules in
           subst (AreLevelsAfterBelow a before (n + 1)) (sym w.behind-is)
-          (left-same a before n after c.loop-number.invariant assigned)
+          (AreLevelsAfterBelow-not_assigned a before n after c.loop-number.invariant assigned)
     ]

@@ -6,7 +6,7 @@ use Rattle.vme_trace.specs.Levels.{Levels}
 use Rattle.vme_bind.specs.NetLines.{line_bits_of}
 use Rattle.vme_bind.specs.Recording.{AreLines, RecorderLevels, end_of, step_in}
 use Rattle.vme_bind.specs.SpeculativeReading.{ReadSpeculatively, SpeculativeReached}
-use Rattle.vme_bind.proofs.SpeculativeReadingLemmas.{ahead_of, speculative-joined, speculative_of}
+use Rattle.vme_bind.proofs.SpeculativeReadingLemmas.{ahead_of, IsJoined-by_fields, speculative_of}
 use Rattle.vme_bind.proofs.speculative_reader.SpeculativeReader.join.Goals as goal
 
 entered_now : (p : RecorderLevels) (e : Option ℕ) → (entered end_of p e).now ≡ p.now
@@ -35,7 +35,7 @@ returns c =
     let view : c.args.self ≡ speculative_of inside.fault inside.line_bits inside.recorder r = search rules in
     let seen : c.args.ahead ≡ ahead_of ahead.from ahead.recorder u ahead.assigned = search rules in
     λ bytes recorded is.
-    speculative-joined bytes recorded c.args.self c.args.ahead inside.fault inside.line_bits inside.recorder
+    IsJoined-by_fields bytes recorded c.args.self c.args.ahead inside.fault inside.line_bits inside.recorder
     ahead.recorder r
     (reached (λ p. tt {0}) c.join-pieces.result.0) ahead.from u
     ahead.assigned view seen is c.requires c.ended_by.result (step_in c.in_ok-step.step) c.end.new.self

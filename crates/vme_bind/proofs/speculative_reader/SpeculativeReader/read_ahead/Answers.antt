@@ -8,8 +8,9 @@ use Rattle.vme_bind.specs.NetLines.{line_bits_of}
 use Rattle.vme_bind.specs.SpeculativeReading.{IsReadSpeculatively, SpeculativeReached, builder_after}
 use Rattle.vme_bind.specs.AssignedLines.{SpeculativeBuilderState, speculative_change, speculative_instant, is_assigned}
 use Rattle.vme_bind.specs.declared.net_lines.NetLines.{NetLines}
-use Rattle.vme_bind.proofs.AssignedLineLemmas.{made-read, assigned-leads, assigned-lines}
-use Rattle.vme_bind.proofs.SpeculativeReadingLemmas.{ahead-read, ahead_of, opening-kept, slots-are, speculative_of}
+use Rattle.vme_bind.proofs.AssignedLineLemmas.{IsReadDetached-made, LeadTo-assigned, IsLine-assigned_in_piece}
+use Rattle.vme_bind.proofs.SpeculativeReadingLemmas.{IsReadSpeculatively-by_fields, ahead_of, opening-of_piece}
+use Rattle.vme_bind.proofs.SpeculativeReadingLemmas.{slots-of_piece, speculative_of}
 use Rattle.vme_bind.proofs.speculative_reader.SpeculativeReader.read_ahead.Goals as goal
 
 pub invariant_of-ahead : goal.invariant_of-ahead
@@ -30,14 +31,15 @@ invariant_of-ahead g c =
     c.with_visitor-builder.ensures.visitor in
     let made : IsReadDetached builder_change builder_instant r.nets c.args.piece.now c.new-builder.result.made
     (detached_with a.progress.accumulator.made a) =
-    made-read r.nets c.args.piece.now c.new-builder.result a is in (
+    IsReadDetached-made r.nets c.args.piece.now c.new-builder.result a is in (
       ap (λ (p : RecorderLevels). p.now.slots) (sym c.into_parts-recorder.ensures.progress
           ∙ ap (λ (m : SpeculativeBuilderState). m.made.progress) c.with_visitor-builder.ensures.visitor)
-          ∙ slots-are r.nets c.args.piece.now c.new-builder.result.made (detached_with a.progress.accumulator.made a)
+          ∙ slots-of_piece r.nets c.args.piece.now c.new-builder.result.made
+          (detached_with a.progress.accumulator.made a)
           made
           ∙ ap (λ (m : BuilderState). m.progress.now.slots) c.new-builder.ensures.made
           ∙ ap (λ (p : RecorderLevels). p.now.slots) c.new.ensures,
-      λ l on. assigned-lines r.nets c.args.piece.now c.new-builder.result a is c.args.from.now.slots lines
+      λ l on. IsLine-assigned_in_piece r.nets c.args.piece.now c.new-builder.result a is c.args.from.now.slots lines
           c.new-builder.ensures.assigned l (ap (λ (assigned : List Bool). is_assigned assigned l) (sym assigned) ∙ on),
     )
 
@@ -50,8 +52,8 @@ returns-clause-opening g c =
     = c.in_ok-detached.ensures.read in
     ap (λ (t : Trace). t.opening) (sym c.into_parts-recorder.ensures.recorded
     ∙ ap (λ (m : SpeculativeBuilderState). m.made.recorded) c.with_visitor-builder.ensures.visitor)
-    ∙ opening-kept r.nets c.args.piece.now c.new-builder.result.made (detached_with a.progress.accumulator.made a)
-    (made-read r.nets c.args.piece.now c.new-builder.result a is)
+    ∙ opening-of_piece r.nets c.args.piece.now c.new-builder.result.made (detached_with a.progress.accumulator.made a)
+    (IsReadDetached-made r.nets c.args.piece.now c.new-builder.result a is)
     ∙ ap (λ (m : BuilderState). m.recorded.opening) c.new-builder.ensures.made
 
 pub returns-clause-read : goal.returns-clause-read
@@ -76,15 +78,15 @@ returns-clause-read g c =
     let view : c.args.self.now ≡ speculative_of inside.fault inside.line_bits inside.recorder r = search rules in
     subst (λ (w : SpeculativeReached). IsReadSpeculatively w.body.nets w.line_bits c.args.piece.now t
     (ahead_of from q u assigned)) (sym view)
-    (ahead-read r.nets inside.line_bits c.args.piece.now from first c.new-builder.result.made
+    (IsReadSpeculatively-by_fields r.nets inside.line_bits c.args.piece.now from first c.new-builder.result.made
     (detached_with a.progress.accumulator.made a) begun c.requires.none
-    (made-read r.nets c.args.piece.now c.new-builder.result
+    (IsReadDetached-made r.nets c.args.piece.now c.new-builder.result
     a is) u q t
     c.with_visitor-builder.ensures.detached progress
     (sym c.into_parts-recorder.ensures.recorded ∙ ap (λ (m : SpeculativeBuilderState). m.made.recorded)
     c.with_visitor-builder.ensures.visitor)
     assigned
-    (assigned-leads r.nets c.args.piece.now c.new-builder.result a is (ahead_of from q u assigned) inside.line_bits
+    (LeadTo-assigned r.nets c.args.piece.now c.new-builder.result a is (ahead_of from q u assigned) inside.line_bits
     (ap (λ (m : BuilderState). length m.progress.now.levels) begun ∙ c.requires.levels) c.new-builder.ensures.assigned
     (ap (λ (m : BuilderState). m.line_bits) begun)
     (ap (λ (v : ReadDetached (Unit {0})). v.first_line) c.with_visitor-builder.ensures.detached)
