@@ -1,4 +1,4 @@
--- The binding of a text, from its statements.
+-- The binding that a text says, from its first statement, the statements after it, and the lines that it leaves out.
 use Rattle.std.proofs.Common.{◌≡◌, ℕ, List, [], ◌∷◌, Some, None, Result, Ok, Err, refl, sym, ap, ◌∙◌}
 use Rattle.std.specs.Result.{IsErrAnd}
 use Rattle.vcd_read.specs.Header.{◌>>=◌}
@@ -11,77 +11,87 @@ use Rattle.vme_bind.specs.Binding.{BoundLines, slots_stated, bound, bound_all, a
 use Rattle.vme_bind.specs.Binding.{unless_unbound, no_assignments, with_left_out, binding_from, binding_of}
 
 -- a fault of `r` is the fault of `r` and what follows it
-fails_then : {X Y : Type 0} (line : ℕ) (kind : BindFaultKind) (r : Result X BindFault) (next : X → Result Y BindFault)
+BindFailsAs-then : {X Y : Type 0} (line : ℕ) (kind : BindFaultKind) (r : Result X BindFault)
+    (next : X → Result Y BindFault)
     → BindFailsAs line kind r → BindFailsAs line kind (r >>= next)
-fails_then line Memory r next h = h
-fails_then {X = X} {Y = Y} line kind r next h = ap (λ (r : Result X BindFault). r >>= next) h
+BindFailsAs-then line Memory r next h = h
+BindFailsAs-then {X = X} {Y = Y} line kind r next h = ap (λ (r : Result X BindFault). r >>= next) h
 
 -- a fault of the first part is the fault of the whole
-pub fails_first : {X Y : Type 0} (fault : BindFault) (r : Result X BindFault) (next : X → Result Y BindFault)
+pub BindFails-first : {X Y : Type 0} (fault : BindFault) (r : Result X BindFault) (next : X → Result Y BindFault)
     (whole : Result Y BindFault) → whole ≡ (r >>= next) → BindFails fault r → BindFails fault whole
-fails_first fault r next whole e h = rw e (fails_then fault.line fault.kind r next h)
+BindFails-first fault r next whole e h = rw e (BindFailsAs-then fault.line fault.kind r next h)
 
 -- the answer of a `?` that returns a fault of the whole
-pub gives_err : {X Y : Type 0} (view : X → Y) (r : Result X BindFault) (fault : BindFault) (whole : Result Y BindFault)
+pub BindGives-err : {X Y : Type 0} (view : X → Y) (r : Result X BindFault) (fault : BindFault)
+    (whole : Result Y BindFault)
     → IsErrAnd r (λ e. e ≡ fault) → BindFails fault whole → BindGives view r whole
-gives_err view (Ok x) fault whole is h = absurd is
-gives_err view (Err e) fault whole is h = rw is h
+BindGives-err view (Ok x) fault whole is h = absurd is
+BindGives-err view (Err e) fault whole is h = rw is h
 
-pub bound_more : (b : BoundLines) (s : StatementText) (ss : List StatementText) → bound_all b (s ∷ ss)
+-- the statements after the first are bound after it
+pub bound_all-statement : (b : BoundLines) (s : StatementText) (ss : List StatementText) → bound_all b (s ∷ ss)
     ≡ (at_line s.line (bound b s) >>= λ next. bound_all next ss)
 unfolding bound_all
-bound_more b s ss = refl
+bound_all-statement b s ss = refl
 
-pub bound_end : (b : BoundLines) → bound_all b [] ≡ Ok b
+-- without statements the binding stays as it is
+pub bound_all-end : (b : BoundLines) → bound_all b [] ≡ Ok b
 unfolding bound_all
-bound_end b = refl
+bound_all-end b = refl
 
 -- the fault of a text without statements is `SlotsFirst` on its last line
-pub says_nothing : (text : List ℕ) (line : ℕ) → statements_of text ≡ [] → line ≡ end_line text → binding_of text
+pub binding_of-no_statement : (text : List ℕ) (line : ℕ) → statements_of text ≡ [] → line ≡ end_line text
+    → binding_of text
     ≡ Err (record { line = line; kind = SlotsFirst })
 unfolding binding_of
-says_nothing text line e h = rw (e, ← h) refl
+binding_of-no_statement text line e h = rw (e, ← h) refl
 
+-- the binding of the whole text, from the result of binding its statements
 abbrev pub rest_bound : List ℕ → Result BoundLines BindFault → Result BoundLines BindFault
 rest_bound text r = r >>= finished (end_line text)
 
 -- the binding of a text, by its first statement and the others
-binding_by_slots : (text : List ℕ) (s : StatementText) (ss : List StatementText) → statements_of text ≡ s ∷ ss
+binding_of-statements : (text : List ℕ) (s : StatementText) (ss : List StatementText) → statements_of text ≡ s ∷ ss
     → binding_of text ≡ (at_line s.line (slots_stated s.first s.others) >>= λ slots. bound_all (no_assignments slots) ss
     >>= finished (end_line text))
 unfolding binding_of
-binding_by_slots text s ss e = ap (binding_from (end_line text)) e
+binding_of-statements text s ss e = ap (binding_from (end_line text)) e
 
 -- where the first statement isn't `slots N`, the fault is `SlotsFirst` on its line
-pub no_slots : (text : List ℕ) (s : StatementText) (ss : List StatementText) → statements_of text ≡ s ∷ ss
+pub binding_of-no_slots : (text : List ℕ) (s : StatementText) (ss : List StatementText) → statements_of text ≡ s ∷ ss
     → slots_stated s.first s.others
     ≡ Err SlotsFirst → binding_of text ≡ Err (record { line = s.line; kind = SlotsFirst })
-no_slots text s ss e h = binding_by_slots text s ss e ∙ rw h refl
+binding_of-no_slots text s ss e h = binding_of-statements text s ss e ∙ rw h refl
 
 -- where the first statement is `slots N`, the binding is that of the other statements
-pub some_slots : (text : List ℕ) (s : StatementText) (ss : List StatementText) (slots : ℕ) → statements_of text ≡ s ∷ ss
+pub binding_of-slots : (text : List ℕ) (s : StatementText) (ss : List StatementText) (slots : ℕ) → statements_of text
+    ≡ s ∷ ss
     → slots_stated s.first s.others ≡ Ok slots
     → binding_of text ≡ (bound_all (no_assignments slots) ss >>= finished (end_line text))
-some_slots text s ss slots e h = binding_by_slots text s ss e ∙ rw h refl
+binding_of-slots text s ss slots e h = binding_of-statements text s ss e ∙ rw h refl
 
 -- where each line is bound at the end, the result is the binding with what was left out
-pub finished-is : (line : ℕ) (r : Result BoundLines BindFault) (b whole : BoundLines) → r ≡ Ok b → whole
+pub finished-all_bound : (line : ℕ) (r : Result BoundLines BindFault) (b whole : BoundLines) → r ≡ Ok b → whole
     ≡ with_left_out line b → None ≡ least_unbound whole → (r >>= finished line) ≡ Ok whole
-finished-is line r b whole e w h = ap (λ (r : Result BoundLines BindFault). r >>= finished line) e ∙ ap (all_bound line)
+finished-all_bound line r b whole e w h = ap (λ (r : Result BoundLines BindFault). r >>= finished line) e
+    ∙ ap (all_bound line)
     (sym w) ∙ ap (unless_unbound line whole) (sym h)
 
 -- where the line `l` is the least unbound one at the end, the fault is `Unbound l` on the last line
-pub unbound_fails : (line last : ℕ) (r : Result BoundLines BindFault) (b whole : BoundLines) (l : ℕ) → r ≡ Ok b → whole
+pub finished-unbound : (line last : ℕ) (r : Result BoundLines BindFault) (b whole : BoundLines) (l : ℕ) → r ≡ Ok b
+    → whole
     ≡ with_left_out line b → Some l ≡ least_unbound whole → last ≡ line
     → (r >>= finished line) ≡ Err (record { line = last; kind = Unbound l })
-unbound_fails line last r b whole l e w h k =
+finished-unbound line last r b whole l e w h k =
     ap (λ (r : Result BoundLines BindFault). r >>= finished line) e ∙ ap (all_bound line) (sym w)
     ∙ ap (unless_unbound line whole) (sym h)
     ∙ ap (λ (n : ℕ). Err (record { line = n; kind = Unbound l })) (sym k)
 
 -- one statement more is bound
-pub bound_step : (b next : BoundLines) (s : StatementText) (ss : List StatementText) → at_line s.line (bound b s)
+pub bound_all-step : (b next : BoundLines) (s : StatementText) (ss : List StatementText) → at_line s.line (bound b s)
     ≡ Ok next
     → bound_all b (s ∷ ss) ≡ bound_all next ss
-bound_step b next s ss h = bound_more b s ss ∙ ap (λ (r : Result BoundLines BindFault). r >>= λ next. bound_all next ss)
+bound_all-step b next s ss h =
+    bound_all-statement b s ss ∙ ap (λ (r : Result BoundLines BindFault). r >>= λ next. bound_all next ss)
     h

@@ -1,4 +1,5 @@
--- How the bound groups of a binding are found, one after the other.
+-- The bound groups of a binding, found one after the other: each assignment adds one, from the only candidate among the
+-- variables.
 use Rattle.std.proofs.Common.{◌≡◌, ℕ, ◌+◌, ◌<◌, Bool, true, false, cond, ◌&&◌, ◌≤◌, List, [], ◌∷◌, ◌++◌, length, get_or}
 use Rattle.std.proofs.Common.{drop, Option, Some, None, Result, Ok, Err, refl, sym, ap, ◌∙◌, arith, add-one}
 use Rattle.std.proofs.Common.{append_assoc}
@@ -18,9 +19,9 @@ use Rattle.vme_bind.specs.declared.bound_groups.BoundGroup.{BoundGroup}
 use Rattle.vme_bind.specs.BoundGroups.{candidate, only, same_bits, bound_group_in, bound_groups_in}
 
 -- the rest of a list from place `i` on is element `i` and the rest after it
-pub from_place : {X : Type 0} (xs : List X) (i : ℕ) (x : X) → i < length xs → x ≡ get_or xs i x → drop i xs ≡ x
+pub drop-element : {X : Type 0} (xs : List X) (i : ℕ) (x : X) → i < length xs → x ≡ get_or xs i x → drop i xs ≡ x
     ∷ drop (i + 1) xs
-from_place xs i x lt e = rw add-one (drop-cons xs i x lt) ∙ ap (λ y. y ∷ drop (i + 1) xs) (sym e)
+drop-element xs i x lt e = rw add-one (drop-cons xs i x lt) ∙ ap (λ y. y ∷ drop (i + 1) xs) (sym e)
 
 -- the only candidate among those in the list and the one found before, if there is one
 abbrev pub only_from : Option BitRange → List BitRange → Result BitRange BindFaultKind
@@ -34,13 +35,13 @@ only_with None (Some bits) others = only_from (Some bits) others
 only_with (Some bits) (Some next) others = cond (same_bits bits next) (only_from (Some bits) others) (Err AmbiguousPath)
 
 -- one variable more, whose candidate is `next`
-with_next : (found next : Option BitRange) (named : VariableSelector) (v : Variable) (vs : List Variable)
+only_from-next : (found next : Option BitRange) (named : VariableSelector) (v : Variable) (vs : List Variable)
     → candidate named v ≡ next
     → only_from found (filter_map (candidate named) (v ∷ vs)) ≡ only_with found next (filter_map (candidate named) vs)
-with_next None None named v vs e = rw e refl
-with_next None (Some bits) named v vs e = rw e refl
-with_next (Some bits) None named v vs e = rw e refl
-with_next (Some bits) (Some next) named v vs e = rw e (by_same (same_bits bits next))
+only_from-next None None named v vs e = rw e refl
+only_from-next None (Some bits) named v vs e = rw e refl
+only_from-next (Some bits) None named v vs e = rw e refl
+only_from-next (Some bits) (Some next) named v vs e = rw e (by_same (same_bits bits next))
   where
     by_same : (b : Bool) → cond (b && list_all (same_bits bits) (filter_map (candidate named) vs)) (Ok bits)
         (Err AmbiguousPath) ≡ cond b (cond (list_all (same_bits bits) (filter_map (candidate named) vs)) (Ok bits)
@@ -49,18 +50,19 @@ with_next (Some bits) (Some next) named v vs e = rw e (by_same (same_bits bits n
     by_same false = refl
 
 -- the candidate of variable `i` is added to what was found before it
-pub only-step : (found next : Option BitRange) (named : VariableSelector) (vs : List Variable) (i : ℕ) (v : Variable)
+pub only_from-candidate : (found next : Option BitRange) (named : VariableSelector) (vs : List Variable) (i : ℕ)
+    (v : Variable)
     → i < length vs → v ≡ get_or vs i v → next ≡ candidate named v
     → only_from found (filter_map (candidate named) (drop i vs)) ≡ only_with found next
     (filter_map (candidate named) (drop (i + 1) vs))
-only-step found next named vs i v lt e is =
-    ap (λ (rest : List Variable). only_from found (filter_map (candidate named) rest)) (from_place vs i v lt e)
-    ∙ with_next found next named v (drop (i + 1) vs) (sym is)
+only_from-candidate found next named vs i v lt e is =
+    ap (λ (rest : List Variable). only_from found (filter_map (candidate named) rest)) (drop-element vs i v lt e)
+    ∙ only_from-next found next named v (drop (i + 1) vs) (sym is)
 
 -- after the last variable, the result is that of what was found
-pub only-end : (found : Option BitRange) (named : VariableSelector) (vs : List Variable) (i : ℕ) → length vs ≡ i
+pub only_from-all : (found : Option BitRange) (named : VariableSelector) (vs : List Variable) (i : ℕ) → length vs ≡ i
     → only_from found (filter_map (candidate named) (drop i vs)) ≡ only_from found []
-only-end found named vs i e = ap (λ (rest : List Variable). only_from found (filter_map (candidate named) rest))
+only_from-all found named vs i e = ap (λ (rest : List Variable). only_from found (filter_map (candidate named) rest))
     (drop_of_length-le vs (omega (arith, e)))
 
 -- the bound groups so far, followed by those that are still to be found
@@ -68,19 +70,22 @@ abbrev pub after_bound_groups : List BoundGroup → Result (List BoundGroup) Bin
     BindFault
 after_bound_groups bound_groups rest = rest >>= λ others. Ok (bound_groups ++ others)
 
-one_more : (bound_groups : List BoundGroup) (bound_group : BoundGroup) (rest : Result (List BoundGroup) BindFault)
+-- a bound group before those still to be found may be the last of those so far
+after_bound_groups-append : (bound_groups : List BoundGroup) (bound_group : BoundGroup)
+    (rest : Result (List BoundGroup) BindFault)
     → after_bound_groups bound_groups (rest >>= λ others. Ok (bound_group ∷ others)) ≡ after_bound_groups
     (bound_groups ++ bound_group ∷ []) rest
-one_more bound_groups bound_group (Ok others) = ap Ok (sym (append_assoc bound_groups (bound_group ∷ []) others))
-one_more bound_groups bound_group (Err fault) = refl
+after_bound_groups-append bound_groups bound_group (Ok others) =
+    ap Ok (sym (append_assoc bound_groups (bound_group ∷ []) others))
+after_bound_groups-append bound_groups bound_group (Err fault) = refl
 
 -- where the next bound group is `r`, it is added to those so far
-pub push_in : (bound_groups : List BoundGroup) (r : Result BoundGroup BindFault)
+pub after_bound_groups-next : (bound_groups : List BoundGroup) (r : Result BoundGroup BindFault)
     (rest : Result (List BoundGroup) BindFault)
     → after_bound_groups bound_groups (r >>= λ bound_group. rest >>= λ others. Ok (bound_group ∷ others))
     ≡ (r >>= λ bound_group. after_bound_groups (bound_groups ++ bound_group ∷ []) rest)
-push_in bound_groups (Ok bound_group) rest = one_more bound_groups bound_group rest
-push_in bound_groups (Err fault) rest = refl
+after_bound_groups-next bound_groups (Ok bound_group) rest = after_bound_groups-append bound_groups bound_group rest
+after_bound_groups-next bound_groups (Err fault) rest = refl
 
 -- the bound group of assignment `i` is the next
 pub bound_groups-first : (bound_groups : List BoundGroup) (variables : List Variable) (as' : List Assignment) (i : ℕ)
@@ -91,8 +96,8 @@ pub bound_groups-first : (bound_groups : List BoundGroup) (variables : List Vari
 unfolding bound_groups_in
 bound_groups-first bound_groups variables as' i a lt e =
     ap (λ (rest : List Assignment). after_bound_groups bound_groups (bound_groups_in variables rest))
-    (from_place as' i a lt e)
-    ∙ push_in bound_groups (bound_group_in variables a) (bound_groups_in variables (drop (i + 1) as'))
+    (drop-element as' i a lt e)
+    ∙ after_bound_groups-next bound_groups (bound_group_in variables a) (bound_groups_in variables (drop (i + 1) as'))
 
 -- where assignment `i` has a bound group, it is added to those so far
 pub bound_groups-step : (bound_groups : List BoundGroup) (variables : List Variable) (as' : List Assignment) (i : ℕ)

@@ -1,4 +1,4 @@
--- The result of a dump that is read as its text comes, piece by piece.
+-- Feeding the text of a dump to a reader piece by piece gives the result of the whole text, or its first fault.
 use Rattle.std.proofs.Common.{◌≡◌, ℕ, false, List, [], ◌++◌, Result, Err, sym, ap, ◌∙◌, append-nil}
 use Rattle.vme_trace.specs.Trace.{Trace}
 use Rattle.vcd_read.specs.Header.{◌>>=◌}
@@ -19,59 +19,66 @@ use Rattle.vme_bind.specs.TextPieces.{TextReached, outcome, outcome_ahead}
 use Rattle.vme_bind.specs.Wants.{is_want}
 
 -- no token of a text lies across the end of its prefix `front`
-abbrev EndsThere : List ℕ → Type 0
-EndsThere front = (line : ℕ) (rest : List ℕ) → tokens_from line (front ++ rest) ≡ tokens_from line front
+abbrev IsCutBetweenTokens : List ℕ → Type 0
+IsCutBetweenTokens front = (line : ℕ) (rest : List ℕ) → tokens_from line (front ++ rest) ≡ tokens_from line front
     ++ tokens_from (line_behind line front) rest
 
 module _ (t : TextReached) where
   -- the result for the tokens `ts`
-  abbrev comes_of : List Token → Result Trace CaptureFault
-  comes_of ts = outcome t.fault (steps builder_change builder_instant t.body.nets
+  abbrev outcome_of_tokens : List Token → Result Trace CaptureFault
+  outcome_of_tokens ts = outcome t.fault (steps builder_change builder_instant t.body.nets
       (state_at t.body.progress t.body.dump_section)
       (body_from t.body.place ts) >>= at_end builder_instant)
 
-  ahead-later : (more : List Token) → outcome_ahead t [] more ≡ outcome_ahead t more []
-  ahead-later more = ap comes_of (sym (append-nil more))
+  -- tokens that are still to come may be read at once
+  outcome_ahead-later : (more : List Token) → outcome_ahead t [] more ≡ outcome_ahead t more []
+  outcome_ahead-later more = ap outcome_of_tokens (sym (append-nil more))
 
-  ahead-parts : (ts front more : List Token) → ts ≡ front ++ more → outcome_ahead t ts [] ≡ outcome_ahead t front more
-  ahead-parts ts front more e = ap comes_of (append-nil ts ∙ e)
+  -- tokens may be read in two parts
+  outcome_ahead-parts : (ts front more : List Token) → ts ≡ front ++ more → outcome_ahead t ts []
+      ≡ outcome_ahead t front more
+  outcome_ahead-parts ts front more e = ap outcome_of_tokens (append-nil ts ∙ e)
 
-  ahead-from : (line line2 : ℕ) (rest : List ℕ) → line2 ≡ line → outcome_ahead t [] (tokens_from line rest)
+  -- the rest of a text may be read at once, from its line on
+  outcome_ahead-line : (line line2 : ℕ) (rest : List ℕ) → line2 ≡ line → outcome_ahead t [] (tokens_from line rest)
       ≡ outcome_ahead t (tokens_from line2 rest) []
-  ahead-from line line2 rest e = ahead-later (tokens_from line rest)
+  outcome_ahead-line line line2 rest e = outcome_ahead-later (tokens_from line rest)
       ∙ ap (λ (l : ℕ). outcome_ahead t (tokens_from l rest) []) (sym e)
 
   -- where the prefix `front` begins the body, the result for the text is that for the rest
-  pub begun-on : (b : BoundLines) (front : List ℕ) (line : ℕ) → line ≡ line_behind 1 front → EndsThere front
+  pub recording_of_text-begun : (b : BoundLines) (front : List ℕ) (line : ℕ) → line ≡ line_behind 1 front
+      → IsCutBetweenTokens front
       → ((whole : List ℕ) (more : List Token) → tokens whole ≡ tokens front ++ more → recording_of_text b whole
       ≡ outcome_ahead t [] more)
       → (rest : List ℕ) → recording_of_text b (front ++ rest) ≡ outcome_ahead t (tokens_from line rest) []
-  begun-on b front line is ends begins rest =
-      begins (front ++ rest) (tokens_from (line_behind 1 front) rest) (ends 1 rest) ∙ ahead-from (line_behind 1 front)
+  recording_of_text-begun b front line is ends begins rest =
+      begins (front ++ rest) (tokens_from (line_behind 1 front) rest) (ends 1 rest)
+      ∙ outcome_ahead-line (line_behind 1 front)
       line rest is
 
 -- where a piece of the body is read, the result for the piece and the rest is that for the rest
-pub read-on : (t t2 : TextReached) (piece : List ℕ) (line line2 : ℕ)
-    → line2 ≡ line_behind line piece → EndsThere piece
+pub outcome_ahead-piece : (t t2 : TextReached) (piece : List ℕ) (line line2 : ℕ)
+    → line2 ≡ line_behind line piece → IsCutBetweenTokens piece
     → ((more : List Token) → outcome_ahead t (tokens_from line piece) more ≡ outcome_ahead t2 [] more)
     → (rest : List ℕ) → outcome_ahead t (tokens_from line (piece ++ rest)) [] ≡ outcome_ahead t2
     (tokens_from line2 rest) []
-read-on t t2 piece line line2 is ends leads rest =
-    ahead-parts t (tokens_from line (piece ++ rest)) (tokens_from line piece) (tokens_from (line_behind line piece)
+outcome_ahead-piece t t2 piece line line2 is ends leads rest =
+    outcome_ahead-parts t (tokens_from line (piece ++ rest)) (tokens_from line piece)
+    (tokens_from (line_behind line piece)
     rest) (ends line rest)
     ∙ leads (tokens_from (line_behind line piece) rest)
-    ∙ ahead-from t2 (line_behind line piece) line2 rest is
+    ∙ outcome_ahead-line t2 (line_behind line piece) line2 rest is
 
 -- a fault that isn't want of memory is the result
-pub fails_by-is : (fault : CaptureFault) (answer : Result Trace CaptureFault) → is_want fault ≡ false
+pub CaptureFailsBy-equal : (fault : CaptureFault) (answer : Result Trace CaptureFault) → is_want fault ≡ false
     → CaptureFailsBy fault answer → answer ≡ Err fault
-fails_by-is (Dump fault) answer not_want fails = by_kind fault.line fault.kind not_want fails
+CaptureFailsBy-equal (Dump fault) answer not_want fails = by_kind fault.line fault.kind not_want fails
   where
     by_kind : (line : ℕ) (kind : FaultKind) → is_want (Dump (record { line = line; kind = kind })) ≡ false
         → DumpFails line kind answer → answer ≡ Err (Dump (record { line = line; kind = kind }))
     by_kind line Memory not_want fails = absurd (cc not_want)
     by_kind line kind not_want fails = fails
-fails_by-is (Binding fault) answer not_want fails = by_kind fault.line fault.kind not_want fails
+CaptureFailsBy-equal (Binding fault) answer not_want fails = by_kind fault.line fault.kind not_want fails
   where
     by_kind : (line : ℕ) (kind : BindFaultKind) → is_want (Binding (record { line = line; kind = kind })) ≡ false
         → BindingFails line kind answer → answer ≡ Err (Binding (record { line = line; kind = kind }))
@@ -79,15 +86,15 @@ fails_by-is (Binding fault) answer not_want fails = by_kind fault.line fault.kin
     by_kind line kind not_want fails = fails
 
 -- a fault that isn't want of memory may be returned where it is the result
-pub is-fails_by : (fault : CaptureFault) (answer : Result Trace CaptureFault) → is_want fault ≡ false
+pub CaptureFailsBy-not_memory : (fault : CaptureFault) (answer : Result Trace CaptureFault) → is_want fault ≡ false
     → answer ≡ Err fault → CaptureFailsBy fault answer
-is-fails_by (Dump fault) answer not_want is = by_kind fault.line fault.kind not_want is
+CaptureFailsBy-not_memory (Dump fault) answer not_want is = by_kind fault.line fault.kind not_want is
   where
     by_kind : (line : ℕ) (kind : FaultKind) → is_want (Dump (record { line = line; kind = kind })) ≡ false → answer
         ≡ Err (Dump (record { line = line; kind = kind })) → DumpFails line kind answer
     by_kind line Memory not_want is = absurd (cc not_want)
     by_kind line kind not_want is = is
-is-fails_by (Binding fault) answer not_want is = by_kind fault.line fault.kind not_want is
+CaptureFailsBy-not_memory (Binding fault) answer not_want is = by_kind fault.line fault.kind not_want is
   where
     by_kind : (line : ℕ) (kind : BindFaultKind) → is_want (Binding (record { line = line; kind = kind })) ≡ false
         → answer
@@ -96,20 +103,21 @@ is-fails_by (Binding fault) answer not_want is = by_kind fault.line fault.kind n
     by_kind line kind not_want is = is
 
 -- a fault of a piece of the body is the result for the text
-pub failed-on : (t : TextReached) (piece : List ℕ) (line : ℕ) (fault : CaptureFault)
-    → EndsThere piece → is_want fault ≡ false
+pub outcome_ahead-piece_fails : (t : TextReached) (piece : List ℕ) (line : ℕ) (fault : CaptureFault)
+    → IsCutBetweenTokens piece → is_want fault ≡ false
     → ((more : List Token) → CaptureFailsBy fault (outcome_ahead t (tokens_from line piece) more))
     → (rest : List ℕ) → outcome_ahead t (tokens_from line (piece ++ rest)) [] ≡ Err fault
-failed-on t piece line fault ends not_want fails rest =
+outcome_ahead-piece_fails t piece line fault ends not_want fails rest =
     let more = tokens_from (line_behind line piece) rest in
-    ahead-parts t (tokens_from line (piece ++ rest)) (tokens_from line piece) more (ends line rest)
-    ∙ fails_by-is fault (outcome_ahead t (tokens_from line piece) more) not_want (fails more)
+    outcome_ahead-parts t (tokens_from line (piece ++ rest)) (tokens_from line piece) more (ends line rest)
+    ∙ CaptureFailsBy-equal fault (outcome_ahead t (tokens_from line piece) more) not_want (fails more)
 
 -- a fault of the prefix `front` is the result for the text
-pub failed-at-front : (b : BoundLines) (front : List ℕ) (fault : CaptureFault) → EndsThere front → is_want fault ≡ false
+pub recording_of_text-front_fails : (b : BoundLines) (front : List ℕ) (fault : CaptureFault) → IsCutBetweenTokens front
+    → is_want fault ≡ false
     → ((whole : List ℕ) (more : List Token) → tokens whole ≡ tokens front ++ more → CaptureFailsBy fault
     (recording_of_text b whole))
     → (rest : List ℕ) → recording_of_text b (front ++ rest) ≡ Err fault
-failed-at-front b front fault ends not_want fails rest =
-    fails_by-is fault (recording_of_text b (front ++ rest)) not_want
+recording_of_text-front_fails b front fault ends not_want fails rest =
+    CaptureFailsBy-equal fault (recording_of_text b (front ++ rest)) not_want
     (fails (front ++ rest) (tokens_from (line_behind 1 front) rest) (ends 1 rest))

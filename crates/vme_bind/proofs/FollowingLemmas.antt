@@ -1,4 +1,5 @@
--- What was recorded before a place is a prefix of the recording.
+-- Reading the rest of a dump after a recording gives what reading it alone gives, with that recording before its steps:
+-- what was recorded before a place is a prefix of the recording.
 use Rattle.std.proofs.Common.{◌≡◌, ℕ, Bool, true, false, cond, List, [], ◌++◌, Result, Ok, Err, refl, sym, ap, ◌∙◌}
 use Rattle.std.proofs.lemmas.List.{append-nil}
 use Rattle.vme_trace.specs.Followed.{with_steps}
@@ -19,11 +20,13 @@ use Rattle.vme_bind.proofs.SpeculativeReadingLemmas.{builder_following, builder_
 use Rattle.vme_bind.proofs.SpeculativeReadingLemmas.{builder_following-instant}
 
 module _ (t : Trace) where
+  -- the fold of a body, after the recording `t`
   abbrev fold_after : BodyFold BuilderState → BodyFold BuilderState
   fold_after p = learned_fold builder_change builder_instant builder_change builder_instant (builder_following t)
       (builder_following-change t)
       (builder_following-instant t) p
 
+  -- the state of reading a body, after the recording `t`
   abbrev state_after : State BuilderState → State BuilderState
   state_after s = learned_state builder_change builder_instant builder_change builder_instant (builder_following t)
       (builder_following-change t)
@@ -31,38 +34,42 @@ module _ (t : Trace) where
 
   -- ---- at the end of a body
 
-  ended-behind : (has_instant : Bool) (m : BuilderState) (time : ℕ)
+  -- the last instant of a body may be ended before or after the recording `t` is put before it
+  builder_following-ended : (has_instant : Bool) (m : BuilderState) (time : ℕ)
       → cond has_instant (builder_instant (builder_following t m) time)
       (builder_following t m)
       ≡ builder_following t (cond has_instant (builder_instant m time) m)
-  ended-behind true m time = sym (builder_following-instant t m time)
-  ended-behind false m time = refl
+  builder_following-ended true m time = sym (builder_following-instant t m time)
+  builder_following-ended false m time = refl
 
-  stood-behind : (p : BodyFold BuilderState) (stood : Result BodyContext VcdFault)
+  -- what is made at the end of a body, if the text may end there, with the recording `t` before
+  builder_following-stood : (p : BodyFold BuilderState) (stood : Result BodyContext VcdFault)
       → (stood >>= λ end. Ok (ended builder_instant (fold_after p)))
       ≡ ((stood >>= λ end. Ok (ended builder_instant p)) >>= λ made. Ok (builder_following t made))
-  stood-behind p (Ok end) = ap Ok (ended-behind p.has_instant p.accumulator p.time)
-  stood-behind p (Err fault) = refl
+  builder_following-stood p (Ok end) = ap Ok (builder_following-ended p.has_instant p.accumulator p.time)
+  builder_following-stood p (Err fault) = refl
 
-  outcome-behind : (read : Result (State BuilderState) VcdFault)
+  -- what is made of the items that were read, at the end of the body, with the recording `t` before
+  at_end-after : (read : Result (State BuilderState) VcdFault)
       → ((read >>= λ end. Ok (state_after end)) >>= at_end builder_instant)
       ≡ ((read >>= at_end builder_instant) >>= λ made. Ok (builder_following t made))
-  outcome-behind (Ok s) = stood-behind s.progress (at_the_end s.context)
-  outcome-behind (Err fault) = refl
+  at_end-after (Ok s) = builder_following-stood s.progress (at_the_end s.context)
+  at_end-after (Err fault) = refl
 
   -- ---- a body
 
-  made-behind : (complete : Trace) (time : ℕ) (made : Result BuilderState VcdFault)
+  -- a reading, from what is made of the body, with the recording `t` before its steps
+  reading_made-after : (complete : Trace) (time : ℕ) (made : Result BuilderState VcdFault)
       → reading_made (with_steps t complete.steps) time (made >>= λ m. Ok (builder_following t m))
       ≡ following t (reading_made complete time made)
-  made-behind complete time (Ok m) = refl
-  made-behind complete time (Err fault) = refl
+  reading_made-after complete time (Ok m) = refl
+  reading_made-after complete time (Err fault) = refl
 
   -- reading items after the recording `t` gives their reading with `t` before its steps
-  items-behind : (nets : List Net) (s : State BuilderState) (items : List BodyItem)
+  reading_until_fault-after : (nets : List Net) (s : State BuilderState) (items : List BodyItem)
       → reading_until_fault (until_fault builder_change builder_instant nets (state_after s) items)
       ≡ following t (reading_until_fault (until_fault builder_change builder_instant nets s items))
-  items-behind nets s items =
+  reading_until_fault-after nets s items =
       let reached : State BuilderState = reached_before builder_change builder_instant nets s items in
       let read : Result (State BuilderState) VcdFault = steps builder_change builder_instant nets s items in
       ap (λ (r : State BuilderState). reading_made r.progress.accumulator.recorded r.progress.time
@@ -79,16 +86,16 @@ module _ (t : Trace) where
       (builder_following-instant t)
       nets s items)
       ∙ ap (reading_made (with_steps t reached.progress.accumulator.recorded.steps) reached.progress.time)
-      (outcome-behind read)
-      ∙ made-behind reached.progress.accumulator.recorded reached.progress.time (read >>= at_end builder_instant)
+      (at_end-after read)
+      ∙ reading_made-after reached.progress.accumulator.recorded reached.progress.time (read >>= at_end builder_instant)
 
   -- the reading of tokens after the recording `t` is that after a recording without steps, with `t` before its steps
-  pub ahead-behind : (w : SpeculativeReached) (opening : Levels) (tokens more : List Token)
+  pub reading_ahead-after : (w : SpeculativeReached) (opening : Levels) (tokens more : List Token)
       → reading_ahead (with_recording t w) tokens more
       ≡ following t (reading_ahead (with_recording (record { opening = opening; steps = [] }) w) tokens more)
-  ahead-behind w opening tokens more =
+  reading_ahead-after w opening tokens more =
       let none : Trace = record { opening = opening; steps = [] } in
       let s : State BuilderState = state_at (with_recording none w).body.progress w.body.dump_section in
       ap (λ (x : List Step). reading_ahead (with_recording (record t { steps = x }) w) tokens more)
       (sym (append-nil t.steps))
-      ∙ items-behind w.body.nets s (body_from w.body.place (tokens ++ more))
+      ∙ reading_until_fault-after w.body.nets s (body_from w.body.place (tokens ++ more))

@@ -1,4 +1,5 @@
--- The lines of each net, one line after the other.
+-- The line bits of each net are those of the lines with a bit of that net as their source, also as one line after the
+-- other is added.
 use Rattle.std.proofs.Common.{◌≡◌, ℕ, ◌+◌, ◌<◌, ◌≤◌, Bool, true, false, cond, List, [], ◌∷◌, ◌++◌, length, map, get_or}
 use Rattle.std.proofs.Common.{drop, take, zero, suc, subst, inl, inr, refl, sym, ap, ◌∙◌, arith, Option, Some, None}
 use Rattle.std.proofs.Common.{eqb, set}
@@ -28,7 +29,7 @@ use Rattle.vme_bind.specs.NetLines.{line_bits_of, line_bits_on, is_on, place_in,
 use Rattle.vme_bind.specs.NetLines.{line_bits_below}
 use Rattle.vme_bind.specs.Recording.{IsLine, AreLines, line_change, valued}
 use Rattle.vme_bind.proofs.RecorderLemmas.{those-yes, those-no}
-use Rattle.vme_bind.proofs.BoundGroupLemmas.{from_place}
+use Rattle.vme_bind.proofs.BoundGroupLemmas.{drop-element}
 use Rattle.vme_bind.proofs.CaptureLemmas.{AreLineBits, changed-append}
 
 -- the lines of a net that has an entry
@@ -61,48 +62,50 @@ pub line_bits_on-set : (nets : List (Vec LineBit)) (net : ℕ) (old new : Vec Li
     → line_bits_on (set nets net new) k
     ≡ cond (eqb k net) (line_bits_on nets net ++ line_bit ∷ []) (line_bits_on nets k)
 unfolding line_bits_on
-line_bits_on-set [] net old new line_bit lt is more k = absurd (omega (arith, lt))
-line_bits_on-set (x ∷ nets) zero old new line_bit lt is more zero =
-    more ∙ ap (λ (v : Vec LineBit). v.items ++ line_bit ∷ []) is
-line_bits_on-set (x ∷ nets) zero old new line_bit lt is more (suc k) = sym
+line_bits_on-set [] net old new line_bit lt is appended k = absurd (omega (arith, lt))
+line_bits_on-set (x ∷ nets) zero old new line_bit lt is appended zero =
+    appended ∙ ap (λ (v : Vec LineBit). v.items ++ line_bit ∷ []) is
+line_bits_on-set (x ∷ nets) zero old new line_bit lt is appended (suc k) = sym
     (cond-false (eqb (suc k) 0) (x.items ++ line_bit ∷ []) (line_bits_on nets k) (eqb-suc-zero k))
-line_bits_on-set (x ∷ nets) (suc net) old new line_bit lt is more zero = sym
+line_bits_on-set (x ∷ nets) (suc net) old new line_bit lt is appended zero = sym
     (cond-false (eqb 0 (suc net)) (line_bits_on nets net ++ line_bit ∷ []) x.items (eqb-zero-suc net))
-line_bits_on-set (x ∷ nets) (suc net) old new line_bit lt is more (suc k) =
-    line_bits_on-set nets net old new line_bit (omega (arith, lt)) is more k
+line_bits_on-set (x ∷ nets) (suc net) old new line_bit lt is appended (suc k) =
+    line_bits_on-set nets net old new line_bit (omega (arith, lt)) is appended k
     ∙ ap (λ (b : Bool). cond b (line_bits_on nets net ++ line_bit ∷ []) (line_bits_on nets k))
     (sym (eqb-suc-suc k net))
 
 -- as `line_bits_on-set`, where `nets` has the lines that `before` has
-pub line_bits_on-more : (before nets : List (Vec LineBit)) (net : ℕ) (old new : Vec LineBit) (line_bit : LineBit)
+pub line_bits_on-set_same : (before nets : List (Vec LineBit)) (net : ℕ) (old new : Vec LineBit) (line_bit : LineBit)
     → ((k : ℕ) → line_bits_on nets k ≡ line_bits_on before k) → net < length nets → old ≡ get_or nets net old
     → new.items ≡ old.items ++ line_bit ∷ [] → (k : ℕ) → line_bits_on (set nets net new) k
     ≡ cond (eqb k net) (line_bits_on before net ++ line_bit ∷ []) (line_bits_on before k)
-line_bits_on-more before nets net old new line_bit same lt is more k =
-    line_bits_on-set nets net old new line_bit lt is more k
+line_bits_on-set_same before nets net old new line_bit same lt is appended k =
+    line_bits_on-set nets net old new line_bit lt is appended k
     ∙ ap (λ (line_bits : List LineBit). cond (eqb k net) (line_bits ++ line_bit ∷ []) (line_bits_on nets k)) (same net)
     ∙ ap (cond (eqb k net) (line_bits_on before net ++ line_bit ∷ [])) (same k)
 
 -- where no net has an entry, no line is added yet
-pub line_bits-first : (line_bits : NetLines) (slots : ℕ) (bound_groups : List BoundGroup) → line_bits.nets.items ≡ []
+pub AreBelow-zero : (line_bits : NetLines) (slots : ℕ) (bound_groups : List BoundGroup) → line_bits.nets.items ≡ []
     → (net : ℕ) → line_bits_of line_bits net ≡ line_bits_below slots bound_groups net 0
 unfolding those line_bits_on
-line_bits-first line_bits slots bound_groups e net = ap (λ (nets : List (Vec LineBit)). line_bits_on nets net) e
+AreBelow-zero line_bits slots bound_groups e net = ap (λ (nets : List (Vec LineBit)). line_bits_on nets net) e
 
 -- a line whose source is a bit of `net` is the last of the net's lines below n + 1
-below-yes : (slots : ℕ) (bound_groups : List BoundGroup) (net n : ℕ) → is_on net (line_source slots bound_groups n)
+line_bits_below-on_net : (slots : ℕ) (bound_groups : List BoundGroup) (net n : ℕ)
+    → is_on net (line_source slots bound_groups n)
     ≡ true → line_bits_below slots bound_groups net (n + 1) ≡ line_bits_below slots bound_groups net n
     ++ line_bit_at slots bound_groups n ∷ []
 unfolding is_line_bit
-below-yes slots bound_groups net n h = ap (map (line_bit_at slots bound_groups))
+line_bits_below-on_net slots bound_groups net n h = ap (map (line_bit_at slots bound_groups))
     (those-yes (is_line_bit slots bound_groups net) n h) ∙ map_push (line_bit_at slots bound_groups)
     (those (is_line_bit slots bound_groups net) 0 n) n
 
 -- a line whose source isn't a bit of `net` is none of the net's lines
-below-no : (slots : ℕ) (bound_groups : List BoundGroup) (net n : ℕ) → is_on net (line_source slots bound_groups n)
+line_bits_below-not_on_net : (slots : ℕ) (bound_groups : List BoundGroup) (net n : ℕ)
+    → is_on net (line_source slots bound_groups n)
     ≡ false → line_bits_below slots bound_groups net (n + 1) ≡ line_bits_below slots bound_groups net n
 unfolding is_line_bit
-below-no slots bound_groups net n h = ap (map (line_bit_at slots bound_groups))
+line_bits_below-not_on_net slots bound_groups net n h = ap (map (line_bit_at slots bound_groups))
     (those-no (is_line_bit slots bound_groups net) n h)
 
 -- each net has its lines below `n`
@@ -111,13 +114,13 @@ AreBelow slots bound_groups line_bits n = (net : ℕ) → line_bits_of line_bits
     net n
 
 -- a line whose source is a bit is added to the lines of the bit's net
-pub line_bits-more : (old new : NetLines) (slots : ℕ) (bound_groups : List BoundGroup) (n : ℕ) (bit : BitPlace)
+pub AreBelow-added : (old new : NetLines) (slots : ℕ) (bound_groups : List BoundGroup) (n : ℕ) (bit : BitPlace)
     (line_bit : LineBit) → Some (AtBit bit) ≡ line_source slots bound_groups n → line_bit
     ≡ record { line = n; place = bit.place }
     → ((k : ℕ) → line_bits_of new k ≡ cond (k == bit.net) (line_bits_of old bit.net ++ line_bit ∷ [])
     (line_bits_of old k))
     → AreBelow slots bound_groups old n → AreBelow slots bound_groups new (n + 1)
-line_bits-more old new slots bound_groups n bit line_bit e is added h net = added net ∙ by_net (net == bit.net) refl
+AreBelow-added old new slots bound_groups n bit line_bit e is added h net = added net ∙ by_net (net == bit.net) refl
   where
     on : is_on net (line_source slots bound_groups n) ≡ (net == bit.net)
     on = ap (is_on net) (sym e)
@@ -131,91 +134,99 @@ line_bits-more old new slots bound_groups n bit line_bit e is added h net = adde
         ap (λ (m : ℕ). line_bits_of old m ++ line_bit ∷ []) (sym (eqb-true net bit.net k))
         ∙ ap (λ (ts : List LineBit). ts ++ line_bit ∷ []) (h net)
         ∙ ap (λ (t : LineBit). line_bits_below slots bound_groups net n ++ t ∷ []) here
-        ∙ sym (below-yes slots bound_groups net n (on ∙ k))
-    by_net false k = h net ∙ sym (below-no slots bound_groups net n (on ∙ k))
+        ∙ sym (line_bits_below-on_net slots bound_groups net n (on ∙ k))
+    by_net false k = h net ∙ sym (line_bits_below-not_on_net slots bound_groups net n (on ∙ k))
 
 -- a line whose source isn't a bit is added to no net
-pub line_bits-same : (line_bits : NetLines) (slots : ℕ) (bound_groups : List BoundGroup) (n : ℕ)
+pub AreBelow-not_added : (line_bits : NetLines) (slots : ℕ) (bound_groups : List BoundGroup) (n : ℕ)
     → ((net : ℕ) → is_on net (line_source slots bound_groups n) ≡ false) → AreBelow slots bound_groups line_bits n
     → AreBelow slots bound_groups line_bits (n + 1)
-line_bits-same line_bits slots bound_groups n none h net = h net ∙ sym (below-no slots bound_groups net n (none net))
+AreBelow-not_added line_bits slots bound_groups n none h net =
+    h net ∙ sym (line_bits_below-not_on_net slots bound_groups net n (none net))
 
-pub on-none : (slots : ℕ) (bound_groups : List BoundGroup) (n : ℕ) → None ≡ line_source slots bound_groups n → (net : ℕ)
+-- a line without a source has no net
+pub is_on-no_source : (slots : ℕ) (bound_groups : List BoundGroup) (n : ℕ) → None ≡ line_source slots bound_groups n
+    → (net : ℕ)
     → is_on net (line_source slots bound_groups n) ≡ false
-on-none slots bound_groups n e net = ap (is_on net) (sym e)
+is_on-no_source slots bound_groups n e net = ap (is_on net) (sym e)
 
-pub on-always : (slots : ℕ) (bound_groups : List BoundGroup) (n : ℕ) (source : LineSource) → Some source
+-- where a source is a bit of no net, so is the line with that source
+pub is_on-source : (slots : ℕ) (bound_groups : List BoundGroup) (n : ℕ) (source : LineSource) → Some source
     ≡ line_source slots bound_groups n → ((net : ℕ) → is_on net (Some source) ≡ false) → (net : ℕ)
     → is_on net (line_source slots bound_groups n) ≡ false
-on-always slots bound_groups n source e h net = ap (is_on net) (sym e) ∙ h net
+is_on-source slots bound_groups n source e h net = ap (is_on net) (sym e) ∙ h net
 
 -- a line with a source exists
-pub source-exists : (slots : ℕ) (bound_groups : List BoundGroup) (l : ℕ) (source : LineSource) → Some source
+pub has_line-source : (slots : ℕ) (bound_groups : List BoundGroup) (l : ℕ) (source : LineSource) → Some source
     ≡ line_source slots bound_groups l → IsTrue (has_line slots l)
-source-exists slots bound_groups l source e = by_has (has_line slots l) refl
+has_line-source slots bound_groups l source e = by_has (has_line slots l) refl
   where
     by_has : (b : Bool) → has_line slots l ≡ b → IsTrue b
     by_has true h = refl
     by_has false h = let none : line_source slots bound_groups l ≡ None = rw h refl in
         absurd (let clash : Some source ≡ None = e ∙ none in cc)
 
-on_some : (slots : ℕ) (bound_groups : List BoundGroup) (net l : ℕ) (source : Option LineSource) → line_source slots
+-- a line whose source is a bit of a net exists
+has_line-is_on : (slots : ℕ) (bound_groups : List BoundGroup) (net l : ℕ) (source : Option LineSource)
+    → line_source slots
     bound_groups l ≡ source → is_on net source ≡ true → IsTrue (has_line slots l)
-on_some slots bound_groups net l None e h = absurd (false≢true h)
-on_some slots bound_groups net l (Some source) e h = source-exists slots bound_groups l source (sym e)
+has_line-is_on slots bound_groups net l None e h = absurd (false≢true h)
+has_line-is_on slots bound_groups net l (Some source) e h = has_line-source slots bound_groups l source (sym e)
 
 -- the lines of a net are lines of the backplane
-below-lines : (slots : ℕ) (bound_groups : List BoundGroup) (net n : ℕ) → n ≤ line_count
+AreLines-below : (slots : ℕ) (bound_groups : List BoundGroup) (net n : ℕ) → n ≤ line_count
     → AreLines slots (line_bits_below slots bound_groups net n)
 unfolding those
-below-lines slots bound_groups net zero le = All-nil (λ (line_bit : LineBit). IsLine slots line_bit.line)
-below-lines slots bound_groups net (suc n) le =
-    let so_far : AreLines slots (line_bits_below slots bound_groups net n) = below-lines slots bound_groups net n
+AreLines-below slots bound_groups net zero le = All-nil (λ (line_bit : LineBit). IsLine slots line_bit.line)
+AreLines-below slots bound_groups net (suc n) le =
+    let so_far : AreLines slots (line_bits_below slots bound_groups net n) = AreLines-below slots bound_groups net n
     (omega (arith, le)) in
-    let more : n + 1 ≡ suc n = omega arith in
-    subst (λ (m : ℕ). AreLines slots (line_bits_below slots bound_groups net m)) more
+    let appended : n + 1 ≡ suc n = omega arith in
+    subst (λ (m : ℕ). AreLines slots (line_bits_below slots bound_groups net m)) appended
     (elim (cases_Bool (is_on net (line_source slots bound_groups n))) [
-      | inl on ↦ subst (AreLines slots) (sym (below-yes slots bound_groups net n on))
+      | inl on ↦ subst (AreLines slots) (sym (line_bits_below-on_net slots bound_groups net n on))
           (All-append (λ (line_bit : LineBit). IsLine slots line_bit.line) (line_bits_below slots bound_groups net n)
           (line_bit_at slots bound_groups n ∷ []) so_far
           (All-cons (λ (line_bit : LineBit). IsLine slots line_bit.line) (line_bit_at slots bound_groups n) []
           (record {
             below = omega (arith, le);
-            exists = on_some slots bound_groups net n
+            exists = has_line-is_on slots bound_groups net n
                 (line_source slots bound_groups n) refl on;
           })
           (All-nil (λ (line_bit : LineBit). IsLine slots line_bit.line))))
-      | inr off ↦ subst (AreLines slots) (sym (below-no slots bound_groups net n off)) so_far
+      | inr off ↦ subst (AreLines slots) (sym (line_bits_below-not_on_net slots bound_groups net n off)) so_far
     ])
 
-pub line_bits-lines : (slots : ℕ) (bound_groups : List BoundGroup) (line_bits : NetLines)
+-- the lines of a net are lines of the backplane, where the line bits are those of some bound groups
+pub AreLines-line_bits : (slots : ℕ) (bound_groups : List BoundGroup) (line_bits : NetLines)
     → AreLineBits slots bound_groups
     line_bits → (net : ℕ) → AreLines slots (line_bits_of line_bits net)
-line_bits-lines slots bound_groups line_bits all net = subst (AreLines slots) (sym (all net))
-    (below-lines slots bound_groups net line_count (omega arith))
+AreLines-line_bits slots bound_groups line_bits all net = subst (AreLines slots) (sym (all net))
+    (AreLines-below slots bound_groups net line_count (omega arith))
 
 -- the levels after the values from `i` on are those after value `i` and then those from `i + 1` on
-pub valued-step : (line_bits : NetLines) (values : List Value) (i : ℕ) (v : Value) (now : Levels) → i < length values
+pub valued-drop : (line_bits : NetLines) (values : List Value) (i : ℕ) (v : Value) (now : Levels) → i < length values
     → v ≡ get_or values i v
     → valued line_bits (drop i values) now ≡ valued line_bits (drop (i + 1) values)
     (changed now (map (line_change v.bits) (line_bits_of line_bits v.net)))
-valued-step line_bits values i v now lt e = ap (λ (vs : List Value). valued line_bits vs now)
-    (from_place values i v lt e)
+valued-drop line_bits values i v now lt e = ap (λ (vs : List Value). valued line_bits vs now)
+    (drop-element values i v lt e)
 
-map-last : (f : LineBit → Change) (xs : List LineBit) (x : LineBit) → map f (xs ++ x ∷ []) ≡ map f xs ++ f x ∷ []
-map-last f [] x = refl
-map-last f (y ∷ xs) x = ap (λ (ys : List Change). f y ∷ ys) (map-last f xs x)
+-- the list `xs` and one element more, mapped by `f`
+map-append_one : (f : LineBit → Change) (xs : List LineBit) (x : LineBit) → map f (xs ++ x ∷ []) ≡ map f xs ++ f x ∷ []
+map-append_one f [] x = refl
+map-append_one f (y ∷ xs) x = ap (λ (ys : List Change). f y ∷ ys) (map-append_one f xs x)
 
 -- the changes of the first `i + 1` line bits are those of the first `i` and that of line bit `i`
-pub line_change-more : (line_bits : List LineBit) (bits : List Bit) (i : ℕ) (line_bit : LineBit) (v : Levels)
+pub changed-take_next : (line_bits : List LineBit) (bits : List Bit) (i : ℕ) (line_bit : LineBit) (v : Levels)
     (level : Level)
     → i < length line_bits → line_bit ≡ get_or line_bits i line_bit → level ≡ level_in line_bit.line line_bit.place bits
     → set_level (changed v (map (line_change bits) (take i line_bits))) line_bit.line level
     ≡ changed v (map (line_change bits) (take (i + 1) line_bits))
-line_change-more line_bits bits i line_bit v level lt e is =
+changed-take_next line_bits bits i line_bit v level lt e is =
     ap (set_level (changed v (map (line_change bits) (take i line_bits))) line_bit.line) is
     ∙ sym (changed-append v (map (line_change bits) (take i line_bits)) (line_change bits line_bit))
-    ∙ ap (changed v) (sym (map-last (line_change bits) (take i line_bits) line_bit))
+    ∙ ap (changed v) (sym (map-append_one (line_change bits) (take i line_bits) line_bit))
     ∙ ap (λ (ts : List LineBit). changed v (map (line_change bits) ts))
     (ap (λ (t : LineBit). take i line_bits ++ t ∷ []) e
     ∙ sym (take_more line_bits i line_bit lt))

@@ -35,7 +35,7 @@ use Rattle.vme_bind.proofs.RecorderLemmas.{level_at-set_same, level_at-set_other
 use Rattle.vme_bind.proofs.CaptureLemmas.{AreLineBits, level_at-levels_after, length-levels_after, slots-levels_after}
 use Rattle.vme_bind.proofs.CaptureLemmas.{valued-levels_after}
 use Rattle.vme_bind.proofs.StepsLemmas.{steps-next_instant, malformed_step-recording}
-use Rattle.vme_bind.proofs.LineBitLemmas.{line_bits-lines}
+use Rattle.vme_bind.proofs.LineBitLemmas.{AreLines-line_bits}
 
 -- ---- the opening
 
@@ -189,7 +189,7 @@ module _ (slots : ℕ) (bound_groups : List BoundGroup) (instants : List Instant
   AreLines-after line_bits all i p is net =
       subst (λ (s : ℕ). AreLines s (line_bits_of line_bits net))
       (sym (ap (λ (q : RecorderLevels). q.now.slots) is ∙ slots-levels_after slots bound_groups instants i))
-      (line_bits-lines slots bound_groups line_bits all net)
+      (AreLines-line_bits slots bound_groups line_bits all net)
 
 -- ---- the whole recording
 

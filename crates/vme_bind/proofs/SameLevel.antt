@@ -1,4 +1,4 @@
--- The comparison of levels by their variants is `same_level`.
+-- The comparison of two levels by their variants, as the source compares them, is `same_level`.
 use Rattle.std.proofs.Common.{◌≡◌, refl}
 use denote.Enum.Bare.{sameb}
 use Rattle.vme_trace.specs.Levels.{same_level}
@@ -6,6 +6,7 @@ use Rattle.vme_trace.specs.contracts.level.Level.{the_type}
 use Rattle.vme_trace.specs.declared.level.Level.{Level}
 use Rattle.vme_trace.specs.declared.level.Level.TheVariants.{Low, High, Unknown}
 
+-- two levels are the same variant exactly if they are the same level
 pub same : (a b : Level) → sameb the_type a b ≡ same_level a b
 same Low Low = refl
 same Low High = refl

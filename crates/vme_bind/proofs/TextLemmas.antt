@@ -1,4 +1,4 @@
--- How a text is cut into lines, and a line into words.
+-- How the text of a binding is cut into lines, and a line into words, where each line feed or blank is found.
 use Rattle.std.proofs.Common.{◌≡◌, ℕ, ◌+◌, ◌-◌, ◌<◌, Bool, not, List, [], ◌∷◌, ◌++◌, length, take, drop}
 use Rattle.std.proofs.Common.{refl, sym, ap, ◌∙◌, arith}
 use Rattle.std.specs.Prelude.{filter, count_by}
@@ -16,22 +16,24 @@ use Rattle.vme_bind.specs.Reading.{with_word}
 abbrev pub bytes_after : List ℕ → ℕ → List ℕ
 bytes_after xs i = take (length xs - (i + 1)) (drop (i + 1) xs)
 
-bytes_after-is : (xs : List ℕ) (i : ℕ) → drop (i + 1) xs ≡ bytes_after xs i
-bytes_after-is xs i = sym (take_rest xs (i + 1))
+-- the bytes after place i are all that are left
+drop-bytes_after : (xs : List ℕ) (i : ℕ) → drop (i + 1) xs ≡ bytes_after xs i
+drop-bytes_after xs i = sym (take_rest xs (i + 1))
 
 -- the parts of `xs`, where the first byte with `p` is at place i
-pub split_at : (p : ℕ → Bool) (xs : List ℕ) (i : ℕ) → NoneBefore (Passes p xs) 0 (length xs) i → Passes p xs i
+pub slice_split-at : (p : ℕ → Bool) (xs : List ℕ) (i : ℕ) → NoneBefore (Passes p xs) 0 (length xs) i → Passes p xs i
     → slice_split p xs ≡ take i xs ∷ slice_split p (bytes_after xs i)
-split_at p xs i first here =
+slice_split-at p xs i first here =
     let place : position_or_len p xs ≡ i = position_or_len_is p xs i 0 (omega (arith, first.high))
     (λ k lt. false_from_ne_true _ (first.before k (omega arith) lt)) (λ _. here) in
     slice_split_first p xs 0 (omega (arith, place, first.high))
     ∙ ap (λ (n : ℕ). take n xs ∷ slice_split p (drop (n + 1) xs)) place
-    ∙ ap (λ (rest : List ℕ). take i xs ∷ slice_split p rest) (bytes_after-is xs i)
+    ∙ ap (λ (rest : List ℕ). take i xs ∷ slice_split p rest) (drop-bytes_after xs i)
 
 -- a list in which no byte has p is one part
-pub split_nowhere : (p : ℕ → Bool) (xs : List ℕ) → Nowhere (Passes p xs) 0 (length xs) → slice_split p xs ≡ xs ∷ []
-split_nowhere p xs none =
+pub slice_split-nowhere : (p : ℕ → Bool) (xs : List ℕ) → Nowhere (Passes p xs) 0 (length xs) → slice_split p xs
+    ≡ xs ∷ []
+slice_split-nowhere p xs none =
     slice_split_none p xs (λ k d lt. false_from_ne_true _ (λ here. none k (omega arith) lt
     (ap p (get_or_default xs k 0 d lt) ∙ here)))
 
@@ -39,90 +41,99 @@ split_nowhere p xs none =
 abbrev pub at_end : List ℕ → List ℕ
 at_end xs = take (length xs - length xs) (drop (length xs) xs)
 
-pub at_end-is : (xs : List ℕ) → at_end xs ≡ []
-at_end-is xs = let none : length xs - length xs ≡ 0 = omega arith in ap (λ (n : ℕ). take n (drop (length xs) xs)) none
+-- there are no bytes after the end
+pub at_end-empty : (xs : List ℕ) → at_end xs ≡ []
+at_end-empty xs = let none : length xs - length xs ≡ 0 =
+    omega arith in ap (λ (n : ℕ). take n (drop (length xs) xs)) none
 
 -- ---- words
 
-word_before : (word : List ℕ) (parts : List (List ℕ)) → filter (λ w. not (is_empty w)) (word ∷ parts)
+-- a word before others is one of them, unless it is empty
+words-with_word : (word : List ℕ) (parts : List (List ℕ)) → filter (λ w. not (is_empty w)) (word ∷ parts)
     ≡ with_word word (filter (λ w. not (is_empty w)) parts)
-word_before [] parts = refl
-word_before (b ∷ word) parts = refl
+words-with_word [] parts = refl
+words-with_word (b ∷ word) parts = refl
 
 -- the words of a line whose first blank is at place i
 pub words-at : (line : List ℕ) (i : ℕ) → NoneBefore (Passes is_blank line) 0 (length line) i → Passes is_blank line i
     → words line ≡ with_word (take i line) (words (bytes_after line i))
 words-at line i first here =
-    ap (λ (parts : List (List ℕ)). filter (λ w. not (is_empty w)) parts) (split_at is_blank line i first here)
-    ∙ word_before (take i line) (slice_split is_blank (bytes_after line i))
+    ap (λ (parts : List (List ℕ)). filter (λ w. not (is_empty w)) parts) (slice_split-at is_blank line i first here)
+    ∙ words-with_word (take i line) (slice_split is_blank (bytes_after line i))
 
 -- the words of a line without a blank
 pub words-nowhere : (line : List ℕ) → Nowhere (Passes is_blank line) 0 (length line) → words line
     ≡ with_word line (words (at_end line))
 words-nowhere line none =
-    ap (λ (parts : List (List ℕ)). filter (λ w. not (is_empty w)) parts) (split_nowhere is_blank line none)
-    ∙ word_before line [] ∙ ap (λ (rest : List ℕ). with_word line (words rest)) (sym (at_end-is line))
+    ap (λ (parts : List (List ℕ)). filter (λ w. not (is_empty w)) parts) (slice_split-nowhere is_blank line none)
+    ∙ words-with_word line [] ∙ ap (λ (rest : List ℕ). with_word line (words rest)) (sym (at_end-empty line))
 
 -- ---- lines
 
-statements-more : (line : ℕ) (part : List ℕ) (parts : List (List ℕ)) → 0 < length parts
+-- the statements of a line that is followed by others
+statements_from-part : (line : ℕ) (part : List ℕ) (parts : List (List ℕ)) → 0 < length parts
     → statements_from line (part ∷ parts)
     ≡ statement_on line (words (without_return part)) ++ statements_from (line + 1) parts
 unfolding statements_from
-statements-more line part [] some = absurd (omega (arith, some))
-statements-more line part (next ∷ parts) some = refl
+statements_from-part line part [] some = absurd (omega (arith, some))
+statements_from-part line part (next ∷ parts) some = refl
 
 -- the statements of a text whose first line feed is at place i
-pub statements-at : (line : ℕ) (rest : List ℕ) (i : ℕ) (part : List ℕ) → part ≡ without_return (take i rest)
+pub statements_from-at : (line : ℕ) (rest : List ℕ) (i : ℕ) (part : List ℕ) → part ≡ without_return (take i rest)
     → NoneBefore (Passes is_feed rest) 0 (length rest) i → Passes is_feed rest i
     → statements_from line (slice_split is_feed rest) ≡ statement_on line (words part) ++ statements_from (line + 1)
     (slice_split is_feed (bytes_after rest i))
-statements-at line rest i part e first here =
-    ap (statements_from line) (split_at is_feed rest i first here)
-    ∙ statements-more line (take i rest) (slice_split is_feed (bytes_after rest i))
+statements_from-at line rest i part e first here =
+    ap (statements_from line) (slice_split-at is_feed rest i first here)
+    ∙ statements_from-part line (take i rest) (slice_split is_feed (bytes_after rest i))
     (omega (arith, length-slice_split is_feed (bytes_after rest i)))
     ∙ ap (λ (w : List ℕ). statement_on line (words w)
     ++ statements_from (line + 1) (slice_split is_feed (bytes_after rest i))) (sym e)
 
 -- the statements of a text without a line feed
-pub statements-nowhere : (line : ℕ) (rest : List ℕ) → Nowhere (Passes is_feed rest) 0 (length rest)
+pub statements_from-nowhere : (line : ℕ) (rest : List ℕ) → Nowhere (Passes is_feed rest) 0 (length rest)
     → statements_from line (slice_split is_feed rest) ≡ statement_on line (words rest) ++ statements_from line
     (slice_split is_feed (at_end rest))
 unfolding statements_from
-statements-nowhere line rest none =
-    ap (statements_from line) (split_nowhere is_feed rest none) ∙ sym (append-nil (statement_on line (words rest)))
+statements_from-nowhere line rest none =
+    ap (statements_from line) (slice_split-nowhere is_feed rest none)
+    ∙ sym (append-nil (statement_on line (words rest)))
     ∙ ap (λ (xs : List ℕ). statement_on line (words rest) ++ statements_from line (slice_split is_feed xs))
-    (sym (at_end-is rest))
+    (sym (at_end-empty rest))
 
-pub statements-none : (line : ℕ) (rest : List ℕ) → length rest ≡ 0
+-- a text without bytes has no statements
+pub statements_from-empty : (line : ℕ) (rest : List ℕ) → length rest ≡ 0
     → statements_from line (slice_split is_feed rest) ≡ []
 unfolding statements_from
-statements-none line [] e = refl
-statements-none line (b ∷ rest) e = absurd (omega (arith, e))
+statements_from-empty line [] e = refl
+statements_from-empty line (b ∷ rest) e = absurd (omega (arith, e))
 
 -- the number of line feeds in a text whose first one is at place i
-pub feeds_at : (rest : List ℕ) (i : ℕ) → NoneBefore (Passes is_feed rest) 0 (length rest) i → Passes is_feed rest i
+pub count_by-feed_at : (rest : List ℕ) (i : ℕ) → NoneBefore (Passes is_feed rest) 0 (length rest) i
+    → Passes is_feed rest i
     → count_by is_feed rest ≡ 1 + count_by is_feed (bytes_after rest i)
-feeds_at rest i first here =
+count_by-feed_at rest i first here =
     omega (
       arith,
-      ap length (split_at is_feed rest i first here),
+      ap length (slice_split-at is_feed rest i first here),
       length-slice_split is_feed rest,
       length-slice_split
           is_feed (bytes_after rest i),
     )
 
-pub feeds_nowhere : (rest : List ℕ) → Nowhere (Passes is_feed rest) 0 (length rest) → count_by is_feed rest
+-- a text without a line feed has as many as nothing
+pub count_by-feed_nowhere : (rest : List ℕ) → Nowhere (Passes is_feed rest) 0 (length rest) → count_by is_feed rest
     ≡ count_by is_feed (at_end rest)
-feeds_nowhere rest none =
+count_by-feed_nowhere rest none =
     omega (
       arith,
-      ap length (split_nowhere is_feed rest none),
+      ap length (slice_split-nowhere is_feed rest none),
       length-slice_split is_feed rest,
       ap (count_by is_feed)
-          (at_end-is rest),
+          (at_end-empty rest),
     )
 
-pub feeds_nothing : (rest : List ℕ) → length rest ≡ 0 → count_by is_feed rest ≡ 0
-feeds_nothing [] e = refl
-feeds_nothing (b ∷ rest) e = absurd (omega (arith, e))
+-- a text without bytes has no line feeds
+pub count_by-feed_empty : (rest : List ℕ) → length rest ≡ 0 → count_by is_feed rest ≡ 0
+count_by-feed_empty [] e = refl
+count_by-feed_empty (b ∷ rest) e = absurd (omega (arith, e))

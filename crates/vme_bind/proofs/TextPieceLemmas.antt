@@ -1,4 +1,5 @@
--- The recording of a dump that is read piece by piece, from the results of the pieces.
+-- The recording of a dump that is read piece by piece: which fault is the result, and that the result begins as that of
+-- the body.
 use Rattle.std.proofs.Common.{◌≡◌, ℕ, false, List, Option, Some, None, Result, Ok, Err, refl, sym, ap, subst, ◌∙◌}
 use Rattle.vme_trace.specs.Trace.{Trace}
 use Rattle.vcd_read.specs.Body.{ready}
@@ -31,67 +32,75 @@ use Rattle.vme_bind.proofs.TextCaptureLemmas.{body_outcome-outcome, recording_re
 use Rattle.vme_bind.proofs.TextCaptureLemmas.{recording_of_text-header_fails}
 
 -- a fault of the dump comes first, whatever the binding has
-dump_fails : (own : Option BindFault) (line : ℕ) (kind : FaultKind) (read : Result (State BuilderState) VcdFault)
-    → ReadFailsAs line kind read → DumpFails line kind (outcome own (read >>= at_end builder_instant))
-dump_fails own line Memory read h = h
-dump_fails None line kind read h =
+outcome-dump_fails : (binding_fault : Option BindFault) (line : ℕ) (kind : FaultKind)
+    (read : Result (State BuilderState) VcdFault)
+    → ReadFailsAs line kind read → DumpFails line kind (outcome binding_fault (read >>= at_end builder_instant))
+outcome-dump_fails binding_fault line Memory read h = h
+outcome-dump_fails None line kind read h =
     ap (λ (r : Result (State BuilderState) VcdFault). outcome None (r >>= at_end builder_instant)) h
-dump_fails (Some fault) line kind read h = ap (λ (r : Result (State BuilderState) VcdFault). outcome (Some fault)
+outcome-dump_fails (Some fault) line kind read h =
+    ap (λ (r : Result (State BuilderState) VcdFault). outcome (Some fault)
     (r >>= at_end builder_instant)) h
 
-same_fails : (line : ℕ) (kind : FaultKind) (a b : Result Trace CaptureFault) → a ≡ b → DumpFails line kind b
+-- where two results are the same, a fault of the one is a fault of the other
+DumpFails-same : (line : ℕ) (kind : FaultKind) (a b : Result Trace CaptureFault) → a ≡ b → DumpFails line kind b
     → DumpFails line kind a
-same_fails line Memory a b e h = h
-same_fails line kind a b e h = e ∙ h
+DumpFails-same line Memory a b e h = h
+DumpFails-same line kind a b e h = e ∙ h
 
 -- a fault of reading is the fault of the result
-pub fails-outcome : (own : Option BindFault) (fault : VcdFault) (before : List Token → Result Trace CaptureFault)
+pub CaptureFailsBy-outcome : (binding_fault : Option BindFault) (fault : VcdFault)
+    (before : List Token → Result Trace CaptureFault)
     (read : List Token → Result (State BuilderState) VcdFault)
-    → ((more : List Token) → before more ≡ outcome own (read more >>= at_end builder_instant))
+    → ((more : List Token) → before more ≡ outcome binding_fault (read more >>= at_end builder_instant))
     → ((more : List Token) → ReadFails fault (read more))
     → (more : List Token) → CaptureFailsBy (Dump fault) (before more)
-fails-outcome own fault before read is fails more = same_fails fault.line fault.kind (before more) _ (is more)
-    (dump_fails own fault.line fault.kind (read more) (fails more))
+CaptureFailsBy-outcome binding_fault fault before read is fails more =
+    DumpFails-same fault.line fault.kind (before more) _ (is more)
+    (outcome-dump_fails binding_fault fault.line fault.kind (read more) (fails more))
 
 -- the result for a body by definition is that from a place at which nothing is read yet
-pub begun-outcome : (own : Option BindFault) (slots : ℕ) (bound_groups : List BoundGroup) (head : Headed)
+pub body_outcome-begun : (binding_fault : Option BindFault) (slots : ℕ) (bound_groups : List BoundGroup) (head : Headed)
     (made : BuilderState)
     (r : Reached BuilderState) (first more : List Token) → IsBegun slots bound_groups made → r.nets ≡ head.nets
     → r.progress ≡ record { accumulator = made; time = 0; has_instant = false } → r.dump_section ≡ None → r.place
     ≡ ready
     → first ≡ head.body
-    → body_outcome own slots bound_groups (going_on head more)
-    ≡ outcome own (rest_of builder_change builder_instant r first more >>= at_end builder_instant)
-begun-outcome own slots bound_groups head made r first more begun nets progress dump_section place body =
+    → body_outcome binding_fault slots bound_groups (going_on head more)
+    ≡ outcome binding_fault (rest_of builder_change builder_instant r first more >>= at_end builder_instant)
+body_outcome-begun binding_fault slots bound_groups head made r first more begun nets progress dump_section place body =
     rw (nets, progress, dump_section, place, body)
-    (body_outcome-outcome slots bound_groups (going_on head more) own made begun)
+    (body_outcome-outcome slots bound_groups (going_on head more) binding_fault made begun)
 
 -- a result that continues `before2` continues `before`, where the two are the same
-pub leads-same : {X Y : Type 0} (view : X → List Token → Result Y CaptureFault) (r : Result X CaptureFault)
+pub TextContinuesAs-same : {X Y : Type 0} (view : X → List Token → Result Y CaptureFault) (r : Result X CaptureFault)
     (before before2 : List Token → Result Y CaptureFault)
     → ((more : List Token) → before more ≡ before2 more) → TextContinuesAs view r before2 → TextContinuesAs view r
     before
-leads-same view (Ok x) before before2 e h = λ more. e more ∙ h more
-leads-same view (Err fault) before before2 e h = λ more. subst (CaptureFailsBy fault) (sym (e more)) (h more)
+TextContinuesAs-same view (Ok x) before before2 e h = λ more. e more ∙ h more
+TextContinuesAs-same view (Err fault) before before2 e h = λ more. subst (CaptureFailsBy fault) (sym (e more)) (h more)
 
 -- ---- a body whose binding fits, and one whose doesn't
 
+-- where the binding fits, the recording of a body is by its bound groups
 pub recording_after-fitting : (b : BoundLines) (h : Headed) (variables : List Variable) (bound_groups : List BoundGroup)
     → bound_groups_in variables b.assignments ≡ Ok bound_groups
     → recording_after b (defined h variables) ≡ body_outcome None b.slots bound_groups h
 recording_after-fitting b h variables bound_groups e =
     recording_read-bound b variables bound_groups (instants_from h.nets h.body) e
 
+-- where the binding has a fault, it is the result, unless the body has one
 pub recording_after-refused : (b : BoundLines) (h : Headed) (variables : List Variable) (bound_groups : List BoundGroup)
-    (own : BindFault) → bound_groups_in variables b.assignments ≡ Err own
-    → recording_after b (defined h variables) ≡ body_outcome (Some own) b.slots bound_groups h
-recording_after-refused b h variables bound_groups own e =
-    recording_read-refused b variables own (instants_from h.nets h.body) e
+    (binding_fault : BindFault) → bound_groups_in variables b.assignments ≡ Err binding_fault
+    → recording_after b (defined h variables) ≡ body_outcome (Some binding_fault) b.slots bound_groups h
+recording_after-refused b h variables bound_groups binding_fault e =
+    recording_read-refused b variables binding_fault (instants_from h.nets h.body) e
 
 -- a fault of the binding that isn't want of memory is the answer
-pub refused-is : {Y : Type 0} (own : BindFault) (answer : Result Y BindFault) → IsOfBinding own → BindFails own answer
-    → answer ≡ Err own
-refused-is own answer other fails = by_kind own.line own.kind other fails
+pub BindFails-not_memory : {Y : Type 0} (binding_fault : BindFault) (answer : Result Y BindFault)
+    → IsOfBinding binding_fault → BindFails binding_fault answer
+    → answer ≡ Err binding_fault
+BindFails-not_memory binding_fault answer other fails = by_kind binding_fault.line binding_fault.kind other fails
   where
     by_kind : (line : ℕ) (kind : BindFaultKind) → (kind ≡ NoMemory → ⊥) → BindFailsAs line kind answer → answer
         ≡ Err (record { line = line; kind = kind })
@@ -99,9 +108,10 @@ refused-is own answer other fails = by_kind own.line own.kind other fails
     by_kind line kind other fails = fails
 
 -- want of memory may be the answer whatever the result is
-pub want-fails_by : {Y Z : Type 0} (own : BindFault) (answer : Result Y BindFault) (assigned : Result Z CaptureFault)
-    → own.kind ≡ NoMemory → BindFails own answer → CaptureFailsBy (Binding own) assigned
-want-fails_by own answer assigned is fails = by_kind own.line own.kind is fails
+pub CaptureFailsBy-memory : {Y Z : Type 0} (binding_fault : BindFault) (answer : Result Y BindFault)
+    (assigned : Result Z CaptureFault)
+    → binding_fault.kind ≡ NoMemory → BindFails binding_fault answer → CaptureFailsBy (Binding binding_fault) assigned
+CaptureFailsBy-memory binding_fault answer assigned is fails = by_kind binding_fault.line binding_fault.kind is fails
   where
     by_kind : (line : ℕ) (kind : BindFaultKind) → kind ≡ NoMemory → BindFailsAs line kind answer
         → BindingFails line kind assigned
@@ -109,10 +119,11 @@ want-fails_by own answer assigned is fails = by_kind own.line own.kind is fails
     by_kind line kind is fails = absurd (cc is)
 
 -- the fault of the binding may be the answer where it is the result
-pub is-fails_by_binding : {Y : Type 0} (own : BindFault) (answer : Result Y CaptureFault) → IsOfBinding own → answer
-    ≡ Err (Binding own)
-    → CaptureFailsBy (Binding own) answer
-is-fails_by_binding own answer other is = by_kind own.line own.kind other is
+pub CaptureFailsBy-binding : {Y : Type 0} (binding_fault : BindFault) (answer : Result Y CaptureFault)
+    → IsOfBinding binding_fault → answer
+    ≡ Err (Binding binding_fault)
+    → CaptureFailsBy (Binding binding_fault) answer
+CaptureFailsBy-binding binding_fault answer other is = by_kind binding_fault.line binding_fault.kind other is
   where
     by_kind : (line : ℕ) (kind : BindFaultKind) → (kind ≡ NoMemory → ⊥) → answer
         ≡ Err (Binding (record { line = line; kind = kind })) → BindingFails line kind answer
@@ -120,23 +131,25 @@ is-fails_by_binding own answer other is = by_kind own.line own.kind other is
     by_kind line kind other is = is
 
 -- a fault at the end of the dump comes before that of the binding
-pub fails-whole : (own : Option BindFault) (fault : VcdFault) (read : Result BuilderState VcdFault)
+pub CaptureFailsBy-at_end : (binding_fault : Option BindFault) (fault : VcdFault) (read : Result BuilderState VcdFault)
     → ReadFails fault read
-    → CaptureFailsBy (Dump fault) (outcome own read)
-fails-whole own fault read fails = by_kind own fault.line fault.kind fails
+    → CaptureFailsBy (Dump fault) (outcome binding_fault read)
+CaptureFailsBy-at_end binding_fault fault read fails = by_kind binding_fault fault.line fault.kind fails
   where
-    by_kind : (own : Option BindFault) (line : ℕ) (kind : FaultKind) → ReadFailsAs line kind read → DumpFails line kind
-        (outcome own read)
-    by_kind own line Memory fails = fails
+    by_kind : (binding_fault : Option BindFault) (line : ℕ) (kind : FaultKind) → ReadFailsAs line kind read
+        → DumpFails line kind
+        (outcome binding_fault read)
+    by_kind binding_fault line Memory fails = fails
     by_kind None line kind fails = ap (outcome None) fails
     by_kind (Some fault) line kind fails = ap (outcome (Some fault)) fails
 
 -- ---- a prefix in which the definitions don't end
 
-pub unfinished-front : (b : BoundLines) (front : List ℕ) (seen : List Searched) (fault : VcdFault)
+-- definitions that don't end in `front` are a fault of the dump `front`
+pub recording_of_text-unfinished : (b : BoundLines) (front : List ℕ) (seen : List Searched) (fault : VcdFault)
     → header_of with_variable front (nothing_declared seen) (tokens front) ≡ Err fault
     → IsMetAtTheEnd fault.kind → recording_of_text b front ≡ Err (Dump fault)
-unfinished-front b front seen fault is met = by_kind fault.line fault.kind is met
+recording_of_text-unfinished b front seen fault is met = by_kind fault.line fault.kind is met
   where
     by_kind : (line : ℕ) (kind : FaultKind) → header_of with_variable front (nothing_declared seen) (tokens front)
         ≡ Err (record { line = line; kind = kind })

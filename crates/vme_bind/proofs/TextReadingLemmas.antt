@@ -1,4 +1,5 @@
--- The result of reading the text of a dump by a binding, from the results of its pieces.
+-- Reading the text of a dump by a binding, piece by piece, gives what the definitions say of the whole text, also where
+-- the text has a fault.
 use Rattle.std.proofs.Common.{◌≡◌, ℕ, ◌-◌, List, [], length, false, Option, None, Result, Ok, Err, refl}
 use Rattle.std.proofs.Common.{sym}
 use Rattle.std.proofs.Common.{ap, ◌∙◌, ◌++◌, arith, subst}
@@ -49,59 +50,62 @@ use Rattle.vme_bind.proofs.TextCaptureLemmas.{HasHeader-searched}
 -- ---- where a body stops
 
 -- readings with the same fault, recording and time are the same
-stopped_as : (fault : VcdFault) (t t2 : Trace) (time time2 : ℕ) → t ≡ t2 → time ≡ time2
+reading_made-same : (fault : VcdFault) (t t2 : Trace) (time time2 : ℕ) → t ≡ t2 → time ≡ time2
     → reading_made t time (Err fault) ≡ reading_made t2 time2 (Err fault)
-stopped_as fault t t2 time time2 e e2 = rw (e, e2) refl
+reading_made-same fault t t2 time time2 e e2 = rw (e, e2) refl
 
 -- where reading a piece stops with a fault, the reading has that fault, and the recording and the time before it
-pub piece_stops : (line : ℕ) (kind : FaultKind) (made : BuilderState) (recorded : Trace) (time : ℕ)
+pub StopsAs-piece : (line : ℕ) (kind : FaultKind) (made : BuilderState) (recorded : Trace) (time : ℕ)
     (read : UntilFault BuilderState)
     → recorded ≡ made.recorded
     → StoppedAs line kind made time read.reached.progress read.outcome
     → StopsAs line kind recorded time (reading_until_fault read)
-piece_stops line Memory made recorded time read e h = h
-piece_stops line kind made recorded time read e h =
+StopsAs-piece line Memory made recorded time read e h = h
+StopsAs-piece line kind made recorded time read e h =
     ap (λ (r : Result (State BuilderState) VcdFault). reading_made read.reached.progress.accumulator.recorded
     read.reached.progress.time (r >>= at_end builder_instant)) h.0
-    ∙ stopped_as (record { line = line; kind = kind }) _ _ _ _ (sym (e ∙ ap (λ (m : BuilderState). m.recorded) h.1))
+    ∙ reading_made-same (record { line = line; kind = kind }) _ _ _ _
+    (sym (e ∙ ap (λ (m : BuilderState). m.recorded) h.1))
     (sym h.2)
 
 -- where no tokens are left, the progress stays
-pub none_ahead : (nets : List Net) (timed : BodyFold BuilderState) (dump_section : Option ℕ) (place : BodyPlace)
+pub reached_before-no_tokens : (nets : List Net) (timed : BodyFold BuilderState) (dump_section : Option ℕ)
+    (place : BodyPlace)
     → (reached_before builder_change builder_instant nets (state_at timed dump_section) (body_from place [])).progress
     ≡ timed
 unfolding reached_before body_from
-none_ahead nets timed dump_section ready = refl
-none_ahead nets timed dump_section (code_of_vector line digits) = refl
-none_ahead nets timed dump_section (code_of_foreign line) = refl
-none_ahead nets timed dump_section (in_comment line) = refl
+reached_before-no_tokens nets timed dump_section ready = refl
+reached_before-no_tokens nets timed dump_section (code_of_vector line digits) = refl
+reached_before-no_tokens nets timed dump_section (code_of_foreign line) = refl
+reached_before-no_tokens nets timed dump_section (in_comment line) = refl
 
 -- a fault at the end of the text is the fault of the reading
-pub end_stops : (line : ℕ) (kind : FaultKind) (made : BuilderState) (recorded : Trace) (time : ℕ)
+pub StopsAs-at_end : (line : ℕ) (kind : FaultKind) (made : BuilderState) (recorded : Trace) (time : ℕ)
     (r : Reached BuilderState) → recorded
     ≡ made.recorded
     → StoppedAs line kind made time r.progress ((rest_until_fault builder_change builder_instant r [] []).outcome
     >>= at_end builder_instant)
     → StopsAs line kind recorded time (reading_until_fault (rest_until_fault builder_change builder_instant r [] []))
-end_stops line Memory made recorded time r e h = h
-end_stops line kind made recorded time r e h =
+StopsAs-at_end line Memory made recorded time r e h = h
+StopsAs-at_end line kind made recorded time r e h =
     let read : UntilFault BuilderState = rest_until_fault builder_change builder_instant r [] [] in
-    let none : read.reached.progress ≡ r.progress = none_ahead r.nets r.progress r.dump_section r.place in
+    let none : read.reached.progress ≡ r.progress = reached_before-no_tokens r.nets r.progress r.dump_section r.place in
     ap (reading_made read.reached.progress.accumulator.recorded read.reached.progress.time) h.0
-    ∙ stopped_as (record { line = line; kind = kind }) _ _ _ _
+    ∙ reading_made-same (record { line = line; kind = kind }) _ _ _ _
     (ap (λ (p : BodyFold BuilderState). p.accumulator.recorded) none ∙ ap (λ (m : BuilderState). m.recorded) (sym h.1)
     ∙ sym e) (ap (λ (p : BodyFold BuilderState). p.time) none ∙ sym h.2)
 
 -- without a fault at the end, the reading is what was recorded
-pub ended_reading : (recorded : Trace) (made : BuilderState) (r : Reached BuilderState) → recorded ≡ made.recorded
+pub reading_until_fault-at_end : (recorded : Trace) (made : BuilderState) (r : Reached BuilderState) → recorded
+    ≡ made.recorded
     → ((rest_until_fault builder_change builder_instant r [] []).outcome >>= at_end builder_instant) ≡ Ok made
     → reading_until_fault (rest_until_fault builder_change builder_instant r [] [])
     ≡ record { recorded = recorded; fault = None; time = r.progress.time }
-ended_reading recorded made r e is =
+reading_until_fault-at_end recorded made r e is =
     let read : UntilFault BuilderState = rest_until_fault builder_change builder_instant r [] [] in
     ap (reading_made read.reached.progress.accumulator.recorded read.reached.progress.time) is
     ∙ ap (λ (p : BodyFold BuilderState). record { recorded = made.recorded; fault = None; time = p.time })
-    (none_ahead r.nets r.progress r.dump_section r.place)
+    (reached_before-no_tokens r.nets r.progress r.dump_section r.place)
     ∙ ap (λ (t : Trace). record { recorded = t; fault = None; time = r.progress.time }) (sym e)
 
 -- ---- a body
@@ -109,18 +113,20 @@ ended_reading recorded made r e is =
 module _ (slots : ℕ) (bound_groups : List BoundGroup) (h : Headed) (m : BuilderState)
     (begun : IsBegun slots bound_groups m)
   where
+    -- the items of the body
     abbrev items : List BodyItem
     items = body_from ready h.body
 
+    -- the items of the body, as they are read up to the first fault
     abbrev read : UntilFault BuilderState
     read = until_fault builder_change builder_instant h.nets (at_first m) items
 
     -- the recording before the first fault
-    recorded_before : (reached_before builder_change builder_instant h.nets (at_first m)
+    recorded-before_fault : (reached_before builder_change builder_instant h.nets (at_first m)
         items).progress.accumulator.recorded
         ≡ recording slots bound_groups (instants_before_fault h.nets h.body)
         (length (instants_before_fault h.nets h.body) - 1)
-    recorded_before =
+    recorded-before_fault =
         let all : List Instant = instants_before_fault h.nets h.body in
         let count = length h.nets in
         let follows = reached-follows builder_change builder_instant h.nets (Makes slots bound_groups count all)
@@ -134,17 +140,20 @@ module _ (slots : ℕ) (bound_groups : List BoundGroup) (h : Headed) (m : Builde
         ∙ ap (λ (n : ℕ). recording slots bound_groups all n) before.2
 
     -- the last time before the first fault
-    time_before : read.reached.progress.time ≡ last_time_before_fault h.nets h.body
-    time_before = reached_time builder_change builder_instant h.nets (at_first m) items
+    time-before_fault : read.reached.progress.time ≡ last_time_before_fault h.nets h.body
+    time-before_fault = reached_time builder_change builder_instant h.nets (at_first m) items
 
+    -- the reading of a body without a fault
     abbrev whole_reading : Trace → ℕ → TextReading
     whole_reading t time = record { recorded = t; fault = None; time = time }
 
-    by_taken : (taken : Result BuilderState VcdFault) → fold_body builder_change builder_instant h.nets m h.body
+    -- the reading of a body, from the result `taken` of reading its items
+    body_reading-by_result : (taken : Result BuilderState VcdFault)
+        → fold_body builder_change builder_instant h.nets m h.body
         ≡ taken
         → body_reading slots bound_groups h
         ≡ reading_made read.reached.progress.accumulator.recorded read.reached.progress.time taken
-    by_taken (Ok end) e =
+    body_reading-by_result (Ok end) e =
         let gives = gives-followed (Ends (IsMadeOf slots bound_groups h)) (instants_from h.nets h.body) _ end
         (builder-follows slots bound_groups h m begun) e in
         let instants : List Instant = gives.0 in
@@ -154,21 +163,22 @@ module _ (slots : ℕ) (bound_groups : List BoundGroup) (h : Headed) (m : Builde
         ∙ ap (λ (xs : List Instant). whole_reading (recording slots bound_groups xs (length instants))
         (last_time_before_fault h.nets h.body)) (sym all)
         ∙ ap (λ (t : Trace). whole_reading t (last_time_before_fault h.nets h.body)) (sym made.recorded)
-        ∙ ap (whole_reading end.recorded) (sym time_before)
-    by_taken (Err fault) e =
+        ∙ ap (whole_reading end.recorded) (sym time-before_fault)
+    body_reading-by_result (Err fault) e =
         ap (reading_by slots bound_groups h)
         (Follows-err slots bound_groups h (instants_from h.nets h.body) _ fault (builder-follows slots bound_groups h m
         begun) e)
-        ∙ stopped_as fault _ _ _ _ (sym recorded_before) (sym time_before)
+        ∙ reading_made-same fault _ _ _ _ (sym recorded-before_fault) (sym time-before_fault)
 
     -- the reading of a body by definition is that by the builder
-    pub body_read : body_reading slots bound_groups h ≡ reading_until_fault read
-    body_read = by_taken (fold_body builder_change builder_instant h.nets m h.body) refl
+    pub body_reading-reading_until_fault : body_reading slots bound_groups h ≡ reading_until_fault read
+    body_reading-reading_until_fault =
+        body_reading-by_result (fold_body builder_change builder_instant h.nets m h.body) refl
 
 -- the recorded steps of a body are well formed
-body_formed : (slots : ℕ) (bound_groups : List BoundGroup) (h : Headed) → malformed_step
+malformed_step-body_reading : (slots : ℕ) (bound_groups : List BoundGroup) (h : Headed) → malformed_step
     (body_reading slots bound_groups h).recorded ≡ None
-body_formed slots bound_groups h = by_instants (instants_from h.nets h.body) refl
+malformed_step-body_reading slots bound_groups h = by_instants (instants_from h.nets h.body) refl
   where
     by_instants : (r : Result (List Instant) VcdFault) → instants_from h.nets h.body ≡ r → malformed_step
         (reading_by slots bound_groups h r).recorded ≡ None
@@ -180,54 +190,59 @@ body_formed slots bound_groups h = by_instants (instants_from h.nets h.body) ref
         (body_from ready h.body))
 
 -- the recorded steps are well formed for any tokens after a place at which nothing is read yet
-pub begun_formed : (slots : ℕ) (bound_groups : List BoundGroup) (made : BuilderState) (r : Reached BuilderState)
+pub malformed_step-begun : (slots : ℕ) (bound_groups : List BoundGroup) (made : BuilderState) (r : Reached BuilderState)
     (tokens more : List Token) → IsBegun slots bound_groups made
     → r.progress ≡ record { accumulator = made; time = 0; has_instant = false } → r.dump_section ≡ None → r.place
     ≡ ready
     → malformed_step (reading_until_fault (rest_until_fault builder_change builder_instant r tokens more)).recorded
     ≡ None
-begun_formed slots bound_groups made r tokens more begun progress dump_section place =
+malformed_step-begun slots bound_groups made r tokens more begun progress dump_section place =
     let h : Headed = record { nets = r.nets; body = tokens ++ more } in
     rw (progress, dump_section, place) (subst (λ (reading : TextReading). malformed_step reading.recorded ≡ None)
-    (body_read slots bound_groups h made begun) (body_formed slots bound_groups h))
+    (body_reading-reading_until_fault slots bound_groups h made begun)
+    (malformed_step-body_reading slots bound_groups h))
 
 -- the reading of a body by definition, or the fault of the binding, is that from a place at which nothing is read yet
-pub begun_reading : (own : Option BindFault) (slots : ℕ) (bound_groups : List BoundGroup) (head : Headed)
+pub or_fault-begun : (binding_fault : Option BindFault) (slots : ℕ) (bound_groups : List BoundGroup) (head : Headed)
     (made : BuilderState)
     (r : Reached BuilderState) (first more : List Token) → IsBegun slots bound_groups made → r.nets ≡ head.nets
     → r.progress ≡ record { accumulator = made; time = 0; has_instant = false } → r.dump_section ≡ None → r.place
     ≡ ready
     → first ≡ head.body
-    → or_fault own (body_reading slots bound_groups (going_on head more))
-    ≡ or_fault own (reading_until_fault (rest_until_fault builder_change builder_instant r first more))
-begun_reading own slots bound_groups head made r first more begun nets progress dump_section place body =
+    → or_fault binding_fault (body_reading slots bound_groups (going_on head more))
+    ≡ or_fault binding_fault (reading_until_fault (rest_until_fault builder_change builder_instant r first more))
+or_fault-begun binding_fault slots bound_groups head made r first more begun nets progress dump_section place body =
     rw (nets, progress, dump_section, place, body)
-    (ap (or_fault own) (body_read slots bound_groups (going_on head more) made begun))
+    (ap (or_fault binding_fault) (body_reading-reading_until_fault slots bound_groups (going_on head more) made begun))
 
 -- ---- a text
 
--- the reading after the definitions where the binding fits, and where it has a fault
-pub reading_fits : (b : BoundLines) (h : Headed) (variables : List Variable) (bound_groups : List BoundGroup)
+-- where the binding fits, the reading after the definitions is that of the body
+pub reading_after-fitting : (b : BoundLines) (h : Headed) (variables : List Variable) (bound_groups : List BoundGroup)
     → bound_groups_in variables b.assignments ≡ Ok bound_groups
     → reading_after b (defined h variables) ≡ or_fault None (body_reading b.slots bound_groups h)
-reading_fits b h variables bound_groups e = ap (λ (r : Result (List BoundGroup) BindFault). or_binding r
+reading_after-fitting b h variables bound_groups e = ap (λ (r : Result (List BoundGroup) BindFault). or_binding r
     >>= λ bound_groups. Ok (body_reading b.slots bound_groups h)) e
 
-pub reading_refused : (b : BoundLines) (h : Headed) (variables : List Variable) (own : BindFault) → bound_groups_in
-    variables b.assignments ≡ Err own
-    → reading_after b (defined h variables) ≡ Err (Binding own)
-reading_refused b h variables own e = ap (λ (r : Result (List BoundGroup) BindFault). or_binding r
+-- where the binding has a fault, the reading after the definitions is that fault
+pub reading_after-refused : (b : BoundLines) (h : Headed) (variables : List Variable) (binding_fault : BindFault)
+    → bound_groups_in
+    variables b.assignments ≡ Err binding_fault
+    → reading_after b (defined h variables) ≡ Err (Binding binding_fault)
+reading_after-refused b h variables binding_fault e = ap (λ (r : Result (List BoundGroup) BindFault). or_binding r
     >>= λ bound_groups. Ok (body_reading b.slots bound_groups h)) e
 
+-- the reading of a text, from the result of reading its definitions
 abbrev read_of : BoundLines → Result (Defined (List Variable)) VcdFault → Result TextReading CaptureFault
 read_of b r = or_dump r >>= reading_after b
 
 -- a fault of the definitions is the fault of the reading
-pub head_fails : (b : BoundLines) (text : List ℕ) (seen : List Searched) (fault : VcdFault) → ReadFails fault
+pub reading_of_text-header_fails : (b : BoundLines) (text : List ℕ) (seen : List Searched) (fault : VcdFault)
+    → ReadFails fault
     (header_of with_variable text (nothing_declared seen) (tokens text)) → CaptureFailsBy (Dump fault)
     (reading_of_text b text)
 unfolding reading_of_text
-head_fails b text seen fault h =
+reading_of_text-header_fails b text seen fault h =
     by_kind fault.line fault.kind
     (ReadFailsAs-before_total fault.line fault.kind (whole_header text) (taken_head with_variable seen)
     (rw (header_taken with_variable text seen) at h))
@@ -238,25 +253,28 @@ head_fails b text seen fault h =
     by_kind line kind e = ap (read_of b) e
 
 -- definitions that don't end in `front` are a fault of the dump `front`
-pub unfinished_reading : (b : BoundLines) (front : List ℕ) (seen : List Searched) (fault : VcdFault)
+pub reading_of_text-unfinished : (b : BoundLines) (front : List ℕ) (seen : List Searched) (fault : VcdFault)
     → header_of with_variable front (nothing_declared seen) (tokens front) ≡ Err fault
     → IsMetAtTheEnd fault.kind → reading_of_text b front ≡ Err (Dump fault)
-unfinished_reading b front seen fault is met = by_kind fault.line fault.kind is met
+reading_of_text-unfinished b front seen fault is met = by_kind fault.line fault.kind is met
   where
     by_kind : (line : ℕ) (kind : FaultKind) → header_of with_variable front (nothing_declared seen) (tokens front)
         ≡ Err (record { line = line; kind = kind })
         → IsMetAtTheEnd kind → reading_of_text b front ≡ Err (Dump (record { line = line; kind = kind }))
-    by_kind line NoEndDefinitions is met = head_fails b front seen (record { line = line; kind = NoEndDefinitions }) is
-    by_kind line UnfinishedSection is met = head_fails b front seen (record { line = line; kind = UnfinishedSection })
+    by_kind line NoEndDefinitions is met =
+        reading_of_text-header_fails b front seen (record { line = line; kind = NoEndDefinitions }) is
+    by_kind line UnfinishedSection is met =
+        reading_of_text-header_fails b front seen (record { line = line; kind = UnfinishedSection })
         is
     by_kind line kind is met = absurd met
 
 -- the reading of a text is that of the body after its definitions
-pub reading_is : (b : BoundLines) (text : List ℕ) (h : Headed) (first seen : List Searched) → header_of with_variable
+pub reading_of_text-after_header : (b : BoundLines) (text : List ℕ) (h : Headed) (first seen : List Searched)
+    → header_of with_variable
     text (nothing_declared first) (tokens text) ≡ Ok (defined h seen)
     → (variables : List Variable) × (seen ≡ fold with_variable first variables)
     × (reading_of_text b text ≡ reading_after b (defined h variables))
 unfolding reading_of_text
-reading_is b text h first seen head =
+reading_of_text-after_header b text h first seen head =
     let whole = HasHeader-searched text h first seen head in
     (whole.0, whole.2, ap (read_of b) whole.1)

@@ -21,7 +21,7 @@ use Rattle.vme_bind.specs.SpeculativeReading.{SpeculativeReached, with_recording
 use Rattle.vme_bind.specs.TextPieces.{TextReached}
 use Rattle.vme_bind.specs.TextReading.{StopsAs, TextReading, following, reading_ahead, reading_made}
 use Rattle.vme_bind.specs.TextReading.{reading_until_fault}
-use Rattle.vme_bind.proofs.TextReadingLemmas.{none_ahead}
+use Rattle.vme_bind.proofs.TextReadingLemmas.{reached_before-no_tokens}
 use Rattle.vme_summary.proofs.Sound.{sound_apart}
 use Rattle.vme_step_reader.specs.StepReading.{StepReading, whole_reading}
 
@@ -161,7 +161,8 @@ pub time-here : (r : StepReading) → (whole_reading r []).time ≡ r.speculativ
 unfolding cut_from
 time-here r =
     made-time _ _ _
-    ∙ ap (λ p. p.time) (none_ahead r.speculative.body.nets (with_recording r.given r.speculative).body.progress
+    ∙ ap (λ p. p.time) (reached_before-no_tokens r.speculative.body.nets
+    (with_recording r.given r.speculative).body.progress
     r.speculative.body.dump_section
     r.speculative.body.place)
 

@@ -5,7 +5,7 @@ use Rattle.vcd_read.specs.Reading.{line_behind}
 use Rattle.vcd_read.specs.Tokens.{Token, tokens_from}
 use Rattle.vme_bind.specs.TextPieces.{TextContinuesAs, TextReached, outcome_ahead}
 use Rattle.vme_bind.specs.declared.fault.CaptureFault.{CaptureFault}
-use Rattle.vme_bind.proofs.TextPieceLemmas.{leads-same}
+use Rattle.vme_bind.proofs.TextPieceLemmas.{TextContinuesAs-same}
 use Rattle.vme_text_workers.specs.Cuts.{ArePiecesOf, IsCutIn, tokens_of}
 use Rattle.vme_text_workers.specs.SpeculativeChunks.{AreTaken}
 use Rattle.vme_text_workers.specs.declared.cut.DumpPiece.{DumpPiece}
@@ -29,7 +29,7 @@ module _ (whole front behind : List ℕ) (cut : IsCutIn whole front behind) (t u
       → TextContinuesAs (λ x. outcome_ahead (reach x) []) r (outcome_ahead u (tokens_from u.body.line behind))
       → TextContinuesAs (λ x. outcome_ahead (reach x) []) r (outcome_ahead t (tokens_from t.body.line whole))
   both-lead reach r leads =
-      leads-same (λ x. outcome_ahead (reach x) []) r (outcome_ahead t (tokens_from t.body.line whole))
+      TextContinuesAs-same (λ x. outcome_ahead (reach x) []) r (outcome_ahead t (tokens_from t.body.line whole))
       (outcome_ahead u (tokens_from u.body.line behind)) front-read leads
 
   pub both-lines : {X : Type 0} (reach : X → TextReached) (r : Result X CaptureFault)
@@ -45,7 +45,7 @@ pub rest-lead : {X : Type 0} (reach : X → TextReached) (r : Result X CaptureFa
     → TextContinuesAs (λ x. outcome_ahead (reach x) []) r (outcome_ahead after (tokens_of after.body.line left))
     → TextContinuesAs (λ x. outcome_ahead (reach x) []) r (outcome_ahead t (tokens_from t.body.line text))
 rest-lead reach r text pieces left t before after is cut taken leads =
-    leads-same (λ x. outcome_ahead (reach x) []) r (outcome_ahead t (tokens_from t.body.line text))
+    TextContinuesAs-same (λ x. outcome_ahead (reach x) []) r (outcome_ahead t (tokens_from t.body.line text))
     (outcome_ahead after (tokens_of after.body.line left))
     (λ more. ap (λ (ts : List Token). outcome_ahead t ts more) (cut.tokens t.body.line)
     ∙ ap (λ (u : TextReached). outcome_ahead u (tokens_of u.body.line pieces) more) (sym is)

@@ -1,26 +1,26 @@
 use Rattle.vcd_read.specs.Reached.{reached}
 use Rattle.vme_bind.specs.BuilderState.{BuilderState}
-use Rattle.vme_bind.proofs.TextPieceLemmas.{begun-outcome}
-use Rattle.vme_bind.proofs.TextReadingLemmas.{begun_formed, begun_reading}
+use Rattle.vme_bind.proofs.TextPieceLemmas.{body_outcome-begun}
+use Rattle.vme_bind.proofs.TextReadingLemmas.{malformed_step-begun, or_fault-begun}
 use Rattle.vme_bind.proofs.text_pieces.begin_bound_groups.Goals as goal
 
 pub returns-in-Ok-clause-rest : goal.returns-in-Ok-clause-rest
 returns-in-Ok-clause-rest g c = λ more.
     let read = c.before_body-pieces.ensures in
-    begun-outcome c.args.fault c.args.lines.now.slots c.args.bound_groups.now c.args.front.head c.in-Ok.made
+    body_outcome-begun c.args.fault c.args.lines.now.slots c.args.bound_groups.now c.args.front.head c.in-Ok.made
     (reached (λ (made : BuilderState). made) c.before_body-pieces.result.0) _ more
     c.in-Ok.ensures read.nets read.progress read.dump_section read.place read.body
 
 pub returns-in-Ok-clause-reading : goal.returns-in-Ok-clause-reading
 returns-in-Ok-clause-reading g c = λ more.
     let read = c.before_body-pieces.ensures in
-    begun_reading c.args.fault c.args.lines.now.slots c.args.bound_groups.now c.args.front.head c.in-Ok.made
+    or_fault-begun c.args.fault c.args.lines.now.slots c.args.bound_groups.now c.args.front.head c.in-Ok.made
     (reached (λ (made : BuilderState). made) c.before_body-pieces.result.0) _ more
     c.in-Ok.ensures read.nets read.progress read.dump_section read.place read.body
 
 pub returns-in-Ok-clause-formed : goal.returns-in-Ok-clause-formed
 returns-in-Ok-clause-formed g c = λ ts more.
     let read = c.before_body-pieces.ensures in
-    begun_formed c.args.lines.now.slots c.args.bound_groups.now c.in-Ok.made
+    malformed_step-begun c.args.lines.now.slots c.args.bound_groups.now c.in-Ok.made
     (reached (λ (made : BuilderState). made) c.before_body-pieces.result.0) ts more
     c.in-Ok.ensures read.progress read.dump_section read.place

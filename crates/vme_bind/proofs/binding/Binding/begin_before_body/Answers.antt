@@ -9,9 +9,10 @@ use Rattle.vme_bind.specs.PathSearch.{Searched, seen_in, unseen, with_variable}
 use Rattle.vme_bind.specs.TextCapture.{CaptureFailsBy}
 use Rattle.vme_bind.specs.declared.fault.CaptureFault.{CaptureFault}
 use Rattle.vme_bind.proofs.TextCaptureLemmas.{recording_of_text-header_fails, recording_of_text-after_header}
-use Rattle.vme_bind.proofs.TextPieceLemmas.{unfinished-front}
+use Rattle.vme_bind.proofs.TextPieceLemmas.{recording_of_text-unfinished}
 use Rattle.vme_bind.specs.TextReading.{TextReading}
-use Rattle.vme_bind.proofs.TextReadingLemmas.{head_fails, reading_is, unfinished_reading}
+use Rattle.vme_bind.proofs.TextReadingLemmas.{reading_of_text-header_fails, reading_of_text-after_header}
+use Rattle.vme_bind.proofs.TextReadingLemmas.{reading_of_text-unfinished}
 use Rattle.vme_bind.proofs.binding.Binding.begin_before_body.Goals as goal
 
 pub returns-in-Ok-begin_body-clause-begins : goal.returns-in-Ok-begin_body-clause-begins
@@ -47,7 +48,7 @@ returns-in-Ok-None-clause-begins g c =
     let first : List Searched = map unseen b.assignments in
     let met = rw (c.in-Ok-None.field-0-is, c.in-Ok.ensures.seen, c.assignments.ensures) at c.in-Ok-None.ensures.header
     in
-    (met.0, unfinished-front b c.args.front.now first met.0 met.1 met.2, met.2)
+    (met.0, recording_of_text-unfinished b c.args.front.now first met.0 met.1 met.2, met.2)
 
 pub returns-clause-begins : goal.returns-clause-begins
 returns-clause-begins g c = λ whole more e.
@@ -69,7 +70,7 @@ returns-in-Ok-begin_body-clause-reading g c = λ whole more e.
     in
     let is = subst (λ (ts : List Token). header_of with_variable whole (nothing_declared first) ts
     ≡ Ok (defined head seen)) (sym e) (found whole more) in
-    let text = reading_is b whole head first seen is in
+    let text = reading_of_text-after_header b whole head first seen is in
     text.2 ∙ c.in-Ok-begin_body.ensures.reading text.0 text.1 more
 
 pub returns-in-Ok-Some-clause-reading : goal.returns-in-Ok-Some-clause-reading
@@ -82,7 +83,7 @@ returns-in-Ok-Some-clause-reading g c = λ whole more e.
     in
     let is = subst (λ (ts : List Token). header_of with_variable whole (nothing_declared first) ts
     ≡ Ok (defined head seen)) (sym e) (found whole more) in
-    let text = reading_is b whole head first seen is in
+    let text = reading_of_text-after_header b whole head first seen is in
     subst (λ (r : Result TextReading CaptureFault). CaptureFailsBy c.in-Err-begin_body.fault r) (sym text.2)
     (c.in-Err-begin_body.ensures.reading text.0 text.1 more)
 
@@ -92,7 +93,7 @@ returns-in-Ok-None-clause-reading g c =
     let first : List Searched = map unseen b.assignments in
     let met = rw (c.in-Ok-None.field-0-is, c.in-Ok.ensures.seen, c.assignments.ensures) at c.in-Ok-None.ensures.header
     in
-    (met.0, unfinished_reading b c.args.front.now first met.0 met.1 met.2, met.2)
+    (met.0, reading_of_text-unfinished b c.args.front.now first met.0 met.1 met.2, met.2)
 
 pub returns-clause-reading : goal.returns-clause-reading
 returns-clause-reading g c = λ whole more e.
@@ -100,6 +101,6 @@ returns-clause-reading g c = λ whole more e.
     let first : List Searched = map unseen b.assignments in
     let fault = c.in-Err-read_front.fault in
     let fails = rw (c.in-Ok.ensures.seen, c.assignments.ensures) at c.in-Err-read_front.ensures.header in
-    head_fails b whole first fault
+    reading_of_text-header_fails b whole first fault
     (subst (λ (ts : List Token). ReadFails fault (header_of with_variable whole (nothing_declared first) ts)) (sym e)
     (fails whole more))

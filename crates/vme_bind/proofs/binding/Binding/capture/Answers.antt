@@ -2,7 +2,7 @@ use Rattle.std.proofs.Common.{length}
 use Rattle.vme_trace.specs.Trace.{Trace}
 use Rattle.vme_bind.specs.BoundGroups.{bound_groups_in}
 use Rattle.vme_bind.specs.Capture.{recording, limited, capture_of}
-use Rattle.vme_bind.proofs.BindingLemmas.{fails_first, gives_err}
+use Rattle.vme_bind.proofs.BindingLemmas.{BindFails-first, BindGives-err}
 use Rattle.vme_bind.proofs.OpeningLemmas.{capture_of-is, capture_of-found, recording-formed, BindGives-limited}
 use Rattle.vme_bind.proofs.binding.Binding.capture.Goals as goal
 
@@ -12,8 +12,8 @@ returns-in_err-bound_groups c =
     let dump = c.args.dump.now in
     let fault = c.in_err-bound_groups.field-0.0 in
     let h = rw (c.variables.ensures, c.assignments.ensures) at c.in_err-bound_groups.ensures in
-    gives_err _ c.from_residual.result fault _ c.from_residual.ensures.1
-    (fails_first fault (bound_groups_in dump.variables b.assignments)
+    BindGives-err _ c.from_residual.result fault _ c.from_residual.ensures.1
+    (BindFails-first fault (bound_groups_in dump.variables b.assignments)
     (λ bound_groups. limited (recording b.slots bound_groups dump.instants (length dump.instants))) _
     (capture_of-is b dump) h)
 

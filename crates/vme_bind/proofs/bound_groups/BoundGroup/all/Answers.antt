@@ -1,6 +1,6 @@
 use Rattle.std.proofs.Common.{◌+◌, ◌++◌, ◌∷◌, [], drop, sym, ◌∙◌, ap, arith}
 use Rattle.vme_bind.specs.BoundGroups.{bound_group_in, bound_groups_in}
-use Rattle.vme_bind.proofs.BindingLemmas.{fails_first}
+use Rattle.vme_bind.proofs.BindingLemmas.{BindFails-first}
 use Rattle.vme_bind.proofs.BoundGroupLemmas.{after_bound_groups, bound_groups-first, bound_groups-step}
 use Rattle.vme_bind.proofs.BoundGroupLemmas.{bound_groups-end}
 use Rattle.vme_bind.proofs.bound_groups.BoundGroup.all.Goals as goal
@@ -11,7 +11,8 @@ returns-in-Err c =
     let all = c.args.assignments.now in
     let i = c.loop-assignment.assignment-index in
     let bound_groups = c.loop-assignment.bound_groups.items in
-    fails_first c.in-Err.field-0 (bound_group_in variables c.assignment-item.result) (λ bound_group. after_bound_groups
+    BindFails-first c.in-Err.field-0 (bound_group_in variables c.assignment-item.result)
+    (λ bound_group. after_bound_groups
     (bound_groups ++ bound_group ∷ []) (bound_groups_in variables (drop (i + 1) all))) _
     (sym c.loop-assignment.invariant.bound_groups ∙ bound_groups-first bound_groups variables all i
     c.assignment-item.result c.loop-assignment-test.true c.assignment-item.is) c.in-Err.ensures

@@ -2,7 +2,7 @@ use Rattle.std.proofs.Common.{[], Result, Err, refl, sym, subst}
 use Rattle.vme_trace.specs.Trace.{Trace}
 use Rattle.vme_bind.specs.TextCapture.{GivesBy}
 use Rattle.vme_bind.specs.declared.fault.CaptureFault.{CaptureFault}
-use Rattle.vme_bind.proofs.DumpReaderLemmas.{is-fails_by}
+use Rattle.vme_bind.proofs.DumpReaderLemmas.{CaptureFailsBy-not_memory}
 use Rattle.vme_bind.proofs.dump_reader.DumpReader.finish.Goals as goal
 
 pub returns-in-Definitions : goal.returns-in-Definitions
@@ -18,4 +18,4 @@ returns-in-Err g c = rw c.in-Body.is (c.in-Err.ensures.rest [])
 pub returns-in-Failed : goal.returns-in-Failed
 returns-in-Failed g c =
     let first = c.in-Failed.first in
-    rw c.in-Failed.is (is-fails_by first.fault (Err first.fault) first.not_want refl)
+    rw c.in-Failed.is (CaptureFailsBy-not_memory first.fault (Err first.fault) first.not_want refl)

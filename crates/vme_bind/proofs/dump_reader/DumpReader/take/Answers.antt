@@ -1,6 +1,7 @@
 use Rattle.std.proofs.Common.{◌∙◌, refl, sym, take}
 use Rattle.vme_bind.specs.TextPieces.{text_reached}
-use Rattle.vme_bind.proofs.DumpReaderLemmas.{begun-on, failed-at-front, failed-on, read-on}
+use Rattle.vme_bind.proofs.DumpReaderLemmas.{recording_of_text-begun, recording_of_text-front_fails}
+use Rattle.vme_bind.proofs.DumpReaderLemmas.{outcome_ahead-piece_fails, outcome_ahead-piece}
 use Rattle.vme_bind.proofs.dump_reader.DumpReader.take.Goals as goal
 
 pub returns-in-Ok-Ok-clause-taken : goal.returns-in-Ok-Ok-clause-taken
@@ -11,7 +12,8 @@ returns-in-Ok-Ok-clause-taken g c =
     let begins = rw c.in-Ok-Ok.field-0-is at c.in-Ok-Ok.ensures.begins in
     let line = rw c.in-Ok-Ok.field-0-is at c.in-Ok-Ok.ensures.line in
     rw c.in-Definitions.is
-    (λ rest. begun-on (text_reached text) b front (text_reached text).body.line line c.whole_tokens-count.ensures.apart
+    (λ rest. recording_of_text-begun (text_reached text) b front (text_reached text).body.line line
+    c.whole_tokens-count.ensures.apart
     begins rest)
 
 pub returns-in-Ok-Err-clause-taken : goal.returns-in-Ok-Err-clause-taken
@@ -22,7 +24,7 @@ returns-in_ok-failed-in-Err-clause-taken g c =
     let b = c.in-Definitions.bound.now in
     let front = take c.whole_tokens-count.result c.args.bytes.now in
     rw c.in-Definitions.is
-    (λ rest. failed-at-front b front c.in-Err.fault c.whole_tokens-count.ensures.apart
+    (λ rest. recording_of_text-front_fails b front c.in-Err.fault c.whole_tokens-count.ensures.apart
     c.in_ok-failed-in-Err.ensures.told c.in-Err.ensures.begins rest ∙ sym (c.in_ok-failed-in-Err.ensures.ahead rest))
 
 pub returns-in-Ok-clause-taken : goal.returns-in-Ok-clause-taken
@@ -32,7 +34,8 @@ returns-in-Ok-clause-taken g c =
     let piece = take c.whole_tokens-count.result c.args.bytes.now in
     rw c.in-Body.is
     (λ rest.
-    read-on (text_reached text) (text_reached next) piece (text_reached text).body.line (text_reached next).body.line
+    outcome_ahead-piece (text_reached text) (text_reached next) piece (text_reached text).body.line
+    (text_reached next).body.line
     c.in-Ok.ensures.line c.whole_tokens-count.ensures.apart c.in-Ok.ensures.rest rest)
 
 pub returns-in_ok-failed-in-Err-read-clause-taken : goal.returns-in_ok-failed-in-Err-read-clause-taken
@@ -41,7 +44,7 @@ returns-in_ok-failed-in-Err-read-clause-taken g c =
     let piece = take c.whole_tokens-count.result c.args.bytes.now in
     rw c.in-Body.is
     (λ rest.
-    failed-on (text_reached text) piece (text_reached text).body.line c.in-Err-read.fault
+    outcome_ahead-piece_fails (text_reached text) piece (text_reached text).body.line c.in-Err-read.fault
     c.whole_tokens-count.ensures.apart c.in_ok-failed-in-Err-read.ensures.told c.in-Err-read.ensures.rest rest
     ∙ sym (c.in_ok-failed-in-Err-read.ensures.ahead rest))
 

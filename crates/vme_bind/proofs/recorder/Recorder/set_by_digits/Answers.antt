@@ -5,7 +5,7 @@ use Rattle.vme_trace.specs.Trace.{changed}
 use Rattle.vcd_read.specs.Numbers.{extended}
 use Rattle.vme_bind.specs.declared.net_lines.LineBit.{LineBit}
 use Rattle.vme_bind.specs.Recording.{line_change}
-use Rattle.vme_bind.proofs.LineBitLemmas.{line_change-more}
+use Rattle.vme_bind.proofs.LineBitLemmas.{changed-take_next}
 use Rattle.vme_bind.proofs.recorder.Recorder.set_by_digits.Goals as goal
 
 pub returns-in-empty-clause-ok : goal.returns-in-empty-clause-ok
@@ -22,7 +22,7 @@ returns-in-len1-clause-ok c =
     let bits = extended c.args.size c.args.digits.now in
     let levels = c.args.self.now.now in
     let level = c.level_by_digits.result in
-    let here = line_change-more line_bits bits 0 line_bit levels level (omega (arith, c.in-len1.len_at_least))
+    let here = changed-take_next line_bits bits 0 line_bit levels level (omega (arith, c.in-len1.len_at_least))
     c.line_bit-item.is c.level_by_digits.ensures in
     let all : set_level levels line_bit.line level ≡ changed levels (map (line_change bits) line_bits)
     = here ∙ ap (λ (ts : List LineBit). changed levels (map (line_change bits) ts))

@@ -3,7 +3,7 @@ use Rattle.vme_trace.specs.Levels.{Levels, set_level}
 use Rattle.vme_trace.specs.Trace.{changed}
 use Rattle.vme_bind.specs.declared.net_lines.LineBit.{LineBit}
 use Rattle.vme_bind.specs.Recording.{IsLine, RecorderLevels}
-use Rattle.vme_bind.proofs.LineBitLemmas.{line_change-more}
+use Rattle.vme_bind.proofs.LineBitLemmas.{changed-take_next}
 use Rattle.vcd_read.specs.Numbers.{extended}
 use Rattle.vme_bind.proofs.recorder.Recorder.set_each_by_digits.Goals as goal
 
@@ -27,7 +27,7 @@ loop-line_bit-preserved c =
       now =
           ap (λ (p : RecorderLevels). p.now) ok ∙ ap (λ (v : Levels). set_level v line_bit.line level)
           c.loop-line_bit.invariant.now
-          ∙ line_change-more line_bits (extended c.args.size c.args.digits.now) i line_bit c.args.self.now.now level
+          ∙ changed-take_next line_bits (extended c.args.size c.args.digits.now) i line_bit c.args.self.now.now level
           c.loop-line_bit-test.true c.line_bit-item.is c.level_by_digits.ensures;
       slots = c.set_line.ensures.slots ∙ c.loop-line_bit.invariant.slots;
       shown = ap (λ (p : RecorderLevels). p.shown) ok ∙ c.loop-line_bit.invariant.shown;

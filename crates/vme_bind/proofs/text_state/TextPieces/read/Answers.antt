@@ -6,7 +6,7 @@ use Rattle.vcd_read.specs.BodyFold.{State, at_end, body_fold}
 use Rattle.vcd_read.specs.declared.fault.VcdFault.{VcdFault}
 use Rattle.vme_bind.specs.BuilderState.{BuilderState, builder_change, builder_instant}
 use Rattle.vme_bind.specs.TextPieces.{outcome}
-use Rattle.vme_bind.proofs.TextPieceLemmas.{fails-outcome}
+use Rattle.vme_bind.proofs.TextPieceLemmas.{CaptureFailsBy-outcome}
 use Rattle.vme_bind.proofs.text_state.TextPieces.read.Goals as goal
 
 pub returns-in-Ok-clause-rest : goal.returns-in-Ok-clause-rest
@@ -18,5 +18,5 @@ returns-in-Err-clause-rest g c =
     let p = c.args.self.pieces in
     let read = ahead builder_change builder_instant p.codes (body_fold p.state.timed.visitor p.state.timed.clock)
     p.state.dump_section (place_of p.state.place) (tokens_from p.line c.args.piece.now) in
-    fails-outcome c.args.self.fault c.in-Err.fault (λ more. outcome c.args.self.fault
+    CaptureFailsBy-outcome c.args.self.fault c.in-Err.fault (λ more. outcome c.args.self.fault
     (read more >>= at_end builder_instant)) read (λ more. refl) c.in-Err.ensures.rest
