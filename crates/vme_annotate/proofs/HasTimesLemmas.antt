@@ -20,7 +20,7 @@ use Rattle.vme_bind.specs.Binding.{BoundLines}
 use Rattle.vme_bind.specs.BoundGroups.{bound_groups_in}
 use Rattle.vme_bind.specs.Capture.{recording, recording_of, step_at, time_of as instant_time}
 use Rattle.vme_skew.specs.Settled.{begins_after, group_start, settled, step_to, steps_before}
-use Rattle.vme_skew.proofs.Laws.{begins_is, step-stands}
+use Rattle.vme_skew.proofs.Laws.{first_or_later-cases, MayFollowParts-step}
 use Rattle.vme_trace.specs.Trace.{Trace, last_instant, time_at, time_of}
 use Rattle.vme_trace.specs.WellFormed.{malformed_step}
 use Rattle.vme_trace.specs.declared.step.Step.{Step}
@@ -100,7 +100,8 @@ pub times_grow : (t : Trace) → malformed_step t ≡ None → (i : ℕ) → i <
 times_grow t formed i lt = elim (slice_get_cases t.steps i).1 [
   | inl here ↦
       let next : time_at t (suc i) ≡ here.0.time = ap time_of here.2 in
-      elim (begins_is i (time_at t i) here.0.time (step-stands t formed i here.0 here.1 here.2).later) [
+      elim (first_or_later-cases i (time_at t i) here.0.time
+      (MayFollowParts-step t formed i here.0 here.1 here.2).later) [
         | inl first ↦ let none : time_at t i ≡ 0 = ap (time_at t) first in omega (arith, none)
         | inr later ↦ omega (arith, next, later)
       ]

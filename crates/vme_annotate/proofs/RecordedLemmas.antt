@@ -18,7 +18,7 @@ use Rattle.vme_bind.specs.declared.fault.BindFault.{BindFault}
 use Rattle.vme_bind.proofs.CaptureLemmas.{length-levels_after}
 use Rattle.vme_bind.proofs.TextCaptureLemmas.{recording_of_text-formed}
 use Rattle.vme_skew.specs.Settled.{IsRecording, settled, settled_or}
-use Rattle.vme_skew.proofs.Laws.{is_recording}
+use Rattle.vme_skew.proofs.Laws.{IsRecording-settled}
 use Rattle.vme_trace.specs.LineNumbers.{line_count}
 use Rattle.vme_trace.specs.Trace.{Trace, last_instant, time_at}
 use Rattle.vme_trace.specs.WellFormed.{malformed_step}
@@ -117,7 +117,8 @@ module _ (skew : ℕ) (binding : BoundLines) (dump : List ℕ) (t : Trace) (is :
 
   -- the recording `t` is well formed
   formed : malformed_step t ≡ None
-  formed = subst (λ (u : Trace). malformed_step u ≡ None) is.settles (is_recording skew is.raw raw_recording).formed
+  formed = subst (λ (u : Trace). malformed_step u ≡ None) is.settles
+      (IsRecording-settled skew is.raw raw_recording).formed
 
   -- the times of `t` don't descend
   ordered : (i j : ℕ) → i ≤ j → j ≤ last_instant t → time_at t i ≤ time_at t j

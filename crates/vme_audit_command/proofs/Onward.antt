@@ -13,7 +13,7 @@ use Rattle.vcd_read.specs.declared.fault.FaultKind.TheVariants as vcd
 use Rattle.vcd_read.specs.declared.fault.VcdFault.{VcdFault}
 use Rattle.vme_skew.specs.Settled.{settled}
 use Rattle.vme_skew.specs.Settling.{Settling}
-use Rattle.vme_skew.proofs.Grown.{grows-settled, grows-until}
+use Rattle.vme_skew.proofs.Grown.{settled-grows, settled_until-grows}
 use Rattle.vme_step_reader.specs.StepReading.{StepReading, whole_reading}
 use Rattle.vme_step_reader.specs.Stops.{StopsBehind}
 use Rattle.vme_step_reader.specs.declared.stopped_steps.StoppedSteps.{StoppedSteps}
@@ -50,14 +50,14 @@ so-far-grows : (skew : Option ℕ) (known time : ℕ) (t : Trace) (steps : List 
     → (more : List Step)
     × (settled_so_far skew time (with_steps t steps) ≡ with_steps (settled_so_far skew known t) more)
 so-far-grows None known time t steps late on = (steps, refl)
-so-far-grows (Some skew) known time t steps late on = grows-until skew known t steps late time on
+so-far-grows (Some skew) known time t steps late on = settled_until-grows skew known t steps late time on
 
 whole-grows : (skew : Option ℕ) (known : ℕ) (t : Trace) (steps : List Step)
     → All (λ (step : Step). known ≤ step.time) steps
     → (more : List Step)
     × (settled_whole skew (with_steps t steps) ≡ with_steps (settled_so_far skew known t) more)
 whole-grows None known t steps late = (steps, refl)
-whole-grows (Some skew) known t steps late = grows-settled skew known t steps late
+whole-grows (Some skew) known t steps late = settled-grows skew known t steps late
 
 module _ (skew : Option ℕ) (known : ℕ) (given : Trace) (steps : List Step)
     (late : All (λ (step : Step). known ≤ step.time) steps) (formed : malformed_step (with_steps given steps) ≡ None)

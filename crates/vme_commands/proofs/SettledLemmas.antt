@@ -15,8 +15,8 @@ use Rattle.vme_bind.specs.TextCapture as text
 use Rattle.vme_bind.specs.declared.fault.BindFault.{BindFault}
 use Rattle.vme_bind.specs.declared.fault.BindFaultKind.TheVariants.{TooManySteps}
 use Rattle.vme_skew.specs.Settled.{settled, settled_or}
-use Rattle.vme_skew.proofs.CapturesStay.{capture-stays}
-use Rattle.vme_skew.proofs.Laws.{no_longer}
+use Rattle.vme_skew.proofs.CapturesStay.{capture_of-zero_skew}
+use Rattle.vme_skew.proofs.Laws.{length-settled}
 use Rattle.vme_stream.specs.Inputs.{longest_input}
 use Rattle.vme_stream.specs.Answers.{AnswerGives, binding_read, capture_by, capture_read, dump_read, judgement_of}
 use Rattle.vme_stream.specs.Answers.{or_bad_binding, or_bad_dump, recording_read, verdict_in_blocks}
@@ -65,7 +65,7 @@ captured-stays : (binding : BoundLines) (read : Result Contents Refusal) → OfT
     (capture_by binding read) ≡ capture_by binding read
 captured-stays binding (Ok contents) of =
     or_bad-settles 0 (capture_of binding contents) ∙ ap (λ (r : Result Trace BindFault). or_bad_binding r)
-    (capture-stays binding of.0 contents of.1)
+    (capture_of-zero_skew binding of.0 contents of.1)
 captured-stays binding (Err r) of = refl
 
 -- deskewing by 0 doesn't change what a binding makes of a dump
@@ -160,7 +160,7 @@ pub settled-short : (skew : ℕ) (t made : Trace) → nat_lt capture_limit (leng
     → length made.steps ≤ capture_limit
 settled-short skew t made within is =
     short-by (length t.steps) (length made.steps) within
-    (subst (λ (u : Trace). length u.steps ≤ length t.steps) (sym is) (no_longer skew t))
+    (subst (λ (u : Trace). length u.steps ≤ length t.steps) (sym is) (length-settled skew t))
 
 -- a recording that is too long is refused before it is deskewed
 pub settled-long : (skew : ℕ) (t : Trace) → nat_lt capture_limit (length t.steps) ≡ true

@@ -14,7 +14,7 @@ use Rattle.vme_listing.specs.Recorded.{recorded_rows, rows_in}
 use Rattle.vme_listing.specs.declared.row.Row.{Row}
 use Rattle.vme_listing.specs.declared.row.Version.{Version}
 use Rattle.vme_skew.specs.Settled.{IsRecording, settled, settled_or}
-use Rattle.vme_skew.proofs.Laws.{by_zero}
+use Rattle.vme_skew.proofs.Laws.{settled-zero_skew}
 use Rattle.vme_cert.specs.Comparing.{Decides}
 use Rattle.vme_cert.specs.declared.compare.Answer.{Answer}
 use Rattle.vme_step_reader.specs.StepReading.{StepReading, whole_reading}
@@ -47,7 +47,7 @@ checked-next skew r next steps piece time t check sound taken given now stepped 
 -- ---- the end
 
 settles : (skew : ℕ) (t : Trace) → IsRecording t → settled_whole (skew_of skew) t ≡ settled skew t
-settles zero t is = sym (by_zero t is)
+settles zero t is = sym (settled-zero_skew t is)
 settles (suc n) t is = refl
 
 module _ {Whole Source : Type 0} (gave : Whole → Source → List Row → Type 0) (is_over : Source → Type 0) (whole : Whole)

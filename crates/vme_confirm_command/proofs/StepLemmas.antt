@@ -17,8 +17,8 @@ use Rattle.vme_bind.specs.Capture.{limited}
 use Rattle.vme_bind.specs.declared.fault.BindFaultKind.TheVariants.{TooManySteps}
 use Rattle.vme_skew.specs.Settled.{settled_until}
 use Rattle.vme_skew.specs.Settling.{Settling}
-use Rattle.vme_skew.proofs.Complete.{until-front}
-use Rattle.vme_skew.proofs.Laws.{no_longer}
+use Rattle.vme_skew.proofs.Complete.{settled_until-prefix}
+use Rattle.vme_skew.proofs.Laws.{length-settled}
 use Rattle.vme_cert.specs.Checking.{MayGoOn, last_levels}
 use Rattle.vme_cert.proofs.Checking.{sound-step}
 use Rattle.vme_dump_input.specs.SettledReadings.{settled_so_far, settled_whole}
@@ -69,17 +69,17 @@ so-far-shorter : (skew : Option ℕ) (time : ℕ) (t : Trace)
     → length (settled_so_far skew time t).steps ≤ length t.steps
 so-far-shorter None time t = omega arith
 so-far-shorter (Some skew) time t =
-    let (rest, is) = until-front skew time t in
+    let (rest, is) = settled_until-prefix skew time t in
     omega (
       arith,
-      no_longer skew t,
+      length-settled skew t,
       ap (λ (u : Trace). length u.steps) is,
       length-append (settled_until skew time t).steps rest,
     )
 
 whole-shorter : (skew : Option ℕ) (t : Trace) → length (settled_whole skew t).steps ≤ length t.steps
 whole-shorter None t = omega arith
-whole-shorter (Some skew) t = no_longer skew t
+whole-shorter (Some skew) t = length-settled skew t
 
 module _ (skew : Option ℕ) (t given : Trace) (made : List Step) (few : length given.steps ≤ capture_limit) where
   -- the steps that came out of the deskewing so far may follow those that were taken

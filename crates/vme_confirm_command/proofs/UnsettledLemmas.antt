@@ -9,7 +9,7 @@ use Rattle.vme_trace.specs.Trace.{Trace}
 use Rattle.vme_bind.specs.Binding.{BoundLines}
 use Rattle.vme_bind.specs.declared.fault.BindFault.{BindFault}
 use Rattle.vme_listing.specs.Listed.{Listed}
-use Rattle.vme_skew.proofs.CapturesStay.{capture-stays}
+use Rattle.vme_skew.proofs.CapturesStay.{capture_of-zero_skew}
 use Rattle.vme_stream.specs.Inputs.{longest_input}
 use Rattle.vme_stream.specs.Answers.{binding_read, dump_read, or_bad_binding, or_bad_dump}
 use Rattle.vme_stream.specs.declared.refusal.Input.TheVariants.{Dump}
@@ -50,7 +50,8 @@ compared-stays b d given = by_binding (binding_read b)
   where
     by_given : (binding : BoundLines) (contents : Contents) → OfText (Ok contents) → (given : Result Listed Refusal)
         → compared_settled 0 (Ok binding) (Ok contents) given ≡ compared (Ok binding) (Ok contents) given
-    by_given binding contents of (Ok listing) = ap (with_listed listing) (capture-stays binding of.0 contents of.1)
+    by_given binding contents of (Ok listing) =
+        ap (with_listed listing) (capture_of-zero_skew binding of.0 contents of.1)
     by_given binding contents of (Err r) = refl
 
     by_dump : (binding : BoundLines) (read : Result Contents Refusal) → OfText read

@@ -7,7 +7,7 @@ use Rattle.vme_trace.specs.Trace.{Trace}
 use Rattle.vme_trace.specs.declared.step.Step.{Step}
 use Rattle.vme_skew.specs.Settled.{is_complete, settled, settled_until}
 use Rattle.vme_skew.specs.Settling.{Settling}
-use Rattle.vme_skew.proofs.Laws.{no_longer}
+use Rattle.vme_skew.proofs.Laws.{length-settled}
 use Rattle.vme_dump_input.specs.SettledReadings.{skew_of}
 use Rattle.vme_dump_input.specs.SettledSteps.{ComesOut, IsSettlerFor}
 
@@ -17,7 +17,7 @@ unfolding settled_until settled
 none-first skew given none =
     ap (λ (l : List Step). record given { steps = l })
     (none ∙ sym (ap (filter (is_complete skew 0)) (no-steps (settled skew given).steps
-    (omega (arith, no_longer skew given, ap (λ (l : List Step). length l) none)))))
+    (omega (arith, length-settled skew given, ap (λ (l : List Step). length l) none)))))
   where
     no-steps : (l : List Step) → length l ≤ 0 → l ≡ []
     no-steps [] le = refl

@@ -12,8 +12,8 @@ use Rattle.vcd_read.specs.declared.fault.FaultKind.{FaultKind}
 use Rattle.vcd_read.specs.declared.fault.FaultKind.TheVariants as vcd
 use Rattle.vme_bind.specs.TextReading.{StopsAs, TextReading}
 use Rattle.vme_skew.specs.Settled.{settled, settled_until}
-use Rattle.vme_skew.proofs.Laws.{is_recording}
-use Rattle.vme_skew.proofs.SettlerSteps.{until-recording}
+use Rattle.vme_skew.proofs.Laws.{IsRecording-settled}
+use Rattle.vme_skew.proofs.SettlerSteps.{IsRecording-settled_until}
 use Rattle.vme_step_reader.specs.StepReading.{StepReading, whole_reading}
 use Rattle.vme_dump_input.specs.SettledReadings.{settled_so_far, settled_whole}
 use Rattle.vme_dump_input.specs.SettledSteps.{GoOnFrom, GoOnTo}
@@ -58,14 +58,14 @@ pub settled_so_far-formed : (skew : Option ℕ) (time : ℕ) (t : Trace) → len
     → malformed_step t ≡ None → malformed_step (settled_so_far skew time t) ≡ None
 settled_so_far-formed None time t whole formed = formed
 settled_so_far-formed (Some skew) time t whole formed =
-    (until-recording skew time t (record { whole = whole; formed = formed })).formed
+    (IsRecording-settled_until skew time t (record { whole = whole; formed = formed })).formed
 
 -- what is settled of a whole well-formed recording is well formed
 pub settled_whole-formed : (skew : Option ℕ) (t : Trace) → length t.opening.levels ≡ line_count → malformed_step t
     ≡ None
     → malformed_step (settled_whole skew t) ≡ None
 settled_whole-formed None t whole formed = formed
-settled_whole-formed (Some skew) t whole formed = (is_recording skew t
+settled_whole-formed (Some skew) t whole formed = (IsRecording-settled skew t
     (record { whole = whole; formed = formed })).formed
 
 -- ---- steps that are read

@@ -1,4 +1,4 @@
--- The lines that a group touches.
+-- The lines that a group touches are listed, each once it is marked, as its changes are made.
 use Rattle.std.proofs.Common.{◌≡◌, ℕ, ◌+◌, ◌-◌, ◌<◌, Bool, true, false, not, List, [], ◌∷◌, ◌++◌, length}
 use Rattle.std.proofs.Common.{take, get_or, replicate, refl, sym, ap, ◌∙◌, subst, arith, inl, inr}
 use Rattle.std.specs.Prelude.{nat_lt, slice_set, Contains}
@@ -16,35 +16,35 @@ use Rattle.vme_trace.specs.declared.step.Change.{Change}
 use Rattle.vme_bind.specs.Recording.{IsLine, step_between}
 use Rattle.vme_bind.proofs.RecorderLemmas.{length-set_level, level_at-set_other}
 use Rattle.vme_skew.specs.Group.{GroupLevels, KeepsTouchedLines, ListsTouchedLines}
-use Rattle.vme_skew.proofs.TouchedLines.{touched-more, touched-none}
+use Rattle.vme_skew.proofs.TouchedLines.{ListsTouchedLines-set, ListsTouchedLines-same}
 
 -- a time is more than the skew after the beginning: as the code tests it, and as it is defined
-pub over_is : (start skew time : ℕ) → nat_lt skew (time - start) ≡ nat_lt (start + skew) time
-over_is start skew time = grind (arith, nat_tests)
+pub nat_lt-over_skew : (start skew time : ℕ) → nat_lt skew (time - start) ≡ nat_lt (start + skew) time
+nat_lt-over_skew start skew time = grind (arith, nat_tests)
 
 -- no line is marked
-pub unmarked : (n l : ℕ) → get_or (replicate n false) l false ≡ false
-unmarked n l = elim (cases_lt l n) [
+pub get_or-unmarked : (n l : ℕ) → get_or (replicate n false) l false ≡ false
+get_or-unmarked n l = elim (cases_lt l n) [
   | inl lt ↦ get_or-replicate n l false false lt
   | inr past ↦ get_or_past (replicate n false) l false (omega (arith, past, length-replicate n false))
 ]
 
 -- where a group begins, nothing is touched
-pub keeps-none : (before now : Levels) (touched : List ℕ) (marks : List Bool) → before ≡ now
+pub KeepsTouchedLines-begun : (before now : Levels) (touched : List ℕ) (marks : List Bool) → before ≡ now
     → length now.levels ≡ line_count → touched ≡ [] → marks ≡ replicate line_count false
     → KeepsTouchedLines before now touched marks
-keeps-none before now touched marks same all none clear = record {
-  lists = subst (ListsTouchedLines before now) (sym none) (touched-none before now same all);
+KeepsTouchedLines-begun before now touched marks same all none clear = record {
+  lists = subst (ListsTouchedLines before now) (sym none) (ListsTouchedLines-same before now same all);
   marked = λ l m. absurd (false≢true
-      (sym (unmarked line_count l) ∙ (ap (λ (ms : List Bool). get_or ms l false) (sym clear) ∙ m)));
+      (sym (get_or-unmarked line_count l) ∙ (ap (λ (ms : List Bool). get_or ms l false) (sym clear) ∙ m)));
 }
 
 -- a line gets a level, and is marked then
-pub keeps-more : (before now : Levels) (touched : List ℕ) (marks : List Bool) (m : ℕ) (x : Level)
+pub KeepsTouchedLines-marked : (before now : Levels) (touched : List ℕ) (marks : List Bool) (m : ℕ) (x : Level)
     → KeepsTouchedLines before now touched marks → IsLine before.slots m
     → KeepsTouchedLines before (set_level now m x) (touched ++ m ∷ []) (slice_set marks m true)
-keeps-more before now touched marks m x h line = record {
-  lists = touched-more before now touched m x h.lists line;
+KeepsTouchedLines-marked before now touched marks m x h line = record {
+  lists = ListsTouchedLines-set before now touched m x h.lists line;
   marked = λ l k. elim (cases_eq l m) [
     | inl e ↦ Contains-append_right touched (m ∷ []) l (subst (Contains (m ∷ [])) (sym e) (0, omega arith, refl))
     | inr ne ↦ Contains-append_left touched (m ∷ []) l (h.marked l (sym (get_or-set_other marks m l true false ne) ∙ k))
@@ -52,10 +52,10 @@ keeps-more before now touched marks m x h line = record {
 }
 
 -- a line that is marked gets a level
-pub keeps-again : (before now : Levels) (touched : List ℕ) (marks : List Bool) (m : ℕ) (x : Level)
+pub KeepsTouchedLines-set_again : (before now : Levels) (touched : List ℕ) (marks : List Bool) (m : ℕ) (x : Level)
     → KeepsTouchedLines before now touched marks → get_or marks m false ≡ true
     → KeepsTouchedLines before (set_level now m x) touched marks
-keeps-again before now touched marks m x h here = record {
+KeepsTouchedLines-set_again before now touched marks m x h here = record {
   lists = record {
     slots = h.lists.slots;
     before_all = h.lists.before_all;
@@ -71,28 +71,31 @@ keeps-again before now touched marks m x h here = record {
 }
 
 -- marked lines stay listed if the list is permuted
-pub marked-permuted : (touched others : List ℕ) (marks : List Bool) → IsPermutation touched others
+pub Contains-marked_permuted : (touched others : List ℕ) (marks : List Bool) → IsPermutation touched others
     → ((l : ℕ) → get_or marks l false ≡ true → Contains touched l)
     → (l : ℕ) → get_or marks l false ≡ true → Contains others l
-marked-permuted touched others marks p h l k = Contains-permutation touched others l p (h l k)
+Contains-marked_permuted touched others marks p h l k = Contains-permutation touched others l p (h l k)
 
 -- one more change is made
-changed-more : (v : Levels) (cs : List Change) (c : Change) → changed v (cs ++ c ∷ [])
+changed-append : (v : Levels) (cs : List Change) (c : Change) → changed v (cs ++ c ∷ [])
     ≡ set_level (changed v cs) c.line c.level
 unfolding changed
-changed-more v [] c = refl
-changed-more v (d ∷ cs) c = changed-more (set_level v d.line d.level) cs c
+changed-append v [] c = refl
+changed-append v (d ∷ cs) c = changed-append (set_level v d.line d.level) cs c
 
-pub changed-next : (v : Levels) (cs : List Change) (i : ℕ) (c : Change) → i < length cs → c ≡ get_or cs i c
+-- the levels after the first i + 1 changes are those after the first i, with change i made
+pub changed-take_next : (v : Levels) (cs : List Change) (i : ℕ) (c : Change) → i < length cs → c ≡ get_or cs i c
     → set_level (changed v (take i cs)) c.line c.level ≡ changed v (take (i + 1) cs)
-changed-next v cs i c lt e =
-    sym (changed-more v (take i cs) c)
+changed-take_next v cs i c lt e =
+    sym (changed-append v (take i cs) c)
     ∙ ap (changed v) (ap (λ (d : Change). take i cs ++ d ∷ []) e ∙ sym (take_more cs i c lt))
 
--- the step of a group, by its parts
+-- the levels of a group, by its parts
 abbrev group_of : ℕ → Levels → Levels → GroupLevels
 group_of start before now = record { start = start; before = before; now = now }
 
-pub group-step : (g : GroupLevels) (start : ℕ) (before now : Levels) → g ≡ group_of start before now → step_between
+-- the step of a group is that between its levels, by its parts
+pub step_between-of_group : (g : GroupLevels) (start : ℕ) (before now : Levels) → g ≡ group_of start before now
+    → step_between
     start before now ≡ step_between g.start g.before g.now
-group-step g start before now e = ap (λ (h : GroupLevels). step_between h.start h.before h.now) (sym e)
+step_between-of_group g start before now e = ap (λ (h : GroupLevels). step_between h.start h.before h.now) (sym e)

@@ -1,4 +1,5 @@
--- The laws of settled recordings.
+-- The laws of settled recordings: they are recordings, have no more steps than before, lead to the same levels, and a
+-- skew of 0 changes nothing.
 use Rattle.std.proofs.Common.{◌≡◌, ℕ, zero, suc, ◌+◌, ◌-◌, ◌<◌, ◌≤◌, Bool, true, false, cond, not, ◌&&◌, ◌||◌, List, []}
 use Rattle.std.proofs.Common.{◌∷◌, ◌++◌, length, take, refl, sym, ap, ◌∙◌, subst, arith, inl, inr, ◌⊎◌}
 use Rattle.std.specs.Prelude.{Option, None, Some, slice_get, nat_lt, ◌==◌}
@@ -22,53 +23,63 @@ use Rattle.vme_bind.specs.Recording.{differs, changes_between, step_between}
 use Rattle.vme_bind.proofs.RecorderLemmas.{no_difference_at}
 use Rattle.vme_bind.proofs.CaptureLemmas.{length-changed}
 use Rattle.vme_skew.specs.Settled.{IsRecording, begins_after, group_start, settled, step_to, steps_before}
-use Rattle.vme_skew.proofs.Between.{AreOfOne, Leads, all_alike, between-may, changed_exists, changes-lead}
-use Rattle.vme_skew.proofs.Between.{nothing-between, step-between, step-leads}
-use Rattle.vme_skew.proofs.Growing.{levels-kept, levels-last, start-le, time-kept, time-last}
+use Rattle.vme_skew.proofs.Between.{AreOfOne, Leads, equal-no_difference, may_follow-between, has_line-is_changed}
+use Rattle.vme_skew.proofs.Between.{changed-changes_between}
+use Rattle.vme_skew.proofs.Between.{step_between-same, step_between-changed, levels_after-step_between}
+use Rattle.vme_skew.proofs.Growing.{levels_at-with_step, levels_at-last, group_start-at_most, time_at-with_step}
+use Rattle.vme_skew.proofs.Growing.{time_at-last}
 
 -- ---- the steps of a recording
 
-three_parts : (a b c : Bool) → (a && b && c) ≡ true → (a ≡ true) × (b ≡ true) × (c ≡ true)
-three_parts true true true h = (refl, refl, refl)
-three_parts true true false h = absurd cc
-three_parts true false c h = absurd cc
-three_parts false b c h = absurd cc
+-- the parts of a conjunction of three tests that holds
+and-three_parts : (a b c : Bool) → (a && b && c) ≡ true → (a ≡ true) × (b ≡ true) × (c ≡ true)
+and-three_parts true true true h = (refl, refl, refl)
+and-three_parts true true false h = absurd cc
+and-three_parts true false c h = absurd cc
+and-three_parts false b c h = absurd cc
 
 -- `step` may follow `n` others, after which the levels are `v` and the time is `clock`
-pub record Stands (v : Levels) (n clock : ℕ) (step : Step) : Type 0 where
+pub record MayFollowParts (v : Levels) (n clock : ℕ) (step : Step) : Type 0 where
   pub later : ((n == 0) || nat_lt clock step.time) ≡ true
   pub some : is_empty step.changes ≡ false
   pub changes : are_changes v 0 step.changes ≡ true
 
-pub stands : (v : Levels) (n clock : ℕ) (step : Step) → may_follow v n clock step ≡ true → Stands v n clock step
-stands v n clock step h =
-    let parts = three_parts ((n == 0) || nat_lt clock step.time) (not (is_empty step.changes))
+-- a step that may follow meets each part of the test
+pub MayFollowParts-may_follow : (v : Levels) (n clock : ℕ) (step : Step) → may_follow v n clock step ≡ true
+    → MayFollowParts v n clock step
+MayFollowParts-may_follow v n clock step h =
+    let parts = and-three_parts ((n == 0) || nat_lt clock step.time) (not (is_empty step.changes))
     (are_changes v 0 step.changes) h in
     record { later = parts.0; some = not-true (is_empty step.changes) parts.1; changes = parts.2 }
 
-pub step-stands : (t : Trace) → malformed_step t ≡ None → (n : ℕ) (step : Step) → n < length t.steps → slice_get t.steps
-    n ≡ Some step → Stands (levels_at t n) n (time_at t n) step
+-- a step of a well-formed recording meets each part of the test whether it may follow those before it
+pub MayFollowParts-step : (t : Trace) → malformed_step t ≡ None → (n : ℕ) (step : Step) → n < length t.steps
+    → slice_get t.steps
+    n ≡ Some step → MayFollowParts (levels_at t n) n (time_at t n) step
 unfolding malformed_step
-step-stands t formed n step lt found =
+MayFollowParts-step t formed n step lt found =
     let sound : is_step t n ≡ true = not-false (is_step t n) (any-fails (λ i. not (is_step t i)) 0 (length t.steps) n
     (least-none-any (λ i. not (is_step t i)) 0 (length t.steps) formed) (omega arith) lt) in
-    stands (levels_at t n) n (time_at t n) step (sym (fits-at t n (levels_at t n) (time_at t n) step refl refl found)
+    MayFollowParts-may_follow (levels_at t n) n (time_at t n) step
+    (sym (fits-at t n (levels_at t n) (time_at t n) step refl refl found)
     ∙ sound)
 
-pub slots-at : (t : Trace) (n : ℕ) → (levels_at t n).slots ≡ t.opening.slots
+-- each instant has as many slots as the opening
+pub slots-levels_at : (t : Trace) (n : ℕ) → (levels_at t n).slots ≡ t.opening.slots
 unfolding levels_at
-slots-at t zero = refl
-slots-at t (suc n) = by_step (slice_get t.steps n) (slots-at t n)
+slots-levels_at t zero = refl
+slots-levels_at t (suc n) = by_step (slice_get t.steps n) (slots-levels_at t n)
   where
     by_step : (step : Option Step) → (levels_at t n).slots ≡ t.opening.slots → (after (levels_at t n) step).slots
         ≡ t.opening.slots
     by_step None so_far = so_far
     by_step (Some step) so_far = slots-kept (levels_at t n) step.changes ∙ so_far
 
-pub length-at : (t : Trace) (n : ℕ) → length (levels_at t n).levels ≡ length t.opening.levels
+-- each instant has as many levels as the opening
+pub length-levels_at : (t : Trace) (n : ℕ) → length (levels_at t n).levels ≡ length t.opening.levels
 unfolding levels_at
-length-at t zero = refl
-length-at t (suc n) = by_step (slice_get t.steps n) (length-at t n)
+length-levels_at t zero = refl
+length-levels_at t (suc n) = by_step (slice_get t.steps n) (length-levels_at t n)
   where
     by_step : (step : Option Step) → length (levels_at t n).levels ≡ length t.opening.levels
         → length (after (levels_at t n) step).levels ≡ length t.opening.levels
@@ -76,61 +87,69 @@ length-at t (suc n) = by_step (slice_get t.steps n) (length-at t n)
     by_step (Some step) so_far = length-changed (levels_at t n) step.changes ∙ so_far
 
 -- the levels at two instants are of one backplane
-pub of_one : (t : Trace) → length t.opening.levels ≡ line_count → (i j : ℕ) → AreOfOne (levels_at t i) (levels_at t j)
-of_one t whole i j = record {
-  slots = slots-at t i ∙ sym (slots-at t j);
-  first = length-at t i
+pub AreOfOne-levels_at : (t : Trace) → length t.opening.levels ≡ line_count → (i j : ℕ)
+    → AreOfOne (levels_at t i) (levels_at t j)
+AreOfOne-levels_at t whole i j = record {
+  slots = slots-levels_at t i ∙ sym (slots-levels_at t j);
+  first = length-levels_at t i
       ∙ whole;
-  second = length-at t j ∙ whole;
+  second = length-levels_at t j ∙ whole;
 }
 
 -- a line that the backplane doesn't have keeps its level
-absent : (t : Trace) → malformed_step t ≡ None → (l : ℕ) → has_line t.opening.slots l ≡ false → (n : ℕ)
+level_at-no_line : (t : Trace) → malformed_step t ≡ None → (l : ℕ) → has_line t.opening.slots l ≡ false → (n : ℕ)
     → level_at (levels_at t n) l ≡ level_at t.opening l
 unfolding levels_at
-absent t formed l none zero = refl
-absent t formed l none (suc n) =
+level_at-no_line t formed l none zero = refl
+level_at-no_line t formed l none (suc n) =
     elim (slice_get_cases t.steps n).1 [
       | inl here ↦
           ap (λ (o : Option Step). level_at (after (levels_at t n) o) l) here.2
           ∙ level-kept (levels_at t n) here.0.changes l (unchanged here.0.changes (is_changed here.0.changes l) refl
-          (step-stands t formed n here.0 here.1 here.2).changes)
-          ∙ absent t formed l none n
-      | inr past ↦ ap (λ (o : Option Step). level_at (after (levels_at t n) o) l) past.1 ∙ absent t formed l none n
+          (MayFollowParts-step t formed n here.0 here.1 here.2).changes)
+          ∙ level_at-no_line t formed l none n
+      | inr past ↦ ap (λ (o : Option Step). level_at (after (levels_at t n) o) l) past.1
+          ∙ level_at-no_line t formed l none n
     ]
   where
     unchanged : (cs : List Change) (b : Bool) → is_changed cs l ≡ b → are_changes (levels_at t n) 0 cs ≡ true
         → is_changed cs l ≡ false
     unchanged cs false e h = e
-    unchanged cs true e h = absurd (false≢true (sym none ∙ ap (λ (s : ℕ). has_line s l) (sym (slots-at t n))
-        ∙ changed_exists (levels_at t n) 0 cs l h e))
+    unchanged cs true e h = absurd (false≢true (sym none ∙ ap (λ (s : ℕ). has_line s l) (sym (slots-levels_at t n))
+        ∙ has_line-is_changed (levels_at t n) 0 cs l h e))
 
-pub leads : (t : Trace) → IsRecording t → (i j : ℕ) → Leads (levels_at t i) (levels_at t j)
-leads t is i j = record {
-  one = of_one t is.whole i j;
+-- a step can lead from the levels at one instant of a recording to those at another
+pub Leads-levels_at : (t : Trace) → IsRecording t → (i j : ℕ) → Leads (levels_at t i) (levels_at t j)
+Leads-levels_at t is i j = record {
+  one = AreOfOne-levels_at t is.whole i j;
   exist = λ l d. elim (cases_Bool (has_line (levels_at t i).slots l)) [
     | inl e ↦ e
     | inr none ↦
-        let out : has_line t.opening.slots l ≡ false = ap (λ (s : ℕ). has_line s l) (sym (slots-at t i)) ∙ none in
+        let out : has_line t.opening.slots l ≡ false = ap (λ (s : ℕ). has_line s l) (sym (slots-levels_at t i))
+        ∙ none in
         absurd (false≢true
-        (sym (no_difference_at (levels_at t i) (levels_at t j) l (absent t is.formed l out i
-        ∙ sym (absent t is.formed l out j))) ∙ d))
+        (sym (no_difference_at (levels_at t i) (levels_at t j) l (level_at-no_line t is.formed l out i
+        ∙ sym (level_at-no_line t is.formed l out j))) ∙ d))
   ];
 }
 
 -- ---- the levels after the groups
 
-step_to-leads : (skew : ℕ) (t : Trace) → length t.opening.levels ≡ line_count → (n : ℕ)
+-- the step of the group of instant n leads from the levels before the group to those at instant n
+levels_after-step_to : (skew : ℕ) (t : Trace) → length t.opening.levels ≡ line_count → (n : ℕ)
     → levels_after (levels_at t (group_start skew t n - 1)) (step_to skew t n) ≡ levels_at t n
-step_to-leads skew t whole n = step-leads (time_at t (group_start skew t n)) (levels_at t (group_start skew t n - 1))
-    (levels_at t n) (of_one t whole (group_start skew t n - 1) n)
+levels_after-step_to skew t whole n = levels_after-step_between (time_at t (group_start skew t n))
+    (levels_at t (group_start skew t n - 1))
+    (levels_at t n) (AreOfOne-levels_at t whole (group_start skew t n - 1) n)
 
-before-leads : (skew : ℕ) (t : Trace) → length t.opening.levels ≡ line_count → (n : ℕ) → levels_after t.opening
+-- the steps of the groups before that of instant n lead from the opening to the levels before that group
+levels_after-steps_before : (skew : ℕ) (t : Trace) → length t.opening.levels ≡ line_count → (n : ℕ)
+    → levels_after t.opening
     (steps_before skew t n) ≡ levels_at t (group_start skew t n - 1)
 unfolding group_start steps_before levels_at
-before-leads skew t whole zero = refl
-before-leads skew t whole (suc i) = by_test (begins_after skew t (group_start skew t i) i)
-    (before-leads skew t whole i)
+levels_after-steps_before skew t whole zero = refl
+levels_after-steps_before skew t whole (suc i) = by_test (begins_after skew t (group_start skew t i) i)
+    (levels_after-steps_before skew t whole i)
   where
     by_test : (b : Bool) → levels_after t.opening (steps_before skew t i) ≡ levels_at t (group_start skew t i - 1)
         → levels_after t.opening (cond b (steps_before skew t i ++ step_to skew t i) (steps_before skew t i))
@@ -138,41 +157,47 @@ before-leads skew t whole (suc i) = by_test (begins_after skew t (group_start sk
     by_test true so_far =
         let one_less : suc i - 1 ≡ i = omega arith in
         levels_after-append t.opening (steps_before skew t i) (step_to skew t i)
-        ∙ ap (λ (v : Levels). levels_after v (step_to skew t i)) so_far ∙ step_to-leads skew t whole i
+        ∙ ap (λ (v : Levels). levels_after v (step_to skew t i)) so_far ∙ levels_after-step_to skew t whole i
         ∙ ap (levels_at t) (sym one_less)
     by_test false so_far = so_far
 
-pub levels_kept : (skew n : ℕ) (t : Trace) → IsRecording t → levels_after t.opening (steps_before skew t n
+-- the steps of the groups up to instant n lead from the opening to the levels at instant n
+pub levels_after-groups : (skew n : ℕ) (t : Trace) → IsRecording t → levels_after t.opening (steps_before skew t n
     ++ step_to skew t n) ≡ levels_at t n
-levels_kept skew n t is =
+levels_after-groups skew n t is =
     levels_after-append t.opening (steps_before skew t n) (step_to skew t n)
-    ∙ ap (λ (v : Levels). levels_after v (step_to skew t n)) (before-leads skew t is.whole n) ∙ step_to-leads skew t
+    ∙ ap (λ (v : Levels). levels_after v (step_to skew t n)) (levels_after-steps_before skew t is.whole n)
+    ∙ levels_after-step_to skew t
     is.whole n
 
--- ---- no more steps
+-- ---- the number of steps
 
+-- a list of one step
 abbrev made_step : ℕ → List Change → List Step
 made_step time changes = record { time = time; changes = changes } ∷ []
 
-step-one : (time : ℕ) (v w : Levels) → length (step_between time v w) ≤ 1
-step-one time v w = by_test (any (differs v w) 0 line_count)
+-- at most one step is between two sets of levels
+length-step_between : (time : ℕ) (v w : Levels) → length (step_between time v w) ≤ 1
+length-step_between time v w = by_test (any (differs v w) 0 line_count)
   where
     by_test : (b : Bool) → length (cond b (made_step time (changes_between v w)) []) ≤ 1
     by_test true = omega arith
     by_test false = omega arith
 
-pub step_to-first : (skew : ℕ) (t : Trace) → step_to skew t 0 ≡ []
+-- the group of the opening makes no step
+pub step_to-opening : (skew : ℕ) (t : Trace) → step_to skew t 0 ≡ []
 unfolding group_start
-step_to-first skew t = nothing-between (time_at t 0) (levels_at t 0)
+step_to-opening skew t = step_between-same (time_at t 0) (levels_at t 0)
 
-pub few : (skew : ℕ) (t : Trace) (n : ℕ) → (length (steps_before skew t n) ≤ n - 1)
+-- the groups before that of instant n make at most n - 1 steps, and with that group at most n
+pub length-groups : (skew : ℕ) (t : Trace) (n : ℕ) → (length (steps_before skew t n) ≤ n - 1)
     × (length (steps_before skew t n ++ step_to skew t n) ≤ n)
 unfolding steps_before
-few skew t zero = (omega arith, omega (arith, ap length (step_to-first skew t)))
-few skew t (suc i) = by_test (begins_after skew t (group_start skew t i) i) (few skew t i)
+length-groups skew t zero = (omega arith, omega (arith, ap length (step_to-opening skew t)))
+length-groups skew t (suc i) = by_test (begins_after skew t (group_start skew t i) i) (length-groups skew t i)
   where
     last : length (step_to skew t (suc i)) ≤ 1
-    last = step-one (time_at t (group_start skew t (suc i))) (levels_at t (group_start skew t (suc i) - 1))
+    last = length-step_between (time_at t (group_start skew t (suc i))) (levels_at t (group_start skew t (suc i) - 1))
         (levels_at t (suc i))
 
     before : Bool → List Step
@@ -202,81 +227,92 @@ few skew t (suc i) = by_test (begins_after skew t (group_start skew t i) i) (few
       ),
     )
 
-pub no_longer : (skew : ℕ) (t : Trace) → length (settled skew t).steps ≤ length t.steps
+-- a settled recording has no more steps than the recording
+pub length-settled : (skew : ℕ) (t : Trace) → length (settled skew t).steps ≤ length t.steps
 unfolding settled
-no_longer skew t = (few skew t (length t.steps)).1
+length-settled skew t = (length-groups skew t (length t.steps)).1
 
 -- ---- a skew of 0
 
-later_than : (a b : ℕ) → nat_lt a b ≡ true → nat_lt (a + 0) b ≡ true
-later_than a b h = grind (arith, nat_tests)
+-- a number that is less than another is so with 0 added
+nat_lt-plus_zero : (a b : ℕ) → nat_lt a b ≡ true → nat_lt (a + 0) b ≡ true
+nat_lt-plus_zero a b h = grind (arith, nat_tests)
 
-pub first_or : (n : ℕ) (b c : Bool) → ((n == 0) || b) ≡ true → (b ≡ true → c ≡ true) → ((n == 0) || c) ≡ true
-first_or n b c h more = by_test (n == 0) h
+-- if n is 0 or `b` holds, n is 0 or `c` holds, where `b` implies `c`
+pub first_or-weaker : (n : ℕ) (b c : Bool) → ((n == 0) || b) ≡ true → (b ≡ true → c ≡ true) → ((n == 0) || c) ≡ true
+first_or-weaker n b c h more = by_test (n == 0) h
   where
     by_test : (first : Bool) → (first || b) ≡ true → (first || c) ≡ true
     by_test true e = refl
     by_test false e = more e
 
 -- with a skew of 0 each instant begins its own group
-own_group : (t : Trace) → malformed_step t ≡ None → (n : ℕ) → n ≤ length t.steps → group_start 0 t n ≡ n
+group_start-zero_skew : (t : Trace) → malformed_step t ≡ None → (n : ℕ) → n ≤ length t.steps → group_start 0 t n ≡ n
 unfolding group_start
-own_group t formed zero le = refl
-own_group t formed (suc i) le =
+group_start-zero_skew t formed zero le = refl
+group_start-zero_skew t formed (suc i) le =
     elim (slice_get_cases t.steps i).1 [
       | inl here ↦
-          let so_far = own_group t formed i (omega (arith, le)) in
-          let later = (step-stands t formed i here.0 here.1 here.2).later in
+          let so_far = group_start-zero_skew t formed i (omega (arith, le)) in
+          let later = (MayFollowParts-step t formed i here.0 here.1 here.2).later in
           let begins : begins_after 0 t i i ≡ true =
-          first_or i (nat_lt (time_at t i) here.0.time) (nat_lt (time_at t i + 0) (time_of (slice_get t.steps i))) later
-          (λ h. later_than (time_at t i) (time_of (slice_get t.steps i))
+          first_or-weaker i (nat_lt (time_at t i) here.0.time)
+          (nat_lt (time_at t i + 0) (time_of (slice_get t.steps i))) later
+          (λ h. nat_lt-plus_zero (time_at t i) (time_of (slice_get t.steps i))
           (ap (λ (o : Option Step). nat_lt (time_at t i) (time_of o)) here.2 ∙ h)) in
           ap (λ (start : ℕ). cond (begins_after 0 t start i) (suc i) start) so_far
           ∙ ap (λ (b : Bool). cond b (suc i) i) begins
       | inr past ↦ absurd (omega (arith, past.0, le))
     ]
 
-begins-own_group : (t : Trace) → malformed_step t ≡ None → (i : ℕ) → suc i ≤ length t.steps → begins_after 0 t
+-- with a skew of 0 a group begins after each instant
+begins_after-zero_skew : (t : Trace) → malformed_step t ≡ None → (i : ℕ) → suc i ≤ length t.steps → begins_after 0 t
     (group_start 0 t i) i ≡ true
 unfolding group_start
-begins-own_group t formed i le = by_test (begins_after 0 t (group_start 0 t i) i) (own_group t formed (suc i) le)
+begins_after-zero_skew t formed i le =
+    by_test (begins_after 0 t (group_start 0 t i) i) (group_start-zero_skew t formed (suc i) le)
   where
     by_test : (b : Bool) → cond b (suc i) (group_start 0 t i) ≡ suc i → b ≡ true
     by_test true e = refl
-    by_test false e = absurd (omega (arith, e, start-le 0 t i))
+    by_test false e = absurd (omega (arith, e, group_start-at_most 0 t i))
 
 -- with a skew of 0 the group of an instant makes the step of that instant
-own-step : (t : Trace) → IsRecording t → (i : ℕ) (step : Step) → i < length t.steps → slice_get t.steps i ≡ Some step
+step_to-zero_skew : (t : Trace) → IsRecording t → (i : ℕ) (step : Step) → i < length t.steps → slice_get t.steps i
+    ≡ Some step
     → step_to 0 t (suc i) ≡ step ∷ []
 unfolding levels_at
-own-step t is i step lt found =
-    let stand = step-stands t is.formed i step lt found in
+step_to-zero_skew t is i step lt found =
+    let stand = MayFollowParts-step t is.formed i step lt found in
     let one_less : suc i - 1 ≡ i = omega arith in
     ap (λ (start : ℕ). step_between (time_at t start) (levels_at t (start - 1)) (levels_at t (suc i)))
-    (own_group t is.formed (suc i) (omega (arith, lt)))
+    (group_start-zero_skew t is.formed (suc i) (omega (arith, lt)))
     ∙ ap (λ (j : ℕ). step_between (time_at t (suc i)) (levels_at t j) (levels_at t (suc i))) one_less
     ∙ ap (λ (o : Option Step). step_between (time_of o) (levels_at t i) (after (levels_at t i) o)) found
-    ∙ step-between step.time (levels_at t i) step.changes (length-at t i ∙ is.whole) stand.changes stand.some
+    ∙ step_between-changed step.time (levels_at t i) step.changes (length-levels_at t i ∙ is.whole) stand.changes
+    stand.some
 
-all-own_group : (t : Trace) → IsRecording t → (n : ℕ) → n ≤ length t.steps → steps_before 0 t n ++ step_to 0 t n
+-- with a skew of 0 the groups up to instant n make the first n steps
+groups-zero_skew : (t : Trace) → IsRecording t → (n : ℕ) → n ≤ length t.steps → steps_before 0 t n ++ step_to 0 t n
     ≡ take n t.steps
 unfolding steps_before
-all-own_group t is zero le = step_to-first 0 t
-all-own_group t is (suc i) le =
+groups-zero_skew t is zero le = step_to-opening 0 t
+groups-zero_skew t is (suc i) le =
     elim (slice_get_cases t.steps i).1 [
       | inl here ↦
           let one_more : i + 1 ≡ suc i = omega arith in
           ap (λ (b : Bool). cond b (steps_before 0 t i ++ step_to 0 t i) (steps_before 0 t i) ++ step_to 0 t (suc i))
-          (begins-own_group t is.formed i le)
-          ∙ ap (λ (xs : List Step). xs ++ step_to 0 t (suc i)) (all-own_group t is i (omega (arith, le)))
-          ∙ ap (λ (xs : List Step). take i t.steps ++ xs) (own-step t is i here.0 here.1 here.2)
+          (begins_after-zero_skew t is.formed i le)
+          ∙ ap (λ (xs : List Step). xs ++ step_to 0 t (suc i)) (groups-zero_skew t is i (omega (arith, le)))
+          ∙ ap (λ (xs : List Step). take i t.steps ++ xs) (step_to-zero_skew t is i here.0 here.1 here.2)
           ∙ sym (taken_more t.steps i here.0 here.2) ∙ ap (λ (n : ℕ). take n t.steps) one_more
       | inr past ↦ absurd (omega (arith, past.0, le))
     ]
 
-pub by_zero : (t : Trace) → IsRecording t → settled 0 t ≡ t
+-- a skew of 0 leaves a recording as it is
+pub settled-zero_skew : (t : Trace) → IsRecording t → settled 0 t ≡ t
 unfolding settled
-by_zero t is = ap of_these (all-own_group t is (length t.steps) (omega arith) ∙ take_all (length t.steps) t.steps
+settled-zero_skew t is =
+    ap of_these (groups-zero_skew t is (length t.steps) (omega arith) ∙ take_all (length t.steps) t.steps
     (omega arith))
   where
     of_these : List Step → Trace
@@ -284,6 +320,7 @@ by_zero t is = ap of_these (all-own_group t is (length t.steps) (omega arith) �
 
 -- ---- a settled recording is well formed
 
+-- the recording with this opening and these steps
 abbrev of_steps : Levels → List Step → Trace
 of_steps o xs = record { opening = o; steps = xs }
 
@@ -293,43 +330,50 @@ record AreFormed (o : Levels) (xs : List Step) (v : Levels) (clock : ℕ) : Type
   left : levels_at (of_steps o xs) (length xs) ≡ v
   time : time_at (of_steps o xs) (length xs) ≡ clock
 
-get_left : (xs : List Step) (step : Step) (i : ℕ) → i < length xs → slice_get (xs ++ step ∷ []) i ≡ slice_get xs i
-get_left [] step i lt = absurd (omega (arith, lt))
-get_left (x ∷ xs) step zero lt = refl
-get_left (x ∷ xs) step (suc i) lt = get_left xs step i (omega (arith, lt))
+-- an element before the last is found without the last
+slice_get-before_last : (xs : List Step) (step : Step) (i : ℕ) → i < length xs → slice_get (xs ++ step ∷ []) i
+    ≡ slice_get xs i
+slice_get-before_last [] step i lt = absurd (omega (arith, lt))
+slice_get-before_last (x ∷ xs) step zero lt = refl
+slice_get-before_last (x ∷ xs) step (suc i) lt = slice_get-before_last xs step i (omega (arith, lt))
 
-pub get_last : (xs : List Step) (step : Step) → slice_get (xs ++ step ∷ []) (length xs) ≡ Some step
-get_last [] step = refl
-get_last (x ∷ xs) step = get_last xs step
+-- the last element is at the index after all others
+pub slice_get-last : (xs : List Step) (step : Step) → slice_get (xs ++ step ∷ []) (length xs) ≡ Some step
+slice_get-last [] step = refl
+slice_get-last (x ∷ xs) step = slice_get-last xs step
 
-pub length_more : (xs : List Step) (step : Step) → length (xs ++ step ∷ []) ≡ suc (length xs)
-length_more [] step = refl
-length_more (x ∷ xs) step = ap suc (length_more xs step)
+-- a list has one element more with one appended
+pub length-append_one : (xs : List Step) (step : Step) → length (xs ++ step ∷ []) ≡ suc (length xs)
+length-append_one [] step = refl
+length-append_one (x ∷ xs) step = ap suc (length-append_one xs step)
 
-pub still_step : (o : Levels) (xs : List Step) (step : Step) (i : ℕ) → i < length xs
+-- whether step i may follow those before it doesn't depend on a later step
+pub is_step-append : (o : Levels) (xs : List Step) (step : Step) (i : ℕ) → i < length xs
     → is_step (of_steps o (xs ++ step ∷ [])) i ≡ is_step (of_steps o xs) i
 unfolding is_step
-still_step o xs step i lt =
+is_step-append o xs step i lt =
     let t : Trace = of_steps o xs in
     let u : Trace = of_steps o (xs ++ step ∷ []) in
-    ap (fits u i) (get_left xs step i lt) ∙ by_step (slice_get xs i)
+    ap (fits u i) (slice_get-before_last xs step i lt) ∙ by_step (slice_get xs i)
   where
     by_step : (found : Option Step) → fits (of_steps o (xs ++ step ∷ [])) i found ≡ fits (of_steps o xs) i found
     by_step None = refl
     by_step (Some s) =
         ap (λ (v : Levels). may_follow v i (time_at (of_steps o (xs ++ step ∷ [])) i) s)
-        (levels-kept (of_steps o xs) step i (omega (arith, lt)))
+        (levels_at-with_step (of_steps o xs) step i (omega (arith, lt)))
         ∙ ap (λ (clock : ℕ). may_follow (levels_at (of_steps o xs) i) i clock s)
-        (time-kept (of_steps o xs) step i (omega (arith, lt)))
+        (time_at-with_step (of_steps o xs) step i (omega (arith, lt)))
 
-formed-more : (o : Levels) (xs : List Step) (v : Levels) (clock : ℕ) (step : Step) → AreFormed o xs v clock
+-- well-formed steps with one more, which may follow them, are well formed, and lead on by its changes to its time
+AreFormed-append : (o : Levels) (xs : List Step) (v : Levels) (clock : ℕ) (step : Step) → AreFormed o xs v clock
     → may_follow v (length xs) clock step ≡ true → AreFormed o (xs ++ step ∷ []) (changed v step.changes) step.time
-formed-more o xs v clock step h may = record {
-  sound = ap (any (λ i. not (is_step u i)) 0) (length_more xs step) ∙ fails-any (λ i. not (is_step u i)) 0
+AreFormed-append o xs v clock step h may = record {
+  sound = ap (any (λ i. not (is_step u i)) 0) (length-append_one xs step) ∙ fails-any (λ i. not (is_step u i)) 0
       (suc (length xs)) each;
-  left = ap (levels_at u) (length_more xs step) ∙ levels-last t step ∙ ap (λ (w : Levels). changed w step.changes)
+  left = ap (levels_at u) (length-append_one xs step) ∙ levels_at-last t step
+      ∙ ap (λ (w : Levels). changed w step.changes)
       h.left;
-  time = ap (time_at u) (length_more xs step) ∙ time-last t step;
+  time = ap (time_at u) (length-append_one xs step) ∙ time_at-last t step;
 }
   where
     t : Trace
@@ -340,24 +384,26 @@ formed-more o xs v clock step h may = record {
 
     last : is_step u (length xs) ≡ true
     last =
-        fits-at u (length xs) v clock step (sym (levels-kept t step (length xs) (omega arith) ∙ h.left))
-        (sym (time-kept t step (length xs) (omega arith) ∙ h.time)) (get_last xs step)
+        fits-at u (length xs) v clock step (sym (levels_at-with_step t step (length xs) (omega arith) ∙ h.left))
+        (sym (time_at-with_step t step (length xs) (omega arith) ∙ h.time)) (slice_get-last xs step)
         ∙ may
 
     each : (i : ℕ) → 0 ≤ i → i < suc (length xs) → not (is_step u i) ≡ false
     each i low lt = elim (last_or_before (length xs) i lt) [
       | inl e ↦ ap (λ (j : ℕ). not (is_step u j)) e ∙ ap not last
-      | inr less ↦ ap not (still_step o xs step i less) ∙ any-fails (λ i. not (is_step t i)) 0 (length xs) i h.sound
+      | inr less ↦ ap not (is_step-append o xs step i less) ∙ any-fails (λ i. not (is_step t i)) 0 (length xs) i h.sound
           (omega arith) less
     ]
       where
         last_or_before : (n i : ℕ) → i < suc n → (i ≡ n) ⊎ (i < n)
         last_or_before n i h = grind arith
 
-formed-first : (o : Levels) → AreFormed o [] o 0
+-- no steps are well formed, and lead from the opening to the opening
+AreFormed-none : (o : Levels) → AreFormed o [] o 0
 unfolding levels_at any
-formed-first o = record { sound = refl; left = refl; time = refl }
+AreFormed-none o = record { sound = refl; left = refl; time = refl }
 
+-- the test whether n is 0 or `time` is later than `clock` holds if either does
 first_or_later : (n clock time : ℕ) → (n ≡ 0) ⊎ (clock < time) → ((n == 0) || nat_lt clock time) ≡ true
 first_or_later n clock time (inl e) = grind (arith, nat_tests)
 first_or_later n clock time (inr lt) = grind (arith, nat_tests)
@@ -370,77 +416,87 @@ record AreSettled (o : Levels) (xs : List Step) (v : Levels) (IsBefore : ℕ →
   earlier : (length xs ≡ 0) ⊎ IsBefore clock
 
 -- one more step, from the levels `v` to `w`, at a later time
-one-more : (o : Levels) (xs : List Step) (v w : Levels) (time : ℕ) → Leads v w → AreSettled o xs v
+AreSettled-step_between : (o : Levels) (xs : List Step) (v w : Levels) (time : ℕ) → Leads v w → AreSettled o xs v
     (λ clock. clock < time) → AreSettled o (xs ++ step_between time v w) w (λ clock. clock ≤ time)
-one-more o xs v w time leads h = by_test (any (differs v w) 0 line_count) refl
+AreSettled-step_between o xs v w time can_lead h = by_test (any (differs v w) 0 line_count) refl
   where
     by_test : (b : Bool) → any (differs v w) 0 line_count ≡ b
         → AreSettled o (xs ++ cond b (made_step time (changes_between v w)) []) w (λ clock. clock ≤ time)
     by_test true some =
         let step : Step = record { time = time; changes = changes_between v w } in
-        let may = between-may v w (length xs) h.clock time leads some (first_or_later (length xs) h.clock time
+        let may = may_follow-between v w (length xs) h.clock time can_lead some (first_or_later (length xs) h.clock time
         h.earlier) in
         record {
           clock = time;
-          formed = subst (λ (u : Levels). AreFormed o (xs ++ step ∷ []) u time) (changes-lead v w leads.one)
-              (formed-more o xs v h.clock step h.formed may);
+          formed = subst (λ (u : Levels). AreFormed o (xs ++ step ∷ []) u time)
+              (changed-changes_between v w can_lead.one)
+              (AreFormed-append o xs v h.clock step h.formed may);
           earlier = inr (omega arith);
         }
     by_test false none =
         subst (λ (ys : List Step). AreSettled o ys w (λ clock. clock ≤ time)) (sym (append-nil xs)) (record {
           clock = h.clock;
-          formed = subst (λ (u : Levels). AreFormed o xs u h.clock) (all_alike v w leads.one none) h.formed;
+          formed = subst (λ (u : Levels). AreFormed o xs u h.clock) (equal-no_difference v w can_lead.one none)
+              h.formed;
           earlier = elim h.earlier [ inl e ↦ inl e | inr lt ↦ inr (omega (arith, lt)) ];
         })
 
-pub begins_is : (i a b : ℕ) → ((i == 0) || nat_lt a b) ≡ true → (i ≡ 0) ⊎ (a < b)
-begins_is i a b h = elim (or_cases (i == 0) (nat_lt a b) h) [
+-- where the test holds, either is so
+pub first_or_later-cases : (i a b : ℕ) → ((i == 0) || nat_lt a b) ≡ true → (i ≡ 0) ⊎ (a < b)
+first_or_later-cases i a b h = elim (or_cases (i == 0) (nat_lt a b) h) [
   | inl first ↦ inl (eqb-true i 0 first)
   | inr later ↦ inr (ltb-true a b later)
 ]
 
 module _ (skew : ℕ) (t : Trace) (is : IsRecording t) where
+  -- the steps of the groups before that of instant n are well formed, and earlier than that group
   abbrev BeforeGroup : ℕ → Type 0
   BeforeGroup n = AreSettled t.opening (steps_before skew t n) (levels_at t (group_start skew t n - 1))
       (λ clock. clock < time_at t (group_start skew t n))
 
+  -- the steps of the groups up to instant n are well formed, and no later than the last group
   abbrev UpTo : ℕ → Type 0
   UpTo n = AreSettled t.opening (steps_before skew t n ++ step_to skew t n) (levels_at t n)
       (λ clock. clock ≤ time_at t (group_start skew t n))
 
-  up_to : (n : ℕ) → BeforeGroup n → UpTo n
-  up_to n h = one-more t.opening (steps_before skew t n) (levels_at t (group_start skew t n - 1)) (levels_at t n)
-      (time_at t (group_start skew t n)) (leads t is (group_start skew t n - 1) n) h
+  -- with the step of the group of instant n, the steps before it are well formed
+  UpTo-BeforeGroup : (n : ℕ) → BeforeGroup n → UpTo n
+  UpTo-BeforeGroup n h = AreSettled-step_between t.opening (steps_before skew t n)
+      (levels_at t (group_start skew t n - 1)) (levels_at t n)
+      (time_at t (group_start skew t n)) (Leads-levels_at t is (group_start skew t n - 1) n) h
 
-  nothing_first : (i : ℕ) → i ≡ 0 → length (steps_before skew t i ++ step_to skew t i) ≡ 0
-  nothing_first i e = omega (arith, (few skew t i).1, e)
+  -- the groups up to the opening make no step
+  length-groups_opening : (i : ℕ) → i ≡ 0 → length (steps_before skew t i ++ step_to skew t i) ≡ 0
+  length-groups_opening i e = omega (arith, (length-groups skew t i).1, e)
 
-  before_group : (n : ℕ) → BeforeGroup n
+  -- the steps of the groups before that of instant n are well formed
+  BeforeGroup-instant : (n : ℕ) → BeforeGroup n
   unfolding group_start steps_before levels_at
-  before_group zero = record { clock = 0; formed = formed-first t.opening; earlier = inl refl }
-  before_group (suc i) = by_test (begins_after skew t (group_start skew t i) i) refl (before_group i)
+  BeforeGroup-instant zero = record { clock = 0; formed = AreFormed-none t.opening; earlier = inl refl }
+  BeforeGroup-instant (suc i) = by_test (begins_after skew t (group_start skew t i) i) refl (BeforeGroup-instant i)
     where
       by_test : (b : Bool) → begins_after skew t (group_start skew t i) i ≡ b → BeforeGroup i
           → AreSettled t.opening (cond b (steps_before skew t i ++ step_to skew t i) (steps_before skew t i))
           (levels_at t (cond b (suc i) (group_start skew t i) - 1))
           (λ clock. clock < time_at t (cond b (suc i) (group_start skew t i)))
       by_test true e h =
-          let so_far : UpTo i = up_to i h in
+          let so_far : UpTo i = UpTo-BeforeGroup i h in
           let one_less : i ≡ suc i - 1 = omega arith in
           subst (λ (j : ℕ). AreSettled t.opening (steps_before skew t i ++ step_to skew t i) (levels_at t j)
           (λ clock. clock < time_at t (suc i))) one_less (record {
             clock = so_far.clock;
             formed = so_far.formed;
-            earlier = elim (begins_is i (time_at t (group_start skew t i) + skew) (time_at t (suc i)) e) [
-              | inl first ↦ inl (nothing_first i first)
+            earlier = elim (first_or_later-cases i (time_at t (group_start skew t i) + skew) (time_at t (suc i)) e) [
+              | inl first ↦ inl (length-groups_opening i first)
               | inr later ↦ elim so_far.earlier [ inl none ↦ inl none | inr le ↦ inr (omega (arith, le, later)) ]
             ];
           })
       by_test false e h = h
 
-pub is_recording : (skew : ℕ) (t : Trace) → IsRecording t → IsRecording (settled skew t)
+-- a settled recording is a recording
+pub IsRecording-settled : (skew : ℕ) (t : Trace) → IsRecording t → IsRecording (settled skew t)
 unfolding settled malformed_step
-is_recording skew t is =
-    let all = up_to skew t is (length t.steps) (before_group skew t is (length t.steps)) in
+IsRecording-settled skew t is =
+    let all = UpTo-BeforeGroup skew t is (length t.steps) (BeforeGroup-instant skew t is (length t.steps)) in
     let u : Trace = of_steps t.opening (steps_before skew t (length t.steps) ++ step_to skew t (length t.steps)) in
     record { whole = is.whole; formed = least-none (λ i. not (is_step u i)) 0 (length u.steps) all.formed.sound }

@@ -1,4 +1,5 @@
--- The lines that a group touches, and showing them in the order of their numbers.
+-- Showing the lines that a group touched, in the order of their numbers, gives the changes from the levels before the
+-- group to those after it.
 use Rattle.std.proofs.Common.{◌≡◌, ◌≢◌, ℕ, zero, suc, ◌+◌, ◌<◌, ◌≤◌, true, false, not, List, [], ◌∷◌, ◌++◌}
 use Rattle.std.proofs.Common.{length, map, get_or, refl, sym, ap, ◌∙◌, subst, arith, inl, inr, ◌⊎◌}
 use Rattle.std.specs.Prelude.{All, Contains}
@@ -21,9 +22,10 @@ use Rattle.vme_skew.specs.Group.{ListsTouchedLines}
 -- ---- the lines that were touched
 
 -- a line gets any level, and is listed
-pub touched-more : (before now : Levels) (touched : List ℕ) (m : ℕ) (x : Level) → ListsTouchedLines before now touched
+pub ListsTouchedLines-set : (before now : Levels) (touched : List ℕ) (m : ℕ) (x : Level)
+    → ListsTouchedLines before now touched
     → IsLine before.slots m → ListsTouchedLines before (set_level now m x) (touched ++ m ∷ [])
-touched-more before now touched m x h line = record {
+ListsTouchedLines-set before now touched m x h line = record {
   slots = h.slots;
   before_all = h.before_all;
   now_all = length-set_level now m x h.now_all;
@@ -37,9 +39,10 @@ touched-more before now touched m x h line = record {
   ];
 }
 
-pub touched-permuted : (before now : Levels) (touched others : List ℕ) → ListsTouchedLines before now touched
+-- the touched lines may be listed in any order
+pub ListsTouchedLines-permuted : (before now : Levels) (touched others : List ℕ) → ListsTouchedLines before now touched
     → IsPermutation touched others → ListsTouchedLines before now others
-touched-permuted before now touched others h p = record {
+ListsTouchedLines-permuted before now touched others h p = record {
   slots = h.slots;
   before_all = h.before_all;
   now_all = h.now_all;
@@ -48,9 +51,9 @@ touched-permuted before now touched others h p = record {
 }
 
 -- where nothing has changed, no line has to be listed
-pub touched-none : (before now : Levels) → before ≡ now
+pub ListsTouchedLines-same : (before now : Levels) → before ≡ now
     → length now.levels ≡ line_count → ListsTouchedLines before now []
-touched-none before now e all = record {
+ListsTouchedLines-same before now e all = record {
   slots = ap (λ (v : Levels). v.slots) (sym e);
   before_all = ap (λ (v : Levels). length v.levels) e ∙ all;
   now_all = all;
@@ -90,9 +93,10 @@ place_cases touched (suc i) k l sorted lt e here =
     ]
 
 -- between the bound and the next touched line no line differs
-quiet_before : (before now : Levels) (touched : List ℕ) (i l : ℕ) → IsNonDecreasing touched → ListsTouchedLines before
+differs-before_touched : (before now : Levels) (touched : List ℕ) (i l : ℕ) → IsNonDecreasing touched
+    → ListsTouchedLines before
     now touched → i < length touched → bound touched i ≤ l → l < get_or touched i 0 → differs before now l ≡ false
-quiet_before before now touched i l sorted h here low high =
+differs-before_touched before now touched i l sorted h here low high =
     elim (cases_Bool (differs before now l)) [
       | inl d ↦
           let in' = h.listed l d in
@@ -103,18 +107,22 @@ quiet_before before now touched i l sorted h here low high =
       | inr none ↦ none
     ]
 
-bound_low : (touched : List ℕ) (i : ℕ) → IsNonDecreasing touched → i < length touched → bound touched i ≤ get_or touched
+-- the bound at place i is at most one past the line at i
+bound-at_most : (touched : List ℕ) (i : ℕ) → IsNonDecreasing touched → i < length touched
+    → bound touched i ≤ get_or touched
     i 0 + 1
-bound_low touched zero sorted here = omega arith
-bound_low touched (suc i) sorted here = omega (arith, sorted i (suc i) 0 (omega arith) here)
+bound-at_most touched zero sorted here = omega arith
+bound-at_most touched (suc i) sorted here = omega (arith, sorted i (suc i) 0 (omega arith) here)
 
-bound_next : (touched : List ℕ) (i : ℕ) → bound touched (i + 1) ≡ get_or touched i 0 + 1
-bound_next touched i = let more : i + 1 ≡ suc i = omega arith in ap (bound touched) more
+-- the bound at place i + 1 is one past the line at i
+bound-next : (touched : List ℕ) (i : ℕ) → bound touched (i + 1) ≡ get_or touched i 0 + 1
+bound-next touched i = let more : i + 1 ≡ suc i = omega arith in ap (bound touched) more
 
 -- after the last touched line no line differs
-quiet_after : (before now : Levels) (touched : List ℕ) (i l : ℕ) → IsNonDecreasing touched → ListsTouchedLines before
+differs-after_touched : (before now : Levels) (touched : List ℕ) (i l : ℕ) → IsNonDecreasing touched
+    → ListsTouchedLines before
     now touched → length touched ≤ i → i ≤ length touched → bound touched i ≤ l → differs before now l ≡ false
-quiet_after before now touched i l sorted h past le low =
+differs-after_touched before now touched i l sorted h past le low =
     elim (cases_Bool (differs before now l)) [
       | inl d ↦ let in' = h.listed l d in absurd (at_end i le past low in'.0 in'.1 in'.2)
       | inr none ↦ none
@@ -131,10 +139,11 @@ quiet_after before now touched i l sorted h past le low =
       e,
     )
 
-pub shown-first : (touched : List ℕ) (before now : Levels) → ListsTouchedLines before now touched → AreShown touched 0
+-- before the first touched line, no line is shown
+pub AreShown-none : (touched : List ℕ) (before now : Levels) → ListsTouchedLines before now touched → AreShown touched 0
     before now before []
 unfolding those
-shown-first touched before now h = record {
+AreShown-none touched before now h = record {
   slots = h.slots;
   shown_all = h.before_all;
   changes_are = refl;
@@ -143,18 +152,18 @@ shown-first touched before now h = record {
 }
 
 -- the line at place i is shown as it is: it needs no change
-pub shown-same : (touched : List ℕ) (i : ℕ) (before now shown : Levels) (changes : List Change) → IsNonDecreasing
+pub AreShown-same : (touched : List ℕ) (i : ℕ) (before now shown : Levels) (changes : List Change) → IsNonDecreasing
     touched → ListsTouchedLines before now touched → i < length touched
     → same_level (level_at shown (get_or touched i 0)) (level_at now (get_or touched i 0)) ≡ true
     → AreShown touched i before now shown changes → AreShown touched (i + 1) before now shown changes
-shown-same touched i before now shown changes sorted t here same h =
+AreShown-same touched i before now shown changes sorted t here same h =
     let x : ℕ = get_or touched i 0 in
-    let low : bound touched i ≤ get_or touched i 0 + 1 = bound_low touched i sorted here in
-    let next : bound touched (i + 1) ≡ get_or touched i 0 + 1 = bound_next touched i in
+    let low : bound touched i ≤ get_or touched i 0 + 1 = bound-at_most touched i sorted here in
+    let next : bound touched (i + 1) ≡ get_or touched i 0 + 1 = bound-next touched i in
     let is : level_at shown (get_or touched i 0) ≡ level_at now (get_or touched i 0) = same_level-is _ _ same in
-    let quiet : (l : ℕ) → bound touched i ≤ l → l < get_or touched i 0 + 1 → differs before now l ≡ false =
+    let no_difference : (l : ℕ) → bound touched i ≤ l → l < get_or touched i 0 + 1 → differs before now l ≡ false =
     λ l le lt. elim (cases_lt l (get_or touched i 0)) [
-      | inl less ↦ quiet_before before now touched i l sorted t here le less
+      | inl less ↦ differs-before_touched before now touched i l sorted t here le less
       | inr more ↦
           let e : l ≡ get_or touched i 0 = omega (arith, lt, more) in
           no_difference_at before now l (sym (h.above l le) ∙ ap (level_at shown) e ∙ is ∙ ap (level_at now) (sym e))
@@ -163,34 +172,35 @@ shown-same touched i before now shown changes sorted t here same h =
       slots = h.slots;
       shown_all = h.shown_all;
       changes_are = h.changes_are ∙ ap (map (change_to now))
-          (sym (those-skip (differs before now) (bound touched i) (get_or touched i 0 + 1) low quiet)
+          (sym (those-skip (differs before now) (bound touched i) (get_or touched i 0 + 1) low no_difference)
           ∙ ap (those (differs before now) 0) (sym next));
       below = λ l lt. elim (cases_lt l (bound touched i)) [
         | inl less ↦ h.below l less
-        | inr more ↦ h.above l more ∙ same_unless_differs before now l (quiet l more (omega (arith, lt, next)))
+        | inr more ↦ h.above l more ∙ same_unless_differs before now l (no_difference l more (omega (arith, lt, next)))
       ];
       above = λ l le. h.above l (omega (arith, le, next, low));
     }
 
 -- the line at place i has another level than is shown: it changes
-pub shown-more : (touched : List ℕ) (i : ℕ) (before now shown : Levels) (changes : List Change) → IsNonDecreasing
+pub AreShown-changed : (touched : List ℕ) (i : ℕ) (before now shown : Levels) (changes : List Change) → IsNonDecreasing
     touched → ListsTouchedLines before now touched → i < length touched
     → same_level (level_at shown (get_or touched i 0)) (level_at now (get_or touched i 0)) ≡ false
     → AreShown touched i before now shown changes
     → AreShown touched (i + 1) before now (set_level shown (get_or touched i 0) (level_at now (get_or touched i 0)))
     (changes ++ change_to now (get_or touched i 0) ∷ [])
-shown-more touched i before now shown changes sorted t here other h =
+AreShown-changed touched i before now shown changes sorted t here other h =
     let low : bound touched i ≤ get_or touched i 0 =
     elim (cases_lt (get_or touched i 0) (bound touched i)) [
       | inl less ↦ absurd (false≢true (sym other ∙ ap (λ (y : Level). same_level y (level_at now (get_or touched i 0)))
           (h.below _ less) ∙ same_level-refl (level_at now (get_or touched i 0))))
       | inr more ↦ more
     ] in
-    let next : bound touched (i + 1) ≡ get_or touched i 0 + 1 = bound_next touched i in
+    let next : bound touched (i + 1) ≡ get_or touched i 0 + 1 = bound-next touched i in
     let line = t.lines i 0 here in
     let d : differs before now (get_or touched i 0) ≡ true = not_from_false _
     (ap (λ (y : Level). same_level y (level_at now (get_or touched i 0))) (sym (h.above _ low)) ∙ other) in
-    let quiet = λ (l : ℕ) (le : bound touched i ≤ l) (lt : l < get_or touched i 0). quiet_before before now touched i l
+    let no_difference = λ (l : ℕ) (le : bound touched i ≤ l) (lt : l < get_or touched i 0). differs-before_touched
+    before now touched i l
     sorted t here le lt in
     record {
       slots = h.slots;
@@ -198,7 +208,7 @@ shown-more touched i before now shown changes sorted t here other h =
       changes_are =
           ap (λ (cs : List Change). cs ++ change_to now (get_or touched i 0) ∷ [])
           (h.changes_are ∙ ap (map (change_to now))
-          (sym (those-skip (differs before now) (bound touched i) (get_or touched i 0) low quiet)))
+          (sym (those-skip (differs before now) (bound touched i) (get_or touched i 0) low no_difference)))
           ∙ sym (map_push (change_to now) (those (differs before now) 0 (get_or touched i 0)) (get_or touched i 0))
           ∙ ap (map (change_to now)) (sym (those-yes (differs before now) (get_or touched i 0) d)
           ∙ ap (those (differs before now) 0) (sym next));
@@ -208,7 +218,8 @@ shown-more touched i before now shown changes sorted t here other h =
             ∙ ap (level_at now) (sym e)
         | inr ne ↦ level_at-set_other shown (get_or touched i 0) l _ ne ∙ elim (cases_lt l (bound touched i)) [
           | inl less ↦ h.below l less
-          | inr more ↦ h.above l more ∙ same_unless_differs before now l (quiet l more (omega (arith, lt, next, ne)))
+          | inr more ↦ h.above l more ∙ same_unless_differs before now l
+              (no_difference l more (omega (arith, lt, next, ne)))
         ]
       ];
       above = λ l le. let ne : l ≢ get_or touched i 0 = omega (arith, le, next) in
@@ -216,9 +227,10 @@ shown-more touched i before now shown changes sorted t here other h =
     }
 
 -- the lines on which `shown` and `now` differ are still listed
-pub shown-touched : (touched : List ℕ) (i : ℕ) (before now shown : Levels) (changes : List Change) → ListsTouchedLines
+pub ListsTouchedLines-shown : (touched : List ℕ) (i : ℕ) (before now shown : Levels) (changes : List Change)
+    → ListsTouchedLines
     before now touched → AreShown touched i before now shown changes → ListsTouchedLines shown now touched
-shown-touched touched i before now shown changes t h = record {
+ListsTouchedLines-shown touched i before now shown changes t h = record {
   slots = h.slots;
   before_all = h.shown_all;
   now_all = t.now_all;
@@ -230,50 +242,61 @@ shown-touched touched i before now shown changes t h = record {
   ];
 }
 
-bound_most : (before now : Levels) (touched : List ℕ) (i : ℕ) → ListsTouchedLines before now touched
+-- the bound is at most `line_count`
+bound-line_count : (before now : Levels) (touched : List ℕ) (i : ℕ) → ListsTouchedLines before now touched
     → i ≤ length touched → bound touched i ≤ line_count
-bound_most before now touched zero t le = omega arith
-bound_most before now touched (suc i) t le = omega (arith, (t.lines i 0 (omega arith)).below)
+bound-line_count before now touched zero t le = omega arith
+bound-line_count before now touched (suc i) t le = omega (arith, (t.lines i 0 (omega arith)).below)
 
-pub shown-changes : (touched : List ℕ) (i : ℕ) (before now shown : Levels) (changes : List Change) → IsNonDecreasing
+-- after the last touched line, the changes are those from `before` to `now`
+pub AreShown-changes : (touched : List ℕ) (i : ℕ) (before now shown : Levels) (changes : List Change) → IsNonDecreasing
     touched → ListsTouchedLines before now touched → length touched ≤ i → i ≤ length touched → AreShown touched i before
     now shown changes → changes ≡ changes_between before now
-shown-changes touched i before now shown changes sorted t past le h =
+AreShown-changes touched i before now shown changes sorted t past le h =
     h.changes_are ∙ ap (map (change_to now))
-    (sym (those-skip (differs before now) (bound touched i) line_count (bound_most before now touched i t le)
-    (λ l low high. quiet_after before now touched i l sorted t past le low)))
+    (sym (those-skip (differs before now) (bound touched i) line_count (bound-line_count before now touched i t le)
+    (λ l low high. differs-after_touched before now touched i l sorted t past le low)))
 
-pub shown-all : (touched : List ℕ) (i : ℕ) (before now shown : Levels) (changes : List Change) → IsNonDecreasing touched
+-- after the last touched line, the levels that are shown are those of `now`
+pub AreShown-all : (touched : List ℕ) (i : ℕ) (before now shown : Levels) (changes : List Change)
+    → IsNonDecreasing touched
     → ListsTouchedLines before now touched → length touched ≤ i → i ≤ length touched → AreShown touched i before now
     shown
     changes → shown ≡ now
-shown-all touched i before now shown changes sorted t past le h =
+AreShown-all touched i before now shown changes sorted t past le h =
     same_levels shown now (sym h.slots) h.shown_all t.now_all (λ l lt. elim (cases_lt l (bound touched i)) [
       | inl less ↦ h.below l less
       | inr more ↦ h.above l more ∙ same_unless_differs before now l
-          (quiet_after before now touched i l sorted t past le more)
+          (differs-after_touched before now touched i l sorted t past le more)
     ])
 
--- the line at place `i`, whatever default it is read with
+-- ---- the same of the line at place `i` that is read with another default
 
-line_at : (touched : List ℕ) (i x : ℕ) → i < length touched → x ≡ get_or touched i x → x ≡ get_or touched i 0
-line_at touched i x lt e = e ∙ get_or_default touched i x 0 lt
+-- the line at place i is that which is read with the default 0
+get_or-default_zero : (touched : List ℕ) (i x : ℕ) → i < length touched → x ≡ get_or touched i x → x
+    ≡ get_or touched i 0
+get_or-default_zero touched i x lt e = e ∙ get_or_default touched i x 0 lt
 
-pub line-same : (touched : List ℕ) (i : ℕ) (before now shown : Levels) (changes : List Change) (x : ℕ) → IsNonDecreasing
+-- the line x at place i is shown as it is: it needs no change
+pub AreShown-line_same : (touched : List ℕ) (i : ℕ) (before now shown : Levels) (changes : List Change) (x : ℕ)
+    → IsNonDecreasing
     touched → ListsTouchedLines before now touched → i < length touched → x ≡ get_or touched i x
     → same_level (level_at shown x) (level_at now x) ≡ true → AreShown touched i before now shown changes
     → AreShown touched (i + 1) before now shown changes
-line-same touched i before now shown changes x sorted t here e same h =
-    shown-same touched i before now shown changes sorted t here
-    (subst (λ (y : ℕ). same_level (level_at shown y) (level_at now y) ≡ true) (line_at touched i x here e) same) h
+AreShown-line_same touched i before now shown changes x sorted t here e same h =
+    AreShown-same touched i before now shown changes sorted t here
+    (subst (λ (y : ℕ). same_level (level_at shown y) (level_at now y) ≡ true) (get_or-default_zero touched i x here e)
+    same) h
 
-pub line-more : (touched : List ℕ) (i : ℕ) (before now shown : Levels) (changes : List Change) (x : ℕ) → IsNonDecreasing
+-- the line x at place i has another level than is shown: it changes
+pub AreShown-line_changed : (touched : List ℕ) (i : ℕ) (before now shown : Levels) (changes : List Change) (x : ℕ)
+    → IsNonDecreasing
     touched → ListsTouchedLines before now touched → i < length touched → x ≡ get_or touched i x
     → same_level (level_at shown x) (level_at now x) ≡ false → AreShown touched i before now shown changes
     → AreShown touched (i + 1) before now (set_level shown x (level_at now x)) (changes ++ change_to now x ∷ [])
-line-more touched i before now shown changes x sorted t here e other h =
-    let is = line_at touched i x here e in
+AreShown-line_changed touched i before now shown changes x sorted t here e other h =
+    let is = get_or-default_zero touched i x here e in
     subst (λ (y : ℕ). AreShown touched (i + 1) before now (set_level shown y (level_at now y))
     (changes ++ change_to now y ∷ [])) (sym is)
-    (shown-more touched i before now shown changes sorted t here
+    (AreShown-changed touched i before now shown changes sorted t here
     (subst (λ (y : ℕ). same_level (level_at shown y) (level_at now y) ≡ false) is other) h)

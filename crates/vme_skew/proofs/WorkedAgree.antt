@@ -1,4 +1,4 @@
--- The worked recordings, computed from the definitions.
+-- The worked recordings settle, and are complete, as they are listed; computed from the definitions.
 use Rattle.std.proofs.Common.{refl}
 use Rattle.vme_trace.specs.Instants.{any, those}
 use Rattle.vme_trace.specs.Trace.{changed, levels_at}
@@ -9,11 +9,13 @@ use Rattle.vme_skew.specs.Worked.{AllComplete, worked_times, later_by_the_skew, 
 use Rattle.vme_skew.specs.Worked.{by_nothing_after_last, by_nothing_at_last, first_by_more, never_over, reaches_none}
 use Rattle.vme_skew.specs.Worked.{over_without_step}
 
+-- each worked recording settles to the steps that it names
 pub worked_settle : AllSettle worked
 unfolding settled steps_before group_start levels_at changed any those just_within just_past by_nothing over_all
     greatest glitch ends_as_it_began reset_and_loss_within reset_and_loss_last nothing
 worked_settle = (refl, (refl, (refl, (refl, (refl, (refl, (refl, (refl, (refl, (refl, tt))))))))))
 
+-- of each worked recording those steps are complete that it names
 pub worked_complete : AllComplete worked_times
 unfolding settled_until settled steps_before group_start levels_at changed any those later_by_the_skew later_by_more
     first_by_the_skew first_by_more reaches_none never_over by_nothing_at_last by_nothing_after_last over_without_step

@@ -1,5 +1,5 @@
-use Rattle.vme_skew.proofs.Laws.{is_recording, no_longer}
+use Rattle.vme_skew.proofs.Laws.{IsRecording-settled, length-settled}
 use Rattle.vme_skew.proofs.settled_is_recording.Goals as goal
 
 pub returns : goal.returns
-returns c = record { recording = is_recording; no_longer = no_longer }
+returns c = record { recording = IsRecording-settled; length-settled = length-settled }

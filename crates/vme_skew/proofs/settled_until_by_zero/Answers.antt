@@ -1,5 +1,5 @@
-use Rattle.vme_skew.proofs.Complete.{until-by_zero}
+use Rattle.vme_skew.proofs.Complete.{settled_until-zero_skew}
 use Rattle.vme_skew.proofs.settled_until_by_zero.Goals as goal
 
 pub returns : goal.returns
-returns c = until-by_zero
+returns c = settled_until-zero_skew

@@ -2,8 +2,9 @@ use Rattle.std.proofs.Common.{◌≡◌, List, length, sym, ap, subst, arith, tr
 use Rattle.std.proofs.lemmas.List.{length_push}
 use Rattle.vme_trace.specs.Levels.{same_level, level_at}
 use Rattle.vme_trace.specs.declared.step.Change.{Change}
-use Rattle.vme_skew.proofs.TouchedLines.{AreShown, shown-first, shown-touched, shown-changes, shown-all, line-same}
-use Rattle.vme_skew.proofs.TouchedLines.{line-more}
+use Rattle.vme_skew.proofs.TouchedLines.{AreShown, AreShown-none, ListsTouchedLines-shown, AreShown-changes}
+use Rattle.vme_skew.proofs.TouchedLines.{AreShown-all, AreShown-line_same}
+use Rattle.vme_skew.proofs.TouchedLines.{AreShown-line_changed}
 use Rattle.vme_skew.proofs.group.show.Goals as goal
 use Rattle.vme_skew.proofs.group.show.Goals.{then-not-is_same, else-not-is_same}
 
@@ -12,7 +13,7 @@ loop-line-init c = record {
   shown =
       subst (λ (cs : List Change). AreShown c.args.touched.now 0 c.args.before.now c.args.now.now c.args.before.now cs)
       (sym c.in_ok-changes.ensures.items)
-      (shown-first c.args.touched.now c.args.before.now c.args.now.now c.requires.touched);
+      (AreShown-none c.args.touched.now c.args.before.now c.args.now.now c.requires.touched);
   room = omega (arith, ap length c.in_ok-changes.ensures.items, c.in_ok-changes.ensures.capacity);
 }
 
@@ -29,7 +30,8 @@ loop-line-preserved c =
           ≡ false = rw (← c.level.ensures, ← c.level-level.ensures) (sym w.if-not-is_same.ensures) in
           record {
             shown = rw (w.before-is, w.changes-is, w.set.ensures, w.push_reserved.ensures.items, c.level-level.ensures)
-                (line-more c.args.touched.now c.loop-line.line-index c.args.before.now c.args.now.now c.loop-line.before
+                (AreShown-line_changed c.args.touched.now c.loop-line.line-index c.args.before.now c.args.now.now
+                c.loop-line.before
                 c.loop-line.changes.items x c.requires.sorted c.requires.touched c.loop-line-test.true c.line-item.is
                 other c.loop-line.invariant.shown);
             room = rw w.changes-is (omega (
@@ -46,7 +48,8 @@ loop-line-preserved c =
           ≡ true = rw (← c.level.ensures, ← c.level-level.ensures) (sym w.if-not-is_same.ensures) in
           record {
             shown = rw (w.before-is, w.changes-is)
-                (line-same c.args.touched.now c.loop-line.line-index c.args.before.now c.args.now.now c.loop-line.before
+                (AreShown-line_same c.args.touched.now c.loop-line.line-index c.args.before.now c.args.now.now
+                c.loop-line.before
                 c.loop-line.changes.items x c.requires.sorted c.requires.touched c.loop-line-test.true c.line-item.is
                 same c.loop-line.invariant.shown);
             room = rw w.changes-is (omega (arith, c.loop-line.invariant.room));
@@ -55,17 +58,18 @@ loop-line-preserved c =
 
 pub returns-clause-changes : goal.returns-clause-changes
 returns-clause-changes c =
-    shown-changes c.args.touched.now c.loop-line.line-index c.args.before.now c.args.now.now c.loop-line.before
+    AreShown-changes c.args.touched.now c.loop-line.line-index c.args.before.now c.args.now.now c.loop-line.before
     c.loop-line.changes.items c.requires.sorted c.requires.touched c.loop-line-test.false (omega arith)
     c.loop-line.invariant.shown
 
 pub returns-clause-before : goal.returns-clause-before
 returns-clause-before c =
-    shown-all c.args.touched.now c.loop-line.line-index c.args.before.now c.args.now.now c.loop-line.before
+    AreShown-all c.args.touched.now c.loop-line.line-index c.args.before.now c.args.now.now c.loop-line.before
     c.loop-line.changes.items c.requires.sorted c.requires.touched c.loop-line-test.false (omega arith)
     c.loop-line.invariant.shown
 
 pub returns-clause-touched : goal.returns-clause-touched
 returns-clause-touched c =
-    shown-touched c.args.touched.now c.loop-line.line-index c.args.before.now c.args.now.now c.loop-line.before
+    ListsTouchedLines-shown c.args.touched.now c.loop-line.line-index c.args.before.now c.args.now.now
+    c.loop-line.before
     c.loop-line.changes.items c.requires.touched c.loop-line.invariant.shown

@@ -4,7 +4,7 @@ use Rattle.vme_trace.specs.Trace.{changed}
 use Rattle.vme_trace.specs.declared.step.Change.{Change}
 use Rattle.vme_bind.specs.Recording.{IsLine}
 use Rattle.vme_skew.specs.Group.{GroupLevels}
-use Rattle.vme_skew.proofs.Grouping.{changed-next}
+use Rattle.vme_skew.proofs.Grouping.{changed-take_next}
 use Rattle.vme_skew.proofs.group.StepGroup.take.Goals as goal
 
 -- the backplane has the line of the current change
@@ -30,7 +30,7 @@ loop-change-preserved c =
       now =
           ap (λ (g : GroupLevels). g.now) ok
           ∙ ap (λ (v : Levels). set_level v change.line change.level) c.loop-change.invariant.now
-          ∙ changed-next c.args.self.now.now c.args.changes.now c.loop-change.change-index change
+          ∙ changed-take_next c.args.self.now.now c.args.changes.now c.loop-change.change-index change
           c.loop-change-test.true c.change-item.is;
       slots = c.set_line.ensures.slots ∙ c.loop-change.invariant.slots;
     }

@@ -6,7 +6,7 @@ use Rattle.vme_trace.specs.Trace.{changed}
 use Rattle.vme_trace.specs.declared.step.Change.{Change}
 use Rattle.vme_bind.specs.Recording.{IsLine}
 use Rattle.vme_skew.specs.Group.{GroupLevels}
-use Rattle.vme_skew.proofs.Grouping.{changed-next}
+use Rattle.vme_skew.proofs.Grouping.{changed-take_next}
 use Rattle.vme_skew.proofs.group.StepGroup.take_any.Goals as goal
 use Rattle.vme_skew.proofs.group.StepGroup.take_any.Goals.{then-has+in_ok-set_line, else-has}
 
@@ -28,7 +28,7 @@ loop-change-preserved c =
             now = λ lines.
                 ap (λ (g : GroupLevels). g.now) is
                 ∙ ap (λ (v : Levels). set_level v change.line change.level) (h.now lines)
-                ∙ changed-next c.args.self.now.now c.args.changes.now c.loop-change.change-index change
+                ∙ changed-take_next c.args.self.now.now c.args.changes.now c.loop-change.change-index change
                 c.loop-change-test.true c.change-item.is;
           }
       | else-has w ↦ record {

@@ -8,7 +8,7 @@ use Rattle.vme_bind.specs.Recording.{step_between, step_in}
 use Rattle.vme_skew.specs.Group.{GroupLevels}
 use Rattle.vme_skew.specs.Settled.{settled}
 use Rattle.vme_skew.specs.Settling.{KeepsGroup, Settling}
-use Rattle.vme_skew.proofs.SettlerSteps.{keeps-end, settling}
+use Rattle.vme_skew.proofs.SettlerSteps.{settled-KeepsGroup, settling}
 use Rattle.vme_skew.proofs.step_settler.StepSettler.end.Goals as goal
 
 made-at_end : {E : Type 0} (s : Settling) (is_begun : Bool) (group : GroupLevels) → KeepsGroup s is_begun group
@@ -17,7 +17,7 @@ made-at_end : {E : Type 0} (s : Settling) (is_begun : Bool) (group : GroupLevels
     → IfOk r (λ (made : Option Step). malformed_step s.given ≡ None → s.in_order ≡ true
     → s.out ++ option_to_list made ≡ (settled s.skew s.given).steps)
 made-at_end s is_begun group h (Ok made) is =
-    keeps-end s.skew s.given.opening s.given.steps s.out s.reached s.in_order is_begun group h made is
+    settled-KeepsGroup s.skew s.given.opening s.given.steps s.out s.reached s.in_order is_begun group h made is
 made-at_end s is_begun group h (Err e) is = tt
 
 pub returns : goal.returns

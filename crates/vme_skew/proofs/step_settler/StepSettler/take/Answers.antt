@@ -2,7 +2,7 @@
 use Rattle.std.proofs.Common.{◌≡◌, Bool, true, false, not, ◌&&◌, ◌||◌, sym, ap, ◌∙◌}
 use Rattle.std.specs.Prelude.{nat_le}
 use Rattle.std.specs.Option.{option_to_list}
-use Rattle.vme_skew.proofs.SettlerSteps.{keeps-taken, settled-so_far, settling}
+use Rattle.vme_skew.proofs.SettlerSteps.{KeepsGroup-taken, IsSettledSoFar-KeepsGroup, settling}
 use Rattle.vme_skew.proofs.step_settler.StepSettler.take.Goals as goal
 use Rattle.vme_skew.proofs.step_settler.StepSettler.take.Goals.{then-is_over, else-is_over, then-self, else-self}
 
@@ -23,7 +23,7 @@ invariant_of-self-2 c =
           ap (λ (b : Bool). b && nat_le i.reached step.time) w.if-self.false in
           cc
     ] in
-    keeps-taken i.skew i.opening i.given.items i.out.items i.reached i.in_order i.is_begun i.group step
+    KeepsGroup-taken i.skew i.opening i.given.items i.out.items i.reached i.in_order i.is_begun i.group step
     c.self.invariant c.and-self-inside.result.items (option_to_list c.in_ok-settled.settled)
     c.with_settled-self-inside.result.items c.and-self-inside.ensures c.with_settled-self-inside.ensures
     c.max-self-inside.result c.max-self-inside.ensures c.if-self.in_order is_over c.if-is_over.end_if in_order_so
@@ -47,11 +47,11 @@ returns-clause-settled c =
           ap (λ (b : Bool). b && nat_le i.reached step.time) w.if-self.false in
           cc
     ] in
-    settled-so_far
+    IsSettledSoFar-KeepsGroup
     (settling i.skew i.opening c.and-self-inside.result.items c.with_settled-self-inside.result.items
     c.max-self-inside.result c.if-self.in_order)
     true c.take_any.new.self
-    (keeps-taken i.skew i.opening i.given.items i.out.items i.reached i.in_order i.is_begun i.group step
+    (KeepsGroup-taken i.skew i.opening i.given.items i.out.items i.reached i.in_order i.is_begun i.group step
     c.self.invariant c.and-self-inside.result.items (option_to_list c.in_ok-settled.settled)
     c.with_settled-self-inside.result.items c.and-self-inside.ensures c.with_settled-self-inside.ensures
     c.max-self-inside.result c.max-self-inside.ensures c.if-self.in_order is_over c.if-is_over.end_if in_order_so
