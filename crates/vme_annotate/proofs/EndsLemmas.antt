@@ -11,9 +11,10 @@ use Rattle.vme_stream.specs.Answers.{AnswerGives}
 use Rattle.vme_stream.specs.Ends.{Ends, WritesAnswer}
 use Rattle.vme_stream.specs.declared.refusal.Refusal.{Refusal}
 use Rattle.vme_stream.specs.declared.refusal.Refusal.TheVariants.{Memory}
-use Rattle.vme_stream.proofs.EndLemmas.{AnswersInputs-exact, AnswersInputs-unwritten, given_is, not_both, read_is}
+use Rattle.vme_stream.proofs.EndLemmas.{AnswersInputs-exact, AnswersInputs-unwritten, answer-AnswerGives, eq-not_suc}
+use Rattle.vme_stream.proofs.EndLemmas.{IsReading-whole}
 use Rattle.vme_stream.proofs.EndLemmas.{refusal_status-small}
-use Rattle.vme_stream.proofs.EndLemmas.{unwritten_by, verdict_status-small}
+use Rattle.vme_stream.proofs.EndLemmas.{Ends-unwritten, verdict_status-small}
 use Rattle.vme_commands.specs.Settled.{settled_recording}
 use Rattle.vme_commands.proofs.ListLemmas.{ReadAgreesWith}
 use Rattle.vme_annotation.specs.Annotated.{ArePutAt, IsAnnotated, annotated}
@@ -72,7 +73,7 @@ module _ (skew : ℕ) (binding dump : Reading × Reading) (block : ℕ) (out err
       AnswersInputs-exact timed_answer_by timed_answer-small (ReadAgreesWith skew block) binding dump out err status
       writes b d
       (timed_answer_of skew (Some b) (Some d) block)
-      (λ found. given_is timed_answer_by refl found (settled_recording skew (Some b) (Some d) block))
+      (λ found. answer-AnswerGives timed_answer_by refl found (settled_recording skew (Some b) (Some d) block))
 
 -- ---- annotated dumps
 
@@ -98,22 +99,22 @@ told_exactly text dump found defined out err status (inl told) given annotation 
       subst (λ (r : Result Trace Refusal). WritesAnswer (annotation_answer_by text r) out err status) is told,
     )
 told_exactly text dump found defined out err status (inr failed) given annotation same memory =
-    absurd (not_both out.1.failures out.0.failures same failed.out_is.1)
+    absurd (eq-not_suc out.1.failures out.0.failures same failed.out_is.1)
 
 module _ (skew : ℕ) (binding dump : Reading × Reading) (out err : Writing × Writing) (status : ℕ) where
   pub Annotates-unwritten : Annotates skew binding dump out err status
       → (status ≡ 5) ↔ (out.1.failures ≡ suc out.0.failures)
   Annotates-unwritten does =
       let (binding_bytes, dump_bytes, found, text, binding_read, dump_read, given, annotation, end) = does in
-      unwritten_by (annotation_answer_by text) (annotation_answer-small text) found out err status end
+      Ends-unwritten (annotation_answer_by text) (annotation_answer-small text) found out err status end
 
   pub Annotates-exact : Annotates skew binding dump out err status → (b d : List ℕ)
       → IsReadWhole binding.0 binding.1 b → IsReadWhole dump.0 dump.1 d → out.1.failures ≡ out.0.failures
       → (status ≡ 4 → ⊥) → TellsAnnotation skew b d out err status
   Annotates-exact does b d told_b told_d same memory =
       let (binding_bytes, dump_bytes, found, text, binding_read, dump_read, given, annotation, end) = does in
-      let b_is : binding_bytes ≡ Some b = read_is binding.0 binding.1 binding_bytes b binding_read told_b in
-      let d_is : dump_bytes ≡ Some d = read_is dump.0 dump.1 dump_bytes d dump_read told_d in
+      let b_is : binding_bytes ≡ Some b = IsReading-whole binding.0 binding.1 binding_bytes b binding_read told_b in
+      let d_is : dump_bytes ≡ Some d = IsReading-whole dump.0 dump.1 dump_bytes d dump_read told_d in
       let with_b = subst (λ (x : Option (List ℕ)).
       AnswerGives (λ (t : Trace). t) found (settled_recording skew x dump_bytes BLOCK)) b_is given in
       let with_d = subst (λ (x : Option (List ℕ)).

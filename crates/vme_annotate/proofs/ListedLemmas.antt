@@ -19,7 +19,8 @@ use Rattle.vme_stream.specs.Answers.{or_bad_dump, recording_by}
 use Rattle.vme_stream.specs.Refusals.{capture_refusal}
 use Rattle.vme_stream.specs.declared.refusal.Refusal.{Refusal}
 use Rattle.vme_stream.specs.declared.refusal.Refusal.TheVariants.{Memory}
-use Rattle.vme_stream.proofs.AnswerLemmas.{capture_read-bound, capture_read-refused, passes_through, recording_by-fails}
+use Rattle.vme_stream.proofs.AnswerLemmas.{capture_read-bound, capture_read-refused, AnswerGives-then}
+use Rattle.vme_stream.proofs.AnswerLemmas.{recording_by-fails}
 use Rattle.vme_stream.proofs.AnswerLemmas.{recording_by-text}
 use Rattle.vme_commands.specs.Judged.{in_blocks, limited_in_blocks}
 use Rattle.vme_commands.specs.Settled.{settled_read, settled_recording}
@@ -70,7 +71,7 @@ pub refused_in_blocks : (skew block : ℕ) (r : Refusal) (read : Result Trace Re
     → GivesTimedListing (Err r) (settled_in_blocks skew block read)
 refused_in_blocks skew block r read is =
     GivesTimedListing-from_AnswerGives r (settled_in_blocks skew block read)
-    (passes_through r (settled_or skew read) (in_blocks block) (settled-refused skew read r is))
+    (AnswerGives-then r (settled_or skew read) (in_blocks block) (settled-refused skew read r is))
 
 pub text_refused : (skew block : ℕ) (bound : BoundLines) (bytes : List ℕ) (fault : CaptureFault)
     → CaptureFailsBy fault (recording_of_text bound bytes)
@@ -78,7 +79,7 @@ pub text_refused : (skew block : ℕ) (bound : BoundLines) (bytes : List ℕ) (f
 text_refused skew block bound bytes fault is =
     refused_in_blocks skew block (capture_refusal fault) (capture_by bound (or_bad_dump (dump_of bytes)))
     (subst (GivesTrace (Err (capture_refusal fault))) (sym (capture_by-short bound (or_bad_dump (dump_of bytes))))
-    (passes_through (capture_refusal fault) (recording_by bound (or_bad_dump (dump_of bytes))) or_too_long
+    (AnswerGives-then (capture_refusal fault) (recording_by bound (or_bad_dump (dump_of bytes))) or_too_long
     (recording_by-fails bound bytes fault is)))
 
 -- ---- the deskewed recording
@@ -128,7 +129,7 @@ pub unread_by : (skew block : ℕ) (dump : Option (List ℕ)) (bound : BoundLine
     → GivesTimedListing (Err r) (recording_to_list skew bound (dump_read dump) block)
 unread_by skew block dump bound r refused =
     refused_in_blocks skew block r (capture_by bound (dump_read dump))
-    (passes_through r (dump_read dump) (λ (contents : Contents). or_bad_binding (capture_of bound contents)) refused)
+    (AnswerGives-then r (dump_read dump) (λ (contents : Contents). or_bad_binding (capture_of bound contents)) refused)
 
 pub unread_dump : (skew block : ℕ) (binding dump : Option (List ℕ)) (bound : BoundLines) (r : Refusal)
     → binding_read binding ≡ Ok bound → AnswerGives (λ (contents : Contents). contents) (Err r) (dump_read dump)

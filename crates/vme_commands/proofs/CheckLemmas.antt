@@ -6,7 +6,8 @@ use Rattle.vme_trace.specs.declared.verdict.Verdict.{Verdict}
 use Rattle.vme_stream.specs.Answers.{AnswerGives, answer_by}
 use Rattle.vme_stream.specs.Ends.{Checks, WritesAnswer}
 use Rattle.vme_stream.specs.declared.refusal.Refusal.{Refusal}
-use Rattle.vme_stream.proofs.EndLemmas.{AnswersInputs-exact, AnswersInputs-unwritten, given_is, refusal_status-small}
+use Rattle.vme_stream.proofs.EndLemmas.{AnswersInputs-exact, AnswersInputs-unwritten, answer-AnswerGives}
+use Rattle.vme_stream.proofs.EndLemmas.{refusal_status-small}
 use Rattle.vme_stream.proofs.EndLemmas.{verdict_status-small}
 use Rattle.vme_stream.specs.Inputs.{IsReadWhole}
 use Rattle.vme_commands.specs.Settled.{ChecksSettled, settled_answer_of, settled_judgement}
@@ -34,7 +35,7 @@ module _ (skew : ℕ) where
   ChecksSettled-exact binding dump block out err status checks b d =
       AnswersInputs-exact answer_by answer_by-small (MayJudge skew block) binding dump out err status checks b d
       (settled_answer_of skew (Some b) (Some d) block)
-      (λ found. given_is answer_by refl found (settled_judgement skew (Some b) (Some d) block))
+      (λ found. answer-AnswerGives answer_by refl found (settled_judgement skew (Some b) (Some d) block))
 
   -- with a skew of 0 `check` judges what the binding makes of the dump
   pub checks_unsettled : skew ≡ 0 → (binding dump : Reading × Reading) (block : ℕ) (out err : Writing × Writing)

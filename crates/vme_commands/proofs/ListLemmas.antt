@@ -25,12 +25,13 @@ use Rattle.vme_stream.specs.Answers.{AnswerGives, capture_read, recording_read}
 use Rattle.vme_stream.specs.Ends.{WritesAnswer}
 use Rattle.vme_stream.specs.Texts.{verdict_status}
 use Rattle.vme_stream.proofs.AnswerLemmas.{capture_read-recorded}
-use Rattle.vme_stream.proofs.EndLemmas.{AnswersInputs-exact, AnswersInputs-unwritten, given_is, refusal_status-small}
+use Rattle.vme_stream.proofs.EndLemmas.{AnswersInputs-exact, AnswersInputs-unwritten, answer-AnswerGives}
+use Rattle.vme_stream.proofs.EndLemmas.{refusal_status-small}
 use Rattle.vme_stream.proofs.EndLemmas.{verdict_status-small}
 use Rattle.vme_listing.specs.Written.{AppendsFront}
 use Rattle.vme_stream.specs.Inputs.{IsReadWhole}
 use Rattle.vme_trace.specs.Streams.{Reading, Writing}
-use Rattle.vme_stream.proofs.OutputLemmas.{front_is}
+use Rattle.vme_stream.proofs.OutputLemmas.{take-done}
 use Rattle.vme_commands.specs.Judged.{in_blocks, limited_in_blocks}
 use Rattle.vme_commands.specs.Listings.{GivesListing, WritesListing, listing_answer_by, listing_answer_of}
 use Rattle.vme_commands.specs.Listings.{listing_status, recording_in_blocks, row_status, rows_status}
@@ -117,7 +118,7 @@ pub front_taken : (old new : Option (List ℕ)) (text : List ℕ) → AppendsFro
     (take n text)
 front_taken old new text took =
     let (front, rest, split, appended) = took in
-    (length front, subst (λ (bytes : List ℕ). Appends old new bytes) (front_is text front rest split) appended)
+    (length front, subst (λ (bytes : List ℕ). Appends old new bytes) (take-done text front rest split) appended)
 
 -- if the text of a listing was written, so was that of an equal listing
 pub whole_written : (old new : Option (List ℕ)) (listing same : Listed) → listing ≡ same → Appends old new
@@ -155,4 +156,4 @@ WritesListing-exact skew binding dump block out err status lists b d =
     AnswersInputs-exact listing_answer_by listing_answer_by-small (ReadAgreesWith skew block) binding dump out err
     status lists
     b d (listing_answer_of skew (Some b) (Some d) block)
-    (λ found. given_is listing_answer_by refl found (settled_recording skew (Some b) (Some d) block))
+    (λ found. answer-AnswerGives listing_answer_by refl found (settled_recording skew (Some b) (Some d) block))

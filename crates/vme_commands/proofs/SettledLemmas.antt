@@ -24,7 +24,7 @@ use Rattle.vme_stream.specs.Refusals.{judging_refusal}
 use Rattle.vme_stream.specs.declared.refusal.Input.TheVariants.{Dump}
 use Rattle.vme_stream.specs.declared.refusal.Refusal.{Refusal}
 use Rattle.vme_stream.specs.declared.refusal.Refusal.TheVariants.{Memory, TooLong}
-use Rattle.vme_stream.proofs.AnswerLemmas.{capture_read-recorded, passes_through}
+use Rattle.vme_stream.proofs.AnswerLemmas.{capture_read-recorded, AnswerGives-then}
 use Rattle.vme_summary.specs.declared.stream_judge.NoVerdict.TheVariants as NoVerdict
 use Rattle.vme_commands.specs.Judged.{in_blocks}
 use Rattle.vme_commands.specs.Listings.{recording_in_blocks}
@@ -133,7 +133,7 @@ pub judgement-refused : (skew : ℕ) (b d : Option (List ℕ)) (block : ℕ) (r 
     → GivesTrace (Err r) (settled_read skew b d)
     → AnswerGives (λ (v : Verdict). v) (Err r) (settled_judgement skew b d block)
 unfolding settled_judgement
-judgement-refused skew b d block r is = passes_through r (settled_read skew b d) (verdict_in_blocks block) is
+judgement-refused skew b d block r is = AnswerGives-then r (settled_read skew b d) (verdict_in_blocks block) is
 
 pub recording-given : (skew : ℕ) (b d : Option (List ℕ)) (block : ℕ) (t : Trace) → settled_read skew b d ≡ Ok t
     → settled_recording skew b d block ≡ in_blocks block t
@@ -143,7 +143,7 @@ recording-given skew b d block t is = ap (λ (r : Result Trace Refusal). r >>= i
 pub recording-refused : (skew : ℕ) (b d : Option (List ℕ)) (block : ℕ) (r : Refusal)
     → GivesTrace (Err r) (settled_read skew b d) → GivesTrace (Err r) (settled_recording skew b d block)
 unfolding settled_recording
-recording-refused skew b d block r is = passes_through r (settled_read skew b d) (in_blocks block) is
+recording-refused skew b d block r is = AnswerGives-then r (settled_read skew b d) (in_blocks block) is
 
 -- ---- a recording that is deskewed as it is judged
 

@@ -25,9 +25,9 @@ use Rattle.vme_confirm_command.specs.DumpChecks.{IsChecked}
 use Rattle.vme_dump_input.specs.BodyPieces.{IsAtEnd}
 use Rattle.vme_confirm_command.specs.StepChecks.{Finds, HasCheckedSteps}
 use Rattle.vme_confirm_command.specs.declared.step_check.StepCheck.{StepCheck}
-use Rattle.vme_dump_input.proofs.BodyLemmas.{sound-next}
-use Rattle.vme_dump_input.proofs.DumpRefusals.{dump-is}
-use Rattle.vme_dump_input.proofs.DumpTexts.{agree, captured-is}
+use Rattle.vme_dump_input.proofs.BodyLemmas.{IsSound-next}
+use Rattle.vme_dump_input.proofs.DumpRefusals.{dump_read-short}
+use Rattle.vme_dump_input.proofs.DumpTexts.{Agrees-text, capture_of-limited}
 
 -- a check that continues with the steps of a piece
 pub checked-next : {Source : Type 0} (skew : Option ℕ) (r next : StepReading) (steps : List Step) (piece : List ℕ)
@@ -37,7 +37,7 @@ pub checked-next : {Source : Type 0} (skew : Option ℕ) (r next : StepReading) 
     → HasCheckedSteps skew (with_steps r.given steps) time t check.settler check.checker check.count check.is_too_long
     → IsChecked skew next t check
 checked-next skew r next steps piece time t check sound taken given now stepped = record {
-  sound = sound-next r next steps piece sound taken given;
+  sound = IsSound-next r next steps piece sound taken given;
   stepped = subst (λ (u : Trace). HasCheckedSteps skew u (whole_reading next []).time t check.settler check.checker
       check.count check.is_too_long) (sym given)
       (subst (λ n. HasCheckedSteps skew (with_steps r.given steps) n t check.settler check.checker check.count
@@ -77,12 +77,13 @@ module _ {Whole Source : Type 0} (gave : Whole → Source → List Row → Type 
       → (contents : Contents) × IsReadDump old now contents
       × IsAnswerForDump gave is_over whole version binding skew contents found source
   finds-of found finds =
-      let (contents, dump, same) = (agree binding end.text).whole (whole_reading r bytes) end.body faultless in (
+      let (contents, dump, same) = (Agrees-text binding end.text).whole (whole_reading r bytes) end.body faultless in (
         contents,
         record {
           text = end.text;
           reading = end.all.0;
-          is = dump-is end.text end.all.1 (Ok contents) dump;
+          is = dump_read-short end.text end.all.1 (Ok contents) dump;
         },
-        found_of contents (captured-is binding contents given (same ∙ ap (λ (t : Trace). Ok t) recorded)) found finds,
+        found_of contents (capture_of-limited binding contents given (same ∙ ap (λ (t : Trace). Ok t) recorded)) found
+            finds,
       )

@@ -23,7 +23,7 @@ use Rattle.vme_stream.specs.Refusals.{listing_refusal}
 use Rattle.vme_stream.specs.declared.refusal.Input.TheVariants.{Listing}
 use Rattle.vme_stream.specs.declared.refusal.Refusal.{Refusal}
 use Rattle.vme_stream.specs.declared.refusal.Refusal.TheVariants.{Memory, TooLong}
-use Rattle.vme_stream.proofs.EndLemmas.{not_both, read_is, refusal_status-small, unwritten_by}
+use Rattle.vme_stream.proofs.EndLemmas.{eq-not_suc, IsReading-whole, refusal_status-small, Ends-unwritten}
 use Rattle.vme_trace.specs.Streams.{Reading, Writing}
 
 pub binding_lacks : (skew : ℕ) (binding : Result BoundLines Refusal) (dump : Result Contents Refusal)
@@ -73,7 +73,7 @@ Confirms-unwritten skew binding dump listing out err status confirms =
       answered,
       end,
     ) = confirms in
-    unwritten_by confirmation_answer_by confirmation_answer_by-small found out err status end
+    Ends-unwritten confirmation_answer_by confirmation_answer_by-small found out err status end
 
 -- ---- the exact answer
 
@@ -118,7 +118,8 @@ is_confirmation skew (Ok bound) (Ok contents) text given found memory rows is =
 was_told : (answer : CommandAnswer) (out err : Writing × Writing) (status : ℕ) → Ends answer out err status
     → out.1.failures ≡ out.0.failures → WritesAnswer answer out err status
 was_told answer out err status (inl told) same = told
-was_told answer out err status (inr failed) same = absurd (not_both out.1.failures out.0.failures same failed.out_is.1)
+was_told answer out err status (inr failed) same =
+    absurd (eq-not_suc out.1.failures out.0.failures same failed.out_is.1)
 
 -- if the inputs are read whole, no write to `out` fails and memory suffices, exactly their answer is written
 pub Confirms-exact : (skew : ℕ) (binding dump listing : Reading × Reading) (out err : Writing × Writing) (status : ℕ)
@@ -150,9 +151,9 @@ Confirms-exact skew binding dump listing out err status confirms b d l told_b to
     in
     let is = is_confirmation skew (binding_read binding_bytes) (dump_read dump_bytes) (listing_text listing_bytes) given
     found none rows answered in
-    let b_is : binding_bytes ≡ Some b = read_is binding.0 binding.1 binding_bytes b binding_reading told_b in
-    let d_is : dump_bytes ≡ Some d = read_is dump.0 dump.1 dump_bytes d dump_reading told_d in
-    let l_is : listing_bytes ≡ Some l = read_is listing.0 listing.1 listing_bytes l listing_reading told_l in
+    let b_is : binding_bytes ≡ Some b = IsReading-whole binding.0 binding.1 binding_bytes b binding_reading told_b in
+    let d_is : dump_bytes ≡ Some d = IsReading-whole dump.0 dump.1 dump_bytes d dump_reading told_d in
+    let l_is : listing_bytes ≡ Some l = IsReading-whole listing.0 listing.1 listing_bytes l listing_reading told_l in
     let with_b = subst (λ (x : Option (List ℕ)). IsConfirmation skew (binding_read x) (dump_read dump_bytes)
     (listing_text listing_bytes) found) b_is is in
     let with_d = subst (λ (x : Option (List ℕ)). IsConfirmation skew (binding_read (Some b)) (dump_read x)

@@ -29,7 +29,7 @@ use Rattle.vme_confirm_command.specs.DumpChecks.{Compares, IsAnswerForDump}
 use Rattle.vme_dump_input.specs.BufferedInputs.{InputSoFar}
 use Rattle.vme_dump_input.specs.declared.definitions.DumpAfterDefinitions.{DumpAfterDefinitions}
 use Rattle.vme_dump_input.specs.declared.definitions.DumpAfterDefinitions.TheVariants.{Body, Unusable}
-use Rattle.vme_dump_input.proofs.BufferedLemmas.{some-reading}
+use Rattle.vme_dump_input.proofs.BufferedLemmas.{IsReading-some}
 use Rattle.vme_confirm_command.specs.FoundRows.{DecidesSoFar, IsAnswerByRows, IsAnswerTo, IsAnswerToListing}
 use Rattle.vme_confirm_command.specs.RowsOfListing.{IsListingRead, rows_refusal}
 use Rattle.vme_confirm_command.proofs.ConfirmLemmas.{text-fits}
@@ -199,7 +199,7 @@ module _ {Whole Source : Type 0} (whole : Whole) (source : Source) (gave : Whole
 -- some reading of the dump leads to `now`
 pub begun-read : (binding : BoundLines) (old now : Reading) (input : InputSoFar) (begun : DumpAfterDefinitions)
     → BeginsDump binding old now input (Ok begun) → (bytes : Option (List ℕ)) × IsReading old now bytes
-begun-read binding old now input (Body r count) at = some-reading old now [] input at.read
+begun-read binding old now input (Body r count) at = IsReading-some old now [] input at.read
 begun-read binding old now input (Unusable fault) is =
     let (contents, dump, fault_is) = is in
     (Some dump.text, dump.reading)

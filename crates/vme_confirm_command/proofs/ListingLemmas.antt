@@ -15,7 +15,7 @@ use Rattle.vme_confirm_command.specs.RowsOfListing.{IsListingRead, IsOver}
 use Rattle.vme_confirm_command.specs.RowsOfListing.{IsWholeText, ReadsRow}
 use Rattle.vme_confirm_command.specs.declared.rows_fault.RowsFault.{RowsFault}
 use Rattle.vme_confirm_command.specs.declared.rows_fault.RowsFault.TheVariants.{Input, Text}
-use Rattle.vme_dump_input.proofs.BufferedLemmas.{all-read}
+use Rattle.vme_dump_input.proofs.BufferedLemmas.{IsAllOf-whole}
 use Rattle.vme_confirm_command.proofs.RowLemmas.{ends-whole, input-refused, text-refused, whole-text}
 
 -- ---- one row more
@@ -92,7 +92,7 @@ whole-ends old version now input pieces (Some fault) none rows more over none_mo
 whole-ends old version now input None None none rows more over none_more ends = absurd ends
 whole-ends old version now input (Some so_far) None none rows more over none_more ends =
     let (done, read, whole) = ends.1 in
-    let all = all-read old now done input read (ends-whole done input version (rows ++ more) whole) in (
+    let all = IsAllOf-whole old now done input read (ends-whole done input version (rows ++ more) whole) in (
       done ++ input.held,
       more,
       all.0,

@@ -23,7 +23,7 @@ use Rattle.vme_confirm_command.specs.declared.rows_fault.RowsFault.{RowsFault}
 use Rattle.vme_confirm_command.specs.declared.rows_fault.RowsFault.TheVariants.{Input, Text}
 use Rattle.vme_confirm_command.proofs.ConfirmLemmas.{listing_fault, text-fits, text-long}
 use Rattle.vme_confirm_command.specs.RowsOfListing.{AreRead, HasReadRows, IsCounted, HoldsMore, IsWholeText}
-use Rattle.vme_dump_input.proofs.BufferedLemmas.{some-reading, split-at, taken-first}
+use Rattle.vme_dump_input.proofs.BufferedLemmas.{IsReading-some, append-taken, IsReadTo-taken}
 
 -- ---- more bytes are held
 
@@ -74,9 +74,9 @@ module _ (old now : Reading) (done : List ℕ) (input : InputSoFar) (h : IsReadT
       → AreRead old now (record input { held = drop n input.held }) (Ok so_far) rows
   rows-taken has = (
     done ++ take n input.held,
-    taken-first old now done input h n within,
+    IsReadTo-taken old now done input h n within,
     λ future ends. subst (λ l. HasRead l rows (behind_rows so_far (drop n input.held ++ future)))
-        (sym (split-at done input.held n future)) (has future ends),
+        (sym (append-taken done input.held n future)) (has future ends),
   )
 
 -- rows stay counted when more bytes are held
@@ -151,7 +151,7 @@ pub read-some-how : (old : Reading) (version : Version) (now : Reading) (input :
     → IsSomeReading old now
 read-some-how old version now input pieces (Some (Text fault)) rows gave =
     let (done, read, has) = gave.1 in
-    some-reading old now done input read
+    IsReading-some old now done input read
 read-some-how old version now input pieces (Some (Input fault)) rows gave = fails-some fault gave.1
   where
     fails-some : (fault : InFault) → FailsAs longest_listing old now fault → IsSomeReading old now
@@ -160,7 +160,7 @@ read-some-how old version now input pieces (Some (Input fault)) rows gave = fail
     fails-some failed.Memory fails = fails
 read-some-how old version now input (Some so_far) None rows gave =
     let (done, read, has) = gave.2 in
-    some-reading old now done input read
+    IsReading-some old now done input read
 read-some-how old version now input None None rows gave = absurd gave
 
 -- ---- the end

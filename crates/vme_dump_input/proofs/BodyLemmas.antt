@@ -1,4 +1,5 @@
--- The body of a dump as it is read.
+-- The body of a dump as it is read: what holds after a piece is taken, after more bytes are read, at a fault, and at
+-- the end.
 use Rattle.std.proofs.Common.{◌≡◌, ◌≤◌, ℕ, true, false, List, [], ◌++◌, length, take, drop}
 use Rattle.std.proofs.Common.{None, refl, sym, ap, subst, ◌∙◌, append_assoc, append-nil, take-append-drop}
 use Rattle.std.specs.Prelude.{Ok}
@@ -20,18 +21,19 @@ use Rattle.vme_dump_input.proofs.ReadSteps.{GoOnTo-steps}
 use Rattle.vme_dump_input.specs.DumpBeginnings.{HasFault, HasFaultBefore, IsAtBody, IsSound}
 use Rattle.vme_dump_input.specs.BufferedInputs.{InputSoFar, IsAllOf, IsGrown, IsReadTo}
 use Rattle.vme_dump_input.specs.BodyPieces.{IsAtEnd}
-use Rattle.vme_dump_input.proofs.DumpTexts.{agree}
-use Rattle.vme_dump_input.proofs.BufferedLemmas.{all-read, taken-first}
-use Rattle.vme_dump_input.proofs.BufferedLemmas.{split-at}
+use Rattle.vme_dump_input.proofs.DumpTexts.{Agrees-text}
+use Rattle.vme_dump_input.proofs.BufferedLemmas.{IsAllOf-whole, IsReadTo-taken}
+use Rattle.vme_dump_input.proofs.BufferedLemmas.{append-taken}
 
 -- ---- a fault
 
-pub stops-fault : (binding : BoundLines) (text : List ℕ) (reading : TextReading) (line : ℕ) (kind : FaultKind)
+-- where the reading of a text stops with a fault, the text has that fault
+pub HasFault-StopsAs : (binding : BoundLines) (text : List ℕ) (reading : TextReading) (line : ℕ) (kind : FaultKind)
     (t : Trace)
     (time : ℕ) → reading_of_text binding text ≡ Ok reading → StopsAs line kind t time reading → HasFault text line kind
-stops-fault binding text reading line vcd.Memory t time is stops = tt
-stops-fault binding text reading line kind t time is stops =
-    (agree binding text).faulty reading (record { line = line; kind = kind }) is
+HasFault-StopsAs binding text reading line vcd.Memory t time is stops = tt
+HasFault-StopsAs binding text reading line kind t time is stops =
+    (Agrees-text binding text).faulty reading (record { line = line; kind = kind }) is
     (ap (λ (x : TextReading). x.fault) stops)
 
 -- ---- a piece
@@ -40,34 +42,36 @@ module _ (binding : BoundLines) (old now : Reading) (input : InputSoFar) (r : St
     (at : IsAtBody binding old now input r) where
   module _ (next : StepReading) (n : ℕ) (within : n ≤ length input.held)
       (taken : (rest : List ℕ) → whole_reading r (take n input.held ++ rest) ≡ whole_reading next rest) where
-    goes : (rest : List ℕ) → whole_reading r (input.held ++ rest) ≡ whole_reading next (drop n input.held ++ rest)
-    goes rest =
+    -- the whole reading stays the same as the first `n` held bytes are taken
+    whole_reading-taken : (rest : List ℕ) → whole_reading r (input.held ++ rest)
+        ≡ whole_reading next (drop n input.held ++ rest)
+    whole_reading-taken rest =
         ap (whole_reading r) (ap (λ l. l ++ rest) (sym (take-append-drop n input.held))
         ∙ append_assoc (take n input.held) (drop n input.held) rest)
         ∙ taken (drop n input.held ++ rest)
 
     -- the first `n` held bytes are taken
-    pub body-taken : IsAtBody binding old now (record input { held = drop n input.held }) next
-    body-taken = record {
+    pub IsAtBody-taken : IsAtBody binding old now (record input { held = drop n input.held }) next
+    IsAtBody-taken = record {
       done = at.done ++ take n input.held;
-      read = taken-first old now at.done input at.read n within;
+      read = IsReadTo-taken old now at.done input at.read n within;
       body = λ rest ends.
-          ap (reading_of_text binding) (split-at at.done input.held n rest) ∙ at.body rest ends
-          ∙ ap (λ (x : TextReading). Ok x) (goes rest);
+          ap (reading_of_text binding) (append-taken at.done input.held n rest) ∙ at.body rest ends
+          ∙ ap (λ (x : TextReading). Ok x) (whole_reading-taken rest);
     }
 
   -- the held bytes have a fault
-  pub body-stops : (line : ℕ) (kind : FaultKind) (t : Trace) (time : ℕ)
+  pub HasFaultBefore-StopsAs : (line : ℕ) (kind : FaultKind) (t : Trace) (time : ℕ)
       → ((rest : List ℕ) → StopsAs line kind t time (whole_reading r (input.held ++ rest)))
       → HasFaultBefore at.done input (record { line = line; kind = kind })
-  body-stops line kind t time stops rest ends =
-      stops-fault binding (at.done ++ (input.held ++ rest)) (whole_reading r (input.held ++ rest)) line kind t time
+  HasFaultBefore-StopsAs line kind t time stops rest ends =
+      HasFault-StopsAs binding (at.done ++ (input.held ++ rest)) (whole_reading r (input.held ++ rest)) line kind t time
       (at.body rest ends) (stops rest)
 
   -- more bytes follow
-  pub body-grown : (later : Reading) (after : InputSoFar) → input.is_whole ≡ false → IsGrown input after
+  pub IsAtBody-grown : (later : Reading) (after : InputSoFar) → input.is_whole ≡ false → IsGrown input after
       → IsReadTo old later at.done after → IsAtBody binding old later after r
-  body-grown later after going grown read = record {
+  IsAtBody-grown later after going grown read = record {
     done = at.done;
     read = read;
     body = λ rest ends.
@@ -79,19 +83,19 @@ module _ (binding : BoundLines) (old now : Reading) (input : InputSoFar) (r : St
   }
 
   -- no more bytes follow
-  pub body-ends : input.is_whole ≡ true → input.limit ≡ longest_input → IsAtEnd binding old now input.held r
-  body-ends whole limit = record {
+  pub IsAtEnd-whole : input.is_whole ≡ true → input.limit ≡ longest_input → IsAtEnd binding old now input.held r
+  IsAtEnd-whole whole limit = record {
     text = at.done ++ input.held;
-    all = subst (IsAllOf old now (at.done ++ input.held)) limit (all-read old now at.done input at.read whole);
+    all = subst (IsAllOf old now (at.done ++ input.held)) limit (IsAllOf-whole old now at.done input at.read whole);
     body = ap (λ l. reading_of_text binding (at.done ++ l)) (sym (append-nil input.held))
         ∙ at.body [] (λ _. refl) ∙ ap (λ l. Ok (whole_reading r l)) (append-nil input.held);
   }
 
 -- after a piece the reader is still sound
-pub sound-next : (r next : StepReading) (steps : List Step) (piece : List ℕ) → IsSound r
+pub IsSound-next : (r next : StepReading) (steps : List Step) (piece : List ℕ) → IsSound r
     → ((rest : List ℕ) → whole_reading r (piece ++ rest) ≡ whole_reading next rest)
     → next.given ≡ with_steps r.given steps → IsSound next
-sound-next r next steps piece sound taken given = record {
+IsSound-next r next steps piece sound taken given = record {
   few = subst (λ (t : Trace). t.opening.slots ≤ 21) (sym given) sound.few;
   whole = ap (λ (t : Trace). length t.opening.levels) given ∙ sound.whole;
   formed = λ rest.
@@ -100,14 +104,16 @@ sound-next r next steps piece sound taken given = record {
 
 module _ (follows : StepsFollow) (within : StepsWithin) (on : TimeGoesOn) (front : GivenIsPrefix) (r : StepReading)
     (sound : IsSound r) where
-  pub piece-goes : (next : StepReading) (steps : List Step) (piece : List ℕ) (time : ℕ)
+  -- the steps of a piece may follow those before it, up to the last time that was read
+  pub GoOnTo-piece : (next : StepReading) (steps : List Step) (piece : List ℕ) (time : ℕ)
       → ((rest : List ℕ) → whole_reading r (piece ++ rest) ≡ whole_reading next rest)
       → next.given ≡ with_steps r.given steps → malformed_step next.given ≡ None
       → time ≡ (whole_reading next []).time → GoOnTo r.given (whole_reading r []).time steps time
-  piece-goes next steps piece time taken given formed now =
+  GoOnTo-piece next steps piece time taken given formed now =
       subst (GoOnTo r.given (whole_reading r []).time steps) (sym now)
       (GoOnTo-steps follows within on front r sound.whole sound.few next steps piece taken given formed)
 
-  pub last-goes : (bytes : List ℕ) (steps : List Step) → (whole_reading r bytes).recorded ≡ with_steps r.given steps
+  -- the steps that are left at the end of the text may follow those before them
+  pub GoOnFrom-last : (bytes : List ℕ) (steps : List Step) → (whole_reading r bytes).recorded ≡ with_steps r.given steps
       → GoOnFrom r.given (whole_reading r []).time steps
-  last-goes bytes steps is = GoOnFrom-steps follows r sound.whole sound.few sound.formed bytes steps is
+  GoOnFrom-last bytes steps is = GoOnFrom-steps follows r sound.whole sound.few sound.formed bytes steps is

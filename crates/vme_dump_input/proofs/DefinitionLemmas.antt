@@ -1,4 +1,4 @@
--- The definitions of a dump as they are read.
+-- The definitions of a dump as they are read: their fault is the dump's, and the body begins after them.
 use Rattle.std.proofs.Common.{◌≡◌, ◌≤◌, ℕ, true, List, [], ◌++◌, length, drop, take, sym, ap, subst, ◌∙◌, append-nil}
 use Rattle.std.proofs.Common.{append_assoc, arith, length-append}
 use Rattle.std.proofs.lemmas.List.{drop-append-le}
@@ -20,29 +20,32 @@ use Rattle.vme_step_reader.specs.StepReading.{StepReading, whole_reading}
 use Rattle.vme_dump_input.specs.DumpBeginnings.{HasFault, HasFaultBefore, IsAtBody, IsAtDefinitions}
 use Rattle.vme_dump_input.specs.DumpBeginnings.{IsBodyUnread, IsSound}
 use Rattle.vme_dump_input.specs.BufferedInputs.{InputSoFar, IsReadOn, IsReadTo}
-use Rattle.vme_dump_input.proofs.DumpTexts.{agree}
-use Rattle.vme_dump_input.proofs.BufferedLemmas.{taken-first}
-use Rattle.vme_dump_input.proofs.BufferedLemmas.{split-at}
+use Rattle.vme_dump_input.proofs.DumpTexts.{Agrees-text}
+use Rattle.vme_dump_input.proofs.BufferedLemmas.{IsReadTo-taken}
+use Rattle.vme_dump_input.proofs.BufferedLemmas.{append-taken}
 
 -- ---- a fault of the dump
 
-capture_fault : (binding : BoundLines) (text : List ℕ) (line : ℕ) (kind : FaultKind)
+-- where the reading of a text has a fault of the definitions, the dump has it
+HasFault-DumpFails : (binding : BoundLines) (text : List ℕ) (line : ℕ) (kind : FaultKind)
     → DumpFails line kind (reading_of_text binding text) → HasFault text line kind
-capture_fault binding text line vcd.Memory fails = tt
-capture_fault binding text line kind fails = (agree binding text).fails (record { line = line; kind = kind }) fails
+HasFault-DumpFails binding text line vcd.Memory fails = tt
+HasFault-DumpFails binding text line kind fails =
+    (Agrees-text binding text).fails (record { line = line; kind = kind }) fails
 
-pub faulty-before : (binding : BoundLines) (input : InputSoFar) (fault : VcdFault)
+-- where the reading has a fault whatever follows, each text that begins with the held bytes has it
+pub HasFaultBefore-dump : (binding : BoundLines) (input : InputSoFar) (fault : VcdFault)
     → ((rest : List ℕ) → IsFollowedBy input.is_whole rest
     → CaptureFailsBy (Dump fault) (reading_of_text binding (input.held ++ rest)))
     → HasFaultBefore [] input fault
-faulty-before binding input fault fails rest ends =
-    capture_fault binding (input.held ++ rest) fault.line fault.kind (fails rest ends)
+HasFaultBefore-dump binding input fault fails rest ends =
+    HasFault-DumpFails binding (input.held ++ rest) fault.line fault.kind (fails rest ends)
 
 -- if nothing follows, a fault of the held bytes is that of the text
-pub fails-last : (binding : BoundLines) (input : InputSoFar) (fault : CaptureFault) → input.is_whole ≡ true
+pub CaptureFailsBy-at_end : (binding : BoundLines) (input : InputSoFar) (fault : CaptureFault) → input.is_whole ≡ true
     → CaptureFailsBy fault (reading_of_text binding input.held) → (rest : List ℕ) → IsFollowedBy input.is_whole rest
     → CaptureFailsBy fault (reading_of_text binding (input.held ++ rest))
-fails-last binding input fault whole fails rest ends =
+CaptureFailsBy-at_end binding input fault whole fails rest ends =
     subst (λ (l : List ℕ). CaptureFailsBy fault (reading_of_text binding l))
     (sym (ap (λ (l : List ℕ). input.held ++ l) (ends whole) ∙ append-nil input.held)) fails
 
@@ -50,15 +53,17 @@ fails-last binding input fault whole fails rest ends =
 
 module _ (binding : BoundLines) (old now : Reading) (input : InputSoFar) (h : IsReadTo old now [] input) (n : ℕ)
     (within : n ≤ length input.held) (r : StepReading) where
-  pub begun-body : ((rest : List ℕ) → IsFollowedBy input.is_whole rest
+  -- the definitions are the first `n` held bytes, where the reading is that of `r` for the others, whatever follows
+  pub IsAtDefinitions-begun : ((rest : List ℕ) → IsFollowedBy input.is_whole rest
       → reading_of_text binding (input.held ++ rest) ≡ Ok (whole_reading r (drop n input.held ++ rest)))
       → IsAtDefinitions binding old now input r n
-  begun-body begins = record { read = h; within = within; body = begins }
+  IsAtDefinitions-begun begins = record { read = h; within = within; body = begins }
 
-  pub begun-last : input.is_whole ≡ true
+  -- the same where nothing follows
+  pub IsAtDefinitions-whole : input.is_whole ≡ true
       → reading_of_text binding input.held ≡ Ok (whole_reading r (drop n input.held))
       → IsAtDefinitions binding old now input r n
-  begun-last whole begins = begun-body (λ rest ends.
+  IsAtDefinitions-whole whole begins = IsAtDefinitions-begun (λ rest ends.
       let none : rest ≡ [] = ends whole in
       subst (λ (l : List ℕ). reading_of_text binding (input.held ++ l) ≡ Ok (whole_reading r (drop n input.held ++ l)))
       (sym none)
@@ -68,40 +73,43 @@ module _ (binding : BoundLines) (old now : Reading) (input : InputSoFar) (h : Is
 module _ (binding : BoundLines) (old now : Reading) (input : InputSoFar) (r : StepReading) (n : ℕ)
     (at : IsAtDefinitions binding old now input r n) where
   -- the definitions are taken
-  pub definitions-taken : IsAtBody binding old now (record input { held = drop n input.held }) r
-  definitions-taken = record {
+  pub IsAtBody-definitions : IsAtBody binding old now (record input { held = drop n input.held }) r
+  IsAtBody-definitions = record {
     done = take n input.held;
-    read = taken-first old now [] input at.read n at.within;
+    read = IsReadTo-taken old now [] input at.read n at.within;
     body = λ rest ends.
-        ap (reading_of_text binding) (split-at [] input.held n rest) ∙ at.body rest ends;
+        ap (reading_of_text binding) (append-taken [] input.held n rest) ∙ at.body rest ends;
   }
 
   module _ (after : InputSoFar) (on : IsReadOn input after) where
-    -- more is read after them
-    pub held-on : n ≤ length after.held
-    held-on = omega (arith, at.within, ap (λ (l : List ℕ). length l) on.held, length-append input.held on.more)
+    -- the definitions are among the held bytes also after more is read
+    pub within-read_on : n ≤ length after.held
+    within-read_on = omega (arith, at.within, ap (λ (l : List ℕ). length l) on.held, length-append input.held on.more)
 
-    pub body-on : (rest : List ℕ) → IsFollowedBy after.is_whole rest
+    -- the reading is that of `r` for the bytes after the definitions, also after more is read
+    pub body-read_on : (rest : List ℕ) → IsFollowedBy after.is_whole rest
         → reading_of_text binding (after.held ++ rest) ≡ Ok (whole_reading r (drop n after.held ++ rest))
-    body-on rest ends =
+    body-read_on rest ends =
         ap (reading_of_text binding) (ap (λ (l : List ℕ). l ++ rest) on.held ∙ append_assoc input.held on.more rest)
         ∙ at.body (on.more ++ rest) (on.follows rest ends)
-        ∙ ap (λ (l : List ℕ). Ok (whole_reading r l)) (sym behind)
+        ∙ ap (λ (l : List ℕ). Ok (whole_reading r l)) (sym rest_is)
       where
-        behind : drop n after.held ++ rest ≡ drop n input.held ++ (on.more ++ rest)
-        behind =
+        rest_is : drop n after.held ++ rest ≡ drop n input.held ++ (on.more ++ rest)
+        rest_is =
             ap (λ (l : List ℕ). drop n l ++ rest) on.held
             ∙ ap (λ (l : List ℕ). l ++ rest) (drop-append-le n input.held on.more at.within)
             ∙ append_assoc (drop n input.held) on.more rest
 
 -- ---- before the first step
 
-pub unread-given : (r : StepReading) → IsBodyUnread r → record { opening = r.given.opening; steps = [] } ≡ r.given
-unread-given r unread = by_steps r.given unread.none
+-- where no step was returned, the recording so far is its opening
+pub given-unread : (r : StepReading) → IsBodyUnread r → record { opening = r.given.opening; steps = [] } ≡ r.given
+given-unread r unread = by_steps r.given unread.none
   where
     by_steps : (t : Trace) → t.steps ≡ [] → record { opening = t.opening; steps = [] } ≡ t
     by_steps t none = ap (λ (l : List Step). record t { steps = l }) (sym none)
 
-pub unread-sound : (r : StepReading) → IsBodyUnread r → r.given.opening.slots ≤ 21
+-- a reader that has returned no step is sound, where the backplane has at most 21 slots and each line a level
+pub IsSound-unread : (r : StepReading) → IsBodyUnread r → r.given.opening.slots ≤ 21
     → length r.given.opening.levels ≡ line_count → IsSound r
-unread-sound r unread few whole = record { few = few; whole = whole; formed = unread.formed }
+IsSound-unread r unread few whole = record { few = few; whole = whole; formed = unread.formed }

@@ -1,4 +1,5 @@
--- The result of reading the text of a dump agrees with the contents of the dump: see `Agrees`.
+-- The result of reading the text of a dump agrees with the contents of the dump: the recording is the same, and so is a
+-- fault.
 use Rattle.std.proofs.Common.{◌≡◌, ℕ, List, [], length, Option, None, Some, refl, sym, ap, subst, ◌∙◌}
 use Rattle.std.specs.Prelude.{Result, Ok, Err}
 use Rattle.vcd_read.specs.Contents.{Contents}
@@ -23,37 +24,46 @@ use Rattle.vme_bind.specs.declared.fault.CaptureFault.TheVariants.{Dump}
 abbrev OkOf : {A B E : Type 0} → (A → Result B E) → Type 0
 OkOf {A} {B} f = B
 
+-- the bound groups of a binding
 abbrev Groups : Type 0
 Groups = OkOf (bound_groups_in [])
 
 module _ (b : BoundLines) where
+  -- a reading without a fault is the recording of the contents; a fault of the reading, or of the definitions, is that
+  -- of the dump
   pub record Agrees (dump : Result Contents VcdFault) (reading : Result TextReading CaptureFault) : Type 0 where
     pub whole : (r : TextReading) → reading ≡ Ok r → r.fault ≡ None
         → (contents : Contents) × (dump ≡ Ok contents) × (recording_of b contents ≡ Ok r.recorded)
     pub faulty : (r : TextReading) (fault : VcdFault) → reading ≡ Ok r → r.fault ≡ Some fault → dump ≡ Err fault
     pub fails : (fault : VcdFault) → reading ≡ Err (Dump fault) → dump ≡ Err fault
 
+  -- the readings of equal results are equal
   same_reading : (x y : TextReading) → ◌≡◌ {A = Result TextReading CaptureFault} (Ok x) (Ok y) → x ≡ y
   same_reading x y e = cc
 
+  -- no fault isn't some fault
   none_some : (x y : Option VcdFault) (fault : VcdFault) → x ≡ y → x ≡ None → y ≡ Some fault → ⊥
   none_some x y fault same none some = absurd (cc)
 
+  -- equal faults that are there are the same fault
   same_fault : (x y : VcdFault) → ◌≡◌ {A = Option VcdFault} (Some x) (Some y) → x ≡ y
   same_fault x y e = cc
 
   module _ (d : Defined (List Variable)) where
+    -- the contents of a dump with these instants
     abbrev with_variables : List Instant → Result Contents VcdFault
     with_variables instants = Ok (record { variables = d.variables; instants = instants })
 
+    -- the reading of the body by these bound groups
     abbrev read_by : Groups → Result TextReading CaptureFault
     read_by groups = Ok (body_reading b.slots groups d.head)
 
-    by_instants : (groups : Groups) → bound_groups_in d.variables b.assignments ≡ Ok groups
+    -- where the binding fits, the reading agrees with the contents, by the instants of the body
+    Agrees-instants : (groups : Groups) → bound_groups_in d.variables b.assignments ≡ Ok groups
         → (r : Result (List Instant) VcdFault)
         → Agrees (r >>= with_variables) (Ok (reading_by b.slots groups d.head r))
     unfolding recording_of
-    by_instants groups e (Ok instants) = record {
+    Agrees-instants groups e (Ok instants) = record {
       whole = λ r is none. (
         record { variables = d.variables; instants = instants },
         refl,
@@ -67,7 +77,7 @@ module _ (b : BoundLines) where
           (same_reading (reading_by b.slots groups d.head (Ok instants)) r is)) refl some);
       fails = λ fault is. absurd (cc);
     }
-    by_instants groups e (Err first) = record {
+    Agrees-instants groups e (Err first) = record {
       whole = λ r is none.
           let same = ap (λ (x : TextReading). x.fault)
           (same_reading (reading_by b.slots groups d.head (Err first)) r is) in
@@ -79,43 +89,49 @@ module _ (b : BoundLines) where
       fails = λ fault is. absurd (cc);
     }
 
-    by_groups : (groups : Result Groups BindFault) → bound_groups_in d.variables b.assignments ≡ groups
+    -- the reading after the definitions agrees with the contents, whether the binding fits or not
+    Agrees-bound_groups : (groups : Result Groups BindFault) → bound_groups_in d.variables b.assignments ≡ groups
         → Agrees (instants_from d.head.nets d.head.body >>= with_variables) (or_binding groups >>= read_by)
-    by_groups (Ok groups) e = by_instants groups e (instants_from d.head.nets d.head.body)
-    by_groups (Err own) e = record {
+    Agrees-bound_groups (Ok groups) e = Agrees-instants groups e (instants_from d.head.nets d.head.body)
+    Agrees-bound_groups (Err binding_fault) e = record {
       whole = λ r is none. absurd (cc);
       faulty = λ r fault is some. absurd (cc);
       fails = λ fault is. absurd (cc);
     }
 
-  by_header : (h : Result (Defined (List Variable)) VcdFault)
+  -- the reading agrees with the contents, whether the definitions have a fault or not
+  Agrees-header : (h : Result (Defined (List Variable)) VcdFault)
       → Agrees (h >>= contents_behind) (or_dump h >>= reading_after b)
-  by_header (Ok d) = by_groups d (bound_groups_in d.variables b.assignments) refl
-  by_header (Err first) = record {
+  Agrees-header (Ok d) = Agrees-bound_groups d (bound_groups_in d.variables b.assignments) refl
+  Agrees-header (Err first) = record {
     whole = λ r is none. absurd (cc);
     faulty = λ r fault is some. absurd (cc);
     fails = λ fault is. let same : first ≡ fault = cc in ap (λ (f : VcdFault). Err f) same;
   }
 
-  pub agree : (text : List ℕ) → Agrees (dump_of text) (reading_of_text b text)
+  -- the reading of a text agrees with the contents of the dump
+  pub Agrees-text : (text : List ℕ) → Agrees (dump_of text) (reading_of_text b text)
   unfolding reading_of_text
-  agree text =
+  Agrees-text text =
       subst (λ (dump : Result Contents VcdFault). Agrees dump (or_dump (whole_header text) >>= reading_after b))
-      (sym (dump_of-header text)) (by_header (whole_header text))
+      (sym (dump_of-header text)) (Agrees-header (whole_header text))
 
+  -- the recordings of equal results are equal
   same_trace : (x y : Trace) → ◌≡◌ {A = Result Trace BindFault} (Ok x) (Ok y) → x ≡ y
   same_trace x y e = cc
 
   module _ (contents : Contents) (t : Trace) where
+    -- the recording of the contents by these bound groups
     abbrev made : Groups → Trace
     made groups = recording b.slots groups contents.instants (length contents.instants)
 
-    by_made : (groups : Result Groups BindFault) → (groups >>= λ g. Ok (made g)) ≡ Ok t
+    -- where the recording that is made is `t`, so it is within the limit
+    limited-made : (groups : Result Groups BindFault) → (groups >>= λ g. Ok (made g)) ≡ Ok t
         → (groups >>= λ g. limited (made g)) ≡ limited t
-    by_made (Ok groups) is = ap limited (same_trace (made groups) t is)
-    by_made (Err own) is = absurd (cc)
+    limited-made (Ok groups) is = ap limited (same_trace (made groups) t is)
+    limited-made (Err binding_fault) is = absurd (cc)
 
     -- what is captured is what is recorded, if it isn't too long
-    pub captured-is : recording_of b contents ≡ Ok t → capture_of b contents ≡ limited t
+    pub capture_of-limited : recording_of b contents ≡ Ok t → capture_of b contents ≡ limited t
     unfolding recording_of capture_of
-    captured-is = by_made (bound_groups_in contents.variables b.assignments)
+    capture_of-limited = limited-made (bound_groups_in contents.variables b.assignments)

@@ -3,7 +3,7 @@ use Rattle.std.proofs.Common.{◌≡◌, ℕ, List, [], Option, Ok, Err, refl, i
 use Rattle.std.specs.Io.KnownBytes.{Appends}
 use Rattle.std.proofs.KnownBytes.{Appends-nil}
 use Rattle.vme_trace.specs.Streams.{Reading, Writing}
-use Rattle.vme_stream.proofs.OutputLemmas.{front_is}
+use Rattle.vme_stream.proofs.OutputLemmas.{take-done}
 use Rattle.vme_stream.specs.Inputs.{IsReading}
 use Rattle.vme_stream.specs.Outputs.{TriesToWrite}
 use Rattle.vme_listing.specs.Written.{AppendsFront}
@@ -27,7 +27,7 @@ pub front_taken : (old new : Option (List ℕ)) (text : List ℕ) → AppendsFro
     (take n text)
 front_taken old new text took =
     let (front, rest, split, appended) = took in
-    (length front, subst (λ (bytes : List ℕ). Appends old new bytes) (front_is text front rest split) appended)
+    (length front, subst (λ (bytes : List ℕ). Appends old new bytes) (take-done text front rest split) appended)
 
 -- a command that refuses something ends with it: nothing is written to standard output
 pub complaint_ends : (error : List ℕ) (s : ℕ) (out : Writing) (err : Writing × Writing) (status : ℕ)

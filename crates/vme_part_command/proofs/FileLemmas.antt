@@ -11,8 +11,8 @@ use Rattle.vme_stream.specs.Inputs.{longest_input}
 use Rattle.vme_step_reader.specs.StepReading.{StepReading, whole_reading}
 use Rattle.vme_dump_input.specs.DumpBeginnings.{IsAtBody, IsAtDefinitions}
 use Rattle.vme_dump_input.specs.BufferedInputs.{InputSoFar, IsAllOf, IsGrown, IsReadOn, IsReadTo}
-use Rattle.vme_dump_input.proofs.BufferedLemmas.{all-read, split-at, taken-first}
-use Rattle.vme_dump_input.proofs.DefinitionLemmas.{body-on, held-on}
+use Rattle.vme_dump_input.proofs.BufferedLemmas.{IsAllOf-whole, append-taken, IsReadTo-taken}
+use Rattle.vme_dump_input.proofs.DefinitionLemmas.{body-read_on, within-read_on}
 use Rattle.vme_part_command.specs.FileReadings.{IsAtFile, IsAtFileEnd, IsStartFor}
 
 -- ---- the start of the body
@@ -25,10 +25,10 @@ module _ (binding : BoundLines) (number : ℕ) (start : Option ℕ) (old now : R
       → IsAtFile binding number start old now (record input { held = drop n input.held }) r
   begun-file begins starts = record {
     done = take n input.held;
-    read = taken-first old now [] input h n within;
+    read = IsReadTo-taken old now [] input h n within;
     body = λ rest ends.
-        ap (reading_of_text binding) (split-at [] input.held n rest) ∙ begins rest ends;
-    starts = λ rest ends. subst (λ (l : List ℕ). IsStartFor number l start) (sym (split-at [] input.held n rest))
+        ap (reading_of_text binding) (append-taken [] input.held n rest) ∙ begins rest ends;
+    starts = λ rest ends. subst (λ (l : List ℕ). IsStartFor number l start) (sym (append-taken [] input.held n rest))
         (starts rest ends);
   }
 
@@ -39,8 +39,8 @@ pub file-behind : (binding : BoundLines) (number : ℕ) (start : Option ℕ) (ol
     → ((rest : List ℕ) → IsFollowedBy after.is_whole rest → IsStartFor number (after.held ++ rest) start)
     → IsAtFile binding number start old now (record after { held = drop n after.held }) r
 file-behind binding number start old before now here after r n at on read starts =
-    begun-file binding number start old now after read n (held-on binding old before here r n at after on) r
-    (body-on binding old before here r n at after on) starts
+    begun-file binding number start old now after read n (within-read_on binding old before here r n at after on) r
+    (body-read_on binding old before here r n at after on) starts
 
 -- ---- a piece
 
@@ -61,12 +61,12 @@ module _ (binding : BoundLines) (number : ℕ) (start : Option ℕ) (old now : R
     pub file-taken : IsAtFile binding number start old now (record input { held = drop n input.held }) next
     file-taken = record {
       done = at.done ++ take n input.held;
-      read = taken-first old now at.done input at.read n within;
+      read = IsReadTo-taken old now at.done input at.read n within;
       body = λ rest ends.
-          ap (reading_of_text binding) (split-at at.done input.held n rest) ∙ at.body rest ends
+          ap (reading_of_text binding) (append-taken at.done input.held n rest) ∙ at.body rest ends
           ∙ ap (λ (x : TextReading). Ok x) (goes rest);
       starts = λ rest ends. subst (λ (l : List ℕ). IsStartFor number l start)
-          (sym (split-at at.done input.held n rest)) (at.starts rest ends);
+          (sym (append-taken at.done input.held n rest)) (at.starts rest ends);
     }
 
   -- `IsAtFile` holds after more bytes are read
@@ -91,7 +91,7 @@ module _ (binding : BoundLines) (number : ℕ) (start : Option ℕ) (old now : R
       → IsAtFileEnd binding number start old now input.held r
   file-ends whole limit = record {
     text = at.done ++ input.held;
-    all = subst (IsAllOf old now (at.done ++ input.held)) limit (all-read old now at.done input at.read whole);
+    all = subst (IsAllOf old now (at.done ++ input.held)) limit (IsAllOf-whole old now at.done input at.read whole);
     body = ap (λ l. reading_of_text binding (at.done ++ l)) (sym (append-nil input.held))
         ∙ at.body [] (λ _. refl) ∙ ap (λ l. Ok (whole_reading r l)) (append-nil input.held);
     starts = subst (λ (l : List ℕ). IsStartFor number (at.done ++ l) start) (append-nil input.held)

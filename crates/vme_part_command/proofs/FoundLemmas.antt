@@ -24,8 +24,8 @@ use Rattle.vme_parts.specs.Files.{IsPartOfFile}
 use Rattle.vme_file_part.specs.FileOf.{file_of}
 use Rattle.vme_step_reader.specs.StepReading.{StepReading, whole_reading}
 use Rattle.vme_dump_input.specs.DumpBeginnings.{IsDumpRefused, IsReadDump}
-use Rattle.vme_dump_input.proofs.DumpRefusals.{dump-is}
-use Rattle.vme_dump_input.proofs.DumpTexts.{agree, captured-is}
+use Rattle.vme_dump_input.proofs.DumpRefusals.{dump_read-short}
+use Rattle.vme_dump_input.proofs.DumpTexts.{Agrees-text, capture_of-limited}
 use Rattle.vme_part_command.specs.Backplane.{backplane_of}
 use Rattle.vme_part_command.specs.FileChecks.{FindsOfSteps}
 use Rattle.vme_part_command.specs.FileReadings.{IsAtFileEnd}
@@ -130,8 +130,9 @@ module _ (o : PartOptions) where
       → backplane ≡ backplane_of given.opening → (found : Result Part NoPart)
       → FindsOfSteps o.number o.listing start backplane given found → FindsOfDump o bound old now found
   finds-of-dump bound start old now bytes r end given recorded_is faultless backplane same found finds =
-      let (contents, dump, is) = (agree bound end.text).whole (whole_reading r bytes) end.body faultless in
+      let (contents, dump, is) = (Agrees-text bound end.text).whole (whole_reading r bytes) end.body faultless in
       found-part bound old now contents
-      (record { text = end.text; reading = end.all.0; is = dump-is end.text end.all.1 (Ok contents) dump }) given
-      (captured-is bound contents given (is ∙ ap (λ (t : Trace). Ok t) recorded_is)) start
+      (record { text = end.text; reading = end.all.0; is = dump_read-short end.text end.all.1 (Ok contents) dump })
+      given
+      (capture_of-limited bound contents given (is ∙ ap (λ (t : Trace). Ok t) recorded_is)) start
       (λ other. end.starts other contents dump) backplane same found finds

@@ -7,7 +7,8 @@ use Rattle.vme_stream.specs.Answers.{answer_by, answer_of, judgement_of, verdict
 use Rattle.vme_stream.specs.Ends.{WritesAnswer}
 use Rattle.vme_stream.specs.declared.refusal.Refusal.{Refusal}
 use Rattle.vme_stream.specs.declared.refusal.Refusal.TheVariants as refused
-use Rattle.vme_stream.proofs.EndLemmas.{AnswersInputs-exact, AnswersInputs-unwritten, given_is, refusal_status-small}
+use Rattle.vme_stream.proofs.EndLemmas.{AnswersInputs-exact, AnswersInputs-unwritten, answer-AnswerGives}
+use Rattle.vme_stream.proofs.EndLemmas.{refusal_status-small}
 use Rattle.vme_stream.proofs.EndLemmas.{verdict_status-small}
 use Rattle.vme_floor.specs.declared.report.Report.{Report}
 use Rattle.vme_floor.specs.declared.report.RunFault.{RunFault}
@@ -72,8 +73,8 @@ pods_answer_by-small (Err Stray) = omega arith
 told_as_checked : (there : Result Verdict Refusal) (found : Result Verdict Unjudged) → Finds found there
     → ((pods_answer_by found).status ≡ 4 → ⊥)
     → pods_answer_by found ≡ answer_by there
-told_as_checked there (Ok v) finds other = given_is answer_by refl (Ok v) there finds other
-told_as_checked there (Err (Refused r)) finds other = given_is answer_by refl (Err r) there finds other
+told_as_checked there (Ok v) finds other = answer-AnswerGives answer_by refl (Ok v) there finds other
+told_as_checked there (Err (Refused r)) finds other = answer-AnswerGives answer_by refl (Err r) there finds other
 told_as_checked there (Err NoWorker) finds other = absurd (other refl)
 told_as_checked there (Err Stray) finds other = absurd finds
 

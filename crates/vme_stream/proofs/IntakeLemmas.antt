@@ -1,4 +1,5 @@
--- Reading a source by a consumer of its bytes.
+-- A source is read by a consumer of its bytes: what holds after each read and each piece that the consumer takes, and
+-- what the reading then is.
 use Rattle.std.proofs.Common.{◌≡◌, ℕ, suc, ◌+◌, ◌-◌, ◌≤◌, ◌<◌, List, ◌++◌, length, take, drop, Some, None, sym, ap}
 use Rattle.std.proofs.Common.{subst, ◌∙◌, append_assoc, append-nil, length-append, length-take-le, arith}
 use Rattle.std.specs.List.{copy_within}
@@ -10,7 +11,8 @@ use Rattle.std.specs.Io.KnownBytes.{Consumes, IsAtEnd}
 use Rattle.std.proofs.KnownBytes.{Consumes-trans}
 use Rattle.vme_stream.specs.Inputs.{IsReading, least_room, longest_input, most_reads}
 use Rattle.vcd_read.specs.ByteConsumers.{ContinuesAs}
-use Rattle.vme_stream.proofs.InputLemmas.{IsRoomy, gives_more, reads_more, read_to_end, roomy-on}
+use Rattle.vme_stream.proofs.InputLemmas.{IsRoomy, IsReading-many_reads, IsReading-more_than, IsReading-read_to_end}
+use Rattle.vme_stream.proofs.InputLemmas.{IsRoomy-read_some}
 use Rattle.vme_trace.specs.Streams.{Reading}
 
 -- `reads` reads gave bytes: `done`, the `taken` ones that the consumer took, and the `filled` ones that are held, at
@@ -27,9 +29,11 @@ pub record IsUnderway {O : Type 0} (old now : Reading) (first here : List ℕ �
   pub failures : now.failures ≡ old.failures
   pub passes : ContinuesAs first here done
 
-passes-on : {O : Type 0} (first here next : List ℕ → O) (xs ys : List ℕ) → ContinuesAs first here xs → ContinuesAs here
+-- a consumer that takes `xs` and then `ys` has taken `xs ++ ys`
+ContinuesAs-append : {O : Type 0} (first here next : List ℕ → O) (xs ys : List ℕ) → ContinuesAs first here xs
+    → ContinuesAs here
     next ys → ContinuesAs first next (xs ++ ys)
-passes-on first here next xs ys one two rest = ap first (append_assoc xs ys rest) ∙ one (ys ++ rest) ∙ two rest
+ContinuesAs-append first here next xs ys one two rest = ap first (append_assoc xs ys rest) ∙ one (ys ++ rest) ∙ two rest
 
 module _ {O : Type 0} (old now : Reading) (first here : List ℕ → O) (buffer done : List ℕ) (taken filled reads : ℕ)
     (u : IsUnderway old now first here buffer done taken filled reads) where
@@ -37,27 +41,32 @@ module _ {O : Type 0} (old now : Reading) (first here : List ℕ → O) (buffer 
   abbrev pub all_read : List ℕ
   all_read = done ++ take filled buffer
 
-  held : length (take filled buffer) ≡ filled
-  held = length-take-le filled buffer u.within
+  -- as many bytes are held as the buffer is filled with
+  length-held : length (take filled buffer) ≡ filled
+  length-held = length-take-le filled buffer u.within
 
-  pub read-length : length all_read ≡ taken + filled
-  read-length = length-append done (take filled buffer) ∙ omega (arith, held, u.done_is)
+  -- the number of bytes that were read is that of those taken and those held
+  pub length-all_read : length all_read ≡ taken + filled
+  length-all_read = length-append done (take filled buffer) ∙ omega (arith, length-held, u.done_is)
 
   -- `count` of the held bytes are taken
   module _ (limit : taken + filled ≤ longest_input) (next : List ℕ → O) (after : List ℕ) (count : ℕ)
       (within : count ≤ filled) (room : (filled - count) + least_room ≤ length after)
       (left : take (filled - count) after ≡ drop count (take filled buffer))
       (passed : ContinuesAs here next (take count buffer)) where
-    same_read : all_read ≡ (done ++ take count buffer) ++ take (filled - count) after
-    same_read =
+    -- the bytes that were read are the same after `count` of them are taken
+    all_read-taken : all_read ≡ (done ++ take count buffer) ++ take (filled - count) after
+    all_read-taken =
         ap (λ (xs : List ℕ). done ++ xs) (sym (take-append-drop count (take filled buffer))
         ∙ ap (λ (xs : List ℕ). xs ++ drop count (take filled buffer)) (take-take count filled buffer within)
         ∙ ap (λ (xs : List ℕ). take count buffer ++ xs) (sym left))
         ∙ sym (append_assoc done (take count buffer) (take (filled - count) after))
 
-    pub given-on : IsUnderway old now first next after (done ++ take count buffer) (taken + count) (filled - count)
+    -- reading is underway after the consumer took `count` of the held bytes
+    pub IsUnderway-taken : IsUnderway old now first next after (done ++ take count buffer) (taken + count)
+        (filled - count)
         reads
-    given-on = record {
+    IsUnderway-taken = record {
       within = omega (arith, room);
       counted = omega (arith, u.counted, within);
       done_is = length-append done (take count buffer) ∙ omega (
@@ -67,15 +76,15 @@ module _ {O : Type 0} (old now : Reading) (first here : List ℕ → O) (buffer 
             (omega (arith, within, u.within)),
       );
       few = omega (arith, limit, within);
-      read = subst (Consumes old.left now.left) same_read u.read;
+      read = subst (Consumes old.left now.left) all_read-taken u.read;
       reads_are = u.reads_are;
       roomy = record { rooms = omega (arith, u.roomy.rooms, within); few = u.roomy.few };
       failures = u.failures;
-      passes = passes-on first here next done (take count buffer) u.passes passed;
+      passes = ContinuesAs-append first here next done (take count buffer) u.passes passed;
     }
 
   -- one more read gave bytes, with room enough, and there weren't too many before
-  pub read-on : (later : Reading) (after : List ℕ) (count : ℕ) → take filled after ≡ take filled buffer
+  pub IsUnderway-read : (later : Reading) (after : List ℕ) (count : ℕ) → take filled after ≡ take filled buffer
       → filled + count ≤ length after → 0 < count → taken + filled ≤ longest_input
       → filled + least_room ≤ length after
       → Consumes now.left later.left (take count (drop filled after)) → later.reads ≡ now.reads + 1
@@ -84,9 +93,10 @@ module _ {O : Type 0} (old now : Reading) (first here : List ℕ → O) (buffer 
       × (length (drop filled after) ≤ count → later.short_reads ≡ now.short_reads)
       → later.failures ≡ now.failures
       → IsUnderway old later first here after done taken (filled + count) (reads + 1)
-  read-on later after count front fits some limit room read reads_are counts failures =
+  IsUnderway-read later after count front fits some limit room read reads_are counts failures =
       let enough : least_room ≤ length (drop filled after) = omega (arith, length-drop filled after, room) in
-      let on = roomy-on old now later reads (taken + filled) count (length (drop filled after)) u.roomy limit some
+      let on = IsRoomy-read_some old now later reads (taken + filled) count (length (drop filled after)) u.roomy limit
+      some
       enough counts in
       let joined : done ++ take (filled + count) after ≡ all_read ++ take count (drop filled after) =
       ap (λ (xs : List ℕ). done ++ xs) (take-add filled count after
@@ -106,55 +116,60 @@ module _ {O : Type 0} (old now : Reading) (first here : List ℕ → O) (buffer 
       }
 
   -- the last read gave none
-  pub read-out : (later : Reading) (after : List ℕ) → take filled after ≡ take filled buffer → Consumes now.left
+  pub IsReading-at_end : (later : Reading) (after : List ℕ) → take filled after ≡ take filled buffer → Consumes now.left
       later.left (take 0 (drop filled after)) → IsAtEnd later.left
       → later.reads ≡ now.reads → later.failures ≡ now.failures → reads < most_reads
       → IsReading old later (Some all_read)
-  read-out later after front read end reads_are failures few =
-      read_to_end old later all_read (subst (Consumes old.left later.left) (append-nil all_read)
+  IsReading-at_end later after front read end reads_are failures few =
+      IsReading-read_to_end old later all_read (subst (Consumes old.left later.left) (append-nil all_read)
       (Consumes-trans old.left now.left later.left _ _ u.read read)) end
       (record { failures = failures ∙ u.failures; reads = omega (arith, reads_are, u.reads_are, few) })
 
   -- there are too many bytes: the input is too long
-  pub read-long : longest_input < taken + filled → reads < most_reads → (bytes : List ℕ)
+  pub IsReading-too_long : longest_input < taken + filled → reads < most_reads → (bytes : List ℕ)
       × (longest_input < length bytes) × IsReading old now (Some bytes)
-  read-long long few =
-      reads_more old now all_read longest_input u.read (omega (arith, long, read-length))
+  IsReading-too_long long few =
+      IsReading-more_than old now all_read longest_input u.read (omega (arith, long, length-all_read))
       (record { failures = u.failures; reads = omega (arith, u.reads_are, few) })
 
   -- `most_reads` reads gave bytes: reading is given up
-  pub read-up : most_reads ≤ reads → now.reads ≡ old.reads + most_reads → IsReading old now None
-  read-up many reads_are = gives_more old now all_read u.read (omega (arith, many, u.counted, read-length)) reads_are
+  pub IsReading-given_up : most_reads ≤ reads → now.reads ≡ old.reads + most_reads → IsReading old now None
+  IsReading-given_up many reads_are =
+      IsReading-many_reads old now all_read u.read (omega (arith, many, u.counted, length-all_read)) reads_are
       (omega (arith, many, u.roomy.few)) u.failures
 
 -- ---- bytes that are moved to the front of a buffer
 
-moved_in : (xs : List ℕ) (from : ℕ) → from ≤ length xs → take (length xs - from) (copy_within xs from (length xs) 0)
+-- the bytes from `from` on, moved to the front of a list, are its first ones
+copy_within-front : (xs : List ℕ) (from : ℕ) → from ≤ length xs
+    → take (length xs - from) (copy_within xs from (length xs) 0)
     ≡ drop from xs
-moved_in xs from le =
+copy_within-front xs from le =
     let k = length xs - from in
     subst (λ (j : ℕ). take j (paste xs 0 (drop from xs) k) ≡ drop from xs) (zero-add k)
     (take-paste xs 0 (drop from xs) k (omega arith) (omega (arith, length-drop from xs)) ∙ take_rest xs from)
 
 -- of the first `filled` bytes of a buffer `count` were taken, and those after them are then at the front
-pub left_after : (before moved after : List ℕ) (len filled count : ℕ) → filled ≤ len → count ≤ filled
-    → take (len - count) moved ≡ drop count before → take (filled - count) after ≡ take (filled - count) moved
+pub take-left : (before moved_bytes after : List ℕ) (len filled count : ℕ) → filled ≤ len → count ≤ filled
+    → take (len - count) moved_bytes ≡ drop count before → take (filled - count) after
+    ≡ take (filled - count) moved_bytes
     → take (filled - count) after ≡ drop count (take filled before)
-left_after before moved after len filled count within some left front =
+take-left before moved_bytes after len filled count within some left front =
     let less : filled - count ≤ len - count = omega (arith, within) in
     let all : count + (filled - count) ≡ filled = omega (arith, some) in
-    front ∙ sym (take-take (filled - count) (len - count) moved less) ∙ ap (take (filled - count)) left
+    front ∙ sym (take-take (filled - count) (len - count) moved_bytes less) ∙ ap (take (filled - count)) left
     ∙ sym (drop-take count (filled - count) before) ∙ ap (λ (n : ℕ). drop count (take n before)) all
 
 -- bytes that are written over the start of a buffer are its first ones
-pub written_back : (xs given : List ℕ) (n : ℕ) → n ≡ length given → take n (given ++ drop (length given) xs) ≡ given
-written_back xs given n e = ap (λ (k : ℕ). take k (given ++ drop (length given) xs)) e ∙ take-append_seam given
+pub take-written : (xs given : List ℕ) (n : ℕ) → n ≡ length given → take n (given ++ drop (length given) xs) ≡ given
+take-written xs given n e = ap (λ (k : ℕ). take k (given ++ drop (length given) xs)) e ∙ take-append_seam given
     (drop (length given) xs)
 
-pub moved : (xs given : List ℕ) (n from : ℕ) → n ≡ length xs → from ≤ n → length given ≡ length xs → given
+-- the bytes from `from` on, moved to the front of a buffer that is written back, are its first ones
+pub take-moved : (xs given : List ℕ) (n from : ℕ) → n ≡ length xs → from ≤ n → length given ≡ length xs → given
     ≡ copy_within xs from n 0
     → take (n - from) (take n (given ++ drop (length given) xs)) ≡ drop from xs
-moved xs given n from e le len is =
-    ap (take (n - from)) (written_back xs given n (e ∙ sym len) ∙ is)
+take-moved xs given n from e le len is =
+    ap (take (n - from)) (take-written xs given n (e ∙ sym len) ∙ is)
     ∙ ap (λ (k : ℕ). take (k - from) (copy_within xs from k 0)) e
-    ∙ moved_in xs from (omega (arith, e, le))
+    ∙ copy_within-front xs from (omega (arith, e, le))

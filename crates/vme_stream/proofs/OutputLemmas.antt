@@ -9,15 +9,15 @@ use Rattle.vme_trace.specs.Streams.{Writing}
 use Rattle.vme_stream.specs.Outputs.{FailsToWrite, Writes}
 
 -- the next `n` bytes of `rest` were written, after `done`
-pub splits_later : (all done rest : List ℕ) (n : ℕ) → all ≡ done ++ rest → all ≡ (done ++ take n rest)
+pub append-next_written : (all done rest : List ℕ) (n : ℕ) → all ≡ done ++ rest → all ≡ (done ++ take n rest)
     ++ take (length rest - n) (drop n rest)
-splits_later all done rest n split =
+append-next_written all done rest n split =
     split ∙ ap (λ l. done ++ l) (sym (take-append-drop n rest)) ∙ sym (append_assoc done (take n rest) (drop n rest))
     ∙ ap (λ l. (done ++ take n rest) ++ l) (sym (take_rest rest n))
 
 -- what stands before `rest` is as many of the first bytes of `all` as it has
-pub front_is : (all done rest : List ℕ) → all ≡ done ++ rest → done ≡ take (length done) all
-front_is all done rest split = sym (ap (take (length done)) split ∙ take-append_seam done rest)
+pub take-done : (all done rest : List ℕ) → all ≡ done ++ rest → done ≡ take (length done) all
+take-done all done rest split = sym (ap (take (length done)) split ∙ take-append_seam done rest)
 
 -- ---- one text after another
 

@@ -28,7 +28,7 @@ use Rattle.vme_text_commands.specs.Explained.{judged_by}
 use Rattle.vme_text_commands.specs.ExplainedDumps.{GivesAccount, or_too_long}
 use Rattle.vme_commands.specs.Settled.{settled_judgement, settled_read}
 use Rattle.vme_skew.specs.Settled.{settled, settled_or}
-use Rattle.vme_stream.proofs.AnswerLemmas.{capture_read-bound, capture_read-refused, passes_through}
+use Rattle.vme_stream.proofs.AnswerLemmas.{capture_read-bound, capture_read-refused, AnswerGives-then}
 use Rattle.vme_commands.proofs.SettledLemmas.{judgement-refused, read-refused, settled-fits, settled-refused}
 use Rattle.vme_commands.proofs.SettledLemmas.{settled-short}
 
@@ -120,17 +120,17 @@ account-over t over short = ap (λ (r : Result Trace Refusal). r >>= verdict_in_
 
 pub account-refused : (r : Refusal) (captured : Result Trace Refusal) → AnswerGives (λ (t : Trace). t) (Err r) captured
     → GivesAccount (Err r) captured
-account-refused r captured gives = passes_through r captured (verdict_in_blocks 16384) gives
+account-refused r captured gives = AnswerGives-then r captured (verdict_in_blocks 16384) gives
 
 pub account-unread : (r : Refusal) (read : Result Trace Refusal) → AnswerGives (λ (t : Trace). t) (Err r) read
     → GivesAccount (Err r) (read >>= or_too_long)
-account-unread r read gives = account-refused r (read >>= or_too_long) (passes_through r read or_too_long gives)
+account-unread r read gives = account-refused r (read >>= or_too_long) (AnswerGives-then r read or_too_long gives)
 
 pub account-unsettled : (skew : ℕ) (r : Refusal) (read : Result Trace Refusal)
     → AnswerGives (λ (t : Trace). t) (Err r) read → GivesAccount (Err r) (settled_or skew (read >>= or_too_long))
 account-unsettled skew r read gives =
     account-refused r (settled_or skew (read >>= or_too_long))
-    (settled-refused skew (read >>= or_too_long) r (passes_through r read or_too_long gives))
+    (settled-refused skew (read >>= or_too_long) r (AnswerGives-then r read or_too_long gives))
 
 -- the account of the deskewed recording `made` is the one that `explain` gives, if the recording `t` isn't too long
 pub account-settled : (skew : ℕ) (t made : Trace) (a : Result Account Refusal)

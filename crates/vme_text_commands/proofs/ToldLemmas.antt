@@ -7,7 +7,7 @@ use Rattle.vcd_read.specs.declared.dump.Variable.{Variable}
 use Rattle.vcd_read.specs.declared.fault.FaultKind.{FaultKind}
 use Rattle.vcd_read.specs.declared.fault.FaultKind.TheVariants.{Memory as Want}
 use Rattle.vcd_read.specs.declared.fault.VcdFault.{VcdFault}
-use Rattle.vme_stream.proofs.AnswerLemmas.{capture_by-recorded, text_recorded-ok}
+use Rattle.vme_stream.proofs.AnswerLemmas.{capture_by-recorded, recorded_by-captured}
 use Rattle.vme_stream.specs.Answers.{AnswerGives, or_bad_dump}
 use Rattle.vme_stream.specs.Refusals.{dump_refusal}
 use Rattle.vme_stream.specs.declared.refusal.Refusal.{Refusal}
@@ -55,7 +55,7 @@ binds_dump dump text slots scope made slots_are scope_is = record {
   recording = made.recording;
   is_binding = made.is_binding;
   records = capture_by-recorded made.bound (or_bad_dump (dump_of dump)) (Ok made.recording)
-      (text_recorded-ok made.bound dump made.recording made.records);
+      (recorded_by-captured made.bound dump made.recording made.records);
   slots_are = slots_told text made.bound slots made.is_binding slots_are;
   scope_is = scope_told dump scope scope_is;
 }

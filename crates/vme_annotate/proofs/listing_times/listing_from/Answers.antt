@@ -4,9 +4,9 @@ use Rattle.std.proofs.lemmas.Result.{err_from_is_err_and}
 use Rattle.std.specs.Prelude.{Result, Some}
 use Rattle.vcd_read.specs.Contents.{Contents}
 use Rattle.vme_stream.specs.declared.refusal.Refusal.{Refusal}
-use Rattle.vme_stream.proofs.AnswerLemmas.{dump_read-whole, dump_refused}
+use Rattle.vme_stream.proofs.AnswerLemmas.{dump_read-whole, dump_read-fault}
 use Rattle.vme_stream.specs.Inputs.{longest_input}
-use Rattle.vme_stream.proofs.InputLemmas.{unread}
+use Rattle.vme_stream.proofs.InputLemmas.{IsReading-unread}
 use Rattle.vme_annotate.specs.TimedListings.{GivesTimedListing, recording_to_list}
 use Rattle.vme_annotate.proofs.ListedLemmas.{recording_is, unbound, unread_dump}
 use Rattle.vme_annotate.proofs.listing_times.listing_from.Goals as goal
@@ -16,7 +16,7 @@ returns-in_err-bound g c =
     let p = err_from_is_err_and c.from_residual.result c.from_residual.ensures.1 in
     let refusal = c.in_err-bound.field-0.0 in
     let (binding, binding_reading, refused) = c.in_err-bound.ensures in
-    let left = unread (g.D.Source.reading c.args.dump.now) in
+    let left = IsReading-unread (g.D.Source.reading c.args.dump.now) in
     rw (p.1, p.2)
     (binding, left.0, binding_reading, left.1, unbound c.args.skew c.args.block binding left.0 refusal refused)
 
@@ -39,7 +39,7 @@ returns-in-Ok g c =
 pub returns : goal.returns
 returns g c =
     let (binding, binding_reading, bound_is) = c.in_ok-bound.ensures in
-    let (dump, dump_reading, refused) = dump_refused _ _ c.read_all.result c.in-Err.fault c.in-Err.is
+    let (dump, dump_reading, refused) = dump_read-fault _ _ c.read_all.result c.in-Err.fault c.in-Err.is
     c.read_all.ensures.read c.read_all.ensures.too_long c.read_all.ensures.memory in
     rw c.of_input.ensures (
       binding,

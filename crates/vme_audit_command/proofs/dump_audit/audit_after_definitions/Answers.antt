@@ -1,7 +1,7 @@
 use Rattle.std.proofs.Common.{ℕ, [], sym}
 use Rattle.vme_step_reader.specs.StepReading.{whole_reading}
 use Rattle.vme_dump_input.specs.SettledReadings.{skew_of}
-use Rattle.vme_dump_input.proofs.FirstSteps.{comes-first}
+use Rattle.vme_dump_input.proofs.FirstSteps.{ComesOut-no_step}
 use Rattle.vme_audit_command.proofs.AnswerLemmas.{body-unwritten, body-with-outcome, body-without-outcome, given-first}
 use Rattle.vme_audit_command.proofs.AnswerLemmas.{no-lines}
 use Rattle.vme_audit_command.proofs.ReadLemmas.{CountsUnread-retyped}
@@ -14,7 +14,7 @@ returns-in-Ok-write_counts_and_outcome-clause-answers g c = λ begun.
     let head = c.args.head.now in
     let skew = skew_of c.args.options.skew in
     let h = given-first skew c.settler_for-settler.result first c.args.reader
-    (comes-first c.args.options.skew c.opening.result.now (whole_reading c.args.reader []).time c.args.reader.given
+    (ComesOut-no_step c.args.options.skew c.opening.result.now (whole_reading c.args.reader []).time c.args.reader.given
     (sym c.opening.ensures) begun.nothing c.settler_for-settler.result c.settler_for-settler.ensures)
     (c.first_audit-auditor.ensures.given begun.nothing) c.first_audit-auditor.ensures.few
     c.first_audit-auditor.ensures.whole begun in
@@ -35,7 +35,7 @@ returns-in-Ok-clause-answers g c = λ begun.
     let head = c.args.head.now in
     let skew = skew_of c.args.options.skew in
     let h = given-first skew c.settler_for-settler.result first c.args.reader
-    (comes-first c.args.options.skew c.opening.result.now (whole_reading c.args.reader []).time c.args.reader.given
+    (ComesOut-no_step c.args.options.skew c.opening.result.now (whole_reading c.args.reader []).time c.args.reader.given
     (sym c.opening.ensures) begun.nothing c.settler_for-settler.result c.settler_for-settler.ensures)
     (c.first_audit-auditor.ensures.given begun.nothing) c.first_audit-auditor.ensures.few
     c.first_audit-auditor.ensures.whole begun in
@@ -56,7 +56,7 @@ returns-clause-answers g c = λ begun.
     let head = c.args.head.now in
     let skew = skew_of c.args.options.skew in
     let h = given-first skew c.settler_for-settler.result first c.args.reader
-    (comes-first c.args.options.skew c.opening.result.now (whole_reading c.args.reader []).time c.args.reader.given
+    (ComesOut-no_step c.args.options.skew c.opening.result.now (whole_reading c.args.reader []).time c.args.reader.given
     (sym c.opening.ensures) begun.nothing c.settler_for-settler.result c.settler_for-settler.ensures)
     (c.first_audit-auditor.ensures.given begun.nothing) c.first_audit-auditor.ensures.few
     c.first_audit-auditor.ensures.whole begun in

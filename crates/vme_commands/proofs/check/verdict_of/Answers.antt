@@ -5,7 +5,7 @@ use Rattle.vme_trace.specs.Verdict.{rules_in_force, verdict_by}
 use Rattle.vme_trace.specs.declared.verdict.Verdict.{Verdict}
 use Rattle.vme_stream.specs.Refusals.{judging_refusal}
 use Rattle.vme_stream.specs.declared.refusal.Refusal.{Refusal}
-use Rattle.vme_stream.proofs.AnswerLemmas.{passes_through}
+use Rattle.vme_stream.proofs.AnswerLemmas.{AnswerGives-then}
 use Rattle.vme_commands.specs.Judged.{limited_in_blocks}
 use Rattle.vme_commands.proofs.JudgedLemmas.{judged-fits, judged-refused}
 use Rattle.vme_commands.proofs.check.verdict_of.Goals as goal
@@ -26,5 +26,5 @@ returns-in-Err c =
     let told = c.in-Err.ensures in
     λ formed.
     rw c.of_judging.ensures
-    (passes_through (judging_refusal c.in-Err.why) (limited_in_blocks c.args.block c.args.judge) or_verdict
+    (AnswerGives-then (judging_refusal c.in-Err.why) (limited_in_blocks c.args.block c.args.judge) or_verdict
     (judged-refused c.args.judge c.args.block _ told.too_many_steps told.too_many_blocks c.in-Err.why refl))

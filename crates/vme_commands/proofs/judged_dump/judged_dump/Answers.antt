@@ -5,8 +5,8 @@ use Rattle.vme_bind.specs.TextCapture.{CaptureFailsBy, recording_of_text}
 use Rattle.vme_bind.specs.declared.fault.CaptureFault.{CaptureFault}
 use Rattle.vme_bind.proofs.TextCaptureLemmas.{recording_of_text-formed}
 use Rattle.vme_stream.specs.Answers.{dump_read}
-use Rattle.vme_stream.proofs.InputLemmas.{unread}
-use Rattle.vme_stream.proofs.AnswerLemmas.{dump_refused, dump_read-whole, recording_by-fails, recording_by-refused}
+use Rattle.vme_stream.proofs.InputLemmas.{IsReading-unread}
+use Rattle.vme_stream.proofs.AnswerLemmas.{dump_read-fault, dump_read-whole, recording_by-fails, recording_by-refused}
 use Rattle.vme_stream.proofs.AnswerLemmas.{recording_by-text, recording_read-bound, recording_read-refused}
 use Rattle.vme_commands.proofs.judged_dump.judged_dump.Goals as goal
 
@@ -15,7 +15,7 @@ returns-in_err-bound-clause-gives g c =
     let p = err_from_is_err_and c.from_residual.result c.from_residual.ensures.1 in
     let refusal = c.in_err-bound.field-0.0 in
     let (binding, bound_reading, refused) = c.in_err-bound.ensures in
-    let left = unread (g.D.Source.reading c.args.dump.now) in
+    let left = IsReading-unread (g.D.Source.reading c.args.dump.now) in
     rw (p.1, p.2)
     (binding, left.0, bound_reading, left.1, recording_read-refused binding left.0 refusal refused)
 
@@ -60,7 +60,8 @@ pub returns-clause-gives : goal.returns-clause-gives
 returns-clause-gives g c =
     let bound = c.in_ok-bound.bound in
     let (binding, bound_reading, bound_is) = c.in_ok-bound.ensures in
-    let (bytes, reading, refused) = dump_refused _ _ c.read_by.result c.in-Err.fault c.in-Err.is c.read_by.ensures.read
+    let (bytes, reading, refused) = dump_read-fault _ _ c.read_by.result c.in-Err.fault c.in-Err.is
+    c.read_by.ensures.read
     c.read_by.ensures.too_long c.read_by.ensures.memory in
     rw c.of_input.ensures (
       binding,

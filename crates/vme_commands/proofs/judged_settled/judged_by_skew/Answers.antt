@@ -1,7 +1,7 @@
 -- What was judged is the deskewed recording.
 use Rattle.std.proofs.Common.{◌∙◌}
 use Rattle.std.proofs.lemmas.Result.{err_from_is_err_and}
-use Rattle.vme_stream.proofs.InputLemmas.{unread}
+use Rattle.vme_stream.proofs.InputLemmas.{IsReading-unread}
 use Rattle.vme_stream.proofs.AnswerLemmas.{capture_read-unrecorded, recording_read-bound, recording_read-refused}
 use Rattle.vme_commands.proofs.SettledLemmas.{read-recorded, read-refused}
 use Rattle.vme_commands.proofs.judged_settled.judged_by_skew.Goals as goal
@@ -11,7 +11,7 @@ returns-in_err-bound-clause-gives g c =
     let p = err_from_is_err_and c.from_residual.result c.from_residual.ensures.1 in
     let refusal = c.in_err-bound.field-0.0 in
     let (bound, bound_reading, refused) = c.in_err-bound.ensures in
-    let left = unread (g.D.Source.reading c.args.dump.now) in
+    let left = IsReading-unread (g.D.Source.reading c.args.dump.now) in
     rw (p.1, p.2) (
       bound,
       left.0,

@@ -4,7 +4,7 @@ use Rattle.vme_bind.specs.TextCapture.{CaptureFailsBy, recording_of_text}
 use Rattle.vme_bind.specs.declared.fault.CaptureFault.{CaptureFault}
 use Rattle.vme_bind.proofs.TextCaptureLemmas.{recording_of_text-formed}
 use Rattle.vme_stream.specs.Answers.{dump_read}
-use Rattle.vme_stream.proofs.AnswerLemmas.{dump_refused, dump_read-whole, recording_by-fails, recording_by-refused}
+use Rattle.vme_stream.proofs.AnswerLemmas.{dump_read-fault, dump_read-whole, recording_by-fails, recording_by-refused}
 use Rattle.vme_stream.proofs.AnswerLemmas.{recording_by-text}
 use Rattle.vme_commands.proofs.judged_settled.taken_in_order.Goals as goal
 
@@ -36,6 +36,7 @@ returns-in-Ok-clause-gives g c =
 
 pub returns-clause-gives : goal.returns-clause-gives
 returns-clause-gives g c =
-    let (bytes, reading, refused) = dump_refused _ _ c.read_by.result c.in-Err.fault c.in-Err.is c.read_by.ensures.read
+    let (bytes, reading, refused) = dump_read-fault _ _ c.read_by.result c.in-Err.fault c.in-Err.is
+    c.read_by.ensures.read
     c.read_by.ensures.too_long c.read_by.ensures.memory in
     rw c.of_input.ensures (bytes, reading, recording_by-refused c.args.bound.now (dump_read bytes) _ refused)

@@ -3,9 +3,9 @@ use Rattle.std.proofs.Common.{[], Some}
 use Rattle.vme_trace.specs.Followed.{with_steps}
 use Rattle.vme_step_reader.specs.StepReading.{whole_reading}
 use Rattle.vme_dump_input.specs.SettledReadings.{skew_of}
-use Rattle.vme_dump_input.proofs.BodyLemmas.{last-goes, stops-fault}
+use Rattle.vme_dump_input.proofs.BodyLemmas.{GoOnFrom-last, HasFault-StopsAs}
 use Rattle.vme_confirm_command.proofs.BodyLemmas.{finds-of}
-use Rattle.vme_dump_input.proofs.DumpRefusals.{faulty-is}
+use Rattle.vme_dump_input.proofs.DumpRefusals.{IsDumpRefused-fault}
 use Rattle.vme_confirm_command.proofs.body.check_last.Goals as goal
 
 pub finish-found-requires : goal.finish-found-requires
@@ -18,7 +18,7 @@ finish-found-requires g c =
       (whole_reading r []).time,
       t,
       h.stepped,
-      last-goes c.times_go_on.ensures.follows c.times_go_on.ensures.within c.times_go_on.ensures.on
+      GoOnFrom-last c.times_go_on.ensures.follows c.times_go_on.ensures.within c.times_go_on.ensures.on
           c.given_is_a_prefix.ensures r h.sound c.args.bytes.now steps c.in-Ok.ensures.recorded,
     )
 
@@ -26,7 +26,7 @@ pub returns-in-Ok-found : goal.returns-in-Ok-found
 returns-in-Ok-found g c binding old now skew t whole version h compared end =
     let r = c.args.reader in
     let steps = c.in-Ok.steps.items in
-    let go = last-goes c.times_go_on.ensures.follows c.times_go_on.ensures.within c.times_go_on.ensures.on
+    let go = GoOnFrom-last c.times_go_on.ensures.follows c.times_go_on.ensures.within c.times_go_on.ensures.on
     c.given_is_a_prefix.ensures r h.sound c.args.bytes.now steps c.in-Ok.ensures.recorded in
     finds-of g.S.RowSource.gave g.S.RowSource.is_over whole version binding skew c.finish-found.result.1 old now
     c.args.bytes.now r end (with_steps r.given steps) c.in-Ok.ensures.recorded c.in-Ok.ensures.whole
@@ -44,9 +44,9 @@ pub returns-in-Err : goal.returns-in-Err
 returns-in-Err g c binding old now skew t whole version h compared end =
     let stopped = c.in-Err.stopped in
     let r = c.args.reader in (
-      rw (c.of_dump.ensures, c.fault_of.ensures) (faulty-is old now end.text end.all stopped.fault.line
+      rw (c.of_dump.ensures, c.fault_of.ensures) (IsDumpRefused-fault old now end.text end.all stopped.fault.line
           stopped.fault.kind
-          (stops-fault binding end.text (whole_reading r c.args.bytes.now) stopped.fault.line stopped.fault.kind
+          (HasFault-StopsAs binding end.text (whole_reading r c.args.bytes.now) stopped.fault.line stopped.fault.kind
           (with_steps r.given stopped.steps.items) stopped.time end.body c.in-Err.ensures.stopped)),
       c.into_source.ensures whole version (record { t = t; taken = h.stepped.taken; compared = compared }),
     )

@@ -7,9 +7,9 @@ use Rattle.vme_step_reader.specs.Stops.{StopsBehind}
 use Rattle.vme_dump_input.specs.DumpBeginnings.{IsAtBody}
 use Rattle.vme_dump_input.specs.BufferedInputs.{InputSoFar}
 use Rattle.vme_dump_input.specs.BodyPieces.{FailsPiece}
-use Rattle.vme_dump_input.proofs.BodyLemmas.{body-stops, body-taken, piece-goes}
+use Rattle.vme_dump_input.proofs.BodyLemmas.{HasFaultBefore-StopsAs, IsAtBody-taken, GoOnTo-piece}
 use Rattle.vme_confirm_command.proofs.BodyLemmas.{checked-next}
-use Rattle.vme_dump_input.proofs.BufferedLemmas.{some-reading}
+use Rattle.vme_dump_input.proofs.BufferedLemmas.{IsReading-some}
 use Rattle.vme_confirm_command.proofs.body.check_piece.Goals as goal
 
 pub take-requires-in-Ok : goal.take-requires-in-Ok
@@ -23,7 +23,8 @@ take-requires-in-Ok g c =
       (whole_reading r []).time,
       t,
       h.stepped,
-      piece-goes law.follows law.within law.on c.given_is_a_prefix.ensures r h.sound c.in-Ok.reader c.in-Ok.steps.items
+      GoOnTo-piece law.follows law.within law.on c.given_is_a_prefix.ensures r h.sound c.in-Ok.reader
+          c.in-Ok.steps.items
           (take c.in-Ok.count c.bytes.result.now) c.time-time.result made.taken made.given made.formed
           c.time-time.ensures,
     )
@@ -38,7 +39,7 @@ returns-in-Ok-take-clause-reads g c binding old now at =
     c.bytes.ensures.held made.taken in
     let within = subst (λ (l : List ℕ). n ≤ length l) c.bytes.ensures.held made.within in
     subst (λ (i : InputSoFar). IsAtBody binding old now i next) (sym c.take_first.ensures)
-    (body-taken binding old now c.args.input.now r at next n within taken)
+    (IsAtBody-taken binding old now c.args.input.now r at next n within taken)
 
 pub returns-in-Ok-take-clause-checks : goal.returns-in-Ok-take-clause-checks
 returns-in-Ok-take-clause-checks g c skew t h =
@@ -51,7 +52,7 @@ returns-in-Ok-take-clause-checks g c skew t h =
     let n = c.in-Ok.count in
     let taken = subst (λ (l : List ℕ). (rest : List ℕ) → whole_reading r (take n l ++ rest) ≡ whole_reading next rest)
     c.bytes.ensures.held made.taken in
-    let go = piece-goes law.follows law.within law.on c.given_is_a_prefix.ensures r h.sound next steps (take n held)
+    let go = GoOnTo-piece law.follows law.within law.on c.given_is_a_prefix.ensures r h.sound next steps (take n held)
     c.time-time.result taken made.given made.formed c.time-time.ensures in
     let (later, stepped, compared) = c.in-Ok-take.ensures.stepped skew r.given (whole_reading r []).time t
     h.stepped go in (
@@ -63,7 +64,7 @@ returns-in-Ok-take-clause-checks g c skew t h =
 
 pub returns-in-Err-take-clause-reads : goal.returns-in-Err-take-clause-reads
 returns-in-Err-take-clause-reads g c binding old now at =
-    some-reading old now at.done c.args.input.now at.read
+    IsReading-some old now at.done c.args.input.now at.read
 
 pub returns-in-Err-clause-reads : goal.returns-in-Err-clause-reads
 returns-in-Err-clause-reads g c binding old now at =
@@ -74,6 +75,6 @@ returns-in-Err-clause-reads g c binding old now at =
     subst (λ (f : VcdFault). FailsPiece old now c.args.input.now (Some f)) (sym c.fault_of.ensures) (
       at.done,
       at.read,
-      body-stops binding old now c.args.input.now r at stopped.fault.line stopped.fault.kind
+      HasFaultBefore-StopsAs binding old now c.args.input.now r at stopped.fault.line stopped.fault.kind
           (with_steps r.given stopped.steps.items) stopped.time stops,
     )

@@ -3,8 +3,8 @@ use Rattle.std.proofs.Common.{ℕ, List, refl, subst, sym, ◌∙◌}
 use Rattle.vme_dump_input.specs.SettledReadings.{skew_of}
 use Rattle.vme_dump_input.specs.BufferedInputs.{FailsAs}
 use Rattle.vme_dump_input.specs.BodyPieces.{IsAtEnd}
-use Rattle.vme_dump_input.proofs.BodyLemmas.{body-ends, body-grown}
-use Rattle.vme_dump_input.proofs.DumpRefusals.{unread-is}
+use Rattle.vme_dump_input.proofs.BodyLemmas.{IsAtEnd-whole, IsAtBody-grown}
+use Rattle.vme_dump_input.proofs.DumpRefusals.{IsDumpRefused-fails}
 use Rattle.vme_confirm_command.proofs.body.compare_body.Goals as goal
 
 pub loop-reader-init : goal.loop-reader-init
@@ -28,7 +28,8 @@ loop-reader-preserved g c =
     record {
       at = λ binding old at.
           let next = c.in-Ok.ensures.reads binding old now (inv.at binding old at) in
-          body-grown binding old now input c.in-Ok.reader next (g.D.Source.reading c.read.new.source) c.read.new.self
+          IsAtBody-grown binding old now input c.in-Ok.reader next (g.D.Source.reading c.read.new.source)
+          c.read.new.self
           (c.check_piece.ensures.input.1 ∙ (sym c.is_whole.ensures ∙ c.loop-reader-test.true))
           c.in_default.ensures.grown (c.in_default.ensures.read old next.done next.read);
       checks = λ skew t h.
@@ -54,7 +55,7 @@ returns-in-Err-read g c binding old skew t whole version h first at limit =
     let (later, checked, compared) = inv.checks (skew_of skew) t h in
     let now = g.D.Source.reading c.read.new.source in
     let next = c.in-Ok.ensures.reads binding old (g.D.Source.reading c.loop-reader.dump) (inv.at binding old at) in (
-      rw c.unread.ensures (unread-is old now c.in-Err-read.fault
+      rw c.unread.ensures (IsDumpRefused-fails old now c.in-Err-read.fault
           (subst (λ n. FailsAs n old now c.in-Err-read.fault)
           (c.check_piece.ensures.input.0 ∙ inv.limit ∙ limit)
           (c.in-Err-read.ensures.fails old next.done next.read))),
@@ -75,5 +76,5 @@ returns g c binding old skew t whole version h first at limit =
     let (later, checked, compared) = inv.checks (skew_of skew) t h in
     c.check_last.ensures binding old now skew later whole version checked (compared whole version first)
     (subst (λ (l : List ℕ). IsAtEnd binding old now l c.loop-reader.reader) (sym c.bytes.ensures.held)
-    (body-ends binding old now c.loop-reader.input c.loop-reader.reader (inv.at binding old at)
+    (IsAtEnd-whole binding old now c.loop-reader.input c.loop-reader.reader (inv.at binding old at)
     (sym c.is_whole.ensures ∙ c.loop-reader-test.false) (inv.limit ∙ limit)))

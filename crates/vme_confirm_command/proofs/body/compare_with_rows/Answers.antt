@@ -5,7 +5,7 @@ use Rattle.vme_dump_input.specs.BufferedInputs.{InputSoFar}
 use Rattle.vme_dump_input.specs.DumpBeginnings.{BeginsDump, HoldsDefinitions, IsAtBody}
 use Rattle.vme_dump_input.specs.declared.definitions.DumpAfterDefinitions.{DumpAfterDefinitions}
 use Rattle.vme_dump_input.specs.SettledReadings.{skew_of}
-use Rattle.vme_dump_input.proofs.DefinitionLemmas.{definitions-taken}
+use Rattle.vme_dump_input.proofs.DefinitionLemmas.{IsAtBody-definitions}
 use Rattle.vme_confirm_command.proofs.body.compare_with_rows.Goals as goal
 
 pub take_first-requires : goal.take_first-requires
@@ -24,7 +24,7 @@ returns-in-Body g c binding old whole gave begun limit =
     c.compare_body.ensures binding old c.args.skew r.given whole c.args.version
     c.first_check-check.ensures.checked (c.first_check-check.ensures.compared whole gave)
     (subst (λ (i : InputSoFar). IsAtBody binding old now i r) (sym c.take_first.ensures)
-    (definitions-taken binding old now input r c.in-Body.count at))
+    (IsAtBody-definitions binding old now input r c.in-Body.count at))
     (ap (λ (i : InputSoFar). i.limit) c.take_first.ensures ∙ limit)
 
 pub returns-in-Unusable : goal.returns-in-Unusable

@@ -6,7 +6,7 @@ use Rattle.vme_listing.specs.declared.row.Row.{Row}
 use Rattle.vme_listing.specs.declared.row.Version.{Version}
 use Rattle.vme_confirm_command.specs.RowsOfListing.{ListingGaveRows, IsOver}
 use Rattle.vme_stream.specs.declared.refusal.Refusal.TheVariants.{Memory}
-use Rattle.vme_stream.proofs.InputLemmas.{unread}
+use Rattle.vme_stream.proofs.InputLemmas.{IsReading-unread}
 use Rattle.vme_confirm_command.proofs.FoundLemmas.{begun-read, compares-found, compares-refused, confirms-refused}
 use Rattle.vme_confirm_command.proofs.FoundLemmas.{found-of}
 use Rattle.vme_confirm_command.proofs.confirm.compare_with_listing.Goals as goal
@@ -15,7 +15,7 @@ pub returns-in_default : goal.returns-in_default
 returns-in_default g c bound old begun limit =
     let (bytes, reading) = begun-read bound old (g.D.Source.reading c.args.dump.now) c.args.input.now c.args.begun begun
     in
-    let listing = unread (g.L.Source.reading c.args.listing) in
+    let listing = IsReading-unread (g.L.Source.reading c.args.listing) in
     (bytes, listing.0, Err Memory, reading, listing.1, tt, tt)
 
 pub returns-in-Ok-found : goal.returns-in-Ok-found

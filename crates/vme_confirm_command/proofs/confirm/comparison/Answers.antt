@@ -1,7 +1,7 @@
 use Rattle.std.specs.Prelude.{Err}
 use Rattle.vme_stream.specs.declared.refusal.Refusal.TheVariants.{Memory}
 use Rattle.vme_stream.specs.Answers.{binding_read, dump_read}
-use Rattle.vme_stream.proofs.InputLemmas.{unread}
+use Rattle.vme_stream.proofs.InputLemmas.{IsReading-unread}
 use Rattle.vme_confirm_command.proofs.ConfirmLemmas.{binding_lacks}
 use Rattle.vme_confirm_command.proofs.confirm.comparison.Goals as goal
 
@@ -14,8 +14,8 @@ returns-in-Ok g c =
 pub returns-in-Err : goal.returns-in-Err
 returns-in-Err g c =
     let (bound, bound_reading, refused) = c.in-Err.ensures in
-    let dump = unread (g.D.Source.reading c.args.dump.now) in
-    let listing = unread (g.L.Source.reading c.args.listing) in (
+    let dump = IsReading-unread (g.D.Source.reading c.args.dump.now) in
+    let listing = IsReading-unread (g.L.Source.reading c.args.listing) in (
       bound,
       dump.0,
       listing.0,

@@ -7,7 +7,7 @@ use Rattle.vme_step_reader.specs.StepReading.{StepReading, whole_reading}
 use Rattle.vme_dump_input.specs.DumpBeginnings.{BeginsDump, HoldsDefinitions}
 use Rattle.vme_dump_input.specs.declared.definitions.DumpAfterDefinitions.{DumpAfterDefinitions}
 use Rattle.vme_dump_input.specs.declared.definitions.DumpAfterDefinitions.TheVariants.{Body}
-use Rattle.vme_dump_input.proofs.DefinitionLemmas.{begun-body}
+use Rattle.vme_dump_input.proofs.DefinitionLemmas.{IsAtDefinitions-begun}
 use Rattle.vme_dump_input.proofs.definitions.begin.Goals as goal
 
 within-held : (found : Option (StepReading × ℕ)) (one : StepReading × ℕ) (bytes held : List ℕ) → found ≡ Some one
@@ -43,7 +43,7 @@ returns-in-Ok-Some-clause-read g c old h limit =
     c.in-Ok-Some.ensures.begins in
     let body_is : c.body_after.result ≡ Body found.0 found.1 = rw c.in-Ok-Some.field-0-is at c.body_after.ensures in
     subst (λ (b : DumpAfterDefinitions). BeginsDump binding old now input (Ok b)) (sym body_is)
-    (begun-body binding old now input h found.1 within found.0
+    (IsAtDefinitions-begun binding old now input h found.1 within found.0
     (λ rest ends. subst (λ (l : List ℕ). reading_of_text binding (l ++ rest)
     ≡ Ok (whole_reading found.0 (drop found.1 l ++ rest))) c.bytes.ensures.held (begins rest)))
 

@@ -4,7 +4,7 @@ use Rattle.std.specs.Prelude.{Ok}
 use Rattle.vme_dump_input.specs.DumpBeginnings.{HoldsDefinitionsIfSome, MayBegin}
 use Rattle.vme_dump_input.specs.BufferedInputs.{FailsAs, InputSoFar, reads_left}
 use Rattle.vme_dump_input.specs.declared.definitions.DumpAfterDefinitions.{DumpAfterDefinitions}
-use Rattle.vme_dump_input.proofs.DumpRefusals.{unread-is}
+use Rattle.vme_dump_input.proofs.DumpRefusals.{IsDumpRefused-fails}
 use Rattle.vme_dump_input.proofs.definitions.read_definitions.Goals as goal
 
 pub loop-search-init : goal.loop-search-init
@@ -39,7 +39,7 @@ loop-search-smaller-in-Ok-None g c =
 pub returns-in-Err-clause-read : goal.returns-in-Err-clause-read
 returns-in-Err-clause-read g c old h limit =
     let now = g.D.Source.reading c.read.new.source in
-    rw c.unread.ensures (unread-is old now c.in-Err.fault
+    rw c.unread.ensures (IsDumpRefused-fails old now c.in-Err.fault
     (subst (λ n. FailsAs n old now c.in-Err.fault) (c.loop-search.invariant.limit limit)
     (c.in-Err.ensures.fails old [] (c.loop-search.invariant.read old h limit))))
 

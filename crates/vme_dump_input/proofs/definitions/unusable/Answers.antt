@@ -6,8 +6,8 @@ use Rattle.vme_stream.specs.Answers.{AnswerGives, or_bad_dump, recorded_by}
 use Rattle.vme_bind.specs.declared.fault.BindFault.{BindFault}
 use Rattle.vcd_read.specs.Meaning.{dump_of}
 use Rattle.vme_dump_input.specs.BufferedInputs.{FailsAs, IsAllOf}
-use Rattle.vme_dump_input.proofs.DumpRefusals.{other-is, unread-is, unusable-is}
-use Rattle.vme_dump_input.proofs.BufferedLemmas.{all-read, some-reading}
+use Rattle.vme_dump_input.proofs.DumpRefusals.{IsDumpRefused-recorded, IsDumpRefused-fails, capture_of-unusable}
+use Rattle.vme_dump_input.proofs.BufferedLemmas.{IsAllOf-whole, IsReading-some}
 use Rattle.vme_dump_input.proofs.definitions.unusable.Goals as goal
 
 pub loop-input-init : goal.loop-input-init
@@ -22,13 +22,13 @@ loop-input-preserved g c = record {
 pub returns-in-Err-clause-read : goal.returns-in-Err-clause-read
 returns-in-Err-clause-read g c old h limit =
     let now = g.D.Source.reading c.read.new.source in
-    rw c.unread.ensures (unread-is old now c.in-Err.fault
+    rw c.unread.ensures (IsDumpRefused-fails old now c.in-Err.fault
     (subst (λ n. FailsAs n old now c.in-Err.fault) (c.loop-input.invariant.limit ∙ limit)
     (c.in-Err.ensures.fails old [] (c.loop-input.invariant.read old h))))
 
 pub returns-in-Ok-Ok-clause-read : goal.returns-in-Ok-Ok-clause-read
 returns-in-Ok-Ok-clause-read g c old h limit =
-    some-reading old (g.D.Source.reading c.loop-input.dump) [] c.loop-input.input (c.loop-input.invariant.read old h)
+    IsReading-some old (g.D.Source.reading c.loop-input.dump) [] c.loop-input.input (c.loop-input.invariant.read old h)
 
 pub returns-in-Ok-Err-clause-unusable : goal.returns-in-Ok-Err-clause-unusable
 returns-in-Ok-Err-clause-unusable g c = (c.in-Ok-Err.fault, refl)
@@ -39,11 +39,12 @@ returns-in-Ok-Err-clause-read g c old h limit =
     let now = g.D.Source.reading c.loop-input.dump in
     let input = c.loop-input.input in
     let all = subst (IsAllOf old now input.held) (c.loop-input.invariant.limit ∙ limit)
-    (all-read old now [] input (c.loop-input.invariant.read old h) (sym c.is_whole.ensures ∙ c.loop-input-test.false))
+    (IsAllOf-whole old now [] input (c.loop-input.invariant.read old h)
+    (sym c.is_whole.ensures ∙ c.loop-input-test.false))
     in
     let recorded = subst (λ (r : Result Trace BindFault).
     recorded_by binding (or_bad_dump (dump_of c.bytes.result.now)) ≡ Ok r) c.in-Ok-Err.field-0-is c.in-Ok-Err.ensures in
-    unusable-is binding old now input.held all (dump_of input.held) refl c.in-Ok-Err.fault
+    capture_of-unusable binding old now input.held all (dump_of input.held) refl c.in-Ok-Err.fault
     (subst (λ (l : List ℕ). recorded_by binding (or_bad_dump (dump_of l)) ≡ Ok (Err c.in-Ok-Err.fault))
     c.bytes.ensures.held recorded)
 
@@ -54,8 +55,9 @@ returns-in-Err-recorded_in-clause-read g c old h limit =
     let input = c.loop-input.input in
     let refusal = c.in-Err-recorded_in.refusal in
     let all = subst (IsAllOf old now input.held) (c.loop-input.invariant.limit ∙ limit)
-    (all-read old now [] input (c.loop-input.invariant.read old h) (sym c.is_whole.ensures ∙ c.loop-input-test.false))
+    (IsAllOf-whole old now [] input (c.loop-input.invariant.read old h)
+    (sym c.is_whole.ensures ∙ c.loop-input-test.false))
     in
-    other-is binding old now input.held all (dump_of input.held) refl refusal
+    IsDumpRefused-recorded binding old now input.held all (dump_of input.held) refl refusal
     (subst (λ (l : List ℕ). AnswerGives (λ (r : Result Trace BindFault). r) (Err refusal)
     (recorded_by binding (or_bad_dump (dump_of l)))) c.bytes.ensures.held c.in-Err-recorded_in.ensures)

@@ -1,7 +1,7 @@
 -- The steps of each piece are judged.
 use Rattle.std.proofs.Common.{ℕ, List, ap, refl, subst, sym, ◌∙◌}
 use Rattle.vme_dump_input.specs.BufferedInputs.{FailsAs}
-use Rattle.vme_dump_input.proofs.DumpRefusals.{unread-is}
+use Rattle.vme_dump_input.proofs.DumpRefusals.{IsDumpRefused-fails}
 use Rattle.vme_part_command.specs.Backplane.{backplane_of}
 use Rattle.vme_part_command.specs.FileReadings.{IsAtFileEnd}
 use Rattle.vme_part_command.proofs.FileLemmas.{file-ends, file-grown}
@@ -53,7 +53,7 @@ returns-in-Err-read g c binding options start old h at limit same =
     let next = c.in-Ok.ensures.reads binding options.number start old (g.D.Source.reading c.loop-reader.dump)
     (inv.at binding options.number start old at) in
     dump-refused options binding old now c.unread.result
-    (rw c.unread.ensures (unread-is old now c.in-Err-read.fault
+    (rw c.unread.ensures (IsDumpRefused-fails old now c.in-Err-read.fault
     (subst (λ n. FailsAs n old now c.in-Err-read.fault)
     (c.judge_piece.ensures.input.0 ∙ inv.limit ∙ limit)
     (c.in-Err-read.ensures.fails old next.done next.read))))

@@ -1,8 +1,8 @@
 -- The last steps are judged, or the dump has a fault.
 use Rattle.vme_trace.specs.Followed.{with_steps}
 use Rattle.vme_step_reader.specs.StepReading.{whole_reading}
-use Rattle.vme_dump_input.proofs.BodyLemmas.{stops-fault}
-use Rattle.vme_dump_input.proofs.DumpRefusals.{faulty-is}
+use Rattle.vme_dump_input.proofs.BodyLemmas.{HasFault-StopsAs}
+use Rattle.vme_dump_input.proofs.DumpRefusals.{IsDumpRefused-fault}
 use Rattle.vme_part_command.proofs.FoundLemmas.{dump-refused, finds-of-dump}
 use Rattle.vme_part_command.proofs.file_body.judge_last.Goals as goal
 
@@ -23,7 +23,7 @@ returns-in-Err c binding options start old now h end same =
     let stopped = c.in-Err.stopped in
     let r = c.args.reader in
     dump-refused options binding old now c.of_dump.result
-    (rw (c.of_dump.ensures, c.fault_of.ensures) (faulty-is old now end.text end.all stopped.fault.line
+    (rw (c.of_dump.ensures, c.fault_of.ensures) (IsDumpRefused-fault old now end.text end.all stopped.fault.line
     stopped.fault.kind
-    (stops-fault binding end.text (whole_reading r c.args.bytes.now) stopped.fault.line stopped.fault.kind
+    (HasFault-StopsAs binding end.text (whole_reading r c.args.bytes.now) stopped.fault.line stopped.fault.kind
     (with_steps r.given stopped.steps.items) stopped.time end.body c.in-Err.ensures.stopped)))

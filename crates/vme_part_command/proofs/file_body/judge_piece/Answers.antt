@@ -8,8 +8,8 @@ use Rattle.vme_step_reader.specs.StepReading.{whole_reading}
 use Rattle.vme_step_reader.specs.Stops.{StopsBehind}
 use Rattle.vme_dump_input.specs.BufferedInputs.{InputSoFar}
 use Rattle.vme_dump_input.specs.BodyPieces.{FailsPiece}
-use Rattle.vme_dump_input.proofs.BodyLemmas.{body-stops, sound-next}
-use Rattle.vme_dump_input.proofs.BufferedLemmas.{some-reading}
+use Rattle.vme_dump_input.proofs.BodyLemmas.{HasFaultBefore-StopsAs, IsSound-next}
+use Rattle.vme_dump_input.proofs.BufferedLemmas.{IsReading-some}
 use Rattle.vme_part_command.specs.FileChecks.{HasTakenSteps}
 use Rattle.vme_part_command.specs.FileReadings.{IsAtFile}
 use Rattle.vme_part_command.proofs.FileLemmas.{body_at, file-taken}
@@ -40,7 +40,7 @@ returns-in-Ok-take-clause-judges c number listing start h =
     let made = c.in-Ok.ensures in
     let steps = c.in-Ok.steps.items in
     record {
-      sound = sound-next r next steps (take c.in-Ok.count c.bytes.result.now) h.sound made.taken made.given;
+      sound = IsSound-next r next steps (take c.in-Ok.count c.bytes.result.now) h.sound made.taken made.given;
       taken = subst (λ (t : Trace). HasTakenSteps number listing start c.in-Ok-take.check t) (sym made.given)
           (c.in-Ok-take.ensures number listing start r.given h.taken
           (ap malformed_step (sym made.given) ∙ made.formed));
@@ -48,7 +48,7 @@ returns-in-Ok-take-clause-judges c number listing start h =
 
 pub returns-in-Err-take-clause-reads : goal.returns-in-Err-take-clause-reads
 returns-in-Err-take-clause-reads c binding number start old now at =
-    some-reading old now at.done c.args.input.now at.read
+    IsReading-some old now at.done c.args.input.now at.read
 
 pub returns-in-Err-clause-reads : goal.returns-in-Err-clause-reads
 returns-in-Err-clause-reads c binding number start old now at =
@@ -59,7 +59,8 @@ returns-in-Err-clause-reads c binding number start old now at =
     subst (λ (f : VcdFault). FailsPiece old now c.args.input.now (Some f)) (sym c.fault_of.ensures) (
       at.done,
       at.read,
-      body-stops binding old now c.args.input.now r (body_at binding number start old now c.args.input.now r at)
+      HasFaultBefore-StopsAs binding old now c.args.input.now r
+          (body_at binding number start old now c.args.input.now r at)
           stopped.fault.line stopped.fault.kind (with_steps r.given stopped.steps.items) stopped.time stops,
     )
 

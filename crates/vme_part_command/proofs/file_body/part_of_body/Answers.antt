@@ -2,8 +2,8 @@
 use Rattle.std.proofs.Common.{[], ap, length, subst, sym, ◌∙◌}
 use Rattle.vme_trace.specs.Levels.{Levels}
 use Rattle.vme_trace.specs.Trace.{Trace}
-use Rattle.vme_dump_input.proofs.DefinitionLemmas.{unread-given, unread-sound}
-use Rattle.vme_dump_input.proofs.BufferedLemmas.{some-reading}
+use Rattle.vme_dump_input.proofs.DefinitionLemmas.{given-unread, IsSound-unread}
+use Rattle.vme_dump_input.proofs.BufferedLemmas.{IsReading-some}
 use Rattle.vme_part_command.specs.Backplane.{backplane_of}
 use Rattle.vme_part_command.specs.FileChecks.{HasTakenSteps, IsFileJudged}
 use Rattle.vme_part_command.proofs.file_body.part_of_body.Goals as goal
@@ -17,10 +17,10 @@ judge_body-requires g c =
       o.listing,
       c.args.start,
       record {
-        sound = unread-sound r c.requires c.opening_of.ensures.few
+        sound = IsSound-unread r c.requires c.opening_of.ensures.few
             (ap (λ (l : Levels). length l.levels) (sym is) ∙ c.new-check.ensures.whole);
         taken = subst (λ (t : Trace). HasTakenSteps o.number o.listing c.args.start c.new-check.result t)
-            (unread-given r c.requires)
+            (given-unread r c.requires)
             (subst (λ (v : Levels). HasTakenSteps o.number o.listing c.args.start c.new-check.result
             (record { opening = v; steps = [] })) is c.new-check.ensures.taken);
       },
@@ -28,7 +28,7 @@ judge_body-requires g c =
 
 pub returns-in_default : goal.returns-in_default
 returns-in_default g c binding old at limit =
-    let some = some-reading old (g.D.Source.reading c.args.dump.now) at.done c.args.input.now at.read in
+    let some = IsReading-some old (g.D.Source.reading c.args.dump.now) at.done c.args.input.now at.read in
     (some.0, some.1, tt)
 
 pub returns : goal.returns
@@ -37,10 +37,10 @@ returns g c binding old at limit =
     let r = c.args.reader in
     let is = c.opening_of.ensures.is in
     let judged : IsFileJudged o.number o.listing c.args.start r c.new-check.result = record {
-      sound = unread-sound r c.requires c.opening_of.ensures.few
+      sound = IsSound-unread r c.requires c.opening_of.ensures.few
           (ap (λ (l : Levels). length l.levels) (sym is) ∙ c.new-check.ensures.whole);
       taken = subst (λ (t : Trace). HasTakenSteps o.number o.listing c.args.start c.new-check.result t)
-          (unread-given r c.requires)
+          (given-unread r c.requires)
           (subst (λ (v : Levels). HasTakenSteps o.number o.listing c.args.start c.new-check.result
           (record { opening = v; steps = [] })) is c.new-check.ensures.taken);
     } in

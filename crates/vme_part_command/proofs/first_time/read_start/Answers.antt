@@ -2,8 +2,8 @@
 use Rattle.std.proofs.Common.{◌≡◌, ◌++◌, ℕ, List, [], true, ap, append-nil, refl, subst, sym, ◌∙◌}
 use Rattle.vcd_start.specs.Starts.{StartsAt}
 use Rattle.vme_dump_input.specs.BufferedInputs.{FailsAs}
-use Rattle.vme_dump_input.proofs.BufferedLemmas.{on-grown, on-none, some-reading}
-use Rattle.vme_dump_input.proofs.DumpRefusals.{unread-is}
+use Rattle.vme_dump_input.proofs.BufferedLemmas.{IsReadOn-grown, IsReadOn-none, IsReading-some}
+use Rattle.vme_dump_input.proofs.DumpRefusals.{IsDumpRefused-fails}
 use Rattle.vme_part_command.proofs.first_time.read_start.Goals as goal
 
 pub returns-then-number-eq0-clause-told : goal.returns-then-number-eq0-clause-told
@@ -11,17 +11,17 @@ returns-then-number-eq0-clause-told g c old h limit =
     (h, λ rest ends other. absurd (other c.if-number-eq0.true))
 
 pub returns-then-number-eq0-clause-on : goal.returns-then-number-eq0-clause-on
-returns-then-number-eq0-clause-on g c = on-none c.args.input.now
+returns-then-number-eq0-clause-on g c = IsReadOn-none c.args.input.now
 
 pub reading-init : goal.reading-init
-reading-init g c = record { read = λ old h. h; on = on-none c.args.input.now; limit = refl }
+reading-init g c = record { read = λ old h. h; on = IsReadOn-none c.args.input.now; limit = refl }
 
 pub reading-preserved : goal.reading-preserved
 reading-preserved g c =
     let inv = c.reading.invariant in
     record {
       read = λ old h. c.in_default.ensures.read old [] (inv.read old h);
-      on = on-grown c.args.input.now c.reading.input c.read.new.self inv.on
+      on = IsReadOn-grown c.args.input.now c.reading.input c.read.new.self inv.on
           (sym c.is_whole.ensures ∙ c.reading-test.true) c.in_default.ensures.grown;
       limit = c.read.ensures.limit ∙ inv.limit;
     }
@@ -39,13 +39,13 @@ returns-in-Ok-Determined-clause-on g c = c.reading.invariant.on
 
 pub returns-in-Err-clause-told : goal.returns-in-Err-clause-told
 returns-in-Err-clause-told g c old h limit =
-    some-reading old (g.D.Source.reading c.reading.dump) [] c.reading.input (c.reading.invariant.read old h)
+    IsReading-some old (g.D.Source.reading c.reading.dump) [] c.reading.input (c.reading.invariant.read old h)
 
 pub returns-in-Err-read-clause-told : goal.returns-in-Err-read-clause-told
 returns-in-Err-read-clause-told g c old h limit =
     let inv = c.reading.invariant in
     let now = g.D.Source.reading c.read.new.source in
-    rw c.unread.ensures (unread-is old now c.in-Err-read.fault
+    rw c.unread.ensures (IsDumpRefused-fails old now c.in-Err-read.fault
     (subst (λ n. FailsAs n old now c.in-Err-read.fault) (inv.limit ∙ limit)
     (c.in-Err-read.ensures.fails old [] (inv.read old h))))
 
@@ -65,4 +65,4 @@ returns-in-Ok-clause-on g c = c.reading.invariant.on
 
 pub returns-in-Err-start_of_text-clause-told : goal.returns-in-Err-start_of_text-clause-told
 returns-in-Err-start_of_text-clause-told g c old h limit =
-    some-reading old (g.D.Source.reading c.reading.dump) [] c.reading.input (c.reading.invariant.read old h)
+    IsReading-some old (g.D.Source.reading c.reading.dump) [] c.reading.input (c.reading.invariant.read old h)

@@ -1,5 +1,5 @@
 use Rattle.vme_stream.specs.Answers.{binding_read, dump_read}
-use Rattle.vme_stream.proofs.InputLemmas.{unread}
+use Rattle.vme_stream.proofs.InputLemmas.{IsReading-unread}
 use Rattle.vme_part_command.proofs.FoundLemmas.{no-binding}
 use Rattle.vme_part_command.proofs.part.made_part.Goals as goal
 
@@ -12,7 +12,7 @@ returns-in-Ok g c =
 pub returns-in-Err : goal.returns-in-Err
 returns-in-Err g c =
     let (b, binding_reading, refused) = c.in-Err.ensures in
-    let dump = unread (g.D.Source.reading c.args.dump.now) in (
+    let dump = IsReading-unread (g.D.Source.reading c.args.dump.now) in (
       b,
       dump.0,
       binding_reading,

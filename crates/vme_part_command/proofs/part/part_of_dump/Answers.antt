@@ -1,21 +1,22 @@
 use Rattle.std.proofs.Common.{[], ap, subst, sym, arith}
-use Rattle.vme_stream.proofs.InputLemmas.{unread}
+use Rattle.vme_stream.proofs.InputLemmas.{IsReading-unread}
 use Rattle.vme_stream.specs.Inputs.{longest_input}
 use Rattle.vme_dump_input.specs.BufferedInputs.{InputSoFar, IsReadTo}
-use Rattle.vme_dump_input.proofs.BufferedLemmas.{first-read}
+use Rattle.vme_dump_input.proofs.BufferedLemmas.{IsReadTo-not_read}
 use Rattle.vme_part_command.proofs.FoundLemmas.{dump-refused}
 use Rattle.vme_part_command.proofs.part.part_of_dump.Goals as goal
 
 pub returns-in_default : goal.returns-in_default
 returns-in_default g c =
-    let dump = unread (g.D.Source.reading c.args.dump.now) in
+    let dump = IsReading-unread (g.D.Source.reading c.args.dump.now) in
     (dump.0, dump.1, tt)
 
 pub returns-in-Ok-read_definitions : goal.returns-in-Ok-read_definitions
 returns-in-Ok-read_definitions g c =
     let old = g.D.Source.reading c.args.dump.now in
     let first = subst (λ (i : InputSoFar). IsReadTo old old [] i) (sym c.in-Ok.ensures)
-    (first-read old longest_input 65536 (record { some = omega arith; few = omega arith; small = omega arith })) in
+    (IsReadTo-not_read old longest_input 65536
+    (record { some = omega arith; few = omega arith; small = omega arith })) in
     let limit = ap (λ (i : InputSoFar). i.limit) c.in-Ok.ensures in
     c.part_of_begun.ensures c.args.bound.now old (c.in-Ok-read_definitions.ensures.read old first limit)
     (c.in-Ok-read_definitions.ensures.limit limit)
@@ -24,7 +25,8 @@ pub returns : goal.returns
 returns g c =
     let old = g.D.Source.reading c.args.dump.now in
     let first = subst (λ (i : InputSoFar). IsReadTo old old [] i) (sym c.in-Ok.ensures)
-    (first-read old longest_input 65536 (record { some = omega arith; few = omega arith; small = omega arith })) in
+    (IsReadTo-not_read old longest_input 65536
+    (record { some = omega arith; few = omega arith; small = omega arith })) in
     let limit = ap (λ (i : InputSoFar). i.limit) c.in-Ok.ensures in
     dump-refused c.args.options c.args.bound.now old (g.D.Source.reading c.read_definitions.new.dump)
     c.in-Err.refusal (c.in-Err.ensures.read old first limit)

@@ -1,7 +1,8 @@
 use Rattle.std.proofs.Common.{◌≡◌, ◌<◌, ◌≤◌, ◌+◌, ◌-◌, ℕ, ◌++◌, length, take, drop, sym, ap, subst, ◌∙◌, arith}
 use Rattle.std.specs.Io.KnownBytes.{Consumes}
 use Rattle.vme_stream.specs.Inputs.{least_room, longest_input}
-use Rattle.vme_stream.proofs.IntakeLemmas.{all_read, given-on, read-length, read-long, read-on, read-out}
+use Rattle.vme_stream.proofs.IntakeLemmas.{all_read, IsUnderway-taken, length-all_read, IsReading-too_long}
+use Rattle.vme_stream.proofs.IntakeLemmas.{IsUnderway-read, IsReading-at_end}
 use Rattle.vme_stream.proofs.byte_consumer.read_by.Goals as goal
 
 pub overflow_add-taken : goal.overflow_add-taken
@@ -16,7 +17,7 @@ returns-then-taken-filled-gt-LONGEST-clause-too_long g c =
     let mid = g.R.Source.reading c.loop.source in
     let (done, u) = c.loop.invariant in
     λ _.
-    read-long old mid (g.T.ByteConsumer.ahead c.args.consumer) (g.T.ByteConsumer.ahead c.loop.consumer)
+    IsReading-too_long old mid (g.T.ByteConsumer.ahead c.args.consumer) (g.T.ByteConsumer.ahead c.loop.consumer)
     c.loop.bytes.items done c.loop.taken c.loop.filled c.loop.counter u
     c.if-taken-filled-gt-LONGEST.true (omega (arith, c.loop-test.true))
 
@@ -38,15 +39,16 @@ returns-then-count-eq0-clause-bytes g c =
     let limit : c.loop.taken + c.loop.filled ≤ longest_input = omega (arith, c.if-taken-filled-gt-LONGEST.false) in
     let roomy : held + least_room ≤ length room = subst (λ (n : ℕ). held + least_room ≤ n) c.make_room.new.bytes.ok.0
     m.room in
-    let given = given-on old mid first here buffer done c.loop.taken c.loop.filled c.loop.counter u limit next room
+    let given = IsUnderway-taken old mid first here buffer done c.loop.taken c.loop.filled c.loop.counter u limit next
+    room
     count m.within roomy m.left m.taken in
     let whole = all_read old mid first next room (done ++ take count buffer) (c.loop.taken + count) held c.loop.counter
     given in
-    let long = read-length old mid first next room (done ++ take count buffer) (c.loop.taken + count) held
+    let long = length-all_read old mid first next room (done ++ take count buffer) (c.loop.taken + count) held
     c.loop.counter given in
     let none = c.if-count-eq0.true in
     let read = subst (λ (n : ℕ). Consumes mid.left new.left (take n (drop held after))) none c.in-Ok.ensures.bytes in
-    let reading = read-out old mid first next room (done ++ take count buffer) (c.loop.taken + count) held
+    let reading = IsReading-at_end old mid first next room (done ++ take count buffer) (c.loop.taken + count) held
     c.loop.counter given new after c.in-Ok.ensures.front read (c.in-Ok.ensures.end none)
     (c.in-Ok.ensures.reads.0 none) c.in-Ok.ensures.ok (omega (arith, c.loop-test.true)) in (
       whole,
@@ -74,7 +76,8 @@ loop-preserved g c =
     let limit : c.loop.taken + c.loop.filled ≤ longest_input = omega (arith, c.if-taken-filled-gt-LONGEST.false) in
     let roomy : held + least_room ≤ length room = subst (λ (n : ℕ). held + least_room ≤ n) c.make_room.new.bytes.ok.0
     m.room in
-    let given = given-on old mid first here buffer done c.loop.taken c.loop.filled c.loop.counter u limit next room
+    let given = IsUnderway-taken old mid first here buffer done c.loop.taken c.loop.filled c.loop.counter u limit next
+    room
     count m.within roomy m.left m.taken in
     let some : 0 < c.in-Ok.count = omega (arith, c.if-count-eq0.false) in
     let fits : held + c.in-Ok.count ≤ length after = subst (λ (n : ℕ). held + c.in-Ok.count ≤ n)
@@ -83,7 +86,8 @@ loop-preserved g c =
     c.read_after.new.bytes.ok.0 c.in-Ok.ensures.room in
     let more : new.reads ≡ mid.reads + 1 = omega (arith, c.in-Ok.ensures.reads.1 some) in (
       done ++ take count buffer,
-      read-on old mid first next room (done ++ take count buffer) (c.loop.taken + count) held c.loop.counter given new
+      IsUnderway-read old mid first next room (done ++ take count buffer) (c.loop.taken + count) held c.loop.counter
+          given new
           after c.in-Ok.count c.in-Ok.ensures.front fits some (omega (arith, limit, m.within)) wide
           c.in-Ok.ensures.bytes more c.in-Ok.ensures.short_reads c.in-Ok.ensures.ok,
     )

@@ -1,7 +1,7 @@
 use Rattle.std.proofs.Common.{◌≡◌, ◌+◌, ◌≤◌, ◌<◌, ℕ, length, suc, take, drop, length-drop, subst, arith, rules, ◌∙◌}
 use Rattle.std.proofs.lemmas.List.{places}
 use Rattle.vme_stream.specs.Inputs.{least_room, longest_input, most_reads}
-use Rattle.vme_stream.proofs.InputLemmas.{Consumes-grown, reads_more, front_longer, roomy-on}
+use Rattle.vme_stream.proofs.InputLemmas.{Consumes-grown, IsReading-more_than, lt-length_take, IsRoomy-read_some}
 use Rattle.vme_stream.proofs.input.read_all.Goals as goal
 
 pub returns-then-filled-gt-LONGEST-clause-too_long : goal.returns-then-filled-gt-LONGEST-clause-too_long
@@ -11,8 +11,8 @@ returns-then-filled-gt-LONGEST-clause-too_long g c =
     let bytes = c.loop.bytes.items in
     let fits : c.loop.filled ≤ length bytes = search (rules, places) in
     let reads : new.reads < old.reads + most_reads = omega (arith, c.loop.invariant.reads, c.loop-test.true) in
-    λ _. reads_more old new (take c.loop.filled bytes) longest_input c.loop.invariant.read
-    (front_longer bytes longest_input c.loop.filled fits c.if-filled-gt-LONGEST.true)
+    λ _. IsReading-more_than old new (take c.loop.filled bytes) longest_input c.loop.invariant.read
+    (lt-length_take bytes longest_input c.loop.filled fits c.if-filled-gt-LONGEST.true)
     (record { failures = c.loop.invariant.failures; reads = reads })
 
 pub loop-preserved : goal.loop-preserved
@@ -33,7 +33,8 @@ loop-preserved g c =
       read = Consumes-grown _ _ _ _ c.read_chunk.new.bytes.items c.loop.filled c.in-Ok.count c.in-Ok.ensures.front
           c.loop.invariant.read c.in-Ok.ensures.bytes;
       reads = omega (arith, more, c.loop.invariant.reads);
-      roomy = roomy-on old mid new c.loop.counter c.loop.filled c.in-Ok.count (length room) c.loop.invariant.roomy
+      roomy = IsRoomy-read_some old mid new c.loop.counter c.loop.filled c.in-Ok.count
+          (length room) c.loop.invariant.roomy
           c.if-filled-gt-LONGEST.false some enough c.in-Ok.ensures.short_reads;
       failures = c.in-Ok.ensures.ok ∙ c.loop.invariant.failures;
     }

@@ -1,7 +1,7 @@
 use Rattle.std.proofs.Common.{◌++◌, suc, length, take, ap, subst, ◌∙◌}
 use Rattle.std.specs.Io.KnownBytes.{Appends}
 use Rattle.std.proofs.KnownBytes.{Appends-trans, Appends-kept}
-use Rattle.vme_stream.proofs.OutputLemmas.{splits_later, front_is}
+use Rattle.vme_stream.proofs.OutputLemmas.{append-next_written, take-done}
 use Rattle.vme_stream.proofs.output.write_all.Goals as goal
 
 pub loop-rest-preserved : goal.loop-rest-preserved
@@ -10,7 +10,7 @@ loop-rest-preserved g c =
     let rest = c.loop-rest.rest.now in
     let count = c.in-Ok.count in (
       done ++ take count rest,
-      splits_later _ done rest count split,
+      append-next_written _ done rest count split,
       Appends-trans _ _ _ _ _ appended
           c.in-Ok.ensures.bytes,
       c.in-Ok.ensures.failures ∙ same,
@@ -20,4 +20,4 @@ pub returns-in-Err : goal.returns-in-Err
 returns-in-Err g c =
     let (done, split, appended, same) = c.loop-rest.invariant in
     let kept = Appends-kept _ _ _ _ appended c.in-Err.ensures.bytes in
-    ((length done, subst (Appends _ _) (front_is _ done _ split) kept), c.in-Err.ensures.failures ∙ ap suc same)
+    ((length done, subst (Appends _ _) (take-done _ done _ split) kept), c.in-Err.ensures.failures ∙ ap suc same)

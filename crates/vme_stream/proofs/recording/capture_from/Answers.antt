@@ -1,6 +1,6 @@
 use Rattle.std.proofs.lemmas.Result.{err_from_is_err_and}
 use Rattle.vme_stream.specs.Answers.{dump_read}
-use Rattle.vme_stream.proofs.InputLemmas.{unread}
+use Rattle.vme_stream.proofs.InputLemmas.{IsReading-unread}
 use Rattle.vme_stream.proofs.AnswerLemmas.{capture_by-recorded, capture_by-refused, capture_read-bound}
 use Rattle.vme_stream.proofs.AnswerLemmas.{capture_read-refused}
 use Rattle.vme_stream.proofs.recording.capture_from.Goals as goal
@@ -10,7 +10,7 @@ returns-in_err-bound g c =
     let p = err_from_is_err_and c.from_residual.result c.from_residual.ensures.1 in
     let refusal = c.in_err-bound.field-0.0 in
     let (bound, bound_reading, refused) = c.in_err-bound.ensures in
-    let left = unread (g.D.Source.reading c.args.dump.now) in
+    let left = IsReading-unread (g.D.Source.reading c.args.dump.now) in
     rw (p.1, p.2) (bound, left.0, bound_reading, left.1, capture_read-refused bound left.0 refusal refused)
 
 pub returns-in-Ok-Ok : goal.returns-in-Ok-Ok

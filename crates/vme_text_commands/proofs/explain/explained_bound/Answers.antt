@@ -1,6 +1,6 @@
 use Rattle.std.proofs.Common.{◌∙◌}
 use Rattle.vme_text_commands.proofs.ExplainLemmas.{judged-bound, judged-refused}
-use Rattle.vme_stream.proofs.InputLemmas.{unread}
+use Rattle.vme_stream.proofs.InputLemmas.{IsReading-unread}
 use Rattle.vme_text_commands.proofs.explain.explained_bound.Goals as goal
 
 pub returns-in-Ok-clause-read : goal.returns-in-Ok-clause-read
@@ -10,5 +10,5 @@ returns-in-Ok-clause-read g c =
 
 pub returns-in-Err-clause-read : goal.returns-in-Err-clause-read
 returns-in-Err-clause-read g c =
-    let left = unread (g.D.Source.reading c.args.dump.now) in
+    let left = IsReading-unread (g.D.Source.reading c.args.dump.now) in
     (left.0, left.1, λ b e. judged-refused c.args.skew b left.0 c.in-Err.refusal (rw e c.in-Err.ensures))

@@ -2,12 +2,13 @@
 use Rattle.std.proofs.Common.{◌<◌, ◌+◌, ◌++◌, true, drop, refl, sym, ap, subst, ◌∙◌, arith}
 use Rattle.std.specs.Prelude.{vec_len}
 use Rattle.vme_dump_input.specs.BufferedInputs.{InputSoFar, IsReadTo}
-use Rattle.vme_dump_input.proofs.BufferedLemmas.{fails-by, gives-up, read-none, read-some, too-long}
+use Rattle.vme_dump_input.proofs.BufferedLemmas.{FailsAs-fault, IsReading-given_up, IsReadTo-no_bytes}
+use Rattle.vme_dump_input.proofs.BufferedLemmas.{IsReadTo-some_bytes, IsReading-too_long}
 use Rattle.vme_dump_input.proofs.buffered_input.BufferedInput.read.Goals as goal
 
 pub returns-then-self-eq-MOST_READS-clause-fails : goal.returns-then-self-eq-MOST_READS-clause-fails
 returns-then-self-eq-MOST_READS-clause-fails g c old done h =
-    gives-up old (g.R.Source.reading c.args.source.now) done c.args.self.now h
+    IsReading-given_up old (g.R.Source.reading c.args.source.now) done c.args.self.now h
     (ap (λ (i : InputSoFar). i.reads) (sym c.self.view_is) ∙ c.if-self-eq-MOST_READS.true)
 
 pub returns-then-self-clause-fails : goal.returns-then-self-clause-fails
@@ -15,14 +16,14 @@ returns-then-self-clause-fails g c old done h =
     let reads = ap (λ (i : InputSoFar). i.reads) c.self.view_is in
     let read = ap (λ (i : InputSoFar). i.read) c.self.view_is in
     let limit = ap (λ (i : InputSoFar). i.limit) c.self.view_is in
-    too-long old (g.R.Source.reading c.args.source.now) done c.args.self.now h
+    IsReading-too_long old (g.R.Source.reading c.args.source.now) done c.args.self.now h
     (omega (arith, c.self.invariant.3, c.if-self-eq-MOST_READS.false, reads))
     (omega (arith, c.if-self.true, read, limit))
 
 pub returns-in-Err-clause-fails : goal.returns-in-Err-clause-fails
 returns-in-Err-clause-fails g c old done h =
     let reads = ap (λ (i : InputSoFar). i.reads) c.self.view_is in
-    fails-by old (g.R.Source.reading c.args.source.now) done c.args.self.now h
+    FailsAs-fault old (g.R.Source.reading c.args.source.now) done c.args.self.now h
     (g.R.Source.reading c.read_after.new.source) c.args.self.now.limit c.in-Err.fault
     (omega (arith, c.self.invariant.3, c.if-self-eq-MOST_READS.false, reads)) c.in-Err.ensures.reads
     c.in-Err.ensures.err
@@ -50,7 +51,8 @@ returns-then-count-eq0-clause-read g c old done h =
     } in
     let (more, long, held, consumed) = c.in-Ok.ensures.bytes in
     let none = c.if-count-eq0.true in
-    read-none old now later done before after (subst (IsReadTo old now done) (sym c.self.view_is) h) more c.in-Ok.count
+    IsReadTo-no_bytes old now later done before after (subst (IsReadTo old now done) (sym c.self.view_is) h) more
+    c.in-Ok.count
     long (held ∙ ap (λ l. l ++ more) c.forget_first.ensures) refl c.read_after.ensures.room none refl refl refl
     consumed (c.in-Ok.ensures.end none) c.in-Ok.ensures.ok (c.in-Ok.ensures.reads.0 none)
     (c.in-Ok.ensures.short_reads.0 none)
@@ -79,7 +81,8 @@ returns-clause-read g c old done h =
     } in
     let (more, long, held, consumed) = c.in-Ok.ensures.bytes in
     let some : 0 < c.in-Ok.count = omega (arith, c.if-count-eq0.false) in
-    read-some old now later done before after (subst (IsReadTo old now done) (sym c.self.view_is) h) more c.in-Ok.count
+    IsReadTo-some_bytes old now later done before after (subst (IsReadTo old now done) (sym c.self.view_is) h) more
+    c.in-Ok.count
     long (held ∙ ap (λ l. l ++ more) c.forget_first.ensures) refl c.read_after.ensures.room some refl refl refl
     consumed c.in-Ok.ensures.ok (c.in-Ok.ensures.reads.1 some) (c.in-Ok.ensures.short_reads.1 some)
     c.in-Ok.ensures.short_reads.2

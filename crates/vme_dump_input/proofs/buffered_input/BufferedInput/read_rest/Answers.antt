@@ -3,7 +3,7 @@ use Rattle.std.proofs.Common.{◌≤◌, ℕ, List, [], ◌++◌, append_assoc, 
 use Rattle.std.proofs.Common.{arith}
 use Rattle.std.proofs.lemmas.Bool.{true≢false}
 use Rattle.vme_dump_input.specs.BufferedInputs.{FailsAs, InputSoFar, IsAllOf, IsReadTo}
-use Rattle.vme_dump_input.proofs.BufferedLemmas.{all-read, rest-same, taken-first}
+use Rattle.vme_dump_input.proofs.BufferedLemmas.{IsAllOf-whole, append-taken_and_read, IsReadTo-taken}
 use Rattle.vme_dump_input.proofs.buffered_input.BufferedInput.read_rest.Goals as goal
 
 pub loop-self-init : goal.loop-self-init
@@ -33,14 +33,14 @@ loop-self-preserved g c =
           let (gone, more, read, same, none) = inv.read old done h in
           let taken = subst (IsReadTo old (g.R.Source.reading c.loop-self.source) ((done ++ gone) ++ take n here.held))
           (sym c.take_first.ensures)
-          (taken-first old (g.R.Source.reading c.loop-self.source) (done ++ gone) here read n within) in
+          (IsReadTo-taken old (g.R.Source.reading c.loop-self.source) (done ++ gone) here read n within) in
           let grown = c.in_default.ensures.grown in (
             gone ++ take n here.held,
             more ++ grown.more,
             subst (λ (l : List ℕ). IsReadTo old (g.R.Source.reading c.read.new.source) l c.read.new.self)
                 (append_assoc done gone (take n here.held))
                 (c.in_default.ensures.read old ((done ++ gone) ++ take n here.held) taken),
-            rest-same c.args.self.now.held gone more here.held grown.more c.read.new.self.held n same
+            append-taken_and_read c.args.self.now.held gone more here.held grown.more c.read.new.self.held n same
                 (grown.held ∙ ap (λ (i : InputSoFar). i.held ++ grown.more) c.take_first.ensures),
             λ whole. absurd (true≢false (sym (inv.whole whole) ∙ going)),
           );
@@ -58,7 +58,7 @@ returns-in-Err-clause-fails g c old done h =
     let (gone, more, read, same, none) = inv.read old done h in
     let taken = subst (IsReadTo old (g.R.Source.reading c.loop-self.source) ((done ++ gone) ++ take n here.held))
     (sym c.take_first.ensures)
-    (taken-first old (g.R.Source.reading c.loop-self.source) (done ++ gone) here read n within) in
+    (IsReadTo-taken old (g.R.Source.reading c.loop-self.source) (done ++ gone) here read n within) in
     subst (λ k. FailsAs k old (g.R.Source.reading c.read.new.source) c.in-Err.fault)
     (ap (λ (i : InputSoFar). i.limit) c.take_first.ensures ∙ inv.limit)
     (c.in-Err.ensures.fails old ((done ++ gone) ++ take n here.held) taken)
@@ -74,6 +74,6 @@ returns-clause-whole g c old done h =
       subst (λ k. IsAllOf old now (done ++ (c.args.self.now.held ++ more)) k) inv.limit
           (subst (λ (l : List ℕ). IsAllOf old now l here.limit)
           (append_assoc done gone here.held ∙ ap (λ (l : List ℕ). done ++ l) same)
-          (all-read old now (done ++ gone) here read
+          (IsAllOf-whole old now (done ++ gone) here read
           (ap (λ (i : InputSoFar). i.is_whole) (sym c.self.view_is) ∙ c.loop-self-test.false))),
     )

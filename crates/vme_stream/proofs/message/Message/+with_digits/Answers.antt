@@ -1,6 +1,6 @@
 use Rattle.std.proofs.Common.{◌/◌, ◌++◌, length, decimal, ap, sym, ◌∙◌, length-append, arith}
 use Rattle.std.proofs.lemmas.Fmt.{decimal_digit, decimal_nonempty}
-use Rattle.vme_stream.proofs.MessageLemmas.{length-decimal-more, appends_digit}
+use Rattle.vme_stream.proofs.MessageLemmas.{length-decimal-more, append-decimal_digit}
 use Rattle.vme_stream.proofs.message.Message.+with_digits.Goals as goal
 
 pub with_byte-requires : goal.with_byte-requires
@@ -29,5 +29,5 @@ returns-then-number-lt10 t c = c.with_byte.ensures ∙ ap (λ ds. c.args.self ++
 
 pub returns-else-number-lt10 : goal.returns-else-number-lt10
 returns-else-number-lt10 t c =
-    appends_digit c.args.self c.with_digits.result _ c.args.number c.if-number-lt10.false c.ranges.number.fits
+    append-decimal_digit c.args.self c.with_digits.result _ c.args.number c.if-number-lt10.false c.ranges.number.fits
     c.with_digits.ensures c.with_byte-else-number-lt10.ensures
