@@ -24,9 +24,10 @@ use Rattle.vme_stream.proofs.AnswerLemmas.{recording_by-fails}
 use Rattle.vme_stream.proofs.AnswerLemmas.{recording_by-text}
 use Rattle.vme_commands.specs.Judged.{in_blocks, limited_in_blocks}
 use Rattle.vme_commands.specs.Settled.{settled_read, settled_recording}
-use Rattle.vme_commands.proofs.JudgedLemmas.{limited-short}
-use Rattle.vme_commands.proofs.SettledLemmas.{read-refused, recording-refused, settled-fits, settled-refused}
-use Rattle.vme_commands.proofs.SettledLemmas.{settled-short}
+use Rattle.vme_commands.proofs.JudgedLemmas.{limited_in_blocks-short}
+use Rattle.vme_commands.proofs.SettledLemmas.{settled_read-refused, settled_recording-refused, settled_or-within}
+use Rattle.vme_commands.proofs.SettledLemmas.{settled_or-refused}
+use Rattle.vme_commands.proofs.SettledLemmas.{length-settled_within}
 use Rattle.vme_annotate.specs.TimedListings.{GivesTimedListing, TimedListingValue, recording_to_list, settled_in_blocks}
 use Rattle.vme_annotate.specs.TimedListings.{times_of}
 
@@ -71,7 +72,7 @@ pub refused_in_blocks : (skew block : ℕ) (r : Refusal) (read : Result Trace Re
     → GivesTimedListing (Err r) (settled_in_blocks skew block read)
 refused_in_blocks skew block r read is =
     GivesTimedListing-from_AnswerGives r (settled_in_blocks skew block read)
-    (AnswerGives-then r (settled_or skew read) (in_blocks block) (settled-refused skew read r is))
+    (AnswerGives-then r (settled_or skew read) (in_blocks block) (settled_or-refused skew read r is))
 
 pub text_refused : (skew block : ℕ) (bound : BoundLines) (bytes : List ℕ) (fault : CaptureFault)
     → CaptureFailsBy fault (recording_of_text bound bytes)
@@ -88,8 +89,8 @@ module _ (skew block : ℕ) (t made : Trace) (within : nat_lt capture_limit (len
     (is : made ≡ settled skew t) where
   in_blocks_is : settled_in_blocks skew block (or_bad_binding (limited t)) ≡ limited_in_blocks block made
   in_blocks_is =
-      ap (λ (r : Result Trace Refusal). r >>= in_blocks block) (settled-fits skew t made within is)
-      ∙ sym (limited-short made block (settled-short skew t made within is))
+      ap (λ (r : Result Trace Refusal). r >>= in_blocks block) (settled_or-within skew t made within is)
+      ∙ sym (limited_in_blocks-short made block (length-settled_within skew t made within is))
 
   pub settled_refused : (r : Refusal) → GivesTrace (Err r) (limited_in_blocks block made)
       → GivesTimedListing (Err r) (settled_in_blocks skew block (or_bad_binding (limited t)))
@@ -120,8 +121,8 @@ pub unbound : (skew block : ℕ) (binding dump : Option (List ℕ)) (r : Refusal
     → GivesTimedListing (Err r) (settled_recording skew binding dump block)
 unbound skew block binding dump r is =
     GivesTimedListing-from_AnswerGives r (settled_recording skew binding dump block)
-    (recording-refused skew binding dump block r
-    (read-refused skew binding dump r (capture_read-refused binding dump r is)))
+    (settled_recording-refused skew binding dump block r
+    (settled_read-refused skew binding dump r (capture_read-refused binding dump r is)))
 
 -- a refusal of the dump is the refusal of the listing
 pub unread_by : (skew block : ℕ) (dump : Option (List ℕ)) (bound : BoundLines) (r : Refusal)

@@ -1,4 +1,4 @@
--- Whether a recording is judged, and why it isn't.
+-- Whether a recording is judged, and why it isn't: it has too many steps, or needs too many blocks.
 use Rattle.std.proofs.Common.{◌≡◌, ◌<◌, ◌≤◌, ◌↔◌, ℕ, Bool, true, false, List, length, refl, sym, ap, ◌∙◌, inl, inr}
 use Rattle.std.specs.Prelude.{Option, Result, Ok, Err, nat_lt, if◌then◌else◌}
 use Rattle.std.proofs.lemmas.Bool.{cases_lt, le-ltb, lt-ltb}
@@ -16,35 +16,38 @@ use Rattle.vme_stream.specs.declared.refusal.Refusal.TheVariants as refusal
 use Rattle.vme_stream.proofs.AnswerLemmas.{capture_read-recorded}
 use Rattle.vme_commands.specs.Judged.{in_blocks, judged_in_blocks, limited_in_blocks}
 
-at_most : (most n : ℕ) → (most < n → ⊥) → n ≤ most
-at_most most n not_over = elim (cases_lt most n) [ inl over ↦ absurd (not_over over) | inr within ↦ within ]
+-- a number that isn't over `most` is at most that
+le-not_over : (most n : ℕ) → (most < n → ⊥) → n ≤ most
+le-not_over most n not_over = elim (cases_lt most n) [ inl over ↦ absurd (not_over over) | inr within ↦ within ]
 
 module _ {X : Type 0} (t : Trace) (block : ℕ) (r : Result X NoVerdict)
     (too_many_steps : (r ≡ Err TooManySteps) ↔ (capture_limit < length t.steps))
     (too_many_blocks : (r ≡ Err TooManyBlocks) ↔ ((length t.steps ≤ capture_limit) × (4096 < block_count block t)))
   where
     -- if there is a result of judging, the recording is within the limits
-    pub judged-fits : (x : X) → r ≡ Ok x → limited_in_blocks block t ≡ Ok t
-    judged-fits x is =
-        let short : length t.steps ≤ capture_limit = at_most capture_limit (length t.steps)
+    pub limited_in_blocks-judged : (x : X) → r ≡ Ok x → limited_in_blocks block t ≡ Ok t
+    limited_in_blocks-judged x is =
+        let short : length t.steps ≤ capture_limit = le-not_over capture_limit (length t.steps)
         (λ over. let no = too_many_steps.1 over in absurd (cc)) in
-        let few : block_count block t ≤ 4096 = at_most 4096 (block_count block t)
+        let few : block_count block t ≤ 4096 = le-not_over 4096 (block_count block t)
         (λ over. let no = too_many_blocks.1 (short, over) in absurd (cc)) in
         rw (le-ltb capture_limit (length t.steps) short) (rw (le-ltb 4096 (block_count block t) few) refl)
 
     -- if there is no result of judging, the refusal is the one by the limits of the recording, or `Memory`
-    pub judged-refused : (why : NoVerdict) → r ≡ Err why → AnswerGives (λ (t : Trace). t) (Err (judging_refusal why))
+    pub limited_in_blocks-refused : (why : NoVerdict) → r ≡ Err why → AnswerGives (λ (t : Trace). t)
+        (Err (judging_refusal why))
         (limited_in_blocks block t)
-    judged-refused TooManySteps is = rw (lt-ltb capture_limit (length t.steps) (too_many_steps.0 is)) refl
-    judged-refused TooManyBlocks is =
+    limited_in_blocks-refused TooManySteps is = rw (lt-ltb capture_limit (length t.steps) (too_many_steps.0 is)) refl
+    limited_in_blocks-refused TooManyBlocks is =
         let (short, over) = too_many_blocks.0 is in
         rw (le-ltb capture_limit (length t.steps) short) (rw (lt-ltb 4096 (block_count block t) over) refl)
-    judged-refused Memory is = tt
+    limited_in_blocks-refused Memory is = tt
 
-verdict_in : (block : ℕ) (r : Result Trace Refusal) → (r >>= verdict_in_blocks block)
+-- the verdict on a recording in blocks is the verdict on it if it needs few enough blocks
+verdict_in_blocks-in_blocks : (block : ℕ) (r : Result Trace Refusal) → (r >>= verdict_in_blocks block)
     ≡ ((r >>= in_blocks block) >>= λ t. Ok (verdict_by rules_in_force t))
-verdict_in block (Err r) = refl
-verdict_in block (Ok t) = by_test (nat_lt 4096 (block_count block t))
+verdict_in_blocks-in_blocks block (Err r) = refl
+verdict_in_blocks-in_blocks block (Ok t) = by_test (nat_lt 4096 (block_count block t))
   where
     by_test : (test : Bool)
         → (if test then Err refusal.TooManyBlocks else Ok (verdict_by rules_in_force t))
@@ -60,16 +63,19 @@ pub judgement_of-recorded : (binding dump : Option (List ℕ)) (block : ℕ) (t 
 unfolding judgement_of
 judgement_of-recorded binding dump block t is =
     ap (λ (r : Result Trace Refusal). r >>= verdict_in_blocks block) (capture_read-recorded binding dump t is)
-    ∙ verdict_in block (or_bad_binding _)
+    ∙ verdict_in_blocks-in_blocks block (or_bad_binding _)
 
 -- ---- a recording that isn't too long
 
-pub limited-short : (t : Trace) (block : ℕ) → length t.steps ≤ capture_limit → limited_in_blocks block t
+-- a recording that isn't too long is judged if it needs few enough blocks
+pub limited_in_blocks-short : (t : Trace) (block : ℕ) → length t.steps ≤ capture_limit → limited_in_blocks block t
     ≡ in_blocks block t
-limited-short t block short = rw (le-ltb capture_limit (length t.steps) short) refl
+limited_in_blocks-short t block short = rw (le-ltb capture_limit (length t.steps) short) refl
 
-pub judged-short : (t : Trace) (block : ℕ) → length t.steps ≤ capture_limit → judged_in_blocks block t
+-- the verdict on a recording that isn't too long is that on it in blocks
+pub judged_in_blocks-short : (t : Trace) (block : ℕ) → length t.steps ≤ capture_limit → judged_in_blocks block t
     ≡ verdict_in_blocks block t
-judged-short t block short =
-    ap (λ (r : Result Trace Refusal). r >>= λ t. Ok (verdict_by rules_in_force t)) (limited-short t block short)
-    ∙ sym (verdict_in block (Ok t))
+judged_in_blocks-short t block short =
+    ap (λ (r : Result Trace Refusal). r >>= λ t. Ok (verdict_by rules_in_force t))
+    (limited_in_blocks-short t block short)
+    ∙ sym (verdict_in_blocks-in_blocks block (Ok t))

@@ -1,4 +1,5 @@
--- How `list` ends, and what its steps give.
+-- How `list` ends: with the status of the verdict, and what is written is the text of the listing or a first part of
+-- it.
 use Rattle.std.proofs.Common.{◌≡◌, ◌≤◌, ◌↔◌, ℕ, suc, Bool, true, false, List, [], ◌∷◌, ◌++◌, ◌-◌, length, take, refl}
 use Rattle.std.proofs.Common.{ap, subst, ◌∙◌, arith}
 use Rattle.std.specs.Io.KnownBytes.{Appends}
@@ -40,52 +41,62 @@ use Rattle.vme_commands.specs.Settled.{settled_recording}
 
 -- ---- the status
 
-last_is : (o : Option Row) (rows : List Row) (row : Row) → last_or o (rows ++ row ∷ []) ≡ Some row
-last_is o [] row = refl
-last_is o (r ∷ rows) row = last_is (Some r) rows row
+-- the last of some rows and one more is the one more
+last_or-append : (o : Option Row) (rows : List Row) (row : Row) → last_or o (rows ++ row ∷ []) ≡ Some row
+last_or-append o [] row = refl
+last_or-append o (r ∷ rows) row = last_or-append (Some r) rows row
 
+-- the last of some rows is at the index of the number of the others
 last_or-get : (o : Option Row) (row : Row) (rows : List Row) → last_or o (row ∷ rows) ≡ slice_get (row ∷ rows)
     (length rows)
 last_or-get o row [] = refl
 last_or-get o row (next ∷ rows) = last_or-get (Some row) next rows
 
+-- a number is its successor less 1
 less_one : (n : ℕ) → n ≡ suc n - 1
 less_one n = omega arith
 
-pub last_of : (rows : List Row) → last_or None rows ≡ slice_get rows (length rows - 1)
-last_of [] = refl
-last_of (row ∷ rows) = last_or-get None row rows ∙ ap (slice_get (row ∷ rows)) (less_one (length rows))
+-- the last of some rows, if there are any, is at the index one less than their number
+pub last_or-slice_get : (rows : List Row) → last_or None rows ≡ slice_get rows (length rows - 1)
+last_or-slice_get [] = refl
+last_or-slice_get (row ∷ rows) = last_or-get None row rows ∙ ap (slice_get (row ∷ rows)) (less_one (length rows))
 
-status_by : (b : Break) (unreadable : Bool)
+-- the status of the row for a break is that of its verdict
+verdict_row_status-break : (b : Break) (unreadable : Bool)
     → verdict_row_status (if unreadable then outcome.Unreadable b.rule b.instant b.line
     else outcome.Broken b.rule b.instant b.line)
     ≡ verdict_status (if unreadable then verdict.Unreadable b else verdict.Broken b)
-status_by b true = refl
-status_by b false = refl
+verdict_row_status-break b true = refl
+verdict_row_status-break b false = refl
 
-status_on : (found : Option Break) → verdict_row_status (outcome_of found) ≡ verdict_status (verdict_on found)
-status_on None = refl
-status_on (Some b) = status_by b (is_unreadable b.rule)
+-- the status of the row for what was found is that of the verdict on it
+verdict_row_status-outcome : (found : Option Break) → verdict_row_status (outcome_of found)
+    ≡ verdict_status (verdict_on found)
+verdict_row_status-outcome None = refl
+verdict_row_status-outcome (Some b) = verdict_row_status-break b (is_unreadable b.rule)
 
+-- the status by the last row: that of a bus that is never idle, if there is none
 abbrev pub status_of_last : Option Row → ℕ
 status_of_last row = option_map_or row_status row 2
 
-status_over : (t : Trace) (stretches : List Stretch)
+-- the status of the listing of some judged stretches is that of the verdict on them
+rows_status-stretches : (t : Trace) (stretches : List Stretch)
     → rows_status (listing_of_stretches all_rules t stretches) ≡ verdict_status (judge rules_in_force t stretches)
-status_over t [] = refl
-status_over t (stretch ∷ stretches) =
+rows_status-stretches t [] = refl
+rows_status-stretches t (stretch ∷ stretches) =
     let found : Option Break = least_of all_rules t (stretch ∷ stretches) in
-    ap status_of_last (last_is None (flat_map (rows_of_stretch t (listed_end t found)) (stretch ∷ stretches))
+    ap status_of_last (last_or-append None (flat_map (rows_of_stretch t (listed_end t found)) (stretch ∷ stretches))
     (Verdict (outcome_of found)))
-    ∙ status_on found
+    ∙ verdict_row_status-outcome found
 
 -- a listing ends with the status of the verdict
-pub listing_status-is : (t : Trace) → listing_status (listing_of t) ≡ verdict_status (verdict_by rules_in_force t)
+pub listing_status-verdict : (t : Trace) → listing_status (listing_of t) ≡ verdict_status (verdict_by rules_in_force t)
 unfolding listing_by verdict_by
-listing_status-is t = status_over t (judged_stretches t)
+listing_status-verdict t = rows_status-stretches t (judged_stretches t)
 
 -- ---- what is given
 
+-- a refusal of the capture is one of the listing
 pub recording_in_blocks-refused : (binding dump : Option (List ℕ)) (block : ℕ) (r : Refusal)
     → AnswerGives (λ (t : Trace). t) (Err r) (capture_read binding dump)
     → GivesListing (Err r) (recording_in_blocks binding dump block)
@@ -93,6 +104,7 @@ unfolding recording_in_blocks
 recording_in_blocks-refused binding dump block Memory is = tt
 recording_in_blocks-refused binding dump block r is = ap (λ (w : Result Trace Refusal). w >>= in_blocks block) is
 
+-- where there is a recording `t`, of any length, it is listed if it is within the limits
 pub recording_in_blocks-recorded : (binding dump : Option (List ℕ)) (block : ℕ) (t : Trace)
     → recording_read binding dump ≡ Ok t
     → recording_in_blocks binding dump block ≡ limited_in_blocks block t
@@ -106,6 +118,7 @@ pub GivesListing-from_AnswerGives : (r : Refusal) (recording : Result Trace Refu
 GivesListing-from_AnswerGives Memory recording given = tt
 GivesListing-from_AnswerGives r recording given = given
 
+-- the same, the other way round
 pub AnswerGives-from_GivesListing : (r : Refusal) (recording : Result Trace Refusal) → GivesListing (Err r) recording
     → AnswerGives (λ (t : Trace). t) (Err r) recording
 AnswerGives-from_GivesListing Memory recording given = tt
@@ -114,25 +127,28 @@ AnswerGives-from_GivesListing r recording given = given
 -- ---- what was written
 
 -- if a prefix of `text` was taken, it is `take n text` for some n
-pub front_taken : (old new : Option (List ℕ)) (text : List ℕ) → AppendsFront old new text → (n : ℕ) × Appends old new
+pub Appends-front : (old new : Option (List ℕ)) (text : List ℕ) → AppendsFront old new text → (n : ℕ) × Appends old new
     (take n text)
-front_taken old new text took =
+Appends-front old new text took =
     let (front, rest, split, appended) = took in
     (length front, subst (λ (bytes : List ℕ). Appends old new bytes) (take-done text front rest split) appended)
 
 -- if the text of a listing was written, so was that of an equal listing
-pub whole_written : (old new : Option (List ℕ)) (listing same : Listed) → listing ≡ same → Appends old new
+pub Appends-same_listing : (old new : Option (List ℕ)) (listing same : Listed) → listing ≡ same → Appends old new
     (text_of listing) → Appends old new (text_of same)
-whole_written old new listing same is took = subst (λ (l : Listed). Appends old new (text_of l)) is took
+Appends-same_listing old new listing same is took = subst (λ (l : Listed). Appends old new (text_of l)) is took
 
-pub front_written : (old new : Option (List ℕ)) (listing same : Listed) → listing ≡ same → AppendsFront old new
+-- if a prefix of the text of a listing was written, so was one of that of an equal listing
+pub Appends-front_of_same_listing : (old new : Option (List ℕ)) (listing same : Listed) → listing ≡ same
+    → AppendsFront old new
     (text_of listing)
     → (n : ℕ) × Appends old new (take n (text_of same))
-front_written old new listing same is took = front_taken old new (text_of same)
+Appends-front_of_same_listing old new listing same is took = Appends-front old new (text_of same)
     (subst (λ (l : Listed). AppendsFront old new (text_of l)) is took)
 
 -- ---- how it ends
 
+-- the status of the answer of `list` is at most 4
 listing_answer_by-small : (recording : Result Trace Refusal) → (listing_answer_by recording).status ≤ 4
 listing_answer_by-small (Ok t) = verdict_status-small (verdict_by rules_in_force t)
 listing_answer_by-small (Err r) = refusal_status-small r
@@ -141,12 +157,14 @@ listing_answer_by-small (Err r) = refusal_status-small r
 abbrev pub ReadAgreesWith : ℕ → ℕ → Option (List ℕ) → Option (List ℕ) → Result Trace Refusal → Type 0
 ReadAgreesWith skew block b d recording = AnswerGives (λ (t : Trace). t) recording (settled_recording skew b d block)
 
+-- the status of `list` is 5 exactly where a write on the output failed
 pub WritesListing-unwritten : (skew : ℕ) (binding dump : Reading × Reading) (block : ℕ) (out err : Writing × Writing)
     (status : ℕ) → WritesListing skew binding dump block out err status
     → (status ≡ 5) ↔ (out.1.failures ≡ suc out.0.failures)
 WritesListing-unwritten skew binding dump block out err status = AnswersInputs-unwritten listing_answer_by
     listing_answer_by-small (ReadAgreesWith skew block) binding dump out err status
 
+-- if the inputs are read whole, no write fails and the status isn't 4, `list` writes exactly the answer of their bytes
 pub WritesListing-exact : (skew : ℕ) (binding dump : Reading × Reading) (block : ℕ) (out err : Writing × Writing)
     (status : ℕ) → WritesListing skew binding dump block out err status
     → (b d : List ℕ) → IsReadWhole binding.0 binding.1 b → IsReadWhole dump.0 dump.1 d

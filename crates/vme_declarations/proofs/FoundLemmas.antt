@@ -1,31 +1,32 @@
--- What was found, line by line and net by net.
+-- The groups of the lines that have a bit are found line by line, and the number of slots net by net.
 use Rattle.std.proofs.Common.{◌≡◌, ℕ, zero, suc, ◌+◌, Bool, get_or, refl, ap, sym, ◌∙◌, add-one}
 use Rattle.std.specs.Prelude.{if◌then◌else◌, replicate}
 use Rattle.vme_declarations.specs.Found.{groups_below, has_net, slots_to, with_group}
 use Rattle.vme_declarations.specs.declared.found_lines.FoundLines.{FoundLines}
 
 -- the groups of the lines below `line + 1`
-pub groups_more : (found : FoundLines) (line : ℕ) → groups_below found (line + 1)
+pub groups_below-next : (found : FoundLines) (line : ℕ) → groups_below found (line + 1)
     ≡ with_group found line (groups_below found line)
 unfolding groups_below
-groups_more found line = ap (groups_below found) (add-one line)
+groups_below-next found line = ap (groups_below found) (add-one line)
 
 -- the slots up to the place `before + 1`
-slots_more : (found : FoundLines) (before : ℕ) → slots_to found (before + 1)
+slots_to-next : (found : FoundLines) (before : ℕ) → slots_to found (before + 1)
     ≡ (if has_net found (before + 1) then before + 1 else slots_to found before)
 unfolding slots_to
-slots_more found before = ap (slots_to found) (add-one before)
+slots_to-next found before = ap (slots_to found) (add-one before)
 
-pub slots-step : (found : FoundLines) (before slots more : ℕ) (has : Bool) → slots ≡ slots_to found before → has
+-- the slots up to the place `before + 1`, from whether a net has a bit there and the slots up to `before`
+pub slots_to-step : (found : FoundLines) (before slots more : ℕ) (has : Bool) → slots ≡ slots_to found before → has
     ≡ has_net found (before + 1) → more ≡ (if has then before + 1 else slots) → more ≡ slots_to found (before + 1)
-slots-step found before slots more has so_far is_net is_more =
+slots_to-step found before slots more has so_far is_net is_more =
     is_more
     ∙ ap (λ (b : Bool). if b then before + 1 else slots) is_net
     ∙ ap (λ (n : ℕ). if has_net found (before + 1) then before + 1 else n) so_far
-    ∙ sym (slots_more found before)
+    ∙ sym (slots_to-next found before)
 
 -- each element of `n` times `x` is `x`, and so is the default past the end
-pub same-at : {X : Type 0} (n : ℕ) (x : X) (i : ℕ) → get_or (replicate n x) i x ≡ x
-same-at zero x i = refl
-same-at (suc n) x zero = refl
-same-at (suc n) x (suc i) = same-at n x i
+pub get_or-replicate_same : {X : Type 0} (n : ℕ) (x : X) (i : ℕ) → get_or (replicate n x) i x ≡ x
+get_or-replicate_same zero x i = refl
+get_or-replicate_same (suc n) x zero = refl
+get_or-replicate_same (suc n) x (suc i) = get_or-replicate_same n x i

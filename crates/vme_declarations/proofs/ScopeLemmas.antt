@@ -1,4 +1,4 @@
--- What the search for a scope finds.
+-- A search over the variables of a dump finds whether they have a scope; it compares the parts of each path alone.
 use Rattle.std.proofs.Common.{◌≡◌, ℕ, ◌≤◌, Bool, true, false, ◌&&◌, ◌||◌, List, [], ◌∷◌, ◌++◌, length, take, drop}
 use Rattle.std.proofs.Common.{◌<◌, Option, refl, sym, ap, ◌∙◌}
 use Rattle.std.proofs.Common.{append_assoc}
@@ -16,38 +16,41 @@ use Rattle.vme_declarations.specs.Scopes.{ScopeSought, has_scope, path_begins, s
 
 -- ---- the search
 
-or_assoc : (a b c : Bool) → ((a || b) || c) ≡ (a || (b || c))
-or_assoc true b c = refl
-or_assoc false b c = refl
+-- of three alternatives either two may be joined first
+or-assoc : (a b c : Bool) → ((a || b) || c) ≡ (a || (b || c))
+or-assoc true b c = refl
+or-assoc false b c = refl
 
-or_none : (a : Bool) → (a || false) ≡ a
-or_none true = refl
-or_none false = refl
+-- an alternative to `false` is the test itself
+or-false : (a : Bool) → (a || false) ≡ a
+or-false true = refl
+or-false false = refl
 
+-- the state of a search, by its parts
 abbrev sought : List ℕ → Bool → ScopeSought
 sought front found = record { front = front; is_found = found }
 
 -- a search over variables finds whether the path of one of them begins with `front`
-sought_all : (front : List ℕ) (found : Bool) (vs : List Variable) → fold sought_in (sought front found) vs
+sought_in-all : (front : List ℕ) (found : Bool) (vs : List Variable) → fold sought_in (sought front found) vs
     ≡ sought front (found || list_any (path_begins front) vs)
-sought_all front found [] = ap (sought front) (sym (or_none found))
-sought_all front found (v ∷ vs) =
-    sought_all front (found || path_begins front v) vs
-    ∙ ap (sought front) (or_assoc found (path_begins front v) (list_any (path_begins front) vs))
+sought_in-all front found [] = ap (sought front) (sym (or-false found))
+sought_in-all front found (v ∷ vs) =
+    sought_in-all front (found || path_begins front v) vs
+    ∙ ap (sought front) (or-assoc found (path_begins front v) (list_any (path_begins front) vs))
 
 -- a search over all variables finds whether they have the scope `path`
-pub search-found : (path first front : List ℕ) (found there : Bool) (vs : List Variable) → first ≡ with_dot path
+pub has_scope-sought : (path first front : List ℕ) (found there : Bool) (vs : List Variable) → first ≡ with_dot path
     → sought front found ≡ fold sought_in (sought first false) vs → found ≡ there → has_scope path vs ≡ there
-search-found path first front found there vs is e here =
+has_scope-sought path first front found there vs is e here =
     ap (λ (f : List ℕ). list_any (path_begins f) vs) (sym is)
-    ∙ sym (ap (λ (s : ScopeSought). s.is_found) (e ∙ sought_all first false vs)) ∙ here
+    ∙ sym (ap (λ (s : ScopeSought). s.is_found) (e ∙ sought_in-all first false vs)) ∙ here
 
 -- the search after one variable more, by the variable's name and scopes
-pub found-more : (front name : List ℕ) (scopes : List (List ℕ)) (net size : ℕ) (index : Option (ℕ × ℕ))
+pub sought_in-next : (front name : List ℕ) (scopes : List (List ℕ)) (net size : ℕ) (index : Option (ℕ × ℕ))
     (found now : Bool) → 0 < length name → now ≡ (found || starts_with nat_eq (path_in scopes ++ name) front)
     → sought front now
     ≡ sought_in (sought front found) (variable_in scopes net size (record { name = name; index = index }))
-found-more front name scopes net size index found now some is =
+sought_in-next front name scopes net size index found now some is =
     ap (sought front)
     (is ∙ ap (λ (path : List ℕ). found || starts_with nat_eq path front) (sym (path_of-is scopes name some)))
 
@@ -57,19 +60,20 @@ found-more front name scopes net size index found now some is =
 abbrev Begins : List ℕ → List ℕ → Type 0
 Begins front text = (rest : List ℕ) × (text ≡ front ++ rest)
 
-starts-Decides : (front text : List ℕ) → Decides (starts_with nat_eq text front) (Begins front text)
-starts-Decides front text =
+-- the test whether `text` begins with `front` decides whether it is `front` and a rest
+starts_with-Decides : (front text : List ℕ) → Decides (starts_with nat_eq text front) (Begins front text)
+starts_with-Decides front text =
     let is = starts_is Decides-eqb text front (starts_with nat_eq text front) refl in (
       λ e. (drop (length front) text, is.0 e),
       λ h. is.1 h.0 h.1,
     )
 
 -- where `first` is as long as `outer`, `outer ++ inner` begins with `first ++ second` exactly if its parts do so
-parts-Decides : (outer inner first second : List ℕ) → length first ≡ length outer
+starts_with-Decides_parts : (outer inner first second : List ℕ) → length first ≡ length outer
     → Decides (bytes_eq outer first && starts_with nat_eq inner second) (Begins (first ++ second) (outer ++ inner))
-parts-Decides outer inner first second same =
+starts_with-Decides_parts outer inner first second same =
     let both = Decides-and {P = outer ≡ first} {Q = Begins second inner} (bytes_eq outer first)
-    (starts_with nat_eq inner second) (bytes_eq-Decides outer first) (starts-Decides second inner) in (
+    (starts_with nat_eq inner second) (bytes_eq-Decides outer first) (starts_with-Decides second inner) in (
       λ e. let h = both.0 e in (
         h.1.0,
         ap (λ (xs : List ℕ). xs ++ inner) h.0 ∙ ap (λ (xs : List ℕ). first ++ xs) h.1.1
@@ -89,16 +93,16 @@ parts-Decides outer inner first second same =
     )
 
 -- `outer ++ inner` begins with `front` exactly if its parts begin with those of `front`, cut at the length of `outer`
-pub starts-cut : (front outer inner first second : List ℕ) → length outer ≤ length front
+pub starts_with-cut : (front outer inner first second : List ℕ) → length outer ≤ length front
     → first ≡ take (length outer) front → second ≡ drop (length outer) front
     → starts_with nat_eq (outer ++ inner) front ≡ (bytes_eq outer first && starts_with nat_eq inner second)
-starts-cut front outer inner first second le is_first is_second =
+starts_with-cut front outer inner first second le is_first is_second =
     let whole : front ≡ first ++ second =
     sym (take-append-drop (length outer) front)
     ∙ ap (λ (xs : List ℕ). xs ++ drop (length outer) front) (sym is_first)
     ∙ ap (λ (xs : List ℕ). first ++ xs) (sym is_second) in
     ap (λ (f : List ℕ). starts_with nat_eq (outer ++ inner) f) whole
     ∙ same_from_decides (starts_with nat_eq (outer ++ inner) (first ++ second))
-    (bytes_eq outer first && starts_with nat_eq inner second) (starts-Decides (first ++ second) (outer ++ inner))
-    (parts-Decides outer inner first second
+    (bytes_eq outer first && starts_with nat_eq inner second) (starts_with-Decides (first ++ second) (outer ++ inner))
+    (starts_with-Decides_parts outer inner first second
     (ap (λ (xs : List ℕ). length xs) is_first ∙ length-take-le (length outer) front le))

@@ -1,4 +1,4 @@
--- A binding of all lines to constant levels makes a recording of every dump without a fault.
+-- A binding of all lines to constant levels makes a recording without a step of every dump that has no fault.
 use Rattle.std.proofs.Common.{◌≡◌, ℕ, ◌+◌, ◌-◌, Bool, true, false, not, List, [], ◌∷◌, length, map, Some, None}
 use Rattle.std.proofs.Common.{Result, Ok, refl, ap, ◌∙◌}
 use Rattle.std.specs.Prelude.{if◌then◌else◌}
@@ -44,50 +44,57 @@ KeepsLevels w = (slots : ℕ) (ws : List BoundGroupType) (instants : List Instan
     → level_by slots ws instants n l (Some (source_on place w.source))
     ≡ level_by slots ws instants m l (Some (source_on place w.source))
 
+-- each line of each of the groups has the same level after any number of instants
 AllKeepLevels : List BoundGroupType → Type 0
 AllKeepLevels [] = Unit {0}
 AllKeepLevels (w ∷ ws) = KeepsLevels w × AllKeepLevels ws
 
-constant_group : (vs : List Variable) (a : Assignment) (level : Level) → a.source ≡ Constant level
+-- the bound group of an assignment to a constant level keeps its levels
+KeepsLevels-constant : (vs : List Variable) (a : Assignment) (level : Level) → a.source ≡ Constant level
     → (w : BoundGroupType) × (bound_group_in vs a ≡ Ok w) × KeepsLevels w
-constant_group vs a level is = (
+KeepsLevels-constant vs a level is = (
   _,
   ap (λ (s : LevelSource). bound_group_by a (source_in vs a.group.count s)) is,
   λ slots ws instants n m l place. refl,
 )
 
+-- the assignments have bound groups, all of which keep their levels
 abbrev ConstantGroups : List Variable → List Assignment → Type 0
 ConstantGroups vs as' = (ws : List BoundGroupType) × (bound_groups_in vs as' ≡ Ok ws) × AllKeepLevels ws
 
-constant_groups : (vs : List Variable) (as' : List Assignment) → list_all is_constant as' ≡ true → ConstantGroups vs as'
+-- assignments to constant levels alone have bound groups, all of which keep their levels
+AllKeepLevels-constants : (vs : List Variable) (as' : List Assignment) → list_all is_constant as' ≡ true
+    → ConstantGroups vs as'
 unfolding bound_groups_in AllKeepLevels
-constant_groups vs [] e = ([], refl, tt)
-constant_groups vs (a ∷ as') e =
+AllKeepLevels-constants vs [] e = ([], refl, tt)
+AllKeepLevels-constants vs (a ∷ as') e =
     let parts = and_parts (is_constant a) (list_all is_constant as') e in
-    by_source a.source refl parts.0 (constant_groups vs as' parts.1)
+    by_source a.source refl parts.0 (AllKeepLevels-constants vs as' parts.1)
   where
     by_source : (s : LevelSource) → a.source ≡ s → is_constant a ≡ true → ConstantGroups vs as'
         → ConstantGroups vs (a ∷ as')
     by_source (Constant level) is constant (ws, are, stay) =
-        let (w, one, stays) = constant_group vs a level is in
+        let (w, one, stays) = KeepsLevels-constant vs a level is in
         (w ∷ ws, rw (one, are) refl, (stays, stay))
     by_source (Named named) is constant more = let bad = rw is at constant in cc
 
 -- ---- no line changes
 
-same_itself : (level : Level) → same_level level level ≡ true
-same_itself Low = refl
-same_itself High = refl
-same_itself Unknown = refl
+-- a level is the same as itself
+same_level-refl : (level : Level) → same_level level level ≡ true
+same_level-refl Low = refl
+same_level-refl High = refl
+same_level-refl Unknown = refl
 
 module _ (slots : ℕ) (all : List BoundGroupType) (instants : List Instant) where
-  source_stays : (ws : List BoundGroupType) (n m l : ℕ) → AllKeepLevels ws
+  -- the level of a line by its source among such groups is the same after any number of instants
+  level_by-keeps : (ws : List BoundGroupType) (n m l : ℕ) → AllKeepLevels ws
       → level_by slots all instants n l (bound_group_source ws l)
       ≡ level_by slots all instants m l (bound_group_source ws l)
   unfolding AllKeepLevels
-  source_stays [] n m l stay = refl
-  source_stays (w ∷ ws) n m l (stays, stay) =
-      by_test (holds w.group l) (stays slots all instants n m l (w.group.first - l)) (source_stays ws n m l stay)
+  level_by-keeps [] n m l stay = refl
+  level_by-keeps (w ∷ ws) n m l (stays, stay) =
+      by_test (holds w.group l) (stays slots all instants n m l (w.group.first - l)) (level_by-keeps ws n m l stay)
     where
       by_test : (b : Bool)
           → level_by slots all instants n l (Some (source_on (w.group.first - l) w.source))
@@ -101,10 +108,11 @@ module _ (slots : ℕ) (all : List BoundGroupType) (instants : List Instant) whe
       by_test true here later = here
       by_test false here later = later
 
-  level_stays : (n m l : ℕ) → AllKeepLevels all
+  -- the level of a line, where all groups keep theirs, is the same after any number of instants
+  level_after-keeps : (n m l : ℕ) → AllKeepLevels all
       → level_after slots all instants n l ≡ level_after slots all instants m l
   unfolding level_after
-  level_stays n m l stay = by_test (has_line slots l) (source_stays all n m l stay)
+  level_after-keeps n m l stay = by_test (has_line slots l) (level_by-keeps all n m l stay)
     where
       by_test : (b : Bool)
           → level_by slots all instants n l (bound_group_source all l)
@@ -114,47 +122,55 @@ module _ (slots : ℕ) (all : List BoundGroupType) (instants : List Instant) whe
       by_test true here = here
       by_test false here = refl
 
-  never_changes : (n l : ℕ) → AllKeepLevels all → changes_at slots all instants n l ≡ false
+  -- where all groups keep their levels, no line changes
+  changes_at-never : (n l : ℕ) → AllKeepLevels all → changes_at slots all instants n l ≡ false
   unfolding changes_at
-  never_changes n l stay =
-      ap (λ (level : Level). not (same_level (level_after slots all instants n l) level)) (level_stays (n + 1) n l stay)
-      ∙ ap not (same_itself (level_after slots all instants n l))
+  changes_at-never n l stay =
+      ap (λ (level : Level). not (same_level (level_after slots all instants n l) level))
+      (level_after-keeps (n + 1) n l stay)
+      ∙ ap not (same_level-refl (level_after slots all instants n l))
 
-  no_step : (n : ℕ) → AllKeepLevels all → is_step slots all instants n ≡ false
+  -- where all groups keep their levels, no instant makes a step
+  is_step-never : (n : ℕ) → AllKeepLevels all → is_step slots all instants n ≡ false
   unfolding is_step
-  no_step n stay = fails-any (changes_at slots all instants n) 0 line_count (λ l a b. never_changes n l stay)
+  is_step-never n stay = fails-any (changes_at slots all instants n) 0 line_count (λ l a b. changes_at-never n l stay)
 
-  no_steps : (n : ℕ) → AllKeepLevels all → (recording slots all instants n).steps ≡ []
+  -- where all groups keep their levels, the recording has no step
+  steps-none : (n : ℕ) → AllKeepLevels all → (recording slots all instants n).steps ≡ []
   unfolding recording
-  no_steps n stay = ap (map (step_at slots all instants)) (those-none (is_step slots all instants) 0 n
-      (fails-any (is_step slots all instants) 0 n (λ i a b. no_step i stay)))
+  steps-none n stay = ap (map (step_at slots all instants)) (those-none (is_step slots all instants) 0 n
+      (fails-any (is_step slots all instants) 0 n (λ i a b. is_step-never i stay)))
 
-short_enough : (t : Trace) → t.steps ≡ [] → limited t ≡ Ok t
-short_enough t none = rw none refl
+-- a recording without a step isn't too long
+limited-no_step : (t : Trace) → t.steps ≡ [] → limited t ≡ Ok t
+limited-no_step t none = rw none refl
 
 -- ---- the recording
 
-captured : (b : BoundLines) (dump : Contents) → list_all is_constant b.assignments ≡ true
+-- a binding to constant levels alone makes a recording of each dump
+capture_of-constants : (b : BoundLines) (dump : Contents) → list_all is_constant b.assignments ≡ true
     → (t : Trace) × (capture_of b dump ≡ Ok t)
 unfolding capture_of
-captured b dump constant =
-    let (ws, are, stay) = constant_groups dump.variables b.assignments constant in
+capture_of-constants b dump constant =
+    let (ws, are, stay) = AllKeepLevels-constants dump.variables b.assignments constant in
     let t = recording b.slots ws dump.instants (length dump.instants) in (
       t,
       ap (λ (r : Result (List BoundGroupType) BindFault). r >>= λ bound_groups. limited
           (recording b.slots bound_groups dump.instants (length dump.instants))) are
-          ∙ short_enough t (no_steps b.slots ws dump.instants (length dump.instants) stay),
+          ∙ limited-no_step t (steps-none b.slots ws dump.instants (length dump.instants) stay),
     )
 
-captured_text : (b : BoundLines) (text : List ℕ) → list_all is_constant b.assignments ≡ true → IsDump text
+-- a binding to constant levels alone makes a recording of each text that is a dump
+capture_of_text-constants : (b : BoundLines) (text : List ℕ) → list_all is_constant b.assignments ≡ true → IsDump text
     → (t : Trace) × (capture_of_text b text ≡ Ok t)
 unfolding capture_of_text
-captured_text b text constant (dump, is) =
-    let (t, made) = captured b dump constant in
+capture_of_text-constants b text constant (dump, is) =
+    let (t, made) = capture_of-constants b dump constant in
     (t, ap (capture_read b) is ∙ ap or_binding made)
 
-pub constants-record : (slots : ℕ) (text : List ℕ) → BindsConstants slots text → (dump : List ℕ) → IsDump dump
+-- the text of such a binding makes a recording of each dump
+pub MakesRecording-constants : (slots : ℕ) (text : List ℕ) → BindsConstants slots text → (dump : List ℕ) → IsDump dump
     → MakesRecording text dump
-constants-record slots text (b, is, slots_are, constant) dump there =
-    let (t, made) = captured_text b dump constant there in
+MakesRecording-constants slots text (b, is, slots_are, constant) dump there =
+    let (t, made) = capture_of_text-constants b dump constant there in
     record { bound = b; recording = t; is_binding = is; records = made }

@@ -29,8 +29,9 @@ use Rattle.vme_text_commands.specs.ExplainedDumps.{GivesAccount, or_too_long}
 use Rattle.vme_commands.specs.Settled.{settled_judgement, settled_read}
 use Rattle.vme_skew.specs.Settled.{settled, settled_or}
 use Rattle.vme_stream.proofs.AnswerLemmas.{capture_read-bound, capture_read-refused, AnswerGives-then}
-use Rattle.vme_commands.proofs.SettledLemmas.{judgement-refused, read-refused, settled-fits, settled-refused}
-use Rattle.vme_commands.proofs.SettledLemmas.{settled-short}
+use Rattle.vme_commands.proofs.SettledLemmas.{settled_judgement-refused, settled_read-refused, settled_or-within}
+use Rattle.vme_commands.proofs.SettledLemmas.{settled_or-refused}
+use Rattle.vme_commands.proofs.SettledLemmas.{length-settled_within}
 
 pub judged-bound : (skew : ℕ) (b d : Option (List ℕ)) (bound : BoundLines) → binding_read b ≡ Ok bound
     → settled_judgement skew b d 16384 ≡ judged_by skew bound (dump_read d)
@@ -48,7 +49,7 @@ pub judged-refused : (skew : ℕ) (b d : Option (List ℕ)) (r : Refusal) → An
     (binding_read b) → AnswerGives (λ (e : Explained). e.verdict) (Err r) (settled_judgement skew b d 16384)
 judged-refused skew b d r gives =
     refusal_explained r (settled_judgement skew b d 16384)
-    (judgement-refused skew b d 16384 r (read-refused skew b d r (capture_read-refused b d r gives)))
+    (settled_judgement-refused skew b d 16384 r (settled_read-refused skew b d r (capture_read-refused b d r gives)))
 
 -- ---- a recording that is judged as the dump is read
 
@@ -130,15 +131,15 @@ pub account-unsettled : (skew : ℕ) (r : Refusal) (read : Result Trace Refusal)
     → AnswerGives (λ (t : Trace). t) (Err r) read → GivesAccount (Err r) (settled_or skew (read >>= or_too_long))
 account-unsettled skew r read gives =
     account-refused r (settled_or skew (read >>= or_too_long))
-    (settled-refused skew (read >>= or_too_long) r (AnswerGives-then r read or_too_long gives))
+    (settled_or-refused skew (read >>= or_too_long) r (AnswerGives-then r read or_too_long gives))
 
 -- the account of the deskewed recording `made` is the one that `explain` gives, if the recording `t` isn't too long
 pub account-settled : (skew : ℕ) (t made : Trace) (a : Result Account Refusal)
     → nat_lt capture_limit (length t.steps) ≡ false → made ≡ settled skew t → GivesAccount a (or_too_long made)
     → GivesAccount a (settled_or skew (or_too_long t))
 account-settled skew t made a within is gives =
-    let fits = settled-fits skew t made within is in
-    let short = settled-short skew t made within is in
+    let fits = settled_or-within skew t made within is in
+    let short = length-settled_within skew t made within is in
     subst (GivesAccount a) (fits-captured made short ∙ sym fits) gives
 
 -- an explanation by an account has the verdict on the captured recording

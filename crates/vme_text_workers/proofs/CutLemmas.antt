@@ -11,47 +11,50 @@ pub record IsCutSoFar (text : List ℕ) (pieces : List DumpPiece) (left : List �
       ≡ tokens_of line pieces ++ tokens_from (line_after_pieces line pieces) left
   pub lines : (line : ℕ) → line_behind line text ≡ line_behind (line_after_pieces line pieces) left
 
-tokens_of-push : (line : ℕ) (pieces : List DumpPiece) (piece : DumpPiece) → tokens_of line (pieces ++ piece ∷ [])
+-- the tokens of some pieces and one more are theirs and its tokens
+tokens_of-append : (line : ℕ) (pieces : List DumpPiece) (piece : DumpPiece) → tokens_of line (pieces ++ piece ∷ [])
     ≡ tokens_of line pieces ++ tokens_from (line_after_pieces line pieces) piece.bytes.now
-tokens_of-push line [] piece = append-nil (tokens_from line piece.bytes.now)
-tokens_of-push line (first ∷ pieces) piece =
+tokens_of-append line [] piece = append-nil (tokens_from line piece.bytes.now)
+tokens_of-append line (first ∷ pieces) piece =
     let front = tokens_from line first.bytes.now in
     let line2 = line_behind line first.bytes.now in
-    ap (λ (ts : List Token). front ++ ts) (tokens_of-push line2 pieces piece)
+    ap (λ (ts : List Token). front ++ ts) (tokens_of-append line2 pieces piece)
     ∙ sym (append_assoc front (tokens_of line2 pieces) (tokens_from (line_after_pieces line2 pieces) piece.bytes.now))
 
-line_after_pieces-push : (line : ℕ) (pieces : List DumpPiece) (piece : DumpPiece)
+-- the line after some pieces and one more is that after the one more, which begins on the line after the others
+line_after_pieces-append : (line : ℕ) (pieces : List DumpPiece) (piece : DumpPiece)
     → line_after_pieces line (pieces ++ piece ∷ [])
     ≡ line_behind (line_after_pieces line pieces) piece.bytes.now
-line_after_pieces-push line [] piece = refl
-line_after_pieces-push line (first ∷ pieces) piece =
-    line_after_pieces-push (line_behind line first.bytes.now) pieces piece
+line_after_pieces-append line [] piece = refl
+line_after_pieces-append line (first ∷ pieces) piece =
+    line_after_pieces-append (line_behind line first.bytes.now) pieces piece
 
-pub cut-none : (text : List ℕ) → IsCutSoFar text [] text
-cut-none text = record { tokens = λ line. refl; lines = λ line. refl }
+-- no piece is cut off yet
+pub IsCutSoFar-none : (text : List ℕ) → IsCutSoFar text [] text
+IsCutSoFar-none text = record { tokens = λ line. refl; lines = λ line. refl }
 
 module _ (text : List ℕ) (pieces : List DumpPiece) (piece : DumpPiece) where
   -- one more piece is cut off
-  pub cut-more : (left rest : List ℕ) → IsCutSoFar text pieces left → IsCutIn left piece.bytes.now rest
+  pub IsCutSoFar-next : (left rest : List ℕ) → IsCutSoFar text pieces left → IsCutIn left piece.bytes.now rest
       → IsCutSoFar text (pieces ++ piece ∷ []) rest
-  cut-more left rest so cut = record {
+  IsCutSoFar-next left rest so cut = record {
     tokens = λ line.
         let at : ℕ = line_after_pieces line pieces in
         so.tokens line ∙ ap (λ (ts : List Token). tokens_of line pieces ++ ts) (cut.tokens at)
         ∙ sym (append_assoc (tokens_of line pieces) (tokens_from at piece.bytes.now)
         (tokens_from (line_behind at piece.bytes.now) rest))
         ∙ ap (λ (ts : List Token). ts ++ tokens_from (line_behind at piece.bytes.now) rest)
-        (sym (tokens_of-push line pieces piece))
+        (sym (tokens_of-append line pieces piece))
         ∙ ap (λ (l : ℕ). tokens_of line (pieces ++ piece ∷ []) ++ tokens_from l rest)
-        (sym (line_after_pieces-push line pieces piece));
+        (sym (line_after_pieces-append line pieces piece));
     lines = λ line.
         so.lines line ∙ cut.lines (line_after_pieces line pieces) ∙ ap (λ (l : ℕ). line_behind l rest)
-        (sym (line_after_pieces-push line pieces piece));
+        (sym (line_after_pieces-append line pieces piece));
   }
 
   -- the rest of the text is the last piece
-  pub cut-last : IsCutSoFar text pieces piece.bytes.now → ArePiecesOf text (pieces ++ piece ∷ [])
-  cut-last so = record {
-    tokens = λ line. so.tokens line ∙ sym (tokens_of-push line pieces piece);
-    lines = λ line. so.lines line ∙ sym (line_after_pieces-push line pieces piece);
+  pub ArePiecesOf-last : IsCutSoFar text pieces piece.bytes.now → ArePiecesOf text (pieces ++ piece ∷ [])
+  ArePiecesOf-last so = record {
+    tokens = λ line. so.tokens line ∙ sym (tokens_of-append line pieces piece);
+    lines = λ line. so.lines line ∙ sym (line_after_pieces-append line pieces piece);
   }

@@ -1,4 +1,5 @@
--- The result for a body, by its instants.
+-- Reading the body of a dump succeeds where the dump has no fault, and else fails with the dump's fault, whatever is
+-- made of it.
 use Rattle.std.proofs.Common.{◌≡◌, ℕ, List, Result, Ok, Err, IfErr, OnOk, ap, ◌∙◌}
 use Rattle.vcd_read.specs.declared.dump.Bit.{Bit}
 use Rattle.vcd_read.specs.declared.dump.Instant.{Instant}
@@ -15,52 +16,64 @@ use Rattle.vcd_read.proofs.BodyFoldLemmas.{Ends, Follows, fails-followed, gives-
 use Rattle.vme_declarations.specs.Dumps.{IsDump}
 
 module _ {T : Type 0} (with_change : T → ℕ → List Bit → T) (with_instant : T → ℕ → T) where
+  -- nothing is asked of what is made of the instants
   abbrev Any : List Instant → CurrentValues → T → Type 0
   Any done current t = Unit {0}
 
-  follows : (h : Headed) (t : T) → Follows (Ends Any) (instants_from h.nets h.body)
+  -- reading a body follows its instants, whatever is made of them
+  Follows-fold_body : (h : Headed) (t : T) → Follows (Ends Any) (instants_from h.nets h.body)
       (fold_body with_change with_instant h.nets t h.body)
-  follows h t = taken-follows with_change with_instant h.nets Any (λ done current a net bits lt made. tt)
+  Follows-fold_body h t = taken-follows with_change with_instant h.nets Any (λ done current a net bits lt made. tt)
       (λ done current a time made. tt) h.body t tt
 
-  fold_fails : (h : Headed) (t : T) (fault : VcdFault) → ReadFails fault
+  -- a fault of reading a body is the fault of its instants
+  instants_from-fails : (h : Headed) (t : T) (fault : VcdFault) → ReadFails fault
       (fold_body with_change with_instant h.nets t h.body) → ReadFails fault (instants_from h.nets h.body)
-  fold_fails h t fault fails = fails-followed (Ends Any) (instants_from h.nets h.body) _ fault (follows h t) fails
+  instants_from-fails h t fault fails = fails-followed (Ends Any) (instants_from h.nets h.body) _ fault
+      (Follows-fold_body h t) fails
 
-  fold_ends : (h : Headed) (t end : T) → fold_body with_change with_instant h.nets t h.body ≡ Ok end
+  -- where reading a body succeeds, the body has instants
+  instants_from-ok : (h : Headed) (t end : T) → fold_body with_change with_instant h.nets t h.body ≡ Ok end
       → (instants : List Instant) × (instants_from h.nets h.body ≡ Ok instants)
-  fold_ends h t end ok =
-      let gives = gives-followed (Ends Any) (instants_from h.nets h.body) _ end (follows h t) ok in
+  instants_from-ok h t end ok =
+      let gives = gives-followed (Ends Any) (instants_from h.nets h.body) _ end (Follows-fold_body h t) ok in
       (gives.0, gives.1)
 
   -- where reading a body succeeds, the body has instants, i.e. no fault
-  pub taken-ok : {X : Type 0} (view : X → T) (h : Headed) (t : T) (r : Result X VcdFault) → ReadGives view r
+  pub instants_from-result_ok : {X : Type 0} (view : X → T) (h : Headed) (t : T) (r : Result X VcdFault)
+      → ReadGives view r
       (fold_body with_change with_instant h.nets t h.body)
       → OnOk r ((instants : List Instant) × (instants_from h.nets h.body ≡ Ok instants))
-  taken-ok view h t (Ok x) gives = fold_ends h t (view x) gives
-  taken-ok view h t (Err fault) gives = tt
+  instants_from-result_ok view h t (Ok x) gives = instants_from-ok h t (view x) gives
+  instants_from-result_ok view h t (Err fault) gives = tt
 
   -- where reading a body fails, the fault is that of its instants
-  pub taken-err : {X : Type 0} (view : X → T) (h : Headed) (t : T) (r : Result X VcdFault) → ReadGives view r
+  pub instants_from-result_fails : {X : Type 0} (view : X → T) (h : Headed) (t : T) (r : Result X VcdFault)
+      → ReadGives view r
       (fold_body with_change with_instant h.nets t h.body)
       → IfErr r (λ fault. ReadFails fault (instants_from h.nets h.body))
-  taken-err view h t (Ok x) gives = tt
-  taken-err view h t (Err fault) gives = fold_fails h t fault gives
+  instants_from-result_fails view h t (Ok x) gives = tt
+  instants_from-result_fails view h t (Err fault) gives = instants_from-fails h t fault gives
 
 -- ---- the whole text
 
-pub head-fails : (text : List ℕ) (fault : VcdFault) → ReadFails fault (whole_header text) → ReadFails fault
+-- a fault of the definitions is the fault of the dump
+pub dump_of-header_fails : (text : List ℕ) (fault : VcdFault) → ReadFails fault (whole_header text) → ReadFails fault
     (dump_of text)
-head-fails text fault fails = fails_first fault (whole_header text) contents_behind _ (dump_of-header text) fails
+dump_of-header_fails text fault fails =
+    fails_first fault (whole_header text) contents_behind _ (dump_of-header text) fails
 
-pub body-fails : (text : List ℕ) (d : Defined (List Variable)) (fault : VcdFault) → whole_header text ≡ Ok d
+-- a fault of the body is the fault of the dump, where the definitions have none
+pub dump_of-body_fails : (text : List ℕ) (d : Defined (List Variable)) (fault : VcdFault) → whole_header text ≡ Ok d
     → ReadFails fault (instants_from d.head.nets d.head.body) → ReadFails fault (dump_of text)
-body-fails text d fault e fails = fails_first fault (instants_from d.head.nets d.head.body) (with_variables d.variables)
+dump_of-body_fails text d fault e fails = fails_first fault (instants_from d.head.nets d.head.body)
+    (with_variables d.variables)
     _ (dump_behind text d e) fails
 
-pub body-ends : (text : List ℕ) (d : Defined (List Variable)) → whole_header text ≡ Ok d → (instants : List Instant)
+-- a text whose definitions and body have no fault is a dump
+pub IsDump-body : (text : List ℕ) (d : Defined (List Variable)) → whole_header text ≡ Ok d → (instants : List Instant)
     × (instants_from d.head.nets d.head.body ≡ Ok instants) → IsDump text
-body-ends text d e (instants, is) = (
+IsDump-body text d e (instants, is) = (
   record { variables = d.variables; instants = instants },
   dump_behind text d e
       ∙ ap (λ (r : Result (List Instant) VcdFault). r >>= with_variables d.variables) is,
@@ -68,15 +81,19 @@ body-ends text d e (instants, is) = (
 
 -- ---- from the body after the definitions to the whole text
 
-pub whole-ok : {A : Type 0} (text : List ℕ) (d : Defined (List Variable)) (r : Result A VcdFault) → whole_header text
+-- where a result without a fault says that the body has instants, it says that the text is a dump
+pub IsDump-result : {A : Type 0} (text : List ℕ) (d : Defined (List Variable)) (r : Result A VcdFault)
+    → whole_header text
     ≡ Ok d
     → OnOk r ((instants : List Instant) × (instants_from d.head.nets d.head.body ≡ Ok instants)) → OnOk r (IsDump text)
-whole-ok text d (Ok x) e there = body-ends text d e there
-whole-ok text d (Err fault) e there = tt
+IsDump-result text d (Ok x) e there = IsDump-body text d e there
+IsDump-result text d (Err fault) e there = tt
 
-pub whole-err : {A : Type 0} (text : List ℕ) (d : Defined (List Variable)) (r : Result A VcdFault) → whole_header text
+-- where the fault of a result is that of the body, it is that of the dump
+pub dump_of-result_fails : {A : Type 0} (text : List ℕ) (d : Defined (List Variable)) (r : Result A VcdFault)
+    → whole_header text
     ≡ Ok d
     → IfErr r (λ fault. ReadFails fault (instants_from d.head.nets d.head.body))
     → IfErr r (λ fault. ReadFails fault (dump_of text))
-whole-err text d (Ok x) e fails = tt
-whole-err text d (Err fault) e fails = body-fails text d fault e fails
+dump_of-result_fails text d (Ok x) e fails = tt
+dump_of-result_fails text d (Err fault) e fails = dump_of-body_fails text d fault e fails

@@ -1,6 +1,6 @@
 use Rattle.std.proofs.Common.{ap, inl, inr, refl, ◌∙◌}
 use Rattle.std.proofs.KnownBytes.{Appends-nil}
-use Rattle.vme_commands.proofs.ListLemmas.{listing_status-is}
+use Rattle.vme_commands.proofs.ListLemmas.{listing_status-verdict}
 use Rattle.vme_commands.specs.Listings.{listing_status}
 use Rattle.vme_annotate.proofs.EndsLemmas.{annotated-IsAnnotated}
 use Rattle.vme_annotate.proofs.annotating.write_or_complain.Goals as goal
@@ -14,7 +14,7 @@ returns-in-Ok g c = λ t is.
       inl (record {
         out_is = written;
         err_is = inl (Appends-nil _, refl);
-        status_is = c.status.ensures ∙ ap listing_status is.timed.listing_is ∙ listing_status-is t;
+        status_is = c.status.ensures ∙ ap listing_status is.timed.listing_is ∙ listing_status-verdict t;
       }),
     )
 

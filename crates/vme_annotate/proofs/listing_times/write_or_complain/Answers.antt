@@ -1,6 +1,6 @@
 use Rattle.std.proofs.Common.{List, ap, inl, inr, refl, subst, ◌∙◌, ℕ}
 use Rattle.std.proofs.KnownBytes.{Appends-nil}
-use Rattle.vme_commands.proofs.ListLemmas.{listing_status-is}
+use Rattle.vme_commands.proofs.ListLemmas.{listing_status-verdict}
 use Rattle.vme_commands.specs.Listings.{listing_status}
 use Rattle.vme_stream.specs.Outputs.{FailsToWrite, Writes}
 use Rattle.vme_annotate.proofs.EndsLemmas.{timed_text_is}
@@ -11,7 +11,7 @@ returns-in-Ok g c = λ t is. inl (record {
   out_is = subst (λ (text : List ℕ). Writes (g.O.Sink.writing c.args.out.now) (g.O.Sink.writing c.write_times.new.sink)
       text) (timed_text_is t c.args.listing.now is) c.in-Ok.ensures;
   err_is = inl (Appends-nil _, refl);
-  status_is = c.status.ensures ∙ ap listing_status is.listing_is ∙ listing_status-is t;
+  status_is = c.status.ensures ∙ ap listing_status is.listing_is ∙ listing_status-verdict t;
 })
 
 pub returns-in-Err : goal.returns-in-Err

@@ -1,7 +1,7 @@
 use Rattle.std.proofs.Common.{◌∙◌, sym}
 use Rattle.std.proofs.lemmas.Result.{err_from_is_err_and}
-use Rattle.vme_commands.proofs.JudgedLemmas.{judged-short}
-use Rattle.vme_commands.proofs.SettledLemmas.{judgement-given, judgement-refused}
+use Rattle.vme_commands.proofs.JudgedLemmas.{judged_in_blocks-short}
+use Rattle.vme_commands.proofs.SettledLemmas.{settled_judgement-read, settled_judgement-refused}
 use Rattle.vme_commands.proofs.check.judge_in_order.Goals as goal
 
 pub returns-in_err-judge : goal.returns-in_err-judge
@@ -14,7 +14,7 @@ returns-in_err-judge g c =
       bytes,
       bound_reading,
       reading,
-      judgement-refused c.args.skew bound bytes c.args.block refusal refused,
+      settled_judgement-refused c.args.skew bound bytes c.args.block refusal refused,
     )
 
 pub returns : goal.returns
@@ -25,7 +25,7 @@ returns g c =
       bytes,
       bound_reading,
       reading,
-      rw (judgement-given c.args.skew bound bytes c.args.block t is
-          ∙ sym (judged-short t c.args.block c.in_ok-judge.ensures.short))
+      rw (settled_judgement-read c.args.skew bound bytes c.args.block t is
+          ∙ sym (judged_in_blocks-short t c.args.block c.in_ok-judge.ensures.short))
           (c.verdict_of.ensures c.in_ok-judge.ensures.formed),
     )

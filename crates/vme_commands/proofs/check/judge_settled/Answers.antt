@@ -1,4 +1,4 @@
-use Rattle.vme_commands.proofs.SettledLemmas.{judgement-unsettled}
+use Rattle.vme_commands.proofs.SettledLemmas.{settled_judgement-skew_zero}
 use Rattle.vme_commands.proofs.check.judge_settled.Goals as goal
 
 pub returns-then-skew-eq0 : goal.returns-then-skew-eq0
@@ -8,5 +8,5 @@ returns-then-skew-eq0 g c =
       bytes,
       bound_reading,
       reading,
-      rw (judgement-unsettled c.args.skew c.if-skew-eq0.true bound bytes c.args.block) given,
+      rw (settled_judgement-skew_zero c.args.skew c.if-skew-eq0.true bound bytes c.args.block) given,
     )

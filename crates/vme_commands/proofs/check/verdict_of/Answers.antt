@@ -7,7 +7,7 @@ use Rattle.vme_stream.specs.Refusals.{judging_refusal}
 use Rattle.vme_stream.specs.declared.refusal.Refusal.{Refusal}
 use Rattle.vme_stream.proofs.AnswerLemmas.{AnswerGives-then}
 use Rattle.vme_commands.specs.Judged.{limited_in_blocks}
-use Rattle.vme_commands.proofs.JudgedLemmas.{judged-fits, judged-refused}
+use Rattle.vme_commands.proofs.JudgedLemmas.{limited_in_blocks-judged, limited_in_blocks-refused}
 use Rattle.vme_commands.proofs.check.verdict_of.Goals as goal
 
 abbrev or_verdict : Trace → Result Verdict Refusal
@@ -17,7 +17,8 @@ pub returns-in-Ok : goal.returns-in-Ok
 returns-in-Ok c =
     let told = c.in-Ok.ensures in
     λ formed.
-    ap (λ (r : Result Trace Refusal). r >>= or_verdict) (judged-fits c.args.judge c.args.block _ told.too_many_steps
+    ap (λ (r : Result Trace Refusal). r >>= or_verdict)
+    (limited_in_blocks-judged c.args.judge c.args.block _ told.too_many_steps
     told.too_many_blocks c.in-Ok.verdict refl)
     ∙ ap Ok (sym (told.verdict formed))
 
@@ -27,4 +28,4 @@ returns-in-Err c =
     λ formed.
     rw c.of_judging.ensures
     (AnswerGives-then (judging_refusal c.in-Err.why) (limited_in_blocks c.args.block c.args.judge) or_verdict
-    (judged-refused c.args.judge c.args.block _ told.too_many_steps told.too_many_blocks c.in-Err.why refl))
+    (limited_in_blocks-refused c.args.judge c.args.block _ told.too_many_steps told.too_many_blocks c.in-Err.why refl))

@@ -3,7 +3,7 @@ use Rattle.std.proofs.Common.{◌∙◌}
 use Rattle.std.proofs.lemmas.Result.{err_from_is_err_and}
 use Rattle.vme_stream.proofs.InputLemmas.{IsReading-unread}
 use Rattle.vme_stream.proofs.AnswerLemmas.{capture_read-unrecorded, recording_read-bound, recording_read-refused}
-use Rattle.vme_commands.proofs.SettledLemmas.{read-recorded, read-refused}
+use Rattle.vme_commands.proofs.SettledLemmas.{settled_read-recorded, settled_read-refused}
 use Rattle.vme_commands.proofs.judged_settled.judged_by_skew.Goals as goal
 
 pub returns-in_err-bound-clause-gives : goal.returns-in_err-bound-clause-gives
@@ -17,7 +17,7 @@ returns-in_err-bound-clause-gives g c =
       left.0,
       bound_reading,
       left.1,
-      read-refused g.K.GhostSkew.skew bound left.0 refusal
+      settled_read-refused g.K.GhostSkew.skew bound left.0 refusal
           (capture_read-unrecorded bound left.0 refusal (recording_read-refused bound left.0 refusal refused)),
     )
 
@@ -32,7 +32,7 @@ returns-in_err-settled-clause-gives g c =
       bytes,
       bound_reading,
       reading,
-      read-refused g.K.GhostSkew.skew bound bytes refusal
+      settled_read-refused g.K.GhostSkew.skew bound bytes refusal
           (capture_read-unrecorded bound bytes refusal (rw (recording_read-bound bound bytes _ bound_is) refused)),
     )
 
@@ -48,7 +48,7 @@ returns g c =
         bytes,
         bound_reading,
         reading,
-        rw (read-recorded g.K.GhostSkew.skew bound bytes _ recorded) (c.settled_judge.ensures.gives well),
+        rw (settled_read-recorded g.K.GhostSkew.skew bound bytes _ recorded) (c.settled_judge.ensures.gives well),
       );
       formed = c.settled_judge.ensures.formed well;
       short = c.settled_judge.ensures.short well;

@@ -2,7 +2,7 @@
 use Rattle.std.proofs.Common.{◌≡◌, ◌∙◌, false, true, length, sym}
 use Rattle.std.specs.Prelude.{nat_lt}
 use Rattle.vme_trace.specs.WellFormed.{capture_limit}
-use Rattle.vme_commands.proofs.SettledLemmas.{settled-fits, settled-long, settled-short}
+use Rattle.vme_commands.proofs.SettledLemmas.{settled_or-within, settled_or-too_long, length-settled_within}
 use Rattle.vme_commands.proofs.judged_settled.settled_judge.Goals as goal
 
 pub returns-in-Ok : goal.returns-in-Ok
@@ -11,13 +11,13 @@ returns-in-Ok g c =
     let within : nat_lt capture_limit (length t.steps) ≡ false = sym c.is_too_long.ensures ∙ c.if-is_too_long.false in
     let told = c.in-Ok.ensures in
     record {
-      gives = λ formed. settled-fits g.K.GhostSkew.skew t c.in-Ok.judge within (told.settled formed);
+      gives = λ formed. settled_or-within g.K.GhostSkew.skew t c.in-Ok.judge within (told.settled formed);
       formed = told.formed;
-      short = λ formed. settled-short g.K.GhostSkew.skew t c.in-Ok.judge within (told.settled formed);
+      short = λ formed. length-settled_within g.K.GhostSkew.skew t c.in-Ok.judge within (told.settled formed);
     }
 
 pub returns-then-is_too_long-clause-gives : goal.returns-then-is_too_long-clause-gives
 returns-then-is_too_long-clause-gives g c =
     let long : nat_lt capture_limit (length c.args.settling.steps) ≡ true =
     sym c.is_too_long.ensures ∙ c.if-is_too_long.true in
-    λ formed. rw c.of_judging.ensures (settled-long g.K.GhostSkew.skew c.args.settling long)
+    λ formed. rw c.of_judging.ensures (settled_or-too_long g.K.GhostSkew.skew c.args.settling long)

@@ -1,8 +1,8 @@
 use Rattle.std.proofs.Common.{◌∙◌, sym}
 use Rattle.std.proofs.lemmas.Result.{err_from_is_err_and}
-use Rattle.vme_commands.proofs.JudgedLemmas.{limited-short}
+use Rattle.vme_commands.proofs.JudgedLemmas.{limited_in_blocks-short}
 use Rattle.vme_commands.proofs.ListLemmas.{GivesListing-from_AnswerGives}
-use Rattle.vme_commands.proofs.SettledLemmas.{recording-given, recording-refused}
+use Rattle.vme_commands.proofs.SettledLemmas.{settled_recording-read, settled_recording-refused}
 use Rattle.vme_commands.proofs.list.listing_in_order.Goals as goal
 
 pub returns-in_err-lister : goal.returns-in_err-lister
@@ -15,7 +15,8 @@ returns-in_err-lister g c =
       bytes,
       bound_reading,
       reading,
-      GivesListing-from_AnswerGives refusal _ (recording-refused c.args.skew bound bytes c.args.block refusal refused),
+      GivesListing-from_AnswerGives refusal _
+          (settled_recording-refused c.args.skew bound bytes c.args.block refusal refused),
     )
 
 pub returns : goal.returns
@@ -26,7 +27,7 @@ returns g c =
       bytes,
       bound_reading,
       reading,
-      rw (recording-given c.args.skew bound bytes c.args.block t is
-          ∙ sym (limited-short t c.args.block c.in_ok-lister.ensures.short))
+      rw (settled_recording-read c.args.skew bound bytes c.args.block t is
+          ∙ sym (limited_in_blocks-short t c.args.block c.in_ok-lister.ensures.short))
           (c.listing_of_steps.ensures c.in_ok-lister.ensures.formed),
     )

@@ -1,7 +1,7 @@
 use Rattle.std.proofs.Common.{refl}
 use Rattle.vme_stream.specs.Refusals.{judging_refusal}
 use Rattle.vme_commands.specs.Judged.{limited_in_blocks}
-use Rattle.vme_commands.proofs.JudgedLemmas.{judged-fits, judged-refused}
+use Rattle.vme_commands.proofs.JudgedLemmas.{limited_in_blocks-judged, limited_in_blocks-refused}
 use Rattle.vme_commands.proofs.ListLemmas.{GivesListing-from_AnswerGives}
 use Rattle.vme_commands.proofs.list.listing_of_steps.Goals as goal
 
@@ -10,7 +10,7 @@ returns-in-Ok c =
     let told = c.in-Ok.ensures in
     λ formed. (
       c.args.lister,
-      judged-fits c.args.lister c.args.block _ told.too_many_steps told.too_many_blocks
+      limited_in_blocks-judged c.args.lister c.args.block _ told.too_many_steps told.too_many_blocks
           c.in-Ok.listing refl,
       told.listing formed,
     )
@@ -21,4 +21,4 @@ returns-in-Err c =
     λ formed.
     rw c.of_judging.ensures
     (GivesListing-from_AnswerGives (judging_refusal c.in-Err.why) (limited_in_blocks c.args.block c.args.lister)
-    (judged-refused c.args.lister c.args.block _ told.too_many_steps told.too_many_blocks c.in-Err.why refl))
+    (limited_in_blocks-refused c.args.lister c.args.block _ told.too_many_steps told.too_many_blocks c.in-Err.why refl))

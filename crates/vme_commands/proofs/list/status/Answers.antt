@@ -2,7 +2,7 @@ use Rattle.std.proofs.Common.{sym, ap, ◌∙◌, ◌-◌, List, length}
 use Rattle.std.specs.Prelude.{Option, slice_get}
 use Rattle.std.specs.Option.{option_copied}
 use Rattle.vme_listing.specs.declared.row.Row.{Row}
-use Rattle.vme_commands.proofs.ListLemmas.{last_of, status_of_last}
+use Rattle.vme_commands.proofs.ListLemmas.{last_or-slice_get, status_of_last}
 use Rattle.vme_commands.proofs.list.status.Goals as goal
 
 abbrev last_in : List Row → Option Row
@@ -11,10 +11,11 @@ last_in rows = slice_get rows (length rows - 1)
 pub returns-in-Some : goal.returns-in-Some
 returns-in-Some c =
     c.row_code.ensures
-    ∙ ap status_of_last (sym (last_of c.args.listing.now.rows ∙ ap last_in (sym c.rows.ensures)
+    ∙ ap status_of_last (sym (last_or-slice_get c.args.listing.now.rows ∙ ap last_in (sym c.rows.ensures)
     ∙ sym c.last.ensures.value ∙ ap option_copied c.in-Some.is))
 
 pub returns-in-None : goal.returns-in-None
 returns-in-None c =
-    ap status_of_last (sym (last_of c.args.listing.now.rows ∙ ap last_in (sym c.rows.ensures) ∙ sym c.last.ensures.value
+    ap status_of_last (sym (last_or-slice_get c.args.listing.now.rows ∙ ap last_in (sym c.rows.ensures)
+    ∙ sym c.last.ensures.value
     ∙ ap option_copied c.in-None.is))

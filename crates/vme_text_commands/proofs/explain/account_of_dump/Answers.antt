@@ -1,6 +1,6 @@
 use Rattle.std.proofs.Common.{subst, sym}
 use Rattle.vme_text_commands.specs.ExplainedDumps.{GivesAccount}
-use Rattle.vme_commands.proofs.SettledLemmas.{dump-unsettled}
+use Rattle.vme_commands.proofs.SettledLemmas.{capture_by-skew_zero}
 use Rattle.vme_text_commands.proofs.explain.account_of_dump.Goals as goal
 
 pub returns-then-skew-eq0 : goal.returns-then-skew-eq0
@@ -9,5 +9,5 @@ returns-then-skew-eq0 g c =
       bytes,
       reading,
       subst (GivesAccount c.unsettled_account.result.0)
-          (sym (dump-unsettled c.args.skew c.if-skew-eq0.true c.args.bound.now bytes)) given,
+          (sym (capture_by-skew_zero c.args.skew c.if-skew-eq0.true c.args.bound.now bytes)) given,
     )

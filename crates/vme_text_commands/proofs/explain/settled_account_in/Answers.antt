@@ -6,7 +6,7 @@ use Rattle.vme_stream.specs.declared.refusal.Refusal.{Refusal}
 use Rattle.vme_trace.specs.Trace.{Trace}
 use Rattle.vme_trace.specs.WellFormed.{capture_limit}
 use Rattle.vme_text_commands.proofs.ExplainLemmas.{account-settled}
-use Rattle.vme_commands.proofs.SettledLemmas.{settled-long}
+use Rattle.vme_commands.proofs.SettledLemmas.{settled_or-too_long}
 use Rattle.vme_text_commands.proofs.explain.settled_account_in.Goals as goal
 
 pub returns-then-is_too_long : goal.returns-then-is_too_long
@@ -15,7 +15,7 @@ returns-then-is_too_long g c =
     sym c.is_too_long.ensures ∙ c.if-is_too_long.true in
     λ formed. rw c.of_judging.ensures
     (ap (λ (r : Result Trace Refusal). r >>= verdict_in_blocks 16384)
-    (settled-long g.K.GhostSkew.skew c.args.settling long))
+    (settled_or-too_long g.K.GhostSkew.skew c.args.settling long))
 
 pub returns-in-Ok : goal.returns-in-Ok
 returns-in-Ok g c =

@@ -1,15 +1,17 @@
 use Rattle.vme_bind.specs.TextPieces.{text_reached}
-use Rattle.vme_text_workers.proofs.ReadLemmas.{both-lead, both-lines}
+use Rattle.vme_text_workers.proofs.ReadLemmas.{TextContinuesAs-both, line_behind-both}
 use Rattle.vme_text_workers.proofs.by_workers.read_up_to_last_time.Goals as goal
 
 pub returns-clause-line : goal.returns-clause-line
 returns-clause-line g c =
-    both-lines c.args.piece.now c.in-Some.front.now c.in-Some.behind.now c.in-Some.ensures (text_reached c.args.text)
+    line_behind-both c.args.piece.now c.in-Some.front.now c.in-Some.behind.now c.in-Some.ensures
+    (text_reached c.args.text)
     (text_reached c.in_ok-text.text) c.in_ok-text.ensures.line c.in_ok-text.ensures.rest
     text_reached c.read-2.result c.read-2.ensures.line
 
 pub returns-clause-rest : goal.returns-clause-rest
 returns-clause-rest g c =
-    both-lead c.args.piece.now c.in-Some.front.now c.in-Some.behind.now c.in-Some.ensures (text_reached c.args.text)
+    TextContinuesAs-both c.args.piece.now c.in-Some.front.now c.in-Some.behind.now c.in-Some.ensures
+    (text_reached c.args.text)
     (text_reached c.in_ok-text.text) c.in_ok-text.ensures.line c.in_ok-text.ensures.rest
     text_reached c.read-2.result c.read-2.ensures.rest

@@ -5,8 +5,9 @@ use Rattle.vme_bind.specs.Recording.{step_in}
 use Rattle.vme_bind.specs.SpeculativeReading.{SpeculativeReached, with_recording}
 use Rattle.vme_text_workers.specs.SpeculativeChunks.{AreAhead, AreTaken}
 use Rattle.vme_text_workers.specs.declared.cut.DumpPiece.{DumpPiece}
-use Rattle.vme_text_workers.proofs.JoinLemmas.{joined-taken, left-more, next-ahead, next-judged, rest-ahead}
-use Rattle.vme_text_workers.proofs.JoinLemmas.{same-nets, steps-follow, taken-none}
+use Rattle.vme_text_workers.proofs.JoinLemmas.{AreTaken-joined, drop-next_piece, IsJudgedAhead-IsNextOf}
+use Rattle.vme_text_workers.proofs.JoinLemmas.{IsJudgedAhead-either, AreAhead-rest}
+use Rattle.vme_text_workers.proofs.JoinLemmas.{AreAhead-same_nets, opening-after_passed, AreTaken-none}
 use Rattle.vme_text_workers.proofs.joining.join_in_order.Goals as goal
 
 abbrev no_piece : DumpPiece
@@ -25,7 +26,7 @@ loop-ahead-init g c = record {
       subst (AreAhead c.args.speculative.body.nets c.args.speculative.line_bits c.args.pieces.now)
       (sym c.into_iter-again.ensures.rest)
       c.requires.again;
-  taken = taken-none c.args.pieces.now (with_recording c.args.stream_judge c.args.speculative);
+  taken = AreTaken-none c.args.pieces.now (with_recording c.args.stream_judge c.args.speculative);
 }
 
 pub pass-requires : goal.pass-requires
@@ -35,11 +36,11 @@ pass-requires g c =
     let w : SpeculativeReached = c.loop-ahead.speculative in
     let v : SpeculativeReached = c.in_ok-behind.behind in
     let chunks : Trace = c.in-Some-fitting.chunks in
-    let read = next-judged w.body.nets w.line_bits (drop count pieces) (drop (count + 1) pieces)
+    let read = IsJudgedAhead-either w.body.nets w.line_bits (drop count pieces) (drop (count + 1) pieces)
     (get_or pieces count no_piece) (into_iter_items c.loop-ahead.ahead-iterator) (into_iter_items c.next.new.self)
     (into_iter_items c.loop-ahead.again) (into_iter_items c.next_of-anew.new.pieces) c.in-Some.ahead
     c.next_of-anew.result (c.in-Some-fitting.ahead, chunks) c.loop-ahead.invariant.ahead c.loop-ahead.invariant.again
-    (left-more pieces count no_piece (omega arith)) c.in-Some.ensures.steps.0 c.next_of-anew.ensures
+    (drop-next_piece pieces count no_piece (omega arith)) c.in-Some.ensures.steps.0 c.next_of-anew.ensures
     c.in-Some-fitting.ensures.same in
     let stream_judge : Trace = c.leaves.new.self in
     let same : stream_judge ≡ c.loop-ahead.stream_judge = c.in_ok-leaves.ensures.same in
@@ -47,7 +48,7 @@ pass-requires g c =
     let leaves : levels_after stream_judge.opening stream_judge.steps ≡ w.body.progress.accumulator.shown =
     ap (λ (t : Trace). levels_after t.opening t.steps) same ∙ c.in_ok-leaves.ensures.leaves c.if-not-branch.false
     ∙ c.shown.ensures in
-    steps-follow bytes chunks c.in-Some-fitting.ahead.from w v (step_in c.in_ok-behind.step)
+    opening-after_passed bytes chunks c.in-Some-fitting.ahead.from w v (step_in c.in_ok-behind.step)
     (c.in_ok-behind.ensures bytes chunks read.read)
     stream_judge c.in_ok-stream_judge.stream_judge c.in_ok-stream_judge.ensures read.opening leaves
 
@@ -58,17 +59,17 @@ loop-ahead-preserved g c =
     let w : SpeculativeReached = c.loop-ahead.speculative in
     let v : SpeculativeReached = c.in_ok-behind.behind in
     let chunks : Trace = c.in-Some-fitting.chunks in
-    let read = next-judged w.body.nets w.line_bits (drop count pieces) (drop (count + 1) pieces)
+    let read = IsJudgedAhead-either w.body.nets w.line_bits (drop count pieces) (drop (count + 1) pieces)
     (get_or pieces count no_piece) (into_iter_items c.loop-ahead.ahead-iterator) (into_iter_items c.next.new.self)
     (into_iter_items c.loop-ahead.again) (into_iter_items c.next_of-anew.new.pieces) c.in-Some.ahead
     c.next_of-anew.result (c.in-Some-fitting.ahead, chunks) c.loop-ahead.invariant.ahead c.loop-ahead.invariant.again
-    (left-more pieces count no_piece (omega arith)) c.in-Some.ensures.steps.0 c.next_of-anew.ensures
+    (drop-next_piece pieces count no_piece (omega arith)) c.in-Some.ensures.steps.0 c.next_of-anew.ensures
     c.in-Some-fitting.ensures.same in
     let stream_judge : Trace = c.leaves.new.self in
     let same : stream_judge ≡ c.loop-ahead.stream_judge = c.in_ok-leaves.ensures.same in
     let piece = get_or pieces count no_piece in
     let left = drop (count + 1) pieces in
-    let at : drop count pieces ≡ piece ∷ left = left-more pieces count no_piece (omega arith) in
+    let at : drop count pieces ≡ piece ∷ left = drop-next_piece pieces count no_piece (omega arith) in
     let one = c.in_ok-behind.ensures piece.bytes.now chunks read.read in
     let first = with_recording c.args.stream_judge c.args.speculative in
     let so : AreTaken pieces first (with_recording stream_judge w) (piece ∷ left) =
@@ -79,17 +80,19 @@ loop-ahead-preserved g c =
       finite = tt;
       count = omega arith;
       ahead =
-          rest-ahead w.body.nets w.line_bits (drop count pieces) left piece
+          AreAhead-rest w.body.nets w.line_bits (drop count pieces) left piece
           (into_iter_items c.loop-ahead.ahead-iterator) (into_iter_items c.next.new.self) c.in-Some.ahead
           c.loop-ahead.invariant.ahead at c.in-Some.ensures.steps.0 v one.nets one.line_bits;
       again =
-          same-nets w.body.nets v.body.nets w.line_bits v.line_bits left (into_iter_items c.next_of-anew.new.pieces)
+          AreAhead-same_nets w.body.nets v.body.nets w.line_bits v.line_bits left
+          (into_iter_items c.next_of-anew.new.pieces)
           one.nets one.line_bits
-          (next-ahead w.body.nets w.line_bits (drop count pieces) left piece (into_iter_items c.loop-ahead.again)
+          (IsJudgedAhead-IsNextOf w.body.nets w.line_bits (drop count pieces) left piece
+          (into_iter_items c.loop-ahead.again)
           (into_iter_items c.next_of-anew.new.pieces) c.next_of-anew.result
           c.loop-ahead.invariant.again at c.next_of-anew.ensures).1;
       taken =
-          joined-taken piece.bytes.now chunks c.in-Some-fitting.ahead.from w v
+          AreTaken-joined piece.bytes.now chunks c.in-Some-fitting.ahead.from w v
           (step_in c.in_ok-behind.step) one stream_judge
           c.in_ok-stream_judge.stream_judge c.in_ok-stream_judge.ensures
           pieces left piece first c.in_ok-stream_judge-2.stream_judge refl so c.in_ok-stream_judge-2.ensures;

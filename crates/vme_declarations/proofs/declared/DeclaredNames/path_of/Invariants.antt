@@ -1,7 +1,7 @@
 use Rattle.std.proofs.Common.{◌≡◌, [], take}
 use Rattle.std.specs.List.{fold}
-use Rattle.vme_declarations.proofs.PathLemmas.{inside}
+use Rattle.vme_declarations.proofs.PathLemmas.{with_name_at}
 use Rattle.vme_declarations.proofs.declared.DeclaredNames.path_of.Given as goal
 
 abbrev pub invariant-loop-at : goal.invariant-loop-at
-invariant-loop-at l = l.path.items ≡ fold (inside l.self) [] (take l.at-index l.at-items)
+invariant-loop-at l = l.path.items ≡ fold (with_name_at l.self) [] (take l.at-index l.at-items)

@@ -1,6 +1,6 @@
 use Rattle.std.proofs.Common.{◌∙◌, sym, take}
 use Rattle.vme_declarations.specs.SurveyStages.{body_reached}
-use Rattle.vme_declarations.proofs.SurveyLemmas.{fails-is, read-fails, read-on}
+use Rattle.vme_declarations.proofs.SurveyLemmas.{ReadFails-not_memory, body_ahead-piece_fails, body_ahead-read}
 use Rattle.vme_declarations.proofs.survey.DumpSurvey.take.Goals as goal
 
 pub returns-in-Ok-Some-clause-taken : goal.returns-in-Ok-Some-clause-taken
@@ -14,7 +14,7 @@ returns-in-Ok-None-clause-taken c = rw c.in-Definitions.is (λ rest. sym (c.new.
 pub returns-in_ok-failed-in-Err-clause-taken : goal.returns-in_ok-failed-in-Err-clause-taken
 returns-in_ok-failed-in-Err-clause-taken c =
     rw c.in-Definitions.is
-    (λ rest. fails-is c.in-Err.fault _ c.in_ok-failed-in-Err.ensures.not_want (c.in-Err.ensures.err rest)
+    (λ rest. ReadFails-not_memory c.in-Err.fault _ c.in_ok-failed-in-Err.ensures.not_want (c.in-Err.ensures.err rest)
     ∙ sym (c.in_ok-failed-in-Err.ensures.ahead rest))
 
 pub returns-in-Ok-clause-taken : goal.returns-in-Ok-clause-taken
@@ -24,7 +24,8 @@ returns-in-Ok-clause-taken c =
     let piece = take c.whole_tokens-count.result c.args.bytes.now in
     rw c.in-Body.is
     (λ rest.
-    read-on body.front.items next.front.items (body_reached body) (body_reached next) piece c.in-Ok.ensures.front
+    body_ahead-read body.front.items next.front.items (body_reached body)
+    (body_reached next) piece c.in-Ok.ensures.front
     c.in-Ok.ensures.line c.whole_tokens-count.ensures.apart c.in-Ok.ensures.rest rest ∙ sym (c.at-in-Ok.ensures rest))
 
 pub returns-in_ok-failed-in-Err-read-clause-taken : goal.returns-in_ok-failed-in-Err-read-clause-taken
@@ -33,8 +34,9 @@ returns-in_ok-failed-in-Err-read-clause-taken c =
     let piece = take c.whole_tokens-count.result c.args.bytes.now in
     rw c.in-Body.is
     (λ rest.
-    fails-is c.in-Err-read.fault _ c.in_ok-failed-in-Err-read.ensures.not_want
-    (read-fails body.front.items (body_reached body) piece c.in-Err-read.fault c.whole_tokens-count.ensures.apart
+    ReadFails-not_memory c.in-Err-read.fault _ c.in_ok-failed-in-Err-read.ensures.not_want
+    (body_ahead-piece_fails body.front.items (body_reached body) piece c.in-Err-read.fault
+    c.whole_tokens-count.ensures.apart
     c.in-Err-read.ensures.rest rest)
     ∙ sym (c.in_ok-failed-in-Err-read.ensures.ahead rest))
 

@@ -2,7 +2,8 @@ use Rattle.std.proofs.Common.{◌∙◌, ℕ, ap, false}
 use Rattle.vcd_read.specs.Reached.{reached}
 use Rattle.vcd_read.specs.BodyFold.{BodyFold}
 use Rattle.vme_declarations.specs.declared.levels_seen.LevelsSeen.{LevelsSeen}
-use Rattle.vme_declarations.proofs.SurveyLemmas.{IsBegun, begun-fails, begun-read, front-fails}
+use Rattle.vme_declarations.proofs.SurveyLemmas.{IsBegun, survey_of-begun_fails, survey_of-begun_read}
+use Rattle.vme_declarations.proofs.SurveyLemmas.{survey_of-front_fails}
 use Rattle.vme_declarations.proofs.survey.SurveyedBody.begin.Goals as goal
 
 abbrev seen : LevelsSeen → ℕ
@@ -28,7 +29,8 @@ returns-in_ok-from_slice-in-Ok-clause-begun c =
       line = first.line ∙ line;
     } in
     rw c.in_ok-from_slice-in-Ok.ensures.items
-    (begun-read front left c.in-Ok-Some.head.head (reached seen c.before_body-pieces.result.0) begun c.requires
+    (survey_of-begun_read front left c.in-Ok-Some.head.head (reached seen c.before_body-pieces.result.0) begun
+    c.requires
     (reached seen c.in-Ok.pieces) c.in-Ok.ensures.line c.in-Ok.ensures.rest)
 
 pub returns-in-Err-read-clause-err : goal.returns-in-Err-read-clause-err
@@ -47,8 +49,9 @@ returns-in-Err-read-clause-err c =
       body = first.body;
       line = first.line ∙ line;
     } in
-    begun-fails front left c.in-Ok-Some.head.head (reached seen c.before_body-pieces.result.0) begun c.requires
+    survey_of-begun_fails front left c.in-Ok-Some.head.head (reached seen c.before_body-pieces.result.0) begun
+    c.requires
     c.in-Err-read.fault c.in-Err-read.ensures.rest
 
 pub returns-in-Err-clause-err : goal.returns-in-Err-clause-err
-returns-in-Err-clause-err c = front-fails c.args.front.now c.in-Err.fault c.requires c.in-Err.ensures.header
+returns-in-Err-clause-err c = survey_of-front_fails c.args.front.now c.in-Err.fault c.requires c.in-Err.ensures.header

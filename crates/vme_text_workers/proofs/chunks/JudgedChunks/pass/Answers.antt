@@ -1,7 +1,7 @@
 use Rattle.std.proofs.Common.{◌≡◌, ◌∷◌, ◌∙◌, List, ap, arith, length}
 use Rattle.std.specs.Vec.Iter.{into_iter_items}
 use Rattle.vme_trace.specs.Trace.{Trace}
-use Rattle.vme_text_workers.proofs.ChunkLemmas.{rest-follow, chunk-passed}
+use Rattle.vme_text_workers.proofs.ChunkLemmas.{Follow-rest, with_steps-first}
 use Rattle.vme_text_workers.proofs.chunks.JudgedChunks.pass.Goals as goal
 
 pub loop-chunk-preserved : goal.loop-chunk-preserved
@@ -21,6 +21,6 @@ loop-chunk-preserved g c =
       next = tt;
       finite = tt;
       counted = omega (arith, counted, less, long);
-      follow = rest-follow before after chunks rest chunk at inv.follow c.in_ok-pass.ensures;
-      passed = chunk-passed before after chunks rest chunk at inv.follow c.in_ok-pass.ensures ∙ inv.passed;
+      follow = Follow-rest before after chunks rest chunk at inv.follow c.in_ok-pass.ensures;
+      passed = with_steps-first before after chunks rest chunk at inv.follow c.in_ok-pass.ensures ∙ inv.passed;
     }
