@@ -181,8 +181,8 @@ AreLines-below slots bound_groups net zero le = All-nil (λ (line_bit : LineBit)
 AreLines-below slots bound_groups net (suc n) le =
     let so_far : AreLines slots (line_bits_below slots bound_groups net n) = AreLines-below slots bound_groups net n
     (omega (arith, le)) in
-    let appended : n + 1 ≡ suc n = omega arith in
-    subst (λ (m : ℕ). AreLines slots (line_bits_below slots bound_groups net m)) appended
+    let one_more : n + 1 ≡ suc n = omega arith in
+    subst (λ (m : ℕ). AreLines slots (line_bits_below slots bound_groups net m)) one_more
     (elim (cases_Bool (is_on net (line_source slots bound_groups n))) [
       | inl on ↦ subst (AreLines slots) (sym (line_bits_below-on_net slots bound_groups net n on))
           (All-append (λ (line_bit : LineBit). IsLine slots line_bit.line) (line_bits_below slots bound_groups net n)

@@ -63,6 +63,7 @@ abbrev refused : BindFault → Result (List Instant) VcdFault → Result Trace C
 refused binding_fault r = or_dump r >>= λ instants. Err (Binding binding_fault)
 
 module _ (slots : ℕ) (bound_groups : List BoundGroup) (h : Headed) where
+  -- what the builder has made of the first instants of the body, with the values of the nets since
   abbrev pub IsMadeOf : List Instant → CurrentValues → BuilderState → Type 0
   IsMadeOf = Makes slots bound_groups (length h.nets) (instants_in (instants_from h.nets h.body))
 

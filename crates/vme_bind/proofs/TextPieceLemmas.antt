@@ -1,5 +1,5 @@
--- The recording of a dump that is read piece by piece: which fault is the result, and that the result begins as that of
--- the body.
+-- Which result a dump has that is read piece by piece: a fault of the dump comes first, then one of the binding, and
+-- else it is the recording.
 use Rattle.std.proofs.Common.{◌≡◌, ℕ, false, List, Option, Some, None, Result, Ok, Err, refl, sym, ap, subst, ◌∙◌}
 use Rattle.vme_trace.specs.Trace.{Trace}
 use Rattle.vcd_read.specs.Body.{ready}

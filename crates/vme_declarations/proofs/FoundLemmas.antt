@@ -5,10 +5,10 @@ use Rattle.vme_declarations.specs.Found.{groups_below, has_net, slots_to, with_g
 use Rattle.vme_declarations.specs.declared.found_lines.FoundLines.{FoundLines}
 
 -- the groups of the lines below `line + 1`
-pub groups_below-next : (found : FoundLines) (line : ℕ) → groups_below found (line + 1)
+pub groups_below_next : (found : FoundLines) (line : ℕ) → groups_below found (line + 1)
     ≡ with_group found line (groups_below found line)
 unfolding groups_below
-groups_below-next found line = ap (groups_below found) (add-one line)
+groups_below_next found line = ap (groups_below found) (add-one line)
 
 -- the slots up to the place `before + 1`
 slots_to-next : (found : FoundLines) (before : ℕ) → slots_to found (before + 1)

@@ -86,7 +86,7 @@ impl FoundLines {
     }
 
     /// The groups of which a line was found.
-    #[tactic(auto, using(crate::proofs::FoundLemmas::groups_below-next), unfolding(crate::specs::Found::groups_below))]
+    #[tactic(auto, using(crate::proofs::FoundLemmas::groups_below_next), unfolding(crate::specs::Found::groups_below))]
     pub fn groups(&self) -> Groups
         ensures { result ≡ groups self.now }
     {

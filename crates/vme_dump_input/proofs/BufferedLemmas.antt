@@ -145,7 +145,7 @@ module _ (old now : Reading) (done : List ℕ) (input : InputSoFar) (h : IsReadT
       in_time-not_whole true e n h = absurd (cc)
       in_time-not_whole false e n h = absurd (cc)
 
-      -- more bytes are read, `full` of the reads so far full
+      -- more bytes are read, where `full` of the reads so far were full
       IsReadTo-more : input.read + length more ≤ input.limit + input.room → (full : ℕ)
           → old.short_reads + (input.reads + 1) ≡ later.short_reads + full
           → full * input.room ≤ input.read + length more

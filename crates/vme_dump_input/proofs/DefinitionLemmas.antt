@@ -59,7 +59,7 @@ module _ (binding : BoundLines) (old now : Reading) (input : InputSoFar) (h : Is
       → IsAtDefinitions binding old now input r n
   IsAtDefinitions-begun begins = record { read = h; within = within; body = begins }
 
-  -- the same where nothing follows
+  -- the definitions are the first `n` held bytes, where the reading is that of `r` for the others, and nothing follows
   pub IsAtDefinitions-whole : input.is_whole ≡ true
       → reading_of_text binding input.held ≡ Ok (whole_reading r (drop n input.held))
       → IsAtDefinitions binding old now input r n

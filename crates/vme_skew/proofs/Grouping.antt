@@ -19,8 +19,8 @@ use Rattle.vme_skew.specs.Group.{GroupLevels, KeepsTouchedLines, ListsTouchedLin
 use Rattle.vme_skew.proofs.TouchedLines.{ListsTouchedLines-set, ListsTouchedLines-same}
 
 -- a time is more than the skew after the beginning: as the code tests it, and as it is defined
-pub nat_lt-over_skew : (start skew time : ℕ) → nat_lt skew (time - start) ≡ nat_lt (start + skew) time
-nat_lt-over_skew start skew time = grind (arith, nat_tests)
+pub is_over_skew : (start skew time : ℕ) → nat_lt skew (time - start) ≡ nat_lt (start + skew) time
+is_over_skew start skew time = grind (arith, nat_tests)
 
 -- no line is marked
 pub get_or-unmarked : (n l : ℕ) → get_or (replicate n false) l false ≡ false

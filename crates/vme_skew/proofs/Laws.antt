@@ -282,14 +282,15 @@ step_to-zero_skew : (t : Trace) → IsRecording t → (i : ℕ) (step : Step) �
     → step_to 0 t (suc i) ≡ step ∷ []
 unfolding levels_at
 step_to-zero_skew t is i step lt found =
-    let stand = MayFollowParts-step t is.formed i step lt found in
+    let may_follow_parts = MayFollowParts-step t is.formed i step lt found in
     let one_less : suc i - 1 ≡ i = omega arith in
     ap (λ (start : ℕ). step_between (time_at t start) (levels_at t (start - 1)) (levels_at t (suc i)))
     (group_start-zero_skew t is.formed (suc i) (omega (arith, lt)))
     ∙ ap (λ (j : ℕ). step_between (time_at t (suc i)) (levels_at t j) (levels_at t (suc i))) one_less
     ∙ ap (λ (o : Option Step). step_between (time_of o) (levels_at t i) (after (levels_at t i) o)) found
-    ∙ step_between-changed step.time (levels_at t i) step.changes (length-levels_at t i ∙ is.whole) stand.changes
-    stand.some
+    ∙ step_between-changed step.time (levels_at t i) step.changes (length-levels_at t i ∙ is.whole)
+    may_follow_parts.changes
+    may_follow_parts.some
 
 -- with a skew of 0 the groups up to instant n make the first n steps
 groups-zero_skew : (t : Trace) → IsRecording t → (n : ℕ) → n ≤ length t.steps → steps_before 0 t n ++ step_to 0 t n

@@ -54,13 +54,13 @@ IsPassedOn-taken s recorded h step out = record {
     late : malformed_step (with_step s.given step) ≡ None → nat_le s.reached step.time ≡ true
     late formed =
         let n : ℕ = length s.given.steps in
-        let stands = MayFollowParts-step (with_step s.given step) formed n step
+        let may_follow_parts = MayFollowParts-step (with_step s.given step) formed n step
         (omega (arith, length-append_one s.given.steps step))
         (slice_get-last s.given.steps step) in
         le-first_or_later n (time_at (with_step s.given step) n) s.reached step.time
         (time_at-opening (with_step s.given step) n)
         (h.reached (malformed_step-without_last s.given step formed)
-        ∙ sym (time_at-with_step s.given step n (omega arith))) stands.later
+        ∙ sym (time_at-with_step s.given step n (omega arith))) may_follow_parts.later
 
     in_order : malformed_step (with_step s.given step) ≡ None → (s.in_order && nat_le s.reached step.time) ≡ true
     in_order formed = rw (h.in_order (malformed_step-without_last s.given step formed), late formed) refl

@@ -120,7 +120,7 @@ impl StepGroup {
     }
 
     /// Whether a step at `time` comes more than the skew after the beginning of the group.
-    #[tactic(auto, using(crate::proofs::Grouping::nat_lt-over_skew))]
+    #[tactic(auto, using(crate::proofs::Grouping::is_over_skew))]
     pub fn is_over(&self, time: u64, skew: u64) -> bool
         ensures { result ≡ nat_lt (self.entry.now.start + skew) time }
     {

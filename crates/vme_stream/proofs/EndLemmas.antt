@@ -40,7 +40,7 @@ given_up-not_in_time k n reads made least short all_short long is many (inl few)
 given_up-not_in_time k n reads made least short all_short long is many (inr (inl fewer)) = omega arith
 given_up-not_in_time k n reads made least short all_short long is many (inr (inr fewer_short)) = omega arith
 
--- where the bytes of a source are known, what holds of their least number holds of them
+-- if a source is known to have `bytes`, and to have at least n bytes, there are at least n of `bytes`
 length-told : (told : Option (List ℕ)) (n : ℕ) (bytes : List ℕ) → told ≡ Some bytes → IfSome told (λ t. n ≤ length t)
     → n ≤ length bytes
 length-told None n bytes is least = absurd (cc is)
@@ -48,7 +48,7 @@ length-told (Some x) n bytes is least =
     let same : x ≡ bytes = cc is in
     subst (λ (l : List ℕ). n ≤ length l) same least
 
--- where the bytes of a source are known, those that were read are the same
+-- if a source is known to have `bytes`, the bytes that are the known ones are `bytes`
 told-same : (told : Option (List ℕ)) (bytes x : List ℕ) → told ≡ Some bytes → IfSome told (λ t. x ≡ t) → x ≡ bytes
 told-same None bytes x is same = absurd (cc is)
 told-same (Some y) bytes x is same =

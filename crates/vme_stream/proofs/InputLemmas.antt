@@ -124,7 +124,7 @@ IsReading-many_reads_buffer old new bytes filled reads read fits counted roomy m
 lt-plus_most_reads : (n : ℕ) → n < n + most_reads
 lt-plus_most_reads n = omega arith
 
--- a source has some bytes, which are those that are known, if they are
+-- there are bytes that are those of the source, if these are known
 told-some : (told : Option (List ℕ)) → (bytes : List ℕ) × IfSome told (λ t. bytes ≡ t)
 told-some None = ([], tt)
 told-some (Some x) = (x, refl)
