@@ -94,7 +94,7 @@ source_of-all count (Named named) vs = ap (λ (r : Result BitRange BindFaultKind
 abbrev seen_all : List Variable → Searched → Searched
 seen_all vs s = record s { found = found_all s.assignment.source s.found vs }
 
--- what is found of all assignments, after all variables
+-- visiting variables one after the other finds for each assignment what is found of it after all of them
 with_variable-all : (vs : List Variable) (seen : List Searched) → fold with_variable seen vs ≡ map (seen_all vs) seen
 with_variable-all [] seen = sym (map-id seen)
 with_variable-all (v ∷ vs) seen = with_variable-all vs (map (with_candidate v) seen)
@@ -124,7 +124,8 @@ bound_groups_of-bound_groups_in vs as' seen e = ap bound_groups_of (e ∙ with_v
 
 module _ (named : VariableSelector) (scopes : List (List ℕ)) (net size : ℕ) (r : Reference) (some : 0 < length r.name)
   where
-    -- a variable in the open scopes is a candidate exactly if the path begins with all of them and ends with its name
+    -- the candidate of a variable in the open scopes: the bits that are selected of it, if the path begins with all of
+    -- the scopes and its rest is the variable's name
     candidate-in_scopes : candidate named (variable_in scopes net size r)
         ≡ cond (eqb (scopes_matched named.path scopes) (length scopes)
         && bytes_eq (drop (length (path_in scopes)) named.path) r.name) (bits_meant named.selection net size r.index)

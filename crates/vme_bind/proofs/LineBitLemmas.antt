@@ -144,13 +144,13 @@ pub AreBelow-not_added : (line_bits : NetLines) (slots : ℕ) (bound_groups : Li
 AreBelow-not_added line_bits slots bound_groups n none h net =
     h net ∙ sym (line_bits_below-not_on_net slots bound_groups net n (none net))
 
--- a line without a source has no net
+-- a line without a source is on no net
 pub is_on-no_source : (slots : ℕ) (bound_groups : List BoundGroup) (n : ℕ) → None ≡ line_source slots bound_groups n
     → (net : ℕ)
     → is_on net (line_source slots bound_groups n) ≡ false
 is_on-no_source slots bound_groups n e net = ap (is_on net) (sym e)
 
--- where a source is a bit of no net, so is the line with that source
+-- a line whose source is a bit of no net is on no net
 pub is_on-source : (slots : ℕ) (bound_groups : List BoundGroup) (n : ℕ) (source : LineSource) → Some source
     ≡ line_source slots bound_groups n → ((net : ℕ) → is_on net (Some source) ≡ false) → (net : ℕ)
     → is_on net (line_source slots bound_groups n) ≡ false

@@ -121,7 +121,7 @@ count_by-feed_at rest i first here =
           is_feed (bytes_after rest i),
     )
 
--- a text without a line feed has as many as nothing
+-- a text without a line feed has as many of them as what is after its end, which is nothing
 pub count_by-feed_nowhere : (rest : List ℕ) → Nowhere (Passes is_feed rest) 0 (length rest) → count_by is_feed rest
     ≡ count_by is_feed (at_end rest)
 count_by-feed_nowhere rest none =

@@ -120,7 +120,7 @@ IsReading-many_reads_buffer old new bytes filled reads read fits counted roomy m
     reads_are
     (omega (arith, roomy.few)) failures
 
--- no reads at all are fewer than `most_reads`
+-- a number is less than itself plus `most_reads`
 lt-plus_most_reads : (n : ℕ) → n < n + most_reads
 lt-plus_most_reads n = omega arith
 
