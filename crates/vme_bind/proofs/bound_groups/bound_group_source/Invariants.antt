@@ -1,3 +1,4 @@
+-- No bound group so far holds the line.
 use Rattle.std.proofs.Common.{◌≡◌, drop}
 use Rattle.vme_bind.specs.BoundGroups.{bound_group_source}
 use Rattle.vme_bind.proofs.bound_groups.bound_group_source.Given as goal

@@ -1,3 +1,4 @@
+-- The lines so far have their levels at the opening.
 use Rattle.vme_bind.proofs.OpeningLemmas.{IsOpened}
 use Rattle.vme_bind.proofs.capture.opening_of.Given as goal
 

@@ -1,3 +1,4 @@
+-- The instants so far are recorded.
 use Rattle.std.proofs.Common.{◌≡◌}
 use Rattle.vme_bind.specs.Capture.{recording}
 use Rattle.vme_bind.proofs.OpeningLemmas.{shown_after}

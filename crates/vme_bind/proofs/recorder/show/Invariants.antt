@@ -1,3 +1,4 @@
+-- The lines so far are shown, and there is room for the changes of the others.
 use Rattle.std.proofs.Common.{◌+◌, ◌≤◌, length}
 use Rattle.vme_bind.proofs.RecorderLemmas.{AreShown}
 use Rattle.vme_bind.proofs.recorder.show.Given as goal

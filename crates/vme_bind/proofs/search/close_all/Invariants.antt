@@ -1,3 +1,4 @@
+-- The searches so far have left the scope that closes, and the rest are as before.
 use Rattle.std.proofs.Common.{◌≡◌, map, take, drop}
 use Rattle.vme_bind.specs.PathSearch.{closed}
 use Rattle.vme_bind.proofs.search.close_all.Given as goal

@@ -1,3 +1,4 @@
+-- The searches so far have entered the scope that opens, and the rest are as before.
 use Rattle.std.proofs.Common.{◌≡◌, map, take, drop}
 use Rattle.vme_bind.specs.PathSearch.{opened}
 use Rattle.vme_bind.proofs.search.open_all.Given as goal

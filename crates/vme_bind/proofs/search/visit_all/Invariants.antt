@@ -1,3 +1,4 @@
+-- The searches so far have visited the variable, and the rest are as before.
 use Rattle.std.proofs.Common.{◌≡◌, map, take, drop}
 use Rattle.std.specs.List.{All}
 use Rattle.vcd_read.specs.Header.{variable_in}

@@ -1,3 +1,4 @@
+-- The bytes so far are digits.
 use Rattle.std.proofs.Common.{◌≡◌, drop}
 use Rattle.std.specs.Str.{all_ascii_digits}
 use Rattle.vme_bind.proofs.selection.is_number.Given as goal

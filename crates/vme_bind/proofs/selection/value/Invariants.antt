@@ -1,3 +1,4 @@
+-- The number so far is that of the digits so far.
 use Rattle.std.proofs.Common.{◌≡◌, take}
 use Rattle.vcd_read.specs.Numbers.{number}
 use Rattle.vme_bind.proofs.selection.value.Given as goal

@@ -1,3 +1,4 @@
+-- The texts so far are those of the allowances.
 use Rattle.std.proofs.Common.{◌≡◌, map, string_bytes, take}
 use Rattle.vme_commands.specs.AllowanceTexts.{allowance_text}
 use Rattle.vme_commands.proofs.allowance.allowances_of.Given as goal

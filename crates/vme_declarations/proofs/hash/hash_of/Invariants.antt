@@ -1,3 +1,4 @@
+-- The hash so far is that of the bytes so far: with the rest it gives the hash of all.
 use Rattle.std.proofs.Common.{◌≡◌, drop}
 use Rattle.std.specs.List.{fold}
 use Rattle.vme_declarations.specs.Hashes.{hash_of, hash_of_number}

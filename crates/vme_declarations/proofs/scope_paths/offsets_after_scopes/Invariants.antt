@@ -1,3 +1,4 @@
+-- The scopes so far have their offsets.
 use Rattle.std.proofs.Common.{◌≡◌, [], take}
 use Rattle.std.specs.List.{fold}
 use Rattle.vme_declarations.specs.Paths.{with_offset}

@@ -1,3 +1,4 @@
+-- The touched lines so far are shown, and there is room for the changes of the others.
 use Rattle.std.proofs.Common.{◌+◌, ◌≤◌, length}
 use Rattle.vme_skew.proofs.TouchedLines.{AreShown}
 use Rattle.vme_skew.proofs.group.show.Given as goal

@@ -1,3 +1,4 @@
+-- The pieces so far are cut off the text at token boundaries.
 use Rattle.vme_text_workers.proofs.CutLemmas.{IsCutSoFar}
 use Rattle.vme_text_workers.proofs.cut.cut.Given as goal
 

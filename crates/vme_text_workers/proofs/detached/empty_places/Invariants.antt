@@ -1,3 +1,4 @@
+-- The places so far are empty.
 use Rattle.std.proofs.Common.{◌≡◌, All, None}
 use Rattle.vme_text_workers.proofs.detached.empty_places.Given as goal
 

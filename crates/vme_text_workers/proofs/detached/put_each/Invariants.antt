@@ -1,3 +1,4 @@
+-- The results so far are at their places, and those that are left are of their calls.
 use Rattle.std.proofs.Common.{All, vec_len}
 use Rattle.std.specs.Prelude.{IfSome}
 use Rattle.vme_text_workers.specs.Calls.{ArePairedResults, AreResultsByPlace}

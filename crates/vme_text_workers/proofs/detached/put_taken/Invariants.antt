@@ -1,3 +1,4 @@
+-- The results so far are at their places, and those that are left are of their calls.
 use Rattle.std.proofs.Common.{vec_len}
 use Rattle.vme_text_workers.specs.Calls.{ArePairedResults, AreResultsByPlace}
 use Rattle.vme_text_workers.proofs.detached.put_taken.Given as goal

@@ -1,3 +1,4 @@
+-- The results so far are of the calls with their places.
 use Rattle.vme_text_workers.specs.Calls.{ArePairedResults}
 use Rattle.vme_text_workers.proofs.detached.take_places.Given as goal
 

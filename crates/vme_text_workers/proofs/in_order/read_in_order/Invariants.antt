@@ -1,3 +1,4 @@
+-- The pieces so far were read.
 use Rattle.std.proofs.Common.{drop}
 use Rattle.vme_bind.specs.TextPieces.{text_reached}
 use Rattle.vme_text_workers.specs.SpeculativeChunks.{AreTaken}

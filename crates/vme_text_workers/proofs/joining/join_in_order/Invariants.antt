@@ -1,3 +1,4 @@
+-- The pieces so far were taken, and the rest were read ahead, or again, or not at all.
 use Rattle.std.proofs.Common.{◌≤◌, drop, length}
 use Rattle.std.specs.Vec.Iter.{into_iter_items}
 use Rattle.vme_bind.specs.SpeculativeReading.{with_recording}

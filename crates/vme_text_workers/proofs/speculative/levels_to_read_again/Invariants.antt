@@ -1,3 +1,4 @@
+-- The levels so far are of all lines.
 use Rattle.std.proofs.Common.{◌≡◌, length}
 use Rattle.vme_trace.specs.LineNumbers.{line_count}
 use Rattle.vme_text_workers.specs.SpeculativeChunks.{AreWhole}

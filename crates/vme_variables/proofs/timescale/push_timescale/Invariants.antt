@@ -1,3 +1,4 @@
+-- The time scale so far, and what the rest of the dump adds, are the whole time scale.
 use Rattle.std.proofs.Common.{◌≡◌, ◌≤◌, ◌++◌, drop}
 use Rattle.std.specs.Prelude.{slice_range}
 use Rattle.vme_variables.specs.Timescale.{scale_from, time_scale}

@@ -1,3 +1,4 @@
+-- The lines of the line bits so far are assigned a level.
 use Rattle.std.proofs.Common.{◌≡◌, take}
 use Rattle.vme_bind.specs.AssignedLines.{with_assigned}
 use Rattle.vme_bind.proofs.assigned_lines.AssignedLines.assign_each.Given as goal

@@ -1,3 +1,4 @@
+-- The statements so far are bound: binding the rest gives what binding all of them gives.
 use Rattle.std.proofs.Common.{◌≡◌, length}
 use Rattle.vme_bind.specs.Binding.{bound_all}
 use Rattle.vme_bind.specs.Reading.{rest_statements, last_line}

@@ -1,3 +1,4 @@
+-- No line so far is unbound.
 use Rattle.std.proofs.Common.{◌≡◌, ℕ, ◌&&◌, not, false}
 use Rattle.vme_trace.specs.Instants.{any}
 use Rattle.vme_trace.specs.LineNumbers.{has_line}

@@ -1,3 +1,4 @@
+-- The candidates among the variables so far were taken into account: with the rest they give the only candidate.
 use Rattle.std.proofs.Common.{◌≡◌, drop}
 use Rattle.std.specs.List.{filter_map}
 use Rattle.vme_bind.specs.BoundGroups.{candidate, only}

@@ -1,3 +1,4 @@
+-- The assignments so far have their bound groups: with those of the rest they are the bound groups of all.
 use Rattle.std.proofs.Common.{◌≡◌, drop, length, vec_len, vec_capacity}
 use Rattle.vme_bind.specs.BoundGroups.{bound_groups_in}
 use Rattle.vme_bind.proofs.BoundGroupLemmas.{after_bound_groups}

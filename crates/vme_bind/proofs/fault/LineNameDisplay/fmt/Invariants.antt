@@ -1,3 +1,4 @@
+-- The bytes so far were written, if the formatter is a plain one.
 use Rattle.std.proofs.Common.{take}
 use Rattle.std.specs.List.{flat_map}
 use Rattle.std.specs.Prelude.{encode_utf8}

@@ -1,3 +1,4 @@
+-- The lines of each net stay the same.
 use Rattle.std.proofs.Common.{◌≡◌, ℕ, ◌+◌, ◌-◌, vec_len}
 use Rattle.vme_bind.specs.NetLines.{line_bits_of}
 use Rattle.vme_bind.proofs.net_lines.NetLines.grow.Given as goal

@@ -1,3 +1,4 @@
+-- The lines so far are line bits of their nets.
 use Rattle.std.proofs.Common.{◌≡◌, ℕ}
 use Rattle.vme_bind.specs.NetLines.{line_bits_of, line_bits_below}
 use Rattle.vme_bind.proofs.net_lines.NetLines.of_bound_groups.Given as goal

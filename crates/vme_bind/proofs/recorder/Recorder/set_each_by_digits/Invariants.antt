@@ -1,3 +1,4 @@
+-- The lines of the line bits so far have the levels of the digits.
 use Rattle.std.proofs.Common.{◌≡◌, map, take}
 use Rattle.vme_trace.specs.Trace.{changed}
 use Rattle.vcd_read.specs.Numbers.{extended}

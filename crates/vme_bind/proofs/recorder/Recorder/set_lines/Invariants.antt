@@ -1,3 +1,4 @@
+-- The lines of the line bits so far have the levels of the bits.
 use Rattle.std.proofs.Common.{◌≡◌, map, take}
 use Rattle.vme_trace.specs.Trace.{changed}
 use Rattle.vme_bind.specs.Recording.{line_change}

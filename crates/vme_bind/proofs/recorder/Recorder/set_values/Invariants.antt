@@ -1,3 +1,4 @@
+-- The values so far are set: with the rest they give the levels after all of them.
 use Rattle.std.proofs.Common.{◌≡◌, drop}
 use Rattle.vme_bind.specs.Recording.{valued}
 use Rattle.vme_bind.proofs.recorder.Recorder.set_values.Given as goal

@@ -1,3 +1,4 @@
+-- The searches so far have their bound groups: with those of the rest they are the bound groups of all.
 use Rattle.std.proofs.Common.{◌≡◌, map, drop, vec_len, vec_capacity}
 use Rattle.vme_bind.specs.PathSearch.{seen_in, bound_groups_of}
 use Rattle.vme_bind.proofs.BoundGroupLemmas.{after_bound_groups}

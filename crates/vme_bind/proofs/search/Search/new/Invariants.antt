@@ -1,3 +1,4 @@
+-- The assignments so far have a search that has found nothing, while no scope is open.
 use Rattle.std.proofs.Common.{◌≡◌, [], map, take, length, vec_len, vec_capacity}
 use Rattle.std.specs.List.{All}
 use Rattle.vme_bind.specs.PathSearch.{HasOpened, seen_in, unseen}

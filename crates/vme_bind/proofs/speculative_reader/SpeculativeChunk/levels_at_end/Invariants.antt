@@ -1,3 +1,4 @@
+-- The lines so far have the levels that the piece leaves.
 use Rattle.vme_bind.proofs.AssignedLineLemmas.{AreLevelsAfterBelow}
 use Rattle.vme_bind.proofs.speculative_reader.SpeculativeChunk.levels_at_end.Given as goal
 

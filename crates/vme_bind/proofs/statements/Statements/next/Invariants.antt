@@ -1,3 +1,4 @@
+-- No line so far has a statement, and the last line has the same number.
 use Rattle.std.proofs.Common.{◌≡◌, length}
 use Rattle.vme_bind.specs.Reading.{rest_statements, last_line}
 use Rattle.vme_bind.proofs.statements.Statements.next.Given as goal

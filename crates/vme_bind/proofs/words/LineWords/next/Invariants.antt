@@ -1,3 +1,4 @@
+-- No word was found so far.
 use Rattle.std.proofs.Common.{◌≡◌, length}
 use Rattle.vme_bind.specs.Text.{words}
 use Rattle.vme_bind.proofs.words.LineWords.next.Given as goal

@@ -1,3 +1,4 @@
+-- The path so far has the names at the places so far.
 use Rattle.std.proofs.Common.{◌≡◌, [], take}
 use Rattle.std.specs.List.{fold}
 use Rattle.vme_declarations.proofs.PathLemmas.{with_name_at}

@@ -1,3 +1,4 @@
+-- The groups so far are those of the lines so far that have a bit.
 use Rattle.std.proofs.Common.{◌≡◌}
 use Rattle.vme_declarations.specs.Found.{groups_below}
 use Rattle.vme_declarations.proofs.found_lines.FoundLines.groups.Given as goal

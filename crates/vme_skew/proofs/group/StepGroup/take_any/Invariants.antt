@@ -1,3 +1,4 @@
+-- The changes so far were made, if they are of lines that exist, and the group begins as before.
 use Rattle.std.proofs.Common.{◌≡◌, take}
 use Rattle.vme_trace.specs.Trace.{changed}
 use Rattle.vme_skew.specs.Group.{ChangeLines}

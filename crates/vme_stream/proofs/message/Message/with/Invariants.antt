@@ -1,3 +1,4 @@
+-- The bytes so far are appended.
 use Rattle.std.proofs.Common.{◌≡◌, ◌++◌, take}
 use Rattle.vme_stream.proofs.message.Message.with.Given as goal
 

@@ -1,3 +1,4 @@
+-- The chunks so far were passed, and the rest follow them.
 use Rattle.std.proofs.Common.{◌≡◌, length}
 use Rattle.std.specs.Vec.Iter.{into_iter_items, into_iter_len}
 use Rattle.vme_trace.specs.Followed.{with_steps}
