@@ -15,7 +15,7 @@ use Rattle.vcd_read.specs.Body.{comment, end_shape, foreign, in_comment, none, o
 use Rattle.vcd_read.specs.Body.{scalar}
 use Rattle.vcd_read.specs.Body.{shape_of, skipped, time_item, time_shape, vector, wrong}
 use Rattle.vcd_read.specs.Meaning.{last_time}
-use Rattle.vcd_read.proofs.BodyLemmas.{shape_read}
+use Rattle.vcd_read.proofs.BodyLemmas.{body_from-shape}
 use Rattle.vcd_places.specs.Items.{BegunKind, code_kind, comment_kind, kind_of, single_kind, time_kind}
 use Rattle.vcd_places.specs.Places.{AreWholeItems, IsAtTime, body_in, starts_at_boundary}
 use Rattle.vcd_places.specs.Places.{if_time, item_time}
@@ -87,7 +87,7 @@ module _ (t : Token) where
   -- a token that is a time is read as a time item
   time_read : (digits : List ℕ) → kind_of (shape_of t.bytes) ≡ time_kind digits → (ts : List Token)
       → body_from ready (t ∷ ts) ≡ time_item t.line digits ∷ body_from ready ts
-  time_read digits is ts = shape_read t ts (time_shape digits) (sym (time_shaped (shape_of t.bytes) digits is))
+  time_read digits is ts = body_from-shape t ts (time_shape digits) (sym (time_shaped (shape_of t.bytes) digits is))
 
   pub time_is_item : (digits : List ℕ) → kind_of (shape_of t.bytes) ≡ time_kind digits
       → IsItem (t ∷ []) (cons_option (if_time (time_of digits)) [])
@@ -108,20 +108,20 @@ module _ (t : Token) where
   single_read (time_shape ds) e is = absurd cc
   single_read (scalar ds code) e is = (
     change t.line ds code,
-    record { no_time = refl; read = λ ts. shape_read t ts (scalar ds code) e },
+    record { no_time = refl; read = λ ts. body_from-shape t ts (scalar ds code) e },
   )
   single_read (vector ds) e is = absurd cc
   single_read foreign e is = absurd cc
   single_read comment e is = absurd cc
   single_read open_shape e is = (
     dump_section_open t.line,
-    record { no_time = refl; read = λ ts. shape_read t ts open_shape e },
+    record { no_time = refl; read = λ ts. body_from-shape t ts open_shape e },
   )
   single_read end_shape e is = (
     dump_section_end t.line,
-    record { no_time = refl; read = λ ts. shape_read t ts end_shape e },
+    record { no_time = refl; read = λ ts. body_from-shape t ts end_shape e },
   )
-  single_read none e is = (wrong t.line _, record { no_time = refl; read = λ ts. shape_read t ts none e })
+  single_read none e is = (wrong t.line _, record { no_time = refl; read = λ ts. body_from-shape t ts none e })
 
   pub single_is_item : kind_of (shape_of t.bytes) ≡ single_kind → IsItem (t ∷ []) []
   unfolding body_from item_times
@@ -147,14 +147,14 @@ module _ (t : Token) where
   code_read (vector ds) e is = record {
     item = λ code. change t.line ds code;
     no_time = λ code. refl;
-    read = λ u ts. shape_read t (u ∷ ts) (vector ds) e;
-    alone = ap item_times (shape_read t [] (vector ds) e);
+    read = λ u ts. body_from-shape t (u ∷ ts) (vector ds) e;
+    alone = ap item_times (body_from-shape t [] (vector ds) e);
   }
   code_read foreign e is = record {
     item = λ code. skipped t.line code;
     no_time = λ code. refl;
-    read = λ u ts. shape_read t (u ∷ ts) foreign e;
-    alone = ap item_times (shape_read t [] foreign e);
+    read = λ u ts. body_from-shape t (u ∷ ts) foreign e;
+    alone = ap item_times (body_from-shape t [] foreign e);
   }
   code_read comment e is = absurd cc
   code_read open_shape e is = absurd cc
@@ -177,7 +177,7 @@ module _ (t : Token) where
   -- after `$comment`, the tokens `ts` are read as those of a comment
   comment_read : kind_of (shape_of t.bytes) ≡ comment_kind → (ts : List Token)
       → body_from ready (t ∷ ts) ≡ body_from (in_comment t.line) ts
-  comment_read is ts = shape_read t ts comment (sym (comment_shaped (shape_of t.bytes) is))
+  comment_read is ts = body_from-shape t ts comment (sym (comment_shaped (shape_of t.bytes) is))
 
 -- the items from a token of a comment on, where `test` is whether it is `$end`, and `ts` are the tokens after it
 abbrev commented : ℕ → List Token → Bool → List BodyItem

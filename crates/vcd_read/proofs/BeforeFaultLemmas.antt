@@ -14,7 +14,7 @@ use Rattle.vcd_read.specs.Body.{first_context, context_after}
 use Rattle.vcd_read.specs.Meaning.{instants_of, items_before_fault}
 use Rattle.vcd_read.specs.DumpProgress.{DumpProgress, DumpState, ended, flushed, progress_after, step, steps}
 use Rattle.vcd_read.specs.DumpProgress.{values_from}
-use Rattle.vcd_read.proofs.InstantsLaw.{at_start, instants_law, instants_rise}
+use Rattle.vcd_read.proofs.InstantsLaw.{at_start, ended-instants_of, TimesAscend-instants_of}
 
 -- the state before the first of the items that is a fault, or after all of them
 abbrev pub whole_before : List Net → DumpState → List BodyItem → DumpState
@@ -107,7 +107,7 @@ pub before_fault : (nets : List Net) (items : List BodyItem)
     ≡ length (instants_of nets (items_before_fault nets first_context items)) - 1)
 before_fault nets items =
     let w : DumpState = whole_before nets (at_start nets) items in
-    let law : ended w.progress ≡ instants_of nets (items_before_fault nets first_context items) = instants_law nets
+    let law : ended w.progress ≡ instants_of nets (items_before_fault nets first_context items) = ended-instants_of nets
     (items_before_fault nets first_context items) w (steps_before nets (at_start nets) items) in
     let hand = at_hand w.progress.has_instant w.progress.done
     (record { time = w.progress.time; values = values_from 0 w.progress.current })
@@ -120,5 +120,5 @@ before_fault nets items =
 -- the times of the instants before the first fault ascend
 pub before_fault_rises : (nets : List Net) (items : List BodyItem) → TimesAscend
     (instants_of nets (items_before_fault nets first_context items))
-before_fault_rises nets items = instants_rise nets (items_before_fault nets first_context items)
+before_fault_rises nets items = TimesAscend-instants_of nets (items_before_fault nets first_context items)
     (whole_before nets (at_start nets) items) (steps_before nets (at_start nets) items)

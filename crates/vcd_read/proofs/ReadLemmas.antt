@@ -12,7 +12,7 @@ use Rattle.vcd_read.specs.Body.{first_context}
 use Rattle.vcd_read.specs.Meaning.{ReadFails, ReadFailsAs, ReadGives, instants_from, instants_of}
 use Rattle.vcd_read.specs.DumpProgress.{DumpProgress, DumpState, steps, progress_after, ended}
 use Rattle.vcd_read.specs.Contents.{TimesAscend}
-use Rattle.vcd_read.proofs.InstantsLaw.{at_start, instants_law, instants_rise}
+use Rattle.vcd_read.proofs.InstantsLaw.{at_start, ended-instants_of, TimesAscend-instants_of}
 
 -- what a body gives that is read to its end
 abbrev pub at_end : DumpState → Result (List Instant) VcdFault
@@ -47,7 +47,7 @@ read_by : (nets : List Net) (items : List BodyItem) (r : Result DumpState VcdFau
 read_by nets items (Ok s) e =
     let stand : context_after_all nets first_context items ≡ Ok s.context = stands nets (at_start nets) items
     ∙ ap (λ (r : Result DumpState VcdFault). r >>= λ end. Ok end.context) e in
-    let law = instants_law nets items s e in
+    let law = ended-instants_of nets items s e in
     rw (stand, ← law) refl
 read_by nets items (Err fault) e =
     let stand : context_after_all nets first_context items ≡ Err fault = stands nets (at_start nets) items
@@ -86,8 +86,8 @@ same_ok (Err fault) xs ys h = absurd cc
 
 rise_by : (nets : List Net) (items : List BodyItem) (r : Result DumpState VcdFault) (instants : List Instant)
     → steps nets (at_start nets) items ≡ r → result_of r ≡ Ok instants → TimesAscend instants
-rise_by nets items (Ok s) instants e whole = subst TimesAscend (sym (instants_law nets items s e)
-    ∙ same_ok (at_the_end s.context) (ended s.progress) instants whole) (instants_rise nets items s e)
+rise_by nets items (Ok s) instants e whole = subst TimesAscend (sym (ended-instants_of nets items s e)
+    ∙ same_ok (at_the_end s.context) (ended s.progress) instants whole) (TimesAscend-instants_of nets items s e)
 rise_by nets items (Err fault) instants e whole = absurd cc
 
 -- the times of the instants of a body ascend

@@ -19,7 +19,7 @@ use Rattle.vcd_read.specs.Header.{◌>>=◌, Net}
 use Rattle.vcd_read.specs.BodyFold.{State, state_at, steps}
 use Rattle.vcd_read.specs.declared.dump.Bit.{Bit}
 use Rattle.vcd_read.specs.declared.fault.VcdFault.{VcdFault}
-use Rattle.vcd_read.proofs.DetachedLemmas.{kept-detached, learned_state, steps-keep, steps-learned}
+use Rattle.vcd_read.proofs.DetachedLemmas.{IsReadDetached-keeps, learned_state, steps-keep, steps-learned}
 use Rattle.vme_bind.specs.Capture.{level_in}
 use Rattle.vme_bind.specs.BuilderState.{BuilderState, builder_change, builder_instant}
 use Rattle.vme_bind.specs.Recording.{AreLines, IsLine, RecorderLevels, line_change}
@@ -224,7 +224,8 @@ module _ (nets : List Net) (bytes : List ℕ) (e : SpeculativeBuilderState) (a :
       → e.assigned
       ≡ none_assigned → (l : ℕ) → is_assigned a.progress.accumulator.assigned l ≡ true → IsLine slots l
   IsLine-assigned_in_piece slots lines none =
-      (kept-detached speculative_change speculative_instant nets (λ (m : SpeculativeBuilderState). (m.made.line_bits
+      (IsReadDetached-keeps speculative_change speculative_instant nets
+      (λ (m : SpeculativeBuilderState). (m.made.line_bits
       ≡ e.made.line_bits)
       × ((l : ℕ) → is_assigned m.assigned l ≡ true → IsLine slots l))
       (λ m net bits h. (

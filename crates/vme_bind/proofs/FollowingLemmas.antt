@@ -12,7 +12,7 @@ use Rattle.vcd_read.specs.Header.{◌>>=◌, Net}
 use Rattle.vcd_read.specs.BodyFold.{State, BodyFold, at_end, ended, reached_before, state_at, steps}
 use Rattle.vcd_read.specs.Tokens.{Token}
 use Rattle.vcd_read.specs.declared.fault.VcdFault.{VcdFault}
-use Rattle.vcd_read.proofs.DetachedLemmas.{learned_state, learned_fold, reached-learned, steps-learned}
+use Rattle.vcd_read.proofs.DetachedLemmas.{learned_state, learned_fold, reached_before-learned, steps-learned}
 use Rattle.vme_bind.specs.BuilderState.{BuilderState, builder_change, builder_instant}
 use Rattle.vme_bind.specs.SpeculativeReading.{SpeculativeReached, with_recording}
 use Rattle.vme_bind.specs.TextReading.{following, reading_ahead, reading_made, reading_until_fault}
@@ -74,7 +74,7 @@ module _ (t : Trace) where
       let read : Result (State BuilderState) VcdFault = steps builder_change builder_instant nets s items in
       ap (λ (r : State BuilderState). reading_made r.progress.accumulator.recorded r.progress.time
       (steps builder_change builder_instant nets (state_after s) items >>= at_end builder_instant))
-      (reached-learned builder_change builder_instant builder_change builder_instant (builder_following t)
+      (reached_before-learned builder_change builder_instant builder_change builder_instant (builder_following t)
       (builder_following-change t)
       (builder_following-instant t)
       nets s items)

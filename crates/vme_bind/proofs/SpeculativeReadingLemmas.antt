@@ -21,7 +21,7 @@ use Rattle.vcd_read.specs.BodyFold.{State, at_end}
 use Rattle.vcd_read.specs.Tokens.{Token, tokens_from}
 use Rattle.vcd_read.specs.declared.dump.Bit.{Bit}
 use Rattle.vcd_read.specs.declared.fault.VcdFault.{VcdFault}
-use Rattle.vcd_read.proofs.DetachedLemmas.{joined-leads, kept-detached}
+use Rattle.vcd_read.proofs.DetachedLemmas.{rest_of-joined, IsReadDetached-keeps}
 use Rattle.vme_bind.specs.BuilderState.{BuilderState, builder_change, builder_instant}
 use Rattle.vme_bind.specs.Recording.{DifferWithin, RecorderLevels, all_of, changes_between, differs, end_of}
 use Rattle.vme_bind.specs.Recording.{ended_steps, step_between}
@@ -155,7 +155,7 @@ module _ (bytes : List ℕ) (recorded : Trace) (w : SpeculativeReached) (a : Rea
       let r : Reached BuilderState = with_taken m w.body in
       let u : Trace = with_steps t ended in
       ap (λ (r : Result (State BuilderState) VcdFault). outcome w.fault (r >>= at_end builder_instant))
-      (joined-leads builder_change builder_instant builder_change builder_instant (builder_following u)
+      (rest_of-joined builder_change builder_instant builder_change builder_instant (builder_following u)
       (builder_following-change u)
       (builder_following-instant u) r
       bytes builder_before_piece (builder_ahead w.line_bits recorded a.detached) is.read
@@ -216,19 +216,19 @@ module _ (nets : List Net) (bytes : List ℕ) (m : BuilderState) (a : ReadDetach
     nets bytes m a) where
   -- reading a piece leaves the line bits as they are
   pub line_bits-of_piece : a.progress.accumulator.line_bits ≡ m.line_bits
-  line_bits-of_piece = kept-detached builder_change builder_instant nets
+  line_bits-of_piece = IsReadDetached-keeps builder_change builder_instant nets
       (λ (n : BuilderState). n.line_bits ≡ m.line_bits)
       (λ n net bits h. h) (λ n time h. h) bytes m a is refl
 
   -- reading a piece leaves the opening of the recording as it is
   pub opening-of_piece : a.progress.accumulator.recorded.opening ≡ m.recorded.opening
-  opening-of_piece = kept-detached builder_change builder_instant nets (λ (n : BuilderState). n.recorded.opening
+  opening-of_piece = IsReadDetached-keeps builder_change builder_instant nets (λ (n : BuilderState). n.recorded.opening
       ≡ m.recorded.opening)
       (λ n net bits h. h) (λ n time h. h) bytes m a is refl
 
   -- reading a piece leaves the number of slots as it is
   pub slots-of_piece : a.progress.accumulator.progress.now.slots ≡ m.progress.now.slots
-  slots-of_piece = kept-detached builder_change builder_instant nets (λ (n : BuilderState). n.progress.now.slots
+  slots-of_piece = IsReadDetached-keeps builder_change builder_instant nets (λ (n : BuilderState). n.progress.now.slots
       ≡ m.progress.now.slots)
       (λ n net bits h. slots-kept n.progress.now _ ∙ h) (λ n time h. h) bytes m a is refl
 

@@ -1,7 +1,7 @@
 use Rattle.std.proofs.Common.{sym, ◌∙◌}
 use Rattle.vcd_read.specs.Reading.{left_at}
 use Rattle.vcd_read.specs.Sections.{declared_in}
-use Rattle.vcd_read.proofs.HeaderLemmas.{header_ends}
+use Rattle.vcd_read.proofs.HeaderLemmas.{header_of-no_tokens}
 use Rattle.vcd_read.proofs.header.read_header.Goals as goal
 
 pub returns-clause-header : goal.returns-clause-header
@@ -10,7 +10,7 @@ returns-clause-header g c =
     let text = piece.bytes.now in
     rw (c.fault.ensures, c.in_default.ensures.text, c.loop-token.invariant.same) (
     sym c.loop-token.invariant.left
-    ∙ header_ends g.D.DeclarationVisitor.with_variable text piece.line
+    ∙ header_of-no_tokens g.D.DeclarationVisitor.with_variable text piece.line
     (declared_in (g.D.DeclarationVisitor.scopes c.loop-token.definitions.declarations) c.loop-token.definitions.codes
     (g.D.DeclarationVisitor.taken c.loop-token.definitions.declarations)) (left_at piece c.loop-token.reader.at)
     c.requires.first (rw c.loop-token.invariant.same at c.in_default.ensures.token))

@@ -1,24 +1,25 @@
 use Rattle.std.proofs.Common.{◌∙◌}
-use Rattle.vcd_read.proofs.BodyLemmas.{stops_same, leaves_err}
+use Rattle.vcd_read.proofs.BodyLemmas.{Stops-same, BodyContinuesAs-error}
 use Rattle.vcd_read.proofs.body.Body.all.Goals as goal
 
 pub returns-in_err-resume-clause-rest : goal.returns-in_err-resume-clause-rest
-returns-in_err-resume-clause-rest g c = leaves_err _ _ _ _ c.from_residual.result c.in_err-resume.field-0.0
+returns-in_err-resume-clause-rest g c = BodyContinuesAs-error _ _ _ _ c.from_residual.result c.in_err-resume.field-0.0
     c.from_residual.ensures.1 c.in_err-resume.ensures.rest
 
 pub returns-in_err-one-clause-rest : goal.returns-in_err-one-clause-rest
 returns-in_err-one-clause-rest g c =
     let fault = c.in_err-one.field-0.0 in
-    leaves_err _ _ _ _ c.from_residual-in_err-one.result fault c.from_residual-in_err-one.ensures.1
-    (λ more. stops_same fault _ _ _ _ (c.loop-self.invariant.rest more) (c.in_err-one.ensures.rest more))
+    BodyContinuesAs-error _ _ _ _ c.from_residual-in_err-one.result fault c.from_residual-in_err-one.ensures.1
+    (λ more. Stops-same fault _ _ _ _ (c.loop-self.invariant.rest more) (c.in_err-one.ensures.rest more))
 
 pub returns-in_err-short_items-clause-rest : goal.returns-in_err-short_items-clause-rest
 returns-in_err-short_items-clause-rest g c =
     let fault = c.in_err-short_items.field-0.0 in
     let between = c.in_ok-one.ensures.between (cc c.if-branch.true) in
     let one = rw between at c.in_ok-one.ensures.rest in
-    leaves_err _ _ _ _ c.from_residual-in_err-short_items.result fault c.from_residual-in_err-short_items.ensures.1
-    (λ more. stops_same fault _ _ _ _ (c.loop-self.invariant.rest more ∙ one more)
+    BodyContinuesAs-error _ _ _ _ c.from_residual-in_err-short_items.result fault
+    c.from_residual-in_err-short_items.ensures.1
+    (λ more. Stops-same fault _ _ _ _ (c.loop-self.invariant.rest more ∙ one more)
     (c.in_err-short_items.ensures.rest more))
 
 pub loop-self-preserved : goal.loop-self-preserved

@@ -5,7 +5,8 @@ use Rattle.vcd_read.specs.Bodies.{place_of, until_fault}
 use Rattle.vcd_read.specs.Body.{in_comment}
 use Rattle.vcd_read.specs.declared.body_piece.BodyPiece.{BodyPiece}
 use Rattle.vcd_read.specs.BodyFold.{body_fold, state_of}
-use Rattle.vcd_read.proofs.BodyLemmas.{comment_end, comment_more, nothing_left, same_left}
+use Rattle.vcd_read.proofs.BodyLemmas.{body_from-comment_end, body_from-comment_word, until_fault-nothing_left}
+use Rattle.vcd_read.proofs.BodyLemmas.{until_fault-same_state}
 use Rattle.vcd_read.proofs.body.Body.comment.Goals as goal
 
 pub returns-then-is_end-clause-rest : goal.returns-then-is_end-clause-rest
@@ -18,12 +19,14 @@ returns-then-is_end-clause-rest g c =
     let t = token_at text c.in-Some.word.at c.in-Some.word.bytes.now in
     let cut = rw inv.text at c.in-Some.ensures.token in
     λ more.
-    let ended = comment_end line (left_at text c.loop-word.self.reader.at ++ more) (left_at text after ++ more) t
+    let ended = body_from-comment_end line (left_at text c.loop-word.self.reader.at ++ more)
+    (left_at text after ++ more) t
     (ap (λ (ts : List Token). ts ++ more) cut) (sym c.is_end.ensures ∙ c.if-is_end.true) in
     ap (until_fault g.T.ChangeVisitor.with_change g.T.ChangeVisitor.with_instant old.codes.now
     (state_of old.reader.text (body_fold (g.T.ChangeVisitor.taken old.timed.visitor) old.timed.clock) old.dump_section))
     (inv.rest more ∙ ended)
-    ∙ same_left g.T.ChangeVisitor.with_change g.T.ChangeVisitor.with_instant old.codes.now c.loop-word.self.codes.now
+    ∙ until_fault-same_state g.T.ChangeVisitor.with_change g.T.ChangeVisitor.with_instant old.codes.now
+    c.loop-word.self.codes.now
     text c.next.new.self.text (body_fold (g.T.ChangeVisitor.taken old.timed.visitor) old.timed.clock)
     (body_fold (g.T.ChangeVisitor.taken c.loop-word.self.timed.visitor) c.loop-word.self.timed.clock) old.dump_section
     c.loop-word.self.dump_section _ (place_of c.loop-word.self.place) after (cc) (cc) (rw inv.timed refl)
@@ -44,7 +47,7 @@ loop-word-preserved g c =
       dump_section = inv.dump_section;
       forward = omega (arith, c.in-Some.ensures.forward, inv.forward);
       place = inv.place;
-      rest = λ more. inv.rest more ∙ comment_more line (left_at text c.loop-word.self.reader.at ++ more)
+      rest = λ more. inv.rest more ∙ body_from-comment_word line (left_at text c.loop-word.self.reader.at ++ more)
           (left_at text after ++ more) t (ap (λ (ts : List Token). ts ++ more) cut) (sym c.is_end.ensures
           ∙ c.if-is_end.false);
     }
@@ -62,9 +65,10 @@ returns-clause-rest g c =
     let s = state_of text (body_fold (g.T.ChangeVisitor.taken old.timed.visitor) old.timed.clock) old.dump_section in
     λ more.
     ap (until_fault g.T.ChangeVisitor.with_change g.T.ChangeVisitor.with_instant old.codes.now s) (inv.rest more)
-    ∙ nothing_left g.T.ChangeVisitor.with_change g.T.ChangeVisitor.with_instant old.codes.now s place
+    ∙ until_fault-nothing_left g.T.ChangeVisitor.with_change g.T.ChangeVisitor.with_instant old.codes.now s place
     (left_at text c.loop-word.self.reader.at) (left_at text after) none end more
-    ∙ same_left g.T.ChangeVisitor.with_change g.T.ChangeVisitor.with_instant old.codes.now c.loop-word.self.codes.now
+    ∙ until_fault-same_state g.T.ChangeVisitor.with_change g.T.ChangeVisitor.with_instant old.codes.now
+    c.loop-word.self.codes.now
     text c.next.new.self.text (body_fold (g.T.ChangeVisitor.taken old.timed.visitor) old.timed.clock)
     (body_fold (g.T.ChangeVisitor.taken c.loop-word.self.timed.visitor) c.loop-word.self.timed.clock) old.dump_section
     c.loop-word.self.dump_section place (in_comment c.line.result) after (cc) later (rw inv.timed refl) inv.dump_section

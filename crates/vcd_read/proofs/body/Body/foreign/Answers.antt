@@ -5,7 +5,7 @@ use Rattle.vcd_read.specs.Body.{skipped}
 use Rattle.vcd_read.specs.Meaning.{ReadGives}
 use Rattle.vcd_read.specs.BodyFold.{body_fold, state_of, step}
 use Rattle.vcd_read.specs.declared.body_piece.BodyPiece.{BodyPiece}
-use Rattle.vcd_read.proofs.BodyLemmas.{read_item, foreign_read, keeps_same}
+use Rattle.vcd_read.proofs.BodyLemmas.{BodyContinuesAs-item, body_from-foreign_code, KeepsTaken-same}
 use Rattle.vcd_read.proofs.body.Body.foreign.Goals as goal
 
 pub returns-in-Some-clause-rest : goal.returns-in-Some-clause-rest
@@ -20,10 +20,11 @@ returns-in-Some-clause-rest g c =
     let h = subst (λ (x : BodyPiece). ReadGives (λ _. state_of later timed old.dump_section) c.skip.result
     (step g.T.ChangeVisitor.with_change g.T.ChangeVisitor.with_instant old.codes.now (state_of x timed old.dump_section)
     (skipped (line_of x c.args.start) t.bytes))) c.in-Some.ensures.text c.skip.ensures.step in
-    let is = λ (more : List Token). foreign_read line (left_at text old.reader.at ++ more) (left_at text after ++ more)
+    let is = λ (more : List Token). body_from-foreign_code line (left_at text old.reader.at ++ more)
+    (left_at text after ++ more)
     t (ap (λ (ts : List Token). ts ++ more) c.in-Some.ensures.token) in
-    read_item g.T.ChangeVisitor.with_change g.T.ChangeVisitor.with_instant old.codes.now old.codes.now
+    BodyContinuesAs-item g.T.ChangeVisitor.with_change g.T.ChangeVisitor.with_instant old.codes.now old.codes.now
     (state_of text timed old.dump_section) (state_of later timed old.dump_section) text later after after old.place
     (skipped line t.bytes) _ c.skip.result
     refl c.in-Some.ensures.text refl c.requires.between is h
-    (keeps_same timed c.skip.result)
+    (KeepsTaken-same timed c.skip.result)

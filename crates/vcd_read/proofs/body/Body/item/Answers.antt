@@ -7,7 +7,7 @@ use Rattle.vcd_read.specs.Body.{comment, open_shape, end_shape, none}
 use Rattle.vcd_read.specs.Shapes.{found_shape}
 use Rattle.vcd_read.specs.Bodies.{until_fault}
 use Rattle.vcd_read.specs.BodyFold.{body_fold, state_of}
-use Rattle.vcd_read.proofs.BodyLemmas.{read_item, shape_read, leaves_same, read_wrong}
+use Rattle.vcd_read.proofs.BodyLemmas.{BodyContinuesAs-item, body_from-shape, BodyContinuesAs-same, steps-wrong}
 use Rattle.vcd_read.proofs.body.Body.item.Goals as goal
 
 pub returns-in-Time-clause-rest : goal.returns-in-Time-clause-rest
@@ -15,10 +15,11 @@ returns-in-Time-clause-rest g c =
     let old = c.args.self.now in
     let text = old.reader.text in
     let t = token_at text c.args.token.at c.args.token.bytes.now in
-    let is = λ (more : List Token). shape_read t (left_at text old.reader.at ++ more) (time_shape c.in-Time.digits.now)
+    let is = λ (more : List Token). body_from-shape t (left_at text old.reader.at ++ more)
+    (time_shape c.in-Time.digits.now)
     (sym (ap found_shape c.in-Time.is) ∙ c.shape_of.ensures) in
     let new = c.time.new.self in
-    read_item g.T.ChangeVisitor.with_change g.T.ChangeVisitor.with_instant old.codes.now new.codes.now
+    BodyContinuesAs-item g.T.ChangeVisitor.with_change g.T.ChangeVisitor.with_instant old.codes.now new.codes.now
     (state_of old.reader.text (body_fold (g.T.ChangeVisitor.taken old.timed.visitor) old.timed.clock) old.dump_section)
     (state_of new.reader.text (body_fold (g.T.ChangeVisitor.taken new.timed.visitor) new.timed.clock) new.dump_section)
     text new.reader.text old.reader.at new.reader.at new.place (time_item t.line c.in-Time.digits.now) _ c.time.result
@@ -29,10 +30,10 @@ returns-in-Scalar-clause-rest g c =
     let old = c.args.self.now in
     let text = old.reader.text in
     let t = token_at text c.args.token.at c.args.token.bytes.now in
-    let is = λ (more : List Token). shape_read t (left_at text old.reader.at ++ more)
+    let is = λ (more : List Token). body_from-shape t (left_at text old.reader.at ++ more)
     (scalar c.in-Scalar.digit.now c.in-Scalar.code.now) (sym (ap found_shape c.in-Scalar.is) ∙ c.shape_of.ensures) in
     let new = c.change.new.self in
-    read_item g.T.ChangeVisitor.with_change g.T.ChangeVisitor.with_instant old.codes.now new.codes.now
+    BodyContinuesAs-item g.T.ChangeVisitor.with_change g.T.ChangeVisitor.with_instant old.codes.now new.codes.now
     (state_of old.reader.text (body_fold (g.T.ChangeVisitor.taken old.timed.visitor) old.timed.clock) old.dump_section)
     (state_of new.reader.text (body_fold (g.T.ChangeVisitor.taken new.timed.visitor) new.timed.clock) new.dump_section)
     text
@@ -45,10 +46,10 @@ returns-in-Opens-clause-rest g c =
     let old = c.args.self.now in
     let text = old.reader.text in
     let t = token_at text c.args.token.at c.args.token.bytes.now in
-    let is = λ (more : List Token). shape_read t (left_at text old.reader.at ++ more) open_shape
+    let is = λ (more : List Token). body_from-shape t (left_at text old.reader.at ++ more) open_shape
     (sym (ap found_shape c.in-Opens.is) ∙ c.shape_of.ensures) in
     let new = c.open.new.self in
-    read_item g.T.ChangeVisitor.with_change g.T.ChangeVisitor.with_instant old.codes.now new.codes.now
+    BodyContinuesAs-item g.T.ChangeVisitor.with_change g.T.ChangeVisitor.with_instant old.codes.now new.codes.now
     (state_of old.reader.text (body_fold (g.T.ChangeVisitor.taken old.timed.visitor) old.timed.clock) old.dump_section)
     (state_of new.reader.text (body_fold (g.T.ChangeVisitor.taken new.timed.visitor) new.timed.clock) new.dump_section)
     text new.reader.text old.reader.at new.reader.at new.place (dump_section_open t.line) _ c.open.result
@@ -59,10 +60,10 @@ returns-in-Ends-clause-rest g c =
     let old = c.args.self.now in
     let text = old.reader.text in
     let t = token_at text c.args.token.at c.args.token.bytes.now in
-    let is = λ (more : List Token). shape_read t (left_at text old.reader.at ++ more) end_shape
+    let is = λ (more : List Token). body_from-shape t (left_at text old.reader.at ++ more) end_shape
     (sym (ap found_shape c.in-Ends.is) ∙ c.shape_of.ensures) in
     let new = c.close.new.self in
-    read_item g.T.ChangeVisitor.with_change g.T.ChangeVisitor.with_instant old.codes.now new.codes.now
+    BodyContinuesAs-item g.T.ChangeVisitor.with_change g.T.ChangeVisitor.with_instant old.codes.now new.codes.now
     (state_of old.reader.text (body_fold (g.T.ChangeVisitor.taken old.timed.visitor) old.timed.clock) old.dump_section)
     (state_of new.reader.text (body_fold (g.T.ChangeVisitor.taken new.timed.visitor) new.timed.clock) new.dump_section)
     text new.reader.text old.reader.at new.reader.at new.place (dump_section_end t.line) _ c.close.result
@@ -73,9 +74,10 @@ returns-in-Vector-clause-rest g c =
     let old = c.args.self.now in
     let text = old.reader.text in
     let t = token_at text c.args.token.at c.args.token.bytes.now in
-    let is = λ (more : List Token). shape_read t (left_at text old.reader.at ++ more) (vector c.in-Vector.digits.now)
+    let is = λ (more : List Token). body_from-shape t (left_at text old.reader.at ++ more)
+    (vector c.in-Vector.digits.now)
     (sym (ap found_shape c.in-Vector.is) ∙ c.shape_of.ensures) in
-    leaves_same _ _ _ _ _ c.vector.result (λ more. ap (until_fault g.T.ChangeVisitor.with_change
+    BodyContinuesAs-same _ _ _ _ _ c.vector.result (λ more. ap (until_fault g.T.ChangeVisitor.with_change
     g.T.ChangeVisitor.with_instant old.codes.now (state_of old.reader.text (body_fold
     (g.T.ChangeVisitor.taken old.timed.visitor) old.timed.clock)
     old.dump_section)) (is more)) c.vector.ensures.rest
@@ -85,9 +87,9 @@ returns-in-Foreign-clause-rest g c =
     let old = c.args.self.now in
     let text = old.reader.text in
     let t = token_at text c.args.token.at c.args.token.bytes.now in
-    let is = λ (more : List Token). shape_read t (left_at text old.reader.at ++ more) foreign
+    let is = λ (more : List Token). body_from-shape t (left_at text old.reader.at ++ more) foreign
     (sym (ap found_shape c.in-Foreign.is) ∙ c.shape_of.ensures) in
-    leaves_same _ _ _ _ _ c.foreign.result (λ more. ap (until_fault g.T.ChangeVisitor.with_change
+    BodyContinuesAs-same _ _ _ _ _ c.foreign.result (λ more. ap (until_fault g.T.ChangeVisitor.with_change
     g.T.ChangeVisitor.with_instant old.codes.now (state_of old.reader.text (body_fold
     (g.T.ChangeVisitor.taken old.timed.visitor) old.timed.clock)
     old.dump_section)) (is more)) c.foreign.ensures.rest
@@ -97,9 +99,9 @@ returns-in-Comment-clause-rest g c =
     let old = c.args.self.now in
     let text = old.reader.text in
     let t = token_at text c.args.token.at c.args.token.bytes.now in
-    let is = λ (more : List Token). shape_read t (left_at text old.reader.at ++ more) comment
+    let is = λ (more : List Token). body_from-shape t (left_at text old.reader.at ++ more) comment
     (sym (ap found_shape c.in-Comment.is) ∙ c.shape_of.ensures) in
-    leaves_same _ _ _ _ _ c.comment.result (λ more. ap (until_fault g.T.ChangeVisitor.with_change
+    BodyContinuesAs-same _ _ _ _ _ c.comment.result (λ more. ap (until_fault g.T.ChangeVisitor.with_change
     g.T.ChangeVisitor.with_instant old.codes.now (state_of old.reader.text (body_fold
     (g.T.ChangeVisitor.taken old.timed.visitor) old.timed.clock)
     old.dump_section)) (is more)) c.comment.ensures.rest
@@ -109,8 +111,8 @@ returns-in-Unknown-clause-rest g c =
     let old = c.args.self.now in
     let text = old.reader.text in
     let t = token_at text c.args.token.at c.args.token.bytes.now in
-    let is = λ (more : List Token). shape_read t (left_at text old.reader.at ++ more) none
+    let is = λ (more : List Token). body_from-shape t (left_at text old.reader.at ++ more) none
     (sym (ap found_shape c.in-Unknown.is) ∙ c.shape_of.ensures) in
-    rw c.fault.ensures (λ more. read_wrong g.T.ChangeVisitor.with_change g.T.ChangeVisitor.with_instant old.codes.now
+    rw c.fault.ensures (λ more. steps-wrong g.T.ChangeVisitor.with_change g.T.ChangeVisitor.with_instant old.codes.now
     (state_of old.reader.text (body_fold (g.T.ChangeVisitor.taken old.timed.visitor) old.timed.clock) old.dump_section)
     t.line _ _ _ (is more))

@@ -3,7 +3,7 @@ use Rattle.vcd_read.specs.Tokens.{Token}
 use Rattle.vcd_read.specs.Bodies.{place_of, until_fault}
 use Rattle.vcd_read.specs.Body.{body_from, ready}
 use Rattle.vcd_read.specs.BodyFold.{body_fold, state_of}
-use Rattle.vcd_read.proofs.BodyLemmas.{leaves_same}
+use Rattle.vcd_read.proofs.BodyLemmas.{BodyContinuesAs-same}
 use Rattle.vcd_read.proofs.body.Body.one.Goals as goal
 
 pub returns-then-not-finds_token-clause-end : goal.returns-then-not-finds_token-clause-end
@@ -25,7 +25,7 @@ returns-clause-rest g c =
     let text = old.reader.text in
     let at = c.finds_token.new.self.at in
     let cut = sym c.finds_token.ensures.left ∙ rw c.finds_token.ensures.text at c.word-bytes.ensures.token in
-    leaves_same _ _ _ _ _ c.item.result
+    BodyContinuesAs-same _ _ _ _ _ c.item.result
     (λ more. rw (c.requires, c.word-bytes.ensures.text, c.finds_token.ensures.text)
     (ap (λ (ts : List Token). until_fault g.T.ChangeVisitor.with_change g.T.ChangeVisitor.with_instant old.codes.now
     (state_of text (body_fold (g.T.ChangeVisitor.taken old.timed.visitor) old.timed.clock) old.dump_section)

@@ -3,7 +3,7 @@ use Rattle.vcd_read.specs.Reading.{left_at}
 use Rattle.vcd_read.specs.Body.{BodyPlace, body_from, code_of_vector}
 use Rattle.vcd_read.specs.Bodies.{place_of, until_fault}
 use Rattle.vcd_read.specs.BodyFold.{body_fold, state_of}
-use Rattle.vcd_read.proofs.BodyLemmas.{leaves_same}
+use Rattle.vcd_read.proofs.BodyLemmas.{BodyContinuesAs-same}
 use Rattle.vcd_read.proofs.body.Body.resume.Goals as goal
 
 pub returns-in-Ready-clause-rest : goal.returns-in-Ready-clause-rest
@@ -18,7 +18,7 @@ returns-in-Ready-clause-rest g c =
 pub returns-in-Vector-clause-rest : goal.returns-in-Vector-clause-rest
 returns-in-Vector-clause-rest g c =
     let old = c.args.self.now in
-    leaves_same _ _ _ _ _ c.vector.result
+    BodyContinuesAs-same _ _ _ _ _ c.vector.result
     (λ more. ap (λ (p : BodyPlace). until_fault g.T.ChangeVisitor.with_change g.T.ChangeVisitor.with_instant
     old.codes.now
     (state_of old.reader.text (body_fold (g.T.ChangeVisitor.taken old.timed.visitor) old.timed.clock) old.dump_section)
@@ -29,7 +29,7 @@ returns-in-Vector-clause-rest g c =
 pub returns-in-Foreign-clause-rest : goal.returns-in-Foreign-clause-rest
 returns-in-Foreign-clause-rest g c =
     let old = c.args.self.now in
-    leaves_same _ _ _ _ _ c.foreign.result
+    BodyContinuesAs-same _ _ _ _ _ c.foreign.result
     (λ more. ap (λ (p : BodyPlace). until_fault g.T.ChangeVisitor.with_change g.T.ChangeVisitor.with_instant
     old.codes.now
     (state_of old.reader.text (body_fold (g.T.ChangeVisitor.taken old.timed.visitor) old.timed.clock) old.dump_section)
@@ -39,7 +39,7 @@ returns-in-Foreign-clause-rest g c =
 pub returns-in-Comment-clause-rest : goal.returns-in-Comment-clause-rest
 returns-in-Comment-clause-rest g c =
     let old = c.args.self.now in
-    leaves_same _ _ _ _ _ c.comment.result
+    BodyContinuesAs-same _ _ _ _ _ c.comment.result
     (λ more. ap (λ (p : BodyPlace). until_fault g.T.ChangeVisitor.with_change g.T.ChangeVisitor.with_instant
     old.codes.now
     (state_of old.reader.text (body_fold (g.T.ChangeVisitor.taken old.timed.visitor) old.timed.clock) old.dump_section)

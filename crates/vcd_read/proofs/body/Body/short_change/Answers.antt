@@ -3,7 +3,7 @@ use Rattle.vcd_read.specs.Tokens.{Token}
 use Rattle.vcd_read.specs.Reading.{left_at, token_at}
 use Rattle.vcd_read.specs.Body.{change, scalar, vector, ready, body_from}
 use Rattle.vcd_read.specs.BodyFold.{body_fold}
-use Rattle.vcd_read.proofs.BodyLemmas.{read_on, shape_read, vector_read}
+use Rattle.vcd_read.proofs.BodyLemmas.{BodyContinuesAs-item_at, body_from-shape, body_from-vector_code}
 use Rattle.vcd_read.proofs.body.Body.short_change.Goals as goal
 
 pub returns-in-Some-clause-rest : goal.returns-in-Some-clause-rest
@@ -19,9 +19,9 @@ returns-in-Some-clause-rest g c =
     let is : (more : List Token) → body_from ready (left_at text reader.at ++ more) ≡ change t.line digit code
     ∷ body_from ready (left_at text after ++ more) =
     λ more. ap (λ (ts : List Token). body_from ready (ts ++ more)) c.in-Some.ensures.shape.2
-    ∙ shape_read t (left_at text after ++ more) (scalar digit code) c.in-Some.ensures.shape.1 in
+    ∙ body_from-shape t (left_at text after ++ more) (scalar digit code) c.in-Some.ensures.shape.1 in
     let step = rw (c.change.ensures.same.0, ← c.requires.text) at c.change.ensures.step in
-    read_on g.T.ChangeVisitor.with_change g.T.ChangeVisitor.with_instant old.codes.now new.codes.now
+    BodyContinuesAs-item_at g.T.ChangeVisitor.with_change g.T.ChangeVisitor.with_instant old.codes.now new.codes.now
     (body_fold (g.T.ChangeVisitor.taken old.timed.visitor) old.timed.clock)
     (body_fold (g.T.ChangeVisitor.taken new.timed.visitor) new.timed.clock)
     old.dump_section new.dump_section text c.short_change.new.self.text after
@@ -46,12 +46,12 @@ returns-in-Some-next-clause-rest g c =
     let behind : left_at text middle ≡ code ∷ left_at text after = rw text_is at c.in-Some-next.ensures.token in
     let is : (more : List Token) → body_from ready (left_at text reader.at ++ more) ≡ change t.line digits code.bytes
     ∷ body_from ready (left_at text after ++ more) =
-    λ more. ap (λ (ts : List Token). body_from ready (ts ++ more)) cut ∙ shape_read t (left_at text middle ++ more)
+    λ more. ap (λ (ts : List Token). body_from ready (ts ++ more)) cut ∙ body_from-shape t (left_at text middle ++ more)
     (vector digits) c.in-Some-vector_digits.ensures.shape.1
-    ∙ vector_read t.line digits (left_at text middle ++ more) (left_at text after ++ more) code
+    ∙ body_from-vector_code t.line digits (left_at text middle ++ more) (left_at text after ++ more) code
     (ap (λ (ts : List Token). ts ++ more) behind) in
     let step = rw (c.change-in-Some-next.ensures.same.0, ← c.requires.text) at c.change-in-Some-next.ensures.step in
-    read_on g.T.ChangeVisitor.with_change g.T.ChangeVisitor.with_instant old.codes.now new.codes.now
+    BodyContinuesAs-item_at g.T.ChangeVisitor.with_change g.T.ChangeVisitor.with_instant old.codes.now new.codes.now
     (body_fold (g.T.ChangeVisitor.taken old.timed.visitor) old.timed.clock)
     (body_fold (g.T.ChangeVisitor.taken new.timed.visitor) new.timed.clock)
     old.dump_section new.dump_section text c.next.new.self.text after

@@ -3,7 +3,7 @@ use Rattle.vcd_read.specs.Tokens.{Token}
 use Rattle.vcd_read.specs.Bodies.{until_fault}
 use Rattle.vcd_read.specs.Body.{body_from, ready}
 use Rattle.vcd_read.specs.BodyFold.{body_fold, state_of}
-use Rattle.vcd_read.proofs.BodyLemmas.{leaves_same}
+use Rattle.vcd_read.proofs.BodyLemmas.{BodyContinuesAs-same}
 use Rattle.vcd_read.proofs.body.Body.short_item.Goals as goal
 
 pub returns-then-not-finds_token-clause-rest : goal.returns-then-not-finds_token-clause-rest
@@ -18,7 +18,7 @@ returns-then-not-finds_token-clause-rest g c =
 pub returns-then-reader-eq35-clause-rest : goal.returns-then-reader-eq35-clause-rest
 returns-then-reader-eq35-clause-rest g c =
     let old = c.args.self.now in
-    leaves_same _ _ _ _ _ c.short_time.result
+    BodyContinuesAs-same _ _ _ _ _ c.short_time.result
     (λ more. rw c.finds_token.ensures.text
     (ap (λ (ts : List Token). until_fault g.T.ChangeVisitor.with_change g.T.ChangeVisitor.with_instant old.codes.now
     (state_of c.args.reader.now.text (body_fold (g.T.ChangeVisitor.taken old.timed.visitor) old.timed.clock)
@@ -28,7 +28,7 @@ returns-then-reader-eq35-clause-rest g c =
 pub returns-clause-rest : goal.returns-clause-rest
 returns-clause-rest g c =
     let old = c.args.self.now in
-    leaves_same _ _ _ _ _ c.short_change.result
+    BodyContinuesAs-same _ _ _ _ _ c.short_change.result
     (λ more. rw c.finds_token.ensures.text
     (ap (λ (ts : List Token). until_fault g.T.ChangeVisitor.with_change g.T.ChangeVisitor.with_instant old.codes.now
     (state_of c.args.reader.now.text (body_fold (g.T.ChangeVisitor.taken old.timed.visitor) old.timed.clock)

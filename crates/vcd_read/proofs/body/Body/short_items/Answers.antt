@@ -6,7 +6,7 @@ use Rattle.vcd_read.specs.Reading.{left_at}
 use Rattle.vcd_read.specs.BodyFold.{state_of, body_fold}
 use Rattle.vcd_read.specs.declared.body_piece.BodyPiece.{BodyPiece}
 use Rattle.vcd_read.specs.declared.token.Reader.{Reader}
-use Rattle.vcd_read.proofs.BodyLemmas.{stops_same, leaves_err}
+use Rattle.vcd_read.proofs.BodyLemmas.{Stops-same, BodyContinuesAs-error}
 use Rattle.vcd_read.proofs.body.Body.short_items.Goals as goal
 
 pub loop-init : goal.loop-init
@@ -30,8 +30,8 @@ loop-init g c =
 pub returns-in_err-short_item-clause-rest : goal.returns-in_err-short_item-clause-rest
 returns-in_err-short_item-clause-rest g c =
     let fault = c.in_err-short_item.field-0.0 in
-    leaves_err _ _ _ _ c.from_residual.result fault c.from_residual.ensures.1
-    (λ more. stops_same fault _ _ _ _ (c.loop.invariant.rest more) (c.in_err-short_item.ensures.rest more))
+    BodyContinuesAs-error _ _ _ _ c.from_residual.result fault c.from_residual.ensures.1
+    (λ more. Stops-same fault _ _ _ _ (c.loop.invariant.rest more) (c.in_err-short_item.ensures.rest more))
 
 pub loop-preserved : goal.loop-preserved
 loop-preserved g c =

@@ -3,7 +3,7 @@ use Rattle.vcd_read.specs.Tokens.{Token}
 use Rattle.vcd_read.specs.Reading.{left_at, token_at}
 use Rattle.vcd_read.specs.Body.{time_item, time_shape, ready, body_from}
 use Rattle.vcd_read.specs.BodyFold.{body_fold}
-use Rattle.vcd_read.proofs.BodyLemmas.{read_on, shape_read}
+use Rattle.vcd_read.proofs.BodyLemmas.{BodyContinuesAs-item_at, body_from-shape}
 use Rattle.vcd_read.proofs.body.Body.short_time.Goals as goal
 
 pub returns-in-Some-clause-rest : goal.returns-in-Some-clause-rest
@@ -18,9 +18,9 @@ returns-in-Some-clause-rest g c =
     let is : (more : List Token) → body_from ready (left_at text reader.at ++ more) ≡ time_item t.line digits
     ∷ body_from ready (left_at text after ++ more) =
     λ more. ap (λ (ts : List Token). body_from ready (ts ++ more)) c.in-Some.ensures.time.2.2
-    ∙ shape_read t (left_at text after ++ more) (time_shape digits) c.in-Some.ensures.time.2.1 in
+    ∙ body_from-shape t (left_at text after ++ more) (time_shape digits) c.in-Some.ensures.time.2.1 in
     let step = rw (c.go_to.ensures.same.0, ← c.requires.text) at c.go_to.ensures.step digits c.in-Some.ensures.time.1 in
-    read_on g.T.ChangeVisitor.with_change g.T.ChangeVisitor.with_instant old.codes.now new.codes.now
+    BodyContinuesAs-item_at g.T.ChangeVisitor.with_change g.T.ChangeVisitor.with_instant old.codes.now new.codes.now
     (body_fold (g.T.ChangeVisitor.taken old.timed.visitor) old.timed.clock)
     (body_fold (g.T.ChangeVisitor.taken new.timed.visitor) new.timed.clock)
     old.dump_section new.dump_section text c.short_time.new.self.text after

@@ -3,7 +3,7 @@ use Rattle.vcd_read.specs.Tokens.{Token}
 use Rattle.vcd_read.specs.Reading.{left_at, line_of, token_at}
 use Rattle.vcd_read.specs.Body.{change}
 use Rattle.vcd_read.specs.BodyFold.{body_fold, state_of}
-use Rattle.vcd_read.proofs.BodyLemmas.{read_item, vector_read}
+use Rattle.vcd_read.proofs.BodyLemmas.{BodyContinuesAs-item, body_from-vector_code}
 use Rattle.vcd_read.proofs.body.Body.vector.Goals as goal
 
 pub returns-in-Some-clause-rest : goal.returns-in-Some-clause-rest
@@ -15,9 +15,9 @@ returns-in-Some-clause-rest g c =
     let after = c.next.new.self.at in
     let t = token_at text c.in-Some.code.at c.in-Some.code.bytes.now in
     let h = rw c.in-Some.ensures.text at c.change.ensures.step in
-    let is = λ (more : List Token). vector_read line c.args.digits.now (left_at text old.reader.at ++ more)
+    let is = λ (more : List Token). body_from-vector_code line c.args.digits.now (left_at text old.reader.at ++ more)
     (left_at text after ++ more) t (ap (λ (ts : List Token). ts ++ more) c.in-Some.ensures.token) in
-    read_item g.T.ChangeVisitor.with_change g.T.ChangeVisitor.with_instant old.codes.now new.codes.now
+    BodyContinuesAs-item g.T.ChangeVisitor.with_change g.T.ChangeVisitor.with_instant old.codes.now new.codes.now
     (state_of old.reader.text (body_fold (g.T.ChangeVisitor.taken old.timed.visitor) old.timed.clock) old.dump_section)
     (state_of new.reader.text (body_fold (g.T.ChangeVisitor.taken new.timed.visitor) new.timed.clock) new.dump_section)
     text new.reader.text after new.reader.at new.place (change line c.args.digits.now t.bytes) _ c.change.result

@@ -6,7 +6,7 @@ use Rattle.vcd_read.specs.Scopes.{texts}
 use Rattle.vcd_read.specs.Sections.{declared_in, header_of}
 use Rattle.vcd_read.proofs.HeaderLemmas.{var_stops, var_refused, var_continues, scope_stops, scope_continues}
 use Rattle.vcd_read.proofs.HeaderLemmas.{upscope_stops, upscope_refused, upscope_continues, end_stops, end_continues}
-use Rattle.vcd_read.proofs.HeaderLemmas.{skipped_stops, skipped_continues, read_nothing}
+use Rattle.vcd_read.proofs.HeaderLemmas.{skipped_stops, skipped_continues, header_of-stray}
 use Rattle.vcd_read.proofs.header.Definitions.section.Goals as goal
 
 pub returns-in-Nothing-clause-rest : goal.returns-in-Nothing-clause-rest
@@ -17,7 +17,7 @@ returns-in-Nothing-clause-rest g c =
     (g.D.DeclarationVisitor.taken c.args.self.now.declarations) in
     let t = token_at piece c.args.first.at c.args.first.bytes.now in
     let ts = left_at piece c.args.reader.now.at in
-    rw c.fault.ensures (read_nothing g.D.DeclarationVisitor.with_variable text d t ts c.in-Nothing.ensures)
+    rw c.fault.ensures (header_of-stray g.D.DeclarationVisitor.with_variable text d t ts c.in-Nothing.ensures)
 
 pub returns-in_err-words-in-Var-clause-rest : goal.returns-in_err-words-in-Var-clause-rest
 returns-in_err-words-in-Var-clause-rest g c =
