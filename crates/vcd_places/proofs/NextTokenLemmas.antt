@@ -13,7 +13,8 @@ use Rattle.std.proofs.Math.Bool.{or-true}
 use Rattle.vcd_read.specs.Tokens.{Token, cut_from, is_space, tokens, tokens_from}
 use Rattle.vcd_read.specs.Reading.{tokens_after}
 use Rattle.vcd_read.specs.Header.{is_end}
-use Rattle.vcd_read.proofs.TokenLemmas.{between, left_end, left_step, line_in, token_in, token_step}
+use Rattle.vcd_read.proofs.TokenLemmas.{between, tokens_after-end, tokens_after-space, line_in, token_in}
+use Rattle.vcd_read.proofs.TokenLemmas.{tokens_after-token}
 use Rattle.vcd_places.specs.Places.{ends_at_boundary, starts_at_boundary}
 use Rattle.vcd_places.specs.NextTokens.{IsNextToken, IsTakenToEnd, IsTokenAt, ends_section, is_token_boundary}
 use Rattle.vcd_places.proofs.InsertionLemmas.{tokens_append_detached, tokens_spaced}
@@ -67,7 +68,7 @@ skip_spaces : (text : List ℕ) (n at : ℕ) → at + n ≤ length text
 skip_spaces text zero at within spaces = ap (tokens_after 1 text) (omega arith)
 skip_spaces text (suc n) at within spaces =
     ap (tokens_after 1 text) (omega arith)
-    ∙ left_step 1 text (at + n) (omega (arith, within)) (spaces (at + n) (omega arith) (omega arith))
+    ∙ tokens_after-space 1 text (at + n) (omega (arith, within)) (spaces (at + n) (omega arith) (omega arith))
     ∙ skip_spaces text n at (omega (arith, within)) (λ k low high. spaces k low (omega (arith, high)))
 
 pub spaces_skipped : (text : List ℕ) (at start : ℕ) → at ≤ start → start ≤ length text
@@ -117,7 +118,7 @@ module _ (text : List ℕ) (at start end : ℕ) (boundary : is_token_boundary te
   same_left = spaces_skipped text at start low (omega (arith, some, high)) spaces
 
   token_left : tokens_after 1 text at ≡ token ∷ tokens_after 1 text end
-  token_left = sym same_left ∙ token_step 1 text start end some high word space
+  token_left = sym same_left ∙ tokens_after-token 1 text start end some high word space
 
   pub is_taken : IsNextToken text at end bytes
   is_taken = record {
@@ -191,7 +192,7 @@ module _ (text : List ℕ) (at start end : ℕ) (boundary : is_token_boundary te
 pub nothing_left : (text : List ℕ) (at start : ℕ) → at ≤ start → start ≡ length text
     → ((k : ℕ) → at ≤ k → k < start → is_space (get_or text k 0) ≡ true) → tokens_after 1 text at ≡ []
 nothing_left text at start le is spaces =
-    sym (spaces_skipped text at start le (omega (arith, is)) spaces) ∙ left_end 1 text start (omega (arith, is))
+    sym (spaces_skipped text at start le (omega (arith, is)) spaces) ∙ tokens_after-end 1 text start (omega (arith, is))
 
 -- a word that begins at `start` ends after `start`
 pub word_some : (text : List ℕ) (start end : ℕ) → start < length text → start ≤ end

@@ -1,4 +1,4 @@
--- Any fold over a body is related to the instants of the body.
+-- A fold over a body fails as the reading of its instants fails, or ends with an accumulator that is related to them.
 use Rattle.std.proofs.Common.{◌≡◌, ℕ, ◌<◌, Bool, true, false, cond, ◌&&◌, List, [], ◌∷◌, ◌++◌, length, replicate}
 use Rattle.std.proofs.Common.{slice_set, Option, Some, None, IsSome, Result, Ok, Err, refl, sym, ap, subst}
 use Rattle.std.specs.Prelude.{not, ◌==◌, unwrap_or}
@@ -26,10 +26,11 @@ use Rattle.vcd_read.proofs.InstantsLaw.{at_start}
 use Rattle.vcd_read.proofs.CodesLemmas.{net_within}
 use Rattle.vcd_read.proofs.ReadLemmas.{read_whole}
 
-some_net : (nets : List Net) (digits line : ℕ) (found : Option ℕ) (s next : BodyContext)
+-- if the item of a code is no fault, the net of the code is found
+fitting-some : (nets : List Net) (digits line : ℕ) (found : Option ℕ) (s next : BodyContext)
     → at_line line (fitting nets digits found >>= λ net. Ok s) ≡ Ok next → IsSome found
-some_net nets digits line None s next h = absurd cc
-some_net nets digits line (Some net) s next h = refl
+fitting-some nets digits line None s next h = absurd cc
+fitting-some nets digits line (Some net) s next h = refl
 
 -- a result of a fold follows one of instants: the same fault, or an accumulator that is related to the instants
 abbrev pub Follows : {A : Type 0} → (List Instant → A → Type 0) → Result (List Instant) VcdFault → Result A VcdFault
@@ -41,33 +42,40 @@ Follows R (Err fault) r = r ≡ Err fault
 abbrev pub Ends : {A : Type 0} → (List Instant → CurrentValues → A → Type 0) → List Instant → A → Type 0
 Ends R instants a = (current : CurrentValues) × R instants current a
 
+-- a result has one value
 ok_same : {A E : Type 0} (x y : A) (r : Result A E) → r ≡ Ok x → r ≡ Ok y → x ≡ y
 ok_same x y r e h = cc
 
+-- a result has one fault
 err_same : {A E : Type 0} (x y : E) (r : Result A E) → r ≡ Err x → r ≡ Err y → x ≡ y
 err_same x y r e h = cc
 
+-- no result is a value and a fault
 ok_or_err : {A E : Type 0} (x : A) (y : E) (r : Result A E) → r ≡ Ok x → r ≡ Err y → ⊥
 ok_or_err x y r e h = cc
 
-fails_as : {A : Type 0} (R : List Instant → A → Type 0) (w : Result (List Instant) VcdFault) (r : Result A VcdFault)
+-- a fault of the fold, by its line and kind, is a fault of the reading
+ReadFailsAs-followed : {A : Type 0} (R : List Instant → A → Type 0) (w : Result (List Instant) VcdFault)
+    (r : Result A VcdFault)
     (line : ℕ) (kind : FaultKind) → Follows R w r → ReadFailsAs line kind r → ReadFailsAs line kind w
-fails_as R w r line Memory f h = h
-fails_as R (Ok instants) r line kind f h = absurd (ok_or_err f.0 _ r f.1 h)
-fails_as R (Err fault) r line kind f h = ap Err (err_same fault _ r f h)
+ReadFailsAs-followed R w r line Memory f h = h
+ReadFailsAs-followed R (Ok instants) r line kind f h = absurd (ok_or_err f.0 _ r f.1 h)
+ReadFailsAs-followed R (Err fault) r line kind f h = ap Err (err_same fault _ r f h)
 
 -- a fault of the fold is a fault of the reading
-pub fails-followed : {A : Type 0} (R : List Instant → A → Type 0) (w : Result (List Instant) VcdFault)
+pub ReadFails-followed : {A : Type 0} (R : List Instant → A → Type 0) (w : Result (List Instant) VcdFault)
     (r : Result A VcdFault) (fault : VcdFault) → Follows R w r → ReadFails fault r → ReadFails fault w
-fails-followed R w r fault f h = fails_as R w r fault.line fault.kind f h
+ReadFails-followed R w r fault f h = ReadFailsAs-followed R w r fault.line fault.kind f h
 
--- what the fold gives is related to instants
-pub gives-followed : {A : Type 0} (R : List Instant → A → Type 0) (w : Result (List Instant) VcdFault)
+-- if the fold gives `a`, the reading gives instants, and `a` is related to them
+pub ok-followed : {A : Type 0} (R : List Instant → A → Type 0) (w : Result (List Instant) VcdFault)
     (r : Result A VcdFault) (a : A) → Follows R w r → r ≡ Ok a → (instants : List Instant) × (w ≡ Ok instants)
     × R instants a
-gives-followed R (Ok instants) r a f h = (instants, refl, subst (R instants) (ok_same f.0 a r f.1 h) f.2)
-gives-followed R (Err fault) r a f h = absurd (ok_or_err a fault r h f)
+ok-followed R (Ok instants) r a f h = (instants, refl, subst (R instants) (ok_same f.0 a r f.1 h) f.2)
+ok-followed R (Err fault) r a f h = absurd (ok_or_err a fault r h f)
 
+-- the relation `R` is of instants, the current values after them, and an accumulator; it is kept by each change and by
+-- each end of an instant
 module _ {A : Type 0} (with_change : A → ℕ → List Bit → A) (with_instant : A → ℕ → A) (nets : List Net)
     (R : List Instant → CurrentValues → A → Type 0)
     (on_change : (done : List Instant) (current : CurrentValues) (a : A) (net : ℕ) (bits : List Bit) → net < length nets
@@ -79,74 +87,84 @@ module _ {A : Type 0} (with_change : A → ℕ → List Bit → A) (with_instant
   abbrev fold_at : DumpProgress → A → BodyFold A
   fold_at p a = record { accumulator = a; time = p.time; has_instant = p.has_instant }
 
+  -- the state of the fold with the accumulator `a` where the reading is at `s`
   abbrev state_at : Whole → A → State A
   state_at s a = record { context = s.context; progress = fold_at s.progress a }
 
+  -- the fold is where the reading is, at `p`, and its accumulator is related to the instants
   abbrev Keeps : DumpProgress → BodyFold A → Type 0
   Keeps p t = (a : A) × (t ≡ fold_at p a) × R p.done p.current a
 
+  -- the fold has the fault of the reading, or it is at its state, and its accumulator is related to the instants
   abbrev KeepsState : Result Whole VcdFault → Result (State A) VcdFault → Type 0
   KeepsState (Ok s) r = (a : A) × (r ≡ Ok (state_at s a)) × R s.progress.done s.progress.current a
   KeepsState (Err fault) r = r ≡ Err fault
 
-  on_time : (test : Bool) (p : DumpProgress) (a : A) (t : ℕ) → R p.done p.current a
+  -- a time keeps the relation, whether it ends an instant (`test`) or not
+  Keeps-time : (test : Bool) (p : DumpProgress) (a : A) (t : ℕ) → R p.done p.current a
       → Keeps (cond test (record (flushed p) { time = t; has_instant = true })
       (record p { time = t; has_instant = true }))
       (cond test (record { accumulator = with_instant a p.time; time = t; has_instant = true })
       (record { accumulator = a; time = t; has_instant = true }))
-  on_time true p a t r = (with_instant a p.time, refl, on_instant p.done p.current a p.time r)
-  on_time false p a t r = (a, refl, r)
+  Keeps-time true p a t r = (with_instant a p.time, refl, on_instant p.done p.current a p.time r)
+  Keeps-time false p a t r = (a, refl, r)
 
-  on_item : (item : BodyItem) (s next : BodyContext) (p : DumpProgress) (a : A) → context_after nets s item ≡ Ok next
+  -- an item that is no fault keeps the relation
+  Keeps-item : (item : BodyItem) (s next : BodyContext) (p : DumpProgress) (a : A) → context_after nets s item ≡ Ok next
       → R p.done p.current a
       → Keeps (whole_after nets p item) (progress_after with_change with_instant nets (fold_at p a) item)
-  on_item (time_item line digits) s next p a ok r = on_time (p.has_instant && not (number digits == p.time)) p a
+  Keeps-item (time_item line digits) s next p a ok r = Keeps-time (p.has_instant && not (number digits == p.time)) p a
       (number digits) r
-  on_item (change line digits code) s next p a ok r =
+  Keeps-item (change line digits code) s next p a ok r =
       let net : ℕ = unwrap_or (net_of nets code) 0 in
       let bits : List Bit = extended (size_of nets net) digits in (
         with_change a net bits,
         refl,
         on_change p.done p.current a net bits
-            (net_within nets code (some_net nets (length digits) line (net_of nets code) s next ok)) r,
+            (net_within nets code (fitting-some nets (length digits) line (net_of nets code) s next ok)) r,
       )
-  on_item (skipped line code) s next p a ok r = (a, refl, r)
-  on_item (dump_section_open line) s next p a ok r = (a, refl, r)
-  on_item (dump_section_end line) s next p a ok r = (a, refl, r)
-  on_item (wrong line kind) s next p a ok r = (a, refl, r)
+  Keeps-item (skipped line code) s next p a ok r = (a, refl, r)
+  Keeps-item (dump_section_open line) s next p a ok r = (a, refl, r)
+  Keeps-item (dump_section_end line) s next p a ok r = (a, refl, r)
+  Keeps-item (wrong line kind) s next p a ok r = (a, refl, r)
 
+  -- the state of the reading with the progress `p`, if the context is no fault
   abbrev whole_of : DumpProgress → Result BodyContext VcdFault → Result Whole VcdFault
   whole_of p r = r >>= λ next. Ok (record { context = next; progress = p })
 
+  -- the state of the fold with the progress `t`, if the context is no fault
   abbrev taken_of : BodyFold A → Result BodyContext VcdFault → Result (State A) VcdFault
   taken_of t r = r >>= λ next. Ok (record { context = next; progress = t })
 
-  step-follows : (items : List BodyItem) (item : BodyItem) (s : Whole) (a : A) (stood : Result BodyContext VcdFault)
+  -- an item, and then items that keep the relation from each state on, keep it
+  KeepsState-item : (items : List BodyItem) (item : BodyItem) (s : Whole) (a : A) (stood : Result BodyContext VcdFault)
       → context_after nets s.context item ≡ stood → R s.progress.done s.progress.current a
       → ((s2 : Whole) (b : A) → R s2.progress.done s2.progress.current b → KeepsState (whole_steps nets s2 items)
       (steps with_change with_instant nets (state_at s2 b) items))
       → KeepsState (whole_of (whole_after nets s.progress item) stood >>= λ next. whole_steps nets next items)
       (taken_of (progress_after with_change with_instant nets (fold_at s.progress a) item) stood >>= λ next. steps
       with_change with_instant nets next items)
-  step-follows items item s a (Ok next) e r rest =
-      let kept = on_item item s.context next s.progress a e r in
+  KeepsState-item items item s a (Ok next) e r rest =
+      let kept = Keeps-item item s.context next s.progress a e r in
       let after : Whole = record { context = next; progress = whole_after nets s.progress item } in
       subst (λ (t : BodyFold A). KeepsState (whole_steps nets after items) (steps with_change with_instant nets
       (record { context = next; progress = t }) items)) (sym kept.1) (rest after kept.0 kept.2)
-  step-follows items item s a (Err fault) e r rest = refl
+  KeepsState-item items item s a (Err fault) e r rest = refl
 
-  steps-follow : (items : List BodyItem) (s : Whole) (a : A) → R s.progress.done s.progress.current a
+  -- items keep the relation, or have the same fault
+  KeepsState-steps : (items : List BodyItem) (s : Whole) (a : A) → R s.progress.done s.progress.current a
       → KeepsState (whole_steps nets s items) (steps with_change with_instant nets (state_at s a) items)
   unfolding whole_steps steps
-  steps-follow [] s a r = (a, refl, r)
-  steps-follow (item ∷ items) s a r = step-follows items item s a (context_after nets s.context item) refl r
-      (λ s2 b kept. steps-follow items s2 b kept)
+  KeepsState-steps [] s a r = (a, refl, r)
+  KeepsState-steps (item ∷ items) s a r = KeepsState-item items item s a (context_after nets s.context item) refl r
+      (λ s2 b kept. KeepsState-steps items s2 b kept)
 
   -- before the first fault, the fold is at the state of the reading, and its accumulator is related to the instants
   abbrev KeepsBefore : Whole → State A → Type 0
   KeepsBefore w t = (a : A) × (t ≡ state_at w a) × R w.progress.done w.progress.current a
 
-  before-follows : (items : List BodyItem) (item : BodyItem) (s : Whole) (a : A) (stood : Result BodyContext VcdFault)
+  -- an item, and then items that keep the relation up to their first fault, keep it up to the first fault
+  KeepsBefore-item : (items : List BodyItem) (item : BodyItem) (s : Whole) (a : A) (stood : Result BodyContext VcdFault)
       → context_after nets s.context item ≡ stood → R s.progress.done s.progress.current a
       → ((s2 : Whole) (b : A) → R s2.progress.done s2.progress.current b → KeepsBefore (whole_before nets s2 items)
       (reached_before with_change with_instant nets (state_at s2 b) items))
@@ -158,25 +176,28 @@ module _ {A : Type 0} (with_change : A → ℕ → List Bit → A) (with_instant
         | Ok next ↦ reached_before with_change with_instant nets next items
         | Err fault ↦ state_at s a
       ])
-  before-follows items item s a (Ok next) e r rest =
-      let kept = on_item item s.context next s.progress a e r in
+  KeepsBefore-item items item s a (Ok next) e r rest =
+      let kept = Keeps-item item s.context next s.progress a e r in
       let after : Whole = record { context = next; progress = whole_after nets s.progress item } in
       subst (λ (t : BodyFold A). KeepsBefore (whole_before nets after items)
       (reached_before with_change with_instant nets
       (record { context = next; progress = t }) items)) (sym kept.1) (rest after kept.0 kept.2)
-  before-follows items item s a (Err fault) e r rest = (a, refl, r)
+  KeepsBefore-item items item s a (Err fault) e r rest = (a, refl, r)
 
-  pub reached-follows : (items : List BodyItem) (s : Whole) (a : A) → R s.progress.done s.progress.current a
+  -- items keep the relation up to their first fault
+  pub KeepsBefore-reached_before : (items : List BodyItem) (s : Whole) (a : A) → R s.progress.done s.progress.current a
       → KeepsBefore (whole_before nets s items) (reached_before with_change with_instant nets (state_at s a) items)
   unfolding reached_before
-  reached-follows [] s a r = (a, refl, r)
-  reached-follows (item ∷ items) s a r = before-follows items item s a (context_after nets s.context item) refl r
-      (λ s2 b kept. reached-follows items s2 b kept)
+  KeepsBefore-reached_before [] s a r = (a, refl, r)
+  KeepsBefore-reached_before (item ∷ items) s a r = KeepsBefore-item items item s a (context_after nets s.context item)
+      refl r
+      (λ s2 b kept. KeepsBefore-reached_before items s2 b kept)
 
-  on_end : (has_instant : Bool) (p : DumpProgress) (a : A) → R p.done p.current a
+  -- at the end of a body the accumulator is related to all instants, whether there is one at the last time or not
+  Ends-ended : (has_instant : Bool) (p : DumpProgress) (a : A) → R p.done p.current a
       → (b : A) × (cond has_instant (with_instant a p.time) a ≡ b)
       × ((current : CurrentValues) × R (cond has_instant (flushed p).done p.done) current b)
-  on_end true p a r = (
+  Ends-ended true p a r = (
     with_instant a p.time,
     refl,
     (
@@ -185,45 +206,50 @@ module _ {A : Type 0} (with_change : A → ℕ → List Bit → A) (with_instant
           p.time r,
     ),
   )
-  on_end false p a r = (a, refl, (p.current, r))
+  Ends-ended false p a r = (a, refl, (p.current, r))
 
-  end-follows : (s : Whole) (a : A) (stood : Result BodyContext VcdFault) → R s.progress.done s.progress.current a
+  -- at the end of a body whose items are no fault, the fold follows the instants
+  Follows-end : (s : Whole) (a : A) (stood : Result BodyContext VcdFault) → R s.progress.done s.progress.current a
       → Follows (Ends R) (stood >>= λ end. Ok (instants_at s.progress))
       (stood >>= λ end. Ok (ended with_instant (fold_at s.progress a)))
-  end-follows s a (Ok stood) r = let e = on_end s.progress.has_instant s.progress a r in (e.0, ap Ok e.1, e.2)
-  end-follows s a (Err fault) r = refl
+  Follows-end s a (Ok stood) r = let e = Ends-ended s.progress.has_instant s.progress a r in (e.0, ap Ok e.1, e.2)
+  Follows-end s a (Err fault) r = refl
 
-  ends-follow : (w : Result Whole VcdFault) (t : Result (State A) VcdFault) → KeepsState w t
+  -- if the items keep the relation, the fold follows the instants after the end of the body
+  Follows-at_end : (w : Result Whole VcdFault) (t : Result (State A) VcdFault) → KeepsState w t
       → Follows (Ends R) (w >>= λ s. at_the_end s.context >>= λ end. Ok (instants_at s.progress))
       (t >>= at_end with_instant)
-  ends-follow (Ok s) t k =
+  Follows-at_end (Ok s) t k =
       subst (λ (t : Result (State A) VcdFault). Follows (Ends R) (at_the_end s.context >>= λ end. Ok
-      (instants_at s.progress)) (t >>= at_end with_instant)) (sym k.1) (end-follows s k.0 (at_the_end s.context) k.2)
-  ends-follow (Err fault) t k = ap (λ (t : Result (State A) VcdFault). t >>= at_end with_instant) k
+      (instants_at s.progress)) (t >>= at_end with_instant)) (sym k.1) (Follows-end s k.0 (at_the_end s.context) k.2)
+  Follows-at_end (Err fault) t k = ap (λ (t : Result (State A) VcdFault). t >>= at_end with_instant) k
 
   -- the fold over a body follows the instants of the body
-  pub taken-follows : (body : List Token) (a : A) → R [] (replicate (length nets) None) a → Follows (Ends R)
+  pub Follows-fold_body : (body : List Token) (a : A) → R [] (replicate (length nets) None) a → Follows (Ends R)
       (instants_from nets body) (fold_body with_change with_instant nets a body)
-  taken-follows body a r =
+  Follows-fold_body body a r =
       let items : List BodyItem = body_from ready body in
       subst (λ (w : Result (List Instant) VcdFault). Follows (Ends R) w (fold_body with_change with_instant nets a
       body)) (sym (read_whole nets body (at_start nets) refl))
-      (ends-follow (whole_steps nets (at_start nets) items) (steps with_change with_instant nets (at_first a) items)
-      (steps-follow items (at_start nets) a r))
+      (Follows-at_end (whole_steps nets (at_start nets) items) (steps with_change with_instant nets (at_first a) items)
+      (KeepsState-steps items (at_start nets) a r))
 
 -- ---- what is collected
 
+-- these instants, and the current values after them, are collected
 abbrev pub IsCollected : List Instant → CurrentValues → Collected → Type 0
 IsCollected done current c = c ≡ record { done = done; current = current }
 
+-- all instants of a body are collected
 abbrev pub AreCollected : List Instant → Collected → Type 0
 AreCollected = Ends IsCollected
 
-pub collected-follows : (nets : List Net) (body : List Token) (c : Collected) → c
+-- what is collected of a body follows its instants
+pub Follows-collected : (nets : List Net) (body : List Token) (c : Collected) → c
     ≡ record { done = []; current = replicate (length nets) None }
     → Follows AreCollected (instants_from nets body) (fold_body collected_change collected_instant nets c body)
-collected-follows nets body c e =
-    taken-follows collected_change collected_instant nets IsCollected
+Follows-collected nets body c e =
+    Follows-fold_body collected_change collected_instant nets IsCollected
     (λ done current a net bits lt is. ap (λ (c : Collected). collected_change c net bits) is)
     (λ done current a time is. ap (λ (c : Collected). collected_instant c time) is)
     body c e

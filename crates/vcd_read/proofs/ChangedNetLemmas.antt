@@ -1,4 +1,4 @@
--- The values of the nets that have one, taken in the order of the nets.
+-- The values of the nets that have one, moved one by one in the order of the nets, are the values of an instant.
 use Rattle.std.proofs.Common.{◌≡◌, ◌≢◌, ℕ, zero, suc, ◌+◌, ◌<◌, ◌≤◌, List, [], ◌∷◌, ◌++◌, length, get_or, replicate}
 use Rattle.std.proofs.Common.{slice_set, Option, Some, None, IsSome, refl, sym, ap, ◌∙◌, arith, inl, inr}
 use Rattle.std.specs.Prelude.{Contains}
@@ -12,23 +12,26 @@ use Rattle.vcd_read.specs.DumpProgress.{values_from}
 use Rattle.vcd_read.specs.ChangedNets.{ListsChangedNets}
 use Rattle.vcd_read.proofs.CurrentValues.{CurrentValues}
 
+-- the value of a net that has none
 abbrev pub no_bits : Option (List Bit)
 no_bits = None
 
-none_at : (n net : ℕ) → get_or (replicate n no_bits) net None ≡ None
-none_at zero net = refl
-none_at (suc n) zero = refl
-none_at (suc n) (suc net) = none_at n net
+-- in a list of nets without values, no net has a value
+get_or-no_bits : (n net : ℕ) → get_or (replicate n no_bits) net None ≡ None
+get_or-no_bits zero net = refl
+get_or-no_bits (suc n) zero = refl
+get_or-no_bits (suc n) (suc net) = get_or-no_bits n net
 
-some_is_none : (bits : Option (List Bit)) → bits ≡ None → IsSome bits → ⊥
-some_is_none None e h = cc
-some_is_none (Some bits) e h = cc
+-- a value that is there isn't `None`
+IsSome-not_None : (bits : Option (List Bit)) → bits ≡ None → IsSome bits → ⊥
+IsSome-not_None None e h = cc
+IsSome-not_None (Some bits) e h = cc
 
 -- nothing is listed where no net has a value
-pub no_changed_nets : (n : ℕ) → ListsChangedNets [] (replicate n no_bits)
-no_changed_nets n = record {
+pub ListsChangedNets-none : (n : ℕ) → ListsChangedNets [] (replicate n no_bits)
+ListsChangedNets-none n = record {
   below = λ k d lt. absurd (omega (arith, lt));
-  listed = λ net some. absurd (some_is_none (get_or (replicate n no_bits) net None) (none_at n net) some);
+  listed = λ net some. absurd (IsSome-not_None (get_or (replicate n no_bits) net None) (get_or-no_bits n net) some);
 }
 
 -- the list has the net at an index from `place` on
@@ -45,8 +48,9 @@ pub record IsMoved (changed_nets : List ℕ) (place : ℕ) (start current : Curr
     pub room : length current ≡ length start
     pub listed : (net : ℕ) → IsSome (get_or current net None) → IsListedFrom changed_nets place net
 
-is_listed_from : (changed_nets : List ℕ) (net : ℕ) → Contains changed_nets net → IsListedFrom changed_nets 0 net
-is_listed_from changed_nets net h = record {
+-- a net in the list is listed from its first place on
+IsListedFrom-Contains : (changed_nets : List ℕ) (net : ℕ) → Contains changed_nets net → IsListedFrom changed_nets 0 net
+IsListedFrom-Contains changed_nets net h = record {
   at = h.0;
   low = omega arith;
   high = h.1;
@@ -54,73 +58,77 @@ is_listed_from changed_nets net h = record {
       ∙ h.2;
 }
 
-pub moved_first : (changed_nets : List ℕ) (start : CurrentValues) → ListsChangedNets changed_nets start
+-- at the first place of the list no value is moved yet
+pub IsMoved-start : (changed_nets : List ℕ) (start : CurrentValues) → ListsChangedNets changed_nets start
     → IsMoved changed_nets 0 start start
     []
-moved_first changed_nets start h = record {
+IsMoved-start changed_nets start h = record {
   values = refl;
   room = refl;
-  listed = λ net some. is_listed_from changed_nets net (h.listed net some);
+  listed = λ net some. IsListedFrom-Contains changed_nets net (h.listed net some);
 }
 
 -- with no value below a net, its value is the first
-values_first : (base net : ℕ) (current : CurrentValues) (bits : List Bit) → get_or current net None ≡ Some bits
+values_from-first : (base net : ℕ) (current : CurrentValues) (bits : List Bit) → get_or current net None ≡ Some bits
     → ((k : ℕ) → k < net → get_or current k None ≡ no_bits)
     → values_from base current ≡ record { net = base + net; bits = bits } ∷ values_from base
     (slice_set current net None)
-values_first base net [] bits e none = absurd (cc)
-values_first base zero (Some b ∷ current) bits e none =
+values_from-first base net [] bits e none = absurd (cc)
+values_from-first base zero (Some b ∷ current) bits e none =
     let same : b ≡ bits = cc in
     let at : base + 0 ≡ base = omega arith in
     rw (at, same) refl
-values_first base zero (None ∷ current) bits e none = absurd (cc)
-values_first base (suc net) (Some b ∷ current) bits e none = let h : Some b ≡ no_bits = none 0 (omega arith) in
+values_from-first base zero (None ∷ current) bits e none = absurd (cc)
+values_from-first base (suc net) (Some b ∷ current) bits e none = let h : Some b ≡ no_bits = none 0 (omega arith) in
     absurd (cc)
-values_first base (suc net) (None ∷ current) bits e none =
-    let h = values_first (base + 1) net current bits e (λ k lt. none (suc k) (omega (arith, lt))) in
+values_from-first base (suc net) (None ∷ current) bits e none =
+    let h = values_from-first (base + 1) net current bits e (λ k lt. none (suc k) (omega (arith, lt))) in
     let at : (base + 1) + net ≡ base + suc net = omega arith in
     rw (← at) h
 
--- a net has a value or none
-none_or_some : (bits : Option (List Bit)) → (IsSome bits → ⊥) → bits ≡ None
-none_or_some None h = refl
-none_or_some (Some bits) h = absurd (h refl)
+-- where no value is there, it is `None`
+None-not_IsSome : (bits : Option (List Bit)) → (IsSome bits → ⊥) → bits ≡ None
+None-not_IsSome None h = refl
+None-not_IsSome (Some bits) h = absurd (h refl)
 
-some_of : (bits : Option (List Bit)) (b : List Bit) → bits ≡ Some b → IsSome bits
-some_of None b e = absurd (cc)
-some_of (Some bits) b e = refl
+-- these bits are a value that is there
+IsSome-Some : (bits : Option (List Bit)) (b : List Bit) → bits ≡ Some b → IsSome bits
+IsSome-Some None b e = absurd (cc)
+IsSome-Some (Some bits) b e = refl
 
-set_none : (current : CurrentValues) (net : ℕ) → get_or current net None ≡ no_bits → slice_set current net None
+-- to take the value of a net that has none changes nothing
+slice_set-no_bits : (current : CurrentValues) (net : ℕ) → get_or current net None ≡ no_bits → slice_set current net None
     ≡ current
-set_none [] net e = refl
-set_none (c ∷ current) zero e = ap (λ (x : Option (List Bit)). x ∷ current) (sym e)
-set_none (c ∷ current) (suc net) e = ap (λ (xs : CurrentValues). c ∷ xs) (set_none current net e)
+slice_set-no_bits [] net e = refl
+slice_set-no_bits (c ∷ current) zero e = ap (λ (x : Option (List Bit)). x ∷ current) (sym e)
+slice_set-no_bits (c ∷ current) (suc net) e = ap (λ (xs : CurrentValues). c ∷ xs) (slice_set-no_bits current net e)
 
 -- a net whose value is taken has none
-taken_none : (current : CurrentValues) (net : ℕ) → get_or (slice_set current net None) net None ≡ no_bits
-taken_none [] net = refl
-taken_none (c ∷ current) zero = refl
-taken_none (c ∷ current) (suc net) = taken_none current net
+get_or-taken : (current : CurrentValues) (net : ℕ) → get_or (slice_set current net None) net None ≡ no_bits
+get_or-taken [] net = refl
+get_or-taken (c ∷ current) zero = refl
+get_or-taken (c ∷ current) (suc net) = get_or-taken current net
 
 -- no net below the next one has a value
-below_next : (changed_nets : List ℕ) (place : ℕ) (start current : CurrentValues) (moved : List Value)
+get_or-below_next : (changed_nets : List ℕ) (place : ℕ) (start current : CurrentValues) (moved : List Value)
     → IsNonDecreasing changed_nets
     → IsMoved changed_nets place start current moved
     → (k : ℕ) → k < get_or changed_nets place 0 → get_or current k None ≡ no_bits
-below_next changed_nets place start current moved up h k lt =
-    none_or_some (get_or current k None) (λ some.
+get_or-below_next changed_nets place start current moved up h k lt =
+    None-not_IsSome (get_or current k None) (λ some.
     let s = h.listed k some in
     let le : get_or changed_nets place 0 ≤ get_or changed_nets s.at 0 = up place s.at 0 s.low s.high in
     omega (arith, s.is))
 
-listed_next : (changed_nets : List ℕ) (place : ℕ) (start current : CurrentValues) (moved : List Value)
+-- when the value of the net at `place` is taken, each net that still has one is listed after it
+IsListedFrom-next : (changed_nets : List ℕ) (place : ℕ) (start current : CurrentValues) (moved : List Value)
     → IsMoved changed_nets place start current moved
     → (net : ℕ) → IsSome (get_or (slice_set current (get_or changed_nets place 0) None) net None)
     → IsListedFrom changed_nets (place + 1) net
-listed_next changed_nets place start current moved h net some =
+IsListedFrom-next changed_nets place start current moved h net some =
     elim (cases_eq net (get_or changed_nets place 0)) [
-      | inl e ↦ absurd (some_is_none (get_or (slice_set current (get_or changed_nets place 0) None) net None)
-          (rw e (taken_none current (get_or changed_nets place 0))) some)
+      | inl e ↦ absurd (IsSome-not_None (get_or (slice_set current (get_or changed_nets place 0) None) net None)
+          (rw e (get_or-taken current (get_or changed_nets place 0))) some)
       | inr ne ↦
           let other : get_or (slice_set current (get_or changed_nets place 0) None) net None ≡ get_or current net None
           = get_or-set_other current (get_or changed_nets place 0) net None None ne in
@@ -130,16 +138,16 @@ listed_next changed_nets place start current moved h net some =
     ]
 
 -- the value of the net at `place` is moved
-pub moved_some : (changed_nets : List ℕ) (place : ℕ) (start current : CurrentValues) (moved : List Value)
+pub IsMoved-some : (changed_nets : List ℕ) (place : ℕ) (start current : CurrentValues) (moved : List Value)
     (bits : List Bit)
     → IsNonDecreasing changed_nets → IsMoved changed_nets place start current moved
     → get_or current (get_or changed_nets place 0) None ≡ Some bits
     → IsMoved changed_nets (place + 1) start (slice_set current (get_or changed_nets place 0) None)
     (moved ++ record { net = get_or changed_nets place 0; bits = bits } ∷ [])
-moved_some changed_nets place start current moved bits up h e =
+IsMoved-some changed_nets place start current moved bits up h e =
     let t : ℕ = get_or changed_nets place 0 in
     let left : CurrentValues = slice_set current t None in
-    let first = values_first 0 t current bits e (below_next changed_nets place start current moved up h) in
+    let first = values_from-first 0 t current bits e (get_or-below_next changed_nets place start current moved up h) in
     let zero_first : 0 + t ≡ t = omega arith in
     let first2 : values_from 0 current ≡ record { net = t; bits = bits } ∷ values_from 0 left = rw zero_first at
     first in
@@ -147,46 +155,49 @@ moved_some changed_nets place start current moved bits up h e =
       values = append_assoc moved (record { net = t; bits = bits } ∷ []) (values_from 0 left)
           ∙ ap (λ (xs : List Value). moved ++ xs) (sym first2) ∙ h.values;
       room = length-set current t None ∙ h.room;
-      listed = listed_next changed_nets place start current moved h;
+      listed = IsListedFrom-next changed_nets place start current moved h;
     }
 
 -- the net at `place`, which has no value, is passed over
-pub moved_none : (changed_nets : List ℕ) (place : ℕ) (start current : CurrentValues) (moved : List Value)
+pub IsMoved-none : (changed_nets : List ℕ) (place : ℕ) (start current : CurrentValues) (moved : List Value)
     → IsMoved changed_nets place start current moved
     → get_or current (get_or changed_nets place 0) None ≡ no_bits
     → IsMoved changed_nets (place + 1) start (slice_set current (get_or changed_nets place 0) None) moved
-moved_none changed_nets place start current moved h e =
-    let same = set_none current (get_or changed_nets place 0) e in
+IsMoved-none changed_nets place start current moved h e =
+    let same = slice_set-no_bits current (get_or changed_nets place 0) e in
     record {
       values = ap (λ (xs : CurrentValues). moved ++ values_from 0 xs) same ∙ h.values;
       room = ap (λ (xs : CurrentValues). length xs) same ∙ h.room;
-      listed = listed_next changed_nets place start current moved h;
+      listed = IsListedFrom-next changed_nets place start current moved h;
     }
 
-all_none : (base : ℕ) (current : CurrentValues) → ((net : ℕ) → get_or current net None ≡ no_bits)
+-- if no net has a value, there are no values, and none stands in the list
+values_from-no_bits : (base : ℕ) (current : CurrentValues) → ((net : ℕ) → get_or current net None ≡ no_bits)
     → (values_from base current ≡ []) × (current ≡ replicate (length current) None)
-all_none base [] none = (refl, refl)
-all_none base (Some bits ∷ current) none = let h : Some bits ≡ no_bits = none 0 in absurd (cc)
-all_none base (None ∷ current) none =
-    let h = all_none (base + 1) current (λ net. none (suc net)) in
+values_from-no_bits base [] none = (refl, refl)
+values_from-no_bits base (Some bits ∷ current) none = let h : Some bits ≡ no_bits = none 0 in absurd (cc)
+values_from-no_bits base (None ∷ current) none =
+    let h = values_from-no_bits (base + 1) current (λ net. none (suc net)) in
     (h.0, ap (λ (xs : CurrentValues). None ∷ xs) h.1)
 
 -- at the end of the list all values are moved, and none is left
-pub moved_all : (changed_nets : List ℕ) (place : ℕ) (start current : CurrentValues) (moved : List Value)
+pub IsMoved-all : (changed_nets : List ℕ) (place : ℕ) (start current : CurrentValues) (moved : List Value)
     → IsMoved changed_nets place start current moved → length changed_nets ≤ place
     → (moved ≡ values_from 0 start) × (current ≡ replicate (length start) None)
-moved_all changed_nets place start current moved h past =
+IsMoved-all changed_nets place start current moved h past =
     let none : (net : ℕ) → get_or current net None ≡ no_bits =
-    λ net. none_or_some (get_or current net None) (λ some. let s = h.listed net some in omega (arith, s.low, s.high)) in
-    let all = all_none 0 current none in (
+    λ net. None-not_IsSome (get_or current net None) (λ some. let s = h.listed net some in omega (arith, s.low, s.high))
+    in
+    let all = values_from-no_bits 0 current none in (
       sym (append-nil moved) ∙ ap (λ (xs : List Value). moved ++ xs) (sym all.0) ∙ h.values,
       all.1 ∙ ap (λ (n : ℕ). replicate n no_bits) h.room,
     )
 
 -- the order of the list doesn't matter
-pub changed_nets_sorted : (xs ys : List ℕ) (current : CurrentValues) → IsPermutation xs ys → ListsChangedNets xs current
+pub ListsChangedNets-permutation : (xs ys : List ℕ) (current : CurrentValues) → IsPermutation xs ys
+    → ListsChangedNets xs current
     → ListsChangedNets ys current
-changed_nets_sorted xs ys current same h = record {
+ListsChangedNets-permutation xs ys current same h = record {
   below = All-permutation (λ (net : ℕ). net < length current) xs ys same h.below;
   listed = λ net some. Contains-permutation xs ys net same (h.listed net some);
 }

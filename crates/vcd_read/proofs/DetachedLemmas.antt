@@ -162,7 +162,7 @@ module _ {A : Type 0} (with_change : A → ℕ → List Bit → A) (with_instant
     AreWhole place ts = (s end : State A) → steps with_change with_instant nets s (body_from place ts) ≡ Ok end
         → body_from place (ts ++ more) ≡ body_from place ts ++ body_from ready more
 
-    -- an item and tokens that are whole: `more` after them is read as if it were alone
+    -- if an item and tokens that are whole are read without a fault, `more` after them is read as if it were alone
     body_from-append_after_item : (item : BodyItem) (ts : List Token) (s end : State A) → AreWhole ready ts
         → steps with_change
         with_instant nets s (item ∷ body_from ready ts) ≡ Ok end
@@ -172,7 +172,8 @@ module _ {A : Type 0} (with_change : A → ℕ → List Bit → A) (with_instant
         let later = steps-after_result (body_from ready ts) end (step with_change with_instant nets s item) h in
         ap (λ (items : List BodyItem). item ∷ items) (rest later.0 end later.1)
 
-    -- a token of any shape and the tokens after it: `more` after them is read as if it were alone
+    -- if a token of any shape and the tokens after it are read without a fault, `more` after them is read as if it were
+    -- alone
     items_of-append : (shape : Shape) (line : ℕ) (ts : List Token) (s end : State A)
         → ((place : BodyPlace) → AreWhole place ts) → steps with_change with_instant nets s (items_of shape line ts)
         ≡ Ok end
@@ -191,8 +192,8 @@ module _ {A : Type 0} (with_change : A → ℕ → List Bit → A) (with_instant
     items_of-append none line ts s end rest h = body_from-append_after_item (wrong line BadToken) ts s end (rest ready)
         h
 
-    -- a token in a comment, its `$end` if `test` holds, and the tokens after it: `more` after them is read as if it
-    -- were alone
+    -- if a token in a comment, its `$end` if `test` holds, and the tokens after it are read without a fault, `more`
+    -- after them is read as if it were alone
     in_comment-append : (test : Bool) (line : ℕ) (ts : List Token) (s end : State A)
         → ((place : BodyPlace) → AreWhole place ts)
         → steps with_change with_instant nets s (elim test as (λ _. List BodyItem) [

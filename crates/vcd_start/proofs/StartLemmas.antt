@@ -21,7 +21,7 @@ use Rattle.vcd_read.specs.Tokens.{Token, tokens, tokens_from}
 use Rattle.vcd_read.proofs.DefinedLemmas.{header_taken, taken_head}
 use Rattle.vcd_read.proofs.DumpLemmas.{contents_behind, dump_behind, dump_of-header, whole_header, with_variables}
 use Rattle.vcd_read.proofs.CurrentValues.{CurrentValues}
-use Rattle.vcd_read.proofs.BodyFoldLemmas.{Ends, Follows, fails-followed, taken-follows}
+use Rattle.vcd_read.proofs.BodyFoldLemmas.{Ends, Follows, ReadFails-followed, Follows-fold_body}
 use Rattle.vcd_start.specs.Starts.{first_time_of, start_of}
 use Rattle.vcd_start.specs.StartReading.{LeadsToFirstTime, first_time_kept, first_time_or}
 
@@ -38,7 +38,7 @@ HasFirst done current start = start ≡ first_time_of done
 body_follows : (nets : List Net) (body : List Token)
     → Follows (Ends HasFirst) (instants_from nets body) (fold_body first_time_kept first_time_or nets None body)
 body_follows nets body =
-    taken-follows first_time_kept first_time_or nets HasFirst (λ done current a net bits within h. h)
+    Follows-fold_body first_time_kept first_time_or nets HasFirst (λ done current a net bits within h. h)
     (λ done current a time h. ap (λ (s : Option ℕ). first_time_or s time) h
     ∙ sym (first_more done (record { time = time; values = values_from 0 current })))
     body None refl
@@ -99,7 +99,7 @@ module _ (text : List ℕ) (ts : List Token) (same : tokens text ≡ ts) where
         let (variables, found) = by_whole (whole_header text) (sym header_is ∙ is) in
         subst (ReadFailsAs fault.line fault.kind) (sym (dump_behind text (defined h variables) found))
         (fails_on fault.line fault.kind (instants_from h.nets h.body) (with_variables variables)
-        (fails-followed (Ends HasFirst) (instants_from h.nets h.body)
+        (ReadFails-followed (Ends HasFirst) (instants_from h.nets h.body)
         (fold_body first_time_kept first_time_or h.nets None h.body) fault (body_follows h.nets h.body) fails))
 
   fails_back : (line : ℕ) (kind : FaultKind) (w : Result (Defined (List Variable)) VcdFault)

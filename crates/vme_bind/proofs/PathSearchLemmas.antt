@@ -15,7 +15,7 @@ use Rattle.std.proofs.lemmas.Simd.{map-map}
 use Rattle.std.proofs.lemmas.Slice.Eq.{bytes_eq-Decides}
 use Rattle.vcd_read.specs.Header.{path_of}
 use Rattle.vcd_read.specs.Scopes.{with_dot, path_in}
-use Rattle.vcd_read.proofs.ScopesLemmas.{path_of-is}
+use Rattle.vcd_read.proofs.ScopesLemmas.{path_of-some}
 use denote.Ref.{Bor}
 use Rattle.vme_bind.specs.declared.assignment.Assignment.{Assignment}
 use Rattle.vme_bind.specs.declared.path_search.PathSearch.{PathSearch}
@@ -153,7 +153,7 @@ pub bytes_eq-path_of : (path name : List ℕ) (scopes : List (List ℕ)) → 0 <
     → bytes_eq (path_of scopes name) path ≡ (eqb (scopes_matched path scopes) (length scopes)
     && bytes_eq (drop (length (path_in scopes)) path) name)
 bytes_eq-path_of path name scopes some =
-    ap (λ (p : List ℕ). bytes_eq p path) (path_of-is scopes name some)
+    ap (λ (p : List ℕ). bytes_eq p path) (path_of-some scopes name some)
     ∙ same_from_decides (bytes_eq (path_in scopes ++ name) path) (begins_with (path_in scopes) path
     && bytes_eq (drop (length (path_in scopes)) path) name) (bytes_eq-Decides (path_in scopes ++ name) path)
     (append-Decides (path_in scopes) name path)

@@ -23,7 +23,7 @@ use Rattle.vcd_read.proofs.ReadLemmas.{fails_first, body_rises}
 use Rattle.vcd_read.proofs.DumpLemmas.{contents_behind, with_variables, whole_header, dump_of-header, dump_behind}
 use Rattle.vcd_read.proofs.DefinedLemmas.{taken_head, header_taken}
 use Rattle.vcd_read.proofs.CurrentValues.{CurrentValues}
-use Rattle.vcd_read.proofs.BodyFoldLemmas.{Ends, Follows, taken-follows, fails-followed, gives-followed}
+use Rattle.vcd_read.proofs.BodyFoldLemmas.{Ends, Follows, Follows-fold_body, ReadFails-followed, ok-followed}
 use Rattle.vme_bind.specs.declared.fault.BindFault.{BindFault}
 use Rattle.vme_bind.specs.declared.fault.BindFaultKind.{BindFaultKind}
 use Rattle.vme_bind.specs.declared.fault.BindFaultKind.TheVariants.{TooManySteps, Memory as NoMemory}
@@ -73,7 +73,7 @@ module _ (slots : ℕ) (bound_groups : List BoundGroup) (h : Headed) where
       (fold_body builder_change builder_instant h.nets m h.body)
   builder-follows m begun =
       let all : List Instant = instants_in (instants_from h.nets h.body) in
-      taken-follows builder_change builder_instant h.nets IsMadeOf
+      Follows-fold_body builder_change builder_instant h.nets IsMadeOf
       (λ done current a net bits lt made. makes-change slots bound_groups (length h.nets) all done current a net bits lt
       made)
       (λ done current a time made. makes-instant slots bound_groups (length h.nets) all done current a time made)
@@ -84,7 +84,7 @@ module _ (slots : ℕ) (bound_groups : List BoundGroup) (h : Headed) where
       → ReadFails fault (fold_body builder_change builder_instant h.nets m h.body) → CaptureFailsBy (Dump fault)
       (body_recording slots bound_groups h)
   body_recording-fails m fault begun fails =
-      dump_fails fault.line fault.kind (fails-followed (Ends IsMadeOf) (instants_from h.nets h.body) _ fault
+      dump_fails fault.line fault.kind (ReadFails-followed (Ends IsMadeOf) (instants_from h.nets h.body) _ fault
       (builder-follows m begun) fails)
     where
       dump_fails : (line : ℕ) (kind : FaultKind) → ReadFails (record { line = line; kind = kind })
@@ -98,7 +98,7 @@ module _ (slots : ℕ) (bound_groups : List BoundGroup) (h : Headed) where
       → fold_body builder_change builder_instant h.nets m
       h.body ≡ Ok end → body_recording slots bound_groups h ≡ Ok end.recorded
   body_recording-built m end begun ok =
-      let gives = gives-followed (Ends IsMadeOf) (instants_from h.nets h.body) _ end (builder-follows m begun) ok in
+      let gives = ok-followed (Ends IsMadeOf) (instants_from h.nets h.body) _ end (builder-follows m begun) ok in
       let instants : List Instant = gives.0 in
       let all : instants_in (instants_from h.nets h.body) ≡ instants = ap instants_in gives.1 in
       let made = gives.2.1 [] (all ∙ sym (append-nil instants)) in
@@ -129,7 +129,7 @@ module _ (slots : ℕ) (bound_groups : List BoundGroup) (h : Headed) where
       by_taken None (Ok end) e = body_recording-built m end begun e
       by_taken (Some binding_fault) (Ok end) e =
           ap (λ (r : Result (List Instant) VcdFault). refused binding_fault r)
-          (gives-followed (Ends IsMadeOf) (instants_from h.nets h.body) _ end (builder-follows m begun) e).1
+          (ok-followed (Ends IsMadeOf) (instants_from h.nets h.body) _ end (builder-follows m begun) e).1
       by_taken None (Err first) e =
           ap (λ (r : Result (List Instant) VcdFault). or_dump r >>= λ instants. Ok
           (recording slots bound_groups instants (length instants)))
@@ -274,7 +274,8 @@ Passes done current u = Unit {0}
 -- reading a body without keeping anything follows the body's instants
 Follows-passing : (h : Headed) (u : Unit {0}) → Follows (Ends Passes) (instants_from h.nets h.body)
     (fold_body passed_change passed_instant h.nets u h.body)
-Follows-passing h u = taken-follows passed_change passed_instant h.nets Passes (λ done current a net bits lt made. tt)
+Follows-passing h u = Follows-fold_body passed_change passed_instant h.nets Passes
+    (λ done current a net bits lt made. tt)
     (λ done current a time made. tt) h.body u tt
 
 -- a fault of the body is the fault of what is after the definitions
@@ -291,7 +292,7 @@ pub recording_after-dump_fails : (b : BoundLines) (h : Headed) (variables : List
     → ReadFails fault (fold_body passed_change passed_instant h.nets u h.body)
     → CaptureFailsBy (Dump fault) (recording_after b (defined h variables))
 recording_after-dump_fails b h variables u fault fails = recording_after-DumpFails b h variables fault.line fault.kind
-    (fails-followed (Ends Passes) (instants_from h.nets h.body) _ fault (Follows-passing h u) fails)
+    (ReadFails-followed (Ends Passes) (instants_from h.nets h.body) _ fault (Follows-passing h u) fails)
 
 -- a fault of the binding is the fault of what it makes of the dump
 BindingFails-recording_of : (line : ℕ) (kind : BindFaultKind) (b : BoundLines) (dump : Contents)
@@ -310,7 +311,7 @@ pub recording_after-binding_fails : (b : BoundLines) (h : Headed) (variables : L
     → BindFails fault (bound_groups_in variables b.assignments) → CaptureFailsBy (Binding fault)
     (recording_after b (defined h variables))
 recording_after-binding_fails b h variables u end fault ok fails =
-    let gives = gives-followed (Ends Passes) (instants_from h.nets h.body) _ end (Follows-passing h u) ok in
+    let gives = ok-followed (Ends Passes) (instants_from h.nets h.body) _ end (Follows-passing h u) ok in
     let dump : Contents = record { variables = variables; instants = gives.0 } in
     let is : (instants_from h.nets h.body >>= with_variables variables)
     ≡ Ok dump = ap (λ (r : Result (List Instant) VcdFault). r >>= with_variables variables) gives.1 in

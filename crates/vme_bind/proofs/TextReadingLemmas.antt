@@ -26,7 +26,7 @@ use Rattle.vcd_read.proofs.BeforeFaultLemmas.{before_fault, before_fault_rises}
 use Rattle.vcd_read.proofs.DumpLemmas.{whole_header}
 use Rattle.vcd_read.proofs.DefinedLemmas.{header_taken, taken_head}
 use Rattle.vcd_read.proofs.InstantsLaw.{at_start}
-use Rattle.vcd_read.proofs.BodyFoldLemmas.{Ends, gives-followed, reached-follows}
+use Rattle.vcd_read.proofs.BodyFoldLemmas.{Ends, ok-followed, KeepsBefore-reached_before}
 use Rattle.vcd_read.proofs.ReadLemmas.{body_rises}
 use Rattle.vcd_read.proofs.TimeLemmas.{reached_time}
 use Rattle.vme_bind.specs.declared.bound_groups.BoundGroup.{BoundGroup}
@@ -129,7 +129,8 @@ module _ (slots : ℕ) (bound_groups : List BoundGroup) (h : Headed) (m : Builde
     recorded-before_fault =
         let all : List Instant = instants_before_fault h.nets h.body in
         let count = length h.nets in
-        let follows = reached-follows builder_change builder_instant h.nets (Makes slots bound_groups count all)
+        let follows = KeepsBefore-reached_before builder_change builder_instant h.nets
+        (Makes slots bound_groups count all)
         (λ done current a net bits lt made. makes-change slots bound_groups count all done current a net bits lt made)
         (λ done current a time made. makes-instant slots bound_groups count all done current a time made)
         items (at_start h.nets) m (makes-first slots bound_groups count all m begun) in
@@ -154,7 +155,7 @@ module _ (slots : ℕ) (bound_groups : List BoundGroup) (h : Headed) (m : Builde
         → body_reading slots bound_groups h
         ≡ reading_made read.reached.progress.accumulator.recorded read.reached.progress.time taken
     body_reading-by_result (Ok end) e =
-        let gives = gives-followed (Ends (IsMadeOf slots bound_groups h)) (instants_from h.nets h.body) _ end
+        let gives = ok-followed (Ends (IsMadeOf slots bound_groups h)) (instants_from h.nets h.body) _ end
         (builder-follows slots bound_groups h m begun) e in
         let instants : List Instant = gives.0 in
         let all : instants_in (instants_from h.nets h.body) ≡ instants = ap instants_in gives.1 in

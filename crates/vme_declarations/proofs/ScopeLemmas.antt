@@ -11,7 +11,7 @@ use Rattle.std.proofs.lemmas.Slice.Eq.{bytes_eq-Decides, starts_is}
 use Rattle.vcd_read.specs.declared.dump.Variable.{Variable}
 use Rattle.vcd_read.specs.Header.{variable_in}
 use Rattle.vcd_read.specs.Scopes.{path_in, with_dot}
-use Rattle.vcd_read.proofs.ScopesLemmas.{path_of-is}
+use Rattle.vcd_read.proofs.ScopesLemmas.{path_of-some}
 use Rattle.vme_declarations.specs.Scopes.{ScopeSought, has_scope, path_begins, sought_in}
 
 -- ---- the search
@@ -52,7 +52,7 @@ pub sought_in-next : (front name : List ℕ) (scopes : List (List ℕ)) (net siz
     ≡ sought_in (sought front found) (variable_in scopes net size (record { name = name; index = index }))
 sought_in-next front name scopes net size index found now some is =
     ap (sought front)
-    (is ∙ ap (λ (path : List ℕ). found || starts_with nat_eq path front) (sym (path_of-is scopes name some)))
+    (is ∙ ap (λ (path : List ℕ). found || starts_with nat_eq path front) (sym (path_of-some scopes name some)))
 
 -- ---- two texts that begin with a third
 

@@ -21,7 +21,7 @@ use Rattle.vcd_read.proofs.DumpLemmas.{contents_behind, dump_behind, dump_of-hea
 use Rattle.vcd_read.proofs.FrontLemmas.{found-front}
 use Rattle.vcd_read.proofs.ReadLemmas.{fails_first}
 use Rattle.vcd_read.proofs.CurrentValues.{CurrentValues}
-use Rattle.vcd_read.proofs.BodyFoldLemmas.{Ends, Follows, fails-followed, gives-followed, taken-follows}
+use Rattle.vcd_read.proofs.BodyFoldLemmas.{Ends, Follows, ReadFails-followed, ok-followed, Follows-fold_body}
 use Rattle.vme_declarations.specs.Surveys.{EndsBetweenTokens, IsSurveyOf, Survey, body_ahead, count_after, count_ahead}
 use Rattle.vme_declarations.specs.Surveys.{definitions_of, is_want_of_memory, next_count, same_count, survey_of}
 use Rattle.vme_declarations.specs.Surveys.{variables_by, variables_in, with_count}
@@ -114,7 +114,7 @@ length-one_instant done n x e = omega (arith, e, length-append done (x ∷ []))
 -- counting the instants of a body follows its instants
 Follows-counts : (h : Headed) → Follows (Ends Counts) (instants_from h.nets h.body)
     (fold_body same_count next_count h.nets 0 h.body)
-Follows-counts h = taken-follows same_count next_count h.nets Counts (λ done current n net bits lt counts. counts)
+Follows-counts h = Follows-fold_body same_count next_count h.nets Counts (λ done current n net bits lt counts. counts)
     (λ done current n time counts. length-one_instant done n _ counts) h.body 0 refl
 
 -- a survey has the variables and the count that it was made from
@@ -135,7 +135,7 @@ IsSurveyOf-survey_of text survey e = by_case (definitions_of text) refl e
         → IsSurveyOf survey text
     by_case (Ok d) is made =
         let (same, counts) = with_count-ok d.variables (count_after d) survey made in
-        let gives = gives-followed (Ends Counts) (instants_from d.head.nets d.head.body) (count_after d)
+        let gives = ok-followed (Ends Counts) (instants_from d.head.nets d.head.body) (count_after d)
         survey.instants (Follows-counts d.head) counts in (
           record { variables = d.variables; instants = gives.0 },
           dump_behind text d is
@@ -161,7 +161,7 @@ dump_of-survey_fails text fault fails =
         → ReadFails fault (r >>= contents_behind)
     by_case (Ok d) h =
         fails_first fault (instants_from d.head.nets d.head.body) (with_variables d.variables) (contents_behind d) refl
-        (fails-followed (Ends Counts) (instants_from d.head.nets d.head.body) (count_after d) fault
+        (ReadFails-followed (Ends Counts) (instants_from d.head.nets d.head.body) (count_after d) fault
         (Follows-counts d.head)
         (count_fails fault.line fault.kind d.variables (count_after d) h))
     by_case (Err first) h = ReadFailsAs-any_value _ _ fault.line fault.kind first h

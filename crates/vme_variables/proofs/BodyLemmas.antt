@@ -12,7 +12,7 @@ use Rattle.vcd_read.specs.BodyFold.{fold_body}
 use Rattle.vcd_read.proofs.DumpLemmas.{contents_behind, with_variables, whole_header, dump_of-header, dump_behind}
 use Rattle.vcd_read.proofs.ReadLemmas.{fails_first}
 use Rattle.vcd_read.proofs.CurrentValues.{CurrentValues}
-use Rattle.vcd_read.proofs.BodyFoldLemmas.{Ends, Follows, fails-followed, gives-followed, taken-follows}
+use Rattle.vcd_read.proofs.BodyFoldLemmas.{Ends, Follows, ReadFails-followed, ok-followed, Follows-fold_body}
 use Rattle.vme_declarations.specs.Dumps.{IsDump}
 
 module _ {T : Type 0} (with_change : T → ℕ → List Bit → T) (with_instant : T → ℕ → T) where
@@ -23,20 +23,20 @@ module _ {T : Type 0} (with_change : T → ℕ → List Bit → T) (with_instant
   -- reading a body follows its instants, whatever is made of them
   Follows-fold_body : (h : Headed) (t : T) → Follows (Ends Any) (instants_from h.nets h.body)
       (fold_body with_change with_instant h.nets t h.body)
-  Follows-fold_body h t = taken-follows with_change with_instant h.nets Any (λ done current a net bits lt made. tt)
+  Follows-fold_body h t = Follows-fold_body with_change with_instant h.nets Any (λ done current a net bits lt made. tt)
       (λ done current a time made. tt) h.body t tt
 
   -- a fault of reading a body is the fault of its instants
   instants_from-fails : (h : Headed) (t : T) (fault : VcdFault) → ReadFails fault
       (fold_body with_change with_instant h.nets t h.body) → ReadFails fault (instants_from h.nets h.body)
-  instants_from-fails h t fault fails = fails-followed (Ends Any) (instants_from h.nets h.body) _ fault
+  instants_from-fails h t fault fails = ReadFails-followed (Ends Any) (instants_from h.nets h.body) _ fault
       (Follows-fold_body h t) fails
 
   -- where reading a body succeeds, the body has instants
   instants_from-ok : (h : Headed) (t end : T) → fold_body with_change with_instant h.nets t h.body ≡ Ok end
       → (instants : List Instant) × (instants_from h.nets h.body ≡ Ok instants)
   instants_from-ok h t end ok =
-      let gives = gives-followed (Ends Any) (instants_from h.nets h.body) _ end (Follows-fold_body h t) ok in
+      let gives = ok-followed (Ends Any) (instants_from h.nets h.body) _ end (Follows-fold_body h t) ok in
       (gives.0, gives.1)
 
   -- where reading a body succeeds, the body has instants, i.e. no fault

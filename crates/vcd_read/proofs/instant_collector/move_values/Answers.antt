@@ -1,6 +1,6 @@
 use Rattle.std.proofs.Common.{◌≡◌, ◌<◌, None, Some, length, get_or, sym, ◌∙◌, arith}
 use Rattle.std.proofs.lemmas.List.{get_or_read}
-use Rattle.vcd_read.proofs.ChangedNetLemmas.{moved_some, moved_none, moved_all}
+use Rattle.vcd_read.proofs.ChangedNetLemmas.{IsMoved-some, IsMoved-none, IsMoved-all}
 use Rattle.vcd_read.proofs.instant_collector.move_values.Goals as goal
 use Rattle.vcd_read.proofs.instant_collector.move_values.Goals.{in-Some, in_default}
 
@@ -22,7 +22,7 @@ loop-net-preserved c =
           ∙ sym c.take.ensures.value ∙ w.in-Some.is in
           record {
             moved = rw (c.take.ensures.after, w.values-is, w.push_reserved.ensures.items)
-                (moved_some changed_nets place start current moved w.in-Some.bits c.requires.sorted h is);
+                (IsMoved-some changed_nets place start current moved w.in-Some.bits c.requires.sorted h is);
             count = rw w.values-is (omega (arith, w.push_reserved.ensures.len));
             capacity = rw w.values-is (w.push_reserved.ensures.capacity ∙ c.loop-net.invariant.capacity);
           }
@@ -30,16 +30,16 @@ loop-net-preserved c =
           let none : get_or current (get_or changed_nets place 0) None ≡ None = sym at ∙ sym c.take.ensures.value
           ∙ w.in_default.is in
           record {
-            moved = rw (c.take.ensures.after, w.values-is) (moved_none changed_nets place start current moved h none);
+            moved = rw (c.take.ensures.after, w.values-is) (IsMoved-none changed_nets place start current moved h none);
             count = rw w.values-is (omega arith);
             capacity = rw w.values-is c.loop-net.invariant.capacity;
           }
     ]
 
 pub returns-clause-values : goal.returns-clause-values
-returns-clause-values c = (moved_all c.args.changed_nets.now c.loop-net.net-index c.args.current.now.items
+returns-clause-values c = (IsMoved-all c.args.changed_nets.now c.loop-net.net-index c.args.current.now.items
     c.loop-net.current.items c.loop-net.values.items c.loop-net.invariant.moved c.loop-net-test.false).0
 
 pub returns-clause-left : goal.returns-clause-left
-returns-clause-left c = (moved_all c.args.changed_nets.now c.loop-net.net-index c.args.current.now.items
+returns-clause-left c = (IsMoved-all c.args.changed_nets.now c.loop-net.net-index c.args.current.now.items
     c.loop-net.current.items c.loop-net.values.items c.loop-net.invariant.moved c.loop-net-test.false).1

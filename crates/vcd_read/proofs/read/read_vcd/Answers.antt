@@ -7,7 +7,7 @@ use Rattle.vcd_read.specs.Sections.{defined}
 use Rattle.vcd_read.specs.Collected.{Collected}
 use Rattle.vcd_read.proofs.ReadLemmas.{fails_first, gives_err, body_rises}
 use Rattle.vcd_read.proofs.DumpLemmas.{contents_behind, with_variables, whole_header, dump_of-header, dump_behind}
-use Rattle.vcd_read.proofs.BodyFoldLemmas.{AreCollected, collected-follows, fails-followed, gives-followed}
+use Rattle.vcd_read.proofs.BodyFoldLemmas.{AreCollected, Follows-collected, ReadFails-followed, ok-followed}
 use Rattle.vcd_read.proofs.read.read_vcd.Goals as goal
 
 pub returns-in_err-head : goal.returns-in_err-head
@@ -23,9 +23,9 @@ returns-in_err-collected c =
     let head = c.in_ok-head.head in
     let fault = c.in_err-collected.field-0.0 in
     let h = rw c.new.ensures.taken at c.in_ok-head.ensures in
-    let follows = collected-follows head.nets head.body c.in_ok-collector.collector
+    let follows = Follows-collected head.nets head.body c.in_ok-collector.collector
     (rw c.net_count.ensures at c.in_ok-collector.ensures) in
-    let fails = fails-followed AreCollected (instants_from head.nets head.body) _ fault follows
+    let fails = ReadFails-followed AreCollected (instants_from head.nets head.body) _ fault follows
     c.in_err-collected.ensures in
     gives_err _ c.from_residual-in_err-collected.result fault _ c.from_residual-in_err-collected.ensures.1
     (fails_first fault (instants_from head.nets head.body) (with_variables c.in_ok-head.variables.variables.items) _
@@ -34,9 +34,9 @@ returns-in_err-collected c =
 pub new-requires-3 : goal.new-requires-3
 new-requires-3 c =
     let head = c.in_ok-head.head in
-    let follows = collected-follows head.nets head.body c.in_ok-collector.collector
+    let follows = Follows-collected head.nets head.body c.in_ok-collector.collector
     (rw c.net_count.ensures at c.in_ok-collector.ensures) in
-    let gives = gives-followed AreCollected (instants_from head.nets head.body) _ c.in_ok-collected.collected follows
+    let gives = ok-followed AreCollected (instants_from head.nets head.body) _ c.in_ok-collected.collected follows
     c.in_ok-collected.ensures in
     let is = c.into_instants.ensures ∙ ap (λ (x : Collected). x.done) gives.2.1 in
     rw is (body_rises head.nets head.body gives.0 gives.1)
@@ -46,9 +46,9 @@ returns c =
     let head = c.in_ok-head.head in
     let variables = c.in_ok-head.variables.variables.items in
     let h = rw c.new.ensures.taken at c.in_ok-head.ensures in
-    let follows = collected-follows head.nets head.body c.in_ok-collector.collector
+    let follows = Follows-collected head.nets head.body c.in_ok-collector.collector
     (rw c.net_count.ensures at c.in_ok-collector.ensures) in
-    let gives = gives-followed AreCollected (instants_from head.nets head.body) _ c.in_ok-collected.collected follows
+    let gives = ok-followed AreCollected (instants_from head.nets head.body) _ c.in_ok-collected.collected follows
     c.in_ok-collected.ensures in
     let is = c.into_instants.ensures ∙ ap (λ (x : Collected). x.done) gives.2.1 in
     dump_behind c.args.text.now (defined head variables) h ∙ ap (λ (r : Result (List Instant) VcdFault). r >>=

@@ -3,7 +3,7 @@ use Rattle.std.proofs.lemmas.List.{length-drop, length-take-le}
 use Rattle.vcd_read.specs.Tokens.{Token}
 use Rattle.vcd_read.specs.Reading.{token_at}
 use Rattle.vcd_read.proofs.NumberLemmas.{short_time_of}
-use Rattle.vcd_read.proofs.TokenLemmas.{between, time_step}
+use Rattle.vcd_read.proofs.TokenLemmas.{between, tokens_after-time}
 use Rattle.vcd_read.proofs.token.Reader.short_time.Goals as goal
 
 pub returns-clause-time : goal.returns-clause-time
@@ -26,7 +26,7 @@ returns-clause-time c =
       (
         35 ∷ between text (at + 1) (at + 1 + count),
         refl,
-        time_step piece.line text at count c.requires c.if-self-ne35.false
+        tokens_after-time piece.line text at count c.requires c.if-self-ne35.false
             (omega (arith, c.leading_number-number.ensures.within, length-drop (at + 1) text))
             c.leading_number-number.ensures.digits (c.ends_word.ensures.ends (cc))
             ∙ ap (λ (ts : List Token). token_at piece at (35 ∷ between text (at + 1) (at + 1 + count)) ∷ ts)

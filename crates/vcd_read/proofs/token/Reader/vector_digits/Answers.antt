@@ -1,7 +1,7 @@
 use Rattle.std.proofs.Common.{List, ◌∷◌, ◌∙◌, sym, ap, arith}
 use Rattle.vcd_read.specs.Tokens.{Token}
 use Rattle.vcd_read.specs.Reading.{token_at}
-use Rattle.vcd_read.proofs.TokenLemmas.{between, vector_step, vector_of}
+use Rattle.vcd_read.proofs.TokenLemmas.{between, tokens_after-vector, shape_of-vector}
 use Rattle.vcd_read.proofs.token.Reader.vector_digits.Goals as goal
 
 pub returns-clause-shape : goal.returns-clause-shape
@@ -11,8 +11,9 @@ returns-clause-shape c =
     let at = c.args.self.now.at in
     let end = c.bits_end-end.result in (
       between text at end,
-      sym (vector_of text at end (cc) (omega arith) c.bits_end-end.ensures.high c.bits_end-end.ensures.bits),
-      vector_step piece.line text at end (cc) (omega arith) c.bits_end-end.ensures.high c.bits_end-end.ensures.bits
+      sym (shape_of-vector text at end (cc) (omega arith) c.bits_end-end.ensures.high c.bits_end-end.ensures.bits),
+      tokens_after-vector piece.line text at end (cc) (omega arith) c.bits_end-end.ensures.high
+          c.bits_end-end.ensures.bits
           (c.ends_word.ensures.ends (cc))
           ∙ ap (λ (ts : List Token). token_at piece at (between text at end) ∷ ts)
           (sym (c.behind_word-self.ensures.left piece.line)),
