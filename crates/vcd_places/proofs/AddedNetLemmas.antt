@@ -26,7 +26,7 @@ use Rattle.vcd_read.specs.Body.{first_context}
 use Rattle.vcd_read.specs.Body.{fitting, skipped, context_after, context_after_all, time_item, wrong}
 use Rattle.vcd_read.specs.Meaning.{NetChange, change_of, changes_from, instant_at, instants_of, last_at, times_from}
 use Rattle.vcd_read.specs.Meaning.{value_at, values_at}
-use Rattle.vcd_read.proofs.CodesLemmas.{net_within}
+use Rattle.vcd_read.proofs.CodesLemmas.{net_of-within}
 use Rattle.vcd_places.proofs.SkippedLemmas.{instants_in}
 
 -- ---- where the net of a code is found
@@ -128,7 +128,7 @@ module _ (nets : List Net) (code : List ℕ) (size : ℕ) (none : net_of nets co
   net_below : (other : List ℕ) (net : ℕ) → net_of nets other ≡ Some net → net < length nets
   net_below other net is =
       subst (λ (n : ℕ). n < length nets) (ap (λ (o : Option ℕ). unwrap_or o 0) is)
-      (net_within nets other (rw is refl))
+      (net_of-within nets other (rw is refl))
 
   fits_same : (digits : ℕ) (other : List ℕ) (net : ℕ) → net_of nets other ≡ Some net
       → fitting all digits (net_of all other) ≡ fitting nets digits (net_of nets other)

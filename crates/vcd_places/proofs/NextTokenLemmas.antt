@@ -13,7 +13,7 @@ use Rattle.std.proofs.Math.Bool.{or-true}
 use Rattle.vcd_read.specs.Tokens.{Token, cut_from, is_space, tokens, tokens_from}
 use Rattle.vcd_read.specs.Reading.{tokens_after}
 use Rattle.vcd_read.specs.Header.{is_end}
-use Rattle.vcd_read.proofs.TokenLemmas.{between, tokens_after-end, tokens_after-space, line_in, token_in}
+use Rattle.vcd_read.proofs.TokenLemmas.{between, tokens_after-end, tokens_after_space, line_in, token_in}
 use Rattle.vcd_read.proofs.TokenLemmas.{tokens_after-token}
 use Rattle.vcd_places.specs.Places.{ends_at_boundary, starts_at_boundary}
 use Rattle.vcd_places.specs.NextTokens.{IsNextToken, IsTakenToEnd, IsTokenAt, ends_section, is_token_boundary}
@@ -68,7 +68,7 @@ skip_spaces : (text : List ℕ) (n at : ℕ) → at + n ≤ length text
 skip_spaces text zero at within spaces = ap (tokens_after 1 text) (omega arith)
 skip_spaces text (suc n) at within spaces =
     ap (tokens_after 1 text) (omega arith)
-    ∙ tokens_after-space 1 text (at + n) (omega (arith, within)) (spaces (at + n) (omega arith) (omega arith))
+    ∙ tokens_after_space 1 text (at + n) (omega (arith, within)) (spaces (at + n) (omega arith) (omega arith))
     ∙ skip_spaces text n at (omega (arith, within)) (λ k low high. spaces k low (omega (arith, high)))
 
 pub spaces_skipped : (text : List ℕ) (at start : ℕ) → at ≤ start → start ≤ length text

@@ -21,10 +21,10 @@ use Rattle.vcd_read.specs.BodyFold.{BodyFold, State, ended, at_end, at_first, pr
 use Rattle.vcd_read.specs.BodyFold.{fold_body}
 use Rattle.vcd_read.specs.Collected.{Collected, collected_change, collected_instant}
 use Rattle.vcd_read.proofs.CurrentValues.{CurrentValues}
-use Rattle.vcd_read.proofs.BeforeFaultLemmas.{whole_before}
+use Rattle.vcd_read.proofs.BeforeFaultLemmas.{state_before_fault}
 use Rattle.vcd_read.proofs.InstantsLaw.{at_start}
-use Rattle.vcd_read.proofs.CodesLemmas.{net_within}
-use Rattle.vcd_read.proofs.ReadLemmas.{read_whole}
+use Rattle.vcd_read.proofs.CodesLemmas.{net_of-within}
+use Rattle.vcd_read.proofs.ReadLemmas.{instants_from-steps}
 
 -- if the item of a code is no fault, the net of the code is found
 fitting-some : (nets : List Net) (digits line : ℕ) (found : Option ℕ) (s next : BodyContext)
@@ -121,7 +121,7 @@ module _ {A : Type 0} (with_change : A → ℕ → List Bit → A) (with_instant
         with_change a net bits,
         refl,
         on_change p.done p.current a net bits
-            (net_within nets code (fitting-some nets (length digits) line (net_of nets code) s next ok)) r,
+            (net_of-within nets code (fitting-some nets (length digits) line (net_of nets code) s next ok)) r,
       )
   Keeps-item (skipped line code) s next p a ok r = (a, refl, r)
   Keeps-item (dump_section_open line) s next p a ok r = (a, refl, r)
@@ -166,10 +166,11 @@ module _ {A : Type 0} (with_change : A → ℕ → List Bit → A) (with_instant
   -- an item, and then items that keep the relation up to their first fault, keep it up to the first fault
   KeepsBefore-item : (items : List BodyItem) (item : BodyItem) (s : Whole) (a : A) (stood : Result BodyContext VcdFault)
       → context_after nets s.context item ≡ stood → R s.progress.done s.progress.current a
-      → ((s2 : Whole) (b : A) → R s2.progress.done s2.progress.current b → KeepsBefore (whole_before nets s2 items)
+      → ((s2 : Whole) (b : A) → R s2.progress.done s2.progress.current b
+      → KeepsBefore (state_before_fault nets s2 items)
       (reached_before with_change with_instant nets (state_at s2 b) items))
       → KeepsBefore (elim (whole_of (whole_after nets s.progress item) stood) [
-        | Ok next ↦ whole_before nets next items
+        | Ok next ↦ state_before_fault nets next items
         | Err fault ↦ s
       ])
       (elim (taken_of (progress_after with_change with_instant nets (fold_at s.progress a) item) stood) [
@@ -179,14 +180,15 @@ module _ {A : Type 0} (with_change : A → ℕ → List Bit → A) (with_instant
   KeepsBefore-item items item s a (Ok next) e r rest =
       let kept = Keeps-item item s.context next s.progress a e r in
       let after : Whole = record { context = next; progress = whole_after nets s.progress item } in
-      subst (λ (t : BodyFold A). KeepsBefore (whole_before nets after items)
+      subst (λ (t : BodyFold A). KeepsBefore (state_before_fault nets after items)
       (reached_before with_change with_instant nets
       (record { context = next; progress = t }) items)) (sym kept.1) (rest after kept.0 kept.2)
   KeepsBefore-item items item s a (Err fault) e r rest = (a, refl, r)
 
   -- items keep the relation up to their first fault
   pub KeepsBefore-reached_before : (items : List BodyItem) (s : Whole) (a : A) → R s.progress.done s.progress.current a
-      → KeepsBefore (whole_before nets s items) (reached_before with_change with_instant nets (state_at s a) items)
+      → KeepsBefore (state_before_fault nets s items) (reached_before with_change with_instant nets (state_at s a)
+      items)
   unfolding reached_before
   KeepsBefore-reached_before [] s a r = (a, refl, r)
   KeepsBefore-reached_before (item ∷ items) s a r = KeepsBefore-item items item s a (context_after nets s.context item)
@@ -230,7 +232,7 @@ module _ {A : Type 0} (with_change : A → ℕ → List Bit → A) (with_instant
   Follows-fold_body body a r =
       let items : List BodyItem = body_from ready body in
       subst (λ (w : Result (List Instant) VcdFault). Follows (Ends R) w (fold_body with_change with_instant nets a
-      body)) (sym (read_whole nets body (at_start nets) refl))
+      body)) (sym (instants_from-steps nets body (at_start nets) refl))
       (Follows-at_end (whole_steps nets (at_start nets) items) (steps with_change with_instant nets (at_first a) items)
       (KeepsState-steps items (at_start nets) a r))
 

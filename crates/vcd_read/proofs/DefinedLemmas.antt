@@ -25,10 +25,12 @@ module _ {V : Type 0} (with_variable : V → Variable → V) where
   abbrev pub taken_in : V → Declared (List Variable) → Declared V
   taken_in v d = record { scopes = d.scopes; nets = d.nets; variables = taken_all v d.variables }
 
+  -- the declarations, with what a visitor makes of their variables, or the fault
   abbrev taken_of : V → Result (Declared (List Variable)) FaultKind → Result (Declared V) FaultKind
   taken_of v r = r >>= λ d. Ok (taken_in v d)
 
-  same_net : (v : V) (d : Declared (List Variable)) (var : VarWords) (r : Result JoinedNets FaultKind)
+  -- one more variable, whose net is found or added, is declared with a visitor as with all variables
+  taken_of-joined : (v : V) (d : Declared (List Variable)) (var : VarWords) (r : Result JoinedNets FaultKind)
       → (r >>= λ joined. Ok (record (taken_in v d) {
         nets = joined.nets;
         variables = with_variable
@@ -41,13 +43,14 @@ module _ {V : Type 0} (with_variable : V → Variable → V) where
         variables = appended d.variables (variable_in d.scopes joined.net var.size
             (reference_of var.size var.reference));
       }))
-  same_net v d var (Ok joined) =
+  taken_of-joined v d var (Ok joined) =
       ap (λ (all : V). Ok (record { scopes = d.scopes; nets = joined.nets; variables = all }))
       (sym (fold-append with_variable v d.variables (variable_in d.scopes joined.net var.size
       (reference_of var.size var.reference) ∷ [])))
-  same_net v d var (Err kind) = refl
+  taken_of-joined v d var (Err kind) = refl
 
-  same_var : (v : V) (d : Declared (List Variable)) (words : List (List ℕ)) (r : Result VarWords FaultKind)
+  -- so is a variable by the words of its section
+  taken_of-var_words : (v : V) (d : Declared (List Variable)) (words : List (List ℕ)) (r : Result VarWords FaultKind)
       → (r >>= λ var. net_for d.nets var.code var.size (net_of d.nets var.code) >>= λ joined.
       Ok (record (taken_in v d) {
         nets = joined.nets;
@@ -60,64 +63,74 @@ module _ {V : Type 0} (with_variable : V → Variable → V) where
         variables = appended d.variables (variable_in d.scopes joined.net var.size
             (reference_of var.size var.reference));
       }))
-  same_var v d words (Ok var) = same_net v d var (net_for d.nets var.code var.size (net_of d.nets var.code))
-  same_var v d words (Err kind) = refl
+  taken_of-var_words v d words (Ok var) = taken_of-joined v d var
+      (net_for d.nets var.code var.size (net_of d.nets var.code))
+  taken_of-var_words v d words (Err kind) = refl
 
-  same_close : (v : V) (d : Declared (List Variable)) (scopes : List (List ℕ)) → close_scope (taken_in v d) scopes
+  -- a scope closes with a visitor as with all variables
+  close_scope-taken_in : (v : V) (d : Declared (List Variable)) (scopes : List (List ℕ))
+      → close_scope (taken_in v d) scopes
       ≡ taken_of v (close_scope d scopes)
-  same_close v d [] = refl
-  same_close v d (name ∷ scopes) = refl
+  close_scope-taken_in v d [] = refl
+  close_scope-taken_in v d (name ∷ scopes) = refl
 
-  same_section : (v : V) (d : Declared (List Variable)) (words : List (List ℕ)) (var scope upscope : Bool)
+  -- a section of any kind declares with a visitor what it declares with all variables
+  taken_of-section : (v : V) (d : Declared (List Variable)) (words : List (List ℕ)) (var scope upscope : Bool)
       → cond var (declare_var with_variable (taken_in v d) words) (cond scope (Ok (open_scope (taken_in v d) words))
       (cond upscope (close_scope (taken_in v d) d.scopes) (Ok (taken_in v d))))
       ≡ taken_of v (cond var (declare_var appended d words) (cond scope (Ok (open_scope d words))
       (cond upscope (close_scope d d.scopes) (Ok d))))
-  same_section v d words true scope upscope = same_var v d words (var_words words)
-  same_section v d words false true upscope = refl
-  same_section v d words false false true = same_close v d d.scopes
-  same_section v d words false false false = refl
+  taken_of-section v d words true scope upscope = taken_of-var_words v d words (var_words words)
+  taken_of-section v d words false true upscope = refl
+  taken_of-section v d words false false true = close_scope-taken_in v d d.scopes
+  taken_of-section v d words false false false = refl
 
+  -- the declarations, with what a visitor makes of their variables, or the fault with its line
   abbrev defined_in : V → Result (Declared (List Variable)) VcdFault → Result (Declared V) VcdFault
   defined_in v r = r >>= λ d. Ok (taken_in v d)
 
-  same_next : (v : V) (items : List HeaderItem) (line : ℕ) (r : Result (Declared (List Variable)) FaultKind)
+  -- a section on this line, and then items that declare with a visitor what they declare with all variables, do so
+  defined_in-section : (v : V) (items : List HeaderItem) (line : ℕ) (r : Result (Declared (List Variable)) FaultKind)
       → ((d : Declared (List Variable)) → declare_all with_variable (taken_in v d) items
       ≡ defined_in v (declare_all appended d items))
       → (at_line line (taken_of v r) >>= λ next. declare_all with_variable next items)
       ≡ defined_in v (at_line line r >>= λ next. declare_all appended next items)
-  same_next v items line (Ok d) rest = rest d
-  same_next v items line (Err kind) rest = refl
+  defined_in-section v items line (Ok d) rest = rest d
+  defined_in-section v items line (Err kind) rest = refl
 
-  same_all : (v : V) (items : List HeaderItem) (d : Declared (List Variable)) → declare_all with_variable (taken_in v d)
+  -- items declare with a visitor what they declare with all variables
+  declare_all-taken_in : (v : V) (items : List HeaderItem) (d : Declared (List Variable))
+      → declare_all with_variable (taken_in v d)
       items ≡ defined_in v (declare_all appended d items)
   unfolding declare_all
-  same_all v [] d = refl
-  same_all v (whole section ∷ items) d =
+  declare_all-taken_in v [] d = refl
+  declare_all-taken_in v (whole section ∷ items) d =
       ap (λ (r : Result (Declared V) FaultKind). at_line section.line r >>= λ next. declare_all with_variable next
       items)
-      (same_section v d section.words (bytes_eq section.keyword (codes "$var"))
+      (taken_of-section v d section.words (bytes_eq section.keyword (codes "$var"))
       (bytes_eq section.keyword (codes "$scope")) (bytes_eq section.keyword (codes "$upscope")))
-      ∙ same_next v items section.line (declare_section appended d section) (λ d. same_all v items d)
-  same_all v (unfinished line ∷ items) d = refl
-  same_all v (stray line ∷ items) d = refl
+      ∙ defined_in-section v items section.line (declare_section appended d section)
+      (λ d. declare_all-taken_in v items d)
+  declare_all-taken_in v (unfinished line ∷ items) d = refl
+  declare_all-taken_in v (stray line ∷ items) d = refl
 
   -- the header `d`, with what a visitor makes of its variables
   abbrev pub taken_head : V → Defined (List Variable) → Defined V
   taken_head v d = record { head = d.head; variables = taken_all v d.variables }
 
-  same_head : (v : V) (r : Result (Declared (List Variable)) VcdFault) (b : Result (List Token) VcdFault)
+  -- declarations and a body make with a visitor the header that they make with all variables
+  headed-taken_head : (v : V) (r : Result (Declared (List Variable)) VcdFault) (b : Result (List Token) VcdFault)
       → (defined_in v r >>= λ declared. b >>= λ body. Ok (headed declared body))
       ≡ ((r >>= λ declared. b >>= λ body. Ok (headed declared body)) >>= λ d. Ok (taken_head v d))
-  same_head v (Ok d) (Ok body) = refl
-  same_head v (Ok d) (Err fault) = refl
-  same_head v (Err fault) b = refl
+  headed-taken_head v (Ok d) (Ok body) = refl
+  headed-taken_head v (Ok d) (Err fault) = refl
+  headed-taken_head v (Err fault) b = refl
 
   -- to read a header with a visitor gives what the visitor makes of all its variables
-  pub header_taken : (text : List ℕ) (v : V) → header_of with_variable text (nothing_declared v) (tokens text)
+  pub header_of-taken_head : (text : List ℕ) (v : V) → header_of with_variable text (nothing_declared v) (tokens text)
       ≡ (whole_header text >>= λ d. Ok (taken_head v d))
-  header_taken text v =
+  header_of-taken_head text v =
       let header = header_from between (tokens text) in
       ap (λ (r : Result (Declared V) VcdFault). r >>= λ declared. body_of text header.body >>= λ body. Ok
-      (headed declared body)) (same_all v header.items (nothing_declared []))
-      ∙ same_head v (declare_all appended (nothing_declared []) header.items) (body_of text header.body)
+      (headed declared body)) (declare_all-taken_in v header.items (nothing_declared []))
+      ∙ headed-taken_head v (declare_all appended (nothing_declared []) header.items) (body_of text header.body)

@@ -1,4 +1,4 @@
--- Digits as the bits of a value.
+-- The bits of a value are those of its digits, and before them bits that extend the first digit, up to the size.
 use Rattle.std.proofs.Common.{◌≡◌, ℕ, ◌+◌, ◌-◌, ◌<◌, ◌≤◌, List, [], ◌∷◌, ◌++◌, length, get_or, take, map, replicate}
 use Rattle.std.proofs.Common.{refl, ap, ◌∙◌, arith}
 use Rattle.std.proofs.lemmas.List.{get_or_append_left, get_or_past, get_or-append_right, get_or-replicate, get_or-map}
@@ -7,20 +7,23 @@ use Rattle.vcd_read.specs.declared.dump.Bit.{Bit}
 use Rattle.vcd_read.specs.declared.dump.Bit.TheVariants.{X}
 use Rattle.vcd_read.specs.Numbers.{bit_of, fill_of, fill_before, extended}
 
-fill_first : (digits : List ℕ) → 0 < length digits → fill_before (map bit_of digits)
+-- what extends a value with digits extends its first digit
+fill_before-first : (digits : List ℕ) → 0 < length digits → fill_before (map bit_of digits)
     ≡ fill_of (bit_of (get_or digits 0 0))
-fill_first [] some = absurd (omega (arith, some))
-fill_first (d ∷ digits) some = refl
+fill_before-first [] some = absurd (omega (arith, some))
+fill_before-first (d ∷ digits) some = refl
 
-pub extended_size : (size : ℕ) (digits : List ℕ) → length digits ≤ size → length (extended size digits) ≡ size
-extended_size size digits fits =
+-- a value of at most `size` digits has `size` bits
+pub length-extended : (size : ℕ) (digits : List ℕ) → length digits ≤ size → length (extended size digits) ≡ size
+length-extended size digits fits =
     let bits : List Bit = map bit_of digits in
     let len = length-map digits bit_of in
     length-append (replicate (size - length bits) (fill_before bits)) bits
     ∙ (omega (arith, len, length-replicate (size - length bits) (fill_before bits), fits))
 
 -- a bit left of the digits extends the first digit
-pub bit_fill : (size : ℕ) (digits : List ℕ) (place missing : ℕ) → 0 < length digits → length digits ≤ size → missing
+pub bit_fill : (size : ℕ) (digits : List ℕ) (place missing : ℕ) → 0 < length digits → length digits ≤ size
+    → missing
     ≡ size - length digits → place < missing
     → get_or (extended size digits) place X ≡ fill_of (bit_of (get_or digits 0 0))
 bit_fill size digits place missing some fits e lt =
@@ -36,10 +39,11 @@ bit_fill size digits place missing some fits e lt =
           (fill_before bits),
     ) in
     get_or_append_left fill bits X place in_fill ∙ get_or-replicate (size - length bits) place (fill_before bits) X
-    (omega (arith, len, e, lt)) ∙ fill_first digits some
+    (omega (arith, len, e, lt)) ∙ fill_before-first digits some
 
 -- a bit that isn't left of the digits is that of its digit
-pub bit_digit : (size : ℕ) (digits : List ℕ) (place missing : ℕ) → length digits ≤ size → missing ≡ size - length digits
+pub bit_digit : (size : ℕ) (digits : List ℕ) (place missing : ℕ) → length digits ≤ size → missing
+    ≡ size - length digits
     → missing ≤ place → place < size
     → get_or (extended size digits) place X ≡ bit_of (get_or digits (place - missing) 0)
 bit_digit size digits place missing fits e le lt =
@@ -55,22 +59,25 @@ bit_digit size digits place missing fits e le lt =
 pub bit_past : (size : ℕ) (digits : List ℕ) (place : ℕ) → length digits ≤ size → size ≤ place
     → get_or (extended size digits) place X ≡ X
 bit_past size digits place fits le = get_or_past (extended size digits) place X
-    (omega (arith, extended_size size digits fits, le))
+    (omega (arith, length-extended size digits fits, le))
 
 -- one more bit, left of the digits, extends the first digit
-pub more_fill : (size : ℕ) (digits : List ℕ) (place missing : ℕ) → 0 < length digits → length digits ≤ size → missing
+pub take-extended_fill : (size : ℕ) (digits : List ℕ) (place missing : ℕ) → 0 < length digits → length digits ≤ size
+    → missing
     ≡ size - length digits → place < missing
     → take (place + 1) (extended size digits) ≡ take place (extended size digits)
     ++ fill_of (bit_of (get_or digits 0 0)) ∷ []
-more_fill size digits place missing some fits e lt =
-    take_more (extended size digits) place X (omega (arith, extended_size size digits fits, e, lt))
-    ∙ ap (λ (b : Bit). take place (extended size digits) ++ b ∷ []) (bit_fill size digits place missing some fits e lt)
+take-extended_fill size digits place missing some fits e lt =
+    take_more (extended size digits) place X (omega (arith, length-extended size digits fits, e, lt))
+    ∙ ap (λ (b : Bit). take place (extended size digits) ++ b ∷ [])
+    (bit_fill size digits place missing some fits e lt)
 
 -- one more bit, not left of the digits, is that of its digit
-pub more_digit : (size : ℕ) (digits : List ℕ) (place missing : ℕ) → length digits ≤ size → missing
+pub take-extended_digit : (size : ℕ) (digits : List ℕ) (place missing : ℕ) → length digits ≤ size → missing
     ≡ size - length digits → missing ≤ place → place < size
     → take (place + 1) (extended size digits) ≡ take place (extended size digits)
     ++ bit_of (get_or digits (place - missing) 0) ∷ []
-more_digit size digits place missing fits e le lt =
-    take_more (extended size digits) place X (omega (arith, extended_size size digits fits, lt))
-    ∙ ap (λ (b : Bit). take place (extended size digits) ++ b ∷ []) (bit_digit size digits place missing fits e le lt)
+take-extended_digit size digits place missing fits e le lt =
+    take_more (extended size digits) place X (omega (arith, length-extended size digits fits, lt))
+    ∙ ap (λ (b : Bit). take place (extended size digits) ++ b ∷ [])
+    (bit_digit size digits place missing fits e le lt)

@@ -1,4 +1,4 @@
--- What the prefix of a text says of its definitions.
+-- The header of a prefix of a text, and a fault in it that isn't met at its end, are those of the whole text.
 use Rattle.std.proofs.Common.{◌≡◌, ℕ, Bool, true, false, List, [], ◌∷◌, ◌++◌, Some, Result, Ok, Err, refl, subst}
 use Rattle.vcd_read.specs.declared.dump.Variable.{Variable}
 use Rattle.vcd_read.specs.declared.fault.FaultKind.{FaultKind}
@@ -24,31 +24,38 @@ IsPrefixOf more (Ok d) longer = longer ≡ Ok (defined (going_on d.head more) d.
 IsPrefixOf more (Err fault) longer = StaysAs fault.line fault.kind longer
 
 module _ {V : Type 0} (with_variable : V → Variable → V) (text longer : List ℕ) (more : List Token) where
+  -- what the header `h` gives in the prefix, after the declarations `d`
   abbrev read_short : Declared V → Header → Result (Defined V) VcdFault
   read_short d h = rest_of_header with_variable text d h
 
+  -- what the header `h` gives in the longer text, after the declarations `d`
   abbrev read_longer : Declared V → Header → Result (Defined V) VcdFault
   read_longer d h = rest_of_header with_variable longer d h
 
+  -- what the header `h` gives in the prefix holds in the longer text, of the header `h2`
   abbrev IsHeaderPrefix : Declared V → Header → Header → Type 0
   IsHeaderPrefix d h h2 = IsPrefixOf more (read_short d h) (read_longer d h2)
 
-  stays : (line : ℕ) (kind : FaultKind) → StaysAs {V = V} line kind (Err (record { line = line; kind = kind }))
+  -- a fault that is the same stays
+  StaysAs-same : (line : ℕ) (kind : FaultKind) → StaysAs {V = V} line kind (Err (record { line = line; kind = kind }))
   unfolding StaysAs
-  stays line NoEndDefinitions = tt
-  stays line UnfinishedSection = tt
-  stays line kind = refl
+  StaysAs-same line NoEndDefinitions = tt
+  StaysAs-same line UnfinishedSection = tt
+  StaysAs-same line kind = refl
 
-  section_step : (h h2 : Header) (r : Result (Declared V) VcdFault) → ((next : Declared V) → IsHeaderPrefix next h h2)
+  -- if the headers after a section are prefixes whatever it declares, they are so after it, or after its fault
+  IsPrefixOf-section : (h h2 : Header) (r : Result (Declared V) VcdFault)
+      → ((next : Declared V) → IsHeaderPrefix next h h2)
       → IsPrefixOf more ((r >>= λ next. declare_all with_variable next h.items) >>= λ declared. body_of text h.body >>=
       λ body. Ok (headed declared body))
       ((r >>= λ next. declare_all with_variable next h2.items) >>= λ declared. body_of longer h2.body >>= λ body. Ok
       (headed declared body))
   unfolding IsPrefixOf
-  section_step h h2 (Ok next) both = both next
-  section_step h h2 (Err fault) both = stays fault.line fault.kind
+  IsPrefixOf-section h h2 (Ok next) both = both next
+  IsPrefixOf-section h h2 (Err fault) both = StaysAs-same fault.line fault.kind
 
-  ending : (section : Section) (ts : List Token) (d : Declared V) (test : Bool)
+  -- the end of a section, which ends the definitions if `test` holds, keeps this
+  IsHeaderPrefix-section_end : (section : Section) (ts : List Token) (d : Declared V) (test : Bool)
       → ((next : Declared V) → IsHeaderPrefix next (header_from between ts) (header_from between (ts ++ more)))
       → IsHeaderPrefix d (elim test as (λ _. Header) [
         | true ↦ record { items = []; body = Some ts }
@@ -61,11 +68,13 @@ module _ {V : Type 0} (with_variable : V → Variable → V) (text longer : List
             (whole section) (header_from between (ts ++ more))
       ])
   unfolding IsPrefixOf declare_all
-  ending section ts d true both = refl
-  ending section ts d false both = section_step (header_from between ts) (header_from between (ts ++ more))
+  IsHeaderPrefix-section_end section ts d true both = refl
+  IsHeaderPrefix-section_end section ts d false both = IsPrefixOf-section (header_from between ts)
+      (header_from between (ts ++ more))
       (at_line section.line (declare_section with_variable d section)) both
 
-  inside_step : (section : Section) (t : Token) (ts : List Token) (d : Declared V) (end : Bool)
+  -- a token in a section, which is its end if `end` holds, keeps this
+  IsHeaderPrefix-inside : (section : Section) (t : Token) (ts : List Token) (d : Declared V) (end : Bool)
       → ((next : Declared V) → IsHeaderPrefix next (header_from between ts) (header_from between (ts ++ more)))
       → IsHeaderPrefix d (header_from (inside (with_word section t.bytes)) ts)
       (header_from (inside (with_word section t.bytes)) (ts ++ more))
@@ -83,10 +92,12 @@ module _ {V : Type 0} (with_variable : V → Variable → V) (text longer : List
         ]
         | false ↦ header_from (inside (with_word section t.bytes)) (ts ++ more)
       ])
-  inside_step section t ts d true both goes_on = ending section ts d (ends_definitions section) both
-  inside_step section t ts d false both goes_on = goes_on
+  IsHeaderPrefix-inside section t ts d true both goes_on = IsHeaderPrefix-section_end section ts d
+      (ends_definitions section) both
+  IsHeaderPrefix-inside section t ts d false both goes_on = goes_on
 
-  between_step : (t : Token) (ts : List Token) (d : Declared V) (opens : Bool)
+  -- a token between sections, which opens one if `opens` holds, keeps this
+  IsHeaderPrefix-between : (t : Token) (ts : List Token) (d : Declared V) (opens : Bool)
       → IsHeaderPrefix d (header_from (inside (opened t)) ts) (header_from (inside (opened t)) (ts ++ more))
       → IsHeaderPrefix d (elim opens as (λ _. Header) [
         | true ↦ header_from (inside (opened t)) ts
@@ -99,40 +110,44 @@ module _ {V : Type 0} (with_variable : V → Variable → V) (text longer : List
             (stray t.line) (header_from between (ts ++ more))
       ])
   unfolding IsPrefixOf StaysAs declare_all
-  between_step t ts d true goes_on = goes_on
-  between_step t ts d false goes_on = refl
+  IsHeaderPrefix-between t ts d true goes_on = goes_on
+  IsHeaderPrefix-between t ts d false goes_on = refl
 
-  front : (ts : List Token) (place : HeaderPlace) (d : Declared V) → IsHeaderPrefix d (header_from place ts)
+  -- from any place in the definitions on, what tokens give holds with `more` after them
+  IsHeaderPrefix-header_from : (ts : List Token) (place : HeaderPlace) (d : Declared V)
+      → IsHeaderPrefix d (header_from place ts)
       (header_from place (ts ++ more))
   unfolding IsPrefixOf StaysAs header_from declare_all
-  front [] between d = tt
-  front [] (inside section) d = tt
-  front (t ∷ ts) between d = between_step t ts d (opens_section t.bytes) (front ts (inside (opened t)) d)
-  front (t ∷ ts) (inside section) d = inside_step section t ts d (is_end t.bytes) (λ next. front ts between next)
-      (front ts (inside (with_word section t.bytes)) d)
+  IsHeaderPrefix-header_from [] between d = tt
+  IsHeaderPrefix-header_from [] (inside section) d = tt
+  IsHeaderPrefix-header_from (t ∷ ts) between d = IsHeaderPrefix-between t ts d (opens_section t.bytes)
+      (IsHeaderPrefix-header_from ts (inside (opened t)) d)
+  IsHeaderPrefix-header_from (t ∷ ts) (inside section) d = IsHeaderPrefix-inside section t ts d (is_end t.bytes)
+      (λ next. IsHeaderPrefix-header_from ts between next)
+      (IsHeaderPrefix-header_from ts (inside (with_word section t.bytes)) d)
 
   -- definitions that are found in a text are those of every text that begins with it
-  pub found-front : (d : Declared V) (ts : List Token) (found : Defined V) → header_of with_variable text d ts
+  pub header_of-longer : (d : Declared V) (ts : List Token) (found : Defined V) → header_of with_variable text d ts
       ≡ Ok found
       → header_of with_variable longer d (ts ++ more) ≡ Ok (defined (going_on found.head more) found.variables)
   unfolding IsPrefixOf
-  found-front d ts found is = subst (λ (r : Result (Defined V) VcdFault). IsPrefixOf more r
-      (header_of with_variable longer d (ts ++ more))) is (front ts between d)
+  header_of-longer d ts found is = subst (λ (r : Result (Defined V) VcdFault). IsPrefixOf more r
+      (header_of with_variable longer d (ts ++ more))) is (IsHeaderPrefix-header_from ts between d)
 
   -- a fault that isn't met at the end of a text is that of every text that begins with it
-  pub failed-front : (d : Declared V) (ts : List Token) (line : ℕ) (kind : FaultKind) → (IsMetAtTheEnd kind → ⊥)
+  pub ReadFailsAs-longer : (d : Declared V) (ts : List Token) (line : ℕ) (kind : FaultKind) → (IsMetAtTheEnd kind → ⊥)
       → ReadFailsAs line kind (header_of with_variable text d ts)
       → ReadFailsAs line kind (header_of with_variable longer d (ts ++ more))
   unfolding IsPrefixOf StaysAs
-  failed-front d ts line Memory other fails = fails
-  failed-front d ts line NoEndDefinitions other fails = absurd (other tt)
-  failed-front d ts line UnfinishedSection other fails = absurd (other tt)
-  failed-front d ts line kind other fails = subst (λ (r : Result (Defined V) VcdFault). IsPrefixOf more r
-      (header_of with_variable longer d (ts ++ more))) fails (front ts between d)
+  ReadFailsAs-longer d ts line Memory other fails = fails
+  ReadFailsAs-longer d ts line NoEndDefinitions other fails = absurd (other tt)
+  ReadFailsAs-longer d ts line UnfinishedSection other fails = absurd (other tt)
+  ReadFailsAs-longer d ts line kind other fails = subst (λ (r : Result (Defined V) VcdFault). IsPrefixOf more r
+      (header_of with_variable longer d (ts ++ more))) fails (IsHeaderPrefix-header_from ts between d)
 
 -- a fault of another kind than these two isn't one of the end of a text
-pub goes_on-else : (kind : FaultKind) → (kind ≡ UnfinishedSection → ⊥) → (kind ≡ NoEndDefinitions → ⊥)
+pub IsMetAtTheEnd-others : (kind : FaultKind) → (kind ≡ UnfinishedSection → ⊥) → (kind ≡ NoEndDefinitions → ⊥)
     → IsMetAtTheEnd kind → ⊥
-goes_on-else NoEndDefinitions section definitions met = definitions refl
-goes_on-else UnfinishedSection section definitions met = section refl
-goes_on-else kind section definitions met = met
+IsMetAtTheEnd-others NoEndDefinitions section definitions met = definitions refl
+IsMetAtTheEnd-others UnfinishedSection section definitions met = section refl
+IsMetAtTheEnd-others kind section definitions met = met

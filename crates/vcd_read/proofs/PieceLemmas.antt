@@ -9,43 +9,53 @@ use Rattle.vcd_read.specs.Tokens.{Cut, Token, all_of, cut_from, is_space, next_l
 use Rattle.vcd_read.specs.Reading.{line_behind}
 
 -- `cut` with the tokens `more` after it
-abbrev behind : Cut → List Token → Cut
-behind cut more = record { run = cut.run; others = cut.others ++ more }
+abbrev with_tokens : Cut → List Token → Cut
+with_tokens cut more = record { run = cut.run; others = cut.others ++ more }
 
-token_of-behind : (line : ℕ) (run : List ℕ) (others more : List Token) → token_of line run (others ++ more)
+-- a run, and tokens after it, with `more` after these
+token_of-append : (line : ℕ) (run : List ℕ) (others more : List Token) → token_of line run (others ++ more)
     ≡ token_of line run others ++ more
-token_of-behind line [] others more = refl
-token_of-behind line (b ∷ run) others more = refl
+token_of-append line [] others more = refl
+token_of-append line (b ∷ run) others more = refl
 
 module _ (line b : ℕ) (cut : Cut) (more : List Token) where
-  by_space : (s : _) → is_space b ≡ s → with_byte line b (behind cut more) ≡ behind (with_byte line b cut) more
-  by_space true e = rw (e, token_of-behind (next_line line b) cut.run cut.others more) refl
+  -- whether the byte is a space (`s`) or not
+  by_space : (s : _) → is_space b ≡ s → with_byte line b (with_tokens cut more)
+      ≡ with_tokens (with_byte line b cut) more
+  by_space true e = rw (e, token_of-append (next_line line b) cut.run cut.others more) refl
   by_space false e = rw e refl
 
-  with_byte-behind : with_byte line b (behind cut more) ≡ behind (with_byte line b cut) more
-  with_byte-behind = by_space (is_space b) refl
+  -- a byte before a cut with the tokens `more` after it
+  with_byte-with_tokens : with_byte line b (with_tokens cut more) ≡ with_tokens (with_byte line b cut) more
+  with_byte-with_tokens = by_space (is_space b) refl
 
-one_more : (test : Bool) (count n line : ℕ) → count ≡ cond test 1 0 + n → count + line ≡ n + cond test (line + 1) line
-one_more true count n line e = omega (arith, e)
-one_more false count n line e = omega (arith, e)
+-- the line feeds of one byte more, which is one if `test` holds, are counted in the line or in the rest
+line-one_byte_more : (test : Bool) (count n line : ℕ) → count ≡ cond test 1 0 + n → count + line
+    ≡ n + cond test (line + 1) line
+line-one_byte_more true count n line e = omega (arith, e)
+line-one_byte_more false count n line e = omega (arith, e)
 
+-- the line after a byte and others is that after the others, from the line after the byte on
 line_behind-cons : (line b : ℕ) (bytes : List ℕ) → line_behind line (b ∷ bytes) ≡ line_behind (next_line line b) bytes
 line_behind-cons line b bytes =
-    one_more (eqb b 10) (count_by (λ (x : ℕ). eqb x 10) (b ∷ bytes)) (count_by (λ (x : ℕ). eqb x 10) bytes) line
+    line-one_byte_more (eqb b 10) (count_by (λ (x : ℕ). eqb x 10) (b ∷ bytes)) (count_by (λ (x : ℕ). eqb x 10) bytes)
+    line
     (sum_by-cons (λ (x : ℕ). cond (eqb x 10) 1 0) b bytes)
 
+-- the line after one byte is its next line
 line_behind-one : (line b : ℕ) → line_behind line (b ∷ []) ≡ next_line line b
 line_behind-one line b = line_behind-cons line b [] ∙ zero-add (next_line line b)
 
-rest_more : (front rest all line : ℕ) → front + rest ≡ all → rest + (front + line) ≡ all + line
-rest_more front rest all line e = omega (arith, e)
+-- the line feeds before a place, and those after it, may be counted one after the other
+sum-regrouped : (front rest all line : ℕ) → front + rest ≡ all → rest + (front + line) ≡ all + line
+sum-regrouped front rest all line e = omega (arith, e)
 
 -- the line after a text is the line after its rest from `at` on, counted from the line of `at`
 pub line_behind-rest : (line : ℕ) (text : List ℕ) (at : ℕ)
     → line_behind (line_behind line (take at text)) (drop at text)
     ≡ line_behind line text
 line_behind-rest line text at =
-    rest_more (count_by (λ (x : ℕ). eqb x 10) (take at text)) (count_by (λ (x : ℕ). eqb x 10) (drop at text))
+    sum-regrouped (count_by (λ (x : ℕ). eqb x 10) (take at text)) (count_by (λ (x : ℕ). eqb x 10) (drop at text))
     (count_by (λ (x : ℕ). eqb x 10) text) line
     (sum_by-take-drop (λ (x : ℕ). cond (eqb x 10) 1 0) text at)
 
@@ -53,67 +63,74 @@ line_behind-rest line text at =
 abbrev spaced : List Token → Cut
 spaced tokens = record { run = []; others = tokens }
 
-cut_behind : (front : List ℕ) (s : ℕ) (rest : List ℕ) (line : ℕ) → is_space s ≡ true
-    → cut_from line (front ++ s ∷ rest) ≡ behind (cut_from line (front ++ s ∷ []))
+-- a text is cut up to and with a space, and then after it
+cut_from-split : (front : List ℕ) (s : ℕ) (rest : List ℕ) (line : ℕ) → is_space s ≡ true
+    → cut_from line (front ++ s ∷ rest) ≡ with_tokens (cut_from line (front ++ s ∷ []))
     (tokens_from (line_behind line (front ++ s ∷ [])) rest)
 unfolding cut_from
-cut_behind [] s rest line e = rw e (ap (λ (l : ℕ). spaced (tokens_from l rest)) (sym (line_behind-one line s)))
-cut_behind (b ∷ front) s rest line e =
-    ap (with_byte line b) (cut_behind front s rest (next_line line b) e)
-    ∙ with_byte-behind line b (cut_from (next_line line b) (front ++ s ∷ []))
+cut_from-split [] s rest line e = rw e (ap (λ (l : ℕ). spaced (tokens_from l rest)) (sym (line_behind-one line s)))
+cut_from-split (b ∷ front) s rest line e =
+    ap (with_byte line b) (cut_from-split front s rest (next_line line b) e)
+    ∙ with_byte-with_tokens line b (cut_from (next_line line b) (front ++ s ∷ []))
     (tokens_from (line_behind (next_line line b) (front ++ s ∷ [])) rest)
-    ∙ ap (λ (l : ℕ). behind (with_byte line b (cut_from (next_line line b) (front ++ s ∷ []))) (tokens_from l rest))
+    ∙ ap (λ (l : ℕ). with_tokens (with_byte line b (cut_from (next_line line b) (front ++ s ∷ [])))
+    (tokens_from l rest))
     (sym (line_behind-cons line b (front ++ s ∷ [])))
 
 -- the tokens of a text are those up to a space, and those after it
-pub tokens_split : (front : List ℕ) (s : ℕ) (rest : List ℕ) (line : ℕ) → is_space s ≡ true
+pub tokens_from-split : (front : List ℕ) (s : ℕ) (rest : List ℕ) (line : ℕ) → is_space s ≡ true
     → tokens_from line (front ++ s ∷ rest) ≡ tokens_from line (front ++ s ∷ [])
     ++ tokens_from (line_behind line (front ++ s ∷ [])) rest
-tokens_split front s rest line e =
+tokens_from-split front s rest line e =
     let cut = cut_from line (front ++ s ∷ []) in
-    ap (all_of line) (cut_behind front s rest line e) ∙ token_of-behind line cut.run cut.others
+    ap (all_of line) (cut_from-split front s rest line e) ∙ token_of-append line cut.run cut.others
     (tokens_from (line_behind line (front ++ s ∷ [])) rest)
 
 -- the tokens of an empty prefix, and those of what follows
-pub tokens_split-empty : (text rest : List ℕ) (line : ℕ) → tokens_from line (take 0 text ++ rest) ≡ tokens_from line
+pub tokens_from-split_empty : (text rest : List ℕ) (line : ℕ) → tokens_from line (take 0 text ++ rest)
+    ≡ tokens_from line
     (take 0 text) ++ tokens_from (line_behind line (take 0 text)) rest
 unfolding cut_from
-tokens_split-empty text rest line = ap (λ (l : ℕ). tokens_from l rest) (sym (zero-add line))
+tokens_from-split_empty text rest line = ap (λ (l : ℕ). tokens_from l rest) (sym (zero-add line))
 
 -- the tokens of a prefix that ends after a space, and those of what follows
-pub tokens_split-space : (text rest : List ℕ) (end line : ℕ) → end < length text → is_space (get_or text end 0) ≡ true
+pub tokens_from-split_space : (text rest : List ℕ) (end line : ℕ) → end < length text → is_space (get_or text end 0)
+    ≡ true
     → tokens_from line (take (end + 1) text ++ rest) ≡ tokens_from line (take (end + 1) text)
     ++ tokens_from (line_behind line (take (end + 1) text)) rest
-tokens_split-space text rest end line lt space =
+tokens_from-split_space text rest end line lt space =
     let front : take (end + 1) text ≡ take end text ++ get_or text end 0 ∷ [] = take_more text end 0 lt in
     let joined : (take end text ++ get_or text end 0 ∷ []) ++ rest ≡ take end text ++ get_or text end 0
     ∷ rest = append_assoc (take end text) (get_or text end 0 ∷ []) rest in
-    rw (front, joined) (tokens_split (take end text) (get_or text end 0) rest line space)
+    rw (front, joined) (tokens_from-split (take end text) (get_or text end 0) rest line space)
 
 -- what is left of a text from a place on, by its length
-pub left_is : (text : List ℕ) (at : ℕ) → at ≤ length text → drop at text
+pub drop-by_length : (text : List ℕ) (at : ℕ) → at ≤ length text → drop at text
     ≡ drop (length text - length (drop at text)) text
-left_is text at le = ap (λ (n : ℕ). drop n text) (omega (arith, length-drop at text, le))
+drop-by_length text at le = ap (λ (n : ℕ). drop n text) (omega (arith, length-drop at text, le))
 
 -- the tokens from `at` on of a text that ends after a space, and those of what follows
-pub left_behind : (text rest : List ℕ) (at line : ℕ)
+pub tokens_from-append_left : (text rest : List ℕ) (at line : ℕ)
     → (0 < length text → is_space (get_or text (length text - 1) 0) ≡ true)
     → tokens_from line (drop at text ++ rest) ≡ tokens_from line (drop at text)
     ++ tokens_from (line_behind line (drop at text)) rest
-left_behind text rest at line space = by_length (length text - at) (sym (length-drop at text))
+tokens_from-append_left text rest at line space = by_length (length text - at) (sym (length-drop at text))
   where
+    -- what is left of the text from the place on
     part : List ℕ
     part = drop at text
 
+    -- the tokens of these bytes and what follows are those of the bytes, and then of what follows
     SplitsTokens : List ℕ → Type 0
     SplitsTokens bytes = tokens_from line (bytes ++ rest)
         ≡ tokens_from line bytes ++ tokens_from (line_behind line bytes) rest
 
+    -- so it is for what is left, of any length
     by_length : (n : ℕ) → n ≡ length part → SplitsTokens part
     by_length zero e = subst SplitsTokens (sym (drop_all at text (omega (arith, e, length-drop at text))))
-        (tokens_split-empty [] rest line)
+        (tokens_from-split_empty [] rest line)
     by_length (suc n) e =
         subst SplitsTokens (take_all (n + 1) part (omega (arith, e)))
-        (tokens_split-space part rest n line (omega (arith, e))
+        (tokens_from-split_space part rest n line (omega (arith, e))
         (ap is_space (get_or-drop at text n 0 ∙ ap (λ (i : ℕ). get_or text i 0) (omega (arith, e, length-drop at text)))
         ∙ space (omega (arith, e, length-drop at text))))

@@ -1,4 +1,4 @@
--- The last time that is read.
+-- The time that a fold over a body has reached before the first fault is that of the last time item before it.
 use Rattle.std.proofs.Common.{◌≡◌, ℕ, Bool, true, false, cond, ◌&&◌, List, [], ◌∷◌, Result, Ok, Err, refl, ap}
 use Rattle.std.proofs.Common.{◌∙◌}
 use Rattle.std.specs.Prelude.{not, ◌==◌}
@@ -13,32 +13,38 @@ use Rattle.vcd_read.specs.Meaning.{items_before_fault, last_time}
 use Rattle.vcd_read.specs.BodyFold.{State, BodyFold, progress_after, reached_before}
 
 module _ {A : Type 0} (with_change : A → ℕ → List Bit → A) (with_instant : A → ℕ → A) (nets : List Net) where
+  -- the current time of the fold
   abbrev time_in : BodyFold A → ℕ
   time_in p = p.time
 
-  at_time : (test : Bool) (p : BodyFold A) (t : ℕ) → time_in (cond test
+  -- after a time item its time is the current one, whether it ended an instant (`test`) or not
+  time-advanced : (test : Bool) (p : BodyFold A) (t : ℕ) → time_in (cond test
       (record { accumulator = with_instant p.accumulator p.time; time = t; has_instant = true })
       (record p { time = t; has_instant = true }))
       ≡ t
-  at_time true p t = refl
-  at_time false p t = refl
+  time-advanced true p t = refl
+  time-advanced false p t = refl
 
-  item_time : (p : BodyFold A) (item : BodyItem) (items : List BodyItem)
+  -- the last time after an item is that of the item and what follows
+  last_time-item : (p : BodyFold A) (item : BodyItem) (items : List BodyItem)
       → last_time (progress_after with_change with_instant nets p item).time items
       ≡ last_time p.time (item ∷ items)
   unfolding last_time
-  item_time p (time_item line digits) items = ap (λ (t : ℕ). last_time t items)
-      (at_time (p.has_instant && not (number digits == p.time)) p (number digits))
-  item_time p (change line digits code) items = refl
-  item_time p (skipped line code) items = refl
-  item_time p (dump_section_open line) items = refl
-  item_time p (dump_section_end line) items = refl
-  item_time p (wrong line kind) items = refl
+  last_time-item p (time_item line digits) items = ap (λ (t : ℕ). last_time t items)
+      (time-advanced (p.has_instant && not (number digits == p.time)) p (number digits))
+  last_time-item p (change line digits code) items = refl
+  last_time-item p (skipped line code) items = refl
+  last_time-item p (dump_section_open line) items = refl
+  last_time-item p (dump_section_end line) items = refl
+  last_time-item p (wrong line kind) items = refl
 
+  -- the state with the progress `p`, if the context is no fault
   abbrev state_of : BodyFold A → Result BodyContext VcdFault → Result (State A) VcdFault
   state_of p stood = stood >>= λ next. Ok (record { context = next; progress = p })
 
-  time_step : (s : State A) (item : BodyItem) (items : List BodyItem) (stood : Result BodyContext VcdFault)
+  -- an item, and then items up to whose first fault this holds
+  time-reached_before_item : (s : State A) (item : BodyItem) (items : List BodyItem)
+      (stood : Result BodyContext VcdFault)
       → ((next : State A) → (reached_before with_change with_instant nets next items).progress.time
       ≡ last_time next.progress.time (items_before_fault nets next.context items))
       → (elim (state_of (progress_after with_change with_instant nets s.progress item) stood) as (λ _. State A) [
@@ -50,19 +56,19 @@ module _ {A : Type 0} (with_change : A → ℕ → List Bit → A) (with_instant
         | Err fault ↦ []
       ])
   unfolding last_time
-  time_step s item items (Ok next) rest =
+  time-reached_before_item s item items (Ok next) rest =
       let after : State A = record {
         context = next;
         progress = progress_after with_change with_instant nets s.progress item;
       } in
-      rest after ∙ item_time s.progress item (items_before_fault nets next items)
-  time_step s item items (Err fault) rest = refl
+      rest after ∙ last_time-item s.progress item (items_before_fault nets next items)
+  time-reached_before_item s item items (Err fault) rest = refl
 
   -- the current time before the first fault is the time of the last time item before it, or else that at `s`
-  pub reached_time : (s : State A) (items : List BodyItem)
+  pub time-reached_before : (s : State A) (items : List BodyItem)
       → (reached_before with_change with_instant nets s items).progress.time
       ≡ last_time s.progress.time (items_before_fault nets s.context items)
   unfolding reached_before items_before_fault last_time
-  reached_time s [] = refl
-  reached_time s (item ∷ items) = time_step s item items (context_after nets s.context item)
-      (λ next. reached_time next items)
+  time-reached_before s [] = refl
+  time-reached_before s (item ∷ items) = time-reached_before_item s item items (context_after nets s.context item)
+      (λ next. time-reached_before next items)

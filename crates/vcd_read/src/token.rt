@@ -31,7 +31,7 @@ pub(crate) struct Reader<'a> {
 
 /// Whether `b` is white space. Nearly all bytes are above the space (32), so one test decides most of them, and many
 /// others are line feeds.
-#[tactic(auto, using(crate::proofs::TokenLemmas::is_space-above_32))]
+#[tactic(auto, using(crate::proofs::TokenLemmas::is_space_above_32))]
 fn is_space(b: u8) -> bool
     ensures { result ≡ is_space b }
 {
@@ -113,7 +113,7 @@ fn word_end_past_controls(text: &[u8], at: usize) -> usize
 }
 
 /// The place after the space at `end` that ends a word, or the end.
-#[tactic(auto, using(crate::proofs::TokenLemmas::tokens_after-space))]
+#[tactic(auto, using(crate::proofs::TokenLemmas::tokens_after_space))]
 #[inline(always)]
 fn behind_word(text: &[u8], end: usize) -> usize
     requires within { end ≤ length text.now }

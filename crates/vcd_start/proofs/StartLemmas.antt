@@ -18,8 +18,9 @@ use Rattle.vcd_read.specs.Reading.{line_behind}
 use Rattle.vcd_read.specs.Sections.{Defined, Headed, defined, header_of}
 use Rattle.vcd_read.specs.BodyFold.{State, BodyFold, at_end, fold_body}
 use Rattle.vcd_read.specs.Tokens.{Token, tokens, tokens_from}
-use Rattle.vcd_read.proofs.DefinedLemmas.{header_taken, taken_head}
-use Rattle.vcd_read.proofs.DumpLemmas.{contents_behind, dump_behind, dump_of-header, whole_header, with_variables}
+use Rattle.vcd_read.proofs.DefinedLemmas.{header_of-taken_head, taken_head}
+use Rattle.vcd_read.proofs.DumpLemmas.{contents_of_header, dump_of-whole_header, dump_of-header, whole_header}
+use Rattle.vcd_read.proofs.DumpLemmas.{with_variables}
 use Rattle.vcd_read.proofs.CurrentValues.{CurrentValues}
 use Rattle.vcd_read.proofs.BodyFoldLemmas.{Ends, Follows, ReadFails-followed, Follows-fold_body}
 use Rattle.vcd_start.specs.Starts.{first_time_of, start_of}
@@ -59,7 +60,8 @@ module _ (text : List ℕ) (ts : List Token) (same : tokens text ≡ ts) where
   header_is : header_of passed text (nothing_declared tt) ts
       ≡ (whole_header text >>= λ (d : Defined (List Variable)). Ok (taken_head passed tt d))
   header_is =
-      ap (λ (l : List Token). header_of passed text (nothing_declared tt) l) (sym same) ∙ header_taken passed text tt
+      ap (λ (l : List Token). header_of passed text (nothing_declared tt) l) (sym same)
+      ∙ header_of-taken_head passed text tt
 
   module _ (h : Headed) where
     by_whole : (w : Result (Defined (List Variable)) VcdFault)
@@ -82,7 +84,7 @@ module _ (text : List ℕ) (ts : List Token) (same : tokens text ≡ ts) where
         → dump_of text ≡ Ok dump → fold_body first_time_kept first_time_or h.nets None h.body ≡ Ok (start_of dump)
     taken-start is dump whole =
         let (variables, found) = by_whole (whole_header text) (sym header_is ∙ is) in
-        let behind = dump_behind text (defined h variables) found in
+        let behind = dump_of-whole_header text (defined h variables) found in
         first_of (instants_from h.nets h.body) (fold_body first_time_kept first_time_or h.nets None h.body)
         dump.instants
         (by_instants variables dump (instants_from h.nets h.body) (sym behind ∙ whole)) (body_follows h.nets h.body)
@@ -97,14 +99,14 @@ module _ (text : List ℕ) (ts : List Token) (same : tokens text ≡ ts) where
         → ReadFails fault (fold_body first_time_kept first_time_or h.nets None h.body) → ReadFails fault (dump_of text)
     body-fails is fault fails =
         let (variables, found) = by_whole (whole_header text) (sym header_is ∙ is) in
-        subst (ReadFailsAs fault.line fault.kind) (sym (dump_behind text (defined h variables) found))
+        subst (ReadFailsAs fault.line fault.kind) (sym (dump_of-whole_header text (defined h variables) found))
         (fails_on fault.line fault.kind (instants_from h.nets h.body) (with_variables variables)
         (ReadFails-followed (Ends HasFirst) (instants_from h.nets h.body)
         (fold_body first_time_kept first_time_or h.nets None h.body) fault (body_follows h.nets h.body) fails))
 
   fails_back : (line : ℕ) (kind : FaultKind) (w : Result (Defined (List Variable)) VcdFault)
       → ReadFailsAs line kind (w >>= λ (d : Defined (List Variable)). Ok (taken_head passed tt d))
-      → ReadFailsAs line kind (w >>= contents_behind)
+      → ReadFailsAs line kind (w >>= contents_of_header)
   fails_back line Memory w fails = fails
   fails_back line kind (Ok d) fails = absurd (cc)
   fails_back line kind (Err own) fails =
@@ -120,7 +122,7 @@ module _ (text : List ℕ) (ts : List Token) (same : tokens text ≡ ts) where
 
   never : (fault : VcdFault) (dump : Contents) (w : Result (Defined (List Variable)) VcdFault)
       → (w >>= λ (d : Defined (List Variable)). Ok (taken_head passed tt d)) ≡ Err fault
-      → (w >>= contents_behind) ≡ Ok dump → ⊥
+      → (w >>= contents_of_header) ≡ Ok dump → ⊥
   never fault dump (Ok d) fails whole = absurd (cc)
   never fault dump (Err own) fails whole = absurd (cc)
 

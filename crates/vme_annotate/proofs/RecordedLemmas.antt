@@ -9,7 +9,7 @@ use Rattle.vcd_read.specs.Sections.{Defined, header_of}
 use Rattle.vcd_read.specs.Tokens.{Token, tokens}
 use Rattle.vcd_read.specs.declared.dump.Variable.{Variable}
 use Rattle.vcd_read.specs.declared.fault.VcdFault.{VcdFault}
-use Rattle.vcd_read.proofs.DumpLemmas.{contents_behind, dump_of-header, whole_header}
+use Rattle.vcd_read.proofs.DumpLemmas.{contents_of_header, dump_of-header, whole_header}
 use Rattle.vme_bind.specs.Binding.{BoundLines}
 use Rattle.vme_bind.specs.BoundGroups.{bound_groups_in}
 use Rattle.vme_bind.specs.Capture.{levels_after, recording, recording_of}
@@ -144,5 +144,6 @@ module _ (skew : ℕ) (binding : BoundLines) (dump : List ℕ) (t : Trace) (is :
   -- the definitions of the dump are read
   pub defines : (d : Defined (List Variable)) × (header_of appended dump (nothing_declared []) (tokens dump) ≡ Ok d)
   defines =
-      let read = both_read (whole_header dump) contents_behind is.contents (sym (dump_of-header dump) ∙ is.read_is) in
+      let read = both_read (whole_header dump) contents_of_header is.contents (sym (dump_of-header dump) ∙ is.read_is)
+      in
       (read.0, read.1)

@@ -8,7 +8,7 @@ use Rattle.std.specs.Fmt.{digit_glyph, digits, digits_onto}
 use Rattle.std.proofs.lemmas.Bool.{and_from, and_parts, eq-eqb}
 use Rattle.std.proofs.lemmas.List.Folds.{list_all-append}
 use Rattle.vcd_read.specs.Tokens.{is_space}
-use Rattle.vcd_read.proofs.TokenLemmas.{is_space-above_32}
+use Rattle.vcd_read.proofs.TokenLemmas.{is_space_above_32}
 use Rattle.vme_trace.specs.Cycle.{highest_address}
 use Rattle.vme_trace.specs.LineNumbers.{AS, DS0, DS1, DTACK, BERR, IACK, AM, LWORD, WRITE, A, BBSY, BR, grant, iack, D}
 use Rattle.vme_trace.specs.LineNumbers.{SYSRESET, grant_level, grant_place}
@@ -51,7 +51,7 @@ if_word true a b first second = first
 if_word false a b first second = second
 
 high_word : (b : ℕ) → 48 ≤ b → not (is_space b) ≡ true
-high_word b high = ap not (is_space-above_32 b (omega (arith, high)))
+high_word b high = ap not (is_space_above_32 b (omega (arith, high)))
 
 glyph_high : (upper : Bool) (d : ℕ) → 48 ≤ digit_glyph upper d
 glyph_high upper d = go upper (nat_lt d 10)

@@ -11,7 +11,7 @@ use Rattle.std.proofs.lemmas.List.Elements.{All-replicate}
 use Rattle.std.proofs.lemmas.List.Sums.{AllPass-from_list_all, list_all-from_AllPass}
 use Rattle.std.proofs.lemmas.Bool.{and_from, and_parts, leb-true, not-true}
 use Rattle.std.proofs.lemmas.Slice.Eq.{bytes_eq-Decides}
-use Rattle.vcd_read.proofs.TokenLemmas.{is_space-above_32}
+use Rattle.vcd_read.proofs.TokenLemmas.{is_space_above_32}
 use Rattle.vcd_read.specs.declared.dump.Variable.{Variable}
 use Rattle.vcd_read.specs.Tokens.{Token, is_space, tokens, tokens_from}
 use Rattle.vcd_read.specs.Reading.{line_behind}
@@ -170,7 +170,7 @@ module _ (underscores : ℕ) where
 code_byte : (b : ℕ) → is_code_byte b ≡ true → not (is_space b) ≡ true
 code_byte b is =
     let parts = and_parts (nat_le 33 b) (nat_le b 126) is in
-    ap not (is_space-above_32 b (omega (arith, leb-true 33 b parts.0)))
+    ap not (is_space_above_32 b (omega (arith, leb-true 33 b parts.0)))
 
 pub code_word : (code : List ℕ) → is_code code ≡ true → IsWord code
 code_word [] is = refl

@@ -19,9 +19,10 @@ use Rattle.vcd_read.specs.Header.{◌>>=◌, nothing_declared}
 use Rattle.vcd_read.specs.Sections.{Headed, Defined, defined, header_of}
 use Rattle.vcd_read.specs.Meaning.{ReadFails, ReadFailsAs, dump_of, instants_from}
 use Rattle.vcd_read.specs.BodyFold.{fold_body}
-use Rattle.vcd_read.proofs.ReadLemmas.{fails_first, body_rises}
-use Rattle.vcd_read.proofs.DumpLemmas.{contents_behind, with_variables, whole_header, dump_of-header, dump_behind}
-use Rattle.vcd_read.proofs.DefinedLemmas.{taken_head, header_taken}
+use Rattle.vcd_read.proofs.ReadLemmas.{ReadFails-first, TimesAscend-instants_from}
+use Rattle.vcd_read.proofs.DumpLemmas.{contents_of_header, with_variables, whole_header, dump_of-header}
+use Rattle.vcd_read.proofs.DumpLemmas.{dump_of-whole_header}
+use Rattle.vcd_read.proofs.DefinedLemmas.{taken_head, header_of-taken_head}
 use Rattle.vcd_read.proofs.CurrentValues.{CurrentValues}
 use Rattle.vcd_read.proofs.BodyFoldLemmas.{Ends, Follows, Follows-fold_body, ReadFails-followed, ok-followed}
 use Rattle.vme_bind.specs.declared.fault.BindFault.{BindFault}
@@ -168,9 +169,9 @@ pub recording_of_text-header_fails : (b : BoundLines) (text : List ℕ) (seen : 
     (recording_of_text b text)
 recording_of_text-header_fails b text seen fault h =
     let whole = ReadFailsAs-before_total fault.line fault.kind (whole_header text) (taken_head with_variable seen)
-    (rw (header_taken with_variable text seen) at h) in
+    (rw (header_of-taken_head with_variable text seen) at h) in
     recording_of_text-dump_fails b text fault
-    (fails_first fault (whole_header text) contents_behind _ (dump_of-header text) whole)
+    (ReadFails-first fault (whole_header text) contents_of_header _ (dump_of-header text) whole)
 
 -- the header of `text` is `h`, and `seen` is `first` after its variables
 abbrev HasHeader : List ℕ → Headed → List Searched → List Searched → Type 0
@@ -202,7 +203,7 @@ HasHeader-by_result text h first seen (Err fault) e is = absurd (cc is)
 pub HasHeader-searched : (text : List ℕ) (h : Headed) (first seen : List Searched) → header_of with_variable text
     (nothing_declared first) (tokens text) ≡ Ok (defined h seen) → HasHeader text h first seen
 HasHeader-searched text h first seen e = HasHeader-by_result text h first seen (whole_header text) refl
-    (sym (header_taken with_variable text first) ∙ e)
+    (sym (header_of-taken_head with_variable text first) ∙ e)
 
 -- what a function gives for the body after the definitions, it gives for the whole text
 pub GivesBy-recording_of_text : {X : Type 0} (view : X → Trace) (b : BoundLines) (text : List ℕ) (h : Headed)
@@ -214,7 +215,7 @@ unfolding recording_of_text
 GivesBy-recording_of_text view b text h first seen r head given =
     let whole = HasHeader-searched text h first seen head in
     subst (λ (d : Result Contents VcdFault). GivesBy view r (recording_read b d))
-    (sym (dump_behind text (defined h whole.0) whole.1)) (given whole.0 whole.2)
+    (sym (dump_of-whole_header text (defined h whole.0) whole.1)) (given whole.0 whole.2)
 
 -- the recording of a text is that of the body after its definitions
 pub recording_of_text-after_header : (b : BoundLines) (text : List ℕ) (h : Headed) (first seen : List Searched)
@@ -225,7 +226,7 @@ pub recording_of_text-after_header : (b : BoundLines) (text : List ℕ) (h : Hea
 unfolding recording_of_text
 recording_of_text-after_header b text h first seen head =
     let whole = HasHeader-searched text h first seen head in
-    (whole.0, whole.2, ap (recording_read b) (dump_behind text (defined h whole.0) whole.1))
+    (whole.0, whole.2, ap (recording_read b) (dump_of-whole_header text (defined h whole.0) whole.1))
 
 -- where the binding fits, the recording of the instants is that of the bound groups, or the fault of the dump
 pub recording_read-bound : (b : BoundLines) (variables : List Variable) (bound_groups : List BoundGroup)
@@ -389,7 +390,7 @@ pub recording_of_text-formed : (b : BoundLines) (text : List ℕ) (t : Trace) �
 unfolding recording_of_text
 recording_of_text-formed b text t e = by_dump (dump_of text) refl e
   where
-    rises_in : (dump : Contents) (r : Result (Defined (List Variable)) VcdFault) → (r >>= contents_behind) ≡ Ok dump
+    rises_in : (dump : Contents) (r : Result (Defined (List Variable)) VcdFault) → (r >>= contents_of_header) ≡ Ok dump
         → TimesAscend dump.instants
     rises_in dump (Err fault) e = absurd (cc e)
     rises_in dump (Ok d) e = by_result (instants_from d.head.nets d.head.body) refl e
@@ -398,7 +399,7 @@ recording_of_text-formed b text t e = by_dump (dump_of text) refl e
             → (r >>= with_variables d.variables) ≡ Ok dump → TimesAscend dump.instants
         by_result (Err fault) is e = absurd (cc e)
         by_result (Ok instants) is e = subst (λ (c : Contents). TimesAscend c.instants) (same_ok _ _ e)
-            (body_rises d.head.nets d.head.body instants is)
+            (TimesAscend-instants_from d.head.nets d.head.body instants is)
 
     by_bound_groups : (dump : Contents) → TimesAscend dump.instants → (r : Result (List BoundGroup) BindFault)
         → or_binding (r >>= λ bound_groups. Ok (recording b.slots bound_groups dump.instants (length dump.instants)))

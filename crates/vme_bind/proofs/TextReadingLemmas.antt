@@ -22,13 +22,13 @@ use Rattle.vcd_read.specs.declared.dump.Variable.{Variable}
 use Rattle.vcd_read.specs.declared.fault.FaultKind.{FaultKind}
 use Rattle.vcd_read.specs.declared.fault.FaultKind.TheVariants.{Memory, NoEndDefinitions, UnfinishedSection}
 use Rattle.vcd_read.specs.declared.fault.VcdFault.{VcdFault}
-use Rattle.vcd_read.proofs.BeforeFaultLemmas.{before_fault, before_fault_rises}
+use Rattle.vcd_read.proofs.BeforeFaultLemmas.{instants_of-before_fault, TimesAscend-before_fault}
 use Rattle.vcd_read.proofs.DumpLemmas.{whole_header}
-use Rattle.vcd_read.proofs.DefinedLemmas.{header_taken, taken_head}
+use Rattle.vcd_read.proofs.DefinedLemmas.{header_of-taken_head, taken_head}
 use Rattle.vcd_read.proofs.InstantsLaw.{at_start}
 use Rattle.vcd_read.proofs.BodyFoldLemmas.{Ends, ok-followed, KeepsBefore-reached_before}
-use Rattle.vcd_read.proofs.ReadLemmas.{body_rises}
-use Rattle.vcd_read.proofs.TimeLemmas.{reached_time}
+use Rattle.vcd_read.proofs.ReadLemmas.{TimesAscend-instants_from}
+use Rattle.vcd_read.proofs.TimeLemmas.{time-reached_before}
 use Rattle.vme_bind.specs.declared.bound_groups.BoundGroup.{BoundGroup}
 use Rattle.vme_bind.specs.declared.fault.BindFault.{BindFault}
 use Rattle.vme_bind.specs.declared.fault.CaptureFault.{CaptureFault}
@@ -134,7 +134,7 @@ module _ (slots : ℕ) (bound_groups : List BoundGroup) (h : Headed) (m : Builde
         (λ done current a net bits lt made. makes-change slots bound_groups count all done current a net bits lt made)
         (λ done current a time made. makes-instant slots bound_groups count all done current a time made)
         items (at_start h.nets) m (makes-first slots bound_groups count all m begun) in
-        let before = before_fault h.nets items in
+        let before = instants_of-before_fault h.nets items in
         let made = follows.2 before.0 before.1 in
         ap (λ (s : State BuilderState). s.progress.accumulator.recorded) follows.1
         ∙ made.recorded
@@ -142,7 +142,7 @@ module _ (slots : ℕ) (bound_groups : List BoundGroup) (h : Headed) (m : Builde
 
     -- the last time before the first fault
     time-before_fault : read.reached.progress.time ≡ last_time_before_fault h.nets h.body
-    time-before_fault = reached_time builder_change builder_instant h.nets (at_first m) items
+    time-before_fault = time-reached_before builder_change builder_instant h.nets (at_first m) items
 
     -- the reading of a body without a fault
     abbrev whole_reading : Trace → ℕ → TextReading
@@ -184,10 +184,10 @@ malformed_step-body_reading slots bound_groups h = by_instants (instants_from h.
     by_instants : (r : Result (List Instant) VcdFault) → instants_from h.nets h.body ≡ r → malformed_step
         (reading_by slots bound_groups h r).recorded ≡ None
     by_instants (Ok instants) is = malformed_step-recording slots bound_groups instants (length instants) (omega arith)
-        (body_rises h.nets h.body instants is)
+        (TimesAscend-instants_from h.nets h.body instants is)
     by_instants (Err fault) is =
         let all : List Instant = instants_before_fault h.nets h.body in
-        malformed_step-recording slots bound_groups all (length all - 1) (omega arith) (before_fault_rises h.nets
+        malformed_step-recording slots bound_groups all (length all - 1) (omega arith) (TimesAscend-before_fault h.nets
         (body_from ready h.body))
 
 -- the recorded steps are well formed for any tokens after a place at which nothing is read yet
@@ -246,7 +246,7 @@ unfolding reading_of_text
 reading_of_text-header_fails b text seen fault h =
     by_kind fault.line fault.kind
     (ReadFailsAs-before_total fault.line fault.kind (whole_header text) (taken_head with_variable seen)
-    (rw (header_taken with_variable text seen) at h))
+    (rw (header_of-taken_head with_variable text seen) at h))
   where
     by_kind : (line : ℕ) (kind : FaultKind) → ReadFailsAs line kind (whole_header text) → DumpFails line kind
         (reading_of_text b text)

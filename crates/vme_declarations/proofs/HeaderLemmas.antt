@@ -6,7 +6,7 @@ use Rattle.vcd_read.specs.declared.fault.VcdFault.{VcdFault}
 use Rattle.vcd_read.specs.Header.{◌>>=◌, nothing_declared}
 use Rattle.vcd_read.specs.Sections.{Defined, Headed, defined, header_of}
 use Rattle.vcd_read.specs.Tokens.{tokens}
-use Rattle.vcd_read.proofs.DefinedLemmas.{header_taken, taken_head}
+use Rattle.vcd_read.proofs.DefinedLemmas.{header_of-taken_head, taken_head}
 use Rattle.vcd_read.proofs.DumpLemmas.{whole_header}
 
 module _ {V : Type 0} (with_variable : V → Variable → V) where
@@ -40,4 +40,4 @@ module _ {V : Type 0} (with_variable : V → Variable → V) where
       (nothing_declared first)
       (tokens text) ≡ Ok (defined h last) → HasHeader text h first last
   HasHeader-visited text h first last e = HasHeader-by_result text h first last (whole_header text) refl
-      (sym (header_taken with_variable text first) ∙ e)
+      (sym (header_of-taken_head with_variable text first) ∙ e)

@@ -16,10 +16,10 @@ use Rattle.vcd_read.specs.declared.dump.Variable.{Variable}
 use Rattle.vcd_read.specs.declared.fault.FaultKind.{FaultKind}
 use Rattle.vcd_read.specs.declared.fault.FaultKind.TheVariants.{Memory}
 use Rattle.vcd_read.specs.declared.fault.VcdFault.{VcdFault}
-use Rattle.vcd_read.proofs.DefinedLemmas.{header_taken, taken_head}
-use Rattle.vcd_read.proofs.DumpLemmas.{contents_behind, dump_behind, dump_of-header, with_variables}
-use Rattle.vcd_read.proofs.FrontLemmas.{found-front}
-use Rattle.vcd_read.proofs.ReadLemmas.{fails_first}
+use Rattle.vcd_read.proofs.DefinedLemmas.{header_of-taken_head, taken_head}
+use Rattle.vcd_read.proofs.DumpLemmas.{contents_of_header, dump_of-whole_header, dump_of-header, with_variables}
+use Rattle.vcd_read.proofs.FrontLemmas.{header_of-longer}
+use Rattle.vcd_read.proofs.ReadLemmas.{ReadFails-first}
 use Rattle.vcd_read.proofs.CurrentValues.{CurrentValues}
 use Rattle.vcd_read.proofs.BodyFoldLemmas.{Ends, Follows, ReadFails-followed, ok-followed, Follows-fold_body}
 use Rattle.vme_declarations.specs.Surveys.{EndsBetweenTokens, IsSurveyOf, Survey, body_ahead, count_after, count_ahead}
@@ -76,8 +76,8 @@ pub survey_of-definitions_fail : (text : List ℕ) (fault : VcdFault) → ReadFa
 unfolding survey_of
 survey_of-definitions_fail text fault fails =
     let definitions_fault = ReadFailsAs-before_total fault.line fault.kind (definitions_of text) (taken_head passed tt)
-    (subst (ReadFails fault) (header_taken passed text tt) fails) in
-    fails_first fault (definitions_of text) surveyed (survey_of text) refl definitions_fault
+    (subst (ReadFails fault) (header_of-taken_head passed text tt) fails) in
+    ReadFails-first fault (definitions_of text) surveyed (survey_of text) refl definitions_fault
 
 -- the survey of a text has its variables and the number of instants after its definitions
 pub survey_of-counts : (text : List ℕ) (h : Headed) (n : ℕ) → header text (tokens text) ≡ Ok (defined h tt)
@@ -97,7 +97,7 @@ pub survey_of-body_fails : (text : List ℕ) (h : Headed) (fault : VcdFault) →
 unfolding survey_of
 survey_of-body_fails text h fault is fails =
     let taken = HasHeader-visited passed text h tt tt is in
-    fails_first fault (fold_body same_count next_count h.nets 0 h.body)
+    ReadFails-first fault (fold_body same_count next_count h.nets 0 h.body)
     (λ n. Ok (record { variables = taken.0; instants = n })) (survey_of text)
     (ap (λ (r : Result (Defined (List Variable)) VcdFault). r >>= surveyed) taken.1) fails
 
@@ -138,7 +138,7 @@ IsSurveyOf-survey_of text survey e = by_case (definitions_of text) refl e
         let gives = ok-followed (Ends Counts) (instants_from d.head.nets d.head.body) (count_after d)
         survey.instants (Follows-counts d.head) counts in (
           record { variables = d.variables; instants = gives.0 },
-          dump_behind text d is
+          dump_of-whole_header text d is
               ∙ ap (λ (r : Result (List Instant) VcdFault). r >>= with_variables d.variables) gives.1,
           same,
           gives.2.1,
@@ -158,9 +158,10 @@ dump_of-survey_fails text fault fails =
         (λ (n : ℕ). record { variables = variables; instants = n }) h
 
     by_case : (r : Result (Defined (List Variable)) VcdFault) → ReadFails fault (r >>= surveyed)
-        → ReadFails fault (r >>= contents_behind)
+        → ReadFails fault (r >>= contents_of_header)
     by_case (Ok d) h =
-        fails_first fault (instants_from d.head.nets d.head.body) (with_variables d.variables) (contents_behind d) refl
+        ReadFails-first fault (instants_from d.head.nets d.head.body) (with_variables d.variables)
+        (contents_of_header d) refl
         (ReadFails-followed (Ends Counts) (instants_from d.head.nets d.head.body) (count_after d) fault
         (Follows-counts d.head)
         (count_fails fault.line fault.kind d.variables (count_after d) h))
@@ -216,8 +217,8 @@ with_count-fails : (fault : VcdFault) (variables : List Variable) (r : Result (S
     (whole : Result Survey VcdFault) → whole ≡ with_count variables (count_at_end r) → ReadFails fault r
     → ReadFails fault whole
 with_count-fails fault variables r whole is fails =
-    fails_first fault (count_at_end r) (λ n. Ok (record { variables = variables; instants = n })) whole is
-    (fails_first fault r (at_end next_count) (count_at_end r) refl fails)
+    ReadFails-first fault (count_at_end r) (λ n. Ok (record { variables = variables; instants = n })) whole is
+    (ReadFails-first fault r (at_end next_count) (count_at_end r) refl fails)
 
 -- a fault of a piece of the body is the fault of the survey
 pub body_ahead-piece_fails : (front : List ℕ) (r : Reached ℕ) (piece : List ℕ) (fault : VcdFault)
@@ -286,7 +287,7 @@ module _ (front left : List ℕ) (h : Headed) (r : Reached ℕ) (begun : IsBegun
       let whole : header front (tokens front) ≡ Ok (defined (going_on h []) tt) =
       ap (header front) (sym (append-nil (tokens front))) ∙ begun.header front [] in
       let taken = HasHeader-visited passed front (going_on h []) tt tt whole in
-      let found = found-front appended front (front ++ rest) more (nothing_declared []) (tokens front)
+      let found = header_of-longer appended front (front ++ rest) more (nothing_declared []) (tokens front)
       (defined (going_on h []) taken.0) taken.1 in
       survey_of-front front rest ends ∙ ap (λ (d : Result (Defined (List Variable)) VcdFault). d >>= surveyed) found
       ∙ ap (with_count taken.0)

@@ -9,7 +9,7 @@ use Rattle.vcd_read.specs.Sections.{Defined}
 use Rattle.vcd_read.specs.declared.dump.Instant.{Instant}
 use Rattle.vcd_read.specs.declared.dump.Variable.{Variable}
 use Rattle.vcd_read.specs.declared.fault.VcdFault.{VcdFault}
-use Rattle.vcd_read.proofs.DumpLemmas.{contents_behind, dump_of-header, whole_header}
+use Rattle.vcd_read.proofs.DumpLemmas.{contents_of_header, dump_of-header, whole_header}
 use Rattle.vme_trace.specs.Trace.{Trace}
 use Rattle.vme_bind.specs.Binding.{BoundLines}
 use Rattle.vme_bind.specs.BoundGroups.{bound_groups_in}
@@ -101,7 +101,7 @@ module _ (b : BoundLines) where
 
   -- the reading agrees with the contents, whether the definitions have a fault or not
   Agrees-header : (h : Result (Defined (List Variable)) VcdFault)
-      → Agrees (h >>= contents_behind) (or_dump h >>= reading_after b)
+      → Agrees (h >>= contents_of_header) (or_dump h >>= reading_after b)
   Agrees-header (Ok d) = Agrees-bound_groups d (bound_groups_in d.variables b.assignments) refl
   Agrees-header (Err first) = record {
     whole = λ r is none. absurd (cc);

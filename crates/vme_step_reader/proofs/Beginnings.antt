@@ -10,8 +10,8 @@ use Rattle.vcd_read.specs.declared.fault.FaultKind.TheVariants.{Memory}
 use Rattle.vcd_read.specs.declared.fault.VcdFault.{VcdFault}
 use Rattle.vcd_read.specs.Reading.{line_behind}
 use Rattle.vcd_read.specs.Tokens.{Token, is_space, tokens, tokens_from}
-use Rattle.vcd_read.proofs.PieceLemmas.{left_behind}
-use Rattle.vcd_read.proofs.DumpLemmas.{contents_behind, dump_of-header, whole_header}
+use Rattle.vcd_read.proofs.PieceLemmas.{tokens_from-append_left}
+use Rattle.vcd_read.proofs.DumpLemmas.{contents_of_header, dump_of-header, whole_header}
 use Rattle.vme_bind.specs.Binding.{BoundLines}
 use Rattle.vme_bind.specs.BoundGroups.{bound_groups_in}
 use Rattle.vme_bind.specs.TextCapture.{BindingFails, CaptureFailsBy, DumpFails, or_binding, or_dump, recording_of_text}
@@ -47,7 +47,7 @@ definitions-fail b text fault is = ap (recording_read b) (dump_of-header text) �
     by_bound_groups reading (Err own) e = cc
 
     by_header : (r : Result (Defined (List Variable)) VcdFault) → (or_dump r >>= reading_after b) ≡ Err (Dump fault)
-        → recording_read b (r >>= contents_behind) ≡ Err (Dump fault)
+        → recording_read b (r >>= contents_of_header) ≡ Err (Dump fault)
     by_header (Ok d) e = absurd (by_bound_groups (λ bound_groups. body_reading b.slots bound_groups d.head)
         (bound_groups_in d.variables b.assignments) e)
     by_header (Err own) e = ap (λ (f : VcdFault). Err (Dump f)) (same_dump own fault _ refl e)
@@ -124,7 +124,7 @@ module _ (b : BoundLines) (front : List ℕ) (k : ℕ) (apart : IsApart front k)
       let first : ℕ = r.speculative.body.line in
       begins (front ++ rest) (tokens_from (line_behind 1 cut) more) (cut-tokens front k apart rest)
       ∙ ap Ok (ap (λ (l : ℕ). reading_ahead reached (tokens_from first (drop n cut)) (tokens_from l more)) (sym line)
-      ∙ sym (pieces-joined reached first (drop n cut) more (left_behind cut more n first space))
+      ∙ sym (pieces-joined reached first (drop n cut) more (tokens_from-append_left cut more n first space))
       ∙ ap (whole_reading r) (goes_on n rest long))
 
   -- a beginning of each text that begins with the tokens of `cut` is one of `front` with any bytes after it

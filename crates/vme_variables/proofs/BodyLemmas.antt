@@ -9,8 +9,8 @@ use Rattle.vcd_read.specs.Header.{◌>>=◌}
 use Rattle.vcd_read.specs.Meaning.{ReadFails, ReadGives, dump_of, instants_from}
 use Rattle.vcd_read.specs.Sections.{Defined, Headed}
 use Rattle.vcd_read.specs.BodyFold.{fold_body}
-use Rattle.vcd_read.proofs.DumpLemmas.{contents_behind, with_variables, whole_header, dump_of-header, dump_behind}
-use Rattle.vcd_read.proofs.ReadLemmas.{fails_first}
+use Rattle.vcd_read.proofs.DumpLemmas.{contents_of_header, with_variables, whole_header, dump_of-header, dump_of-whole_header}
+use Rattle.vcd_read.proofs.ReadLemmas.{ReadFails-first}
 use Rattle.vcd_read.proofs.CurrentValues.{CurrentValues}
 use Rattle.vcd_read.proofs.BodyFoldLemmas.{Ends, Follows, ReadFails-followed, ok-followed, Follows-fold_body}
 use Rattle.vme_declarations.specs.Dumps.{IsDump}
@@ -61,21 +61,21 @@ module _ {T : Type 0} (with_change : T → ℕ → List Bit → T) (with_instant
 pub dump_of-header_fails : (text : List ℕ) (fault : VcdFault) → ReadFails fault (whole_header text) → ReadFails fault
     (dump_of text)
 dump_of-header_fails text fault fails =
-    fails_first fault (whole_header text) contents_behind _ (dump_of-header text) fails
+    ReadFails-first fault (whole_header text) contents_of_header _ (dump_of-header text) fails
 
 -- a fault of the body is the fault of the dump, where the definitions have none
 pub dump_of-body_fails : (text : List ℕ) (d : Defined (List Variable)) (fault : VcdFault) → whole_header text ≡ Ok d
     → ReadFails fault (instants_from d.head.nets d.head.body) → ReadFails fault (dump_of text)
-dump_of-body_fails text d fault e fails = fails_first fault (instants_from d.head.nets d.head.body)
+dump_of-body_fails text d fault e fails = ReadFails-first fault (instants_from d.head.nets d.head.body)
     (with_variables d.variables)
-    _ (dump_behind text d e) fails
+    _ (dump_of-whole_header text d e) fails
 
 -- a text whose definitions and body have no fault is a dump
 pub IsDump-body : (text : List ℕ) (d : Defined (List Variable)) → whole_header text ≡ Ok d → (instants : List Instant)
     × (instants_from d.head.nets d.head.body ≡ Ok instants) → IsDump text
 IsDump-body text d e (instants, is) = (
   record { variables = d.variables; instants = instants },
-  dump_behind text d e
+  dump_of-whole_header text d e
       ∙ ap (λ (r : Result (List Instant) VcdFault). r >>= with_variables d.variables) is,
 )
 

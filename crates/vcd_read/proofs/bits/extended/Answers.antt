@@ -1,5 +1,5 @@
 use Rattle.std.proofs.Common.{refl, sym}
-use Rattle.vcd_read.proofs.Fill.{more_fill, more_digit}
+use Rattle.vcd_read.proofs.Fill.{take-extended_fill, take-extended_digit}
 use Rattle.vcd_read.proofs.bits.extended.Goals as goal
 use Rattle.vcd_read.proofs.bits.extended.Goals.{then-place-missing, else-place-missing}
 
@@ -10,7 +10,8 @@ loop-place-preserved c =
     let place = c.loop-place.place in
     elim c.if-place-missing.branch [
       | then-place-missing w ↦
-          let more = more_fill size digits place _ c.requires.some c.requires.fits refl w.if-place-missing.true in
+          let more = take-extended_fill size digits place _ c.requires.some c.requires.fits refl w.if-place-missing.true
+          in
           record {
             items = rw (
               w.bits-is,
@@ -22,7 +23,8 @@ loop-place-preserved c =
             room = rw (w.bits-is, w.push_reserved.ensures.capacity) c.loop-place.invariant.room;
           }
       | else-place-missing w ↦
-          let more = more_digit size digits place _ c.requires.fits refl w.if-place-missing.false c.loop-place-test.true
+          let more = take-extended_digit size digits place _ c.requires.fits refl w.if-place-missing.false
+          c.loop-place-test.true
           in
           record {
             items = rw (

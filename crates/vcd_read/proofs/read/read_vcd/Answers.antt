@@ -5,8 +5,9 @@ use Rattle.vcd_read.specs.Header.{◌>>=◌}
 use Rattle.vcd_read.specs.Meaning.{instants_from}
 use Rattle.vcd_read.specs.Sections.{defined}
 use Rattle.vcd_read.specs.Collected.{Collected}
-use Rattle.vcd_read.proofs.ReadLemmas.{fails_first, gives_err, body_rises}
-use Rattle.vcd_read.proofs.DumpLemmas.{contents_behind, with_variables, whole_header, dump_of-header, dump_behind}
+use Rattle.vcd_read.proofs.ReadLemmas.{ReadFails-first, ReadGives-error, TimesAscend-instants_from}
+use Rattle.vcd_read.proofs.DumpLemmas.{contents_of_header, with_variables, whole_header, dump_of-header}
+use Rattle.vcd_read.proofs.DumpLemmas.{dump_of-whole_header}
 use Rattle.vcd_read.proofs.BodyFoldLemmas.{AreCollected, Follows-collected, ReadFails-followed, ok-followed}
 use Rattle.vcd_read.proofs.read.read_vcd.Goals as goal
 
@@ -15,8 +16,9 @@ returns-in_err-head c =
     let text = c.args.text.now in
     let fault = c.in_err-head.field-0.0 in
     let h = rw c.new.ensures.taken at c.in_err-head.ensures in
-    gives_err _ c.from_residual.result fault _ c.from_residual.ensures.1 (fails_first fault (whole_header text)
-    contents_behind _ (dump_of-header text) h)
+    ReadGives-error _ c.from_residual.result fault _ c.from_residual.ensures.1
+    (ReadFails-first fault (whole_header text)
+    contents_of_header _ (dump_of-header text) h)
 
 pub returns-in_err-collected : goal.returns-in_err-collected
 returns-in_err-collected c =
@@ -27,9 +29,9 @@ returns-in_err-collected c =
     (rw c.net_count.ensures at c.in_ok-collector.ensures) in
     let fails = ReadFails-followed AreCollected (instants_from head.nets head.body) _ fault follows
     c.in_err-collected.ensures in
-    gives_err _ c.from_residual-in_err-collected.result fault _ c.from_residual-in_err-collected.ensures.1
-    (fails_first fault (instants_from head.nets head.body) (with_variables c.in_ok-head.variables.variables.items) _
-    (dump_behind c.args.text.now (defined head c.in_ok-head.variables.variables.items) h) fails)
+    ReadGives-error _ c.from_residual-in_err-collected.result fault _ c.from_residual-in_err-collected.ensures.1
+    (ReadFails-first fault (instants_from head.nets head.body) (with_variables c.in_ok-head.variables.variables.items) _
+    (dump_of-whole_header c.args.text.now (defined head c.in_ok-head.variables.variables.items) h) fails)
 
 pub new-requires-3 : goal.new-requires-3
 new-requires-3 c =
@@ -39,7 +41,7 @@ new-requires-3 c =
     let gives = ok-followed AreCollected (instants_from head.nets head.body) _ c.in_ok-collected.collected follows
     c.in_ok-collected.ensures in
     let is = c.into_instants.ensures ∙ ap (λ (x : Collected). x.done) gives.2.1 in
-    rw is (body_rises head.nets head.body gives.0 gives.1)
+    rw is (TimesAscend-instants_from head.nets head.body gives.0 gives.1)
 
 pub returns : goal.returns
 returns c =
@@ -51,6 +53,6 @@ returns c =
     let gives = ok-followed AreCollected (instants_from head.nets head.body) _ c.in_ok-collected.collected follows
     c.in_ok-collected.ensures in
     let is = c.into_instants.ensures ∙ ap (λ (x : Collected). x.done) gives.2.1 in
-    dump_behind c.args.text.now (defined head variables) h ∙ ap (λ (r : Result (List Instant) VcdFault). r >>=
+    dump_of-whole_header c.args.text.now (defined head variables) h ∙ ap (λ (r : Result (List Instant) VcdFault). r >>=
     with_variables variables) gives.1
     ∙ ap Ok (sym (rw (is, c.into_vec.ensures) at c.new-3.ensures))

@@ -3,37 +3,41 @@ use Rattle.std.specs.Str.{all_ascii_digits}
 use Rattle.std.proofs.lemmas.Str.Parse.{digits_value_short, numerals_by_value, tells_all_ascii_digits}
 use Rattle.std.proofs.Common.{ℕ, List}
 use Rattle.vcd_read.specs.Numbers.{number, is_number}
-use Rattle.vcd_read.proofs.NumberLemmas.{digit_at, front_le, number_step, digits_of_number}
+use Rattle.vcd_read.proofs.NumberLemmas.{IsDigit-at, number-take_le, number-next_digit, all_ascii_digits-is_number}
 use Rattle.vme_bind.proofs.selection.value.Goals as goal
 
 number_short : (text : List ℕ) → is_number text ≡ true → length text ≤ 9 → number text < 1000000000
 number_short text digits short = digits_value_short (numerals_by_value (λ ds. all_ascii_digits ds ≡ true)
-    tells_all_ascii_digits) text 9 (digits_of_number text digits) short
+    tells_all_ascii_digits) text 9 (all_ascii_digits-is_number text digits) short
 
 pub overflow_sub-digit : goal.overflow_sub-digit
 overflow_sub-digit c =
-    let d = digit_at c.args.digits.now c.loop-byte.byte-index (digits_of_number c.args.digits.now c.requires.number)
+    let d = IsDigit-at c.args.digits.now c.loop-byte.byte-index
+    (all_ascii_digits-is_number c.args.digits.now c.requires.number)
     c.loop-byte-test.true in
     omega (arith, d.low, c.from-digit.ensures)
 
 pub overflow_mul-number : goal.overflow_mul-number
 overflow_mul-number c =
     let ds = c.args.digits.now in
-    let step = number_step ds c.loop-byte.byte-index (digits_of_number ds c.requires.number) c.loop-byte-test.true in
-    let front = front_le ds (c.loop-byte.byte-index + 1) in
+    let step = number-next_digit ds c.loop-byte.byte-index (all_ascii_digits-is_number ds c.requires.number)
+    c.loop-byte-test.true in
+    let front = number-take_le ds (c.loop-byte.byte-index + 1) in
     let short = number_short ds c.requires.number c.requires.short in
     omega (arith, step, front, short, c.loop-byte.invariant)
 
 pub overflow_add-number : goal.overflow_add-number
 overflow_add-number c =
     let ds = c.args.digits.now in
-    let step = number_step ds c.loop-byte.byte-index (digits_of_number ds c.requires.number) c.loop-byte-test.true in
-    let front = front_le ds (c.loop-byte.byte-index + 1) in
+    let step = number-next_digit ds c.loop-byte.byte-index (all_ascii_digits-is_number ds c.requires.number)
+    c.loop-byte-test.true in
+    let front = number-take_le ds (c.loop-byte.byte-index + 1) in
     let short = number_short ds c.requires.number c.requires.short in
     omega (arith, step, front, short, c.loop-byte.invariant, c.from-digit.ensures)
 
 pub loop-byte-preserved : goal.loop-byte-preserved
 loop-byte-preserved c =
     let ds = c.args.digits.now in
-    let step = number_step ds c.loop-byte.byte-index (digits_of_number ds c.requires.number) c.loop-byte-test.true in
+    let step = number-next_digit ds c.loop-byte.byte-index (all_ascii_digits-is_number ds c.requires.number)
+    c.loop-byte-test.true in
     omega (arith, step, c.loop-byte.invariant, c.from-digit.ensures)

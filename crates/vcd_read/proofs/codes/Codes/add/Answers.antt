@@ -4,7 +4,7 @@ use Rattle.vcd_read.specs.declared.codes.NetCode.{NetCode}
 use Rattle.vcd_read.specs.Header.{Net, net_of}
 use Rattle.vcd_read.specs.OneByteCodes.{HasOneByteCodes}
 use Rattle.vcd_read.specs.Nets.{net_code, AreIndexed}
-use Rattle.vcd_read.proofs.CodesLemmas.{indexed_push, one_byte_push}
+use Rattle.vcd_read.proofs.CodesLemmas.{AreIndexed-push, HasOneByteCodes-push}
 use Rattle.vcd_read.proofs.codes.Codes.add.Goals as goal
 
 pub enter_one_byte_code-requires : goal.enter_one_byte_code-requires
@@ -22,12 +22,13 @@ invariant_of-self-2 c =
     ++ record { code = c.in_ok-bytes.bytes.items; size = c.args.size } ∷ []) c.reserve.ensures.items
     ∙ ap (λ (bytes : List ℕ). map net_code c.self.inside.nets.items ++ record { code = bytes; size = c.args.size } ∷ [])
     c.in_ok-bytes.ensures.items in
-    let indexed = indexed_push nets c.self.inside.index c.insert.new.self c.args.code.now c.args.size c.len-net.result
+    let indexed = AreIndexed-push nets c.self.inside.index c.insert.new.self c.args.code.now c.args.size
+    c.len-net.result
     c.self.invariant.0 none (simp length-map (omega (arith, c.len-net.ensures))) (omega (arith, c.if-net.false))
     c.in_ok-insert.ensures.ok in
     let number : c.len-net.result ≡ length nets = simp length-map (omega (arith, c.len-net.ensures)) in
     let table = c.enter_one_byte_code.new.table.items in
-    let one_byte = one_byte_push nets c.self.inside.one_byte.items table c.args.code.now c.args.size
+    let one_byte = HasOneByteCodes-push nets c.self.inside.one_byte.items table c.args.code.now c.args.size
     (c.len-net.result, c.args.size) c.self.invariant.1 none
     (ap (λ (n : ℕ). (n, c.args.size)) number) c.enter_one_byte_code.ensures.whole c.enter_one_byte_code.ensures.net in (
       subst (λ (nets : List Net). AreIndexed nets c.insert.new.self) (sym more) indexed,

@@ -1,6 +1,6 @@
 use Rattle.std.proofs.Common.{◌<◌, ◌≤◌, length, sym, ◌∙◌, arith}
 use Rattle.std.proofs.lemmas.Bool.Decides.{nat_tests}
-use Rattle.vcd_read.proofs.TokenLemmas.{tokens_after-end, tokens_after-space}
+use Rattle.vcd_read.proofs.TokenLemmas.{tokens_after-end, tokens_after_space}
 use Rattle.vcd_read.proofs.token.Reader.finds_token.Goals as goal
 
 pub loop-self-preserved : goal.loop-self-preserved
@@ -11,7 +11,7 @@ loop-self-preserved c =
       text = c.loop-self.invariant.text;
       low = omega (arith, c.loop-self.invariant.low);
       high = omega (arith, lt);
-      left = tokens_after-space piece.line piece.bytes.now c.loop-self.self.at lt (cc) ∙ c.loop-self.invariant.left;
+      left = tokens_after_space piece.line piece.bytes.now c.loop-self.self.at lt (cc) ∙ c.loop-self.invariant.left;
     }
 
 pub returns-clause-end : goal.returns-clause-end

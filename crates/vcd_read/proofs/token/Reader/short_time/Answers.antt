@@ -2,7 +2,7 @@ use Rattle.std.proofs.Common.{◌≡◌, List, ◌∷◌, ◌∙◌, ◌+◌, �
 use Rattle.std.proofs.lemmas.List.{length-drop, length-take-le}
 use Rattle.vcd_read.specs.Tokens.{Token}
 use Rattle.vcd_read.specs.Reading.{token_at}
-use Rattle.vcd_read.proofs.NumberLemmas.{short_time_of}
+use Rattle.vcd_read.proofs.NumberLemmas.{time_of-fits}
 use Rattle.vcd_read.proofs.TokenLemmas.{between, tokens_after-time}
 use Rattle.vcd_read.proofs.token.Reader.short_time.Goals as goal
 
@@ -14,7 +14,7 @@ returns-clause-time c =
     let count = c.leading_number-number.result.count in
     let n : at + 1 + count - (at + 1) ≡ count = omega arith in (
       between text (at + 1) (at + 1 + count),
-      rw n (short_time_of (take count (drop (at + 1) text)) c.leading_number-number.result.number
+      rw n (time_of-fits (take count (drop (at + 1) text)) c.leading_number-number.result.number
           (omega (
             arith,
             length-take-le count (drop (at + 1) text)
