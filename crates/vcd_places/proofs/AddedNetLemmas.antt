@@ -1,4 +1,4 @@
--- One more net, of a code that no variable has: what is read of a body without a fault stays the same.
+-- A net that is added for a code without one leaves what is read of a body without a fault as it was.
 use Rattle.std.proofs.Common.{◌≡◌, ℕ, zero, suc, ◌+◌, ◌<◌, ◌≤◌, Bool, true, false, cond, eqb, ltb, not, List, [], ◌∷◌}
 use Rattle.std.proofs.Common.{◌++◌}
 use Rattle.std.proofs.Common.{Option, Some, None, Result, Ok, Err, refl, sym, ap, subst, ◌∙◌, arith, length, zero-add}
@@ -31,33 +31,38 @@ use Rattle.vcd_places.proofs.SkippedLemmas.{instants_in}
 
 -- ---- where the net of a code is found
 
+-- the place `k`, if it is below `n`
 abbrev place_below : ℕ → ℕ → Option ℕ
 place_below k n = cond (ltb k n) (Some k) None
 
-place_push : (k n k2 n2 : ℕ) (b : Bool) → k ≤ n → n2 ≡ n + 1 → k2 ≡ cond (eqb k n) (n + cond b 0 1) k
+-- the place of the first element that passes, after one more element, which passes if `b` holds
+place_below-push : (k n k2 n2 : ℕ) (b : Bool) → k ≤ n → n2 ≡ n + 1 → k2 ≡ cond (eqb k n) (n + cond b 0 1) k
     → place_below k2 n2 ≡ cond (ltb k n) (place_below k n) (cond b (Some n) None)
-place_push k n k2 n2 true le e is = grind (arith, nat_tests)
-place_push k n k2 n2 false le e is = grind (arith, nat_tests)
+place_below-push k n k2 n2 true le e is = grind (arith, nat_tests)
+place_below-push k n k2 n2 false le e is = grind (arith, nat_tests)
 
+-- in a list with one more element, the first that passes is that of the list, or else the new one, if it passes
 position-push : {X : Type 0} (p : X → Bool) (xs : List X) (y : X) → position p (xs ++ y ∷ [])
     ≡ cond (ltb (position_or_len p xs) (length xs)) (position p xs) (cond (p y) (Some (length xs)) None)
 position-push p xs y =
-    place_push (position_or_len p xs) (length xs) (position_or_len p (xs ++ y ∷ [])) (length (xs ++ y ∷ [])) (p y)
+    place_below-push (position_or_len p xs) (length xs) (position_or_len p (xs ++ y ∷ [])) (length (xs ++ y ∷ [])) (p y)
     (prefix_len-le-length (λ x. not (p x)) xs) (length_push xs y) (position_or_len_push p xs y)
 
-kept_or_new : (b c : Bool) (k n : ℕ) (o before : Option ℕ) → before ≡ cond b (Some k) None → o
+-- of the place before, if there is one, and the new one, if its test holds, the new one counts, if only one of them is
+-- there
+new_or_before : (b c : Bool) (k n : ℕ) (o before : Option ℕ) → before ≡ cond b (Some k) None → o
     ≡ cond b before (cond c (Some n) None) → (c ≡ true → before ≡ None) → o ≡ cond c (Some n) before
-kept_or_new true true k n o before e is h = absurd (none-some k (sym (h refl) ∙ e))
-kept_or_new true false k n o before e is h = is
-kept_or_new false true k n o before e is h = is
-kept_or_new false false k n o before e is h = is ∙ sym e
+new_or_before true true k n o before e is h = absurd (none-some k (sym (h refl) ∙ e))
+new_or_before true false k n o before e is h = is
+new_or_before false true k n o before e is h = is
+new_or_before false false k n o before e is h = is ∙ sym e
 
 -- the net of each code after a net for `code` is added: for `code` the new one, for others the same as before
 pub net_of-push : (nets : List Net) (code : List ℕ) (size : ℕ) → net_of nets code ≡ None → (other : List ℕ)
     → net_of (nets ++ record { code = code; size = size } ∷ []) other ≡ update bytes_eq (net_of nets) code
     (Some (length nets)) other
 net_of-push nets code size none other =
-    kept_or_new (ltb (position_or_len (has_code other) nets) (length nets)) (bytes_eq code other)
+    new_or_before (ltb (position_or_len (has_code other) nets) (length nets)) (bytes_eq code other)
     (position_or_len (has_code other) nets) (length nets)
     (net_of (nets ++ record { code = code; size = size } ∷ []) other) (net_of nets other)
     refl
@@ -67,254 +72,274 @@ net_of-push nets code size none other =
 -- ---- the size
 
 -- the size of a net stays
-size_stays : (nets : List Net) (more : Net) (net : ℕ) → net < length nets
+size_of-before : (nets : List Net) (more : Net) (net : ℕ) → net < length nets
     → size_of (nets ++ more ∷ []) net ≡ size_of nets net
 unfolding size_of
-size_stays [] more net lt = absurd (omega (arith, lt))
-size_stays (n ∷ nets) more zero lt = refl
-size_stays (n ∷ nets) more (suc net) lt = size_stays nets more net (omega (arith, lt))
+size_of-before [] more net lt = absurd (omega (arith, lt))
+size_of-before (n ∷ nets) more zero lt = refl
+size_of-before (n ∷ nets) more (suc net) lt = size_of-before nets more net (omega (arith, lt))
 
 -- ---- lists
 
-map_same : {A B : Type 0} (f g : A → B) (xs : List A) → ((a : A) → f a ≡ g a) → map f xs ≡ map g xs
-map_same f g [] same = refl
-map_same {A = A} {B = B} f g (x ∷ xs) same =
-    ap (λ (y : B). y ∷ map f xs) (same x) ∙ ap (λ (ys : List B). g x ∷ ys) (map_same f g xs same)
+-- two functions that agree at each element make the same list
+map-same : {A B : Type 0} (f g : A → B) (xs : List A) → ((a : A) → f a ≡ g a) → map f xs ≡ map g xs
+map-same f g [] same = refl
+map-same {A = A} {B = B} f g (x ∷ xs) same =
+    ap (λ (y : B). y ∷ map f xs) (same x) ∙ ap (λ (ys : List B). g x ∷ ys) (map-same f g xs same)
 
-add-one-is : (n : ℕ) → n + 1 ≡ suc n
-add-one-is n = omega arith
+-- n + 1 is the successor of n
+add_one-suc : (n : ℕ) → n + 1 ≡ suc n
+add_one-suc n = omega arith
 
-range_more : (a n : ℕ) → range_with_len a (suc n) ≡ range_with_len a n ++ (a + n) ∷ []
-range_more a zero = ap (λ (k : ℕ). k ∷ []) (omega arith)
-range_more a (suc n) =
-    ap (λ (ks : List ℕ). a ∷ ks) (range_more (a + 1) n
+-- one number more from `a` on is a + n
+range_with_len-push : (a n : ℕ) → range_with_len a (suc n) ≡ range_with_len a n ++ (a + n) ∷ []
+range_with_len-push a zero = ap (λ (k : ℕ). k ∷ []) (omega arith)
+range_with_len-push a (suc n) =
+    ap (λ (ks : List ℕ). a ∷ ks) (range_with_len-push (a + 1) n
     ∙ ap (λ (k : ℕ). range_with_len (a + 1) n ++ k ∷ []) (omega arith))
 
-none_more : {X Y : Type 0} (h : X → Option Y) (xs : List X) (x : X) → h x ≡ None
+-- an element that `h` leaves out changes nothing at the end of a list
+filter_map-push_none : {X Y : Type 0} (h : X → Option Y) (xs : List X) (x : X) → h x ≡ None
     → filter_map h (xs ++ x ∷ []) ≡ filter_map h xs
-none_more {Y = Y} h xs x none =
+filter_map-push_none {Y = Y} h xs x none =
     filter_map-append h xs (x ∷ [])
     ∙ ap (λ (o : Option Y). filter_map h xs ++ cons_option o []) none
     ∙ append-nil (filter_map h xs)
 
 -- if the net `count` has no value at `t`, the values of the first `count` + 1 nets are those of the first `count`
-values_stay : (t count : ℕ) (changes : List NetChange) → value_at t changes count ≡ None
+values_at-without_last : (t count : ℕ) (changes : List NetChange) → value_at t changes count ≡ None
     → values_at (suc count) t changes ≡ values_at count t changes
-values_stay t count changes none =
-    ap (filter_map (value_at t changes)) (range_more 0 count ∙ ap (λ (k : ℕ). range_with_len 0 count ++ k ∷ [])
+values_at-without_last t count changes none =
+    ap (filter_map (value_at t changes)) (range_with_len-push 0 count ∙ ap (λ (k : ℕ). range_with_len 0 count ++ k ∷ [])
     (zero-add count))
-    ∙ none_more (value_at t changes) (range_with_len 0 count) count none
+    ∙ filter_map-push_none (value_at t changes) (range_with_len 0 count) count none
 
 -- ---- one more net
 
 module _ (nets : List Net) (code : List ℕ) (size : ℕ) (none : net_of nets code ≡ None) where
+  -- the net that is added
   abbrev pub added : Net
   added = record { code = code; size = size }
 
+  -- the nets, and the one that is added
   abbrev pub all : List Net
   all = nets ++ added ∷ []
 
-  by_same : (other : List ℕ) (net : ℕ) (test : Bool) → bytes_eq code other ≡ test → net_of nets other ≡ Some net
+  -- a code that has a net isn't the new one, so it has its net still
+  cond-has_net : (other : List ℕ) (net : ℕ) (test : Bool) → bytes_eq code other ≡ test → net_of nets other ≡ Some net
       → cond test (Some (length nets)) (net_of nets other) ≡ Some net
-  by_same other net true same is =
+  cond-has_net other net true same is =
       let bad : None ≡ Some net = sym none ∙ ap (net_of nets) ((bytes_eq-Decides code other).0 same) ∙ is in
       cc
-  by_same other net false same is = is
+  cond-has_net other net false same is = is
 
   -- the net of a code stays
-  pub net_stays : (other : List ℕ) (net : ℕ) → net_of nets other ≡ Some net → net_of all other ≡ Some net
-  net_stays other net is = net_of-push nets code size none other ∙ by_same other net (bytes_eq code other) refl is
+  pub net_of-all : (other : List ℕ) (net : ℕ) → net_of nets other ≡ Some net → net_of all other ≡ Some net
+  net_of-all other net is = net_of-push nets code size none other ∙ cond-has_net other net (bytes_eq code other) refl is
 
-  net_below : (other : List ℕ) (net : ℕ) → net_of nets other ≡ Some net → net < length nets
-  net_below other net is =
+  -- the net of a code is one of the nets
+  net_of-below : (other : List ℕ) (net : ℕ) → net_of nets other ≡ Some net → net < length nets
+  net_of-below other net is =
       subst (λ (n : ℕ). n < length nets) (ap (λ (o : Option ℕ). unwrap_or o 0) is)
       (net_of-within nets other (rw is refl))
 
-  fits_same : (digits : ℕ) (other : List ℕ) (net : ℕ) → net_of nets other ≡ Some net
+  -- a code that has a net fits the same number of digits
+  fitting-all : (digits : ℕ) (other : List ℕ) (net : ℕ) → net_of nets other ≡ Some net
       → fitting all digits (net_of all other) ≡ fitting nets digits (net_of nets other)
-  fits_same digits other net is =
-      ap (fitting all digits) (net_stays other net is)
+  fitting-all digits other net is =
+      ap (fitting all digits) (net_of-all other net is)
       ∙ ap (λ (n : ℕ). cond (nat_lt n digits) (Err TooWide) (Ok net))
-      (size_stays nets added net (net_below other net is))
+      (size_of-before nets added net (net_of-below other net is))
       ∙ sym (ap (fitting nets digits) is)
 
   -- a code that fits has a net
-  has_net : (digits line : ℕ) (found : Option ℕ) (s next : BodyContext)
+  fitting-has_net : (digits line : ℕ) (found : Option ℕ) (s next : BodyContext)
       → at_line line (fitting nets digits found >>= λ net. Ok s) ≡ Ok next
       → (net : ℕ) × (found ≡ Some net)
-  has_net digits line None s next e = absurd cc
-  has_net digits line (Some net) s next e = (net, refl)
+  fitting-has_net digits line None s next e = absurd cc
+  fitting-has_net digits line (Some net) s next e = (net, refl)
 
   -- an item that is read without a fault by `nets` gives the same by `all`
-  item_stays : (s next : BodyContext) (item : BodyItem) → context_after nets s item ≡ Ok next
+  context_after-all : (s next : BodyContext) (item : BodyItem) → context_after nets s item ≡ Ok next
       → context_after all s item ≡ Ok next
-  item_stays s next (time_item line digits) e = e
-  item_stays s next (change line digits other) e =
-      let found = has_net (length digits) line (net_of nets other) s next e in
+  context_after-all s next (time_item line digits) e = e
+  context_after-all s next (change line digits other) e =
+      let found = fitting-has_net (length digits) line (net_of nets other) s next e in
       ap (λ (r : Result ℕ FaultKind). at_line line (r >>= λ net. Ok s))
-      (fits_same (length digits) other found.0 found.1)
+      (fitting-all (length digits) other found.0 found.1)
       ∙ e
-  item_stays s next (skipped line other) e =
-      let found = has_net 0 line (net_of nets other) s next e in
-      ap (λ (r : Result ℕ FaultKind). at_line line (r >>= λ net. Ok s)) (fits_same 0 other found.0 found.1) ∙ e
-  item_stays s next (dump_section_open line) e = e
-  item_stays s next (dump_section_end line) e = e
-  item_stays s next (wrong line kind) e = absurd cc
+  context_after-all s next (skipped line other) e =
+      let found = fitting-has_net 0 line (net_of nets other) s next e in
+      ap (λ (r : Result ℕ FaultKind). at_line line (r >>= λ net. Ok s)) (fitting-all 0 other found.0 found.1) ∙ e
+  context_after-all s next (dump_section_open line) e = e
+  context_after-all s next (dump_section_end line) e = e
+  context_after-all s next (wrong line kind) e = absurd cc
 
   -- if `r >>= f` is without a fault, so is `r`, and `f` of its value
-  first_read : (r : Result BodyContext VcdFault) (f : BodyContext → Result BodyContext VcdFault)
+  bind-ok : (r : Result BodyContext VcdFault) (f : BodyContext → Result BodyContext VcdFault)
       (end : BodyContext) → (r >>= f) ≡ Ok end → (next : BodyContext) × (r ≡ Ok next) × (f next ≡ Ok end)
-  first_read (Ok next) f end e = (next, refl, e)
-  first_read (Err fault) f end e = absurd cc
+  bind-ok (Ok next) f end e = (next, refl, e)
+  bind-ok (Err fault) f end e = absurd cc
 
-  pub standing_stays : (items : List BodyItem) (s end : BodyContext) → context_after_all nets s items ≡ Ok end
+  -- items that are read without a fault by `nets` give the same by `all`
+  pub context_after_all-all : (items : List BodyItem) (s end : BodyContext) → context_after_all nets s items ≡ Ok end
       → context_after_all all s items ≡ Ok end
   unfolding context_after_all
-  standing_stays [] s end e = e
-  standing_stays (item ∷ items) s end e =
-      let read = first_read (context_after nets s item) (λ next. context_after_all nets next items) end e in
+  context_after_all-all [] s end e = e
+  context_after_all-all (item ∷ items) s end e =
+      let read = bind-ok (context_after nets s item) (λ next. context_after_all nets next items) end e in
       ap (λ (r : Result BodyContext VcdFault). r >>= λ next. context_after_all all next items)
-      (item_stays s read.0 item read.1)
-      ∙ standing_stays items read.0 end read.2
+      (context_after-all s read.0 item read.1)
+      ∙ context_after_all-all items read.0 end read.2
 
   -- ---- the changes
 
-  change_stays : (now : ℕ) (digits other : List ℕ) (net : ℕ) → net_of nets other ≡ Some net
+  -- a change of a code that has a net is the same by `all`
+  change_of-all : (now : ℕ) (digits other : List ℕ) (net : ℕ) → net_of nets other ≡ Some net
       → change_of all now digits other ≡ change_of nets now digits other
-  change_stays now digits other net is =
+  change_of-all now digits other net is =
       ap (λ (o : Option ℕ). record {
         time = now;
         net = unwrap_or o 0;
         bits = extended (size_of all (unwrap_or o 0)) digits;
-      }) (net_stays other net is)
+      }) (net_of-all other net is)
       ∙ ap (λ (n : ℕ). record { time = now; net = net; bits = extended n digits })
-      (size_stays nets added net (net_below other net is))
+      (size_of-before nets added net (net_of-below other net is))
       ∙ sym (ap (λ (o : Option ℕ). record {
         time = now;
         net = unwrap_or o 0;
         bits = extended (size_of nets (unwrap_or o 0)) digits;
       }) is)
 
-  pub changes_stay : (items : List BodyItem) (s end : BodyContext) (now : ℕ)
+  -- items that are read without a fault by `nets` make the same changes by `all`
+  pub changes_from-all : (items : List BodyItem) (s end : BodyContext) (now : ℕ)
       → context_after_all nets s items ≡ Ok end → changes_from all now items ≡ changes_from nets now items
   unfolding changes_from context_after_all
-  changes_stay [] s end now e = refl
-  changes_stay (time_item line digits ∷ items) s end now e =
-      let read = first_read (context_after nets s (time_item line digits))
+  changes_from-all [] s end now e = refl
+  changes_from-all (time_item line digits ∷ items) s end now e =
+      let read = bind-ok (context_after nets s (time_item line digits))
       (λ next. context_after_all nets next items) end
       e in
-      changes_stay items read.0 end (number digits) read.2
-  changes_stay (change line digits other ∷ items) s end now e =
-      let read = first_read (context_after nets s (change line digits other))
+      changes_from-all items read.0 end (number digits) read.2
+  changes_from-all (change line digits other ∷ items) s end now e =
+      let read = bind-ok (context_after nets s (change line digits other))
       (λ next. context_after_all nets next items)
       end e in
-      let found = has_net (length digits) line (net_of nets other) s read.0 read.1 in
-      ap (λ (c : NetChange). c ∷ changes_from all now items) (change_stays now digits other found.0 found.1)
-      ∙ ap (λ (cs : List NetChange). change_of nets now digits other ∷ cs) (changes_stay items read.0 end now read.2)
-  changes_stay (skipped line other ∷ items) s end now e =
-      let read = first_read (context_after nets s (skipped line other))
+      let found = fitting-has_net (length digits) line (net_of nets other) s read.0 read.1 in
+      ap (λ (c : NetChange). c ∷ changes_from all now items) (change_of-all now digits other found.0 found.1)
+      ∙ ap (λ (cs : List NetChange). change_of nets now digits other ∷ cs)
+      (changes_from-all items read.0 end now read.2)
+  changes_from-all (skipped line other ∷ items) s end now e =
+      let read = bind-ok (context_after nets s (skipped line other))
       (λ next. context_after_all nets next items) end e in
-      changes_stay items read.0 end now read.2
-  changes_stay (dump_section_open line ∷ items) s end now e =
-      let read = first_read (context_after nets s (dump_section_open line)) (λ next. context_after_all nets next items)
+      changes_from-all items read.0 end now read.2
+  changes_from-all (dump_section_open line ∷ items) s end now e =
+      let read = bind-ok (context_after nets s (dump_section_open line)) (λ next. context_after_all nets next items)
       end e in
-      changes_stay items read.0 end now read.2
-  changes_stay (dump_section_end line ∷ items) s end now e =
-      let read = first_read (context_after nets s (dump_section_end line)) (λ next. context_after_all nets next items)
+      changes_from-all items read.0 end now read.2
+  changes_from-all (dump_section_end line ∷ items) s end now e =
+      let read = bind-ok (context_after nets s (dump_section_end line)) (λ next. context_after_all nets next items)
       end e in
-      changes_stay items read.0 end now read.2
-  changes_stay (wrong line kind ∷ items) s end now e = absurd cc
+      changes_from-all items read.0 end now read.2
+  changes_from-all (wrong line kind ∷ items) s end now e = absurd cc
 
   -- ---- the values
 
   -- no change is of the net that is added
-  none_of : (t : ℕ) (items : List BodyItem) (s end : BodyContext) (now : ℕ) → context_after_all nets s items ≡ Ok end
+  last_at-added : (t : ℕ) (items : List BodyItem) (s end : BodyContext) (now : ℕ) → context_after_all nets s items
+      ≡ Ok end
       → last_at t (length nets) (changes_from nets now items) ≡ None
   unfolding changes_from context_after_all last_at
-  none_of t [] s end now e = refl
-  none_of t (time_item line digits ∷ items) s end now e =
-      let read = first_read (context_after nets s (time_item line digits))
+  last_at-added t [] s end now e = refl
+  last_at-added t (time_item line digits ∷ items) s end now e =
+      let read = bind-ok (context_after nets s (time_item line digits))
       (λ next. context_after_all nets next items) end
       e in
-      none_of t items read.0 end (number digits) read.2
-  none_of t (change line digits other ∷ items) s end now e =
-      let read = first_read (context_after nets s (change line digits other))
+      last_at-added t items read.0 end (number digits) read.2
+  last_at-added t (change line digits other ∷ items) s end now e =
+      let read = bind-ok (context_after nets s (change line digits other))
       (λ next. context_after_all nets next items)
       end e in
-      let found = has_net (length digits) line (net_of nets other) s read.0 read.1 in
+      let found = fitting-has_net (length digits) line (net_of nets other) s read.0 read.1 in
       let net : unwrap_or (net_of nets other) 0 ≡ found.0 = ap (λ (o : Option ℕ). unwrap_or o 0) found.1 in
       let other_net : eqb (unwrap_or (net_of nets other) 0) (length nets) ≡ false =
-      grind (arith, nat_tests, net, net_below other found.0 found.1) in
-      not_last t (change_of nets now digits other) (changes_from nets now items) other_net
-      (none_of t items read.0 end now read.2)
+      grind (arith, nat_tests, net, net_of-below other found.0 found.1) in
+      last_at-other_net t (change_of nets now digits other) (changes_from nets now items) other_net
+      (last_at-added t items read.0 end now read.2)
     where
-      not_last : (t : ℕ) (c : NetChange) (cs : List NetChange) → eqb c.net (length nets) ≡ false
+      -- a change of another net is not the last of the net that is added
+      last_at-other_net : (t : ℕ) (c : NetChange) (cs : List NetChange) → eqb c.net (length nets) ≡ false
           → last_at t (length nets) cs ≡ None → last_at t (length nets) (c ∷ cs) ≡ None
-      not_last t c cs other_net rest = rw (rest, other_net) (both_false (eqb c.time t))
+      last_at-other_net t c cs other_net rest = rw (rest, other_net) (both_false (eqb c.time t))
         where
+          -- two tests, of which one fails, don't both hold
           both_false : (b : Bool) → cond (b && false) (Some c.bits) None ≡ None
           both_false true = refl
           both_false false = refl
-  none_of t (skipped line other ∷ items) s end now e =
-      let read = first_read (context_after nets s (skipped line other))
+  last_at-added t (skipped line other ∷ items) s end now e =
+      let read = bind-ok (context_after nets s (skipped line other))
       (λ next. context_after_all nets next items) end e in
-      none_of t items read.0 end now read.2
-  none_of t (dump_section_open line ∷ items) s end now e =
-      let read = first_read (context_after nets s (dump_section_open line)) (λ next. context_after_all nets next items)
+      last_at-added t items read.0 end now read.2
+  last_at-added t (dump_section_open line ∷ items) s end now e =
+      let read = bind-ok (context_after nets s (dump_section_open line)) (λ next. context_after_all nets next items)
       end e in
-      none_of t items read.0 end now read.2
-  none_of t (dump_section_end line ∷ items) s end now e =
-      let read = first_read (context_after nets s (dump_section_end line)) (λ next. context_after_all nets next items)
+      last_at-added t items read.0 end now read.2
+  last_at-added t (dump_section_end line ∷ items) s end now e =
+      let read = bind-ok (context_after nets s (dump_section_end line)) (λ next. context_after_all nets next items)
       end e in
-      none_of t items read.0 end now read.2
-  none_of t (wrong line kind ∷ items) s end now e = absurd cc
+      last_at-added t items read.0 end now read.2
+  last_at-added t (wrong line kind ∷ items) s end now e = absurd cc
 
-  instant_stays : (items : List BodyItem) (end : BodyContext) (t : ℕ)
+  -- the instant at a time is the same by `all`, if the items are read without a fault by `nets`
+  instant_at-all : (items : List BodyItem) (end : BodyContext) (t : ℕ)
       → context_after_all nets first_context items ≡ Ok end
       → instant_at (length all) (changes_from all 0 items) t ≡ instant_at (length nets) (changes_from nets 0 items) t
-  instant_stays items end t e =
+  instant_at-all items end t e =
       let changes = changes_from nets 0 items in
       let none : value_at t changes (length nets) ≡ None =
-      ap (option_map (λ bits. record { net = length nets; bits = bits })) (none_of t items first_context end 0 e) in
-      ap (λ (cs : List NetChange). instant_at (length all) cs t) (changes_stay items first_context end 0 e)
-      ∙ ap (λ (n : ℕ). instant_at n changes t) (length_push nets added ∙ add-one-is (length nets))
-      ∙ ap (λ (vs : List Value). record { time = t; values = vs }) (values_stay t (length nets) changes none)
+      ap (option_map (λ bits. record { net = length nets; bits = bits })) (last_at-added t items first_context end 0 e)
+      in
+      ap (λ (cs : List NetChange). instant_at (length all) cs t) (changes_from-all items first_context end 0 e)
+      ∙ ap (λ (n : ℕ). instant_at n changes t) (length_push nets added ∙ add_one-suc (length nets))
+      ∙ ap (λ (vs : List Value). record { time = t; values = vs }) (values_at-without_last t (length nets) changes none)
 
   -- a body that is read without a fault by `nets` gives the same instants by `all`
-  pub instants_stay : (items : List BodyItem) (instants : List Instant) → instants_in nets items ≡ Ok instants
+  pub instants_in-all : (items : List BodyItem) (instants : List Instant) → instants_in nets items ≡ Ok instants
       → instants_in all items ≡ Ok instants
-  instants_stay items instants e = go (context_after_all nets first_context items) refl e
+  instants_in-all items instants e = go (context_after_all nets first_context items) refl e
     where
+      -- so it is for what reading the items gives
       go : (r : Result BodyContext VcdFault) → context_after_all nets first_context items ≡ r
           → (r >>= λ end. at_the_end end >>= λ stood. Ok (instants_of nets items)) ≡ Ok instants
           → instants_in all items ≡ Ok instants
       go (Err fault) is f = absurd cc
       go (Ok end) is f =
           ap (λ (r : Result BodyContext VcdFault). r >>= λ end. at_the_end end >>= λ stood. Ok (instants_of all items))
-          (standing_stays items first_context end is)
+          (context_after_all-all items first_context end is)
           ∙ ap (λ (found : List Instant). at_the_end end >>= λ stood. Ok found)
-          (map_same (instant_at (length all) (changes_from all 0 items))
+          (map-same (instant_at (length all) (changes_from all 0 items))
           (instant_at (length nets) (changes_from nets 0 items)) (dedup nat_eq (times_from 0 items))
-          (λ t. instant_stays items end t is))
+          (λ t. instant_at-all items end t is))
           ∙ f
 
 -- ---- the net of the code
 
-both_ways : (same : Bool) (own found : Option ℕ) → same ≡ true → cond same own found ≡ own
-both_ways true own found is = refl
-both_ways false own found is = absurd (true≢false (sym is))
+-- where the test holds, the first is taken
+cond-same : (same : Bool) (own found : Option ℕ) → same ≡ true → cond same own found ≡ own
+cond-same true own found is = refl
+cond-same false own found is = absurd (true≢false (sym is))
 
 -- if no net has `code`, a net that is added for it is the net of `code`
-pub net_of_added : (nets : List Net) (code : List ℕ) (size : ℕ) → net_of nets code ≡ None
+pub net_of-added : (nets : List Net) (code : List ℕ) (size : ℕ) → net_of nets code ≡ None
     → net_of (nets ++ record { code = code; size = size } ∷ []) code ≡ Some (length nets)
-net_of_added nets code size none =
+net_of-added nets code size none =
     net_of-push nets code size none code
-    ∙ both_ways (bytes_eq code code) (Some (length nets)) (net_of nets code) ((bytes_eq-Decides code code).1 refl)
+    ∙ cond-same (bytes_eq code code) (Some (length nets)) (net_of nets code) ((bytes_eq-Decides code code).1 refl)
 
 -- another code that no net has still has none after a net for `code` is added
-pub still_free : (nets : List Net) (code : List ℕ) (size : ℕ) (other : List ℕ) → net_of nets code ≡ None
+pub net_of-still_none : (nets : List Net) (code : List ℕ) (size : ℕ) (other : List ℕ) → net_of nets code ≡ None
     → bytes_eq code other ≡ false → net_of nets other ≡ None
     → net_of (nets ++ record { code = code; size = size } ∷ []) other ≡ None
-still_free nets code size other none differs free =
+net_of-still_none nets code size other none differs free =
     net_of-push nets code size none other
     ∙ ap (λ (test : Bool). cond test (Some (length nets)) (net_of nets other)) differs ∙ free

@@ -1,4 +1,4 @@
--- One more code is added to the unused codes that are found.
+-- The unused codes of a text that are found, in the order of their numbers, and one more of them.
 use Rattle.std.proofs.Common.{◌≡◌, ℕ, ◌+◌, ◌<◌, List, [], ◌∷◌, ◌++◌, length, get_or, sym, subst, arith, inl, inr}
 use Rattle.std.proofs.Common.{map}
 use Rattle.std.specs.Prelude.{All}
@@ -10,9 +10,10 @@ use Rattle.std.proofs.lemmas.List.Elements.{All-push}
 use Rattle.vcd_read.specs.CodeNumbers.{code_number}
 use Rattle.vcd_places.specs.Codes.{IsUnused, vec_code_number}
 
-increasing_push : (xs : List ℕ) (y : ℕ) → IsStrictlyIncreasing xs → All (λ (n : ℕ). n < y) xs
+-- increasing numbers, and one more that is above all of them, are increasing
+IsStrictlyIncreasing-push : (xs : List ℕ) (y : ℕ) → IsStrictlyIncreasing xs → All (λ (n : ℕ). n < y) xs
     → IsStrictlyIncreasing (xs ++ y ∷ [])
-increasing_push xs y increasing below k lt =
+IsStrictlyIncreasing-push xs y increasing below k lt =
     elim (cases_lt (k + 1) (length xs)) [
       | inl inside ↦
           let first : get_or (xs ++ y ∷ []) k 0 ≡ get_or xs k 0 =
@@ -28,8 +29,9 @@ increasing_push xs y increasing below k lt =
           omega (arith, first, second, below k 0 (omega (arith, last)))
     ]
 
-weaker : (xs : List ℕ) (n : ℕ) → All (λ (k : ℕ). k < n) xs → All (λ (k : ℕ). k < n + 1) xs
-weaker xs n below k d lt = omega (arith, below k d lt)
+-- numbers below n are below n + 1
+All-below_next : (xs : List ℕ) (n : ℕ) → All (λ (k : ℕ). k < n) xs → All (λ (k : ℕ). k < n + 1) xs
+All-below_next xs n below k d lt = omega (arith, below k d lt)
 
 -- codes that `text` doesn't use, in the order of their numbers, all below `number`
 pub record AreFound (text : List ℕ) (found : List (Vec ℕ)) (number : ℕ) : Type 0 where
@@ -38,27 +40,27 @@ pub record AreFound (text : List ℕ) (found : List (Vec ℕ)) (number : ℕ) : 
   pub below : All (λ (n : ℕ). n < number) (map vec_code_number found)
 
 -- the code of `number` isn't added
-pub found_none : (text : List ℕ) (found : List (Vec ℕ)) (number : ℕ) → AreFound text found number
+pub AreFound-next : (text : List ℕ) (found : List (Vec ℕ)) (number : ℕ) → AreFound text found number
     → AreFound text found (number + 1)
-found_none text found number are = record {
+AreFound-next text found number are = record {
   each = are.each;
   ascend = are.ascend;
-  below = weaker (map vec_code_number found) number are.below;
+  below = All-below_next (map vec_code_number found) number are.below;
 }
 
 -- the code of `number`, which `text` doesn't use, is added
-pub found_more : (text : List ℕ) (found : List (Vec ℕ)) (number : ℕ) (code : Vec ℕ) → AreFound text found number
+pub AreFound-push : (text : List ℕ) (found : List (Vec ℕ)) (number : ℕ) (code : Vec ℕ) → AreFound text found number
     → IsUnused text number code.items → AreFound text (found ++ code ∷ []) (number + 1)
-found_more text found number code are one =
+AreFound-push text found number code are one =
     let numbers = map-append vec_code_number found (code ∷ []) in
     let last : code_number code.items ≡ number = one.number_is in
     record {
       each = All-push (λ (v : Vec ℕ). IsUnused text (code_number v.items) v.items) found code are.each
           (subst (λ (n : ℕ). IsUnused text n code.items) (sym last) one);
       ascend = subst (λ (ns : List ℕ). IsStrictlyIncreasing ns) (sym numbers)
-          (increasing_push (map vec_code_number found) (vec_code_number code) are.ascend
+          (IsStrictlyIncreasing-push (map vec_code_number found) (vec_code_number code) are.ascend
           (subst (λ (n : ℕ). All (λ (k : ℕ). k < n) (map vec_code_number found)) (sym last) are.below));
       below = subst (λ (ns : List ℕ). All (λ (n : ℕ). n < number + 1) ns) (sym numbers)
           (All-push (λ (n : ℕ). n < number + 1) (map vec_code_number found) (vec_code_number code)
-          (weaker (map vec_code_number found) number are.below) (omega (arith, last)));
+          (All-below_next (map vec_code_number found) number are.below) (omega (arith, last)));
     }

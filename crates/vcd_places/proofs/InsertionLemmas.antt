@@ -1,4 +1,4 @@
--- A text with an insertion: it is read as the text, with the inserted tokens in between.
+-- A text into which something is put, at white space, is read as the text, with the tokens that are put in between.
 use Rattle.std.proofs.Common.{◌≡◌, ℕ, ◌+◌, Bool, true, false, cond, eqb, List, [], ◌∷◌, ◌++◌}
 use Rattle.std.proofs.Common.{refl, sym, ap, ◌∙◌, arith, append_assoc, true≢false, zero-add}
 use Rattle.std.specs.Prelude.{Option, Some, Result, Ok, Err, not, ◌||◌, flat_map, is_some, map, unwrap_or}
@@ -20,85 +20,99 @@ use Rattle.vcd_places.specs.Places.{ends_at_boundary, is_unfinished, starts_at_b
 -- ---- the tokens
 
 -- `cut` with the tokens `more` after it
-abbrev behind : Cut → List Token → Cut
-behind cut more = record { run = cut.run; others = cut.others ++ more }
+abbrev with_tokens : Cut → List Token → Cut
+with_tokens cut more = record { run = cut.run; others = cut.others ++ more }
 
 -- the cut of a text that begins with white space: no run, and `tokens`
 abbrev spaced : List Token → Cut
 spaced tokens = record { run = []; others = tokens }
 
-token_of-behind : (line : ℕ) (run : List ℕ) (others more : List Token) → token_of line run (others ++ more)
+-- a run, and tokens after it, with `more` after these
+token_of-append : (line : ℕ) (run : List ℕ) (others more : List Token) → token_of line run (others ++ more)
     ≡ token_of line run others ++ more
-token_of-behind line [] others more = refl
-token_of-behind line (b ∷ run) others more = refl
+token_of-append line [] others more = refl
+token_of-append line (b ∷ run) others more = refl
 
 module _ (line b : ℕ) (cut : Cut) (more : List Token) where
-  by_space : (s : Bool) → is_space b ≡ s → with_byte line b (behind cut more) ≡ behind (with_byte line b cut) more
-  by_space true e = rw (e, token_of-behind (next_line line b) cut.run cut.others more) refl
+  -- whether the byte is a space (`s`) or not
+  by_space : (s : Bool) → is_space b ≡ s → with_byte line b (with_tokens cut more)
+      ≡ with_tokens (with_byte line b cut) more
+  by_space true e = rw (e, token_of-append (next_line line b) cut.run cut.others more) refl
   by_space false e = rw e refl
 
-  with_byte-behind : with_byte line b (behind cut more) ≡ behind (with_byte line b cut) more
-  with_byte-behind = by_space (is_space b) refl
+  -- a byte before a cut with the tokens `more` after it
+  with_byte-with_tokens : with_byte line b (with_tokens cut more) ≡ with_tokens (with_byte line b cut) more
+  with_byte-with_tokens = by_space (is_space b) refl
 
-one_more : (test : Bool) (count n line : ℕ) → count ≡ cond test 1 0 + n → count + line ≡ n + cond test (line + 1) line
-one_more true count n line e = omega (arith, e)
-one_more false count n line e = omega (arith, e)
+-- the line feeds of one byte more, which is one if `test` holds, are counted in the line or in the rest
+line-one_byte_more : (test : Bool) (count n line : ℕ) → count ≡ cond test 1 0 + n → count + line
+    ≡ n + cond test (line + 1) line
+line-one_byte_more true count n line e = omega (arith, e)
+line-one_byte_more false count n line e = omega (arith, e)
 
+-- the line after a byte and others is that after the others, from the line after the byte on
 line_behind-cons : (line b : ℕ) (bytes : List ℕ) → line_behind line (b ∷ bytes) ≡ line_behind (next_line line b) bytes
 line_behind-cons line b bytes =
-    one_more (eqb b 10) (count_by (λ (x : ℕ). eqb x 10) (b ∷ bytes)) (count_by (λ (x : ℕ). eqb x 10) bytes) line
+    line-one_byte_more (eqb b 10) (count_by (λ (x : ℕ). eqb x 10) (b ∷ bytes)) (count_by (λ (x : ℕ). eqb x 10) bytes)
+    line
     (sum_by-cons (λ (x : ℕ). cond (eqb x 10) 1 0) b bytes)
 
 -- the cut of a text that is empty or begins with white space has no run
-spaced_cut : (line : ℕ) (rest : List ℕ) → starts_at_boundary rest ≡ true
+cut_from-detached : (line : ℕ) (rest : List ℕ) → starts_at_boundary rest ≡ true
     → cut_from line rest ≡ spaced (tokens_from line rest)
 unfolding cut_from
-spaced_cut line [] e = refl
-spaced_cut line (b ∷ rest) e = rw e refl
+cut_from-detached line [] e = refl
+cut_from-detached line (b ∷ rest) e = rw e refl
 
-cut_append_detached : (front rest : List ℕ) (line : ℕ) → starts_at_boundary rest ≡ true
-    → cut_from line (front ++ rest) ≡ behind (cut_from line front) (tokens_from (line_behind line front) rest)
+-- if `rest` is empty or begins with white space, the cut of `front ++ rest` is that of `front`, with the tokens of
+-- `rest` after it
+cut_from-append_detached : (front rest : List ℕ) (line : ℕ) → starts_at_boundary rest ≡ true
+    → cut_from line (front ++ rest) ≡ with_tokens (cut_from line front) (tokens_from (line_behind line front) rest)
 unfolding cut_from
-cut_append_detached [] rest line e =
-    spaced_cut line rest e ∙ ap (λ (l : ℕ). spaced (tokens_from l rest)) (sym (zero-add line))
-cut_append_detached (b ∷ front) rest line e =
-    ap (with_byte line b) (cut_append_detached front rest (next_line line b) e)
-    ∙ with_byte-behind line b (cut_from (next_line line b) front)
+cut_from-append_detached [] rest line e =
+    cut_from-detached line rest e ∙ ap (λ (l : ℕ). spaced (tokens_from l rest)) (sym (zero-add line))
+cut_from-append_detached (b ∷ front) rest line e =
+    ap (with_byte line b) (cut_from-append_detached front rest (next_line line b) e)
+    ∙ with_byte-with_tokens line b (cut_from (next_line line b) front)
     (tokens_from (line_behind (next_line line b) front) rest)
-    ∙ ap (λ (l : ℕ). behind (with_byte line b (cut_from (next_line line b) front)) (tokens_from l rest))
+    ∙ ap (λ (l : ℕ). with_tokens (with_byte line b (cut_from (next_line line b) front)) (tokens_from l rest))
     (sym (line_behind-cons line b front))
 
 -- if `rest` is empty or begins with white space, the tokens of `front ++ rest` are those of `front` and then of `rest`
-pub tokens_append_detached : (front rest : List ℕ) (line : ℕ) → starts_at_boundary rest ≡ true
+pub tokens_from-append_detached : (front rest : List ℕ) (line : ℕ) → starts_at_boundary rest ≡ true
     → tokens_from line (front ++ rest) ≡ tokens_from line front ++ tokens_from (line_behind line front) rest
-tokens_append_detached front rest line e =
+tokens_from-append_detached front rest line e =
     let cut = cut_from line front in
-    ap (all_of line) (cut_append_detached front rest line e) ∙ token_of-behind line cut.run cut.others
+    ap (all_of line) (cut_from-append_detached front rest line e) ∙ token_of-append line cut.run cut.others
     (tokens_from (line_behind line front) rest)
 
+-- the line after one byte is its next line
 line_behind-one : (line b : ℕ) → line_behind line (b ∷ []) ≡ next_line line b
 line_behind-one line b = line_behind-cons line b [] ∙ zero-add (next_line line b)
 
-cut_spaced : (b : ℕ) (front rest : List ℕ) (line : ℕ) → ends_at_boundary (b ∷ front) ≡ true
+-- if `front`, with the byte b before it, ends with white space, the cut of both and `rest` is that of both, with the
+-- tokens of `rest` after it
+cut_from-append_spaced : (b : ℕ) (front rest : List ℕ) (line : ℕ) → ends_at_boundary (b ∷ front) ≡ true
     → cut_from line ((b ∷ front) ++ rest)
-    ≡ behind (cut_from line (b ∷ front)) (tokens_from (line_behind line (b ∷ front)) rest)
+    ≡ with_tokens (cut_from line (b ∷ front)) (tokens_from (line_behind line (b ∷ front)) rest)
 unfolding cut_from
-cut_spaced b [] rest line e = rw e (ap (λ (l : ℕ). spaced (tokens_from l rest)) (sym (line_behind-one line b)))
-cut_spaced b (c ∷ front) rest line e =
-    ap (with_byte line b) (cut_spaced c front rest (next_line line b) e)
-    ∙ with_byte-behind line b (cut_from (next_line line b) (c ∷ front))
+cut_from-append_spaced b [] rest line e = rw e (ap (λ (l : ℕ). spaced (tokens_from l rest))
+    (sym (line_behind-one line b)))
+cut_from-append_spaced b (c ∷ front) rest line e =
+    ap (with_byte line b) (cut_from-append_spaced c front rest (next_line line b) e)
+    ∙ with_byte-with_tokens line b (cut_from (next_line line b) (c ∷ front))
     (tokens_from (line_behind (next_line line b) (c ∷ front)) rest)
-    ∙ ap (λ (l : ℕ). behind (with_byte line b (cut_from (next_line line b) (c ∷ front))) (tokens_from l rest))
+    ∙ ap (λ (l : ℕ). with_tokens (with_byte line b (cut_from (next_line line b) (c ∷ front))) (tokens_from l rest))
     (sym (line_behind-cons line b (c ∷ front)))
 
 -- if `front` is empty or ends with white space, the tokens of `front ++ rest` are those of `front` and then of `rest`
-pub tokens_spaced : (front rest : List ℕ) (line : ℕ) → ends_at_boundary front ≡ true
+pub tokens_from-append_spaced : (front rest : List ℕ) (line : ℕ) → ends_at_boundary front ≡ true
     → tokens_from line (front ++ rest) ≡ tokens_from line front ++ tokens_from (line_behind line front) rest
 unfolding cut_from
-tokens_spaced [] rest line e = ap (λ (l : ℕ). tokens_from l rest) (sym (zero-add line))
-tokens_spaced (b ∷ front) rest line e =
+tokens_from-append_spaced [] rest line e = ap (λ (l : ℕ). tokens_from l rest) (sym (zero-add line))
+tokens_from-append_spaced (b ∷ front) rest line e =
     let cut = cut_from line (b ∷ front) in
-    ap (all_of line) (cut_spaced b front rest line e) ∙ token_of-behind line cut.run cut.others
+    ap (all_of line) (cut_from-append_spaced b front rest line e) ∙ token_of-append line cut.run cut.others
     (tokens_from (line_behind line (b ∷ front)) rest)
 
 -- ---- the definitions
@@ -118,7 +132,8 @@ module _ (more : List Token) where
   SplitsHeader place ts = IsBetweenSections (header_from place ts)
       → header_from place (ts ++ more) ≡ after_items (header_from place ts).items (header_from between more)
 
-  at_section_end : (section : Section) (ts : List Token) (test : Bool) → SplitsHeader between ts
+  -- the end of a section that doesn't end the definitions (`test`) splits the header so
+  SplitsHeader-section_end : (section : Section) (ts : List Token) (test : Bool) → SplitsHeader between ts
       → IsBetweenSections (elim test as (λ _. Header) [
         | true ↦ record { items = []; body = Some ts }
         | false ↦ with_item (whole section) (header_from between ts)
@@ -131,10 +146,11 @@ module _ (more : List Token) where
         | true ↦ record { items = []; body = Some ts }
         | false ↦ with_item (whole section) (header_from between ts)
       ]).items (header_from between more)
-  at_section_end section ts true rest goes = absurd (true≢false goes.0)
-  at_section_end section ts false rest goes = ap (with_item (whole section)) (rest goes)
+  SplitsHeader-section_end section ts true rest goes = absurd (true≢false goes.0)
+  SplitsHeader-section_end section ts false rest goes = ap (with_item (whole section)) (rest goes)
 
-  in_section : (section : Section) (t : Token) (ts : List Token) (test : Bool) → SplitsHeader between ts
+  -- a token in a section, its end if `test` holds, splits the header so, if the tokens after it do
+  SplitsHeader-inside : (section : Section) (t : Token) (ts : List Token) (test : Bool) → SplitsHeader between ts
       → SplitsHeader (inside (with_word section t.bytes)) ts
       → IsBetweenSections (elim test as (λ _. Header) [
         | true ↦ elim (ends_definitions section) as (λ _. Header) [
@@ -157,10 +173,12 @@ module _ (more : List Token) where
         ]
         | false ↦ header_from (inside (with_word section t.bytes)) ts
       ]).items (header_from between more)
-  in_section section t ts true rest goes_on goes = at_section_end section ts (ends_definitions section) rest goes
-  in_section section t ts false rest goes_on goes = goes_on goes
+  SplitsHeader-inside section t ts true rest goes_on goes = SplitsHeader-section_end section ts
+      (ends_definitions section) rest goes
+  SplitsHeader-inside section t ts false rest goes_on goes = goes_on goes
 
-  between_sections : (t : Token) (ts : List Token) (test : Bool) → SplitsHeader between ts
+  -- a token between sections, which opens one if `test` holds, splits the header so, if the tokens after it do
+  SplitsHeader-between : (t : Token) (ts : List Token) (test : Bool) → SplitsHeader between ts
       → SplitsHeader (inside (opened t)) ts
       → IsBetweenSections (elim test as (λ _. Header) [
         | true ↦ header_from (inside (opened t)) ts
@@ -174,32 +192,37 @@ module _ (more : List Token) where
         | true ↦ header_from (inside (opened t)) ts
         | false ↦ with_item (stray t.line) (header_from between ts)
       ]).items (header_from between more)
-  between_sections t ts true rest goes_on goes = goes_on goes
-  between_sections t ts false rest goes_on goes = ap (with_item (stray t.line)) (rest goes)
+  SplitsHeader-between t ts true rest goes_on goes = goes_on goes
+  SplitsHeader-between t ts false rest goes_on goes = ap (with_item (stray t.line)) (rest goes)
 
-  pub header_split : (ts : List Token) (place : HeaderPlace) → SplitsHeader place ts
+  -- all tokens split the header so, from each place on
+  pub SplitsHeader-all : (ts : List Token) (place : HeaderPlace) → SplitsHeader place ts
   unfolding header_from
-  header_split [] between goes = refl
-  header_split [] (inside section) goes = absurd (true≢false goes.1)
-  header_split (t ∷ ts) between goes =
-      between_sections t ts (opens_section t.bytes) (header_split ts between) (header_split ts (inside (opened t))) goes
-  header_split (t ∷ ts) (inside section) goes =
-      in_section section t ts (is_end t.bytes) (header_split ts between)
-      (header_split ts (inside (with_word section t.bytes))) goes
+  SplitsHeader-all [] between goes = refl
+  SplitsHeader-all [] (inside section) goes = absurd (true≢false goes.1)
+  SplitsHeader-all (t ∷ ts) between goes =
+      SplitsHeader-between t ts (opens_section t.bytes) (SplitsHeader-all ts between)
+      (SplitsHeader-all ts (inside (opened t))) goes
+  SplitsHeader-all (t ∷ ts) (inside section) goes =
+      SplitsHeader-inside section t ts (is_end t.bytes) (SplitsHeader-all ts between)
+      (SplitsHeader-all ts (inside (with_word section t.bytes))) goes
 
 module _ (more : List Token) where
   -- `header` with the body `body ++ more`
   abbrev with_more_body : Header → List Token → Header
   with_more_body header body = record { items = header.items; body = Some (body ++ more) }
 
+  -- if the definitions end in `ts`, the header of `ts ++ more` is that of `ts`, with `more` after its body
   abbrev ExtendsBody : HeaderPlace → List Token → Type 0
   ExtendsBody place ts = (body : List Token) → (header_from place ts).body ≡ Some body
       → header_from place (ts ++ more) ≡ with_more_body (header_from place ts) body
 
-  same_body : (a b : List Token) → Some a ≡ Some b → a ≡ b
-  same_body a b e = ap (λ (o : Option (List Token)). unwrap_or o a) e
+  -- a body that there is is one
+  some-same_body : (a b : List Token) → Some a ≡ Some b → a ≡ b
+  some-same_body a b e = ap (λ (o : Option (List Token)). unwrap_or o a) e
 
-  extends_end : (section : Section) (ts body : List Token) (test : Bool) → ExtendsBody between ts
+  -- the end of a section, which ends the definitions if `test` holds, extends the body so
+  ExtendsBody-section_end : (section : Section) (ts body : List Token) (test : Bool) → ExtendsBody between ts
       → (elim test as (λ _. Header) [
         | true ↦ record { items = []; body = Some ts }
         | false ↦ with_item (whole section) (header_from between ts)
@@ -212,11 +235,12 @@ module _ (more : List Token) where
         | true ↦ record { items = []; body = Some ts }
         | false ↦ with_item (whole section) (header_from between ts)
       ]) body
-  extends_end section ts body true rest ends =
-      ap (λ (b : List Token). record { items = []; body = Some (b ++ more) }) (same_body ts body ends)
-  extends_end section ts body false rest ends = ap (with_item (whole section)) (rest body ends)
+  ExtendsBody-section_end section ts body true rest ends =
+      ap (λ (b : List Token). record { items = []; body = Some (b ++ more) }) (some-same_body ts body ends)
+  ExtendsBody-section_end section ts body false rest ends = ap (with_item (whole section)) (rest body ends)
 
-  extends_inside : (section : Section) (t : Token) (ts body : List Token) (test : Bool) → ExtendsBody between ts
+  -- a token in a section, its end if `test` holds, extends the body so, if the tokens after it do
+  ExtendsBody-inside : (section : Section) (t : Token) (ts body : List Token) (test : Bool) → ExtendsBody between ts
       → ExtendsBody (inside (with_word section t.bytes)) ts
       → (elim test as (λ _. Header) [
         | true ↦ elim (ends_definitions section) as (λ _. Header) [
@@ -239,11 +263,12 @@ module _ (more : List Token) where
         ]
         | false ↦ header_from (inside (with_word section t.bytes)) ts
       ]) body
-  extends_inside section t ts body true rest goes_on ends =
-      extends_end section ts body (ends_definitions section) rest ends
-  extends_inside section t ts body false rest goes_on ends = goes_on body ends
+  ExtendsBody-inside section t ts body true rest goes_on ends =
+      ExtendsBody-section_end section ts body (ends_definitions section) rest ends
+  ExtendsBody-inside section t ts body false rest goes_on ends = goes_on body ends
 
-  extends_between : (t : Token) (ts body : List Token) (test : Bool) → ExtendsBody between ts
+  -- a token between sections, which opens one if `test` holds, extends the body so, if the tokens after it do
+  ExtendsBody-between : (t : Token) (ts body : List Token) (test : Bool) → ExtendsBody between ts
       → ExtendsBody (inside (opened t)) ts
       → (elim test as (λ _. Header) [
         | true ↦ header_from (inside (opened t)) ts
@@ -257,42 +282,44 @@ module _ (more : List Token) where
         | true ↦ header_from (inside (opened t)) ts
         | false ↦ with_item (stray t.line) (header_from between ts)
       ]) body
-  extends_between t ts body true rest goes_on ends = goes_on body ends
-  extends_between t ts body false rest goes_on ends = ap (with_item (stray t.line)) (rest body ends)
+  ExtendsBody-between t ts body true rest goes_on ends = goes_on body ends
+  ExtendsBody-between t ts body false rest goes_on ends = ap (with_item (stray t.line)) (rest body ends)
 
   -- if the definitions end in `ts`, tokens after `ts` are added to the body
-  pub body_extended : (ts : List Token) (place : HeaderPlace) → ExtendsBody place ts
+  pub ExtendsBody-all : (ts : List Token) (place : HeaderPlace) → ExtendsBody place ts
   unfolding header_from
-  body_extended [] between body ends = absurd cc
-  body_extended [] (inside section) body ends = absurd cc
-  body_extended (t ∷ ts) between body ends =
-      extends_between t ts body (opens_section t.bytes) (body_extended ts between)
-      (body_extended ts (inside (opened t))) ends
-  body_extended (t ∷ ts) (inside section) body ends =
-      extends_inside section t ts body (is_end t.bytes) (body_extended ts between)
-      (body_extended ts (inside (with_word section t.bytes))) ends
+  ExtendsBody-all [] between body ends = absurd cc
+  ExtendsBody-all [] (inside section) body ends = absurd cc
+  ExtendsBody-all (t ∷ ts) between body ends =
+      ExtendsBody-between t ts body (opens_section t.bytes) (ExtendsBody-all ts between)
+      (ExtendsBody-all ts (inside (opened t))) ends
+  ExtendsBody-all (t ∷ ts) (inside section) body ends =
+      ExtendsBody-inside section t ts body (is_end t.bytes) (ExtendsBody-all ts between)
+      (ExtendsBody-all ts (inside (with_word section t.bytes))) ends
 
 -- ---- what items declare
 
 module _ {V : Type 0} (with_variable : V → Variable → V) where
   -- to declare `xs ++ ys` is to declare `xs` and then `ys`
-  pub declare_both : (xs ys : List HeaderItem) (d : Declared V)
+  pub declare_all-append : (xs ys : List HeaderItem) (d : Declared V)
       → declare_all with_variable d (xs ++ ys)
       ≡ (declare_all with_variable d xs >>= λ next. declare_all with_variable next ys)
   unfolding declare_all
-  declare_both [] ys d = refl
-  declare_both (whole section ∷ xs) ys d =
-      both_then (at_line section.line (declare_section with_variable d section)) (λ next. declare_both xs ys next)
+  declare_all-append [] ys d = refl
+  declare_all-append (whole section ∷ xs) ys d =
+      declare_all-append_after_result (at_line section.line (declare_section with_variable d section))
+      (λ next. declare_all-append xs ys next)
     where
-      both_then : (r : Result (Declared V) VcdFault)
+      -- if `xs ++ ys` can be declared in two parts after each declaration, it can after a result
+      declare_all-append_after_result : (r : Result (Declared V) VcdFault)
           → ((next : Declared V) → declare_all with_variable next (xs ++ ys)
           ≡ (declare_all with_variable next xs >>= λ after. declare_all with_variable after ys))
           → (r >>= λ next. declare_all with_variable next (xs ++ ys))
           ≡ ((r >>= λ next. declare_all with_variable next xs) >>= λ next. declare_all with_variable next ys)
-      both_then (Ok next) each = each next
-      both_then (Err fault) each = refl
-  declare_both (unfinished line ∷ xs) ys d = refl
-  declare_both (stray line ∷ xs) ys d = refl
+      declare_all-append_after_result (Ok next) each = each next
+      declare_all-append_after_result (Err fault) each = refl
+  declare_all-append (unfinished line ∷ xs) ys d = refl
+  declare_all-append (stray line ∷ xs) ys d = refl
 
 -- ---- words that are put in
 
@@ -300,70 +327,78 @@ module _ {V : Type 0} (with_variable : V → Variable → V) where
 abbrev pub IsWord : List ℕ → Type 0
 IsWord word = list_all (λ b. not (is_space b)) word ≡ true
 
-stays_on_line : (line b : ℕ) → is_space b ≡ false → next_line line b ≡ line
-stays_on_line line b unspaced = go (eqb b 10) refl
+-- after a byte that is no space the line is the same
+next_line-no_space : (line b : ℕ) → is_space b ≡ false → next_line line b ≡ line
+next_line-no_space line b unspaced = go (eqb b 10) refl
   where
+    -- whether the byte is a line feed (`test`) or not
     go : (test : Bool) → eqb b 10 ≡ test → next_line line b ≡ line
     go false is = rw is refl
     go true is = absurd (true≢false (sym (space_is is) ∙ unspaced))
       where
+        -- if the third of four tests holds, one of the four does
         or_last : (x y z w : Bool) → z ≡ true → (x || y || z || w) ≡ true
         or_last true y z w e = refl
         or_last false true z w e = refl
         or_last false false true w e = refl
         or_last false false false w e = absurd (true≢false (sym e))
 
+        -- a line feed is a space
         space_is : eqb b 10 ≡ true → is_space b ≡ true
         space_is e = or_last (eqb b 32) (eqb b 9) (eqb b 10) (eqb b 13) e
 
 -- a word before a text that is empty or begins with white space is the first run
-word_cut : (line : ℕ) (word rest : List ℕ) → IsWord word → starts_at_boundary rest ≡ true
+cut_from-word : (line : ℕ) (word rest : List ℕ) → IsWord word → starts_at_boundary rest ≡ true
     → cut_from line (word ++ rest) ≡ record { run = word; others = tokens_from line rest }
 unfolding cut_from
-word_cut line [] rest is detached = spaced_cut line rest detached
-word_cut line (b ∷ word) rest is detached =
+cut_from-word line [] rest is detached = cut_from-detached line rest detached
+cut_from-word line (b ∷ word) rest is detached =
     let both = and_parts (not (is_space b)) (list_all (λ x. not (is_space x)) word) is in
     let unspaced = not-true (is_space b) both.0 in
-    ap (λ (l : ℕ). with_byte line b (cut_from l (word ++ rest))) (stays_on_line line b unspaced)
-    ∙ ap (with_byte line b) (word_cut line word rest both.1 detached)
+    ap (λ (l : ℕ). with_byte line b (cut_from l (word ++ rest))) (next_line-no_space line b unspaced)
+    ∙ ap (with_byte line b) (cut_from-word line word rest both.1 detached)
     ∙ rw unspaced refl
 
-pub word_read : (line b : ℕ) (word rest : List ℕ) → IsWord (b ∷ word) → starts_at_boundary rest ≡ true
+-- a word that isn't empty, before a text that is empty or begins with white space, is the first token
+pub tokens_from-word : (line b : ℕ) (word rest : List ℕ) → IsWord (b ∷ word) → starts_at_boundary rest ≡ true
     → tokens_from line ((b ∷ word) ++ rest) ≡ record { line = line; bytes = b ∷ word } ∷ tokens_from line rest
-word_read line b word rest is detached = ap (all_of line) (word_cut line (b ∷ word) rest is detached)
+tokens_from-word line b word rest is detached = ap (all_of line) (cut_from-word line (b ∷ word) rest is detached)
 
 -- a space before a text doesn't change its tokens
-pub space_read : (line : ℕ) (text : List ℕ) → tokens_from line (32 ∷ text) ≡ tokens_from line text
+pub tokens_from-space : (line : ℕ) (text : List ℕ) → tokens_from line (32 ∷ text) ≡ tokens_from line text
 unfolding cut_from
-space_read line text = refl
+tokens_from-space line text = refl
 
 -- a string and its code, with a space before each
 abbrev pub string_text : List ℕ → List ℕ → List ℕ
 string_text text code = 32 ∷ ((115 ∷ text) ++ 32 ∷ code)
 
-pub string_cut : (line : ℕ) (text : List ℕ) (b : ℕ) (code rest : List ℕ) → IsWord text → IsWord (b ∷ code)
+-- a string and its code are the first two tokens, before those of `rest`
+pub tokens_from-string : (line : ℕ) (text : List ℕ) (b : ℕ) (code rest : List ℕ) → IsWord text → IsWord (b ∷ code)
     → starts_at_boundary rest ≡ true
     → tokens_from line (string_text text (b ∷ code) ++ rest)
     ≡ record { line = line; bytes = 115 ∷ text } ∷ record { line = line; bytes = b ∷ code } ∷ tokens_from line rest
-string_cut line text b code rest first second detached =
+tokens_from-string line text b code rest first second detached =
     ap (λ (all : List ℕ). tokens_from line (32 ∷ all)) (append_assoc (115 ∷ text) (32 ∷ b ∷ code) rest)
-    ∙ space_read line ((115 ∷ text) ++ ((32 ∷ b ∷ code) ++ rest))
-    ∙ word_read line 115 text ((32 ∷ b ∷ code) ++ rest) first refl
+    ∙ tokens_from-space line ((115 ∷ text) ++ ((32 ∷ b ∷ code) ++ rest))
+    ∙ tokens_from-word line 115 text ((32 ∷ b ∷ code) ++ rest) first refl
     ∙ ap (λ (ts : List Token). record { line = line; bytes = 115 ∷ text } ∷ ts)
-    (space_read line ((b ∷ code) ++ rest) ∙ word_read line b code rest second detached)
+    (tokens_from-space line ((b ∷ code) ++ rest) ∙ tokens_from-word line b code rest second detached)
 
 -- where an item may begin, a string and its code are read as a skipped item
-pub string_read : (line : ℕ) (text code : List ℕ) (more : List Token)
+pub body_from-string : (line : ℕ) (text code : List ℕ) (more : List Token)
     → body_from ready (record { line = line; bytes = 115 ∷ text } ∷ record { line = line; bytes = code } ∷ more)
     ≡ skipped line code ∷ body_from ready more
 unfolding body_from
-string_read line text code more = refl
+body_from-string line text code more = refl
 
 -- ---- words with a space after each
 
+-- the words, with a space after each
 abbrev pub with_spaces : List (List ℕ) → List ℕ
 with_spaces words = flat_map (λ (word : List ℕ). word ++ 32 ∷ []) words
 
+-- the token of a word on this line
 abbrev pub on_line : ℕ → List ℕ → Token
 on_line line word = record { line = line; bytes = word }
 
@@ -374,13 +409,13 @@ AreWords ([] ∷ words) = ⊥
 AreWords ((b ∷ word) ∷ words) = IsWord (b ∷ word) × AreWords words
 
 -- nonempty words with a space after each are one token each, before the tokens of `rest`
-pub words_read : (line : ℕ) (words : List (List ℕ)) (rest : List ℕ) → AreWords words
+pub tokens_from-words : (line : ℕ) (words : List (List ℕ)) (rest : List ℕ) → AreWords words
     → tokens_from line (with_spaces words ++ rest) ≡ map (on_line line) words ++ tokens_from line rest
-words_read line [] rest are = refl
-words_read line ([] ∷ words) rest are = absurd are
-words_read line ((b ∷ word) ∷ words) rest are =
+tokens_from-words line [] rest are = refl
+tokens_from-words line ([] ∷ words) rest are = absurd are
+tokens_from-words line ((b ∷ word) ∷ words) rest are =
     ap (tokens_from line) (append_assoc ((b ∷ word) ++ 32 ∷ []) (with_spaces words) rest
     ∙ append_assoc (b ∷ word) (32 ∷ []) (with_spaces words ++ rest))
-    ∙ word_read line b word (32 ∷ (with_spaces words ++ rest)) are.0 refl
+    ∙ tokens_from-word line b word (32 ∷ (with_spaces words ++ rest)) are.0 refl
     ∙ ap (λ (ts : List Token). on_line line (b ∷ word) ∷ ts)
-    (space_read line (with_spaces words ++ rest) ∙ words_read line words rest are.1)
+    (tokens_from-space line (with_spaces words ++ rest) ∙ tokens_from-words line words rest are.1)

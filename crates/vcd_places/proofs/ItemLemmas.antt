@@ -1,4 +1,5 @@
--- The items of a body, and the sections of the definitions, as they are taken.
+-- The tokens of one item of a body are taken: the place after them is between two items, and the times of the item are
+-- taken.
 use Rattle.std.proofs.Common.{◌≡◌, ℕ, ◌^◌, ◌≤◌, Bool, true, false, cond, List, [], ◌∷◌, ◌++◌}
 use Rattle.std.proofs.Common.{Option, Some}
 use Rattle.std.proofs.Common.{None, Ok, Err, length, take, drop, refl, sym, ap, subst, ◌∙◌, append_assoc}
@@ -22,31 +23,35 @@ use Rattle.vcd_places.specs.Places.{if_time, item_time}
 use Rattle.vcd_places.specs.Places.{item_times}
 use Rattle.vcd_places.specs.NextTokens.{IsNextToken, IsTakenToEnd, ends_section}
 use Rattle.vcd_places.specs.Times.{IsBetweenItems, times_left}
-use Rattle.vcd_places.proofs.InsertionLemmas.{body_extended}
+use Rattle.vcd_places.proofs.InsertionLemmas.{ExtendsBody-all}
 
 -- ---- the times of some items
 
+-- the times of two lists of items are those of the one, and then of the other
 pub item_times-append : (xs ys : List BodyItem) → item_times (xs ++ ys) ≡ item_times xs ++ item_times ys
 unfolding item_times
 item_times-append [] ys = refl
 item_times-append (x ∷ xs) ys = ap (cons_option (item_time x)) (item_times-append xs ys) ∙ go (item_time x)
   where
+    -- whether the first item has a time (`o`) or not
     go : (o : Option ℕ) → cons_option o (item_times xs ++ item_times ys) ≡ cons_option o (item_times xs)
         ++ item_times ys
     go None = refl
     go (Some t) = refl
 
-last_behind : (items : List BodyItem) (now line : ℕ) (digits : List ℕ)
+-- after items the last of which is a time item, its time is the last
+last_time-push : (items : List BodyItem) (now line : ℕ) (digits : List ℕ)
     → last_time now (items ++ time_item line digits ∷ []) ≡ number digits
 unfolding last_time
-last_behind [] now line digits = refl
-last_behind (time_item l ds ∷ items) now line digits = last_behind items (number ds) line digits
-last_behind (change l ds c ∷ items) now line digits = last_behind items now line digits
-last_behind (skipped l c ∷ items) now line digits = last_behind items now line digits
-last_behind (dump_section_open l ∷ items) now line digits = last_behind items now line digits
-last_behind (dump_section_end l ∷ items) now line digits = last_behind items now line digits
-last_behind (wrong l kind ∷ items) now line digits = last_behind items now line digits
+last_time-push [] now line digits = refl
+last_time-push (time_item l ds ∷ items) now line digits = last_time-push items (number ds) line digits
+last_time-push (change l ds c ∷ items) now line digits = last_time-push items now line digits
+last_time-push (skipped l c ∷ items) now line digits = last_time-push items now line digits
+last_time-push (dump_section_open l ∷ items) now line digits = last_time-push items now line digits
+last_time-push (dump_section_end l ∷ items) now line digits = last_time-push items now line digits
+last_time-push (wrong l kind ∷ items) now line digits = last_time-push items now line digits
 
+-- no items have no times
 pub item_times-empty : item_times [] ≡ []
 unfolding item_times
 item_times-empty = refl
@@ -58,44 +63,48 @@ pub record IsItem (ts : List Token) (times : List ℕ) : Type 0 where
   pub whole : AreWholeItems ts
   pub times_are : item_times (body_from ready ts) ≡ times
 
-time_shaped : (shape : Shape) (digits : List ℕ) → kind_of shape ≡ time_kind digits → shape ≡ time_shape digits
-time_shaped (time_shape ds) digits e = ap (λ (kind : BegunKind). elim kind as (λ _. Shape) [
+-- a shape whose kind is a time is a time
+time_shape-kind_of : (shape : Shape) (digits : List ℕ) → kind_of shape ≡ time_kind digits → shape ≡ time_shape digits
+time_shape-kind_of (time_shape ds) digits e = ap (λ (kind : BegunKind). elim kind as (λ _. Shape) [
   | time_kind found ↦ time_shape found
   | code_kind ↦ none
   | comment_kind ↦ none
   | single_kind ↦ none
 ]) e
-time_shaped (scalar ds code) digits e = absurd cc
-time_shaped (vector ds) digits e = absurd cc
-time_shaped foreign digits e = absurd cc
-time_shaped comment digits e = absurd cc
-time_shaped open_shape digits e = absurd cc
-time_shaped end_shape digits e = absurd cc
-time_shaped none digits e = absurd cc
+time_shape-kind_of (scalar ds code) digits e = absurd cc
+time_shape-kind_of (vector ds) digits e = absurd cc
+time_shape-kind_of foreign digits e = absurd cc
+time_shape-kind_of comment digits e = absurd cc
+time_shape-kind_of open_shape digits e = absurd cc
+time_shape-kind_of end_shape digits e = absurd cc
+time_shape-kind_of none digits e = absurd cc
 
-comment_shaped : (shape : Shape) → kind_of shape ≡ comment_kind → shape ≡ comment
-comment_shaped (time_shape ds) e = absurd cc
-comment_shaped (scalar ds code) e = absurd cc
-comment_shaped (vector ds) e = absurd cc
-comment_shaped foreign e = absurd cc
-comment_shaped comment e = refl
-comment_shaped open_shape e = absurd cc
-comment_shaped end_shape e = absurd cc
-comment_shaped none e = absurd cc
+-- a shape whose kind is a comment is a comment
+comment-kind_of : (shape : Shape) → kind_of shape ≡ comment_kind → shape ≡ comment
+comment-kind_of (time_shape ds) e = absurd cc
+comment-kind_of (scalar ds code) e = absurd cc
+comment-kind_of (vector ds) e = absurd cc
+comment-kind_of foreign e = absurd cc
+comment-kind_of comment e = refl
+comment-kind_of open_shape e = absurd cc
+comment-kind_of end_shape e = absurd cc
+comment-kind_of none e = absurd cc
 
 module _ (t : Token) where
   -- a token that is a time is read as a time item
-  time_read : (digits : List ℕ) → kind_of (shape_of t.bytes) ≡ time_kind digits → (ts : List Token)
+  body_from-time : (digits : List ℕ) → kind_of (shape_of t.bytes) ≡ time_kind digits → (ts : List Token)
       → body_from ready (t ∷ ts) ≡ time_item t.line digits ∷ body_from ready ts
-  time_read digits is ts = body_from-shape t ts (time_shape digits) (sym (time_shaped (shape_of t.bytes) digits is))
+  body_from-time digits is ts = body_from-shape t ts (time_shape digits)
+      (sym (time_shape-kind_of (shape_of t.bytes) digits is))
 
-  pub time_is_item : (digits : List ℕ) → kind_of (shape_of t.bytes) ≡ time_kind digits
+  -- a token that is a time is an item, with this time if it is below 2^64
+  pub IsItem-time : (digits : List ℕ) → kind_of (shape_of t.bytes) ≡ time_kind digits
       → IsItem (t ∷ []) (cons_option (if_time (time_of digits)) [])
   unfolding body_from item_times
-  time_is_item digits is = record {
-    whole = λ more. time_read digits is more
-        ∙ sym (ap (λ (items : List BodyItem). items ++ body_from ready more) (time_read digits is []));
-    times_are = ap item_times (time_read digits is []);
+  IsItem-time digits is = record {
+    whole = λ more. body_from-time digits is more
+        ∙ sym (ap (λ (items : List BodyItem). items ++ body_from ready more) (body_from-time digits is []));
+    times_are = ap item_times (body_from-time digits is []);
   }
 
   -- the token `t` alone is `item`, which isn't a time
@@ -103,30 +112,32 @@ module _ (t : Token) where
     no_time : item_time item ≡ None
     read : (ts : List Token) → body_from ready (t ∷ ts) ≡ item ∷ body_from ready ts
 
-  single_read : (shape : Shape) → shape ≡ shape_of t.bytes → kind_of shape ≡ single_kind
+  -- a token whose shape is of a single token is an item by itself
+  IsSingle-shape_of : (shape : Shape) → shape ≡ shape_of t.bytes → kind_of shape ≡ single_kind
       → (item : BodyItem) × IsSingle item
-  single_read (time_shape ds) e is = absurd cc
-  single_read (scalar ds code) e is = (
+  IsSingle-shape_of (time_shape ds) e is = absurd cc
+  IsSingle-shape_of (scalar ds code) e is = (
     change t.line ds code,
     record { no_time = refl; read = λ ts. body_from-shape t ts (scalar ds code) e },
   )
-  single_read (vector ds) e is = absurd cc
-  single_read foreign e is = absurd cc
-  single_read comment e is = absurd cc
-  single_read open_shape e is = (
+  IsSingle-shape_of (vector ds) e is = absurd cc
+  IsSingle-shape_of foreign e is = absurd cc
+  IsSingle-shape_of comment e is = absurd cc
+  IsSingle-shape_of open_shape e is = (
     dump_section_open t.line,
     record { no_time = refl; read = λ ts. body_from-shape t ts open_shape e },
   )
-  single_read end_shape e is = (
+  IsSingle-shape_of end_shape e is = (
     dump_section_end t.line,
     record { no_time = refl; read = λ ts. body_from-shape t ts end_shape e },
   )
-  single_read none e is = (wrong t.line _, record { no_time = refl; read = λ ts. body_from-shape t ts none e })
+  IsSingle-shape_of none e is = (wrong t.line _, record { no_time = refl; read = λ ts. body_from-shape t ts none e })
 
-  pub single_is_item : kind_of (shape_of t.bytes) ≡ single_kind → IsItem (t ∷ []) []
+  -- such a token is an item without a time
+  pub IsItem-single : kind_of (shape_of t.bytes) ≡ single_kind → IsItem (t ∷ []) []
   unfolding body_from item_times
-  single_is_item is =
-      let one = single_read (shape_of t.bytes) refl is in
+  IsItem-single is =
+      let one = IsSingle-shape_of (shape_of t.bytes) refl is in
       record {
         whole = λ more. one.1.read more
             ∙ sym (ap (λ (items : List BodyItem). items ++ body_from ready more) (one.1.read []));
@@ -140,44 +151,47 @@ module _ (t : Token) where
     read : (u : Token) (ts : List Token) → body_from ready (t ∷ u ∷ ts) ≡ item u.bytes ∷ body_from ready ts
     alone : item_times (body_from ready (t ∷ [])) ≡ []
 
-  code_read : (shape : Shape) → shape ≡ shape_of t.bytes → kind_of shape ≡ code_kind → HasCode
+  -- a token whose shape asks for a code has its code in the next token
+  HasCode-shape_of : (shape : Shape) → shape ≡ shape_of t.bytes → kind_of shape ≡ code_kind → HasCode
   unfolding body_from item_times
-  code_read (time_shape ds) e is = absurd cc
-  code_read (scalar ds code) e is = absurd cc
-  code_read (vector ds) e is = record {
+  HasCode-shape_of (time_shape ds) e is = absurd cc
+  HasCode-shape_of (scalar ds code) e is = absurd cc
+  HasCode-shape_of (vector ds) e is = record {
     item = λ code. change t.line ds code;
     no_time = λ code. refl;
     read = λ u ts. body_from-shape t (u ∷ ts) (vector ds) e;
     alone = ap item_times (body_from-shape t [] (vector ds) e);
   }
-  code_read foreign e is = record {
+  HasCode-shape_of foreign e is = record {
     item = λ code. skipped t.line code;
     no_time = λ code. refl;
     read = λ u ts. body_from-shape t (u ∷ ts) foreign e;
     alone = ap item_times (body_from-shape t [] foreign e);
   }
-  code_read comment e is = absurd cc
-  code_read open_shape e is = absurd cc
-  code_read end_shape e is = absurd cc
-  code_read none e is = absurd cc
+  HasCode-shape_of comment e is = absurd cc
+  HasCode-shape_of open_shape e is = absurd cc
+  HasCode-shape_of end_shape e is = absurd cc
+  HasCode-shape_of none e is = absurd cc
 
-  pub code_is_item : (u : Token) → kind_of (shape_of t.bytes) ≡ code_kind → IsItem (t ∷ u ∷ []) []
+  -- such a token and its code are an item without a time
+  pub IsItem-code : (u : Token) → kind_of (shape_of t.bytes) ≡ code_kind → IsItem (t ∷ u ∷ []) []
   unfolding body_from item_times
-  code_is_item u is =
-      let one = code_read (shape_of t.bytes) refl is in
+  IsItem-code u is =
+      let one = HasCode-shape_of (shape_of t.bytes) refl is in
       record {
         whole = λ more. one.read u more
             ∙ sym (ap (λ (items : List BodyItem). items ++ body_from ready more) (one.read u []));
         times_are = ap item_times (one.read u []) ∙ ap (λ (o : Option ℕ). cons_option o []) (one.no_time u.bytes);
       }
 
-  pub code_alone : kind_of (shape_of t.bytes) ≡ code_kind → item_times (body_from ready (t ∷ [])) ≡ []
-  code_alone is = (code_read (shape_of t.bytes) refl is).alone
+  -- such a token without its code has no time
+  pub item_times-code_alone : kind_of (shape_of t.bytes) ≡ code_kind → item_times (body_from ready (t ∷ [])) ≡ []
+  item_times-code_alone is = (HasCode-shape_of (shape_of t.bytes) refl is).alone
 
   -- after `$comment`, the tokens `ts` are read as those of a comment
-  comment_read : kind_of (shape_of t.bytes) ≡ comment_kind → (ts : List Token)
+  body_from-comment : kind_of (shape_of t.bytes) ≡ comment_kind → (ts : List Token)
       → body_from ready (t ∷ ts) ≡ body_from (in_comment t.line) ts
-  comment_read is ts = body_from-shape t ts comment (sym (comment_shaped (shape_of t.bytes) is))
+  body_from-comment is ts = body_from-shape t ts comment (sym (comment-kind_of (shape_of t.bytes) is))
 
 -- the items from a token of a comment on, where `test` is whether it is `$end`, and `ts` are the tokens after it
 abbrev commented : ℕ → List Token → Bool → List BodyItem
@@ -187,38 +201,44 @@ commented line ts test = elim test as (λ _. List BodyItem) [
 ]
 
 -- a comment ends at the first `$end`, and items follow
-past_words : (line : ℕ) (words : List Token) (last : Token) (more : List Token) → list_any ends_section words ≡ false
+body_from-comment_ended : (line : ℕ) (words : List Token) (last : Token) (more : List Token)
+    → list_any ends_section words ≡ false
     → is_end last.bytes ≡ true → body_from (in_comment line) (words ++ last ∷ more) ≡ body_from ready more
 unfolding body_from
-past_words line [] last more none_ends ends = ap (commented line more) ends
-past_words line (w ∷ words) last more none_ends ends =
+body_from-comment_ended line [] last more none_ends ends = ap (commented line more) ends
+body_from-comment_ended line (w ∷ words) last more none_ends ends =
     let parts = or_parts (is_end w.bytes) (list_any ends_section words) none_ends in
-    ap (commented line (words ++ last ∷ more)) parts.0 ∙ past_words line words last more parts.1 ends
+    ap (commented line (words ++ last ∷ more)) parts.0 ∙ body_from-comment_ended line words last more parts.1 ends
 
 -- a comment without `$end` gives no times
-endless : (line : ℕ) (words : List Token) → list_any ends_section words ≡ false
+item_times-endless_comment : (line : ℕ) (words : List Token) → list_any ends_section words ≡ false
     → item_times (body_from (in_comment line) words) ≡ []
 unfolding body_from item_times
-endless line [] none_ends = refl
-endless line (w ∷ words) none_ends =
+item_times-endless_comment line [] none_ends = refl
+item_times-endless_comment line (w ∷ words) none_ends =
     let parts = or_parts (is_end w.bytes) (list_any ends_section words) none_ends in
-    ap (λ (test : Bool). item_times (commented line words test)) parts.0 ∙ endless line words parts.1
+    ap (λ (test : Bool). item_times (commented line words test)) parts.0 ∙ item_times-endless_comment line words parts.1
 
-pub comment_is_item : (t : Token) (words : List Token) (last : Token) → kind_of (shape_of t.bytes) ≡ comment_kind
+-- `$comment`, words and the next `$end` are an item without a time
+pub IsItem-comment : (t : Token) (words : List Token) (last : Token) → kind_of (shape_of t.bytes) ≡ comment_kind
     → list_any ends_section words ≡ false → is_end last.bytes ≡ true → IsItem (t ∷ (words ++ last ∷ [])) []
 unfolding body_from item_times
-comment_is_item t words last is none_ends ends =
-    let alone = comment_read t is (words ++ last ∷ []) ∙ past_words t.line words last [] none_ends ends in
+IsItem-comment t words last is none_ends ends =
+    let alone = body_from-comment t is (words ++ last ∷ []) ∙ body_from-comment_ended t.line words last [] none_ends
+    ends in
     record {
       whole = λ more. ap (λ (ts : List Token). body_from ready (t ∷ ts)) (append_assoc words (last ∷ []) more)
-          ∙ comment_read t is (words ++ last ∷ more) ∙ past_words t.line words last more none_ends ends
+          ∙ body_from-comment t is (words ++ last ∷ more) ∙ body_from-comment_ended t.line words last more none_ends
+          ends
           ∙ sym (ap (λ (items : List BodyItem). items ++ body_from ready more) alone);
       times_are = ap item_times alone;
     }
 
-pub comment_alone : (t : Token) (words : List Token) → kind_of (shape_of t.bytes) ≡ comment_kind
+-- `$comment` and words without `$end` have no times
+pub item_times-comment_alone : (t : Token) (words : List Token) → kind_of (shape_of t.bytes) ≡ comment_kind
     → list_any ends_section words ≡ false → item_times (body_from ready (t ∷ words)) ≡ []
-comment_alone t words is none_ends = ap item_times (comment_read t is words) ∙ endless t.line words none_ends
+item_times-comment_alone t words is none_ends = ap item_times (body_from-comment t is words)
+    ∙ item_times-endless_comment t.line words none_ends
 
 -- ---- an item is taken
 
@@ -231,31 +251,35 @@ pub record AreTaken (text : List ℕ) (at next : ℕ) (ts : List Token) : Type 0
 
 module _ (text : List ℕ) (at next : ℕ) (ts : List Token) (times : List ℕ) (b : IsBetweenItems text at)
     (taken : AreTaken text at next ts) (item : IsItem ts times) where
+  -- the body before `next` is that before `at`, and the tokens that are taken
   ended : body_in (take next text) ≡ Some (b.body ++ ts)
   ended =
       ap (λ (all : List Token). (header_from between all).body) taken.taken
-      ∙ ap (λ (h : Header). h.body) (body_extended ts (tokens (take at text)) between b.body b.ended)
+      ∙ ap (λ (h : Header). h.body) (ExtendsBody-all ts (tokens (take at text)) between b.body b.ended)
 
-  whole_both : AreWholeItems (b.body ++ ts)
-  whole_both = λ more.
+  -- the tokens of the body before `next` are whole items
+  AreWholeItems-taken : AreWholeItems (b.body ++ ts)
+  AreWholeItems-taken = λ more.
       ap (body_from ready) (append_assoc b.body ts more)
       ∙ b.whole (ts ++ more)
       ∙ ap (λ (items : List BodyItem). body_from ready b.body ++ items) (item.whole more)
       ∙ sym (append_assoc (body_from ready b.body) (body_from ready ts) (body_from ready more))
       ∙ ap (λ (items : List BodyItem). items ++ body_from ready more) (sym (b.whole ts))
 
-  pub between_next : IsBetweenItems text next
-  between_next = record {
+  -- after the item that is taken, the place `next` is between two items
+  pub IsBetweenItems-next : IsBetweenItems text next
+  IsBetweenItems-next = record {
     within = taken.within;
     detached = taken.detached;
     body = b.body ++ ts;
     ended = ended;
-    whole = whole_both;
+    whole = AreWholeItems-taken;
   }
 
-  pub times_next : times_left (record { text = text; at = at })
+  -- the times that are left at `at` are those of the item, and those left at `next`
+  pub times_left-next : times_left (record { text = text; at = at })
       ≡ times ++ times_left (record { text = text; at = next })
-  times_next =
+  times_left-next =
       ap (λ (all : List Token). item_times (body_from ready all)) taken.left
       ∙ ap item_times (item.whole (tokens_after 1 text next))
       ∙ item_times-append (body_from ready ts) (body_from ready (tokens_after 1 text next))
@@ -264,15 +288,18 @@ module _ (text : List ℕ) (at next : ℕ) (ts : List Token) (times : List ℕ) 
 -- ---- one token, and more, are taken
 
 module _ (text : List ℕ) (at next : ℕ) (bytes : List ℕ) (one : IsNextToken text at next bytes) where
+  -- the token that is taken
   abbrev pub token : Token
   token = record { line = one.line; bytes = bytes }
 
-  pub one_taken : AreTaken text at next (token ∷ [])
-  one_taken = record { within = one.within; detached = one.detached; left = one.left; taken = one.taken }
+  -- the one token is taken
+  pub AreTaken-one : AreTaken text at next (token ∷ [])
+  AreTaken-one = record { within = one.within; detached = one.detached; left = one.left; taken = one.taken }
 
-  pub two_taken : (end : ℕ) (code : List ℕ) (two : IsNextToken text next end code)
+  -- the token and the one after it are taken
+  pub AreTaken-two : (end : ℕ) (code : List ℕ) (two : IsNextToken text next end code)
       → AreTaken text at end (token ∷ record { line = two.line; bytes = code } ∷ [])
-  two_taken end code two = record {
+  AreTaken-two end code two = record {
     within = two.within;
     detached = two.detached;
     left = one.left ∙ ap (λ (ts : List Token). token ∷ ts) two.left;
@@ -280,9 +307,10 @@ module _ (text : List ℕ) (at next : ℕ) (bytes : List ℕ) (one : IsNextToken
         ∙ append_assoc (tokens (take at text)) (token ∷ []) (record { line = two.line; bytes = code } ∷ []);
   }
 
-  pub section_taken : (end : ℕ) (e : IsTakenToEnd text next end)
+  -- the token, and the tokens up to and including the next `$end`, are taken
+  pub AreTaken-section : (end : ℕ) (e : IsTakenToEnd text next end)
       → AreTaken text at end (token ∷ (e.words ++ e.last ∷ []))
-  section_taken end e = record {
+  AreTaken-section end e = record {
     within = e.within;
     detached = e.detached;
     left = one.left ∙ ap (λ (ts : List Token). token ∷ ts) (e.left
@@ -293,77 +321,88 @@ module _ (text : List ℕ) (at next : ℕ) (bytes : List ℕ) (one : IsNextToken
 
 -- ---- a time is taken
 
-number_by : (a b : Bool) (n time : ℕ) → if_time (cond a (cond b (Ok n) (Err NumberTooLarge)) (Err BadToken)) ≡ Some time
+-- a time that both tests let pass is the number
+number-by_tests : (a b : Bool) (n time : ℕ) → if_time (cond a (cond b (Ok n) (Err NumberTooLarge)) (Err BadToken))
+    ≡ Some time
     → n ≡ time
-number_by true true n time e = ap (λ (o : Option ℕ). unwrap_or o 0) e
-number_by true false n time e = absurd cc
-number_by false b n time e = absurd cc
+number-by_tests true true n time e = ap (λ (o : Option ℕ). unwrap_or o 0) e
+number-by_tests true false n time e = absurd cc
+number-by_tests false b n time e = absurd cc
 
-pub time_number : (digits : List ℕ) (time : ℕ) → if_time (time_of digits) ≡ Some time → number digits ≡ time
-time_number digits time e = number_by (is_number digits) (nat_lt (number digits) (2 ^ 64)) (number digits) time e
+-- a time below 2^64 is the number of its digits
+pub number-if_time : (digits : List ℕ) (time : ℕ) → if_time (time_of digits) ≡ Some time → number digits ≡ time
+number-if_time digits time e = number-by_tests (is_number digits) (nat_lt (number digits) (2 ^ 64)) (number digits) time
+    e
 
-pub at_time : (text : List ℕ) (at next : ℕ) (bytes digits : List ℕ) (time : ℕ) (b : IsBetweenItems text at)
+-- after a token that is a time below 2^64, the place is between two items, and this is the current time
+pub IsAtTime-time : (text : List ℕ) (at next : ℕ) (bytes digits : List ℕ) (time : ℕ) (b : IsBetweenItems text at)
     (one : IsNextToken text at next bytes) → kind_of (shape_of bytes) ≡ time_kind digits
     → if_time (time_of digits) ≡ Some time → IsAtTime text time next
 unfolding body_from
-at_time text at next bytes digits time b one is e =
+IsAtTime-time text at next bytes digits time b one is e =
     let t : Token = token text at next bytes one in
-    let item = time_is_item t digits is in
-    let next_between = between_next text at next (t ∷ []) (cons_option (if_time (time_of digits)) []) b
-    (one_taken text at next bytes one) item in
+    let item = IsItem-time t digits is in
+    let next_between = IsBetweenItems-next text at next (t ∷ []) (cons_option (if_time (time_of digits)) []) b
+    (AreTaken-one text at next bytes one) item in
     record {
       within = next_between.within;
       detached = next_between.detached;
       body = b.body ++ t ∷ [];
       ended = ended text at next (t ∷ []) (cons_option (if_time (time_of digits)) []) b
-          (one_taken text at next bytes one) item;
-      whole = whole_both text at next (t ∷ []) (cons_option (if_time (time_of digits)) []) b
-          (one_taken text at next bytes one) item;
+          (AreTaken-one text at next bytes one) item;
+      whole = AreWholeItems-taken text at next (t ∷ []) (cons_option (if_time (time_of digits)) []) b
+          (AreTaken-one text at next bytes one) item;
       time_is = ap (last_time 0) (b.whole (t ∷ [])
-          ∙ ap (λ (items : List BodyItem). body_from ready b.body ++ items) (time_read t digits is []))
-          ∙ last_behind (body_from ready b.body) 0 t.line digits ∙ time_number digits time e;
+          ∙ ap (λ (items : List BodyItem). body_from ready b.body ++ items) (body_from-time t digits is []))
+          ∙ last_time-push (body_from ready b.body) 0 t.line digits ∙ number-if_time digits time e;
     }
 
 -- a time token below 2^64 is an item with this time
-pub timed : (t : Token) (digits : List ℕ) (time : ℕ) → kind_of (shape_of t.bytes) ≡ time_kind digits
+pub IsItem-timed : (t : Token) (digits : List ℕ) (time : ℕ) → kind_of (shape_of t.bytes) ≡ time_kind digits
     → if_time (time_of digits) ≡ Some time → IsItem (t ∷ []) (time ∷ [])
-timed t digits time is e = subst (λ (o : Option ℕ). IsItem (t ∷ []) (cons_option o [])) e (time_is_item t digits is)
+IsItem-timed t digits time is e = subst (λ (o : Option ℕ). IsItem (t ∷ []) (cons_option o [])) e
+    (IsItem-time t digits is)
 
 -- a time token whose digits aren't a number below 2^64 is an item without a time
-pub untimed : (t : Token) (digits : List ℕ) → kind_of (shape_of t.bytes) ≡ time_kind digits
+pub IsItem-untimed : (t : Token) (digits : List ℕ) → kind_of (shape_of t.bytes) ≡ time_kind digits
     → if_time (time_of digits) ≡ None → IsItem (t ∷ []) []
-untimed t digits is e = subst (λ (o : Option ℕ). IsItem (t ∷ []) (cons_option o [])) e (time_is_item t digits is)
+IsItem-untimed t digits is e = subst (λ (o : Option ℕ). IsItem (t ∷ []) (cons_option o [])) e (IsItem-time t digits is)
 
 -- after an item without a time, `next` is between two items, and the same times are left
-pub passed : (text : List ℕ) (at next : ℕ) (ts : List Token) → IsBetweenItems text at → AreTaken text at next ts
+pub IsBetweenItems-without_time : (text : List ℕ) (at next : ℕ) (ts : List Token) → IsBetweenItems text at
+    → AreTaken text at next ts
     → IsItem ts []
     → IsBetweenItems text next
     × (times_left (record { text = text; at = next }) ≡ times_left (record { text = text; at = at }))
-passed text at next ts b taken item =
-    (between_next text at next ts [] b taken item, sym (times_next text at next ts [] b taken item))
+IsBetweenItems-without_time text at next ts b taken item =
+    (IsBetweenItems-next text at next ts [] b taken item, sym (times_left-next text at next ts [] b taken item))
 
 -- ---- no time is left
 
-pub if_none : {A : Type 0} (o : Option A) (P : Type 0) → P → IfNone o P
-if_none None P p = p
-if_none (Some a) P p = tt
+-- what holds anyway holds if there is no value
+pub IfNone-always : {A : Type 0} (o : Option A) (P : Type 0) → P → IfNone o P
+IfNone-always None P p = p
+IfNone-always (Some a) P p = tt
 
-pub no_times_left : (text : List ℕ) (at : ℕ) → tokens_after 1 text at ≡ []
+-- where no token is left, no time is left
+pub times_left-no_tokens : (text : List ℕ) (at : ℕ) → tokens_after 1 text at ≡ []
     → times_left (record { text = text; at = at }) ≡ []
 unfolding body_from item_times
-no_times_left text at empty = ap (λ (ts : List Token). item_times (body_from ready ts)) empty
+times_left-no_tokens text at empty = ap (λ (ts : List Token). item_times (body_from ready ts)) empty
 
-pub code_last : (text : List ℕ) (at next : ℕ) (bytes : List ℕ) (one : IsNextToken text at next bytes)
+-- where a token whose code is missing is the last, no time is left
+pub times_left-code_missing : (text : List ℕ) (at next : ℕ) (bytes : List ℕ) (one : IsNextToken text at next bytes)
     → kind_of (shape_of bytes) ≡ code_kind → tokens_after 1 text next ≡ []
     → times_left (record { text = text; at = at }) ≡ []
-code_last text at next bytes one is empty =
+times_left-code_missing text at next bytes one is empty =
     let t : Token = token text at next bytes one in
     ap (λ (ts : List Token). item_times (body_from ready ts)) (one.left ∙ ap (λ (ts : List Token). t ∷ ts) empty)
-    ∙ code_alone t is
+    ∙ item_times-code_alone t is
 
-pub comment_last : (text : List ℕ) (at next : ℕ) (bytes : List ℕ) (one : IsNextToken text at next bytes)
+-- from a comment on that has no `$end`, no time is left
+pub times_left-comment_unended : (text : List ℕ) (at next : ℕ) (bytes : List ℕ) (one : IsNextToken text at next bytes)
     → kind_of (shape_of bytes) ≡ comment_kind → list_any ends_section (tokens_after 1 text next) ≡ false
     → times_left (record { text = text; at = at }) ≡ []
-comment_last text at next bytes one is none_ends =
+times_left-comment_unended text at next bytes one is none_ends =
     ap (λ (ts : List Token). item_times (body_from ready ts)) one.left
-    ∙ comment_alone (token text at next bytes one) (tokens_after 1 text next) is none_ends
+    ∙ item_times-comment_alone (token text at next bytes one) (tokens_after 1 text next) is none_ends

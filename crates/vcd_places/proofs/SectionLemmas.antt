@@ -1,4 +1,4 @@
--- The sections of the definitions, as they are taken.
+-- After a section that is taken, or a token outside one, the definitions continue, end, or never end.
 use Rattle.std.proofs.Common.{◌≡◌, ℕ, Bool, true, false, List, [], ◌∷◌, ◌++◌, Option, Some, None, length}
 use Rattle.std.proofs.Common.{take, drop, refl, sym, ap, ◌∙◌, true≢false}
 use Rattle.std.specs.Prelude.{not, ◌&&◌, ◌||◌, bytes_eq, codes, is_some, unwrap_or}
@@ -17,12 +17,13 @@ use Rattle.vcd_places.specs.Places.{IsAtTime, begins_with_token, body_in, ends_a
 use Rattle.vcd_places.specs.Places.{is_between_sections, is_unfinished, item_times, starts_at_boundary, times_of_body}
 use Rattle.vcd_places.specs.NextTokens.{IsNextToken, IsTakenToEnd, IsTokenAt, ends_section, is_token_boundary}
 use Rattle.vcd_places.specs.Times.{IsBetweenItems, times_left}
-use Rattle.vcd_places.proofs.InsertionLemmas.{IsBetweenSections, after_items, body_extended, header_split}
-use Rattle.vcd_places.proofs.ItemLemmas.{section_taken, token}
-use Rattle.vcd_places.proofs.NextTokenLemmas.{tokens_at_boundary, tokens_detached}
+use Rattle.vcd_places.proofs.InsertionLemmas.{IsBetweenSections, after_items, ExtendsBody-all, SplitsHeader-all}
+use Rattle.vcd_places.proofs.ItemLemmas.{AreTaken-section, token}
+use Rattle.vcd_places.proofs.NextTokenLemmas.{tokens-at_boundary, tokens-detached}
 
 -- ---- a section
 
+-- the section with the words of these tokens after its own
 words_of : Section → List Token → Section
 words_of section [] = section
 words_of section (w ∷ words) = words_of (with_word section w.bytes) words
@@ -38,39 +39,42 @@ continued section t ts test kind = elim test as (λ _. Header) [
   | false ↦ header_from (inside (with_word section t.bytes)) ts
 ]
 
-section_ends : (section : Section) (words : List Token) (last : Token) (more : List Token)
+-- from inside `$enddefinitions` on, the tokens after its `$end` are the body
+header_from-end_definitions : (section : Section) (words : List Token) (last : Token) (more : List Token)
     → list_any ends_section words ≡ false → is_end last.bytes ≡ true → ends_definitions section ≡ true
     → header_from (inside section) (words ++ last ∷ more) ≡ record { items = []; body = Some more }
 unfolding header_from
-section_ends section [] last more none ends is =
+header_from-end_definitions section [] last more none ends is =
     ap (λ (test : Bool). continued section last more test (ends_definitions section)) ends
     ∙ ap (continued section last more true) is
-section_ends section (w ∷ words) last more none ends is =
+header_from-end_definitions section (w ∷ words) last more none ends is =
     let parts = or_parts (is_end w.bytes) (list_any ends_section words) none in
     ap (λ (test : Bool). continued section w (words ++ last ∷ more) test (ends_definitions section)) parts.0
-    ∙ section_ends (with_word section w.bytes) words last more parts.1 ends is
+    ∙ header_from-end_definitions (with_word section w.bytes) words last more parts.1 ends is
 
-section_whole : (section : Section) (words : List Token) (last : Token) (more : List Token)
+-- from inside another section on, it is an item, with its words up to its `$end`, and the header goes on
+header_from-whole_section : (section : Section) (words : List Token) (last : Token) (more : List Token)
     → list_any ends_section words ≡ false → is_end last.bytes ≡ true → ends_definitions section ≡ false
     → header_from (inside section) (words ++ last ∷ more)
     ≡ with_item (whole (words_of section words)) (header_from between more)
 unfolding header_from words_of
-section_whole section [] last more none ends is =
+header_from-whole_section section [] last more none ends is =
     ap (λ (test : Bool). continued section last more test (ends_definitions section)) ends
     ∙ ap (continued section last more true) is
-section_whole section (w ∷ words) last more none ends is =
+header_from-whole_section section (w ∷ words) last more none ends is =
     let parts = or_parts (is_end w.bytes) (list_any ends_section words) none in
     ap (λ (test : Bool). continued section w (words ++ last ∷ more) test (ends_definitions section)) parts.0
-    ∙ section_whole (with_word section w.bytes) words last more parts.1 ends is
+    ∙ header_from-whole_section (with_word section w.bytes) words last more parts.1 ends is
 
-section_endless : (section : Section) (words : List Token) → list_any ends_section words ≡ false
+-- from inside a section without `$end` on, there is no body
+header_from-endless_section : (section : Section) (words : List Token) → list_any ends_section words ≡ false
     → (header_from (inside section) words).body ≡ None
 unfolding header_from
-section_endless section [] none = refl
-section_endless section (w ∷ words) none =
+header_from-endless_section section [] none = refl
+header_from-endless_section section (w ∷ words) none =
     let parts = or_parts (is_end w.bytes) (list_any ends_section words) none in
     ap (λ (test : Bool). (continued section w words test (ends_definitions section)).body) parts.0
-    ∙ section_endless (with_word section w.bytes) words parts.1
+    ∙ header_from-endless_section (with_word section w.bytes) words parts.1
 
 -- the header from a token `t` between two sections on, where `test` is whether `t` opens a section
 abbrev opened_by : Token → List Token → Bool → Header
@@ -81,114 +85,130 @@ opened_by t ts test = elim test as (λ _. Header) [
 
 -- ---- the definitions continue
 
-header_between_sections : (front : List ℕ) → is_between_sections front ≡ true
+-- the header of a text that ends between two sections has no body, and none of its items is unfinished
+IsBetweenSections-header : (front : List ℕ) → is_between_sections front ≡ true
     → IsBetweenSections (header_from between (tokens front))
-header_between_sections front between_sections =
+IsBetweenSections-header front between_sections =
     let header : Header = header_from between (tokens front) in
     let parts = and_parts (not (is_some header.body)) (not (list_any is_unfinished header.items)) between_sections in
     (not-true (is_some header.body) parts.0, not-true (list_any is_unfinished header.items) parts.1)
 
-pub between_sections_at_start : (text : List ℕ) → is_between_sections (take 0 text) ≡ true
+-- the start of a text is between two sections
+pub is_between_sections-start : (text : List ℕ) → is_between_sections (take 0 text) ≡ true
 unfolding header_from cut_from
-between_sections_at_start text = refl
+is_between_sections-start text = refl
 
-split_at : (text : List ℕ) (at : ℕ) → is_between_sections (take at text) ≡ true → (ts : List Token)
+-- where the text up to `at` ends between two sections, its items come before those of the tokens `ts` after it
+header_from-split_at : (text : List ℕ) (at : ℕ) → is_between_sections (take at text) ≡ true → (ts : List Token)
     → header_from between (tokens (take at text) ++ ts)
     ≡ after_items (header_from between (tokens (take at text))).items (header_from between ts)
-split_at text at between_sections ts =
-    header_split ts (tokens (take at text)) between (header_between_sections (take at text) between_sections)
+header_from-split_at text at between_sections ts =
+    SplitsHeader-all ts (tokens (take at text)) between (IsBetweenSections-header (take at text) between_sections)
 
 -- if neither `items` nor `last` is unfinished, and there is no body, `front` ends between two sections
-still_between : (front : List ℕ) (items : List HeaderItem) (last : HeaderItem) → list_any is_unfinished items ≡ false
+is_between_sections-item : (front : List ℕ) (items : List HeaderItem) (last : HeaderItem) → list_any is_unfinished items
+    ≡ false
     → is_unfinished last ≡ false
     → header_from between (tokens front) ≡ record { items = items ++ last ∷ []; body = None }
     → is_between_sections front ≡ true
-still_between front items last none is e =
+is_between_sections-item front items last none is e =
     ap (λ (h : Header). not (is_some h.body) && not (list_any is_unfinished h.items)) e
     ∙ ap not (list_any-append is_unfinished items (last ∷ [])
     ∙ ap (λ (test : Bool). test || (is_unfinished last || false)) none ∙ ap (λ (test : Bool). test || false) is)
 
 module _ (text : List ℕ) (at next : ℕ) (bytes : List ℕ) (between_sections : is_between_sections (take at text) ≡ true)
     (one : IsNextToken text at next bytes) where
+  -- the token that is taken
   abbrev first : Token
   first = token text at next bytes one
 
+  -- the items of the definitions before it
   abbrev items : List HeaderItem
   items = (header_from between (tokens (take at text))).items
 
+  -- none of these items is unfinished
   none_unfinished : list_any is_unfinished items ≡ false
-  none_unfinished = (header_between_sections (take at text) between_sections).1
+  none_unfinished = (IsBetweenSections-header (take at text) between_sections).1
 
   -- after a token that opens no section, the definitions continue
-  pub between_sections_after_stray : opens_section bytes ≡ false → is_between_sections (take next text) ≡ true
+  pub is_between_sections-stray : opens_section bytes ≡ false → is_between_sections (take next text) ≡ true
   unfolding header_from
-  between_sections_after_stray opens =
-      still_between (take next text) items (stray one.line) none_unfinished refl
-      (ap (header_from between) one.taken ∙ split_at text at between_sections (first ∷ [])
+  is_between_sections-stray opens =
+      is_between_sections-item (take next text) items (stray one.line) none_unfinished refl
+      (ap (header_from between) one.taken ∙ header_from-split_at text at between_sections (first ∷ [])
       ∙ ap (after_items items) (ap (opened_by first []) opens))
 
-  header_opened : (ts : List Token) → opens_section bytes ≡ true
+  -- from a token on that opens a section, the header is that from inside the section on
+  header_from-opened : (ts : List Token) → opens_section bytes ≡ true
       → header_from between (first ∷ ts) ≡ header_from (inside (opened first)) ts
   unfolding header_from
-  header_opened ts opens = ap (opened_by first ts) opens
+  header_from-opened ts opens = ap (opened_by first ts) opens
 
   module _ (end : ℕ) (opens : opens_section bytes ≡ true) (e : IsTakenToEnd text next end) where
+    -- the tokens up to `end` are those before the section, and its own
     tokens_up_to_end : tokens (take end text) ≡ tokens (take at text) ++ first ∷ (e.words ++ e.last ∷ [])
-    tokens_up_to_end = (section_taken text at next bytes one end e).taken
+    tokens_up_to_end = (AreTaken-section text at next bytes one end e).taken
 
-    header_at : header_from between (tokens (take end text))
+    -- the header up to `end` has the items before the section, and then what the section gives
+    header_from-up_to_end : header_from between (tokens (take end text))
         ≡ after_items items (header_from (inside (opened first)) (e.words ++ e.last ∷ []))
-    header_at =
-        ap (header_from between) tokens_up_to_end ∙ split_at text at between_sections (first ∷ (e.words ++ e.last ∷ []))
-        ∙ ap (after_items items) (header_opened (e.words ++ e.last ∷ []) opens)
+    header_from-up_to_end =
+        ap (header_from between) tokens_up_to_end ∙ header_from-split_at text at between_sections
+        (first ∷ (e.words ++ e.last ∷ []))
+        ∙ ap (after_items items) (header_from-opened (e.words ++ e.last ∷ []) opens)
 
     -- after a section other than `$enddefinitions`, the definitions continue
-    pub between_sections_after_whole : bytes_eq bytes (codes "$enddefinitions") ≡ false
+    pub is_between_sections-whole : bytes_eq bytes (codes "$enddefinitions") ≡ false
         → is_between_sections (take end text) ≡ true
     unfolding header_from
-    between_sections_after_whole is =
-        still_between (take end text) items (whole (words_of (opened first) e.words)) none_unfinished refl
-        (header_at ∙ ap (after_items items) (section_whole (opened first) e.words e.last [] e.none e.ends is))
+    is_between_sections-whole is =
+        is_between_sections-item (take end text) items (whole (words_of (opened first) e.words)) none_unfinished refl
+        (header_from-up_to_end ∙ ap (after_items items) (header_from-whole_section (opened first) e.words e.last []
+        e.none e.ends is))
 
-    body_empty : bytes_eq bytes (codes "$enddefinitions") ≡ true → body_in (take end text) ≡ Some []
-    body_empty is =
-        ap (λ (h : Header). h.body) header_at
-        ∙ ap (λ (h : Header). h.body) (section_ends (opened first) e.words e.last [] e.none e.ends is)
+    -- after the section `$enddefinitions` the body has no tokens yet
+    body_in-end_definitions : bytes_eq bytes (codes "$enddefinitions") ≡ true → body_in (take end text) ≡ Some []
+    body_in-end_definitions is =
+        ap (λ (h : Header). h.body) header_from-up_to_end
+        ∙ ap (λ (h : Header). h.body) (header_from-end_definitions (opened first) e.words e.last [] e.none e.ends is)
 
     -- the place after the section `$enddefinitions` is one of the body, at time 0
-    pub at_time_0 : bytes_eq bytes (codes "$enddefinitions") ≡ true → IsAtTime text 0 end
+    pub IsAtTime-start_of_body : bytes_eq bytes (codes "$enddefinitions") ≡ true → IsAtTime text 0 end
     unfolding body_from last_time
-    at_time_0 is = record {
+    IsAtTime-start_of_body is = record {
       within = e.within;
       detached = e.detached;
       body = [];
-      ended = body_empty is;
+      ended = body_in-end_definitions is;
       whole = λ more. refl;
       time_is = refl;
     }
 
-    pub between_items : bytes_eq bytes (codes "$enddefinitions") ≡ true → IsBetweenItems text end
+    -- the place after the section `$enddefinitions` is between two items
+    pub IsBetweenItems-start_of_body : bytes_eq bytes (codes "$enddefinitions") ≡ true → IsBetweenItems text end
     unfolding body_from
-    between_items is = record {
+    IsBetweenItems-start_of_body is = record {
       within = e.within;
       detached = e.detached;
       body = [];
-      ended = body_empty is;
+      ended = body_in-end_definitions is;
       whole = λ more. refl;
     }
 
-    pub all_times_left : bytes_eq bytes (codes "$enddefinitions") ≡ true
+    -- after the section `$enddefinitions` all times of the body are left
+    pub times_left-start_of_body : bytes_eq bytes (codes "$enddefinitions") ≡ true
         → times_left (record { text = text; at = end }) ≡ times_of_body text
-    all_times_left is =
+    times_left-start_of_body is =
         sym (ap (λ (o : Option (List Token)). item_times (body_from ready (unwrap_or o [])))
-        (ap (λ (ts : List Token). (header_from between ts).body) (tokens_detached text end e.detached)
+        (ap (λ (ts : List Token). (header_from between ts).body) (tokens-detached text end e.detached)
         ∙ ap (λ (h : Header). h.body)
-        (body_extended (tokens_after 1 text end) (tokens (take end text)) between [] (body_empty is))))
+        (ExtendsBody-all (tokens_after 1 text end) (tokens (take end text)) between [] (body_in-end_definitions is))))
 
   -- if the token is `$enddefinitions`, the section that ends the definitions begins at its start
-  pub starts_at : (start : ℕ) → IsTokenAt text at next start bytes → bytes_eq bytes (codes "$enddefinitions") ≡ true
+  pub ends_definitions_at-start : (start : ℕ) → IsTokenAt text at next start bytes
+      → bytes_eq bytes (codes "$enddefinitions") ≡ true
       → ends_definitions_at text start ≡ true
-  starts_at start stands is =
+  ends_definitions_at-start start stands is =
       let word : bytes ≡ codes "$enddefinitions" = (bytes_eq-Decides bytes (codes "$enddefinitions")).0 is in
       let len : length bytes ≡ 15 = ap (λ (bs : List ℕ). length bs) word in
       let begins : take 15 (drop start text) ≡ codes "$enddefinitions" =
@@ -204,26 +224,27 @@ module _ (text : List ℕ) (at next : ℕ) (bytes : List ℕ) (between_sections 
       (ap (λ (n : ℕ). starts_at_boundary (drop n (drop start text))) (sym len) ∙ stands.end_detached))
 
   -- if a section has no `$end`, the text has no body
-  pub unended_has_no_body : is_token_boundary text at ≡ true → opens_section bytes ≡ true
+  pub body_in-endless_section : is_token_boundary text at ≡ true → opens_section bytes ≡ true
       → list_any ends_section (tokens_after 1 text next) ≡ false → body_in text ≡ None
-  unended_has_no_body boundary opens endless =
+  body_in-endless_section boundary opens endless =
       ap (λ (ts : List Token). (header_from between ts).body)
-      (tokens_at_boundary text at boundary ∙ ap (λ (ts : List Token). tokens (take at text) ++ ts) one.left)
-      ∙ ap (λ (h : Header). h.body) (split_at text at between_sections (first ∷ tokens_after 1 text next)
-      ∙ ap (after_items items) (header_opened (tokens_after 1 text next) opens))
-      ∙ section_endless (opened first) (tokens_after 1 text next) endless
+      (tokens-at_boundary text at boundary ∙ ap (λ (ts : List Token). tokens (take at text) ++ ts) one.left)
+      ∙ ap (λ (h : Header). h.body) (header_from-split_at text at between_sections (first ∷ tokens_after 1 text next)
+      ∙ ap (after_items items) (header_from-opened (tokens_after 1 text next) opens))
+      ∙ header_from-endless_section (opened first) (tokens_after 1 text next) endless
 
-no_body : (o : Option (List Token)) → is_some o ≡ false → o ≡ None
-no_body None e = refl
-no_body (Some body) e = absurd (true≢false e)
+-- what isn't there is none
+none-not_some : (o : Option (List Token)) → is_some o ≡ false → o ≡ None
+none-not_some None e = refl
+none-not_some (Some body) e = absurd (true≢false e)
 
 -- if no token is left after the last section, and the definitions haven't ended, the text has no body
-pub no_body_at_text_end : (text : List ℕ) (at : ℕ) → is_between_sections (take at text) ≡ true
+pub body_in-end_of_text : (text : List ℕ) (at : ℕ) → is_between_sections (take at text) ≡ true
     → is_token_boundary text at ≡ true
     → tokens_after 1 text at ≡ [] → body_in text ≡ None
-no_body_at_text_end text at between_sections boundary left =
+body_in-end_of_text text at between_sections boundary left =
     ap (λ (ts : List Token). (header_from between ts).body)
-    (tokens_at_boundary text at boundary ∙ ap (λ (ts : List Token). tokens (take at text) ++ ts) left
+    (tokens-at_boundary text at boundary ∙ ap (λ (ts : List Token). tokens (take at text) ++ ts) left
     ∙ append-nil (tokens (take at text)))
-    ∙ no_body (header_from between (tokens (take at text))).body
-    (header_between_sections (take at text) between_sections).0
+    ∙ none-not_some (header_from between (tokens (take at text))).body
+    (IsBetweenSections-header (take at text) between_sections).0

@@ -1,4 +1,4 @@
--- A string with a declared code between the items of a body: what is read of the body stays the same.
+-- A string with a declared code between two items of a body leaves what is read of the body as it was.
 use Rattle.std.proofs.Common.{◌≡◌, ℕ, Bool, false, cond, List, [], ◌∷◌, ◌++◌, Option, Some, Result, Ok, Err}
 use Rattle.std.proofs.Common.{refl, ap, ◌∙◌, arith, length}
 use Rattle.std.specs.Prelude.{map, nat_eq, nat_lt}
@@ -19,64 +19,73 @@ abbrev pub instants_in : List Net → List BodyItem → Result (List Instant) Vc
 instants_in nets items = context_after_all nets first_context items
     >>= λ end. at_the_end end >>= λ stood. Ok (instants_of nets items)
 
-pub then_same : {A B E : Type 0} (r : Result A E) (f g : A → Result B E) → ((a : A) → f a ≡ g a) → (r >>= f) ≡ (r >>= g)
-then_same (Ok a) f g same = same a
-then_same (Err e) f g same = refl
+-- functions that are the same make the same of a result
+pub bind-same : {A B E : Type 0} (r : Result A E) (f g : A → Result B E) → ((a : A) → f a ≡ g a) → (r >>= f) ≡ (r >>= g)
+bind-same (Ok a) f g same = same a
+bind-same (Err e) f g same = refl
 
-not_negative : (n : ℕ) → nat_lt n 0 ≡ false
-not_negative n = grind (arith, nat_tests)
+-- no number is below 0
+nat_lt-zero : (n : ℕ) → nat_lt n 0 ≡ false
+nat_lt-zero n = grind (arith, nat_tests)
 
+-- `code`, which has the net `net`, is that of an item that is skipped on this line
 module _ (nets : List Net) (line net : ℕ) (code : List ℕ) (is : net_of nets code ≡ Some net) where
-  stands_still : (s : BodyContext) → context_after nets s (skipped line code) ≡ Ok s
-  stands_still s =
+  -- the item leaves the context as it was
+  context_after-skipped : (s : BodyContext) → context_after nets s (skipped line code) ≡ Ok s
+  context_after-skipped s =
       ap (λ (o : Option ℕ). at_line line (fitting nets 0 o >>= λ net. Ok s)) is
       ∙ ap (λ (test : Bool). at_line line (cond test (Err TooWide) (Ok net) >>= λ net. Ok s))
-      (not_negative (size_of nets net))
+      (nat_lt-zero (size_of nets net))
 
-  pub standing_same : (xs ys : List BodyItem) (s : BodyContext)
+  -- the context after the items is the same, or their fault
+  pub context_after_all-skipped : (xs ys : List BodyItem) (s : BodyContext)
       → context_after_all nets s (xs ++ skipped line code ∷ ys) ≡ context_after_all nets s (xs ++ ys)
   unfolding context_after_all
-  standing_same [] ys s =
-      ap (λ (r : Result BodyContext VcdFault). r >>= λ next. context_after_all nets next ys) (stands_still s)
-  standing_same (x ∷ xs) ys s = then_same (context_after nets s x) _ _ (λ next. standing_same xs ys next)
+  context_after_all-skipped [] ys s =
+      ap (λ (r : Result BodyContext VcdFault). r >>= λ next. context_after_all nets next ys) (context_after-skipped s)
+  context_after_all-skipped (x ∷ xs) ys s = bind-same (context_after nets s x) _ _
+      (λ next. context_after_all-skipped xs ys next)
 
-  pub changes_same : (xs ys : List BodyItem) (now : ℕ)
+  -- the changes are the same
+  pub changes_from-skipped : (xs ys : List BodyItem) (now : ℕ)
       → changes_from nets now (xs ++ skipped line code ∷ ys) ≡ changes_from nets now (xs ++ ys)
   unfolding changes_from
-  changes_same [] ys now = refl
-  changes_same (time_item l digits ∷ xs) ys now = changes_same xs ys (number digits)
-  changes_same (change l digits c ∷ xs) ys now =
-      ap (λ (cs : List NetChange). change_of nets now digits c ∷ cs) (changes_same xs ys now)
-  changes_same (skipped l c ∷ xs) ys now = changes_same xs ys now
-  changes_same (dump_section_open l ∷ xs) ys now = changes_same xs ys now
-  changes_same (dump_section_end l ∷ xs) ys now = changes_same xs ys now
-  changes_same (wrong l kind ∷ xs) ys now = changes_same xs ys now
+  changes_from-skipped [] ys now = refl
+  changes_from-skipped (time_item l digits ∷ xs) ys now = changes_from-skipped xs ys (number digits)
+  changes_from-skipped (change l digits c ∷ xs) ys now =
+      ap (λ (cs : List NetChange). change_of nets now digits c ∷ cs) (changes_from-skipped xs ys now)
+  changes_from-skipped (skipped l c ∷ xs) ys now = changes_from-skipped xs ys now
+  changes_from-skipped (dump_section_open l ∷ xs) ys now = changes_from-skipped xs ys now
+  changes_from-skipped (dump_section_end l ∷ xs) ys now = changes_from-skipped xs ys now
+  changes_from-skipped (wrong l kind ∷ xs) ys now = changes_from-skipped xs ys now
 
-  pub times_same : (xs ys : List BodyItem) (now : ℕ)
+  -- the times are the same
+  pub times_from-skipped : (xs ys : List BodyItem) (now : ℕ)
       → times_from now (xs ++ skipped line code ∷ ys) ≡ times_from now (xs ++ ys)
   unfolding times_from
-  times_same [] ys now = refl
-  times_same (time_item l digits ∷ xs) ys now =
-      ap (λ (ts : List ℕ). number digits ∷ ts) (times_same xs ys (number digits))
-  times_same (change l digits c ∷ xs) ys now = ap (λ (ts : List ℕ). now ∷ ts) (times_same xs ys now)
-  times_same (skipped l c ∷ xs) ys now = times_same xs ys now
-  times_same (dump_section_open l ∷ xs) ys now = times_same xs ys now
-  times_same (dump_section_end l ∷ xs) ys now = times_same xs ys now
-  times_same (wrong l kind ∷ xs) ys now = times_same xs ys now
+  times_from-skipped [] ys now = refl
+  times_from-skipped (time_item l digits ∷ xs) ys now =
+      ap (λ (ts : List ℕ). number digits ∷ ts) (times_from-skipped xs ys (number digits))
+  times_from-skipped (change l digits c ∷ xs) ys now = ap (λ (ts : List ℕ). now ∷ ts) (times_from-skipped xs ys now)
+  times_from-skipped (skipped l c ∷ xs) ys now = times_from-skipped xs ys now
+  times_from-skipped (dump_section_open l ∷ xs) ys now = times_from-skipped xs ys now
+  times_from-skipped (dump_section_end l ∷ xs) ys now = times_from-skipped xs ys now
+  times_from-skipped (wrong l kind ∷ xs) ys now = times_from-skipped xs ys now
 
-  pub instants_same : (xs ys : List BodyItem)
+  -- the instants are the same
+  pub instants_of-skipped : (xs ys : List BodyItem)
       → instants_of nets (xs ++ skipped line code ∷ ys) ≡ instants_of nets (xs ++ ys)
-  instants_same xs ys =
+  instants_of-skipped xs ys =
       ap (λ (cs : List NetChange). map (instant_at (length nets) cs)
-      (dedup nat_eq (times_from 0 (xs ++ skipped line code ∷ ys)))) (changes_same xs ys 0)
+      (dedup nat_eq (times_from 0 (xs ++ skipped line code ∷ ys)))) (changes_from-skipped xs ys 0)
       ∙ ap (λ (ts : List ℕ). map (instant_at (length nets) (changes_from nets 0 (xs ++ ys))) (dedup nat_eq ts))
-      (times_same xs ys 0)
+      (times_from-skipped xs ys 0)
 
   -- a body with the skipped item gives the same instants, or fault, as without it
-  pub skipped_in : (xs ys : List BodyItem)
+  pub instants_in-skipped : (xs ys : List BodyItem)
       → instants_in nets (xs ++ skipped line code ∷ ys) ≡ instants_in nets (xs ++ ys)
-  skipped_in xs ys =
+  instants_in-skipped xs ys =
       ap (λ (r : Result BodyContext VcdFault). r >>= λ end. at_the_end end
-      >>= λ stood. Ok (instants_of nets (xs ++ skipped line code ∷ ys))) (standing_same xs ys first_context)
+      >>= λ stood. Ok (instants_of nets (xs ++ skipped line code ∷ ys))) (context_after_all-skipped xs ys first_context)
       ∙ ap (λ (instants : List Instant). context_after_all nets first_context (xs ++ ys)
-      >>= λ end. at_the_end end >>= λ stood. Ok instants) (instants_same xs ys)
+      >>= λ end. at_the_end end >>= λ stood. Ok instants) (instants_of-skipped xs ys)

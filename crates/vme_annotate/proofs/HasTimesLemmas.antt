@@ -15,7 +15,7 @@ use Rattle.vcd_read.specs.Body.{at_the_end, body_from, context_after_all, first_
 use Rattle.vcd_read.specs.Meaning.{dump_of, instants_of, times_from}
 use Rattle.vcd_places.specs.Places.{item_times, times_of_body}
 use Rattle.vcd_places.specs.Times.{IsAscendingFrom, IsReached, is_among}
-use Rattle.vcd_places.proofs.TimeLemmas.{times_known, times_rise}
+use Rattle.vcd_places.proofs.TimeLemmas.{IsKnown-times_from, IsAscendingFrom-item_times}
 use Rattle.vme_bind.specs.Binding.{BoundLines}
 use Rattle.vme_bind.specs.BoundGroups.{bound_groups_in}
 use Rattle.vme_bind.specs.Capture.{recording, recording_of, step_at, time_of as instant_time}
@@ -153,7 +153,7 @@ module _ (dump : List ℕ) where
       (get_of_map _ (dedup nat_eq (times_from 0 items)) (λ t there.
       let among = Contains-from_dedup nat_eq (times_from 0 items) t there in
       subst (λ (times : List ℕ). (t ≡ 0) ⊎ (is_among t times ≡ true)) (sym told)
-      (times_known is.declared.nets items first_context read.0 0 t read.1
+      (IsKnown-times_from is.declared.nets items first_context read.0 0 t read.1
       (among_from (times_from 0 items) t among.0 among.1 among.2))) i)
 
   -- the time stamps of the body don't go back
@@ -165,4 +165,4 @@ module _ (dump : List ℕ) where
       let told : times_of_body dump ≡ item_times items =
       ap (λ (o : Option (List Token)). item_times (body_from ready (unwrap_or o []))) is.ends in
       subst (λ (times : List ℕ). IsAscendingFrom 0 times) (sym told)
-      (times_rise is.declared.nets items first_context read.0 read.1)
+      (IsAscendingFrom-item_times is.declared.nets items first_context read.0 read.1)

@@ -19,9 +19,9 @@ use Rattle.vcd_read.specs.Body.{BodyItem, body_from, ready}
 use Rattle.vcd_read.specs.Meaning.{body_of, dump_of}
 use Rattle.vcd_places.specs.Places.{begins_with_token, body_in, ends_at_boundary, ends_definitions_at}
 use Rattle.vcd_places.specs.Places.{is_between_sections}
-use Rattle.vcd_places.proofs.InsertionLemmas.{IsWord, after_items, words_read}
+use Rattle.vcd_places.proofs.InsertionLemmas.{IsWord, after_items, tokens_from-words}
 use Rattle.vcd_places.proofs.SkippedLemmas.{instants_in}
-use Rattle.vcd_places.proofs.AddedNetLemmas.{instants_stay, net_of_added, net_stays, still_free}
+use Rattle.vcd_places.proofs.AddedNetLemmas.{instants_in-all, net_of-added, net_of-all, net_of-still_none}
 use Rattle.vcd_places.proofs.StringStepLemmas.{IsShown, instants_of_text, items_of_text}
 use Rattle.vme_bind.specs.Binding.{BoundLines}
 use Rattle.vme_bind.specs.BoundGroups.{bound_groups_in}
@@ -75,54 +75,56 @@ module _ (nets : List Net) (c0 c1 c2 c3 : List ℕ) (are : AreFree nets (c0 ∷ 
   below_23 = are.ascend 2 (omega arith)
 
   new_1 : net_of (nets_1 c0 nets) c1 ≡ None
-  new_1 = still_free nets c0 1 c1 free_0.free (different_codes c0 c1 below_01) free_1.free
+  new_1 = net_of-still_none nets c0 1 c1 free_0.free (different_codes c0 c1 below_01) free_1.free
 
   after_0-2 : net_of (nets_1 c0 nets) c2 ≡ None
-  after_0-2 = still_free nets c0 1 c2 free_0.free (different_codes c0 c2 (omega (arith, below_01, below_12)))
+  after_0-2 = net_of-still_none nets c0 1 c2 free_0.free (different_codes c0 c2 (omega (arith, below_01, below_12)))
       free_2.free
 
   after_0-3 : net_of (nets_1 c0 nets) c3 ≡ None
-  after_0-3 = still_free nets c0 1 c3 free_0.free (different_codes c0 c3 (omega (arith, below_01, below_12, below_23)))
+  after_0-3 = net_of-still_none nets c0 1 c3 free_0.free (different_codes c0 c3
+      (omega (arith, below_01, below_12, below_23)))
       free_3.free
 
   new_2 : net_of (nets_2 c0 c1 nets) c2 ≡ None
-  new_2 = still_free (nets_1 c0 nets) c1 1 c2 new_1 (different_codes c1 c2 below_12) after_0-2
+  new_2 = net_of-still_none (nets_1 c0 nets) c1 1 c2 new_1 (different_codes c1 c2 below_12) after_0-2
 
   after_1-3 : net_of (nets_2 c0 c1 nets) c3 ≡ None
-  after_1-3 = still_free (nets_1 c0 nets) c1 1 c3 new_1 (different_codes c1 c3 (omega (arith, below_12, below_23)))
+  after_1-3 = net_of-still_none (nets_1 c0 nets) c1 1 c3 new_1
+      (different_codes c1 c3 (omega (arith, below_12, below_23)))
       after_0-3
 
   new_3 : net_of (nets_3 c0 c1 c2 nets) c3 ≡ None
-  new_3 = still_free (nets_2 c0 c1 nets) c2 1 c3 new_2 (different_codes c2 c3 below_23) after_1-3
+  new_3 = net_of-still_none (nets_2 c0 c1 nets) c2 1 c3 new_2 (different_codes c2 c3 below_23) after_1-3
 
   abbrev all : List Net
   all = nets_4 c0 c1 c2 c3 nets
 
   has_3 : net_of all c3 ≡ Some (length (nets_3 c0 c1 c2 nets))
-  has_3 = net_of_added (nets_3 c0 c1 c2 nets) c3 1 new_3
+  has_3 = net_of-added (nets_3 c0 c1 c2 nets) c3 1 new_3
 
   has_2 : net_of all c2 ≡ Some (length (nets_2 c0 c1 nets))
-  has_2 = net_stays (nets_3 c0 c1 c2 nets) c3 1 new_3 c2 (length (nets_2 c0 c1 nets))
-      (net_of_added (nets_2 c0 c1 nets) c2 1 new_2)
+  has_2 = net_of-all (nets_3 c0 c1 c2 nets) c3 1 new_3 c2 (length (nets_2 c0 c1 nets))
+      (net_of-added (nets_2 c0 c1 nets) c2 1 new_2)
 
   has_1 : net_of all c1 ≡ Some (length (nets_1 c0 nets))
-  has_1 = net_stays (nets_3 c0 c1 c2 nets) c3 1 new_3 c1 (length (nets_1 c0 nets))
-      (net_stays (nets_2 c0 c1 nets) c2 1 new_2 c1 (length (nets_1 c0 nets))
-      (net_of_added (nets_1 c0 nets) c1 1 new_1))
+  has_1 = net_of-all (nets_3 c0 c1 c2 nets) c3 1 new_3 c1 (length (nets_1 c0 nets))
+      (net_of-all (nets_2 c0 c1 nets) c2 1 new_2 c1 (length (nets_1 c0 nets))
+      (net_of-added (nets_1 c0 nets) c1 1 new_1))
 
   has_0 : net_of all c0 ≡ Some (length nets)
-  has_0 = net_stays (nets_3 c0 c1 c2 nets) c3 1 new_3 c0 (length nets)
-      (net_stays (nets_2 c0 c1 nets) c2 1 new_2 c0 (length nets)
-      (net_stays (nets_1 c0 nets) c1 1 new_1 c0 (length nets) (net_of_added nets c0 1 free_0.free)))
+  has_0 = net_of-all (nets_3 c0 c1 c2 nets) c3 1 new_3 c0 (length nets)
+      (net_of-all (nets_2 c0 c1 nets) c2 1 new_2 c0 (length nets)
+      (net_of-all (nets_1 c0 nets) c1 1 new_1 c0 (length nets) (net_of-added nets c0 1 free_0.free)))
 
   -- a body without a fault has the same instants when the four nets are added
   pub instants_four : (items : List BodyItem) (instants : List Instant) → instants_in nets items ≡ Ok instants
       → instants_in all items ≡ Ok instants
   instants_four items instants e =
-      instants_stay (nets_3 c0 c1 c2 nets) c3 1 new_3 items instants
-      (instants_stay (nets_2 c0 c1 nets) c2 1 new_2 items instants
-      (instants_stay (nets_1 c0 nets) c1 1 new_1 items instants
-      (instants_stay nets c0 1 free_0.free items instants e)))
+      instants_in-all (nets_3 c0 c1 c2 nets) c3 1 new_3 items instants
+      (instants_in-all (nets_2 c0 c1 nets) c2 1 new_2 items instants
+      (instants_in-all (nets_1 c0 nets) c1 1 new_1 items instants
+      (instants_in-all nets c0 1 free_0.free items instants e)))
 
   -- the text `text`, which is a word, is shown by the free code `code`, which has a net in `all`
   shown_by : (text code : List ℕ) (net : ℕ) → IsWord text → IsFree nets code → net_of all code ≡ Some net
@@ -251,7 +253,7 @@ module _ (dump : List ℕ) (contents : Contents) (is : IsDump dump contents) (t 
       let f3 = free_3 nets c0 c1 c2 c3 are in
       header_behind (declarations scope four ++ rest)
       ∙ ap (after_items (items_of_text front))
-      (ap (header_from between) (words_read line (declared_words scope four) rest
+      (ap (header_from between) (tokens_from-words line (declared_words scope four) rest
       (words_at underscores c0 c1 c2 c3 f0.some f1.some f2.some f3.some (code_word c0 f0.is_one)
       (code_word c1 f1.is_one) (code_word c2 f2.is_one) (code_word c3 f3.is_one)))
       ∙ header_declared scope c0 c1 c2 c3 line (tokens_from line rest) refl f0.no_end f1.no_end f2.no_end f3.no_end)

@@ -5,8 +5,9 @@ use Rattle.std.proofs.Common.{ap, ◌∙◌, arith, append_assoc}
 use Rattle.std.proofs.lemmas.List.{take-append-drop}
 use Rattle.vcd_read.specs.Header.{Net}
 use Rattle.vcd_places.specs.Places.{starts_at_boundary}
-use Rattle.vcd_places.proofs.StringStepLemmas.{EndsBehindItem, IsShown, instants_of_text, instants_with, items_of_text}
-use Rattle.vcd_places.proofs.StringStepLemmas.{items_with}
+use Rattle.vcd_places.proofs.StringStepLemmas.{EndsAfterItem, IsShown, instants_of_text, instants_of_text-string}
+use Rattle.vcd_places.proofs.StringStepLemmas.{items_of_text}
+use Rattle.vcd_places.proofs.StringStepLemmas.{items_of_text-string}
 use Rattle.vcd_places.proofs.InsertionLemmas.{string_text}
 use Rattle.vme_annotation.specs.Inserted.{PutChange, with_changes}
 use Rattle.vme_annotation.specs.Shown.{ShownChange}
@@ -44,7 +45,7 @@ part_apart (suc count) (b ∷ bytes) rest first second = first
 -- the change `p` is inserted after an item, at a token boundary, and its code has a net
 pub record IsPutIn (nets : List Net) (code_of : ShownChange → List ℕ) (dump : List ℕ) (p : PutChange) : Type 0 where
   pub shown : IsShown nets p.change.text (code_of p.change)
-  pub behind : EndsBehindItem (take p.place dump)
+  pub behind : EndsAfterItem (take p.place dump)
   pub detached : starts_at_boundary (drop p.place dump) ≡ true
 
 -- each change is inserted so, at places from `from` on that don't go back
@@ -90,10 +91,11 @@ module _ (nets : List Net) (code_of : ShownChange → List ℕ) (dump : List ℕ
       let detached = with_apart put p.place are.2 are.1.detached in
       let same = instants_same put p.place are.2 in (
         ap (instants_of_text nets) first
-            ∙ instants_with (take p.place dump) are.1.behind nets p.change.text (code_of p.change) rest are.1.shown
+            ∙ instants_of_text-string (take p.place dump) are.1.behind nets p.change.text (code_of p.change) rest
+            are.1.shown
             detached
             ∙ same.0,
         ap items_of_text first
-            ∙ items_with (take p.place dump) are.1.behind p.change.text (code_of p.change) rest detached
+            ∙ items_of_text-string (take p.place dump) are.1.behind p.change.text (code_of p.change) rest detached
             ∙ same.1,
       )

@@ -13,7 +13,7 @@ use Rattle.vcd_read.specs.Header.{declare_all, ends_definitions, header_from, in
 use Rattle.vcd_read.specs.Header.{whole, with_item, with_word}
 use Rattle.vcd_read.specs.Body.{body_from, ready}
 use Rattle.vcd_read.specs.Meaning.{body_of, dump_of, instants_from}
-use Rattle.vcd_places.proofs.InsertionLemmas.{declare_both}
+use Rattle.vcd_places.proofs.InsertionLemmas.{declare_all-append}
 use Rattle.vcd_places.proofs.SkippedLemmas.{instants_in}
 
 by_end : (section : Section) (t : Token) (ts : List Token) → ends_definitions section ≡ true → (body : List Token)
@@ -124,7 +124,7 @@ pub same_dump : (dump text : List ℕ) (contents : Contents) (is : IsDump dump c
 same_dump dump text contents is more declared body items ends declares comes =
     dump_by text declared body contents.instants
     (ap (declare_all appended (nothing_declared [])) items
-    ∙ declare_both appended (header_from between (tokens dump)).items more (nothing_declared [])
+    ∙ declare_all-append appended (header_from between (tokens dump)).items more (nothing_declared [])
     ∙ ap (λ (r : Result (Declared (List Variable)) VcdFault). r >>= λ next. declare_all appended next more) is.declares
     ∙ declares)
     ends comes

@@ -20,7 +20,7 @@ use Rattle.vcd_read.specs.Header.{header_from, inside, is_code, is_end, net_for,
 use Rattle.vcd_read.specs.Header.{opened, opens_section, size_of, stray, unfinished, var_words, whole, with_item}
 use Rattle.vcd_read.specs.Header.{with_word}
 use Rattle.vcd_read.specs.Header.{HeaderPlace}
-use Rattle.vcd_places.proofs.AddedNetLemmas.{still_free}
+use Rattle.vcd_places.proofs.AddedNetLemmas.{net_of-still_none}
 use Rattle.vcd_read.specs.CodeNumbers.{code_number}
 use Rattle.vcd_read.specs.Meaning.{body_of}
 use Rattle.vcd_read.specs.Sections.{Defined, header_of}
@@ -109,7 +109,7 @@ module _ (code : List ℕ) where
       → net_of nets other ≡ found → bytes_eq other code ≡ false → net_of nets code ≡ None
       → net_for nets other size found ≡ Ok joined → net_of joined.nets code ≡ None
   joined_lacks nets other size None joined is differs lacks e =
-      sym (ap nets_in e) ∙ still_free nets other size code is differs lacks
+      sym (ap nets_in e) ∙ net_of-still_none nets other size code is differs lacks
     where
       nets_in : Result JoinedNets FaultKind → Option ℕ
       nets_in (Ok j) = net_of j.nets code

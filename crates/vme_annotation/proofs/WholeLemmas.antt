@@ -20,8 +20,8 @@ use Rattle.vcd_read.specs.Header.{Declared, Header, HeaderItem, between, header_
 use Rattle.vcd_read.specs.Header.{is_code, is_code_byte, joined_by_dots, opened, path_of}
 use Rattle.vcd_places.specs.Places.{begins_with_token, body_in, ends_at_boundary, ends_definitions_at}
 use Rattle.vcd_places.specs.Places.{is_between_sections, is_unfinished, starts_at_boundary}
-use Rattle.vcd_places.proofs.InsertionLemmas.{AreWords, IsBetweenSections, IsWord, after_items, header_split}
-use Rattle.vcd_places.proofs.InsertionLemmas.{tokens_spaced, word_read}
+use Rattle.vcd_places.proofs.InsertionLemmas.{AreWords, IsBetweenSections, IsWord, after_items, SplitsHeader-all}
+use Rattle.vcd_places.proofs.InsertionLemmas.{tokens_from-append_spaced, tokens_from-word}
 use Rattle.vcd_places.proofs.StringStepLemmas.{items_of_text}
 use Rattle.vme_annotation.specs.Annotated.{declared_words}
 use Rattle.vme_annotation.specs.Fresh.{has_name, has_part, scope_name}
@@ -49,7 +49,7 @@ end_items line rest begins body ends =
     let read : tokens_from line rest
     ≡ record { line = line; bytes = codes "$enddefinitions" } ∷ tokens_from line (drop 15 rest) =
     ap (tokens_from line) whole
-    ∙ word_read line 36 (codes "enddefinitions") (drop 15 rest) refl parts.1 in
+    ∙ tokens_from-word line 36 (codes "enddefinitions") (drop 15 rest) refl parts.1 in
     let first : Token = record { line = line; bytes = codes "$enddefinitions" } in
     ap (λ (ts : List Token). (header_from between ts).items) read
     ∙ end_declares (tokens_from line (drop 15 rest)) (opened first) refl body
@@ -82,8 +82,8 @@ module _ (front : List ℕ) (ends : ends_at_boundary front ≡ true) (goes : is_
   pub header_with : (rest : List ℕ) → header_from between (tokens (front ++ rest))
       ≡ after_items (items_of_text front) (behind rest)
   header_with rest =
-      ap (header_from between) (tokens_spaced front rest 1 ends)
-      ∙ header_split (tokens_from line rest) (tokens front) between go_on
+      ap (header_from between) (tokens_from-append_spaced front rest 1 ends)
+      ∙ SplitsHeader-all (tokens_from line rest) (tokens front) between go_on
 
 -- all items of a dump are before `start`, where the section that ends its definitions begins
 pub items_before : (dump : List ℕ) (start : ℕ) → ends_definitions_at dump start ≡ true → (body : List Token)

@@ -1,16 +1,17 @@
 use Rattle.std.proofs.Common.{◌≡◌, true, false, refl, rules, sym, ◌∙◌, arith}
 use Rattle.std.specs.Prelude.{bytes_eq, codes}
-use Rattle.vcd_places.proofs.SectionLemmas.{all_times_left, at_time_0, between_items, between_sections_after_stray}
-use Rattle.vcd_places.proofs.SectionLemmas.{between_sections_after_whole, between_sections_at_start}
-use Rattle.vcd_places.proofs.SectionLemmas.{no_body_at_text_end, unended_has_no_body}
-use Rattle.vcd_places.proofs.NextTokenLemmas.{boundary_at_start, boundary_from}
+use Rattle.vcd_places.proofs.SectionLemmas.{times_left-start_of_body, IsAtTime-start_of_body}
+use Rattle.vcd_places.proofs.SectionLemmas.{IsBetweenItems-start_of_body, is_between_sections-stray}
+use Rattle.vcd_places.proofs.SectionLemmas.{is_between_sections-whole, is_between_sections-start}
+use Rattle.vcd_places.proofs.SectionLemmas.{body_in-end_of_text, body_in-endless_section}
+use Rattle.vcd_places.proofs.NextTokenLemmas.{is_token_boundary-start, is_token_boundary-detached}
 use Rattle.vcd_places.proofs.section.definitions_end.Goals as goal
 
 pub loop-first-init : goal.loop-first-init
 loop-first-init c = record {
   same = c.new-reader.ensures.text;
-  between_sections = rw c.new-reader.ensures.at (between_sections_at_start c.args.text.now);
-  boundary = rw c.new-reader.ensures.at (boundary_at_start c.args.text.now);
+  between_sections = rw c.new-reader.ensures.at (is_between_sections-start c.args.text.now);
+  boundary = rw c.new-reader.ensures.at (is_token_boundary-start c.args.text.now);
 }
 
 pub loop-first-preserved-then-not-opens_section : goal.loop-first-preserved-then-not-opens_section
@@ -19,17 +20,17 @@ loop-first-preserved-then-not-opens_section c =
     let one = rw c.loop-first.invariant.same at c.in-Some.ensures.token in
     record {
       same = c.in-Some.ensures.text ∙ c.loop-first.invariant.same;
-      between_sections = between_sections_after_stray text c.loop-first.reader.at c.next.new.self.at
+      between_sections = is_between_sections-stray text c.loop-first.reader.at c.next.new.self.at
           c.in-Some.first.bytes.now
           c.loop-first.invariant.between_sections one (sym c.if-not-opens_section.ensures);
-      boundary = boundary_from text c.next.new.self.at one.within one.detached;
+      boundary = is_token_boundary-detached text c.next.new.self.at one.within one.detached;
     }
 
 pub returns-then-not-skip_past_end-clause-none : goal.returns-then-not-skip_past_end-clause-none
 returns-then-not-skip_past_end-clause-none c =
     let one = rw c.loop-first.invariant.same at c.in-Some.ensures.token in
     let same = c.in-Some.ensures.text ∙ c.loop-first.invariant.same in
-    unended_has_no_body c.args.text.now c.loop-first.reader.at c.next.new.self.at c.in-Some.first.bytes.now
+    body_in-endless_section c.args.text.now c.loop-first.reader.at c.next.new.self.at c.in-Some.first.bytes.now
     c.loop-first.invariant.between_sections one c.loop-first.invariant.boundary (sym c.if-not-opens_section.ensures)
     (rw same at (c.if-not-skip_past_end.ensures.none refl))
 
@@ -38,7 +39,7 @@ new-requires c =
     let one = rw c.loop-first.invariant.same at c.in-Some.ensures.token in
     let same = c.in-Some.ensures.text ∙ c.loop-first.invariant.same in
     let word : bytes_eq c.in-Some.first.bytes.now (codes "$enddefinitions") ≡ true = search rules in
-    between_items c.args.text.now c.loop-first.reader.at c.next.new.self.at c.in-Some.first.bytes.now
+    IsBetweenItems-start_of_body c.args.text.now c.loop-first.reader.at c.next.new.self.at c.in-Some.first.bytes.now
     c.loop-first.invariant.between_sections one c.skip_past_end.new.reader.at (sym c.if-not-opens_section.ensures)
     (rw same at (c.if-not-skip_past_end.ensures.end refl)) word
 
@@ -47,7 +48,7 @@ returns-then-eq-clause-end c =
     let one = rw c.loop-first.invariant.same at c.in-Some.ensures.token in
     let same = c.in-Some.ensures.text ∙ c.loop-first.invariant.same in
     let word : bytes_eq c.in-Some.first.bytes.now (codes "$enddefinitions") ≡ true = search rules in
-    at_time_0 c.args.text.now c.loop-first.reader.at c.next.new.self.at c.in-Some.first.bytes.now
+    IsAtTime-start_of_body c.args.text.now c.loop-first.reader.at c.next.new.self.at c.in-Some.first.bytes.now
     c.loop-first.invariant.between_sections one c.skip_past_end.new.reader.at (sym c.if-not-opens_section.ensures)
     (rw same at (c.if-not-skip_past_end.ensures.end refl)) word
 
@@ -63,7 +64,8 @@ returns-then-eq-clause-times c =
     let one = rw c.loop-first.invariant.same at c.in-Some.ensures.token in
     let same = c.in-Some.ensures.text ∙ c.loop-first.invariant.same in
     let word : bytes_eq c.in-Some.first.bytes.now (codes "$enddefinitions") ≡ true = search rules in
-    rw c.new.ensures (all_times_left c.args.text.now c.loop-first.reader.at c.next.new.self.at c.in-Some.first.bytes.now
+    rw c.new.ensures (times_left-start_of_body c.args.text.now c.loop-first.reader.at c.next.new.self.at
+    c.in-Some.first.bytes.now
     c.loop-first.invariant.between_sections one c.skip_past_end.new.reader.at (sym c.if-not-opens_section.ensures)
     (rw same at (c.if-not-skip_past_end.ensures.end refl)) word)
 
@@ -76,14 +78,14 @@ loop-first-preserved c =
     let end = rw same at (c.if-not-skip_past_end.ensures.end refl) in
     record {
       same = c.if-not-skip_past_end.ensures.text ∙ same;
-      between_sections = between_sections_after_whole text c.loop-first.reader.at c.next.new.self.at
+      between_sections = is_between_sections-whole text c.loop-first.reader.at c.next.new.self.at
           c.in-Some.first.bytes.now c.loop-first.invariant.between_sections one c.skip_past_end.new.reader.at
           (sym c.if-not-opens_section.ensures) end word;
-      boundary = boundary_from text c.skip_past_end.new.reader.at end.within end.detached;
+      boundary = is_token_boundary-detached text c.skip_past_end.new.reader.at end.within end.detached;
     }
 
 pub returns-clause-none : goal.returns-clause-none
 returns-clause-none c =
-    no_body_at_text_end c.args.text.now c.loop-first.reader.at c.loop-first.invariant.between_sections
+    body_in-end_of_text c.args.text.now c.loop-first.reader.at c.loop-first.invariant.between_sections
     c.loop-first.invariant.boundary
     (rw c.loop-first.invariant.same at c.in_default.ensures.none)

@@ -1,9 +1,11 @@
 use Rattle.std.proofs.Common.{◌≡◌, ℕ, ◌∷◌, [], ◌++◌, List, refl, sym, ap, subst, ◌∙◌, arith}
 use Rattle.vcd_places.specs.Times.{IsBetweenItems, times_left}
-use Rattle.vcd_places.proofs.ItemLemmas.{at_time, between_next, code_is_item, comment_is_item, comment_last, if_none}
-use Rattle.vcd_places.proofs.ItemLemmas.{code_last, no_times_left, one_taken, passed, section_taken, single_is_item}
-use Rattle.vcd_places.proofs.ItemLemmas.{timed}
-use Rattle.vcd_places.proofs.ItemLemmas.{times_next, token, two_taken, untimed}
+use Rattle.vcd_places.proofs.ItemLemmas.{IsAtTime-time, IsBetweenItems-next, IsItem-code, IsItem-comment}
+use Rattle.vcd_places.proofs.ItemLemmas.{times_left-comment_unended, IfNone-always}
+use Rattle.vcd_places.proofs.ItemLemmas.{times_left-code_missing, times_left-no_tokens, AreTaken-one}
+use Rattle.vcd_places.proofs.ItemLemmas.{IsBetweenItems-without_time, AreTaken-section, IsItem-single}
+use Rattle.vcd_places.proofs.ItemLemmas.{IsItem-timed}
+use Rattle.vcd_places.proofs.ItemLemmas.{times_left-next, token, AreTaken-two, IsItem-untimed}
 use Rattle.vcd_places.proofs.times.TimePlaces.next.Goals as goal
 
 pub invariant_of-self : goal.invariant_of-self
@@ -14,11 +16,11 @@ invariant_of-self c =
     let bytes = c.in-Some.token.bytes.now in
     let one = rw c.loop-token.invariant.same at c.in-Some.ensures.token in
     let t = token text at next bytes one in
-    let item = timed t c.in-Time.digits.now c.in-Some-time_of.time (sym c.in-Time.ensures)
+    let item = IsItem-timed t c.in-Time.digits.now c.in-Some-time_of.time (sym c.in-Time.ensures)
     (sym c.in-Some-time_of.ensures) in
-    let taken = one_taken text at next bytes one in
+    let taken = AreTaken-one text at next bytes one in
     subst (λ (text : List ℕ). IsBetweenItems text next) (sym c.loop-token.invariant.text)
-    (between_next text at next (t ∷ []) (c.in-Some-time_of.time ∷ []) c.loop-token.invariant.between taken item)
+    (IsBetweenItems-next text at next (t ∷ []) (c.in-Some-time_of.time ∷ []) c.loop-token.invariant.between taken item)
 
 pub returns-in-Some-time_of-clause-time : goal.returns-in-Some-time_of-clause-time
 returns-in-Some-time_of-clause-time c =
@@ -28,11 +30,11 @@ returns-in-Some-time_of-clause-time c =
     let bytes = c.in-Some.token.bytes.now in
     let one = rw c.loop-token.invariant.same at c.in-Some.ensures.token in
     let t = token text at next bytes one in
-    let item = timed t c.in-Time.digits.now c.in-Some-time_of.time (sym c.in-Time.ensures)
+    let item = IsItem-timed t c.in-Time.digits.now c.in-Some-time_of.time (sym c.in-Time.ensures)
     (sym c.in-Some-time_of.ensures) in
-    let taken = one_taken text at next bytes one in
+    let taken = AreTaken-one text at next bytes one in
     sym c.loop-token.invariant.left
-    ∙ times_next text at next (t ∷ []) (c.in-Some-time_of.time ∷ []) c.loop-token.invariant.between taken item
+    ∙ times_left-next text at next (t ∷ []) (c.in-Some-time_of.time ∷ []) c.loop-token.invariant.between taken item
     ∙ ap (λ (text : List ℕ). c.in-Some-time_of.time ∷ times_left (record { text = text; at = next }))
     (sym c.loop-token.invariant.text)
 
@@ -43,7 +45,7 @@ returns-in-Some-time_of-clause-place c =
     let next = c.next.new.self.at in
     let bytes = c.in-Some.token.bytes.now in
     let one = rw c.loop-token.invariant.same at c.in-Some.ensures.token in
-    at_time text at next bytes c.in-Time.digits.now c.in-Some-time_of.time c.loop-token.invariant.between one
+    IsAtTime-time text at next bytes c.in-Time.digits.now c.in-Some-time_of.time c.loop-token.invariant.between one
     (sym c.in-Time.ensures) (sym c.in-Some-time_of.ensures)
 
 pub loop-token-preserved-in_default-time_of : goal.loop-token-preserved-in_default-time_of
@@ -54,8 +56,9 @@ loop-token-preserved-in_default-time_of c =
     let bytes = c.in-Some.token.bytes.now in
     let one = rw c.loop-token.invariant.same at c.in-Some.ensures.token in
     let t = token text at next bytes one in
-    let step = passed text at next (t ∷ []) c.loop-token.invariant.between (one_taken text at next bytes one)
-    (untimed t c.in-Time.digits.now (sym c.in-Time.ensures) (sym c.time_of.ensures ∙ c.in_default-time_of.is)) in
+    let step = IsBetweenItems-without_time text at next (t ∷ []) c.loop-token.invariant.between
+    (AreTaken-one text at next bytes one)
+    (IsItem-untimed t c.in-Time.digits.now (sym c.in-Time.ensures) (sym c.time_of.ensures ∙ c.in_default-time_of.is)) in
     record {
       same = c.in-Some.ensures.text ∙ c.loop-token.invariant.same;
       text = c.loop-token.invariant.text;
@@ -78,8 +81,8 @@ loop-token-preserved-in_ok-next-in-Code c =
     let end = c.next-in-Code.new.self.at in
     let code = c.in_ok-next-in-Code.field-0.bytes.now in
     let u = token text next end code two in
-    let step = passed text at end (t ∷ u ∷ []) c.loop-token.invariant.between
-    (two_taken text at next bytes one end code two) (code_is_item t u (sym c.in-Code.ensures)) in
+    let step = IsBetweenItems-without_time text at end (t ∷ u ∷ []) c.loop-token.invariant.between
+    (AreTaken-two text at next bytes one end code two) (IsItem-code t u (sym c.in-Code.ensures)) in
     record {
       same = c.in_ok-next-in-Code.ensures.text ∙ same;
       text = c.loop-token.invariant.text;
@@ -97,8 +100,8 @@ returns-in_err-next-in-Code-clause-none c =
     let bytes = c.in-Some.token.bytes.now in
     let one = rw c.loop-token.invariant.same at c.in-Some.ensures.token in
     let same = c.in-Some.ensures.text ∙ c.loop-token.invariant.same in
-    if_none c.from_residual.result (times_left c.args.self.now ≡ [])
-    (sym c.loop-token.invariant.left ∙ code_last text at next bytes one (sym c.in-Code.ensures)
+    IfNone-always c.from_residual.result (times_left c.args.self.now ≡ [])
+    (sym c.loop-token.invariant.left ∙ times_left-code_missing text at next bytes one (sym c.in-Code.ensures)
     (rw same at c.in_err-next-in-Code.ensures.none))
 
 pub returns-then-not-skip_past_end-clause-none : goal.returns-then-not-skip_past_end-clause-none
@@ -109,7 +112,7 @@ returns-then-not-skip_past_end-clause-none c =
     let bytes = c.in-Some.token.bytes.now in
     let one = rw c.loop-token.invariant.same at c.in-Some.ensures.token in
     let same = c.in-Some.ensures.text ∙ c.loop-token.invariant.same in
-    sym c.loop-token.invariant.left ∙ comment_last text at next bytes one (sym c.in-Comment.ensures)
+    sym c.loop-token.invariant.left ∙ times_left-comment_unended text at next bytes one (sym c.in-Comment.ensures)
     (rw same at (c.if-not-skip_past_end.ensures.none refl))
 
 pub loop-token-preserved-else-not-skip_past_end : goal.loop-token-preserved-else-not-skip_past_end
@@ -123,9 +126,9 @@ loop-token-preserved-else-not-skip_past_end c =
     let same = c.in-Some.ensures.text ∙ c.loop-token.invariant.same in
     let e = rw same at (c.if-not-skip_past_end.ensures.end refl) in
     let end = c.skip_past_end.new.reader.at in
-    let step = passed text at end (t ∷ (e.words ++ e.last ∷ [])) c.loop-token.invariant.between
-    (section_taken text at next bytes one end e)
-    (comment_is_item t e.words e.last (sym c.in-Comment.ensures) e.none e.ends) in
+    let step = IsBetweenItems-without_time text at end (t ∷ (e.words ++ e.last ∷ [])) c.loop-token.invariant.between
+    (AreTaken-section text at next bytes one end e)
+    (IsItem-comment t e.words e.last (sym c.in-Comment.ensures) e.none e.ends) in
     record {
       same = c.if-not-skip_past_end.ensures.text ∙ same;
       text = c.loop-token.invariant.text;
@@ -143,8 +146,9 @@ loop-token-preserved c =
     let bytes = c.in-Some.token.bytes.now in
     let one = rw c.loop-token.invariant.same at c.in-Some.ensures.token in
     let t = token text at next bytes one in
-    let step = passed text at next (t ∷ []) c.loop-token.invariant.between (one_taken text at next bytes one)
-    (single_is_item t (sym c.in-Whole.ensures)) in
+    let step = IsBetweenItems-without_time text at next (t ∷ []) c.loop-token.invariant.between
+    (AreTaken-one text at next bytes one)
+    (IsItem-single t (sym c.in-Whole.ensures)) in
     record {
       same = c.in-Some.ensures.text ∙ c.loop-token.invariant.same;
       text = c.loop-token.invariant.text;
@@ -156,5 +160,5 @@ loop-token-preserved c =
 
 pub returns-clause-none : goal.returns-clause-none
 returns-clause-none c =
-    sym c.loop-token.invariant.left ∙ no_times_left c.args.self.now.text c.loop-token.reader.at
+    sym c.loop-token.invariant.left ∙ times_left-no_tokens c.args.self.now.text c.loop-token.reader.at
     (rw c.loop-token.invariant.same at c.in_default.ensures.none)
