@@ -44,21 +44,21 @@ pub record EndsAfterItem (front : List ℕ) : Type 0 where
   pub ended : body_in front ≡ Some body
   pub whole : AreWholeItems body
 
-module _ (front : List ℕ) (ends_so : EndsAfterItem front) where
+module _ (front : List ℕ) (ends : EndsAfterItem front) where
   -- the line that `front` ends on
   abbrev line : ℕ
   line = line_behind 1 front
 
   -- the tokens of the body of `front ++ rest`
   abbrev body_with : List ℕ → List Token
-  body_with rest = ends_so.body ++ tokens_from line rest
+  body_with rest = ends.body ++ tokens_from line rest
 
   -- the header of `front ++ rest` has the items of `front`, and a body with the tokens of `rest`
   header_from-append : (rest : List ℕ) → starts_at_boundary rest ≡ true → header_from between (tokens (front ++ rest))
       ≡ record { items = items_of_text front; body = Some (body_with rest) }
   header_from-append rest detached =
       ap (header_from between) (tokens_from-append_detached front rest 1 detached)
-      ∙ ExtendsBody-all (tokens_from line rest) (tokens front) between ends_so.body ends_so.ended
+      ∙ ExtendsBody-all (tokens_from line rest) (tokens front) between ends.body ends.ended
 
   -- the definitions of `front ++ rest` are those of `front`
   pub items_of_text-append : (rest : List ℕ) → starts_at_boundary rest ≡ true
@@ -83,18 +83,18 @@ module _ (front : List ℕ) (ends_so : EndsAfterItem front) where
       ≡ record { line = line; bytes = 115 ∷ text } ∷ record { line = line; bytes = is.first ∷ is.others } ∷ left =
       ap (λ (named : List ℕ). tokens_from line (string_text text named ++ rest)) is.code_is
       ∙ tokens_from-string line text is.first is.others rest is.word is.named detached in
-      let items : body_from ready (ends_so.body ++ record { line = line; bytes = 115 ∷ text }
+      let items : body_from ready (ends.body ++ record { line = line; bytes = 115 ∷ text }
       ∷ record { line = line; bytes = is.first ∷ is.others } ∷ left)
-      ≡ body_from ready ends_so.body ++ skipped line (is.first ∷ is.others) ∷ body_from ready left =
-      ends_so.whole (record { line = line; bytes = 115 ∷ text }
+      ≡ body_from ready ends.body ++ skipped line (is.first ∷ is.others) ∷ body_from ready left =
+      ends.whole (record { line = line; bytes = 115 ∷ text }
       ∷ record { line = line; bytes = is.first ∷ is.others } ∷ left)
-      ∙ ap (λ (items : List BodyItem). body_from ready ends_so.body ++ items)
+      ∙ ap (λ (items : List BodyItem). body_from ready ends.body ++ items)
       (body_from-string line text (is.first ∷ is.others) left) in
-      ap (λ (ts : List Token). instants_in nets (body_from ready (ends_so.body ++ ts))) cut
+      ap (λ (ts : List Token). instants_in nets (body_from ready (ends.body ++ ts))) cut
       ∙ ap (instants_in nets) items
       ∙ instants_in-skipped nets line is.net (is.first ∷ is.others) (ap (net_of nets) (sym is.code_is) ∙ is.net_is)
-      (body_from ready ends_so.body) (body_from ready left)
-      ∙ sym (ap (instants_in nets) (ends_so.whole left))
+      (body_from ready ends.body) (body_from ready left)
+      ∙ sym (ap (instants_in nets) (ends.whole left))
 
   -- a string that is inserted after `front` leaves the instants, or the fault, as they are
   pub instants_of_text-string : (nets : List Net) (text code rest : List ℕ) → IsShown nets text code

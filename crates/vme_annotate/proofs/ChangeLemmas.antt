@@ -7,10 +7,11 @@ use Rattle.vme_annotation.specs.Shown.{ShownChange, changes_with, row_changes, s
 use Rattle.vme_annotate.specs.Planned.{text_in}
 
 -- the changes with the text that is kept for the row at `place` are those of the row
-pub row_is : (rows : List Row) (place : ℕ) (row variant : Row) → slice_get rows place ≡ Some row → row ≡ variant
+pub changes_with-row : (rows : List Row) (place : ℕ) (row variant : Row) → slice_get rows place ≡ Some row → row
+    ≡ variant
     → changes_with (text_in rows (Some place)) variant ≡ row_changes row
 unfolding row_changes
-row_is rows place row variant at is =
+changes_with-row rows place row variant at is =
     ap (λ (o : Option Row). changes_with (option_map_or shown_text o []) variant) at
     ∙ ap (changes_with (shown_text row)) (sym is)
 
@@ -20,5 +21,5 @@ pub appended_row_changes : {A E : Type 0} (rows : List Row) (place : ℕ) (row v
     → OnOk r (after ≡ before ++ changes_with (text_in rows (Some place)) variant)
     → OnOk r (after ≡ before ++ row_changes row)
 appended_row_changes rows place row variant before after (Ok a) at is made =
-    made ∙ ap (λ (changes : List ShownChange). before ++ changes) (row_is rows place row variant at is)
+    made ∙ ap (λ (changes : List ShownChange). before ++ changes) (changes_with-row rows place row variant at is)
 appended_row_changes rows place row variant before after (Err e) at is made = tt

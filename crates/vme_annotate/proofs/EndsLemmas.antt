@@ -1,4 +1,4 @@
--- How the commands end, by what they read.
+-- How `annotate` and `list --times` end: their answers and exit statuses, by what they read and what they could write.
 use Rattle.std.proofs.Common.{◌≡◌, ◌≤◌, ◌↔◌, ℕ, suc, List, refl, sym, ap, subst, ◌∙◌, inl, inr, map, true}
 use Rattle.std.specs.Prelude.{◌==◌, filter, Option, None, Some, Result, Ok, Err}
 use Rattle.vme_trace.specs.Streams.{Reading, Writing}
@@ -33,16 +33,19 @@ use Rattle.vme_annotate.specs.declared.changes.PlannedChange.{PlannedChange}
 
 -- ---- what was refused: of a refusal `GivesTimedListing`, `GivesPrepared` and `AnswerGives` say the same
 
+-- a refusal in place of the listing is one in place of the recording
 pub AnswerGives-from_GivesTimedListing : (r : Refusal) (defined : Result Trace Refusal)
     → GivesTimedListing (Err r) defined → AnswerGives (λ (t : Trace). t) (Err r) defined
 AnswerGives-from_GivesTimedListing Memory defined is = tt
 AnswerGives-from_GivesTimedListing r defined is = is
 
+-- a refusal in place of the prepared dump is one in place of the recording
 pub AnswerGives-from_GivesPrepared : (bytes : Option (List ℕ)) (r : Refusal) (defined : Result Trace Refusal)
     → GivesPrepared bytes (Err r) defined → AnswerGives (λ (t : Trace). t) (Err r) defined
 AnswerGives-from_GivesPrepared bytes Memory defined is = tt
 AnswerGives-from_GivesPrepared bytes r defined is = is
 
+-- a refusal in place of the recording is one in place of the prepared dump
 pub GivesPrepared-from_AnswerGives : (bytes : Option (List ℕ)) (r : Refusal) (defined : Result Trace Refusal)
     → AnswerGives (λ (t : Trace). t) (Err r) defined → GivesPrepared bytes (Err r) defined
 GivesPrepared-from_AnswerGives bytes Memory defined is = tt
@@ -50,22 +53,26 @@ GivesPrepared-from_AnswerGives bytes r defined is = is
 
 -- ---- listings with times
 
-pub timed_text_is : (t : Trace) (found : TimedListingValue) → IsTimedListingOf t found
+-- the text of the listing of `t` with its times is that of the recording
+pub timed_rows_text-timed_text : (t : Trace) (found : TimedListingValue) → IsTimedListingOf t found
     → timed_rows_text found.times found.listing.rows ≡ timed_text t
-timed_text_is t found is =
+timed_rows_text-timed_text t found is =
     ap (λ (times : List ℕ). timed_rows_text times found.listing.rows) is.times_are
     ∙ ap (λ (listing : Listed). timed_rows_text (times_of t.steps) listing.rows) is.listing_is
 
+-- the status of the answer is at most 4
 timed_answer-small : (found : Result Trace Refusal) → (timed_answer_by found).status ≤ 4
 timed_answer-small (Ok t) = verdict_status-small (verdict_by rules_in_force t)
 timed_answer-small (Err r) = refusal_status-small r
 
 module _ (skew : ℕ) (binding dump : Reading × Reading) (block : ℕ) (out err : Writing × Writing) (status : ℕ) where
+  -- the status is 5 exactly where a write to `out` failed
   pub WritesTimes-unwritten : WritesTimes skew binding dump block out err status
       → (status ≡ 5) ↔ (out.1.failures ≡ suc out.0.failures)
   WritesTimes-unwritten =
       AnswersInputs-unwritten timed_answer_by timed_answer-small (ReadAgreesWith skew block) binding dump out err status
 
+  -- if both inputs are read whole, no write to `out` fails and memory suffices, exactly their answer is written
   pub WritesTimes-exact : WritesTimes skew binding dump block out err status → (b d : List ℕ)
       → IsReadWhole binding.0 binding.1 b → IsReadWhole dump.0 dump.1 d → out.1.failures ≡ out.0.failures
       → (status ≡ 4 → ⊥) → WritesAnswer (timed_answer_of skew (Some b) (Some d) block) out err status
@@ -77,6 +84,7 @@ module _ (skew : ℕ) (binding dump : Reading × Reading) (block : ℕ) (out err
 
 -- ---- annotated dumps
 
+-- the status of the answer is at most 4
 annotation_answer-small : (text : List ℕ) (found : Result Trace Refusal) → (annotation_answer_by text found).status ≤ 4
 annotation_answer-small text (Ok t) = verdict_status-small (verdict_by rules_in_force t)
 annotation_answer-small text (Err r) = refusal_status-small r
@@ -88,26 +96,31 @@ found-is_defined text (Ok t) defined given memory = sym given
 found-is_defined text (Err Memory) defined given memory = absurd (memory refl)
 found-is_defined text (Err r) defined given memory = sym given
 
-told_exactly : (text dump : List ℕ) (found defined : Result Trace Refusal) (out err : Writing × Writing) (status : ℕ)
+-- if no write to `out` fails and memory suffices, the answer is that of what the definition gives, `defined`, and the
+-- text is its annotation
+WritesAnswer-defined : (text dump : List ℕ) (found defined : Result Trace Refusal) (out err : Writing × Writing)
+    (status : ℕ)
     → Ends (annotation_answer_by text found) out err status → AnswerGives (λ (t : Trace). t) found defined
     → IsAnnotationOf (Some dump) found text → out.1.failures ≡ out.0.failures → (status ≡ 4 → ⊥)
     → IsAnnotationOf (Some dump) defined text × WritesAnswer (annotation_answer_by text defined) out err status
-told_exactly text dump found defined out err status (inl told) given annotation same memory =
+WritesAnswer-defined text dump found defined out err status (inl told) given annotation same memory =
     let is : found ≡ defined =
     found-is_defined text found defined given (λ is_memory. memory (told.status_is ∙ is_memory)) in (
       subst (λ (r : Result Trace Refusal). IsAnnotationOf (Some dump) r text) is annotation,
       subst (λ (r : Result Trace Refusal). WritesAnswer (annotation_answer_by text r) out err status) is told,
     )
-told_exactly text dump found defined out err status (inr failed) given annotation same memory =
+WritesAnswer-defined text dump found defined out err status (inr failed) given annotation same memory =
     absurd (eq-not_suc out.1.failures out.0.failures same failed.out_is.1)
 
 module _ (skew : ℕ) (binding dump : Reading × Reading) (out err : Writing × Writing) (status : ℕ) where
+  -- the status is 5 exactly where a write to `out` failed
   pub Annotates-unwritten : Annotates skew binding dump out err status
       → (status ≡ 5) ↔ (out.1.failures ≡ suc out.0.failures)
   Annotates-unwritten does =
       let (binding_bytes, dump_bytes, found, text, binding_read, dump_read, given, annotation, end) = does in
       Ends-unwritten (annotation_answer_by text) (annotation_answer-small text) found out err status end
 
+  -- if both inputs are read whole, no write to `out` fails and memory suffices, exactly their answer is written
   pub Annotates-exact : Annotates skew binding dump out err status → (b d : List ℕ)
       → IsReadWhole binding.0 binding.1 b → IsReadWhole dump.0 dump.1 d → out.1.failures ≡ out.0.failures
       → (status ≡ 4 → ⊥) → TellsAnnotation skew b d out err status
@@ -120,7 +133,8 @@ module _ (skew : ℕ) (binding dump : Reading × Reading) (out err : Writing × 
       let with_d = subst (λ (x : Option (List ℕ)).
       AnswerGives (λ (t : Trace). t) found (settled_recording skew (Some b) x BLOCK)) d_is with_b in
       let whole = subst (λ (x : Option (List ℕ)). IsAnnotationOf x found text) d_is annotation in
-      let (told, tells) = told_exactly text d found (settled_recording skew (Some b) (Some d) BLOCK) out err status
+      let (told, tells) = WritesAnswer-defined text d found (settled_recording skew (Some b) (Some d) BLOCK) out err
+      status
       end
       with_d whole same memory in
       (text, told, tells)
@@ -152,15 +166,19 @@ annotated-IsAnnotated t d is start put starts placed put_is =
     }
 
 -- changes that are planned by the rows of `found`, the listing of `t`, are planned by the rows of `t`
-pub planned_of : (t : Trace) (found : TimedListingValue) → IsTimedListingOf t found → (changes : List PlannedChange)
+pub ArePlanned-listing : (t : Trace) (found : TimedListingValue) → IsTimedListingOf t found
+    → (changes : List PlannedChange)
     → ArePlanned found.listing.rows changes → ArePlanned (recorded_rows t) changes
-planned_of t found is changes are = subst (λ (listing : Listed). ArePlanned listing.rows changes) is.listing_is are
+ArePlanned-listing t found is changes are = subst (λ (listing : Listed). ArePlanned listing.rows changes) is.listing_is
+    are
 
-pub is_annotation : (bytes : Option (List ℕ)) (dump : List ℕ) (t : Trace) (text : List ℕ) → bytes ≡ Some dump
+-- a dump that is annotated with `t` is the annotation of its bytes by `t`
+pub IsAnnotationOf-annotated : (bytes : Option (List ℕ)) (dump : List ℕ) (t : Trace) (text : List ℕ) → bytes ≡ Some dump
     → IsAnnotated dump t text → IsAnnotationOf bytes (Ok t) text
-is_annotation bytes dump t text is annotated =
+IsAnnotationOf-annotated bytes dump t text is annotated =
     subst (λ (x : Option (List ℕ)). IsAnnotationOf x (Ok t) text) (sym is) annotated
 
-pub no_annotation : (bytes : Option (List ℕ)) (r : Refusal) (text : List ℕ) → IsAnnotationOf bytes (Err r) text
-no_annotation (Some dump) r text = tt
-no_annotation None r text = tt
+-- where the recording is refused, nothing is asked of the text
+pub IsAnnotationOf-refused : (bytes : Option (List ℕ)) (r : Refusal) (text : List ℕ) → IsAnnotationOf bytes (Err r) text
+IsAnnotationOf-refused (Some dump) r text = tt
+IsAnnotationOf-refused None r text = tt

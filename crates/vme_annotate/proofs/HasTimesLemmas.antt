@@ -1,4 +1,4 @@
--- A recording that a binding makes of a dump has its times from the dump.
+-- A recording that a binding makes of a dump has times that the dump reaches, and these don't go back.
 use Rattle.std.proofs.Common.{◌≡◌, ℕ, zero, suc, ◌+◌, ◌<◌, ◌≤◌, Bool, true, false, cond, eqb, List, [], ◌∷◌, ◌++◌}
 use Rattle.std.proofs.Common.{Option, None, Result, Ok, Err, refl, sym, ap, subst, arith, get_or, length}
 use Rattle.std.proofs.Common.{◌⊎◌, inl, inr}
@@ -34,70 +34,85 @@ module _ (dump : List ℕ) where
   EachReached [] = Unit {0}
   EachReached (step ∷ steps) = IsReached dump step.time × EachReached steps
 
-  both_reached : (xs ys : List Step) → EachReached xs → EachReached ys → EachReached (xs ++ ys)
-  both_reached [] ys first second = second
-  both_reached (x ∷ xs) ys first second = (first.0, both_reached xs ys first.1 second)
+  -- steps with reached times, and others after them, have reached times
+  EachReached-append : (xs ys : List Step) → EachReached xs → EachReached ys → EachReached (xs ++ ys)
+  EachReached-append [] ys first second = second
+  EachReached-append (x ∷ xs) ys first second = (first.0, EachReached-append xs ys first.1 second)
 
-  map_reached : (f : ℕ → Step) (ns : List ℕ) → ((n : ℕ) → IsReached dump (f n).time) → EachReached (map f ns)
-  map_reached f [] each = tt
-  map_reached f (n ∷ ns) each = (each n, map_reached f ns each)
+  -- steps that a function makes have reached times, if each of them has
+  EachReached-map : (f : ℕ → Step) (ns : List ℕ) → ((n : ℕ) → IsReached dump (f n).time) → EachReached (map f ns)
+  EachReached-map f [] each = tt
+  EachReached-map f (n ∷ ns) each = (each n, EachReached-map f ns each)
 
-  if_reached : (test : Bool) (step : Step) → IsReached dump step.time → EachReached (cond test (step ∷ []) [])
-  if_reached true step reached = (reached, tt)
-  if_reached false step reached = tt
+  -- a step that is there or not, as `test` says, has a reached time
+  EachReached-if : (test : Bool) (step : Step) → IsReached dump step.time → EachReached (cond test (step ∷ []) [])
+  EachReached-if true step reached = (reached, tt)
+  EachReached-if false step reached = tt
 
-  either_reached : (test : Bool) (xs ys : List Step) → EachReached xs → EachReached ys → EachReached (cond test xs ys)
-  either_reached true xs ys first second = first
-  either_reached false xs ys first second = second
+  -- of two lists of steps with reached times, either has them
+  EachReached-either : (test : Bool) (xs ys : List Step) → EachReached xs → EachReached ys
+      → EachReached (cond test xs ys)
+  EachReached-either true xs ys first second = first
+  EachReached-either false xs ys first second = second
 
-  get_reached : (steps : List Step) (i : ℕ) → EachReached steps → IsReached dump (time_of (slice_get steps i))
-  get_reached [] i each = inl refl
-  get_reached (step ∷ steps) zero each = each.0
-  get_reached (step ∷ steps) (suc i) each = get_reached steps i each.1
+  -- the time of the step at an index is reached, or 0
+  IsReached-step : (steps : List Step) (i : ℕ) → EachReached steps → IsReached dump (time_of (slice_get steps i))
+  IsReached-step [] i each = inl refl
+  IsReached-step (step ∷ steps) zero each = each.0
+  IsReached-step (step ∷ steps) (suc i) each = IsReached-step steps i each.1
 
-  pub at_reached : (t : Trace) (i : ℕ) → EachReached t.steps → IsReached dump (time_at t i)
-  at_reached t zero each = inl refl
-  at_reached t (suc i) each = get_reached t.steps i each
+  -- the time of an instant of a recording is reached, if that of each step is
+  pub IsReached-time_at : (t : Trace) (i : ℕ) → EachReached t.steps → IsReached dump (time_at t i)
+  IsReached-time_at t zero each = inl refl
+  IsReached-time_at t (suc i) each = IsReached-step t.steps i each
 
-  -- the steps of the deskewed recording
-  step_reached : (skew : ℕ) (t : Trace) (i : ℕ) → EachReached t.steps → EachReached (step_to skew t i)
-  step_reached skew t i each = if_reached _ _ (at_reached t (group_start skew t i) each)
+  -- the step to an instant, after deskewing, has a reached time
+  EachReached-step_to : (skew : ℕ) (t : Trace) (i : ℕ) → EachReached t.steps → EachReached (step_to skew t i)
+  EachReached-step_to skew t i each = EachReached-if _ _ (IsReached-time_at t (group_start skew t i) each)
 
-  before_reached : (skew : ℕ) (t : Trace) (i : ℕ) → EachReached t.steps → EachReached (steps_before skew t i)
+  -- the steps before an instant, after deskewing, have reached times
+  EachReached-steps_before : (skew : ℕ) (t : Trace) (i : ℕ) → EachReached t.steps → EachReached (steps_before skew t i)
   unfolding steps_before
-  before_reached skew t zero each = tt
-  before_reached skew t (suc i) each =
-      let rest = before_reached skew t i each in
-      either_reached (begins_after skew t (group_start skew t i) i) (steps_before skew t i ++ step_to skew t i)
+  EachReached-steps_before skew t zero each = tt
+  EachReached-steps_before skew t (suc i) each =
+      let rest = EachReached-steps_before skew t i each in
+      EachReached-either (begins_after skew t (group_start skew t i) i) (steps_before skew t i ++ step_to skew t i)
       (steps_before skew t i)
-      (both_reached (steps_before skew t i) (step_to skew t i) rest (step_reached skew t i each)) rest
+      (EachReached-append (steps_before skew t i) (step_to skew t i) rest (EachReached-step_to skew t i each)) rest
 
-  pub settled_reached : (skew : ℕ) (t : Trace) → EachReached t.steps → EachReached (settled skew t).steps
+  -- the steps of the deskewed recording have reached times
+  pub EachReached-settled : (skew : ℕ) (t : Trace) → EachReached t.steps → EachReached (settled skew t).steps
   unfolding settled
-  settled_reached skew t each =
-      both_reached (steps_before skew t (last_instant t)) (step_to skew t (last_instant t))
-      (before_reached skew t (last_instant t) each) (step_reached skew t (last_instant t) each)
+  EachReached-settled skew t each =
+      EachReached-append (steps_before skew t (last_instant t)) (step_to skew t (last_instant t))
+      (EachReached-steps_before skew t (last_instant t) each) (EachReached-step_to skew t (last_instant t) each)
 
   -- ---- the instants of the dump
 
+  -- the dump reaches the time of each of these instants
   abbrev AllReached : List Instant → Type 0
   AllReached instants = (i : ℕ) → IsReached dump (instant_time (slice_get instants i))
 
+  -- the recording that is made, or else the other one
   abbrev trace_in : {E : Type 0} → Trace → Result Trace E → Trace
   trace_in other (Ok t) = t
   trace_in other (Err fault) = other
 
-  pub recorded_reached : (binding : BoundLines) (contents : Contents) (t : Trace) → recording_of binding contents ≡ Ok t
+  -- if the dump reaches the time of each of its instants, the steps of the recording have reached times
+  pub EachReached-recording_of : (binding : BoundLines) (contents : Contents) (t : Trace)
+      → recording_of binding contents ≡ Ok t
       → AllReached contents.instants → EachReached t.steps
   unfolding recording_of recording step_at
-  recorded_reached binding contents t e each =
+  EachReached-recording_of binding contents t e each =
       let read = both_read (bound_groups_in contents.variables binding.assignments) _ t e in
-      subst (λ (r : Trace). EachReached r.steps) (ap (trace_in t) read.2) (map_reached _ _ each)
+      subst (λ (r : Trace). EachReached r.steps) (ap (trace_in t) read.2) (EachReached-map _ _ each)
 
 -- ---- times that don't go back
 
-pub times_grow : (t : Trace) → malformed_step t ≡ None → (i : ℕ) → i < length t.steps → time_at t i ≤ time_at t (suc i)
-times_grow t formed i lt = elim (slice_get_cases t.steps i).1 [
+-- the time of the next instant of a well-formed recording isn't earlier
+pub time_at-next : (t : Trace) → malformed_step t ≡ None → (i : ℕ) → i < length t.steps
+    → time_at t i ≤ time_at t (suc i)
+time_at-next t formed i lt = elim (slice_get_cases t.steps i).1 [
   | inl here ↦
       let next : time_at t (suc i) ≡ here.0.time = ap time_of here.2 in
       elim (first_or_later-cases i (time_at t i) here.0.time
@@ -108,61 +123,68 @@ times_grow t formed i lt = elim (slice_get_cases t.steps i).1 [
   | inr past ↦ absurd (omega (arith, past.0, lt))
 ]
 
-pub times_order : (t : Trace) → malformed_step t ≡ None → (i n : ℕ) → i + n ≤ length t.steps
+-- the time of a later instant of a well-formed recording isn't earlier
+pub time_at-later : (t : Trace) → malformed_step t ≡ None → (i n : ℕ) → i + n ≤ length t.steps
     → time_at t i ≤ time_at t (i + n)
-times_order t formed i zero le = ap_le (omega arith)
+time_at-later t formed i zero le = ap_le (omega arith)
   where
+    -- the same instant has the same time
     ap_le : i ≡ i + zero → time_at t i ≤ time_at t (i + zero)
     ap_le e = subst (λ (k : ℕ). time_at t i ≤ time_at t k) e (omega arith)
-times_order t formed i (suc n) le =
+time_at-later t formed i (suc n) le =
     let next : suc (i + n) ≡ i + suc n = omega arith in
     subst (λ (k : ℕ). time_at t i ≤ time_at t k) next
-    (omega (arith, times_order t formed i n (omega (arith, le)), times_grow t formed (i + n) (omega (arith, le))))
+    (omega (arith, time_at-later t formed i n (omega (arith, le)), time_at-next t formed (i + n) (omega (arith, le))))
 
 -- ---- the times of a dump's instants
 
-among_from : (xs : List ℕ) (x k : ℕ) → k < length xs → get_or xs k x ≡ x → is_among x xs ≡ true
-among_from [] x k lt e = absurd (omega (arith, lt))
-among_from (y ∷ ys) x zero lt e = or_left (eqb y x) (is_among x ys) (eq-eqb y x e)
-among_from (y ∷ ys) x (suc k) lt e =
-    or_right (eqb y x) (is_among x ys) (among_from ys x k (omega (arith, lt)) e)
+-- a number at an index of a list is among it
+is_among-at : (xs : List ℕ) (x k : ℕ) → k < length xs → get_or xs k x ≡ x → is_among x xs ≡ true
+is_among-at [] x k lt e = absurd (omega (arith, lt))
+is_among-at (y ∷ ys) x zero lt e = or_left (eqb y x) (is_among x ys) (eq-eqb y x e)
+is_among-at (y ∷ ys) x (suc k) lt e =
+    or_right (eqb y x) (is_among x ys) (is_among-at ys x k (omega (arith, lt)) e)
 
 module _ (dump : List ℕ) where
-  get_of_map : (f : ℕ → Instant) (ts : List ℕ) → ((t : ℕ) → Contains ts t → IsReached dump (f t).time) → (i : ℕ)
+  -- if the instants that `f` makes at these times have reached times, the one at an index has
+  IsReached-map : (f : ℕ → Instant) (ts : List ℕ) → ((t : ℕ) → Contains ts t → IsReached dump (f t).time) → (i : ℕ)
       → IsReached dump (instant_time (slice_get (map f ts) i))
-  get_of_map f [] each i = inl refl
-  get_of_map f (t ∷ ts) each zero = each t (0, omega arith, refl)
-  get_of_map f (t ∷ ts) each (suc i) =
-      get_of_map f ts (λ other there. each other (suc there.0, omega (arith, there.1), there.2)) i
+  IsReached-map f [] each i = inl refl
+  IsReached-map f (t ∷ ts) each zero = each t (0, omega arith, refl)
+  IsReached-map f (t ∷ ts) each (suc i) =
+      IsReached-map f ts (λ other there. each other (suc there.0, omega (arith, there.1), there.2)) i
 
+  -- the instants that are read, or else the others
   abbrev instants_read : List Instant → Result (List Instant) VcdFault → List Instant
   instants_read other (Ok instants) = instants
   instants_read other (Err fault) = other
 
-  pub each_instant : (contents : Contents) → dump_of dump ≡ Ok contents → (i : ℕ)
+  -- the time of each instant of a dump is reached
+  pub IsReached-dump_of : (contents : Contents) → dump_of dump ≡ Ok contents → (i : ℕ)
       → IsReached dump (instant_time (slice_get contents.instants i))
-  each_instant contents e i =
+  IsReached-dump_of contents e i =
       let is : IsDump dump contents = dump_is dump contents e in
       let items = body_from ready is.body in
       let read = both_read (context_after_all is.declared.nets first_context items) _ contents.instants is.comes in
       let ended = both_read (at_the_end read.0) _ contents.instants read.2 in
       let made : instants_of is.declared.nets items ≡ contents.instants = ap (instants_read []) ended.2 in
-      let told : times_of_body dump ≡ item_times items =
+      let times_are : times_of_body dump ≡ item_times items =
       ap (λ (o : Option (List Token)). item_times (body_from ready (unwrap_or o []))) is.ends in
       subst (λ (instants : List Instant). IsReached dump (instant_time (slice_get instants i))) made
-      (get_of_map _ (dedup nat_eq (times_from 0 items)) (λ t there.
+      (IsReached-map _ (dedup nat_eq (times_from 0 items)) (λ t there.
       let among = Contains-from_dedup nat_eq (times_from 0 items) t there in
-      subst (λ (times : List ℕ). (t ≡ 0) ⊎ (is_among t times ≡ true)) (sym told)
+      subst (λ (times : List ℕ). (t ≡ 0) ⊎ (is_among t times ≡ true)) (sym times_are)
       (IsKnown-times_from is.declared.nets items first_context read.0 0 t read.1
-      (among_from (times_from 0 items) t among.0 among.1 among.2))) i)
+      (is_among-at (times_from 0 items) t among.0 among.1 among.2))) i)
 
   -- the time stamps of the body don't go back
-  pub body_rises : (contents : Contents) → dump_of dump ≡ Ok contents → IsAscendingFrom 0 (times_of_body dump)
-  body_rises contents e =
+  pub IsAscendingFrom-dump_of : (contents : Contents) → dump_of dump ≡ Ok contents
+      → IsAscendingFrom 0 (times_of_body dump)
+  IsAscendingFrom-dump_of contents e =
       let is : IsDump dump contents = dump_is dump contents e in
       let items = body_from ready is.body in
       let read = both_read (context_after_all is.declared.nets first_context items) _ contents.instants is.comes in
-      let told : times_of_body dump ≡ item_times items =
+      let times_are : times_of_body dump ≡ item_times items =
       ap (λ (o : Option (List Token)). item_times (body_from ready (unwrap_or o []))) is.ends in
-      subst (λ (times : List ℕ). IsAscendingFrom 0 times) (sym told)
+      subst (λ (times : List ℕ). IsAscendingFrom 0 times) (sym times_are)
       (IsAscendingFrom-item_times is.declared.nets items first_context read.0 read.1)

@@ -1,4 +1,4 @@
--- The changes of a recording's rows are at its instants.
+-- The changes that the rows of a recording's listing make are at instants of the recording.
 use Rattle.std.proofs.Common.{◌≡◌, ℕ, zero, suc, ◌+◌, ◌≤◌, ◌==◌, Bool, true, false, List, [], ◌∷◌, ◌++◌, refl}
 use Rattle.std.proofs.Common.{arith, inl, inr}
 use Rattle.std.specs.Prelude.{All, flat_map, if◌then◌else◌, nat_lt, ◌&&◌, IfSome, Option, None, Some}
@@ -33,9 +33,11 @@ use Rattle.vme_annotation.specs.Shown.{ShownChange, all_changes, ends, opening_c
 use Rattle.vme_annotation.specs.declared.shown_variable.ShownVariable.{ShownVariable}
 
 module _ (last : ℕ) where
+  -- the change is at an instant up to `last`
   abbrev IsIn : ShownChange → Type 0
   IsIn c = c.instant ≤ last
 
+  -- each of the changes is at an instant up to `last`
   abbrev AreIn : List ShownChange → Type 0
   AreIn changes = AllByRecursion IsIn changes
 
@@ -43,32 +45,41 @@ module _ (last : ℕ) where
   abbrev RowIsIn : Row → Type 0
   RowIsIn row = AreIn (row_changes row)
 
+  -- the changes of each row are at instants up to `last`
   abbrev RowsAreIn : List Row → Type 0
   RowsAreIn rows = AllByRecursion RowIsIn rows
 
-  both_in : (xs ys : List ShownChange) → AreIn xs → AreIn ys → AreIn (xs ++ ys)
-  both_in [] ys first second = second
-  both_in (x ∷ xs) ys first second = (first.0, both_in xs ys first.1 second)
+  -- so are two lists of such changes
+  AreIn-append : (xs ys : List ShownChange) → AreIn xs → AreIn ys → AreIn (xs ++ ys)
+  AreIn-append [] ys first second = second
+  AreIn-append (x ∷ xs) ys first second = (first.0, AreIn-append xs ys first.1 second)
 
-  both_rows : (xs ys : List Row) → RowsAreIn xs → RowsAreIn ys → RowsAreIn (xs ++ ys)
-  both_rows [] ys first second = second
-  both_rows (x ∷ xs) ys first second = (first.0, both_rows xs ys first.1 second)
+  -- so are two lists of such rows
+  RowsAreIn-append : (xs ys : List Row) → RowsAreIn xs → RowsAreIn ys → RowsAreIn (xs ++ ys)
+  RowsAreIn-append [] ys first second = second
+  RowsAreIn-append (x ∷ xs) ys first second = (first.0, RowsAreIn-append xs ys first.1 second)
 
-  changes_in : (rows : List Row) → RowsAreIn rows → AreIn (flat_map row_changes rows)
-  changes_in [] are = tt
-  changes_in (row ∷ rows) are = both_in (row_changes row) (flat_map row_changes rows) are.0 (changes_in rows are.1)
+  -- the changes of such rows are at instants up to `last`
+  AreIn-flat_map : (rows : List Row) → RowsAreIn rows → AreIn (flat_map row_changes rows)
+  AreIn-flat_map [] are = tt
+  AreIn-flat_map (row ∷ rows) are = AreIn-append (row_changes row) (flat_map row_changes rows) are.0
+      (AreIn-flat_map rows are.1)
 
-  if_rows : (test : Bool) (xs ys : List Row) → RowsAreIn xs → RowsAreIn ys → RowsAreIn (if test then xs else ys)
-  if_rows true xs ys first second = first
-  if_rows false xs ys first second = second
+  -- of two lists of such rows, either is one
+  RowsAreIn-if : (test : Bool) (xs ys : List Row) → RowsAreIn xs → RowsAreIn ys → RowsAreIn (if test then xs else ys)
+  RowsAreIn-if true xs ys first second = first
+  RowsAreIn-if false xs ys first second = second
 
-  ends_in : (variable : ShownVariable) (end : Option ℕ) → IfSome end (λ e. e ≤ last) → AreIn (ends variable end)
-  ends_in variable None is = tt
-  ends_in variable (Some end) is = (is, tt)
+  -- the change at an end up to `last`, if there is an end, is one
+  AreIn-ends : (variable : ShownVariable) (end : Option ℕ) → IfSome end (λ e. e ≤ last) → AreIn (ends variable end)
+  AreIn-ends variable None is = tt
+  AreIn-ends variable (Some end) is = (is, tt)
 
-  least_in : (p : ℕ → Bool) (first n : ℕ) → n ≤ last + 1 → IfSome (least p first n) (λ e. e ≤ last)
-  least_in p first n most = by_found (least p first n) refl
+  -- the least number below last + 1 that passes, if there is one, is at most `last`
+  least-up_to_last : (p : ℕ → Bool) (first n : ℕ) → n ≤ last + 1 → IfSome (least p first n) (λ e. e ≤ last)
+  least-up_to_last p first n most = by_found (least p first n) refl
     where
+      -- whether one is found or not
       by_found : (o : Option ℕ) → least p first n ≡ o → IfSome o (λ e. e ≤ last)
       by_found None e = tt
       by_found (Some i) e = let found = least-found p first n i e in omega (arith, found.below, most)
@@ -76,159 +87,186 @@ module _ (last : ℕ) where
   -- ---- the rows that begin at an instant
 
   module _ (t : Trace) (stretch : Stretch) (end : ℕ) (most : end ≤ last + 1) (i : ℕ) (is : i ≤ last) where
-    tenure_row_in : (level slot ending : Option ℕ) → IfSome ending (λ e. e ≤ last)
+    -- so is the row of a tenure that begins at `i`, and ends up to `last`, if it ends
+    RowsAreIn-tenure_row : (level slot ending : Option ℕ) → IfSome ending (λ e. e ≤ last)
         → RowsAreIn (tenure_row i level slot ending)
     unfolding row_changes
-    tenure_row_in None slot ending e = tt
-    tenure_row_in (Some level) None ending e = tt
-    tenure_row_in (Some level) (Some slot) ending e = ((is, ends_in _ ending e), tt)
+    RowsAreIn-tenure_row None slot ending e = tt
+    RowsAreIn-tenure_row (Some level) None ending e = tt
+    RowsAreIn-tenure_row (Some level) (Some slot) ending e = ((is, AreIn-ends _ ending e), tt)
 
-    open_in : (ending : Option ℕ) → IfSome ending (λ e. e ≤ last) → RowIsIn (OpenTenure i ending)
+    -- so is the row of an open tenure
+    RowIsIn-OpenTenure : (ending : Option ℕ) → IfSome ending (λ e. e ≤ last) → RowIsIn (OpenTenure i ending)
     unfolding row_changes
-    open_in ending e = (is, ends_in _ ending e)
+    RowIsIn-OpenTenure ending e = (is, AreIn-ends _ ending e)
 
-    tenures_in : RowsAreIn (tenure_rows t stretch end i)
+    -- so are the rows of the tenures that begin at `i`
+    RowsAreIn-tenure_rows : RowsAreIn (tenure_rows t stretch end i)
     unfolding tenure_rows
-    tenures_in =
-        let ending = least_in (rises t BBSY) (i + 1) end most in
-        if_rows ((i == stretch.start) && low t BBSY i) (OpenTenure i (least (rises t BBSY) (i + 1) end) ∷ []) _
-        (open_in (least (rises t BBSY) (i + 1) end) ending, tt)
-        (if_rows (tenure_starts t stretch i) _ [] (tenure_row_in (tenure_level t i) (tenure_slot t i)
+    RowsAreIn-tenure_rows =
+        let ending = least-up_to_last (rises t BBSY) (i + 1) end most in
+        RowsAreIn-if ((i == stretch.start) && low t BBSY i) (OpenTenure i (least (rises t BBSY) (i + 1) end) ∷ []) _
+        (RowIsIn-OpenTenure (least (rises t BBSY) (i + 1) end) ending, tt)
+        (RowsAreIn-if (tenure_starts t stretch i) _ [] (RowsAreIn-tenure_row (tenure_level t i) (tenure_slot t i)
         (least (rises t BBSY) (i + 1) end) ending) tt)
 
-    cycle_row_in : (v : Levels) (ending : Option ℕ) (c : Class) → IfSome ending (λ e. e ≤ last)
+    -- so is the row of a cycle of any class
+    RowIsIn-cycle_row : (v : Levels) (ending : Option ℕ) (c : Class) → IfSome ending (λ e. e ≤ last)
         → RowIsIn (cycle_row i v ending c)
     unfolding row_changes
-    cycle_row_in v ending class.S e = (is, ends_in _ ending e)
-    cycle_row_in v ending class.K e = (is, ends_in _ ending e)
-    cycle_row_in v ending class.F e = (is, ends_in _ ending e)
-    cycle_row_in v ending class.I e = (is, ends_in _ ending e)
+    RowIsIn-cycle_row v ending class.S e = (is, AreIn-ends _ ending e)
+    RowIsIn-cycle_row v ending class.K e = (is, AreIn-ends _ ending e)
+    RowIsIn-cycle_row v ending class.F e = (is, AreIn-ends _ ending e)
+    RowIsIn-cycle_row v ending class.I e = (is, AreIn-ends _ ending e)
 
-    cycles_in : RowsAreIn (cycle_rows t stretch end i)
+    -- so are the rows of the cycles that begin at `i`
+    RowsAreIn-cycle_rows : RowsAreIn (cycle_rows t stretch end i)
     unfolding cycle_rows
-    cycles_in =
-        let ending = least_in (rises t AS) (i + 1) end most in
-        if_rows (cycle_starts t stretch i) _ [] (
-          cycle_row_in (levels_at t i) (least (rises t AS) (i + 1) end)
+    RowsAreIn-cycle_rows =
+        let ending = least-up_to_last (rises t AS) (i + 1) end most in
+        RowsAreIn-if (cycle_starts t stretch i) _ [] (
+          RowIsIn-cycle_row (levels_at t i) (least (rises t AS) (i + 1) end)
               (class_of (levels_at t i)) ending,
           tt,
         ) tt
 
-    answered_in : (r : ℕ) (cycle : Option ℕ) → RowIsIn (answered_row t stretch end i r cycle)
+    -- so is the row of a transfer that is answered
+    RowIsIn-answered_row : (r : ℕ) (cycle : Option ℕ) → RowIsIn (answered_row t stretch end i r cycle)
     unfolding row_changes
-    answered_in r None = (is, tt)
-    answered_in r (Some cycle) = (is, ends_in _ _ (least_in (strobes_high t) (i + 1) end most))
+    RowIsIn-answered_row r None = (is, tt)
+    RowIsIn-answered_row r (Some cycle) = (is, AreIn-ends _ _ (least-up_to_last (strobes_high t) (i + 1) end most))
 
-    transfer_in : (r : Option ℕ) → RowIsIn (transfer_row t stretch end i r)
+    -- so is the row of a transfer, answered or pending
+    RowIsIn-transfer_row : (r : Option ℕ) → RowIsIn (transfer_row t stretch end i r)
     unfolding row_changes
-    transfer_in None = (is, tt)
-    transfer_in (Some r) = answered_in r (cycle_of t stretch r)
+    RowIsIn-transfer_row None = (is, tt)
+    RowIsIn-transfer_row (Some r) = RowIsIn-answered_row r (cycle_of t stretch r)
 
-    transfers_in : RowsAreIn (transfer_rows t stretch end i)
+    -- so are the rows of the transfers that begin at `i`
+    RowsAreIn-transfer_rows : RowsAreIn (transfer_rows t stretch end i)
     unfolding transfer_rows
-    transfers_in =
-        if_rows (transfer_starts t stretch i) _ [] (transfer_in (least (answers t stretch i) i end), tt) tt
+    RowsAreIn-transfer_rows =
+        RowsAreIn-if (transfer_starts t stretch i) _ [] (RowIsIn-transfer_row (least (answers t stretch i) i end), tt)
+        tt
 
-  before_in : (t : Trace) (stretch : Stretch) (end n : ℕ) → end ≤ last + 1 → n ≤ last + 1
+  -- so are the rows that begin before the instant `n`
+  RowsAreIn-rows_before : (t : Trace) (stretch : Stretch) (end n : ℕ) → end ≤ last + 1 → n ≤ last + 1
       → RowsAreIn (rows_before t stretch end n)
   unfolding rows_before
-  before_in t stretch end zero most few = tt
-  before_in t stretch end (suc n) most few =
+  RowsAreIn-rows_before t stretch end zero most few = tt
+  RowsAreIn-rows_before t stretch end (suc n) most few =
       let is : n ≤ last = omega (arith, few) in
-      both_rows (rows_before t stretch end n ++ tenure_rows t stretch end n ++ cycle_rows t stretch end n)
+      RowsAreIn-append (rows_before t stretch end n ++ tenure_rows t stretch end n ++ cycle_rows t stretch end n)
       (transfer_rows t stretch end n)
-      (both_rows (rows_before t stretch end n ++ tenure_rows t stretch end n) (cycle_rows t stretch end n)
-      (both_rows (rows_before t stretch end n) (tenure_rows t stretch end n)
-      (before_in t stretch end n most (omega (arith, few))) (tenures_in t stretch end most n is))
-      (cycles_in t stretch end most n is)) (transfers_in t stretch end most n is)
+      (RowsAreIn-append (rows_before t stretch end n ++ tenure_rows t stretch end n) (cycle_rows t stretch end n)
+      (RowsAreIn-append (rows_before t stretch end n) (tenure_rows t stretch end n)
+      (RowsAreIn-rows_before t stretch end n most (omega (arith, few))) (RowsAreIn-tenure_rows t stretch end most n is))
+      (RowsAreIn-cycle_rows t stretch end most n is)) (RowsAreIn-transfer_rows t stretch end most n is)
 
   -- ---- the rows of a stretch
 
-  reset_in : (i : ℕ) → i ≤ last → RowIsIn (Reset i)
+  -- so is the row of a reset
+  RowIsIn-Reset : (i : ℕ) → i ≤ last → RowIsIn (Reset i)
   unfolding row_changes
-  reset_in i is = (is, (is, (is, tt)))
+  RowIsIn-Reset i is = (is, (is, (is, tt)))
 
-  resets_in : (t : Trace) (limit : ℕ) (stretch : Stretch) → limit ≤ last + 1 → RowsAreIn (reset_rows t limit stretch)
-  resets_in t limit stretch most = by_test (is_reset_at t stretch.end && nat_lt stretch.end limit) refl
+  -- so is the row of the reset that ends a stretch, if one does
+  RowsAreIn-reset_rows : (t : Trace) (limit : ℕ) (stretch : Stretch) → limit ≤ last + 1
+      → RowsAreIn (reset_rows t limit stretch)
+  RowsAreIn-reset_rows t limit stretch most = by_test (is_reset_at t stretch.end && nat_lt stretch.end limit) refl
     where
+      -- whether a reset ends it (`test`) or not
       by_test : (test : Bool) → (is_reset_at t stretch.end && nat_lt stretch.end limit) ≡ test
           → RowsAreIn (if test then Reset stretch.end ∷ [] else [])
       by_test true e =
           let below = ltb-true stretch.end limit (and_parts (is_reset_at t stretch.end) (nat_lt stretch.end limit) e).1
           in
-          (reset_in stretch.end (omega (arith, below, most)), tt)
+          (RowIsIn-Reset stretch.end (omega (arith, below, most)), tt)
       by_test false e = tt
 
-  one_stretch_in : (t : Trace) (limit : ℕ) (stretch : Stretch) → limit ≤ last + 1
+  -- so are the rows of a stretch
+  RowsAreIn-rows_of_stretch : (t : Trace) (limit : ℕ) (stretch : Stretch) → limit ≤ last + 1
       → RowsAreIn (rows_of_stretch t limit stretch)
   unfolding rows_of_stretch row_changes
-  one_stretch_in t limit stretch most =
+  RowsAreIn-rows_of_stretch t limit stretch most =
       let few : limit_in t limit stretch ≤ last + 1 = omega (arith, most) in
-      if_rows (nat_lt stretch.start limit) _ [] (
+      RowsAreIn-if (nat_lt stretch.start limit) _ [] (
         tt,
-        both_rows
+        RowsAreIn-append
             (rows_before t stretch (limit_in t limit stretch) (limit_in t limit stretch)) (reset_rows t limit stretch)
-            (before_in t stretch (limit_in t limit stretch) (limit_in t limit stretch) few few)
-            (resets_in t limit stretch most),
+            (RowsAreIn-rows_before t stretch (limit_in t limit stretch) (limit_in t limit stretch) few few)
+            (RowsAreIn-reset_rows t limit stretch most),
       ) tt
 
-  stretches_in : (t : Trace) (limit : ℕ) (stretches : List Stretch) → limit ≤ last + 1
+  -- so are the rows of several stretches
+  RowsAreIn-stretches : (t : Trace) (limit : ℕ) (stretches : List Stretch) → limit ≤ last + 1
       → RowsAreIn (flat_map (rows_of_stretch t limit) stretches)
-  stretches_in t limit [] most = tt
-  stretches_in t limit (stretch ∷ stretches) most =
-      both_rows (rows_of_stretch t limit stretch) (flat_map (rows_of_stretch t limit) stretches)
-      (one_stretch_in t limit stretch most)
-      (stretches_in t limit stretches most)
+  RowsAreIn-stretches t limit [] most = tt
+  RowsAreIn-stretches t limit (stretch ∷ stretches) most =
+      RowsAreIn-append (rows_of_stretch t limit stretch) (flat_map (rows_of_stretch t limit) stretches)
+      (RowsAreIn-rows_of_stretch t limit stretch most)
+      (RowsAreIn-stretches t limit stretches most)
 
 -- ---- the verdict
 
 -- the least break is at an instant of the recording
-break_in : (t : Trace) (stretches : List Stretch) (b : Break) → least_of all_rules t stretches ≡ Some b
+least_of-in_recording : (t : Trace) (stretches : List Stretch) (b : Break) → least_of all_rules t stretches ≡ Some b
     → b.instant ≤ last_instant t
-break_in t [] b e = absurd (cc)
-break_in t (stretch ∷ []) b e = let there = least_break-within t stretch all_rules b e in omega (arith, there.0)
-break_in t (stretch ∷ next ∷ stretches) b e =
+least_of-in_recording t [] b e = absurd (cc)
+least_of-in_recording t (stretch ∷ []) b e = let there = least_break-within t stretch all_rules b e in omega
+    (arith, there.0)
+least_of-in_recording t (stretch ∷ next ∷ stretches) b e =
     elim (either (least_break t stretch all_rules) (least_of all_rules t (next ∷ stretches)) b e) [
       | inl here ↦ let there = least_break-within t stretch all_rules b here in omega (arith, there.0)
-      | inr later ↦ break_in t (next ∷ stretches) b later.1
+      | inr later ↦ least_of-in_recording t (next ∷ stretches) b later.1
     ]
 
-verdict_in : (t : Trace) (b : Break) → b.instant ≤ last_instant t
+-- the row of the verdict on a break is at an instant of the recording
+RowIsIn-Verdict : (t : Trace) (b : Break) → b.instant ≤ last_instant t
     → RowIsIn (last_instant t) (Verdict (outcome_of (Some b)))
 unfolding row_changes
-verdict_in t b is = by_rule (is_unreadable b.rule)
+RowIsIn-Verdict t b is = by_rule (is_unreadable b.rule)
   where
+    -- whether the break is of a rule that makes the recording unreadable or not
     by_rule : (unreadable : Bool) → RowIsIn (last_instant t) (Verdict (if unreadable then Unreadable b.rule b.instant
         b.line else Broken b.rule b.instant b.line))
     by_rule true = (is, (is, (is, (is, tt))))
     by_rule false = (is, (is, (is, (is, tt))))
 
-listed_in : (t : Trace) (stretches : List Stretch) (found : Option Break) → least_of all_rules t stretches ≡ found
+-- the rows up to the least break, if there is one, are at instants of the recording
+RowsAreIn-listing_before : (t : Trace) (stretches : List Stretch) (found : Option Break)
+    → least_of all_rules t stretches ≡ found
     → RowsAreIn (last_instant t) (listing_before t stretches found)
 unfolding row_changes
-listed_in t stretches None e =
-    both_rows (last_instant t) (flat_map (rows_of_stretch t (listed_end t None)) stretches)
+RowsAreIn-listing_before t stretches None e =
+    RowsAreIn-append (last_instant t) (flat_map (rows_of_stretch t (listed_end t None)) stretches)
     (Verdict (outcome_of None) ∷ [])
-    (stretches_in (last_instant t) t (listed_end t None) stretches (omega arith)) (tt, tt)
-listed_in t stretches (Some b) e =
-    let is = break_in t stretches b e in
-    both_rows (last_instant t) (flat_map (rows_of_stretch t (listed_end t (Some b))) stretches)
+    (RowsAreIn-stretches (last_instant t) t (listed_end t None) stretches (omega arith)) (tt, tt)
+RowsAreIn-listing_before t stretches (Some b) e =
+    let is = least_of-in_recording t stretches b e in
+    RowsAreIn-append (last_instant t) (flat_map (rows_of_stretch t (listed_end t (Some b))) stretches)
     (Verdict (outcome_of (Some b)) ∷ [])
-    (stretches_in (last_instant t) t (listed_end t (Some b)) stretches (omega (arith, is))) (verdict_in t b is, tt)
+    (RowsAreIn-stretches (last_instant t) t (listed_end t (Some b)) stretches (omega (arith, is)))
+    (RowIsIn-Verdict t b is, tt)
 
-rows_in : (t : Trace) → RowsAreIn (last_instant t) (recorded_rows t)
+-- all rows of a recording are at its instants
+RowsAreIn-recorded_rows : (t : Trace) → RowsAreIn (last_instant t) (recorded_rows t)
 unfolding listing_by row_changes
-rows_in t = by_stretches (judged_stretches t)
+RowsAreIn-recorded_rows t = by_stretches (judged_stretches t)
   where
+    -- whichever stretches it has
     by_stretches : (stretches : List Stretch) → RowsAreIn (last_instant t) (listing_of_stretches all_rules t stretches)
     by_stretches [] = (tt, tt)
-    by_stretches (stretch ∷ stretches) = listed_in t (stretch ∷ stretches) (least_of all_rules t (stretch ∷ stretches))
+    by_stretches (stretch ∷ stretches) = RowsAreIn-listing_before t (stretch ∷ stretches)
+        (least_of all_rules t (stretch ∷ stretches))
         refl
 
-pub changes_within : (t : Trace) → All (λ (c : ShownChange). c.instant ≤ last_instant t) (all_changes (recorded_rows t))
-changes_within t =
+-- all changes of the rows of a recording are at its instants
+pub all_changes-within : (t : Trace) → All (λ (c : ShownChange). c.instant ≤ last_instant t)
+    (all_changes (recorded_rows t))
+all_changes-within t =
     let none : 0 ≤ last_instant t = omega arith in
     All-from_recursion (λ (c : ShownChange). c.instant ≤ last_instant t) (all_changes (recorded_rows t))
-    (both_in (last_instant t) opening_changes (flat_map row_changes (recorded_rows t))
+    (AreIn-append (last_instant t) opening_changes (flat_map row_changes (recorded_rows t))
     (none, (none, (none, (none, tt))))
-    (changes_in (last_instant t) (recorded_rows t) (rows_in t)))
+    (AreIn-flat_map (last_instant t) (recorded_rows t) (RowsAreIn-recorded_rows t)))

@@ -1,4 +1,4 @@
--- The recording of a text, deskewed and cut into blocks.
+-- The recording of a text, deskewed and cut into blocks, is listed with its times, or its refusal is given.
 use Rattle.std.proofs.Common.{◌≡◌, ℕ, false, List, length, refl, ap, sym, subst, ◌∙◌}
 use Rattle.std.specs.Prelude.{nat_lt, Option, Result, Ok, Err}
 use Rattle.vcd_read.specs.Contents.{Contents}
@@ -31,55 +31,67 @@ use Rattle.vme_commands.proofs.SettledLemmas.{length-settled_within}
 use Rattle.vme_annotate.specs.TimedListings.{GivesTimedListing, TimedListingValue, recording_to_list, settled_in_blocks}
 use Rattle.vme_annotate.specs.TimedListings.{times_of}
 
+-- a recording is found that is the one that is read, or a refusal
 abbrev GivesTrace : Result Trace Refusal → Result Trace Refusal → Type 0
 GivesTrace found read = AnswerGives (λ (t : Trace). t) found read
 
 -- ---- a recording that isn't too long
 
+-- the recording, or the refusal where it has too many steps
 abbrev pub or_too_long : Trace → Result Trace Refusal
 or_too_long t = or_bad_binding (limited t)
 
-short_in : {W : Type 0} (r : Result W BindFault) (made : W → Trace) → or_bad_binding (r >>= λ w. limited (made w))
+-- whether a recording has too many steps may be asked after the binding is found good
+or_bad_binding-or_too_long : {W : Type 0} (r : Result W BindFault) (made : W → Trace)
+    → or_bad_binding (r >>= λ w. limited (made w))
     ≡ (or_bad_binding (r >>= λ w. Ok (made w)) >>= or_too_long)
-short_in (Ok w) made = refl
-short_in (Err fault) made = refl
+or_bad_binding-or_too_long (Ok w) made = refl
+or_bad_binding-or_too_long (Err fault) made = refl
 
-short_of : (bound : BoundLines) (contents : Contents) → or_bad_binding (capture_of bound contents)
+-- the capture of a dump is its recording, if this hasn't too many steps
+capture_of-or_too_long : (bound : BoundLines) (contents : Contents) → or_bad_binding (capture_of bound contents)
     ≡ (or_bad_binding (recording_of bound contents) >>= or_too_long)
 unfolding capture_of recording_of
-short_of bound contents = short_in (bound_groups_in contents.variables bound.assignments)
+capture_of-or_too_long bound contents = or_bad_binding-or_too_long
+    (bound_groups_in contents.variables bound.assignments)
     (λ wires. recording bound.slots wires contents.instants (length contents.instants))
 
-pub capture_by-short : (bound : BoundLines) (dump : Result Contents Refusal) → capture_by bound dump
+-- so is the capture of what reading the dump gave
+pub capture_by-or_too_long : (bound : BoundLines) (dump : Result Contents Refusal) → capture_by bound dump
     ≡ (recording_by bound dump >>= or_too_long)
-capture_by-short bound (Ok contents) = short_of bound contents
-capture_by-short bound (Err r) = refl
+capture_by-or_too_long bound (Ok contents) = capture_of-or_too_long bound contents
+capture_by-or_too_long bound (Err r) = refl
 
-pub text_captured : (bound : BoundLines) (bytes : List ℕ) (t : Trace) → recording_of_text bound bytes ≡ Ok t
+-- the capture of a text is its recording, if this hasn't too many steps
+pub capture_by-recording_of_text : (bound : BoundLines) (bytes : List ℕ) (t : Trace) → recording_of_text bound bytes
+    ≡ Ok t
     → capture_by bound (or_bad_dump (dump_of bytes)) ≡ or_bad_binding (limited t)
-text_captured bound bytes t is =
-    capture_by-short bound (or_bad_dump (dump_of bytes))
+capture_by-recording_of_text bound bytes t is =
+    capture_by-or_too_long bound (or_bad_dump (dump_of bytes))
     ∙ ap (λ (r : Result Trace Refusal). r >>= or_too_long) (recording_by-text bound bytes t is)
 
 -- ---- refusals
 
+-- a refusal in place of the recording is one in place of the listing
 pub GivesTimedListing-from_AnswerGives : (r : Refusal) (read : Result Trace Refusal) → GivesTrace (Err r) read
     → GivesTimedListing (Err r) read
 GivesTimedListing-from_AnswerGives Memory read is = tt
 GivesTimedListing-from_AnswerGives r read is = is
 
-pub refused_in_blocks : (skew block : ℕ) (r : Refusal) (read : Result Trace Refusal) → GivesTrace (Err r) read
+-- so is it after deskewing and cutting into blocks
+pub settled_in_blocks-refused : (skew block : ℕ) (r : Refusal) (read : Result Trace Refusal) → GivesTrace (Err r) read
     → GivesTimedListing (Err r) (settled_in_blocks skew block read)
-refused_in_blocks skew block r read is =
+settled_in_blocks-refused skew block r read is =
     GivesTimedListing-from_AnswerGives r (settled_in_blocks skew block read)
     (AnswerGives-then r (settled_or skew read) (in_blocks block) (settled_or-refused skew read r is))
 
-pub text_refused : (skew block : ℕ) (bound : BoundLines) (bytes : List ℕ) (fault : CaptureFault)
+-- a fault of the text is the refusal of the listing
+pub recording_to_list-text_refused : (skew block : ℕ) (bound : BoundLines) (bytes : List ℕ) (fault : CaptureFault)
     → CaptureFailsBy fault (recording_of_text bound bytes)
     → GivesTimedListing (Err (capture_refusal fault)) (recording_to_list skew bound (or_bad_dump (dump_of bytes)) block)
-text_refused skew block bound bytes fault is =
-    refused_in_blocks skew block (capture_refusal fault) (capture_by bound (or_bad_dump (dump_of bytes)))
-    (subst (GivesTrace (Err (capture_refusal fault))) (sym (capture_by-short bound (or_bad_dump (dump_of bytes))))
+recording_to_list-text_refused skew block bound bytes fault is =
+    settled_in_blocks-refused skew block (capture_refusal fault) (capture_by bound (or_bad_dump (dump_of bytes)))
+    (subst (GivesTrace (Err (capture_refusal fault))) (sym (capture_by-or_too_long bound (or_bad_dump (dump_of bytes))))
     (AnswerGives-then (capture_refusal fault) (recording_by bound (or_bad_dump (dump_of bytes))) or_too_long
     (recording_by-fails bound bytes fault is)))
 
@@ -87,54 +99,61 @@ text_refused skew block bound bytes fault is =
 
 module _ (skew block : ℕ) (t made : Trace) (within : nat_lt capture_limit (length t.steps) ≡ false)
     (is : made ≡ settled skew t) where
-  in_blocks_is : settled_in_blocks skew block (or_bad_binding (limited t)) ≡ limited_in_blocks block made
-  in_blocks_is =
+  -- a recording that hasn't too many steps is deskewed, and refused only if it needs too many blocks
+  settled_in_blocks-limited : settled_in_blocks skew block (or_bad_binding (limited t)) ≡ limited_in_blocks block made
+  settled_in_blocks-limited =
       ap (λ (r : Result Trace Refusal). r >>= in_blocks block) (settled_or-within skew t made within is)
       ∙ sym (limited_in_blocks-short made block (length-settled_within skew t made within is))
 
-  pub settled_refused : (r : Refusal) → GivesTrace (Err r) (limited_in_blocks block made)
+  -- a refusal of the deskewed recording is the refusal of the listing
+  pub settled_in_blocks-settled_refused : (r : Refusal) → GivesTrace (Err r) (limited_in_blocks block made)
       → GivesTimedListing (Err r) (settled_in_blocks skew block (or_bad_binding (limited t)))
-  settled_refused r given =
+  settled_in_blocks-settled_refused r given =
       GivesTimedListing-from_AnswerGives r (settled_in_blocks skew block (or_bad_binding (limited t)))
-      (subst (GivesTrace (Err r)) (sym in_blocks_is) given)
+      (subst (GivesTrace (Err r)) (sym settled_in_blocks-limited) given)
 
-  pub settled_listed : (found : TimedListingValue) → limited_in_blocks block made ≡ Ok made
+  -- the listing of the deskewed recording, with its times, is the listing that is asked for
+  pub settled_in_blocks-listed : (found : TimedListingValue) → limited_in_blocks block made ≡ Ok made
       → found.listing ≡ listing_of made → found.times ≡ times_of made.steps
       → GivesTimedListing (Ok found) (settled_in_blocks skew block (or_bad_binding (limited t)))
-  settled_listed found fits listing times =
-      (made, in_blocks_is ∙ fits, record { listing_is = listing; times_are = times })
+  settled_in_blocks-listed found fits listing times =
+      (made, settled_in_blocks-limited ∙ fits, record { listing_is = listing; times_are = times })
 
 -- ---- what is read
 
+-- the recording that is read, deskewed by `skew`, if it doesn't need too many blocks
 abbrev settled_blocks : ℕ → ℕ → Result Trace Refusal → Result Trace Refusal
 settled_blocks skew block read = settled_or skew read >>= in_blocks block
 
-pub recording_is : (skew block : ℕ) (binding dump : Option (List ℕ)) (bound : BoundLines) → binding_read binding
+-- with a binding that is read, the recording of the inputs is that of the dump by it
+pub settled_recording-bound : (skew block : ℕ) (binding dump : Option (List ℕ)) (bound : BoundLines)
+    → binding_read binding
     ≡ Ok bound → settled_recording skew binding dump block ≡ recording_to_list skew bound (dump_read dump) block
 unfolding settled_recording settled_read
-recording_is skew block binding dump bound is =
+settled_recording-bound skew block binding dump bound is =
     ap (settled_blocks skew block) (capture_read-bound binding dump bound is)
 
 -- a refusal of the binding is the refusal of the listing
-pub unbound : (skew block : ℕ) (binding dump : Option (List ℕ)) (r : Refusal)
+pub settled_recording-unread_binding : (skew block : ℕ) (binding dump : Option (List ℕ)) (r : Refusal)
     → AnswerGives (λ (bound : BoundLines). bound) (Err r) (binding_read binding)
     → GivesTimedListing (Err r) (settled_recording skew binding dump block)
-unbound skew block binding dump r is =
+settled_recording-unread_binding skew block binding dump r is =
     GivesTimedListing-from_AnswerGives r (settled_recording skew binding dump block)
     (settled_recording-refused skew binding dump block r
     (settled_read-refused skew binding dump r (capture_read-refused binding dump r is)))
 
 -- a refusal of the dump is the refusal of the listing
-pub unread_by : (skew block : ℕ) (dump : Option (List ℕ)) (bound : BoundLines) (r : Refusal)
+pub recording_to_list-unread : (skew block : ℕ) (dump : Option (List ℕ)) (bound : BoundLines) (r : Refusal)
     → AnswerGives (λ (contents : Contents). contents) (Err r) (dump_read dump)
     → GivesTimedListing (Err r) (recording_to_list skew bound (dump_read dump) block)
-unread_by skew block dump bound r refused =
-    refused_in_blocks skew block r (capture_by bound (dump_read dump))
+recording_to_list-unread skew block dump bound r refused =
+    settled_in_blocks-refused skew block r (capture_by bound (dump_read dump))
     (AnswerGives-then r (dump_read dump) (λ (contents : Contents). or_bad_binding (capture_of bound contents)) refused)
 
-pub unread_dump : (skew block : ℕ) (binding dump : Option (List ℕ)) (bound : BoundLines) (r : Refusal)
+-- with a binding that is read, a refusal of the dump is the refusal of the listing
+pub settled_recording-unread_dump : (skew block : ℕ) (binding dump : Option (List ℕ)) (bound : BoundLines) (r : Refusal)
     → binding_read binding ≡ Ok bound → AnswerGives (λ (contents : Contents). contents) (Err r) (dump_read dump)
     → GivesTimedListing (Err r) (settled_recording skew binding dump block)
-unread_dump skew block binding dump bound r is refused =
-    subst (GivesTimedListing (Err r)) (sym (recording_is skew block binding dump bound is))
-    (unread_by skew block dump bound r refused)
+settled_recording-unread_dump skew block binding dump bound r is refused =
+    subst (GivesTimedListing (Err r)) (sym (settled_recording-bound skew block binding dump bound is))
+    (recording_to_list-unread skew block dump bound r refused)

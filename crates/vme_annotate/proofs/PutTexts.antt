@@ -1,24 +1,28 @@
--- Texts that are put part by part.
+-- A text whose parts are put one after the other is put as a whole, after what was made before.
 use Rattle.std.proofs.Common.{◌≡◌, ℕ, List, [], ◌∷◌, ◌++◌, append_assoc, refl}
 use Rattle.std.specs.Prelude.{codes, flat_map}
 use Rattle.vme_annotation.specs.Annotated.{declaration, declarations, with_space}
 use Rattle.vme_annotation.specs.declared.shown_variable.ShownVariable.TheVariants as shown
 
-pub declaration_put : (made code name : List ℕ)
+-- the parts of the declaration of a variable are its words, with a space after each
+pub append-declaration : (made code name : List ℕ)
     → made ++ codes "$var string 1 " ++ code ++ codes " " ++ name ++ codes " $end "
     ≡ made ++ flat_map with_space (codes "$var" ∷ codes "string" ∷ codes "1" ∷ code ∷ name ∷ codes "$end" ∷ [])
-declaration_put made code name = simp append_assoc refl
+append-declaration made code name = simp append_assoc refl
 
-pub change_put : (made text code : List ℕ)
+-- the parts of a change are its text and its code
+pub append-change : (made text code : List ℕ)
     → made ++ (codes " s" ++ text) ++ codes " " ++ code ≡ made ++ (codes " s" ++ (text ++ (codes " " ++ code)))
-change_put made text code = simp append_assoc refl
+append-change made text code = simp append_assoc refl
 
-pub declarations_put : (made scope : List ℕ) (own : List (List ℕ))
+-- the scope and the declarations of its four variables are the declarations that are added
+pub append-declarations : (made scope : List ℕ) (own : List (List ℕ))
     → made ++ codes "$scope module " ++ scope ++ codes " $end " ++ flat_map with_space (declaration own shown.Tenure)
     ++ flat_map with_space (declaration own shown.Cycle) ++ flat_map with_space (declaration own shown.Transfer)
     ++ flat_map with_space (declaration own shown.Verdict) ++ codes "$upscope $end "
     ≡ made ++ declarations scope own
-declarations_put made scope own = simp append_assoc refl
+append-declarations made scope own = simp append_assoc refl
 
-pub shown_put : (made text : List ℕ) → made ++ codes " s" ++ text ≡ made ++ (codes " s" ++ text)
-shown_put made text = append_assoc made (codes " s") text
+-- the letter of a string, and its text
+pub append-shown : (made text : List ℕ) → made ++ codes " s" ++ text ≡ made ++ (codes " s" ++ text)
+append-shown made text = append_assoc made (codes " s") text

@@ -28,10 +28,11 @@ use Rattle.vme_commands.specs.Judged.{in_blocks}
 use Rattle.vme_annotation.proofs.SameDumpLemmas.{IsDump, both_read, dump_is}
 use Rattle.vme_annotate.specs.HasTimes.{HasTimes}
 use Rattle.vme_annotate.specs.TimedListings.{recording_to_list}
-use Rattle.vme_annotate.proofs.HasTimesLemmas.{EachReached, at_reached, body_rises, each_instant, recorded_reached}
-use Rattle.vme_annotate.proofs.HasTimesLemmas.{settled_reached, times_order}
-use Rattle.vme_annotate.proofs.ListedInstants.{changes_within}
-use Rattle.vme_annotate.proofs.ListedLemmas.{capture_by-short, or_too_long}
+use Rattle.vme_annotate.proofs.HasTimesLemmas.{EachReached, IsReached-time_at, IsAscendingFrom-dump_of}
+use Rattle.vme_annotate.proofs.HasTimesLemmas.{IsReached-dump_of, EachReached-recording_of}
+use Rattle.vme_annotate.proofs.HasTimesLemmas.{EachReached-settled, time_at-later}
+use Rattle.vme_annotate.proofs.ListedInstants.{all_changes-within}
+use Rattle.vme_annotate.proofs.ListedLemmas.{capture_by-or_too_long, or_too_long}
 
 -- ---- from a result that is `Ok` to what it is made of
 
@@ -86,7 +87,7 @@ IsRecorded-listed skew binding dump block t e =
     let same : u ≡ t = or_refused-ok _ _ u t cut in
     let (raw, captured, settles) = settled_or-ok skew (capture_by binding read) u settled_as in
     let (whole, taken, short) = both_read (recording_by binding read) or_too_long raw
-    (sym (capture_by-short binding read) ∙ captured) in
+    (sym (capture_by-or_too_long binding read) ∙ captured) in
     let all : whole ≡ raw = or_bad_binding-limited _ _ whole raw short in
     let (contents, dumped, made) = both_read read _ whole taken in
     record {
@@ -124,21 +125,21 @@ module _ (skew : ℕ) (binding : BoundLines) (dump : List ℕ) (t : Trace) (is :
   ordered : (i j : ℕ) → i ≤ j → j ≤ last_instant t → time_at t i ≤ time_at t j
   ordered i j le most =
       let all : i + (j - i) ≡ j = omega (arith, le) in
-      subst (λ (k : ℕ). time_at t i ≤ time_at t k) all (times_order t formed i (j - i) (omega (arith, le, most)))
+      subst (λ (k : ℕ). time_at t i ≤ time_at t k) all (time_at-later t formed i (j - i) (omega (arith, le, most)))
 
   -- the dump has the times of the recording `t`
   pub has_times : HasTimes dump t
   has_times =
       let read : IsDump dump is.contents = dump_is dump is.contents is.read_is in
-      let each = recorded_reached dump binding is.contents is.raw is.raw_is
-      (each_instant dump is.contents is.read_is) in
+      let each = EachReached-recording_of dump binding is.contents is.raw is.raw_is
+      (IsReached-dump_of dump is.contents is.read_is) in
       record {
         defined = subst (λ (o : Option (List Token)). IsSome o) (sym read.ends) refl;
-        sorted = body_rises dump is.contents is.read_is;
+        sorted = IsAscendingFrom-dump_of dump is.contents is.read_is;
         ordered = ordered;
-        reached = λ i. at_reached dump t i (subst (λ (u : Trace). EachReached dump u.steps) is.settles
-            (settled_reached dump skew is.raw each));
-        within = changes_within t;
+        reached = λ i. IsReached-time_at dump t i (subst (λ (u : Trace). EachReached dump u.steps) is.settles
+            (EachReached-settled dump skew is.raw each));
+        within = all_changes-within t;
       }
 
   -- the definitions of the dump are read

@@ -4,7 +4,7 @@ use Rattle.std.proofs.lemmas.List.{length-map}
 use Rattle.vcd_places.specs.Codes.{IsUnused}
 use Rattle.vcd_read.specs.CodeNumbers.{code_number}
 use Rattle.vme_annotate.specs.Added.{bytes_of}
-use Rattle.vme_annotate.proofs.AddedLemmas.{all_of_map, maps_both}
+use Rattle.vme_annotate.proofs.AddedLemmas.{All-map, map-of_map}
 use Rattle.vme_annotate.proofs.added.added_beside.Goals as goal
 
 pub returns : goal.returns
@@ -19,8 +19,8 @@ returns c =
       count_is = length-map codes bytes_of ∙ told.count;
       start = c.in-Some.section.start;
       starts = c.in-Some.ensures.start;
-      each = all_of_map bytes_of
+      each = All-map bytes_of
           (λ (code : List ℕ). IsUnused (take c.in-Some.section.start c.args.dump.now) (code_number code) code) codes
           told.each;
-      ascend = subst IsStrictlyIncreasing (sym (maps_both bytes_of code_number codes)) told.ascend;
+      ascend = subst IsStrictlyIncreasing (sym (map-of_map bytes_of code_number codes)) told.ascend;
     }

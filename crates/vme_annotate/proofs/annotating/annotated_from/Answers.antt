@@ -11,7 +11,8 @@ use Rattle.vme_commands.specs.declared.built_in.TheConstants.{BLOCK}
 use Rattle.vme_annotate.specs.Prepared.{GivesPrepared}
 use Rattle.vme_annotate.specs.TimedListings.{recording_to_list}
 use Rattle.vme_annotate.proofs.EndsLemmas.{AnswerGives-from_GivesTimedListing, GivesPrepared-from_AnswerGives}
-use Rattle.vme_annotate.proofs.ListedLemmas.{recording_is, unbound, unread_dump}
+use Rattle.vme_annotate.proofs.ListedLemmas.{settled_recording-bound, settled_recording-unread_binding}
+use Rattle.vme_annotate.proofs.ListedLemmas.{settled_recording-unread_dump}
 use Rattle.vme_annotate.proofs.annotating.annotated_from.Goals as goal
 
 pub returns-in_err-bound : goal.returns-in_err-bound
@@ -26,7 +27,7 @@ returns-in_err-bound g c =
       binding_reading,
       left.1,
       GivesPrepared-from_AnswerGives left.0 refusal _ (AnswerGives-from_GivesTimedListing refusal _
-          (unbound c.args.skew BLOCK binding left.0 refusal refused)),
+          (settled_recording-unread_binding c.args.skew BLOCK binding left.0 refusal refused)),
     )
 
 pub returns-in-Ok : goal.returns-in-Ok
@@ -35,7 +36,7 @@ returns-in-Ok g c =
     let (binding, binding_reading, bound_is) = c.in_ok-bound.ensures in
     let text = c.in-Ok.text.items in
     let short : length text ≤ longest_input = search (rules, places) in
-    let read = recording_is c.args.skew BLOCK binding (Some text) bound bound_is
+    let read = settled_recording-bound c.args.skew BLOCK binding (Some text) bound bound_is
     ∙ ap (λ (dump : Result Contents Refusal). recording_to_list c.args.skew bound dump BLOCK)
     (dump_read-whole text short) in (
       binding,
@@ -56,5 +57,5 @@ returns g c =
       binding_reading,
       reading,
       GivesPrepared-from_AnswerGives bytes _ _ (AnswerGives-from_GivesTimedListing _ _
-          (unread_dump c.args.skew BLOCK binding bytes c.in_ok-bound.bound _ bound_is refused)),
+          (settled_recording-unread_dump c.args.skew BLOCK binding bytes c.in_ok-bound.bound _ bound_is refused)),
     )

@@ -1,7 +1,8 @@
 use Rattle.std.proofs.Common.{[], inl, refl}
 use Rattle.std.specs.Prelude.{Err, Ok}
 use Rattle.std.proofs.KnownBytes.{Appends-nil}
-use Rattle.vme_annotate.proofs.EndsLemmas.{AnswerGives-from_GivesPrepared, is_annotation, no_annotation}
+use Rattle.vme_annotate.proofs.EndsLemmas.{AnswerGives-from_GivesPrepared, IsAnnotationOf-annotated}
+use Rattle.vme_annotate.proofs.EndsLemmas.{IsAnnotationOf-refused}
 use Rattle.vme_annotate.proofs.annotating.read_and_write.Goals as goal
 
 pub returns-in-Ok : goal.returns-in-Ok
@@ -16,7 +17,7 @@ returns-in-Ok g c =
       binding_reading,
       dump_reading,
       recorded,
-      is_annotation dump c.in-Ok.annotated.text.items t text dump_is annotated,
+      IsAnnotationOf-annotated dump c.in-Ok.annotated.text.items t text dump_is annotated,
       ends,
     )
 
@@ -30,7 +31,7 @@ returns-in-Err g c =
       binding_reading,
       dump_reading,
       AnswerGives-from_GivesPrepared dump c.in-Err.refusal _ given,
-      no_annotation dump c.in-Err.refusal [],
+      IsAnnotationOf-refused dump c.in-Err.refusal [],
       inl (record {
         out_is = (Appends-nil _, refl);
         err_is = rw c.refusal_line.ensures at c.complain.ensures;

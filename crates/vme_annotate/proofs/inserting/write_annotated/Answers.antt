@@ -4,9 +4,9 @@ use Rattle.vcd_places.specs.Times.{TimesLeft}
 use Rattle.vme_annotate.specs.Outputs.{HasPut}
 use Rattle.vme_annotate.specs.Planned.{planned as planned_as}
 use Rattle.vme_annotate.specs.Writing.{IsWrittenTo}
-use Rattle.vme_annotate.proofs.EndsLemmas.{planned_of}
-use Rattle.vme_annotate.proofs.InsertLemmas.{first_written, rest_written, written_front}
-use Rattle.vme_annotate.proofs.PlaceLemmas.{next_written, none_put}
+use Rattle.vme_annotate.proofs.EndsLemmas.{ArePlanned-listing}
+use Rattle.vme_annotate.proofs.InsertLemmas.{written_front-start, written_front-rest, written_front}
+use Rattle.vme_annotate.proofs.PlaceLemmas.{HasPut-next, IsPutSoFar-start}
 use Rattle.vme_annotate.proofs.PutLemmas.{IsHeld-nothing}
 use Rattle.vme_annotate.proofs.inserting.write_annotated.Goals as goal
 
@@ -31,10 +31,10 @@ loop-change-init g c =
         start,
         [],
         c.in-Some.ensures.start,
-        none_put dump annotation.listing.now annotation.changes.now start w le
+        IsPutSoFar-start dump annotation.listing.now annotation.changes.now start w le
             (subst (λ (text : List ℕ). IsWrittenTo text 0 0 w) text_is told.written),
         subst (λ (text : List ℕ). HasPut sink (g.W.Sink.writing c.put-2.new.sink) c.put-2.new.self text)
-            (first_written dump added.scope added.own start end
+            (written_front-start dump added.scope added.own start end
             ∙ ap (written_front dump added.scope added.own start []) (sym told.count)) put,
       );
     }
@@ -51,7 +51,7 @@ loop-change-preserved g c =
     let told = c.go_to-place.ensures in
     let le : old.count ≤ new.count = omega (arith, told.forward, told.place) in
     let all = rw told.place at (c.put_change.ensures sink _ (c.put-in-loop-change.ensures sink _ text)) in
-    let (more, is, front) = next_written dump added.scope added.own annotation.listing.now annotation.changes.now start
+    let (more, is, front) = HasPut-next dump added.scope added.own annotation.listing.now annotation.changes.now start
     c.loop-change.change-index put old new so_far _ c.loop-change-test.true c.shown_time.result c.shown_time.ensures le
     (told.written dump) sink _ _ all in
     record {
@@ -68,10 +68,10 @@ returns g c = λ t timed has planned.
     let sink = g.W.Sink.writing c.args.sink.now in
     let done = c.loop-change.change-index in
     let (start, put, starts, so_far, text) = c.loop-change.invariant.so_far in
-    let right = so_far.at_times t timed has (planned_of t annotation.listing.now timed changes planned) in
+    let right = so_far.at_times t timed has (ArePlanned-listing t annotation.listing.now timed changes planned) in
     let ended : length changes ≤ done = omega (arith, c.loop-change-test.false) in
     let whole = subst (λ (text : List ℕ). HasPut sink (g.W.Sink.writing c.put-3.new.sink) c.put-3.new.self text)
-    (rest_written annotation.dump.now added.scope added.own start put c.loop-change.written.count so_far.to)
+    (written_front-rest annotation.dump.now added.scope added.own start put c.loop-change.written.count so_far.to)
     (c.put-3.ensures sink _ text) in (
       start,
       put,

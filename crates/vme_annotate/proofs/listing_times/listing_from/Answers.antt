@@ -8,7 +8,8 @@ use Rattle.vme_stream.proofs.AnswerLemmas.{dump_read-whole, dump_read-fault}
 use Rattle.vme_stream.specs.Inputs.{longest_input}
 use Rattle.vme_stream.proofs.InputLemmas.{IsReading-unread}
 use Rattle.vme_annotate.specs.TimedListings.{GivesTimedListing, recording_to_list}
-use Rattle.vme_annotate.proofs.ListedLemmas.{recording_is, unbound, unread_dump}
+use Rattle.vme_annotate.proofs.ListedLemmas.{settled_recording-bound, settled_recording-unread_binding}
+use Rattle.vme_annotate.proofs.ListedLemmas.{settled_recording-unread_dump}
 use Rattle.vme_annotate.proofs.listing_times.listing_from.Goals as goal
 
 pub returns-in_err-bound : goal.returns-in_err-bound
@@ -17,15 +18,21 @@ returns-in_err-bound g c =
     let refusal = c.in_err-bound.field-0.0 in
     let (binding, binding_reading, refused) = c.in_err-bound.ensures in
     let left = IsReading-unread (g.D.Source.reading c.args.dump.now) in
-    rw (p.1, p.2)
-    (binding, left.0, binding_reading, left.1, unbound c.args.skew c.args.block binding left.0 refusal refused)
+    rw (p.1, p.2) (
+      binding,
+      left.0,
+      binding_reading,
+      left.1,
+      settled_recording-unread_binding c.args.skew c.args.block binding left.0
+          refusal refused,
+    )
 
 pub returns-in-Ok : goal.returns-in-Ok
 returns-in-Ok g c =
     let (binding, binding_reading, bound_is) = c.in_ok-bound.ensures in
     let text = c.in-Ok.text.items in
     let short : length text ≤ longest_input = search (rules, places) in
-    let read = recording_is c.args.skew c.args.block binding (Some text) c.in_ok-bound.bound bound_is
+    let read = settled_recording-bound c.args.skew c.args.block binding (Some text) c.in_ok-bound.bound bound_is
     ∙ ap (λ (dump : Result Contents Refusal). recording_to_list c.args.skew c.in_ok-bound.bound dump c.args.block)
     (dump_read-whole text short) in (
       binding,
@@ -46,5 +53,5 @@ returns g c =
       dump,
       binding_reading,
       dump_reading,
-      unread_dump c.args.skew c.args.block binding dump c.in_ok-bound.bound _ bound_is refused,
+      settled_recording-unread_dump c.args.skew c.args.block binding dump c.in_ok-bound.bound _ bound_is refused,
     )

@@ -5,7 +5,7 @@ use Rattle.vme_listing.specs.declared.row.Row.{Row}
 use Rattle.vme_annotate.specs.Outputs.{HasPut}
 use Rattle.vme_annotate.specs.TimedListings.{timed_header}
 use Rattle.vme_annotate.specs.TimedRows.{timed_line}
-use Rattle.vme_annotate.proofs.PlannedLemmas.{next_of, row_at}
+use Rattle.vme_annotate.proofs.PlannedLemmas.{flat_map-next, slice_get-get_or}
 use Rattle.vme_annotate.proofs.PutLemmas.{IsHeld-nothing}
 use Rattle.vme_annotate.proofs.listing_times.write_times.Goals as goal
 
@@ -23,11 +23,11 @@ loop-row-preserved g c =
     let i = c.loop-row.row-index in
     let row = c.row-item.result in
     let lt : i < length rows = rw c.rows-row-items.ensures at c.loop-row-test.true in
-    let at = row_at rows i row lt (rw c.rows-row-items.ensures at c.row-item.is) in
+    let at = slice_get-get_or rows i row lt (rw c.rows-row-items.ensures at c.row-item.is) in
     let text = rw (c.as_bytes.ensures, c.timed_line-line.ensures) at
     (c.put-in-loop-row.ensures start _ c.loop-row.invariant) in
     subst (λ (text : List ℕ). HasPut start (g.W.Sink.writing c.put-in-loop-row.new.sink) c.put-in-loop-row.new.self
-    text) (next_of (timed_line listing.times) timed_header rows i row at) text
+    text) (flat_map-next (timed_line listing.times) timed_header rows i row at) text
 
 pub returns : goal.returns
 returns g c =

@@ -2,14 +2,14 @@ use Rattle.std.proofs.Common.{List, ◌++◌, map, sym, ap, ◌∙◌}
 use Rattle.std.proofs.lemmas.List.{append-nil}
 use Rattle.vme_annotation.specs.Shown.{ShownChange}
 use Rattle.vme_annotate.specs.Planned.{planned}
-use Rattle.vme_annotate.proofs.ChangeLemmas.{appended_row_changes, row_is}
+use Rattle.vme_annotate.proofs.ChangeLemmas.{appended_row_changes, changes_with-row}
 use Rattle.vme_annotate.proofs.changes.RowChanges.push_row.Goals as goal
 
 pub returns-in-Start : goal.returns-in-Start
 returns-in-Start c = λ rows at.
     sym (append-nil (map (planned rows) c.args.self.now))
     ∙ ap (λ (changes : List ShownChange). map (planned rows) c.args.self.now ++ changes)
-    (row_is rows c.args.place c.args.row.now _ at c.in-Start.is)
+    (changes_with-row rows c.args.place c.args.row.now _ at c.in-Start.is)
 
 pub returns-in-Reset : goal.returns-in-Reset
 returns-in-Reset c = λ rows at.
