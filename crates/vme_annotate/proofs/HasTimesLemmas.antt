@@ -24,7 +24,7 @@ use Rattle.vme_skew.proofs.Laws.{first_or_later-cases, MayFollowParts-step}
 use Rattle.vme_trace.specs.Trace.{Trace, last_instant, time_at, time_of}
 use Rattle.vme_trace.specs.WellFormed.{malformed_step}
 use Rattle.vme_trace.specs.declared.step.Step.{Step}
-use Rattle.vme_annotation.proofs.SameDumpLemmas.{IsDump, both_read, dump_is}
+use Rattle.vme_annotation.proofs.SameDumpLemmas.{IsDump, bind-ok, IsDump-dump_of}
 
 -- ---- the steps of a recording
 
@@ -55,7 +55,7 @@ module _ (dump : List ℕ) where
   EachReached-either true xs ys first second = first
   EachReached-either false xs ys first second = second
 
-  -- the time of the step at an index is reached, or 0
+  -- the time of the step at an index, or 0 if there is none, is reached
   IsReached-step : (steps : List Step) (i : ℕ) → EachReached steps → IsReached dump (time_of (slice_get steps i))
   IsReached-step [] i each = inl refl
   IsReached-step (step ∷ steps) zero each = each.0
@@ -104,7 +104,7 @@ module _ (dump : List ℕ) where
       → AllReached contents.instants → EachReached t.steps
   unfolding recording_of recording step_at
   EachReached-recording_of binding contents t e each =
-      let read = both_read (bound_groups_in contents.variables binding.assignments) _ t e in
+      let read = bind-ok (bound_groups_in contents.variables binding.assignments) _ t e in
       subst (λ (r : Trace). EachReached r.steps) (ap (trace_in t) read.2) (EachReached-map _ _ each)
 
 -- ---- times that don't go back
@@ -163,10 +163,10 @@ module _ (dump : List ℕ) where
   pub IsReached-dump_of : (contents : Contents) → dump_of dump ≡ Ok contents → (i : ℕ)
       → IsReached dump (instant_time (slice_get contents.instants i))
   IsReached-dump_of contents e i =
-      let is : IsDump dump contents = dump_is dump contents e in
+      let is : IsDump dump contents = IsDump-dump_of dump contents e in
       let items = body_from ready is.body in
-      let read = both_read (context_after_all is.declared.nets first_context items) _ contents.instants is.comes in
-      let ended = both_read (at_the_end read.0) _ contents.instants read.2 in
+      let read = bind-ok (context_after_all is.declared.nets first_context items) _ contents.instants is.comes in
+      let ended = bind-ok (at_the_end read.0) _ contents.instants read.2 in
       let made : instants_of is.declared.nets items ≡ contents.instants = ap (instants_read []) ended.2 in
       let times_are : times_of_body dump ≡ item_times items =
       ap (λ (o : Option (List Token)). item_times (body_from ready (unwrap_or o []))) is.ends in
@@ -181,9 +181,9 @@ module _ (dump : List ℕ) where
   pub IsAscendingFrom-dump_of : (contents : Contents) → dump_of dump ≡ Ok contents
       → IsAscendingFrom 0 (times_of_body dump)
   IsAscendingFrom-dump_of contents e =
-      let is : IsDump dump contents = dump_is dump contents e in
+      let is : IsDump dump contents = IsDump-dump_of dump contents e in
       let items = body_from ready is.body in
-      let read = both_read (context_after_all is.declared.nets first_context items) _ contents.instants is.comes in
+      let read = bind-ok (context_after_all is.declared.nets first_context items) _ contents.instants is.comes in
       let times_are : times_of_body dump ≡ item_times items =
       ap (λ (o : Option (List Token)). item_times (body_from ready (unwrap_or o []))) is.ends in
       subst (λ (times : List ℕ). IsAscendingFrom 0 times) (sym times_are)

@@ -25,7 +25,7 @@ use Rattle.vme_trace.specs.WellFormed.{malformed_step}
 use Rattle.vme_stream.specs.Answers.{capture_by, or_bad_binding, or_bad_dump, recording_by}
 use Rattle.vme_stream.specs.declared.refusal.Refusal.{Refusal}
 use Rattle.vme_commands.specs.Judged.{in_blocks}
-use Rattle.vme_annotation.proofs.SameDumpLemmas.{IsDump, both_read, dump_is}
+use Rattle.vme_annotation.proofs.SameDumpLemmas.{IsDump, bind-ok, IsDump-dump_of}
 use Rattle.vme_annotate.specs.HasTimes.{HasTimes}
 use Rattle.vme_annotate.specs.TimedListings.{recording_to_list}
 use Rattle.vme_annotate.proofs.HasTimesLemmas.{EachReached, IsReached-time_at, IsAscendingFrom-dump_of}
@@ -83,13 +83,13 @@ pub IsRecorded-listed : (skew : ℕ) (binding : BoundLines) (dump : List ℕ) (b
     → recording_to_list skew binding (or_bad_dump (dump_of dump)) block ≡ Ok t → IsRecorded skew binding dump t
 IsRecorded-listed skew binding dump block t e =
     let read : Result Contents Refusal = or_bad_dump (dump_of dump) in
-    let (u, settled_as, cut) = both_read (settled_or skew (capture_by binding read)) (in_blocks block) t e in
+    let (u, settled_as, cut) = bind-ok (settled_or skew (capture_by binding read)) (in_blocks block) t e in
     let same : u ≡ t = or_refused-ok _ _ u t cut in
     let (raw, captured, settles) = settled_or-ok skew (capture_by binding read) u settled_as in
-    let (whole, taken, short) = both_read (recording_by binding read) or_too_long raw
+    let (whole, taken, short) = bind-ok (recording_by binding read) or_too_long raw
     (sym (capture_by-or_too_long binding read) ∙ captured) in
     let all : whole ≡ raw = or_bad_binding-limited _ _ whole raw short in
-    let (contents, dumped, made) = both_read read _ whole taken in
+    let (contents, dumped, made) = bind-ok read _ whole taken in
     record {
       contents = contents;
       read_is = or_bad_dump-ok (dump_of dump) contents dumped;
@@ -109,7 +109,7 @@ module _ (skew : ℕ) (binding : BoundLines) (dump : List ℕ) (t : Trace) (is :
   raw_recording : IsRecording is.raw
   unfolding recording_of recording levels_after
   raw_recording =
-      let read = both_read (bound_groups_in is.contents.variables binding.assignments) _ is.raw is.raw_is in
+      let read = bind-ok (bound_groups_in is.contents.variables binding.assignments) _ is.raw is.raw_is in
       record {
         whole = subst (λ (r : Trace). length r.opening.levels ≡ line_count) (ap (trace_in is.raw) read.2)
             (length-levels_after binding.slots read.0 is.contents.instants 0);
@@ -130,7 +130,7 @@ module _ (skew : ℕ) (binding : BoundLines) (dump : List ℕ) (t : Trace) (is :
   -- the dump has the times of the recording `t`
   pub has_times : HasTimes dump t
   has_times =
-      let read : IsDump dump is.contents = dump_is dump is.contents is.read_is in
+      let read : IsDump dump is.contents = IsDump-dump_of dump is.contents is.read_is in
       let each = EachReached-recording_of dump binding is.contents is.raw is.raw_is
       (IsReached-dump_of dump is.contents is.read_is) in
       record {
@@ -145,6 +145,6 @@ module _ (skew : ℕ) (binding : BoundLines) (dump : List ℕ) (t : Trace) (is :
   -- the definitions of the dump are read
   pub defines : (d : Defined (List Variable)) × (header_of appended dump (nothing_declared []) (tokens dump) ≡ Ok d)
   defines =
-      let read = both_read (whole_header dump) contents_of_header is.contents (sym (dump_of-header dump) ∙ is.read_is)
+      let read = bind-ok (whole_header dump) contents_of_header is.contents (sym (dump_of-header dump) ∙ is.read_is)
       in
       (read.0, read.1)

@@ -37,70 +37,83 @@ use Rattle.vme_annotation.specs.Shown.{row_changes, shown_text, shows_until, spa
 use Rattle.vme_annotation.specs.declared.shown_variable.ShownVariable.{ShownVariable}
 use Rattle.vme_annotation.specs.declared.shown_variable.ShownVariable.TheVariants as shown
 
+-- no byte of the text is a space
 abbrev pub is_word : List ℕ → Bool
 is_word text = list_all (λ b. not (is_space b)) text
 
-pub appended_word : (a b : List ℕ) → is_word a ≡ true → is_word b ≡ true → is_word (a ++ b) ≡ true
-appended_word a b first second =
+-- two words, one after the other, are a word
+pub is_word-append : (a b : List ℕ) → is_word a ≡ true → is_word b ≡ true → is_word (a ++ b) ≡ true
+is_word-append a b first second =
     list_all-append (λ b. not (is_space b)) a b ∙ and_from (is_word a) (is_word b) first second
 
 -- ---- digits
 
-if_word : (test : Bool) (a b : List ℕ) → is_word a ≡ true → is_word b ≡ true → is_word (cond test a b) ≡ true
-if_word true a b first second = first
-if_word false a b first second = second
+-- of two words, either is a word
+is_word-if : (test : Bool) (a b : List ℕ) → is_word a ≡ true → is_word b ≡ true → is_word (cond test a b) ≡ true
+is_word-if true a b first second = first
+is_word-if false a b first second = second
 
-high_word : (b : ℕ) → 48 ≤ b → not (is_space b) ≡ true
-high_word b high = ap not (is_space_above_32 b (omega (arith, high)))
+-- no byte from 48 on is a space
+is_space-from_48 : (b : ℕ) → 48 ≤ b → not (is_space b) ≡ true
+is_space-from_48 b high = ap not (is_space_above_32 b (omega (arith, high)))
 
-glyph_high : (upper : Bool) (d : ℕ) → 48 ≤ digit_glyph upper d
-glyph_high upper d = go upper (nat_lt d 10)
+-- the glyph of a digit is from 48 on
+digit_glyph-from_48 : (upper : Bool) (d : ℕ) → 48 ≤ digit_glyph upper d
+digit_glyph-from_48 upper d = go upper (nat_lt d 10)
   where
+    -- so it is for a digit below ten (`test`), and for a letter of either case
     go : (u test : Bool) → 48 ≤ cond test (48 + d) (cond u (55 + d) (87 + d))
     go u true = omega arith
     go true false = omega arith
     go false false = omega arith
 
-before : (b : ℕ) (text : List ℕ) → 48 ≤ b → is_word text ≡ true → is_word (b ∷ text) ≡ true
-before b text high word = and_from (not (is_space b)) (is_word text) (high_word b high) word
+-- a byte from 48 on before a word makes a word
+is_word-cons : (b : ℕ) (text : List ℕ) → 48 ≤ b → is_word text ≡ true → is_word (b ∷ text) ≡ true
+is_word-cons b text high word = and_from (not (is_space b)) (is_word text) (is_space-from_48 b high) word
 
-onto_word : (k base : ℕ) (upper : Bool) (n : ℕ) (acc : List ℕ) → is_word acc ≡ true
+-- digits before a word make a word
+is_word-digits_onto : (k base : ℕ) (upper : Bool) (n : ℕ) (acc : List ℕ) → is_word acc ≡ true
     → is_word (digits_onto k base upper n acc) ≡ true
-onto_word zero base upper n acc word = word
-onto_word (suc k) base upper n acc word =
-    let longer = before (digit_glyph upper (n % base)) acc (glyph_high upper (n % base)) word in
-    if_word (eqb (n / base) 0) (digit_glyph upper (n % base) ∷ acc)
+is_word-digits_onto zero base upper n acc word = word
+is_word-digits_onto (suc k) base upper n acc word =
+    let longer = is_word-cons (digit_glyph upper (n % base)) acc (digit_glyph-from_48 upper (n % base)) word in
+    is_word-if (eqb (n / base) 0) (digit_glyph upper (n % base) ∷ acc)
     (digits_onto k base upper (n / base) (digit_glyph upper (n % base) ∷ acc)) longer
-    (onto_word k base upper (n / base) (digit_glyph upper (n % base) ∷ acc) longer)
+    (is_word-digits_onto k base upper (n / base) (digit_glyph upper (n % base) ∷ acc) longer)
 
-decimal_word : (n : ℕ) → is_word (decimal n) ≡ true
+-- a decimal number is a word
+is_word-decimal : (n : ℕ) → is_word (decimal n) ≡ true
 unfolding digits
-decimal_word n = onto_word 64 10 false n [] refl
+is_word-decimal n = is_word-digits_onto 64 10 false n [] refl
 
-hexadecimal_word : (count n : ℕ) → is_word (hexadecimal count n) ≡ true
+-- a hexadecimal number is a word
+is_word-hexadecimal : (count n : ℕ) → is_word (hexadecimal count n) ≡ true
 unfolding hexadecimal
-hexadecimal_word zero n = refl
-hexadecimal_word (suc count) n =
-    appended_word (hexadecimal count (n / 16)) (digit_glyph true (n % 16) ∷ []) (hexadecimal_word count (n / 16))
-    (before (digit_glyph true (n % 16)) [] (glyph_high true (n % 16)) refl)
+is_word-hexadecimal zero n = refl
+is_word-hexadecimal (suc count) n =
+    is_word-append (hexadecimal count (n / 16)) (digit_glyph true (n % 16) ∷ []) (is_word-hexadecimal count (n / 16))
+    (is_word-cons (digit_glyph true (n % 16)) [] (digit_glyph-from_48 true (n % 16)) refl)
 
-digit_word : (moved : Bool) (digit flag : ℕ) → not (is_space (digit_text moved digit flag)) ≡ true
-digit_word false digit flag = refl
-digit_word true digit flag = go (eqb flag 1)
+-- the text of a digit of the data is no space
+is_space-digit_text : (moved : Bool) (digit flag : ℕ) → not (is_space (digit_text moved digit flag)) ≡ true
+is_space-digit_text false digit flag = refl
+is_space-digit_text true digit flag = go (eqb flag 1)
   where
     go : (test : Bool) → not (is_space (cond test 88 (digit_glyph true digit))) ≡ true
     go true = refl
-    go false = high_word (digit_glyph true digit) (glyph_high true digit)
+    go false = is_space-from_48 (digit_glyph true digit) (digit_glyph-from_48 true digit)
 
-digits_word : (a : Lanes) (place : ℕ) (rest : List ℕ) → is_word rest ≡ true
+-- a digit of the data before a word makes a word
+is_word-digit_text_in : (a : Lanes) (place : ℕ) (rest : List ℕ) → is_word rest ≡ true
     → is_word (digit_text_in a place ∷ rest) ≡ true
-digits_word a place rest word =
+is_word-digit_text_in a place rest word =
     and_from (not (is_space (digit_text_in a place))) (is_word rest)
-    (digit_word (is_moved_in a place) (digit_in a place) (flag_in a place)) word
+    (is_space-digit_text (is_moved_in a place) (digit_in a place) (flag_in a place)) word
 
-lanes_word : (lanes : Lanes) → is_word (lanes_text lanes) ≡ true
+-- the text of the data is a word
+is_word-lanes_text : (lanes : Lanes) → is_word (lanes_text lanes) ≡ true
 unfolding lanes_text
-lanes_word a =
+is_word-lanes_text a =
     let r0 : List ℕ = digit_text_in a 0 ∷ [] in
     let r1 : List ℕ = digit_text_in a 1 ∷ r0 in
     let r2 : List ℕ = digit_text_in a 2 ∷ r1 in
@@ -108,173 +121,213 @@ lanes_word a =
     let r4 : List ℕ = digit_text_in a 4 ∷ r3 in
     let r5 : List ℕ = digit_text_in a 5 ∷ r4 in
     let r6 : List ℕ = digit_text_in a 6 ∷ r5 in
-    digits_word a 7 r6 (digits_word a 6 r5
-    (digits_word a 5 r4 (digits_word a 4 r3
-    (digits_word a 3 r2 (digits_word a 2 r1 (digits_word a 1 r0 (digits_word a 0 [] refl)))))))
+    is_word-digit_text_in a 7 r6 (is_word-digit_text_in a 6 r5
+    (is_word-digit_text_in a 5 r4 (is_word-digit_text_in a 4 r3
+    (is_word-digit_text_in a 3 r2 (is_word-digit_text_in a 2 r1
+    (is_word-digit_text_in a 1 r0 (is_word-digit_text_in a 0 [] refl)))))))
 
 -- ---- names
 
-two_word : (n : ℕ) → is_word (two_digits n) ≡ true
-two_word n = before (48 + n / 10) ((48 + n % 10) ∷ []) (omega arith) (before (48 + n % 10) [] (omega arith) refl)
+-- two digits are a word
+is_word-two_digits : (n : ℕ) → is_word (two_digits n) ≡ true
+is_word-two_digits n = is_word-cons (48 + n / 10) ((48 + n % 10) ∷ []) (omega arith)
+    (is_word-cons (48 + n % 10) [] (omega arith) refl)
 
-line_word : (l : ℕ) → is_word (line_name l) ≡ true
-line_word l =
-    if_word (eqb l AS) _ _ refl (if_word (eqb l DS0) _ _ refl (if_word (eqb l DS1) _ _ refl
-    (if_word (eqb l DTACK) _ _ refl (if_word (eqb l BERR) _ _ refl (if_word (eqb l IACK) _ _ refl
-    (if_word (nat_lt l LWORD) _ _ (appended_word (codes "AM") (decimal (l - AM 0)) refl (decimal_word (l - AM 0)))
-    (if_word (eqb l LWORD) _ _ refl (if_word (eqb l WRITE) _ _ refl
-    (if_word (nat_lt l BBSY) _ _ (appended_word (codes "A") (two_digits (l - A 0)) refl (two_word (l - A 0)))
-    (if_word (eqb l BBSY) _ _ refl
-    (if_word (nat_lt l (grant 0 0)) _ _ (appended_word (codes "BR") (decimal (l - BR 0)) refl (decimal_word (l - BR 0)))
-    (if_word (nat_lt l (iack 1)) _ _ (appended_word (codes "BG" ++ decimal (grant_level l) ++ codes ".")
-    (decimal (grant_place l)) (appended_word (codes "BG" ++ decimal (grant_level l)) (codes ".")
-    (appended_word (codes "BG") (decimal (grant_level l)) refl (decimal_word (grant_level l))) refl)
-    (decimal_word (grant_place l)))
-    (if_word (nat_lt l (D 0)) _ _ (appended_word (codes "IA.") (decimal (l - iack 0)) refl (decimal_word (l - iack 0)))
-    (if_word (nat_lt l SYSRESET) _ _ (appended_word (codes "D") (two_digits (l - D 0)) refl (two_word (l - D 0)))
+-- the name of a line is a word
+is_word-line_name : (l : ℕ) → is_word (line_name l) ≡ true
+is_word-line_name l =
+    is_word-if (eqb l AS) _ _ refl (is_word-if (eqb l DS0) _ _ refl (is_word-if (eqb l DS1) _ _ refl
+    (is_word-if (eqb l DTACK) _ _ refl (is_word-if (eqb l BERR) _ _ refl (is_word-if (eqb l IACK) _ _ refl
+    (is_word-if (nat_lt l LWORD) _ _ (is_word-append (codes "AM") (decimal (l - AM 0)) refl
+    (is_word-decimal (l - AM 0)))
+    (is_word-if (eqb l LWORD) _ _ refl (is_word-if (eqb l WRITE) _ _ refl
+    (is_word-if (nat_lt l BBSY) _ _ (is_word-append (codes "A") (two_digits (l - A 0)) refl
+    (is_word-two_digits (l - A 0)))
+    (is_word-if (eqb l BBSY) _ _ refl
+    (is_word-if (nat_lt l (grant 0 0)) _ _ (is_word-append (codes "BR") (decimal (l - BR 0)) refl
+    (is_word-decimal (l - BR 0)))
+    (is_word-if (nat_lt l (iack 1)) _ _ (is_word-append (codes "BG" ++ decimal (grant_level l) ++ codes ".")
+    (decimal (grant_place l)) (is_word-append (codes "BG" ++ decimal (grant_level l)) (codes ".")
+    (is_word-append (codes "BG") (decimal (grant_level l)) refl (is_word-decimal (grant_level l))) refl)
+    (is_word-decimal (grant_place l)))
+    (is_word-if (nat_lt l (D 0)) _ _ (is_word-append (codes "IA.") (decimal (l - iack 0)) refl
+    (is_word-decimal (l - iack 0)))
+    (is_word-if (nat_lt l SYSRESET) _ _ (is_word-append (codes "D") (two_digits (l - D 0)) refl
+    (is_word-two_digits (l - D 0)))
     refl))))))))))))))
 
-rule_word : (r : Rule) → is_word (rule_name r) ≡ true
-rule_word r = every-rule (λ r. is_word (rule_name r)) refl r
+-- the name of a rule is a word
+is_word-rule_name : (r : Rule) → is_word (rule_name r) ≡ true
+is_word-rule_name r = every-rule (λ r. is_word (rule_name r)) refl r
 
 -- ---- the texts
 
-tenure_word : (level slot : ℕ) → is_word (tenure_text level slot) ≡ true
-tenure_word level slot =
-    appended_word (codes "slot" ++ decimal slot ++ codes "_BR") (decimal level)
-    (appended_word (codes "slot" ++ decimal slot) (codes "_BR")
-    (appended_word (codes "slot") (decimal slot) refl (decimal_word slot))
-    refl) (decimal_word level)
+-- the text of a tenure is a word
+is_word-tenure_text : (level slot : ℕ) → is_word (tenure_text level slot) ≡ true
+is_word-tenure_text level slot =
+    is_word-append (codes "slot" ++ decimal slot ++ codes "_BR") (decimal level)
+    (is_word-append (codes "slot" ++ decimal slot) (codes "_BR")
+    (is_word-append (codes "slot") (decimal slot) refl (is_word-decimal slot))
+    refl) (is_word-decimal level)
 
-space_word : (modifier : ℕ) → is_word (space_text modifier) ≡ true
-space_word modifier =
-    if_word (eqb (highest_address modifier) 31) _ _ refl (if_word (eqb (highest_address modifier) 23) _ _ refl refl)
+-- the name of an address space is a word
+is_word-space_text : (modifier : ℕ) → is_word (space_text modifier) ≡ true
+is_word-space_text modifier =
+    is_word-if (eqb (highest_address modifier) 31) _ _ refl (is_word-if (eqb (highest_address modifier) 23) _ _ refl
+    refl)
 
-block_word : (c : Class) → is_word (block_text c) ≡ true
-block_word class.K = refl
-block_word class.S = refl
-block_word class.I = refl
-block_word class.F = refl
+-- the text that marks a block transfer, or its absence, is a word
+is_word-block_text : (c : Class) → is_word (block_text c) ≡ true
+is_word-block_text class.K = refl
+is_word-block_text class.S = refl
+is_word-block_text class.I = refl
+is_word-block_text class.F = refl
 
-address_word : (c : Class) (modifier address : ℕ) → is_word (address_text c modifier address) ≡ true
-address_word c modifier address =
-    appended_word (space_text modifier ++ block_text c ++ codes "_") (hexadecimal (address_digits modifier) address)
-    (appended_word (space_text modifier ++ block_text c) (codes "_")
-    (appended_word (space_text modifier) (block_text c) (space_word modifier) (block_word c)) refl)
-    (hexadecimal_word (address_digits modifier) address)
+-- the text of an address is a word
+is_word-address_text : (c : Class) (modifier address : ℕ) → is_word (address_text c modifier address) ≡ true
+is_word-address_text c modifier address =
+    is_word-append (space_text modifier ++ block_text c ++ codes "_") (hexadecimal (address_digits modifier) address)
+    (is_word-append (space_text modifier ++ block_text c) (codes "_")
+    (is_word-append (space_text modifier) (block_text c) (is_word-space_text modifier) (is_word-block_text c)) refl)
+    (is_word-hexadecimal (address_digits modifier) address)
 
-direction_word : (d : Direction) → is_word (direction_text d) ≡ true
-direction_word Read = refl
-direction_word Write = refl
+-- the text of a direction is a word
+is_word-direction_text : (d : Direction) → is_word (direction_text d) ≡ true
+is_word-direction_text Read = refl
+is_word-direction_text Write = refl
 
-answer_word : (a : AnswerLine) → is_word (answer_text a) ≡ true
-answer_word Dtack = refl
-answer_word Berr = refl
+-- the text of an answer is a word
+is_word-answer_text : (a : AnswerLine) → is_word (answer_text a) ≡ true
+is_word-answer_text Dtack = refl
+is_word-answer_text Berr = refl
 
-data_word : (lanes : Option Lanes) → is_word (data_text lanes) ≡ true
-data_word None = refl
-data_word (Some lanes) = appended_word (codes "_") (lanes_text lanes) refl (lanes_word lanes)
+-- the text of the data, if there are data, is a word
+is_word-data_text : (lanes : Option Lanes) → is_word (data_text lanes) ≡ true
+is_word-data_text None = refl
+is_word-data_text (Some lanes) = is_word-append (codes "_") (lanes_text lanes) refl (is_word-lanes_text lanes)
 
-break_word : (r : Rule) (line : ℕ) → is_word (break_text r line) ≡ true
-break_word r line =
-    appended_word (rule_name r ++ codes "_") (line_name line)
-    (appended_word (rule_name r) (codes "_") (rule_word r) refl)
-    (line_word line)
+-- the text of a break is a word
+is_word-break_text : (r : Rule) (line : ℕ) → is_word (break_text r line) ≡ true
+is_word-break_text r line =
+    is_word-append (rule_name r ++ codes "_") (line_name line)
+    (is_word-append (rule_name r) (codes "_") (is_word-rule_name r) refl)
+    (is_word-line_name line)
 
-verdict_word : (v : ListedVerdict) → is_word (verdict_text v) ≡ true
-verdict_word Conforming = refl
-verdict_word NeverIdle = refl
-verdict_word (Broken r instant line) = break_word r line
-verdict_word (Unreadable r instant line) = break_word r line
+-- the text of a verdict is a word
+is_word-verdict_text : (v : ListedVerdict) → is_word (verdict_text v) ≡ true
+is_word-verdict_text Conforming = refl
+is_word-verdict_text NeverIdle = refl
+is_word-verdict_text (Broken r instant line) = is_word-break_text r line
+is_word-verdict_text (Unreadable r instant line) = is_word-break_text r line
 
-text_word : (row : Row) → is_word (shown_text row) ≡ true
+-- the text that is shown of a row is a word
+is_word-shown_text : (row : Row) → is_word (shown_text row) ≡ true
 unfolding shown_text
-text_word (Start instant) = refl
-text_word (Reset instant) = refl
-text_word (OpenTenure start end) = refl
-text_word (Tenure start level slot end) = tenure_word level slot
-text_word (AddressedCycle start class modifier address end) = address_word class modifier address
-text_word (FreeCycle start modifier end) =
-    appended_word (codes "AM") (hexadecimal 2 modifier) refl (hexadecimal_word 2 modifier)
-text_word (InterruptCycle start level end) = appended_word (codes "IACK") (decimal level) refl (decimal_word level)
-text_word (Transfer direction line start cycle answer close lanes) =
-    appended_word (direction_text direction ++ data_text lanes) (answer_text line)
-    (appended_word (direction_text direction) (data_text lanes) (direction_word direction) (data_word lanes))
-    (answer_word line)
-text_word (PendingTransfer start direction) =
-    appended_word (direction_text direction) (codes "_pending") (direction_word direction) refl
-text_word (Verdict outcome) = verdict_word outcome
+is_word-shown_text (Start instant) = refl
+is_word-shown_text (Reset instant) = refl
+is_word-shown_text (OpenTenure start end) = refl
+is_word-shown_text (Tenure start level slot end) = is_word-tenure_text level slot
+is_word-shown_text (AddressedCycle start class modifier address end) = is_word-address_text class modifier address
+is_word-shown_text (FreeCycle start modifier end) =
+    is_word-append (codes "AM") (hexadecimal 2 modifier) refl (is_word-hexadecimal 2 modifier)
+is_word-shown_text (InterruptCycle start level end) = is_word-append (codes "IACK") (decimal level) refl
+    (is_word-decimal level)
+is_word-shown_text (Transfer direction line start cycle answer close lanes) =
+    is_word-append (direction_text direction ++ data_text lanes) (answer_text line)
+    (is_word-append (direction_text direction) (data_text lanes) (is_word-direction_text direction)
+    (is_word-data_text lanes))
+    (is_word-answer_text line)
+is_word-shown_text (PendingTransfer start direction) =
+    is_word-append (direction_text direction) (codes "_pending") (is_word-direction_text direction) refl
+is_word-shown_text (Verdict outcome) = is_word-verdict_text outcome
 
 -- ---- the changes
 
+-- the text of the change is a word
 abbrev pub shows_word : ShownChange → Bool
 shows_word c = is_word c.text
 
+-- the text of each change is a word
 abbrev are_words : List ShownChange → Bool
 are_words changes = list_all shows_word changes
 
-goes_words : (v : ShownVariable) (start : ℕ) (text : List ℕ) (end : Option ℕ) → is_word text ≡ true
+-- a word that is shown up to an end, if there is one, and the hyphen there, are words
+are_words-shows_until : (v : ShownVariable) (start : ℕ) (text : List ℕ) (end : Option ℕ) → is_word text ≡ true
     → are_words (shows_until v start text end) ≡ true
-goes_words v start text None word = and_from (is_word text) true word refl
-goes_words v start text (Some end) word = and_from (is_word text) true word refl
+are_words-shows_until v start text None word = and_from (is_word text) true word refl
+are_words-shows_until v start text (Some end) word = and_from (is_word text) true word refl
 
-row_words : (text : List ℕ) (row : Row) → is_word text ≡ true → are_words (changes_with text row) ≡ true
-row_words text (Start instant) word = refl
-row_words text (Reset instant) word = refl
-row_words text (OpenTenure start end) word = goes_words shown.Tenure start text end word
-row_words text (Tenure start level slot end) word = goes_words shown.Tenure start text end word
-row_words text (AddressedCycle start class modifier address end) word = goes_words shown.Cycle start text end word
-row_words text (FreeCycle start modifier end) word = goes_words shown.Cycle start text end word
-row_words text (InterruptCycle start level end) word = goes_words shown.Cycle start text end word
-row_words text (Transfer direction line start cycle answer close lanes) word =
-    goes_words shown.Transfer start text close word
-row_words text (PendingTransfer start direction) word = goes_words shown.Transfer start text None word
-row_words text (Verdict Conforming) word = refl
-row_words text (Verdict NeverIdle) word = refl
-row_words text (Verdict (Broken r instant line)) word = and_from (is_word text) true word refl
-row_words text (Verdict (Unreadable r instant line)) word = and_from (is_word text) true word refl
+-- the changes of a row whose text is a word show words
+are_words-changes_with : (text : List ℕ) (row : Row) → is_word text ≡ true → are_words (changes_with text row) ≡ true
+are_words-changes_with text (Start instant) word = refl
+are_words-changes_with text (Reset instant) word = refl
+are_words-changes_with text (OpenTenure start end) word = are_words-shows_until shown.Tenure start text end word
+are_words-changes_with text (Tenure start level slot end) word = are_words-shows_until shown.Tenure start text end word
+are_words-changes_with text (AddressedCycle start class modifier address end) word = are_words-shows_until shown.Cycle
+    start text end word
+are_words-changes_with text (FreeCycle start modifier end) word = are_words-shows_until shown.Cycle start text end word
+are_words-changes_with text (InterruptCycle start level end) word = are_words-shows_until shown.Cycle start text end
+    word
+are_words-changes_with text (Transfer direction line start cycle answer close lanes) word =
+    are_words-shows_until shown.Transfer start text close word
+are_words-changes_with text (PendingTransfer start direction) word = are_words-shows_until shown.Transfer start text
+    None word
+are_words-changes_with text (Verdict Conforming) word = refl
+are_words-changes_with text (Verdict NeverIdle) word = refl
+are_words-changes_with text (Verdict (Broken r instant line)) word = and_from (is_word text) true word refl
+are_words-changes_with text (Verdict (Unreadable r instant line)) word = and_from (is_word text) true word refl
 
-rows_words : (rows : List Row) → are_words (flat_map row_changes rows) ≡ true
+-- the changes of rows show words
+are_words-row_changes : (rows : List Row) → are_words (flat_map row_changes rows) ≡ true
 unfolding row_changes
-rows_words [] = refl
-rows_words (row ∷ rows) =
+are_words-row_changes [] = refl
+are_words-row_changes (row ∷ rows) =
     list_all-append shows_word (row_changes row) (flat_map row_changes rows)
     ∙ and_from (are_words (row_changes row)) (are_words (flat_map row_changes rows))
-    (row_words (shown_text row) row (text_word row)) (rows_words rows)
+    (are_words-changes_with (shown_text row) row (is_word-shown_text row)) (are_words-row_changes rows)
 
-all_words : (rows : List Row) → are_words (all_changes rows) ≡ true
-all_words rows = list_all-append shows_word opening_changes (flat_map row_changes rows) ∙ rows_words rows
+-- all changes of rows, those of the opening too, show words
+are_words-all_changes : (rows : List Row) → are_words (all_changes rows) ≡ true
+are_words-all_changes rows = list_all-append shows_word opening_changes (flat_map row_changes rows)
+    ∙ are_words-row_changes rows
 
 -- ---- changes that are, at each instant, those of rows
 
+-- the changes at an instant
 abbrev at : ℕ → List ShownChange → List ShownChange
 at instant changes = filter (λ c. eqb c.instant instant) changes
 
-if_words : (test : Bool) (a b : List ShownChange) → are_words a ≡ true → are_words b ≡ true
+-- of two lists of changes that show words, either shows words
+are_words-if : (test : Bool) (a b : List ShownChange) → are_words a ≡ true → are_words b ≡ true
     → are_words (cond test a b) ≡ true
-if_words true a b first second = first
-if_words false a b first second = second
+are_words-if true a b first second = first
+are_words-if false a b first second = second
 
-kept_words : (instant : ℕ) (changes : List ShownChange) → are_words changes ≡ true
+-- changes that show words do so at each instant
+are_words-at : (instant : ℕ) (changes : List ShownChange) → are_words changes ≡ true
     → are_words (at instant changes) ≡ true
-kept_words instant [] words = refl
-kept_words instant (c ∷ changes) words =
+are_words-at instant [] words = refl
+are_words-at instant (c ∷ changes) words =
     let parts = and_parts (shows_word c) (are_words changes) words in
-    let rest = kept_words instant changes parts.1 in
-    if_words (eqb c.instant instant) (c ∷ at instant changes) (at instant changes)
+    let rest = are_words-at instant changes parts.1 in
+    are_words-if (eqb c.instant instant) (c ∷ at instant changes) (at instant changes)
     (and_from (shows_word c) (are_words (at instant changes)) parts.0 rest) rest
 
-from_each : (changes : List ShownChange) → ((instant : ℕ) → are_words (at instant changes) ≡ true)
+-- changes that show words at each instant show words
+are_words-each_instant : (changes : List ShownChange) → ((instant : ℕ) → are_words (at instant changes) ≡ true)
     → are_words changes ≡ true
-from_each [] each = refl
-from_each (c ∷ changes) each =
-    and_from (shows_word c) (are_words changes) own (from_each changes (λ instant. rest instant))
+are_words-each_instant [] each = refl
+are_words-each_instant (c ∷ changes) each =
+    and_from (shows_word c) (are_words changes) shows_word-first
+    (are_words-each_instant changes (λ instant. rest instant))
   where
-    own : shows_word c ≡ true
-    own = (and_parts (shows_word c) (are_words (at c.instant changes))
+    -- the first change shows a word
+    shows_word-first : shows_word c ≡ true
+    shows_word-first = (and_parts (shows_word c) (are_words (at c.instant changes))
         (sym (ap (λ (test : Bool). are_words (cond test (c ∷ at c.instant changes) (at c.instant changes)))
         (eq-eqb c.instant c.instant refl)) ∙ each c.instant)).0
 
+    -- at each instant the other changes show words
     rest : (instant : ℕ) → are_words (at instant changes) ≡ true
     rest instant = go (eqb c.instant instant) (each instant)
       where
@@ -284,9 +337,9 @@ from_each (c ∷ changes) each =
         go false words = words
 
 -- if `changes` are, at each instant, those of `rows`, their texts are words
-pub shown_words : (rows : List Row) (changes : List ShownChange)
+pub are_words-of_rows : (rows : List Row) (changes : List ShownChange)
     → ((instant : ℕ) → filter (λ (c : ShownChange). eqb c.instant instant) changes ≡ changes_at rows instant)
     → list_all shows_word changes ≡ true
-shown_words rows changes are =
-    from_each changes (λ instant. ap are_words (are instant)
-    ∙ kept_words instant (all_changes rows) (all_words rows))
+are_words-of_rows rows changes are =
+    are_words-each_instant changes (λ instant. ap are_words (are instant)
+    ∙ are_words-at instant (all_changes rows) (are_words-all_changes rows))

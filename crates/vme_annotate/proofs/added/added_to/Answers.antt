@@ -1,4 +1,4 @@
-use Rattle.vme_annotation.proofs.UnusedLemmas.{are_free}
+use Rattle.vme_annotation.proofs.UnusedLemmas.{AreFree-unused}
 use Rattle.vme_annotate.proofs.added.added_to.Goals as goal
 
 pub returns-in-Ok-added_beside : goal.returns-in-Ok-added_beside
@@ -13,7 +13,7 @@ returns-in-Ok-added_beside c =
         scope_is = beside.scope_is;
         count_is = beside.count_is;
         codes_are =
-            are_free c.args.dump.now beside.start _ c.in-Ok-added_beside.added.own beside.starts read beside.each
+            AreFree-unused c.args.dump.now beside.start _ c.in-Ok-added_beside.added.own beside.starts read beside.each
             beside.ascend;
       },
     )
