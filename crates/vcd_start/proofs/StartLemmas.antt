@@ -1,4 +1,4 @@
--- The fold over a dump's body gives its first time.
+-- The fold over the body of a dump gives the first time of the dump, or has the fault of the dump.
 use Rattle.std.proofs.Common.{◌≡◌, ℕ, false, List, [], ◌∷◌, ◌++◌, Option, None, Result, Ok, Err, refl, sym, ap}
 use Rattle.std.proofs.Common.{subst, ◌∙◌, append_assoc, drop, take, take-append-drop}
 use Rattle.vcd_read.specs.declared.dump.Instant.{Instant}
@@ -28,109 +28,127 @@ use Rattle.vcd_start.specs.StartReading.{LeadsToFirstTime, first_time_kept, firs
 
 -- ---- the first time of instants
 
-first_more : (done : List Instant) (i : Instant)
+-- with one more instant, the first time is as before, or that of this instant if it is the first
+first_time_of-push : (done : List Instant) (i : Instant)
     → first_time_of (done ++ i ∷ []) ≡ first_time_or (first_time_of done) i.time
-first_more [] i = refl
-first_more (x ∷ xs) i = refl
+first_time_of-push [] i = refl
+first_time_of-push (x ∷ xs) i = refl
 
+-- the first time that is known is that of the instants
 abbrev HasFirst : List Instant → CurrentValues → Option ℕ → Type 0
 HasFirst done current start = start ≡ first_time_of done
 
-body_follows : (nets : List Net) (body : List Token)
+-- the fold over a body follows its instants with their first time
+Follows-first_time : (nets : List Net) (body : List Token)
     → Follows (Ends HasFirst) (instants_from nets body) (fold_body first_time_kept first_time_or nets None body)
-body_follows nets body =
+Follows-first_time nets body =
     Follows-fold_body first_time_kept first_time_or nets HasFirst (λ done current a net bits within h. h)
     (λ done current a time h. ap (λ (s : Option ℕ). first_time_or s time) h
-    ∙ sym (first_more done (record { time = time; values = values_from 0 current })))
+    ∙ sym (first_time_of-push done (record { time = time; values = values_from 0 current })))
     body None refl
 
-first_of : (r : Result (List Instant) VcdFault) (taken : Result (Option ℕ) VcdFault) (instants : List Instant)
+-- where instants are read, a fold that follows them gives their first time
+first_time-followed : (r : Result (List Instant) VcdFault) (taken : Result (Option ℕ) VcdFault)
+    (instants : List Instant)
     → r ≡ Ok instants → Follows (Ends HasFirst) r taken → taken ≡ Ok (first_time_of instants)
-first_of (Ok own) taken instants is f =
+first_time-followed (Ok own) taken instants is f =
     let same : own ≡ instants = cc in
     f.1 ∙ ap (λ (s : Option ℕ). Ok s) (f.2.1 ∙ ap first_time_of same)
-first_of (Err fault) taken instants is f = absurd (cc)
+first_time-followed (Err fault) taken instants is f = absurd (cc)
 
 -- ---- the header
 
-abbrev passed : Unit {0} → Variable → Unit {0}
-passed taken variable = taken
+-- a visitor that takes nothing of the variables
+abbrev without_variables : Unit {0} → Variable → Unit {0}
+without_variables taken variable = taken
 
 module _ (text : List ℕ) (ts : List Token) (same : tokens text ≡ ts) where
-  header_is : header_of passed text (nothing_declared tt) ts
-      ≡ (whole_header text >>= λ (d : Defined (List Variable)). Ok (taken_head passed tt d))
-  header_is =
-      ap (λ (l : List Token). header_of passed text (nothing_declared tt) l) (sym same)
-      ∙ header_of-taken_head passed text tt
+  -- the header without its variables is that with all of them, whose variables are left out
+  header_of-whole_header : header_of without_variables text (nothing_declared tt) ts
+      ≡ (whole_header text >>= λ (d : Defined (List Variable)). Ok (taken_head without_variables tt d))
+  header_of-whole_header =
+      ap (λ (l : List Token). header_of without_variables text (nothing_declared tt) l) (sym same)
+      ∙ header_of-taken_head without_variables text tt
 
   module _ (h : Headed) where
-    by_whole : (w : Result (Defined (List Variable)) VcdFault)
-        → (w >>= λ (d : Defined (List Variable)). Ok (taken_head passed tt d)) ≡ Ok (defined h tt)
+    -- a header that is read without its variables can be read with them
+    whole_header-variables : (w : Result (Defined (List Variable)) VcdFault)
+        → (w >>= λ (d : Defined (List Variable)). Ok (taken_head without_variables tt d)) ≡ Ok (defined h tt)
         → (variables : List Variable) × (w ≡ Ok (defined h variables))
-    by_whole (Ok d) e =
-        let same_head : taken_head passed tt d ≡ defined h tt = cc in
+    whole_header-variables (Ok d) e =
+        let same_head : taken_head without_variables tt d ≡ defined h tt = cc in
         (d.variables, ap (λ (x : Defined (Unit {0})). Ok (defined x.head d.variables)) same_head)
-    by_whole (Err fault) e = absurd (cc)
+    whole_header-variables (Err fault) e = absurd (cc)
 
-    by_instants : (variables : List Variable) (dump : Contents) (r : Result (List Instant) VcdFault)
+    -- a dump whose instants are read has these instants
+    instants-of_dump : (variables : List Variable) (dump : Contents) (r : Result (List Instant) VcdFault)
         → (r >>= with_variables variables) ≡ Ok dump → r ≡ Ok dump.instants
-    by_instants variables dump (Ok instants) e =
+    instants-of_dump variables dump (Ok instants) e =
         let whole : record { variables = variables; instants = instants } ≡ dump = cc in
         ap (λ (d : Contents). Ok d.instants) whole
-    by_instants variables dump (Err fault) e = absurd (cc)
+    instants-of_dump variables dump (Err fault) e = absurd (cc)
 
     -- the fold over the body gives the first time of the dump
-    pub taken-start : header_of passed text (nothing_declared tt) ts ≡ Ok (defined h tt) → (dump : Contents)
+    pub fold_body-start_of : header_of without_variables text (nothing_declared tt) ts ≡ Ok (defined h tt)
+        → (dump : Contents)
         → dump_of text ≡ Ok dump → fold_body first_time_kept first_time_or h.nets None h.body ≡ Ok (start_of dump)
-    taken-start is dump whole =
-        let (variables, found) = by_whole (whole_header text) (sym header_is ∙ is) in
+    fold_body-start_of is dump whole =
+        let (variables, found) = whole_header-variables (whole_header text) (sym header_of-whole_header ∙ is) in
         let behind = dump_of-whole_header text (defined h variables) found in
-        first_of (instants_from h.nets h.body) (fold_body first_time_kept first_time_or h.nets None h.body)
+        first_time-followed (instants_from h.nets h.body) (fold_body first_time_kept first_time_or h.nets None h.body)
         dump.instants
-        (by_instants variables dump (instants_from h.nets h.body) (sym behind ∙ whole)) (body_follows h.nets h.body)
+        (instants-of_dump variables dump (instants_from h.nets h.body) (sym behind ∙ whole))
+        (Follows-first_time h.nets h.body)
 
-    fails_on : {X Y : Type 0} (line : ℕ) (kind : FaultKind) (r : Result X VcdFault) (f : X → Result Y VcdFault)
+    -- if the first part of a reading fails with this kind of fault at this line, so does the whole
+    ReadFailsAs-then : {X Y : Type 0} (line : ℕ) (kind : FaultKind) (r : Result X VcdFault) (f : X → Result Y VcdFault)
         → ReadFailsAs line kind r → ReadFailsAs line kind (r >>= f)
-    fails_on line Memory r f fails = fails
-    fails_on line kind r f fails = ap (λ w. w >>= f) fails
+    ReadFailsAs-then line Memory r f fails = fails
+    ReadFailsAs-then line kind r f fails = ap (λ w. w >>= f) fails
 
     -- a fault of the fold over the body is a fault of the dump
-    pub body-fails : header_of passed text (nothing_declared tt) ts ≡ Ok (defined h tt) → (fault : VcdFault)
+    pub ReadFails-body : header_of without_variables text (nothing_declared tt) ts ≡ Ok (defined h tt)
+        → (fault : VcdFault)
         → ReadFails fault (fold_body first_time_kept first_time_or h.nets None h.body) → ReadFails fault (dump_of text)
-    body-fails is fault fails =
-        let (variables, found) = by_whole (whole_header text) (sym header_is ∙ is) in
+    ReadFails-body is fault fails =
+        let (variables, found) = whole_header-variables (whole_header text) (sym header_of-whole_header ∙ is) in
         subst (ReadFailsAs fault.line fault.kind) (sym (dump_of-whole_header text (defined h variables) found))
-        (fails_on fault.line fault.kind (instants_from h.nets h.body) (with_variables variables)
+        (ReadFailsAs-then fault.line fault.kind (instants_from h.nets h.body) (with_variables variables)
         (ReadFails-followed (Ends HasFirst) (instants_from h.nets h.body)
-        (fold_body first_time_kept first_time_or h.nets None h.body) fault (body_follows h.nets h.body) fails))
+        (fold_body first_time_kept first_time_or h.nets None h.body) fault (Follows-first_time h.nets h.body) fails))
 
-  fails_back : (line : ℕ) (kind : FaultKind) (w : Result (Defined (List Variable)) VcdFault)
-      → ReadFailsAs line kind (w >>= λ (d : Defined (List Variable)). Ok (taken_head passed tt d))
+  -- a fault of the header without its variables is one of the contents
+  ReadFailsAs-header : (line : ℕ) (kind : FaultKind) (w : Result (Defined (List Variable)) VcdFault)
+      → ReadFailsAs line kind (w >>= λ (d : Defined (List Variable)). Ok (taken_head without_variables tt d))
       → ReadFailsAs line kind (w >>= contents_of_header)
-  fails_back line Memory w fails = fails
-  fails_back line kind (Ok d) fails = absurd (cc)
-  fails_back line kind (Err own) fails =
+  ReadFailsAs-header line Memory w fails = fails
+  ReadFailsAs-header line kind (Ok d) fails = absurd (cc)
+  ReadFailsAs-header line kind (Err own) fails =
       let same_fault : own ≡ record { line = line; kind = kind } = cc in ap (λ (f : VcdFault). Err f) same_fault
 
   -- a fault of the header is a fault of the dump
-  pub header-fails : (fault : VcdFault) → ReadFails fault (header_of passed text (nothing_declared tt) ts)
+  pub ReadFails-header : (fault : VcdFault) → ReadFails fault (header_of without_variables text (nothing_declared tt)
+      ts)
       → ReadFails fault (dump_of text)
-  header-fails fault fails =
+  ReadFails-header fault fails =
       subst (ReadFailsAs fault.line fault.kind) (sym (dump_of-header text))
-      (fails_back fault.line fault.kind (whole_header text)
-      (subst (ReadFailsAs fault.line fault.kind) header_is fails))
+      (ReadFailsAs-header fault.line fault.kind (whole_header text)
+      (subst (ReadFailsAs fault.line fault.kind) header_of-whole_header fails))
 
-  never : (fault : VcdFault) (dump : Contents) (w : Result (Defined (List Variable)) VcdFault)
-      → (w >>= λ (d : Defined (List Variable)). Ok (taken_head passed tt d)) ≡ Err fault
+  -- a header that fails without its variables makes no dump
+  header-not_faulty : (fault : VcdFault) (dump : Contents) (w : Result (Defined (List Variable)) VcdFault)
+      → (w >>= λ (d : Defined (List Variable)). Ok (taken_head without_variables tt d)) ≡ Err fault
       → (w >>= contents_of_header) ≡ Ok dump → ⊥
-  never fault dump (Ok d) fails whole = absurd (cc)
-  never fault dump (Err own) fails whole = absurd (cc)
+  header-not_faulty fault dump (Ok d) fails whole = absurd (cc)
+  header-not_faulty fault dump (Err own) fails whole = absurd (cc)
 
   -- a text whose header has a fault is no dump
-  pub no-dump : (fault : VcdFault) → header_of passed text (nothing_declared tt) ts ≡ Err fault → (dump : Contents)
+  pub dump_of-faulty_header : (fault : VcdFault) → header_of without_variables text (nothing_declared tt) ts ≡ Err fault
+      → (dump : Contents)
       → dump_of text ≡ Ok dump → ⊥
-  no-dump fault fails dump whole =
-      never fault dump (whole_header text) (sym header_is ∙ fails) (sym (dump_of-header text) ∙ whole)
+  dump_of-faulty_header fault fails dump whole =
+      header-not_faulty fault dump (whole_header text) (sym header_of-whole_header ∙ fails)
+      (sym (dump_of-header text) ∙ whole)
 
 -- ---- the body
 
@@ -140,67 +158,77 @@ module _ (r : Reached (Option ℕ)) (head : Headed) (nets : r.nets ≡ head.nets
     (dump_section : r.dump_section
     ≡ None)
     (place : r.place ≡ ready) where
+  -- how far a body is read at its start
   abbrev none_read : BodyFold (Option ℕ)
   none_read = record { accumulator = None; time = 0; has_instant = false }
 
+  -- what the body, and then `more`, give from this state on, at their end
   abbrev come_from : List Token → List Net → BodyFold (Option ℕ) → Option ℕ → BodyPlace → Result (Option ℕ) VcdFault
   come_from more n p b l = ahead first_time_kept first_time_or n p b l head.body more >>= at_end first_time_or
 
-  unread_rest : (more : List Token) → (rest_of first_time_kept first_time_or r head.body more >>= at_end first_time_or)
+  -- to read the body and `more` from its start on is the fold over both
+  rest_of-unread : (more : List Token) → (rest_of first_time_kept first_time_or r head.body more >>= at_end
+      first_time_or)
       ≡ fold_body first_time_kept first_time_or head.nets None (head.body ++ more)
-  unread_rest more =
+  rest_of-unread more =
       ap (λ (n : List Net). come_from more n r.progress r.dump_section r.place) nets
       ∙ ap (λ (p : BodyFold (Option ℕ)). come_from more head.nets p r.dump_section r.place) progress
       ∙ ap (λ (b : Option ℕ). come_from more head.nets none_read b r.place) dump_section
       ∙ ap (λ (l : BodyPlace). come_from more head.nets none_read None l) place
 
   module _ (text : List ℕ) (ts more : List Token) (same : tokens text ≡ ts ++ more)
-      (is : header_of passed text (nothing_declared tt) (ts ++ more) ≡ Ok (defined (going_on head more) tt)) where
-    -- if reading `head.body` leads from `r` to `next`, reading on from `next` gives the first time of the dump
-    pub reads-start : (next : Reached (Option ℕ)) → rest_of first_time_kept first_time_or r head.body more
-        ≡ rest_of first_time_kept first_time_or next [] more
-        → (dump : Contents) → dump_of text ≡ Ok dump → LeadsToFirstTime next more dump
-    reads-start next goes dump whole =
-        ap (λ (w : Result (State (Option ℕ)) VcdFault). w >>= at_end first_time_or) (sym goes) ∙ unread_rest more
-        ∙ taken-start text (ts ++ more) same (going_on head more) is dump whole
+      (is : header_of without_variables text (nothing_declared tt) (ts ++ more) ≡ Ok (defined (going_on head more) tt))
+    where
+      -- if reading `head.body` leads from `r` to `next`, reading on from `next` gives the first time of the dump
+      pub LeadsToFirstTime-read : (next : Reached (Option ℕ)) → rest_of first_time_kept first_time_or r head.body more
+          ≡ rest_of first_time_kept first_time_or next [] more
+          → (dump : Contents) → dump_of text ≡ Ok dump → LeadsToFirstTime next more dump
+      LeadsToFirstTime-read next goes dump whole =
+          ap (λ (w : Result (State (Option ℕ)) VcdFault). w >>= at_end first_time_or) (sym goes) ∙ rest_of-unread more
+          ∙ fold_body-start_of text (ts ++ more) same (going_on head more) is dump whole
 
-    ends_on : (line : ℕ) (kind : FaultKind) (w : Result (State (Option ℕ)) VcdFault) → ReadFailsAs line kind w
-        → ReadFailsAs line kind (w >>= at_end first_time_or)
-    ends_on line Memory w fails = fails
-    ends_on line kind w fails = ap (λ (x : Result (State (Option ℕ)) VcdFault). x >>= at_end first_time_or) fails
+      -- a fault of the items is a fault at the end of the body
+      ReadFailsAs-at_end : (line : ℕ) (kind : FaultKind) (w : Result (State (Option ℕ)) VcdFault)
+          → ReadFailsAs line kind w
+          → ReadFailsAs line kind (w >>= at_end first_time_or)
+      ReadFailsAs-at_end line Memory w fails = fails
+      ReadFailsAs-at_end line kind w fails = ap (λ (x : Result (State (Option ℕ)) VcdFault). x >>= at_end first_time_or)
+          fails
 
-    -- a fault in reading `head.body` and `more` from `r` on is a fault of the dump
-    pub fails-start : (fault : VcdFault) → ReadFails fault (rest_of first_time_kept first_time_or r head.body more)
-        → ReadFails fault (dump_of text)
-    fails-start fault fails =
-        body-fails text (ts ++ more) same (going_on head more) is fault
-        (subst (ReadFailsAs fault.line fault.kind) (unread_rest more)
-        (ends_on fault.line fault.kind (rest_of first_time_kept first_time_or r head.body more) fails))
+      -- a fault in reading `head.body` and `more` from `r` on is a fault of the dump
+      pub ReadFails-rest : (fault : VcdFault) → ReadFails fault (rest_of first_time_kept first_time_or r head.body more)
+          → ReadFails fault (dump_of text)
+      ReadFails-rest fault fails =
+          ReadFails-body text (ts ++ more) same (going_on head more) is fault
+          (subst (ReadFailsAs fault.line fault.kind) (rest_of-unread more)
+          (ReadFailsAs-at_end fault.line fault.kind (rest_of first_time_kept first_time_or r head.body more) fails))
 
 -- ---- a fault
 
 -- a reading that fails otherwise than by want of memory has no result
-pub never-gives : {Y : Type 0} (read : Result Y VcdFault) (line : ℕ) (kind : FaultKind) → (kind ≡ Memory → ⊥)
+pub ReadFailsAs-no_result : {Y : Type 0} (read : Result Y VcdFault) (line : ℕ) (kind : FaultKind) → (kind ≡ Memory → ⊥)
     → ReadFailsAs line kind read → (y : Y) → read ≡ Ok y → ⊥
-never-gives read line Memory other fails y is = other refl
-never-gives read line kind other fails y is = absurd (cc)
+ReadFailsAs-no_result read line Memory other fails y is = other refl
+ReadFailsAs-no_result read line kind other fails y is = absurd (cc)
 
 -- ---- the end
 
 -- at the end of the body, the outcome is the first time of the dump
-pub same-start : (r : Reached (Option ℕ)) (time : Option ℕ) (dump : Contents)
+pub start_of-outcome : (r : Reached (Option ℕ)) (time : Option ℕ) (dump : Contents)
     → outcome_of first_time_kept first_time_or r ≡ Ok time
     → LeadsToFirstTime r [] dump → start_of dump ≡ time
-same-start r time dump gives comes =
+start_of-outcome r time dump gives comes =
     let same : ◌≡◌ {A = Result (Option ℕ) VcdFault} (Ok (start_of dump)) (Ok time) = sym comes ∙ gives in cc
 
 -- ---- the whole tokens of a front
 
-pub cut-tokens : (front : List ℕ) (k : ℕ)
+-- if the first `k` bytes of a front end at a token boundary, its tokens, with `rest` after it, are those of these
+-- bytes, and then the others
+pub tokens-cut : (front : List ℕ) (k : ℕ)
     → ((line : ℕ) (rest : List ℕ) → tokens_from line (take k front ++ rest)
     ≡ tokens_from line (take k front) ++ tokens_from (line_behind line (take k front)) rest) → (rest : List ℕ)
     → tokens (front ++ rest) ≡ tokens (take k front) ++ tokens_from (line_behind 1 (take k front))
     (drop k front ++ rest)
-cut-tokens front k apart rest =
+tokens-cut front k apart rest =
     ap tokens (ap (λ (l : List ℕ). l ++ rest) (sym (take-append-drop k front))
     ∙ append_assoc (take k front) (drop k front) rest) ∙ apart 1 (drop k front ++ rest)

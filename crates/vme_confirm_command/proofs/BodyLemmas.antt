@@ -1,4 +1,5 @@
--- The body of a dump as its steps are compared.
+-- The steps of a dump's body are compared with a listing as they are read, and the answer at its end is that for the
+-- dump.
 use Rattle.std.proofs.Common.{◌≡◌, ℕ, zero, suc, List, [], ◌++◌}
 use Rattle.std.proofs.Common.{Option, None, refl, sym, ap, subst, ◌∙◌}
 use Rattle.std.specs.Prelude.{Result, Ok, Err}
@@ -30,13 +31,13 @@ use Rattle.vme_dump_input.proofs.DumpRefusals.{dump_read-short}
 use Rattle.vme_dump_input.proofs.DumpTexts.{Agrees-text, capture_of-limited}
 
 -- a check that continues with the steps of a piece
-pub checked-next : {Source : Type 0} (skew : Option ℕ) (r next : StepReading) (steps : List Step) (piece : List ℕ)
+pub IsChecked-piece : {Source : Type 0} (skew : Option ℕ) (r next : StepReading) (steps : List Step) (piece : List ℕ)
     (time : ℕ) (t : Trace) (check : StepCheck Source) → IsSound r
     → ((rest : List ℕ) → whole_reading r (piece ++ rest) ≡ whole_reading next rest)
     → next.given ≡ with_steps r.given steps → time ≡ (whole_reading next []).time
     → HasCheckedSteps skew (with_steps r.given steps) time t check.settler check.checker check.count check.is_too_long
     → IsChecked skew next t check
-checked-next skew r next steps piece time t check sound taken given now stepped = record {
+IsChecked-piece skew r next steps piece time t check sound taken given now stepped = record {
   sound = IsSound-next r next steps piece sound taken given;
   stepped = subst (λ (u : Trace). HasCheckedSteps skew u (whole_reading next []).time t check.settler check.checker
       check.count check.is_too_long) (sym given)
@@ -46,19 +47,22 @@ checked-next skew r next steps piece time t check sound taken given now stepped 
 
 -- ---- the end
 
-settles : (skew : ℕ) (t : Trace) → IsRecording t → settled_whole (skew_of skew) t ≡ settled skew t
-settles zero t is = sym (settled-zero_skew t is)
-settles (suc n) t is = refl
+-- to deskew a recording by what the skew asks for is to deskew it by the skew
+settled_whole-settled : (skew : ℕ) (t : Trace) → IsRecording t → settled_whole (skew_of skew) t ≡ settled skew t
+settled_whole-settled zero t is = sym (settled-zero_skew t is)
+settled_whole-settled (suc n) t is = refl
 
 module _ {Whole Source : Type 0} (gave : Whole → Source → List Row → Type 0) (is_over : Source → Type 0) (whole : Whole)
     (version : Version) (binding : BoundLines) (skew : ℕ) (source : Source) (old now : Reading) (bytes : List ℕ)
     (r : StepReading) (end : IsAtEnd binding old now bytes r) (given : Trace)
     (recorded : (whole_reading r bytes).recorded ≡ given) (faultless : (whole_reading r bytes).fault ≡ None)
     (is : IsRecording given) where
-  found_of : (contents : Contents) → capture_of binding contents ≡ limited given → (found : Result Answer BindFault)
+  -- what is found of the recording is the answer for the dump with these contents
+  IsAnswerForDump-contents : (contents : Contents) → capture_of binding contents ≡ limited given
+      → (found : Result Answer BindFault)
       → Finds gave is_over whole version (skew_of skew) given found source
       → IsAnswerForDump gave is_over whole version binding skew contents found source
-  found_of contents captured (Ok answer) finds =
+  IsAnswerForDump-contents contents captured (Ok answer) finds =
       let (fits, rest) = finds in
       let (more, gives, decides) = rest in (
         settled skew given,
@@ -67,16 +71,17 @@ module _ {Whole Source : Type 0} (gave : Whole → Source → List Row → Type 
           more,
           gives,
           subst (λ (t : Trace). Decides is_over more (rows_in version (recorded_rows t)) source answer)
-              (settles skew given is) decides,
+              (settled_whole-settled skew given is) decides,
         ),
       )
-  found_of contents captured (Err fault) finds = (captured ∙ finds.0, finds.1)
+  IsAnswerForDump-contents contents captured (Err fault) finds = (captured ∙ finds.0, finds.1)
 
-  pub finds-of : (found : Result Answer BindFault)
+  -- what is found of the recording at the end of the dump is the answer for the dump that was read
+  pub IsAnswerForDump-at_end : (found : Result Answer BindFault)
       → Finds gave is_over whole version (skew_of skew) given found source
       → (contents : Contents) × IsReadDump old now contents
       × IsAnswerForDump gave is_over whole version binding skew contents found source
-  finds-of found finds =
+  IsAnswerForDump-at_end found finds =
       let (contents, dump, same) = (Agrees-text binding end.text).whole (whole_reading r bytes) end.body faultless in (
         contents,
         record {
@@ -84,6 +89,7 @@ module _ {Whole Source : Type 0} (gave : Whole → Source → List Row → Type 
           reading = end.all.0;
           is = dump_read-short end.text end.all.1 (Ok contents) dump;
         },
-        found_of contents (capture_of-limited binding contents given (same ∙ ap (λ (t : Trace). Ok t) recorded)) found
+        IsAnswerForDump-contents contents (capture_of-limited binding contents given
+            (same ∙ ap (λ (t : Trace). Ok t) recorded)) found
             finds,
       )

@@ -1,4 +1,4 @@
--- The rows of a listing as they are given.
+-- The rows of a listing are given one by one, until it is whole or has a fault.
 use Rattle.std.proofs.Common.{◌≡◌, ◌≤◌, ℕ, true, false, List, [], ◌∷◌, ◌++◌, length, Option, None, Some, ap, subst, ◌∙◌}
 use Rattle.std.proofs.Common.{append_assoc}
 use Rattle.std.specs.Prelude.{MatchOption, Result, Ok, Err, is_some}
@@ -16,106 +16,118 @@ use Rattle.vme_confirm_command.specs.RowsOfListing.{IsWholeText, ReadsRow}
 use Rattle.vme_confirm_command.specs.declared.rows_fault.RowsFault.{RowsFault}
 use Rattle.vme_confirm_command.specs.declared.rows_fault.RowsFault.TheVariants.{Input, Text}
 use Rattle.vme_dump_input.proofs.BufferedLemmas.{IsAllOf-whole}
-use Rattle.vme_confirm_command.proofs.RowLemmas.{ends-whole, input-refused, text-refused, whole-text}
+use Rattle.vme_confirm_command.proofs.RowLemmas.{is_whole-whole_text, GivesRows-input_fault, GivesRows-text_fault}
+use Rattle.vme_confirm_command.proofs.RowLemmas.{IsTextOfListing-whole}
 
 -- ---- one row more
 
 module _ (old : Reading) (version : Version) (now : Reading) (input : InputSoFar) (rows : List Row) where
-  pub no-pieces : (fault : Option RowsFault) → ListingGaveRows old version now input None fault rows
+  -- where no more rows are read, all are given
+  pub ListingGaveAllRows-no_more : (fault : Option RowsFault) → ListingGaveRows old version now input None fault rows
       → ListingGaveAllRows old version now input None fault rows
-  no-pieces (Some fault) gave = gave
-  no-pieces None gave = absurd gave
+  ListingGaveAllRows-no_more (Some fault) gave = gave
+  ListingGaveAllRows-no_more None gave = absurd gave
 
-  pub rows-read : (so_far : RowsSoFar) (fault : Option RowsFault) → fault ≡ None
+  -- while there is no fault, the rows that were given are those that were read
+  pub ListingGaveRows-read : (so_far : RowsSoFar) (fault : Option RowsFault) → fault ≡ None
       → ListingGaveRows old version now input (Some so_far) fault rows
       → (input.limit ≡ longest_listing) × (so_far.version ≡ version) × AreRead old now input (Ok so_far) rows
-  rows-read so_far None none gave = gave
-  rows-read so_far (Some fault) none gave = absurd (cc)
+  ListingGaveRows-read so_far None none gave = gave
+  ListingGaveRows-read so_far (Some fault) none gave = absurd (cc)
 
   -- a row that is read is given; if none is read, the rows end
-  pub gives-on : (so_far : RowsSoFar) (fault : Option RowsFault) → fault ≡ None → input.limit ≡ longest_listing
+  pub ReadsRow-gives : (so_far : RowsSoFar) (fault : Option RowsFault) → fault ≡ None → input.limit ≡ longest_listing
       → so_far.version ≡ version → (row : Option Row) → ReadsRow old now input so_far rows (Ok row)
       → MatchOption row (ListingGaveAllRows old version now input (Some so_far) fault rows)
       (λ row. ListingGaveRows old version now input (Some so_far) fault (rows ++ row ∷ []))
-  gives-on so_far (Some fault) none limit same row reads = absurd (cc)
-  gives-on so_far None none limit same (Some row) reads = (limit, same, reads)
-  gives-on so_far None none limit same None reads =
+  ReadsRow-gives so_far (Some fault) none limit same row reads = absurd (cc)
+  ReadsRow-gives so_far None none limit same (Some row) reads = (limit, same, reads)
+  ReadsRow-gives so_far None none limit same None reads =
       let (done, read, whole) = reads.1 in (
         (limit, same, reads.0),
         (done, read, subst (λ (v : Version). IsWholeText done input v rows) same whole),
       )
 
-pub over-none : (fault : Option RowsFault) → IsOver None fault
-over-none None = tt
-over-none (Some fault) = tt
+-- where no more rows are read, no more are given
+pub IsOver-none : (fault : Option RowsFault) → IsOver None fault
+IsOver-none None = tt
+IsOver-none (Some fault) = tt
 
-pub over-at : (so_far : RowsSoFar) (fault : Option RowsFault) → fault ≡ None → IsOver (Some so_far) None
+-- rows that are over are so where the fault is none
+pub IsOver-with_no_fault : (so_far : RowsSoFar) (fault : Option RowsFault) → fault ≡ None → IsOver (Some so_far) None
     → IsOver (Some so_far) fault
-over-at so_far None none over = over
-over-at so_far (Some fault) none over = tt
+IsOver-with_no_fault so_far None none over = over
+IsOver-with_no_fault so_far (Some fault) none over = tt
 
-pub is-over-at : (so_far : RowsSoFar) (fault : Option RowsFault) → fault ≡ None → IsOver (Some so_far) fault
+-- rows that are over where the fault is none are over
+pub IsOver-without_fault : (so_far : RowsSoFar) (fault : Option RowsFault) → fault ≡ None → IsOver (Some so_far) fault
     → IsOver (Some so_far) None
-is-over-at so_far None none over = over
-is-over-at so_far (Some fault) none over = absurd (cc)
+IsOver-without_fault so_far None none over = over
+IsOver-without_fault so_far (Some fault) none over = absurd (cc)
 
 -- one more row is given, or no more are
 
 module _ (old : Reading) (version : Version) (now : Reading) (input : InputSoFar) (pieces : Option RowsSoFar)
     (fault : Option RowsFault) (given : List Row) where
+  -- one more row is given, or all are given
   abbrev Gives : Option Row → Type 0
   Gives row = MatchOption row (ListingGaveAllRows old version now input pieces fault given)
       (λ r. ListingGaveRows old version now input pieces fault (given ++ r ∷ []))
 
-  pub one-more : (row : Option Row) → is_some row ≡ true → Gives row
+  -- if there is a row, it is one more
+  pub Gives-row : (row : Option Row) → is_some row ≡ true → Gives row
       → (r : Row) × ListingGaveRows old version now input pieces fault (given ++ r ∷ [])
-  one-more (Some r) some h = (r, h)
-  one-more None some h = absurd (cc)
+  Gives-row (Some r) some h = (r, h)
+  Gives-row None some h = absurd (cc)
 
-  pub no-more : (row : Option Row) → is_some row ≡ false → Gives row
+  -- if there is no row, all are given
+  pub Gives-no_row : (row : Option Row) → is_some row ≡ false → Gives row
       → ListingGaveAllRows old version now input pieces fault given
-  no-more None none h = h
-  no-more (Some r) none h = absurd (cc)
+  Gives-no_row None none h = h
+  Gives-no_row (Some r) none h = absurd (cc)
 
-pub never-some : (row : Option Row) → is_some row ≡ true → row ≡ None → ⊥
-never-some None some none = cc
-never-some (Some r) some none = cc
+-- a row that is there isn't none
+pub is_some-not_None : (row : Option Row) → is_some row ≡ true → row ≡ None → ⊥
+is_some-not_None None some none = cc
+is_some-not_None (Some r) some none = cc
 
 -- ---- the end
 
--- the listing is whole
-pub whole-ends : (old : Reading) (version : Version) (now : Reading) (input : InputSoFar) (pieces : Option RowsSoFar)
+-- a listing of which all rows were given, without a fault, is read to its end
+pub IsListingRead-whole : (old : Reading) (version : Version) (now : Reading) (input : InputSoFar)
+    (pieces : Option RowsSoFar)
     (fault : Option RowsFault) → fault ≡ None → (rows more : List Row) (over : Type 0) → (over → more ≡ [])
     → ListingGaveAllRows old version now input pieces fault (rows ++ more)
     → IsListingRead old version now rows over (Ok tt)
-whole-ends old version now input pieces (Some fault) none rows more over none_more ends = absurd (cc)
-whole-ends old version now input None None none rows more over none_more ends = absurd ends
-whole-ends old version now input (Some so_far) None none rows more over none_more ends =
+IsListingRead-whole old version now input pieces (Some fault) none rows more over none_more ends = absurd (cc)
+IsListingRead-whole old version now input None None none rows more over none_more ends = absurd ends
+IsListingRead-whole old version now input (Some so_far) None none rows more over none_more ends =
     let (done, read, whole) = ends.1 in
-    let all = IsAllOf-whole old now done input read (ends-whole done input version (rows ++ more) whole) in (
+    let all = IsAllOf-whole old now done input read (is_whole-whole_text done input version (rows ++ more) whole) in (
       done ++ input.held,
       more,
       all.0,
       subst (λ n. length (done ++ input.held) ≤ n) ends.0.0 all.1,
-      whole-text done input version (rows ++ more) whole,
+      IsTextOfListing-whole done input version (rows ++ more) whole,
       none_more,
     )
 
--- there is a fault
-pub fault-gave : (old : Reading) (version : Version) (now : Reading) (input : InputSoFar) (pieces : Option RowsSoFar)
+-- rows that were given up to a fault were given with this fault
+pub ListingGaveRows-fault : (old : Reading) (version : Version) (now : Reading) (input : InputSoFar)
+    (pieces : Option RowsSoFar)
     (given : Option RowsFault) (fault : RowsFault) → given ≡ Some fault → (rows : List Row)
     → ListingGaveAllRows old version now input pieces given rows
     → ListingGaveRows old version now input pieces (Some fault) rows
-fault-gave old version now input pieces None fault is rows ends = absurd (cc)
-fault-gave old version now input pieces (Some own) fault is rows ends =
+ListingGaveRows-fault old version now input pieces None fault is rows ends = absurd (cc)
+ListingGaveRows-fault old version now input pieces (Some own) fault is rows ends =
     subst (λ (f : Option RowsFault). ListingGaveRows old version now input pieces f rows) is ends
 
 -- a listing that was read, and has `rows ++ more`, has `rows` and more rows after them
-pub more-after : (old : Reading) (version : Version) (now : Reading) (rows more : List Row) (over : Type 0)
+pub IsListingRead-more : (old : Reading) (version : Version) (now : Reading) (rows more : List Row) (over : Type 0)
     → (over → more ≡ []) → (result : Result (Unit {0}) RowsFault)
     → IsListingRead old version now (rows ++ more) (Unit {0}) result → IsListingRead old version now rows over result
-more-after old version now rows more over none_more (Err fault) ends = ends
-more-after old version now rows more over none_more (Ok u) ends =
+IsListingRead-more old version now rows more over none_more (Err fault) ends = ends
+IsListingRead-more old version now rows more over none_more (Ok u) ends =
     let (text, rest, reading, short, is, none) = ends in (
       text,
       more ++ rest,
@@ -126,16 +138,17 @@ more-after old version now rows more over none_more (Ok u) ends =
     )
 
 module _ (old : Reading) (version : Version) (now : Reading) (rows : List Row) where
-  pub input-ends : (fault : InFault) → FailsAs longest_listing old now fault
+  -- a fault of the input ends the listing
+  pub IsListingRead-input_fault : (fault : InFault) → FailsAs longest_listing old now fault
       → IsListingRead old version now rows (Unit {0}) (Err (Input fault))
-  input-ends fault fails = input-refused old now fault fails
+  IsListingRead-input_fault fault fails = GivesRows-input_fault old now fault fails
 
   -- the text has a fault, and all of it was read
-  pub text-ends : (done : List ℕ) (input : InputSoFar) (more : List ℕ) (fault : ListFault)
+  pub IsListingRead-text_fault : (done : List ℕ) (input : InputSoFar) (more : List ℕ) (fault : ListFault)
       → IsAllOf old now (done ++ (input.held ++ more)) longest_listing → HasTextFault done input fault
       → (input.is_whole ≡ true → more ≡ []) → IsListingRead old version now rows (Unit {0}) (Err (Text fault))
-  text-ends done input more fault all has ends = (
+  IsListingRead-text_fault done input more fault all has ends = (
     Some (done ++ (input.held ++ more)),
     all.0,
-    text-refused (done ++ (input.held ++ more)) fault all.1 (has more ends),
+    GivesRows-text_fault (done ++ (input.held ++ more)) fault all.1 (has more ends),
   )

@@ -1,4 +1,4 @@
--- The rows of a listing as its bytes are read.
+-- The rows of a listing are read from the bytes that are held of it, and stay so when more bytes are held.
 use Rattle.std.proofs.Common.{◌≡◌, ℕ, ◌+◌, ◌^◌, ◌≤◌, ◌<◌, Bool, true, false, List, [], ◌∷◌, ◌++◌, length, take, drop}
 use Rattle.std.proofs.Common.{Option, None, Some, refl, sym, ap, subst, ◌∙◌, arith, append_assoc, append-nil}
 use Rattle.std.proofs.Common.{length-append}
@@ -21,23 +21,26 @@ use Rattle.vme_dump_input.specs.BufferedInputs.{FailsAs, InputSoFar, IsReadTo}
 use Rattle.vme_confirm_command.specs.RowsOfListing.{AreCounted, ListingGaveRows, IsSomeReading, rows_refusal}
 use Rattle.vme_confirm_command.specs.declared.rows_fault.RowsFault.{RowsFault}
 use Rattle.vme_confirm_command.specs.declared.rows_fault.RowsFault.TheVariants.{Input, Text}
-use Rattle.vme_confirm_command.proofs.ConfirmLemmas.{listing_fault, text-fits, text-long}
+use Rattle.vme_confirm_command.proofs.ConfirmLemmas.{GivesRows-fault, listing_text-fits, listing_text-long}
 use Rattle.vme_confirm_command.specs.RowsOfListing.{AreRead, HasReadRows, IsCounted, HoldsMore, IsWholeText}
 use Rattle.vme_dump_input.proofs.BufferedLemmas.{IsReading-some, append-taken, IsReadTo-taken}
 
 -- ---- more bytes are held
 
-pub fill-none : (input : InputSoFar) → HoldsMore input input
-fill-none input = record {
+-- an input holds its own bytes, and none more
+pub HoldsMore-none : (input : InputSoFar) → HoldsMore input input
+HoldsMore-none input = record {
   more = [];
   held = sym (append-nil input.held);
   none = λ whole. (refl, whole);
   limit = refl;
 }
 
-pub fill-more : (first now later : InputSoFar) (more : List ℕ) → HoldsMore first now → later.held ≡ now.held ++ more
+-- an input that hasn't ended may hold more bytes yet
+pub HoldsMore-more : (first now later : InputSoFar) (more : List ℕ) → HoldsMore first now → later.held ≡ now.held
+    ++ more
     → later.limit ≡ now.limit → now.is_whole ≡ false → HoldsMore first later
-fill-more first now later more filled held limit going = record {
+HoldsMore-more first now later more filled held limit going = record {
   more = filled.more ++ more;
   held = held ∙ ap (λ l. l ++ more) filled.held ∙ append_assoc first.held filled.more more;
   none = λ whole. let ended = (filled.none whole).1 in absurd (cc);
@@ -52,16 +55,18 @@ followed_by-more old new filled future ends whole =
     let none = filled.none whole in
     ap (λ l. l ++ future) none.0 ∙ ends none.1
 
-behind : (old new : InputSoFar) (filled : HoldsMore old new) (future : List ℕ)
+-- the bytes of `old`, those that were added, and the future ones are those of `new` and the future ones
+held-append : (old new : InputSoFar) (filled : HoldsMore old new) (future : List ℕ)
     → old.held ++ (filled.more ++ future) ≡ new.held ++ future
-behind old new filled future =
+held-append old new filled future =
     sym (append_assoc old.held filled.more future) ∙ ap (λ l. l ++ future) (sym filled.held)
 
 -- rows that were read stay so when more bytes are held
-pub rows-filled : (done : List ℕ) (old new : InputSoFar) (so_far : RowsSoFar) (rows : List Row) → HoldsMore old new
+pub HasReadRows-filled : (done : List ℕ) (old new : InputSoFar) (so_far : RowsSoFar) (rows : List Row)
+    → HoldsMore old new
     → HasReadRows done old so_far rows → HasReadRows done new so_far rows
-rows-filled done old new so_far rows filled has future ends =
-    subst (λ l. HasRead (done ++ l) rows (behind_rows so_far l)) (behind old new filled future)
+HasReadRows-filled done old new so_far rows filled has future ends =
+    subst (λ l. HasRead (done ++ l) rows (behind_rows so_far l)) (held-append old new filled future)
     (has (filled.more ++ future) (followed_by-more old new filled future ends))
 
 -- ---- some of the held bytes are taken
@@ -69,10 +74,10 @@ rows-filled done old new so_far rows filled has future ends =
 module _ (old now : Reading) (done : List ℕ) (input : InputSoFar) (h : IsReadTo old now done input) (n : ℕ)
     (within : n ≤ length input.held) (so_far : RowsSoFar) (rows : List Row) where
   -- the rows in the bytes that are taken are read
-  pub rows-taken : ((future : List ℕ) → IsFollowedBy input.is_whole future
+  pub AreRead-taken : ((future : List ℕ) → IsFollowedBy input.is_whole future
       → HasRead (done ++ (input.held ++ future)) rows (behind_rows so_far (drop n input.held ++ future)))
       → AreRead old now (record input { held = drop n input.held }) (Ok so_far) rows
-  rows-taken has = (
+  AreRead-taken has = (
     done ++ take n input.held,
     IsReadTo-taken old now done input h n within,
     λ future ends. subst (λ l. HasRead l rows (behind_rows so_far (drop n input.held ++ future)))
@@ -80,106 +85,119 @@ module _ (old now : Reading) (done : List ℕ) (input : InputSoFar) (h : IsReadT
   )
 
 -- rows stay counted when more bytes are held
-pub counted-filled : (so_far : RowsSoFar) (old new : InputSoFar)
+pub IsCounted-filled : (so_far : RowsSoFar) (old new : InputSoFar)
     → new.read + length old.held ≡ old.read + length new.held → (old.read < 2 ^ 62 → new.read < 2 ^ 62)
     → IsCounted so_far old → IsCounted so_far new
-counted-filled so_far old new same small counted = (omega (arith, same, counted.0), small counted.1)
+IsCounted-filled so_far old new same small counted = (omega (arith, same, counted.0), small counted.1)
 
 -- one more row stays counted, with the `n` bytes that it takes
-pub counted-next : (old new : RowsSoFar) (input : InputSoFar) (n : ℕ) → IsCounted old input → new.count ≡ old.count + 1
+pub IsCounted-next : (old new : RowsSoFar) (input : InputSoFar) (n : ℕ) → IsCounted old input → new.count
+    ≡ old.count + 1
     → 0 < n → n ≤ length input.held → IsCounted new (record input { held = drop n input.held })
-counted-next old new input n counted one some within =
+IsCounted-next old new input n counted one some within =
     (omega (arith, counted.0, one, some, within, length-drop n input.held), counted.1)
 
-pub counted-first : (so_far : RowsSoFar) (input : InputSoFar) (n : ℕ) → so_far.count ≡ 0 → input.read < 2 ^ 62
+-- without rows, the count is right
+pub IsCounted-first : (so_far : RowsSoFar) (input : InputSoFar) (n : ℕ) → so_far.count ≡ 0 → input.read < 2 ^ 62
     → length input.held ≤ input.read → IsCounted so_far (record input { held = drop n input.held })
-counted-first so_far input n none small within = (omega (arith, none, within, length-drop n input.held), small)
+IsCounted-first so_far input n none small within = (omega (arith, none, within, length-drop n input.held), small)
 
 -- ---- the end of a listing
 
-longer : (text : List ℕ) (byte : ℕ) → text ≡ text ++ byte ∷ [] → ⊥
-longer text byte e = omega (arith, ap length e, length-append text (byte ∷ []))
+-- no text is the same with one more byte
+append-longer : (text : List ℕ) (byte : ℕ) → text ≡ text ++ byte ∷ [] → ⊥
+append-longer text byte e = omega (arith, ap length e, length-append text (byte ∷ []))
 
 -- if the text is that of a whole listing whatever follows, the input has ended
-pub ends-whole : (done : List ℕ) (input : InputSoFar) (version : Version) (rows : List Row)
+pub is_whole-whole_text : (done : List ℕ) (input : InputSoFar) (version : Version) (rows : List Row)
     → IsWholeText done input version rows → input.is_whole ≡ true
-ends-whole done input version rows whole = by_flag input.is_whole refl
+is_whole-whole_text done input version rows whole = by_flag input.is_whole refl
   where
+    -- whether the input has ended or not
     by_flag : (flag : Bool) → input.is_whole ≡ flag → input.is_whole ≡ true
     by_flag true e = e
     by_flag false e =
         let none = whole [] (λ ends. refl) in
         let one = whole (0 ∷ []) (λ ends. absurd (cc)) in
-        absurd (longer (done ++ (input.held ++ [])) 0
+        absurd (append-longer (done ++ (input.held ++ [])) 0
         (sym none.1 ∙ (one.1 ∙ (ap (λ l. done ++ (l ++ 0 ∷ [])) (sym (append-nil input.held))
         ∙ sym (append_assoc done (input.held ++ []) (0 ∷ []))))))
 
-pub whole-text : (done : List ℕ) (input : InputSoFar) (version : Version) (rows : List Row)
+-- the bytes that were taken, and those that are held, are then the text of the listing
+pub IsTextOfListing-whole : (done : List ℕ) (input : InputSoFar) (version : Version) (rows : List Row)
     → IsWholeText done input version rows → IsTextOfListing (done ++ input.held) (listed version rows)
-whole-text done input version rows whole =
+IsTextOfListing-whole done input version rows whole =
     subst (λ l. IsTextOfListing (done ++ l) (listed version rows)) (append-nil input.held) (whole [] (λ ends. refl))
 
 -- ---- the rows of a listing
 
 -- while rows are read there is no fault
-pub no-fault : (so_far : RowsSoFar) (fault : Option RowsFault) (input : InputSoFar)
+pub AreCounted-no_fault : (so_far : RowsSoFar) (fault : Option RowsFault) (input : InputSoFar)
     → AreCounted (Some so_far) fault input → fault ≡ None
-no-fault so_far fault input counted = by_fault fault (counted so_far refl).0
+AreCounted-no_fault so_far fault input counted = by_fault fault (counted so_far refl).0
   where
+    -- whether there is a fault or not
     by_fault : (f : Option RowsFault) → is_none f ≡ true → f ≡ None
     by_fault None e = refl
     by_fault (Some own) e = absurd (cc)
 
-pub are-counted : (so_far : RowsSoFar) (fault : Option RowsFault) (input : InputSoFar) → fault ≡ None
+-- where there is no fault, rows that are counted are counted so
+pub AreCounted-IsCounted : (so_far : RowsSoFar) (fault : Option RowsFault) (input : InputSoFar) → fault ≡ None
     → IsCounted so_far input → AreCounted (Some so_far) fault input
-are-counted so_far fault input none counted x is =
+AreCounted-IsCounted so_far fault input none counted x is =
     (ap is_none none, subst (λ (u : RowsSoFar). IsCounted u input) (same x is) counted)
   where
+    -- rows so far that are there are these
     same : (x : RowsSoFar) → ◌≡◌ {A = Option RowsSoFar} (Some so_far) (Some x) → so_far ≡ x
     same x e = cc
 
-pub is-counted : (so_far : RowsSoFar) (fault : Option RowsFault) (input : InputSoFar)
+-- while rows are read they are counted
+pub IsCounted-AreCounted : (so_far : RowsSoFar) (fault : Option RowsFault) (input : InputSoFar)
     → AreCounted (Some so_far) fault input → IsCounted so_far input
-is-counted so_far fault input counted = (counted so_far refl).1
+IsCounted-AreCounted so_far fault input counted = (counted so_far refl).1
 
-pub none-counted : (fault : Option RowsFault) (input : InputSoFar) → AreCounted None fault input
-none-counted fault input x is = absurd (cc)
+-- where no rows are read, nothing is asked of the count
+pub AreCounted-none : (fault : Option RowsFault) (input : InputSoFar) → AreCounted None fault input
+AreCounted-none fault input x is = absurd (cc)
 
 -- what was read of a source is some reading of it
-pub read-some-how : (old : Reading) (version : Version) (now : Reading) (input : InputSoFar) (pieces : Option RowsSoFar)
+pub IsSomeReading-rows : (old : Reading) (version : Version) (now : Reading) (input : InputSoFar)
+    (pieces : Option RowsSoFar)
     (fault : Option RowsFault) (rows : List Row) → ListingGaveRows old version now input pieces fault rows
     → IsSomeReading old now
-read-some-how old version now input pieces (Some (Text fault)) rows gave =
+IsSomeReading-rows old version now input pieces (Some (Text fault)) rows gave =
     let (done, read, has) = gave.1 in
     IsReading-some old now done input read
-read-some-how old version now input pieces (Some (Input fault)) rows gave = fails-some fault gave.1
+IsSomeReading-rows old version now input pieces (Some (Input fault)) rows gave = fails-some fault gave.1
   where
+    -- a fault of the input comes of some reading
     fails-some : (fault : InFault) → FailsAs longest_listing old now fault → IsSomeReading old now
     fails-some failed.Read fails = (None, fails)
     fails-some failed.TooLong fails = (Some fails.0, fails.2)
     fails-some failed.Memory fails = fails
-read-some-how old version now input (Some so_far) None rows gave =
+IsSomeReading-rows old version now input (Some so_far) None rows gave =
     let (done, read, has) = gave.2 in
     IsReading-some old now done input read
-read-some-how old version now input None None rows gave = absurd gave
+IsSomeReading-rows old version now input None None rows gave = absurd gave
 
 -- ---- the end
 
--- the text of a listing with a fault
-pub text-refused : (text : List ℕ) (fault : ListFault) → length text ≤ longest_listing → IsFaultOfText text fault
+-- the text of a listing with a fault is refused for this fault
+pub GivesRows-text_fault : (text : List ℕ) (fault : ListFault) → length text ≤ longest_listing
+    → IsFaultOfText text fault
     → GivesRows (listing_text (Some text)) (Err (rows_refusal (Text fault)))
-text-refused text fault short is =
-    subst (λ w. GivesRows w (Err (listing_refusal fault))) (sym (text-fits text short))
-    (listing_fault text fault is.0 is.1)
+GivesRows-text_fault text fault short is =
+    subst (λ w. GivesRows w (Err (listing_refusal fault))) (sym (listing_text-fits text short))
+    (GivesRows-fault text fault is.0 is.1)
 
--- a listing that can't be read, or is too long
-pub input-refused : (old now : Reading) (fault : InFault) → FailsAs longest_listing old now fault
+-- a listing that can't be read, or is too long, is refused for that
+pub GivesRows-input_fault : (old now : Reading) (fault : InFault) → FailsAs longest_listing old now fault
     → (bytes : Option (List ℕ)) × IsReading old now bytes
     × GivesRows (listing_text bytes) (Err (rows_refusal (Input fault)))
-input-refused old now failed.Read fails = (None, fails, refl)
-input-refused old now failed.TooLong fails = (
+GivesRows-input_fault old now failed.Read fails = (None, fails, refl)
+GivesRows-input_fault old now failed.TooLong fails = (
   Some fails.0,
   fails.2,
-  subst (λ w. GivesRows w (Err (TooLong Listing))) (sym (text-long fails.0 fails.1)) refl,
+  subst (λ w. GivesRows w (Err (TooLong Listing))) (sym (listing_text-long fails.0 fails.1)) refl,
 )
-input-refused old now failed.Memory fails = (fails.0, fails.1, tt)
+GivesRows-input_fault old now failed.Memory fails = (fails.0, fails.1, tt)

@@ -1,4 +1,4 @@
--- Steps that are compared one by one.
+-- The steps of a piece are compared one by one, and counted up to the limit of a recording.
 use Rattle.std.proofs.Common.{◌≡◌, ℕ, ◌+◌, ◌≤◌, ◌<◌, Bool, true, false, List, [], ◌∷◌, ◌++◌, length, take}
 use Rattle.std.proofs.Common.{get_or, Option, None, Some, refl, sym, ap, ◌∙◌, arith, append_assoc, append-nil}
 use Rattle.std.proofs.Common.{length-append}
@@ -27,23 +27,26 @@ use Rattle.vme_confirm_command.specs.StepChecks.{HasDeskewed, StepsMayFollow}
 
 -- ---- one more step
 
-found_behind : (xs ys : List Step) (k : ℕ) (y : Step) → slice_get ys k ≡ Some y
+-- an element of the second list is found after the first
+slice_get-append : (xs ys : List Step) (k : ℕ) (y : Step) → slice_get ys k ≡ Some y
     → slice_get (xs ++ ys) (length xs + k) ≡ Some y
-found_behind xs ys k y is =
+slice_get-append xs ys k y is =
     let below = slice_get_within ys k y is in
     let same : y ≡ get_or ys k y = same_Some y (get_or ys k y) (sym is ∙ slice_get-get_or ys k y below) in
     slice_get_read (xs ++ ys) (length (xs ++ ys)) (length xs + k) y refl
     (omega (arith, below, length-append xs ys)) (same ∙ sym (get_or-append-add xs ys k y))
 
 module _ (recorded : Trace) (steps : List Step) (i : ℕ) (step : Step) (found : slice_get steps i ≡ Some step) where
-  pub next-to : with_steps (with_steps recorded (take i steps)) (step ∷ []) ≡ with_steps recorded (take (i + 1) steps)
-  next-to =
+  -- the step at `i` after those before it makes the first i + 1 steps
+  pub with_steps-next : with_steps (with_steps recorded (take i steps)) (step ∷ [])
+      ≡ with_steps recorded (take (i + 1) steps)
+  with_steps-next =
       ap (λ (l : List Step). record recorded { steps = l }) (append_assoc recorded.steps (take i steps) (step ∷ [])
       ∙ ap (λ (l : List Step). recorded.steps ++ l) (sym (taken_more steps i step found)))
 
   -- if the steps may follow the recording, the step at `i` may follow it and the steps before `i`
-  pub may-next : StepsMayFollow recorded steps → MayGoOn (with_steps recorded (take i steps)) step
-  may-next may =
+  pub MayGoOn-next : StepsMayFollow recorded steps → MayGoOn (with_steps recorded (take i steps)) step
+  MayGoOn-next may =
       let below = slice_get_within steps i step found in
       let few : length (take i steps) ≡ i = length-take-le i steps (omega (arith, below)) in
       let t = with_steps recorded steps in
@@ -54,21 +57,24 @@ module _ (recorded : Trace) (steps : List Step) (i : ℕ) (step : Step) (found :
       record {
         within = omega (arith, may.within, below, few, length-append recorded.steps (take i steps));
         sound = ap (λ (w : Levels). are_changes w 0 step.changes) (sym levels)
-            ∙ sound-step t n step (found_behind recorded.steps steps i step found) may.formed;
+            ∙ sound-step t n step (slice_get-append recorded.steps steps i step found) may.formed;
       }
 
-pub none-taken : (recorded : Trace) (steps : List Step) → with_steps recorded (take 0 steps) ≡ recorded
-none-taken recorded steps = ap (λ (l : List Step). record recorded { steps = l }) (append-nil recorded.steps)
+-- before the first step the recording is as it was
+pub with_steps-none : (recorded : Trace) (steps : List Step) → with_steps recorded (take 0 steps) ≡ recorded
+with_steps-none recorded steps = ap (λ (l : List Step). record recorded { steps = l }) (append-nil recorded.steps)
 
-pub all-of : (steps : List Step) (i : ℕ) → length steps ≤ i → take i steps ≡ steps
-all-of steps i past = take_all i steps past
+-- past the end of the list all steps are taken
+pub take-past : (steps : List Step) (i : ℕ) → length steps ≤ i → take i steps ≡ steps
+take-past steps i past = take_all i steps past
 
 -- ---- how many steps there are
 
-so-far-shorter : (skew : Option ℕ) (time : ℕ) (t : Trace)
+-- deskewing so far makes no more steps
+length-settled_so_far : (skew : Option ℕ) (time : ℕ) (t : Trace)
     → length (settled_so_far skew time t).steps ≤ length t.steps
-so-far-shorter None time t = omega arith
-so-far-shorter (Some skew) time t =
+length-settled_so_far None time t = omega arith
+length-settled_so_far (Some skew) time t =
     let (rest, is) = settled_until-prefix skew time t in
     omega (
       arith,
@@ -77,77 +83,90 @@ so-far-shorter (Some skew) time t =
       length-append (settled_until skew time t).steps rest,
     )
 
-whole-shorter : (skew : Option ℕ) (t : Trace) → length (settled_whole skew t).steps ≤ length t.steps
-whole-shorter None t = omega arith
-whole-shorter (Some skew) t = length-settled skew t
+-- deskewing at the end makes no more steps
+length-settled_whole : (skew : Option ℕ) (t : Trace) → length (settled_whole skew t).steps ≤ length t.steps
+length-settled_whole None t = omega arith
+length-settled_whole (Some skew) t = length-settled skew t
 
 module _ (skew : Option ℕ) (t given : Trace) (made : List Step) (few : length given.steps ≤ capture_limit) where
   -- the steps that came out of the deskewing so far may follow those that were taken
-  pub may-so_far : (time : ℕ) → with_steps t made ≡ settled_so_far skew time given
+  pub StepsMayFollow-settled_so_far : (time : ℕ) → with_steps t made ≡ settled_so_far skew time given
       → malformed_step (settled_so_far skew time given) ≡ None → StepsMayFollow t made
-  may-so_far time is formed = record {
+  StepsMayFollow-settled_so_far time is formed = record {
     formed = ap malformed_step is ∙ formed;
     within = omega (
       arith,
       few,
-      so-far-shorter skew time given,
+      length-settled_so_far skew time given,
       ap (λ (u : Trace). length u.steps) is,
       length-append t.steps made,
     );
   }
 
   -- the steps that came out of the deskewing at the end may follow those that were taken
-  pub may-whole : with_steps t made ≡ settled_whole skew given → malformed_step (settled_whole skew given) ≡ None
+  pub StepsMayFollow-settled_whole : with_steps t made ≡ settled_whole skew given
+      → malformed_step (settled_whole skew given) ≡ None
       → StepsMayFollow t made
-  may-whole is formed = record {
+  StepsMayFollow-settled_whole is formed = record {
     formed = ap malformed_step is ∙ formed;
     within = omega (
       arith,
       few,
-      whole-shorter skew given,
+      length-settled_whole skew given,
       ap (λ (u : Trace). length u.steps) is,
       length-append t.steps made,
     );
   }
 
--- too many steps came
-pub many-came : (skew : Option ℕ) (given : Trace) (time : ℕ) (settler : Option Settling) (count : ℕ) (flag : Bool)
+-- if the steps are too many, or become so with `steps`, they are too many with these
+pub HasDeskewed-too_many : (skew : Option ℕ) (given : Trace) (time : ℕ) (settler : Option Settling) (count : ℕ)
+    (flag : Bool)
     (t : Trace) (steps : List Step) → HasDeskewed skew given time settler count flag t
     → (flag ≡ false → capture_limit < count + length steps)
     → capture_limit < length (given.steps ++ steps)
-many-came skew given time settler count true t steps comes many =
+HasDeskewed-too_many skew given time settler count true t steps comes many =
     omega (arith, comes, length-append given.steps steps)
-many-came skew given time settler count false t steps comes many =
+HasDeskewed-too_many skew given time settler count false t steps comes many =
     omega (arith, comes.0, many refl, length-append given.steps steps)
 
-pub not-many : (skew : Option ℕ) (given : Trace) (time : ℕ) (settler : Option Settling) (count : ℕ) (flag : Bool)
+-- steps that aren't too many are counted, and `t` came out of deskewing them
+pub HasDeskewed-counted : (skew : Option ℕ) (given : Trace) (time : ℕ) (settler : Option Settling) (count : ℕ)
+    (flag : Bool)
     (t : Trace) → HasDeskewed skew given time settler count flag t → flag ≡ false
     → (count ≡ length given.steps) × (count ≤ capture_limit) × ComesOut skew settler given time t
-not-many skew given time settler count true t comes e = absurd (cc)
-not-many skew given time settler count false t comes e = comes
+HasDeskewed-counted skew given time settler count true t comes e = absurd (cc)
+HasDeskewed-counted skew given time settler count false t comes e = comes
 
-pub comes-many : (skew : Option ℕ) (given : Trace) (time : ℕ) (settler : Option Settling) (count : ℕ) (flag : Bool)
+-- where the steps are too many, nothing is asked of `t`
+pub HasDeskewed-from_many : (skew : Option ℕ) (given : Trace) (time : ℕ) (settler : Option Settling) (count : ℕ)
+    (flag : Bool)
     (t : Trace) → flag ≡ true → capture_limit < length given.steps → HasDeskewed skew given time settler count flag t
-comes-many skew given time settler count true t e many = many
-comes-many skew given time settler count false t e many = absurd (cc)
+HasDeskewed-from_many skew given time settler count true t e many = many
+HasDeskewed-from_many skew given time settler count false t e many = absurd (cc)
 
-pub comes-few : (skew : Option ℕ) (given : Trace) (time : ℕ) (settler : Option Settling) (count : ℕ) (flag : Bool)
+-- steps that are counted, and of which `t` came out of deskewing them, aren't too many
+pub HasDeskewed-from_few : (skew : Option ℕ) (given : Trace) (time : ℕ) (settler : Option Settling) (count : ℕ)
+    (flag : Bool)
     (t : Trace) → flag ≡ false → count ≡ length given.steps → count ≤ capture_limit
     → ComesOut skew settler given time t → HasDeskewed skew given time settler count flag t
-comes-few skew given time settler count true t e same few comes = absurd (cc)
-comes-few skew given time settler count false t e same few comes = (same, few, comes)
+HasDeskewed-from_few skew given time settler count true t e same few comes = absurd (cc)
+HasDeskewed-from_few skew given time settler count false t e same few comes = (same, few, comes)
 
 -- ---- the limit of a recording
 
-below_limit : (n : ℕ) → n ≤ capture_limit → nat_lt capture_limit n ≡ false
-below_limit n few = grind (arith, nat_tests)
+-- a number of steps within the limit isn't above it
+nat_lt-within_limit : (n : ℕ) → n ≤ capture_limit → nat_lt capture_limit n ≡ false
+nat_lt-within_limit n few = grind (arith, nat_tests)
 
-past_limit : (n : ℕ) → capture_limit < n → nat_lt capture_limit n ≡ true
-past_limit n many = grind (arith, nat_tests)
+-- a number of steps past the limit is above it
+nat_lt-past_limit : (n : ℕ) → capture_limit < n → nat_lt capture_limit n ≡ true
+nat_lt-past_limit n many = grind (arith, nat_tests)
 
+-- a recording within the limit is as it is
 pub limited-fits : (t : Trace) → length t.steps ≤ capture_limit → limited t ≡ Ok t
-limited-fits t few = rw (below_limit (length t.steps) few) refl
+limited-fits t few = rw (nat_lt-within_limit (length t.steps) few) refl
 
+-- a recording past the limit is refused
 pub limited-long : (t : Trace) → capture_limit < length t.steps
     → limited t ≡ Err (record { line = 0; kind = TooManySteps })
-limited-long t many = rw (past_limit (length t.steps) many) refl
+limited-long t many = rw (nat_lt-past_limit (length t.steps) many) refl

@@ -1,4 +1,4 @@
--- The definitions of a text.
+-- A text is read on from the first bytes of its front, which end at a token boundary, or has a fault there.
 use Rattle.std.proofs.Common.{◌≡◌, ℕ, ◌<◌, ◌≤◌, ◌-◌, true, List, ◌++◌, Result, Ok, Err, refl, sym, ap, ◌∙◌, arith}
 use Rattle.std.proofs.Common.{IfErr, IfOk, IfSome, None, Option, Some, append_assoc, drop, get_or, length, take}
 use Rattle.std.proofs.lemmas.List.{drop-append-le, get_or-take, length-take-le, take-append-drop}
@@ -20,57 +20,66 @@ use Rattle.vme_bind.specs.SpeculativeReading.{with_recording}
 use Rattle.vme_bind.specs.TextPieces.{TextReached}
 use Rattle.vme_bind.specs.TextReading.{TextReading, body_reading, reading_ahead, reading_after, reading_of_text}
 use Rattle.vme_step_reader.specs.StepReading.{StepReading, whole_reading}
-use Rattle.vme_step_reader.proofs.PieceSteps.{pieces-joined}
+use Rattle.vme_step_reader.proofs.PieceSteps.{reading_ahead-joined}
 use Rattle.vme_bind.specs.declared.fault.BindFault.{BindFault}
 use Rattle.vme_bind.specs.declared.fault.BindFaultKind.{BindFaultKind}
 use Rattle.vme_bind.specs.declared.fault.BindFaultKind.TheVariants.{Memory as NoMemory}
 use Rattle.vme_bind.specs.declared.fault.CaptureFault.{CaptureFault}
 use Rattle.vme_bind.specs.declared.fault.CaptureFault.TheVariants.{Binding, Dump}
 
-same_dump : {X : Type 0} (a b : VcdFault) (r : Result X CaptureFault) → r ≡ Err (Dump a) → r ≡ Err (Dump b)
+-- a result has one fault of the dump
+Dump-same : {X : Type 0} (a b : VcdFault) (r : Result X CaptureFault) → r ≡ Err (Dump a) → r ≡ Err (Dump b)
     → a ≡ b
-same_dump a b r e h = cc
+Dump-same a b r e h = cc
 
-dump_or_binding : {X : Type 0} (a : VcdFault) (b : BindFault) (r : Result X CaptureFault) → r ≡ Err (Dump a)
+-- no result has a fault of the dump and one of the binding
+Dump-not_Binding : {X : Type 0} (a : VcdFault) (b : BindFault) (r : Result X CaptureFault) → r ≡ Err (Dump a)
     → r ≡ Err (Binding b) → ⊥
-dump_or_binding a b r e h = cc
+Dump-not_Binding a b r e h = cc
 
 -- a fault of the definitions is that of the recording
-pub definitions-fail : (b : BoundLines) (text : List ℕ) (fault : VcdFault) → reading_of_text b text ≡ Err (Dump fault)
+pub recording_of_text-definitions_fail : (b : BoundLines) (text : List ℕ) (fault : VcdFault) → reading_of_text b text
+    ≡ Err (Dump fault)
     → recording_of_text b text ≡ Err (Dump fault)
 unfolding reading_of_text recording_of_text
-definitions-fail b text fault is = ap (recording_read b) (dump_of-header text) ∙ by_header (whole_header text) is
+recording_of_text-definitions_fail b text fault is = ap (recording_read b) (dump_of-header text)
+    ∙ by_header (whole_header text) is
   where
+    -- a fault of the binding is none of the dump
     by_bound_groups : {A : Type 0} (reading : A → TextReading) (r : Result A BindFault)
         → (or_binding r >>= λ x. Ok (reading x)) ≡ Err (Dump fault) → ⊥
     by_bound_groups reading (Ok x) e = cc
     by_bound_groups reading (Err own) e = cc
 
+    -- whatever reading the header gives
     by_header : (r : Result (Defined (List Variable)) VcdFault) → (or_dump r >>= reading_after b) ≡ Err (Dump fault)
         → recording_read b (r >>= contents_of_header) ≡ Err (Dump fault)
     by_header (Ok d) e = absurd (by_bound_groups (λ bound_groups. body_reading b.slots bound_groups d.head)
         (bound_groups_in d.variables b.assignments) e)
-    by_header (Err own) e = ap (λ (f : VcdFault). Err (Dump f)) (same_dump own fault _ refl e)
+    by_header (Err own) e = ap (λ (f : VcdFault). Err (Dump f)) (Dump-same own fault _ refl e)
 
-pub never-both : {X : Type 0} (fault : VcdFault) (x : X) (r : Result X CaptureFault) → r ≡ Err (Dump fault) → r ≡ Ok x
+-- no result is a fault of the dump and a value
+pub Err-not_Ok : {X : Type 0} (fault : VcdFault) (x : X) (r : Result X CaptureFault) → r ≡ Err (Dump fault) → r ≡ Ok x
     → ⊥
-never-both fault x r e h = cc
+Err-not_Ok fault x r e h = cc
 
 -- if two results have the same fault of the dump, an error that reports the fault of the first reports that of the
 -- second
-pub fails_alike : {X Y : Type 0} (own : CaptureFault) (fault : VcdFault) (a : Result X CaptureFault)
+pub CaptureFailsBy-same_fault : {X Y : Type 0} (own : CaptureFault) (fault : VcdFault) (a : Result X CaptureFault)
     (b : Result Y CaptureFault) → a ≡ Err (Dump fault) → b ≡ Err (Dump fault) → CaptureFailsBy own a
     → CaptureFailsBy own b
-fails_alike (Dump own) fault a b ea eb fails = by_kind own.line own.kind fails
+CaptureFailsBy-same_fault (Dump own) fault a b ea eb fails = by_kind own.line own.kind fails
   where
+    -- a fault of the dump of any kind
     by_kind : (line : ℕ) (kind : FaultKind) → DumpFails line kind a → DumpFails line kind b
     by_kind line Memory fails = fails
-    by_kind line kind fails = eb ∙ ap (λ (f : VcdFault). Err (Dump f)) (same_dump _ _ a ea fails)
-fails_alike (Binding own) fault a b ea eb fails = by_kind own.line own.kind fails
+    by_kind line kind fails = eb ∙ ap (λ (f : VcdFault). Err (Dump f)) (Dump-same _ _ a ea fails)
+CaptureFailsBy-same_fault (Binding own) fault a b ea eb fails = by_kind own.line own.kind fails
   where
+    -- a fault of the binding of any kind
     by_kind : (line : ℕ) (kind : BindFaultKind) → BindingFails line kind a → BindingFails line kind b
     by_kind line NoMemory fails = fails
-    by_kind line kind fails = absurd (dump_or_binding _ _ a ea fails)
+    by_kind line kind fails = absurd (Dump-not_Binding _ _ a ea fails)
 
 -- ---- a body that begins in the front of a text
 
@@ -83,23 +92,27 @@ IsApart front k = (line : ℕ) (rest : List ℕ) → tokens_from line (take k fr
 abbrev pub EndsAfterSpace : List ℕ → Type 0
 EndsAfterSpace cut = 0 < length cut → is_space (get_or cut (length cut - 1) 0) ≡ true
 
-pub cut-space : (front : List ℕ) (k : ℕ) → k ≤ length front
+-- the first `k` bytes end with a space, if the byte before `k` is one
+pub EndsAfterSpace-take : (front : List ℕ) (k : ℕ) → k ≤ length front
     → (0 < k → is_space (get_or front (k - 1) 0) ≡ true) → EndsAfterSpace (take k front)
-cut-space front k within space some =
+EndsAfterSpace-take front k within space some =
     let e : length (take k front) ≡ k = length-take-le k front within in
     ap (λ (n : ℕ). is_space (get_or (take k front) (n - 1) 0)) e
     ∙ ap is_space (get_or-take k front (k - 1) 0 (omega (arith, e, some)))
     ∙ space (omega (arith, e, some))
 
-split : (front : List ℕ) (k : ℕ) (rest : List ℕ) → front ++ rest ≡ take k front ++ (drop k front ++ rest)
-split front k rest = ap (λ (bytes : List ℕ). bytes ++ rest) (sym (take-append-drop k front))
+-- a front and a rest are its first `k` bytes, and then the others and the rest
+append-split : (front : List ℕ) (k : ℕ) (rest : List ℕ) → front ++ rest ≡ take k front ++ (drop k front ++ rest)
+append-split front k rest = ap (λ (bytes : List ℕ). bytes ++ rest) (sym (take-append-drop k front))
     ∙ append_assoc (take k front) (drop k front) rest
 
-cut-tokens : (front : List ℕ) (k : ℕ) → IsApart front k → (rest : List ℕ) → tokens (front ++ rest)
+-- the tokens of a front and a rest are those of its first `k` bytes, and then those of the others and the rest
+tokens-cut : (front : List ℕ) (k : ℕ) → IsApart front k → (rest : List ℕ) → tokens (front ++ rest)
     ≡ tokens (take k front) ++ tokens_from (line_behind 1 (take k front)) (drop k front ++ rest)
-cut-tokens front k apart rest = ap tokens (split front k rest) ∙ apart 1 (drop k front ++ rest)
+tokens-cut front k apart rest = ap tokens (append-split front k rest) ∙ apart 1 (drop k front ++ rest)
 
 module _ (b : BoundLines) (front : List ℕ) (k : ℕ) (apart : IsApart front k) where
+  -- the first `k` bytes of `front`
   abbrev cut : List ℕ
   cut = take k front
 
@@ -109,40 +122,43 @@ module _ (b : BoundLines) (front : List ℕ) (k : ℕ) (apart : IsApart front k)
       → reading_of_text b whole ≡ Ok (reading_ahead (with_recording r.given r.speculative)
       (tokens_from r.speculative.body.line (drop n cut)) more)
 
-  goes_on : (n : ℕ) (rest : List ℕ) → n ≤ length cut → drop n cut ++ (drop k front ++ rest) ≡ drop n front ++ rest
-  goes_on n rest long =
+  -- from byte `n` of `cut` on, `cut`, the rest of `front` and a rest are left
+  drop-cut : (n : ℕ) (rest : List ℕ) → n ≤ length cut → drop n cut ++ (drop k front ++ rest) ≡ drop n front ++ rest
+  drop-cut n rest long =
       sym (append_assoc (drop n cut) (drop k front) rest)
       ∙ ap (λ (bytes : List ℕ). bytes ++ rest) (sym (drop-append-le n cut (drop k front) long)
       ∙ ap (drop n) (take-append-drop k front))
 
-  begins-cut : (r : StepReading) (n : ℕ) → EndsAfterSpace cut → n ≤ length cut
+  -- if `r` reads on each text that begins with the tokens of `cut`, it reads on `front` with any bytes after it
+  reading_of_text-from_cut : (r : StepReading) (n : ℕ) → EndsAfterSpace cut → n ≤ length cut
       → line_behind r.speculative.body.line (drop n cut) ≡ line_behind 1 cut → BeginsAt r n → (rest : List ℕ)
       → reading_of_text b (front ++ rest) ≡ Ok (whole_reading r (drop n front ++ rest))
-  begins-cut r n space long line begins rest =
+  reading_of_text-from_cut r n space long line begins rest =
       let more : List ℕ = drop k front ++ rest in
       let reached : TextReached = with_recording r.given r.speculative in
       let first : ℕ = r.speculative.body.line in
-      begins (front ++ rest) (tokens_from (line_behind 1 cut) more) (cut-tokens front k apart rest)
+      begins (front ++ rest) (tokens_from (line_behind 1 cut) more) (tokens-cut front k apart rest)
       ∙ ap Ok (ap (λ (l : ℕ). reading_ahead reached (tokens_from first (drop n cut)) (tokens_from l more)) (sym line)
-      ∙ sym (pieces-joined reached first (drop n cut) more (tokens_from-append_left cut more n first space))
-      ∙ ap (whole_reading r) (goes_on n rest long))
+      ∙ sym (reading_ahead-joined reached first (drop n cut) more (tokens_from-append_left cut more n first space))
+      ∙ ap (whole_reading r) (drop-cut n rest long))
 
   -- a beginning of each text that begins with the tokens of `cut` is one of `front` with any bytes after it
-  pub begins-each : (result : Result (Option (StepReading × ℕ)) CaptureFault) → EndsAfterSpace cut
+  pub BeginsAt-each : (result : Result (Option (StepReading × ℕ)) CaptureFault) → EndsAfterSpace cut
       → IfOk result (λ found. IfSome found (λ begun. begun.1 ≤ length cut))
       → IfOk result (λ found. IfSome found (λ begun.
       line_behind begun.0.speculative.body.line (drop begun.1 cut) ≡ line_behind 1 cut))
       → IfOk result (λ found. IfSome found (λ begun. BeginsAt begun.0 begun.1))
       → IfOk result (λ found. IfSome found (λ begun. (rest : List ℕ)
       → reading_of_text b (front ++ rest) ≡ Ok (whole_reading begun.0 (drop begun.1 front ++ rest))))
-  begins-each (Ok (Some begun)) space long line begins = begins-cut begun.0 begun.1 space long line begins
-  begins-each (Ok None) space long line begins = tt
-  begins-each (Err fault) space long line begins = tt
+  BeginsAt-each (Ok (Some begun)) space long line begins = reading_of_text-from_cut begun.0 begun.1 space long line
+      begins
+  BeginsAt-each (Ok None) space long line begins = tt
+  BeginsAt-each (Err fault) space long line begins = tt
 
   -- a fault of each text that begins with the tokens of `cut` is one of `front` with any bytes after it
-  pub fails-each : (result : Result (Option (StepReading × ℕ)) CaptureFault)
+  pub CaptureFailsBy-each : (result : Result (Option (StepReading × ℕ)) CaptureFault)
       → IfErr result (λ fault. (whole : List ℕ) (more : List Token) → tokens whole ≡ tokens cut ++ more
       → CaptureFailsBy fault (reading_of_text b whole))
       → IfErr result (λ fault. (rest : List ℕ) → CaptureFailsBy fault (reading_of_text b (front ++ rest)))
-  fails-each (Ok found) fails = tt
-  fails-each (Err fault) fails = λ rest. fails (front ++ rest) _ (cut-tokens front k apart rest)
+  CaptureFailsBy-each (Ok found) fails = tt
+  CaptureFailsBy-each (Err fault) fails = λ rest. fails (front ++ rest) _ (tokens-cut front k apart rest)

@@ -1,4 +1,4 @@
--- The steps of a piece, whatever was recorded before it.
+-- The steps of a piece of a body are the same, whatever was recorded before it.
 use Rattle.std.proofs.Common.{◌≡◌, ℕ, List, [], ◌++◌, None, Result, Ok, Err, refl, sym, ap, subst, ◌∙◌}
 use Rattle.std.proofs.Common.{append_assoc, drop, take}
 use Rattle.std.proofs.lemmas.List.{append-nil, take-append-drop}
@@ -31,6 +31,7 @@ IsIndependentOfRecorded = (w : SpeculativeReached) (t : Trace) (opening : Levels
     → reading_ahead (with_recording t w) ts more
     ≡ following t (reading_ahead (with_recording (record { opening = opening; steps = [] }) w) ts more)
 
+-- a reading that follows a recording `r`, and then `given`, follows `given` with the steps of `r`
 following-twice : (given r : Trace) (x : TextReading) → following given (following r x)
     ≡ following (with_steps given r.steps) x
 following-twice given r x = ap (λ (steps : List Step). record x { recorded = record given { steps = steps } })
@@ -40,87 +41,94 @@ following-twice given r x = ap (λ (steps : List Step). record x { recorded = re
 
 module _ (is_front : IsIndependentOfRecorded) (w : SpeculativeReached) (none : Trace) (empty : none.steps ≡ []) where
   -- reading after a recording `given` is reading after none, with `given` before the result
-  after_none : (given : Trace) (ts more : List Token) → reading_ahead (with_recording given w) ts more
+  reading_ahead-after_none : (given : Trace) (ts more : List Token) → reading_ahead (with_recording given w) ts more
       ≡ following given (reading_ahead (with_recording none w) ts more)
-  after_none given ts more =
+  reading_ahead-after_none given ts more =
       is_front w given none.opening ts more
       ∙ ap (λ (steps : List Step). following given (reading_ahead
       (with_recording (record { opening = none.opening; steps = steps }) w) ts more)) (sym empty)
 
   -- the steps of the piece come after any recording `given`
-  pub piece-leaves : (w2 : SpeculativeReached) (r : Trace) (ts : List Token)
+  pub reading_ahead-piece : (w2 : SpeculativeReached) (r : Trace) (ts : List Token)
       → ((more : List Token) → reading_ahead (with_recording none w) ts more
       ≡ reading_ahead (with_recording r w2) [] more)
       → (given : Trace) (more : List Token) → reading_ahead (with_recording given w) ts more
       ≡ reading_ahead (with_recording (with_steps given r.steps) w2) [] more
-  piece-leaves w2 r ts leaves given more =
-      after_none given ts more
+  reading_ahead-piece w2 r ts leaves given more =
+      reading_ahead-after_none given ts more
       ∙ ap (following given) (leaves more ∙ is_front w2 r none.opening [] more)
       ∙ following-twice given r (reading_ahead (with_recording (record { opening = none.opening; steps = [] }) w2) []
       more)
       ∙ sym (is_front w2 (with_steps given r.steps) none.opening [] more)
 
   -- a piece that stops at a fault stops so after any recording `given`
-  pub piece-stops : (line : ℕ) (kind : FaultKind) (r : Trace) (time : ℕ) (ts : List Token) (given : Trace)
+  pub StopsAs-piece : (line : ℕ) (kind : FaultKind) (r : Trace) (time : ℕ) (ts : List Token) (given : Trace)
       (more : List Token) → StopsAs line kind r time (reading_ahead (with_recording none w) ts more)
       → StopsAs line kind (with_steps given r.steps) time (reading_ahead (with_recording given w) ts more)
-  piece-stops line Memory r time ts given more stops = stops
-  piece-stops line kind r time ts given more stops = after_none given ts more ∙ ap (following given) stops
+  StopsAs-piece line Memory r time ts given more stops = stops
+  StopsAs-piece line kind r time ts given more stops = reading_ahead-after_none given ts more
+      ∙ ap (following given) stops
 
   -- a piece that ends the text ends it so after any recording `given`
-  pub piece-ends : (r : Trace) (time : ℕ) (ts more : List Token) → reading_ahead (with_recording none w) ts more
+  pub reading_ahead-end_of_text : (r : Trace) (time : ℕ) (ts more : List Token)
+      → reading_ahead (with_recording none w) ts more
       ≡ record { recorded = r; fault = None; time = time }
       → (given : Trace) → reading_ahead (with_recording given w) ts more
       ≡ record { recorded = with_steps given r.steps; fault = None; time = time }
-  piece-ends r time ts more ends given = after_none given ts more ∙ ap (following given) ends
+  reading_ahead-end_of_text r time ts more ends given = reading_ahead-after_none given ts more
+      ∙ ap (following given) ends
 
 -- ---- bytes as tokens
 
+-- what reading these tokens from `t` on gives
 abbrev ahead_of : TextReached → List Token → TextReading
 ahead_of t ts = reading_until_fault (until_fault builder_change builder_instant t.body.nets
     (state_at t.body.progress t.body.dump_section) (body_from t.body.place ts))
 
 -- a piece that ends at a token boundary, and the rest after it
-pub pieces-joined : (t : TextReached) (line : ℕ) (piece rest : List ℕ)
+pub reading_ahead-joined : (t : TextReached) (line : ℕ) (piece rest : List ℕ)
     → tokens_from line (piece ++ rest) ≡ tokens_from line piece ++ tokens_from (line_behind line piece) rest
     → reading_ahead t (tokens_from line (piece ++ rest)) []
     ≡ reading_ahead t (tokens_from line piece) (tokens_from (line_behind line piece) rest)
-pieces-joined t line piece rest apart =
+reading_ahead-joined t line piece rest apart =
     ap (ahead_of t) (append-nil (tokens_from line (piece ++ rest)) ∙ apart)
 
 -- tokens that are still to come may be read at once
-pub rest-alone : (t : TextReached) (ts : List Token) → reading_ahead t [] ts ≡ reading_ahead t ts []
-rest-alone t ts = ap (ahead_of t) (sym (append-nil ts))
+pub reading_ahead-rest_alone : (t : TextReached) (ts : List Token) → reading_ahead t [] ts ≡ reading_ahead t ts []
+reading_ahead-rest_alone t ts = ap (ahead_of t) (sym (append-nil ts))
 
 -- the first `n` of `bytes`, which end at a token boundary
 module _ (given : Trace) (w : SpeculativeReached) (bytes : List ℕ) (n : ℕ)
     (apart : (line : ℕ) (rest : List ℕ) → tokens_from line (take n bytes ++ rest)
     ≡ tokens_from line (take n bytes) ++ tokens_from (line_behind line (take n bytes)) rest) where
+  -- the reader before the bytes
   abbrev so_far : StepReading
   so_far = record { given = given; speculative = w }
 
-  first-joined : (rest : List ℕ) → whole_reading so_far (take n bytes ++ rest)
+  -- the result of reading the whole text is that of reading the first bytes, and then what follows
+  whole_reading-first : (rest : List ℕ) → whole_reading so_far (take n bytes ++ rest)
       ≡ reading_ahead (with_recording given w) (tokens_from w.body.line (take n bytes))
       (tokens_from (line_behind w.body.line (take n bytes)) rest)
-  first-joined rest = pieces-joined (with_recording given w) w.body.line (take n bytes) rest (apart w.body.line rest)
+  whole_reading-first rest = reading_ahead-joined (with_recording given w) w.body.line (take n bytes) rest
+      (apart w.body.line rest)
 
   -- after them the result of reading the whole text is the same
-  pub first-taken : (w2 : SpeculativeReached) (steps : List Step) → w2.body.line
+  pub whole_reading-after_first : (w2 : SpeculativeReached) (steps : List Step) → w2.body.line
       ≡ line_behind w.body.line (take n bytes)
       → ((more : List Token) → reading_ahead (with_recording given w) (tokens_from w.body.line (take n bytes)) more
       ≡ reading_ahead (with_recording (with_steps given steps) w2) [] more)
       → (rest : List ℕ) → whole_reading so_far (take n bytes ++ rest)
       ≡ whole_reading (record { given = with_steps given steps; speculative = w2 }) rest
-  first-taken w2 steps line leaves rest =
-      first-joined rest
+  whole_reading-after_first w2 steps line leaves rest =
+      whole_reading-first rest
       ∙ leaves (tokens_from (line_behind w.body.line (take n bytes)) rest)
-      ∙ rest-alone (with_recording (with_steps given steps) w2) (tokens_from
+      ∙ reading_ahead-rest_alone (with_recording (with_steps given steps) w2) (tokens_from
       (line_behind w.body.line (take n bytes)) rest)
       ∙ ap (λ (line : ℕ). reading_ahead (with_recording (with_steps given steps) w2) (tokens_from line rest) [])
       (sym line)
 
   -- after them the recording stays well formed, whatever follows
-  pub next-formed : (w2 : SpeculativeReached) (steps items : List Step)
+  pub malformed_step-after_first : (w2 : SpeculativeReached) (steps items : List Step)
       → w2.body.line ≡ line_behind w.body.line (take n bytes)
       → ((more : List Token) → reading_ahead (with_recording given w) (tokens_from w.body.line (take n bytes)) more
       ≡ reading_ahead (with_recording (with_steps given steps) w2) [] more)
@@ -130,46 +138,49 @@ module _ (given : Trace) (w : SpeculativeReached) (bytes : List ℕ) (n : ℕ)
         given = record { opening = given.opening; steps = items };
         speculative = w2;
       }) rest).recorded ≡ None
-  next-formed w2 steps items line leaves e formed rest =
+  malformed_step-after_first w2 steps items line leaves e formed rest =
       subst (λ (items : List Step). malformed_step (whole_reading (record {
         given = record { opening = given.opening; steps = items };
         speculative = w2;
       }) rest).recorded ≡ None) (sym e)
-      (subst (λ (x : TextReading). malformed_step x.recorded ≡ None) (first-taken w2 steps line leaves rest)
+      (subst (λ (x : TextReading). malformed_step x.recorded ≡ None)
+      (whole_reading-after_first w2 steps line leaves rest)
       (formed (take n bytes ++ rest)))
 
   -- what holds of them and whatever follows, holds of all bytes and whatever follows
-  pub first-stops : (P : TextReading → Type 0)
+  pub whole_reading-of_first : (P : TextReading → Type 0)
       → ((more : List Token) → P (reading_ahead (with_recording given w) (tokens_from w.body.line (take n bytes)) more))
       → (rest : List ℕ) → P (whole_reading so_far (bytes ++ rest))
-  first-stops P stops rest =
+  whole_reading-of_first P stops rest =
       subst P (sym (ap (whole_reading so_far)
       (ap (λ (bs : List ℕ). bs ++ rest) (sym (take-append-drop n bytes))
       ∙ append_assoc (take n bytes) (drop n bytes) rest)
-      ∙ first-joined (drop n bytes ++ rest)))
+      ∙ whole_reading-first (drop n bytes ++ rest)))
       (stops (tokens_from (line_behind w.body.line (take n bytes)) (drop n bytes ++ rest)))
 
 -- ---- a text that ends after what was read
 
-made-time : (complete : Trace) (time : ℕ) (made : Result BuilderState VcdFault) → (reading_made complete time made).time
+-- the time of a reading is the one that it was given
+time-reading_made : (complete : Trace) (time : ℕ) (made : Result BuilderState VcdFault)
+    → (reading_made complete time made).time
     ≡ time
-made-time complete time (Ok made) = refl
-made-time complete time (Err fault) = refl
+time-reading_made complete time (Ok made) = refl
+time-reading_made complete time (Err fault) = refl
 
 -- the last time of the text is the last that was read
-pub time-here : (r : StepReading) → (whole_reading r []).time ≡ r.speculative.body.progress.time
+pub time-whole_reading : (r : StepReading) → (whole_reading r []).time ≡ r.speculative.body.progress.time
 unfolding cut_from
-time-here r =
-    made-time _ _ _
+time-whole_reading r =
+    time-reading_made _ _ _
     ∙ ap (λ p. p.time) (reached_before-no_tokens r.speculative.body.nets
     (with_recording r.given r.speculative).body.progress
     r.speculative.body.dump_section
     r.speculative.body.place)
 
 -- what was given is a prefix of what is recorded, so it is well formed if that is
-pub given-formed : IsIndependentOfRecorded → (r : StepReading) (rest : List ℕ)
+pub malformed_step-given : IsIndependentOfRecorded → (r : StepReading) (rest : List ℕ)
     → malformed_step (whole_reading r rest).recorded ≡ None → malformed_step r.given ≡ None
-given-formed is_front r rest formed =
+malformed_step-given is_front r rest formed =
     let ts : List Token = tokens_from r.speculative.body.line rest in
     let more : TextReading =
     reading_ahead (with_recording (record { opening = r.given.opening; steps = [] }) r.speculative) ts
@@ -179,21 +190,22 @@ given-formed is_front r rest formed =
     ∙ formed)).first
 
 -- the steps before a fault are well formed if the recording is
-pub stopped-formed : (line : ℕ) (kind : FaultKind) (t : Trace) (time : ℕ) (reading : TextReading)
+pub malformed_step-stopped : (line : ℕ) (kind : FaultKind) (t : Trace) (time : ℕ) (reading : TextReading)
     → StopsAs line kind t time reading → malformed_step reading.recorded ≡ None → (kind ≡ Memory → ⊥)
     → malformed_step t ≡ None
-stopped-formed line Memory t time reading stops formed other = absurd (other refl)
-stopped-formed line kind t time reading stops formed other =
+malformed_step-stopped line Memory t time reading stops formed other = absurd (other refl)
+malformed_step-stopped line kind t time reading stops formed other =
     sym (ap (λ (x : TextReading). malformed_step x.recorded) stops) ∙ formed
 
 -- a recording without steps is well formed
-pub none-formed : (opening : Levels) (steps : List Step) → steps ≡ [] → malformed_step
+pub malformed_step-no_steps : (opening : Levels) (steps : List Step) → steps ≡ [] → malformed_step
     (record { opening = opening; steps = steps }) ≡ None
 unfolding malformed_step least
-none-formed opening steps e = ap (λ (steps : List Step). malformed_step (record { opening = opening; steps = steps })) e
+malformed_step-no_steps opening steps e = ap (λ (steps : List Step). malformed_step
+    (record { opening = opening; steps = steps })) e
 
 -- the reader after the definitions: the recording is well formed, whatever follows
-pub begun-sound : (t : TextReached) (w : SpeculativeReached) (opening : Levels) (made steps : List Step)
+pub malformed_step-begun : (t : TextReached) (w : SpeculativeReached) (opening : Levels) (made steps : List Step)
     → with_recording (record { opening = opening; steps = made }) w ≡ t → t.body.progress.accumulator.recorded.steps
     ≡ []
     → steps ≡ []
@@ -201,7 +213,7 @@ pub begun-sound : (t : TextReached) (w : SpeculativeReached) (opening : Levels) 
     → (rest : List ℕ)
     → malformed_step (whole_reading (record { given = record { opening = opening; steps = steps }; speculative = w })
     rest).recorded ≡ None
-begun-sound t w opening made steps is none empty formed rest =
+malformed_step-begun t w opening made steps is none empty formed rest =
     let same : made ≡ steps = ap (λ (t : TextReached). t.body.progress.accumulator.recorded.steps) is ∙ none
     ∙ sym empty in
     subst (λ (steps : List Step). malformed_step (whole_reading (record {
@@ -212,9 +224,9 @@ begun-sound t w opening made steps is none empty formed rest =
     (sym is) (formed (tokens_from w.body.line rest) []))
 
 -- what was given is a prefix of what is recorded
-pub given-front : IsIndependentOfRecorded → (r : StepReading) (rest : List ℕ) → (steps : List Step)
+pub recorded-after_given : IsIndependentOfRecorded → (r : StepReading) (rest : List ℕ) → (steps : List Step)
     × ((whole_reading r rest).recorded ≡ with_steps r.given steps)
-given-front is_front r rest =
+recorded-after_given is_front r rest =
     let ts : List Token = tokens_from r.speculative.body.line rest in
     let more : TextReading =
     reading_ahead (with_recording (record { opening = r.given.opening; steps = [] }) r.speculative) ts

@@ -4,7 +4,7 @@ use Rattle.vcd_read.specs.Meaning.{ReadFails}
 use Rattle.vcd_read.specs.Reached.{reached, rest_of}
 use Rattle.vcd_read.specs.Tokens.{Token, tokens}
 use Rattle.vcd_start.specs.StartReading.{first_time_kept, first_time_or}
-use Rattle.vcd_start.proofs.StartLemmas.{fails-start, header-fails, no-dump, reads-start}
+use Rattle.vcd_start.proofs.StartLemmas.{ReadFails-rest, ReadFails-header, dump_of-faulty_header, LeadsToFirstTime-read}
 use Rattle.vcd_start.proofs.start.read_in.Goals as goal
 
 pub returns-in-Ok-clause-read : goal.returns-in-Ok-clause-read
@@ -13,7 +13,7 @@ returns-in-Ok-clause-read c text more dump same whole =
     let r = reached (λ v. v.time) c.before_body-pieces.result.0 in
     let next = reached (λ v. v.time) c.in-Ok.pieces in
     let header = rw c.in-Ok-Some.field-0-is at c.in-Ok-Some.ensures.header in
-    reads-start r c.in-Ok-Some.found.head begun.nets begun.progress begun.dump_section begun.place text
+    LeadsToFirstTime-read r c.in-Ok-Some.found.head begun.nets begun.progress begun.dump_section begun.place text
     (tokens c.args.front.now) more same (header text more) next
     (subst (λ (b : List Token). rest_of first_time_kept first_time_or r b more
     ≡ rest_of first_time_kept first_time_or next [] more) begun.body
@@ -25,7 +25,7 @@ returns-in-Ok-Some-clause-fails c text more same =
     let r = reached (λ v. v.time) c.before_body-pieces.result.0 in
     let fault = c.in-Err-read.fault in
     let header = rw c.in-Ok-Some.field-0-is at c.in-Ok-Some.ensures.header in
-    fails-start r c.in-Ok-Some.found.head begun.nets begun.progress begun.dump_section begun.place text
+    ReadFails-rest r c.in-Ok-Some.found.head begun.nets begun.progress begun.dump_section begun.place text
     (tokens c.args.front.now) more same (header text more) fault
     (subst (λ (b : List Token). ReadFails fault (rest_of first_time_kept first_time_or r b more)) begun.body
     (c.in-Err-read.ensures.rest more))
@@ -33,8 +33,8 @@ returns-in-Ok-Some-clause-fails c text more same =
 pub returns-in-Ok-None-clause-none : goal.returns-in-Ok-None-clause-none
 returns-in-Ok-None-clause-none c dump whole =
     let (fault, fails, met) = rw c.in-Ok-None.field-0-is at c.in-Ok-None.ensures.header in
-    no-dump c.args.front.now (tokens c.args.front.now) refl fault fails dump whole
+    dump_of-faulty_header c.args.front.now (tokens c.args.front.now) refl fault fails dump whole
 
 pub returns-clause-fails : goal.returns-clause-fails
 returns-clause-fails c text more same =
-    header-fails text _ same c.in-Err.fault (c.in-Err.ensures.header text more)
+    ReadFails-header text _ same c.in-Err.fault (c.in-Err.ensures.header text more)

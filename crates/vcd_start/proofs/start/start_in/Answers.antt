@@ -2,7 +2,7 @@ use Rattle.std.proofs.Common.{◌++◌, drop, take}
 use Rattle.std.proofs.lemmas.Result.{IfOk-weaker}
 use Rattle.vcd_read.specs.Reading.{line_behind}
 use Rattle.vcd_read.specs.Tokens.{tokens_from}
-use Rattle.vcd_start.proofs.StartLemmas.{cut-tokens}
+use Rattle.vcd_start.proofs.StartLemmas.{tokens-cut}
 use Rattle.vcd_start.proofs.start.start_in.Goals as goal
 
 pub returns : goal.returns
@@ -11,4 +11,4 @@ returns c =
     let k = c.whole_tokens-count.result in
     IfOk-weaker c.start_by_tokens.result _ _
     (λ start tells rest. tells (front ++ rest) (tokens_from (line_behind 1 (take k front)) (drop k front ++ rest))
-    (cut-tokens front k c.whole_tokens-count.ensures.apart rest)) c.start_by_tokens.ensures
+    (tokens-cut front k c.whole_tokens-count.ensures.apart rest)) c.start_by_tokens.ensures

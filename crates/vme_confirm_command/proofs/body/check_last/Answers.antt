@@ -4,7 +4,7 @@ use Rattle.vme_trace.specs.Followed.{with_steps}
 use Rattle.vme_step_reader.specs.StepReading.{whole_reading}
 use Rattle.vme_dump_input.specs.SettledReadings.{skew_of}
 use Rattle.vme_dump_input.proofs.BodyLemmas.{GoOnFrom-last, HasFault-StopsAs}
-use Rattle.vme_confirm_command.proofs.BodyLemmas.{finds-of}
+use Rattle.vme_confirm_command.proofs.BodyLemmas.{IsAnswerForDump-at_end}
 use Rattle.vme_dump_input.proofs.DumpRefusals.{IsDumpRefused-fault}
 use Rattle.vme_confirm_command.proofs.body.check_last.Goals as goal
 
@@ -28,7 +28,8 @@ returns-in-Ok-found g c binding old now skew t whole version h compared end =
     let steps = c.in-Ok.steps.items in
     let go = GoOnFrom-last c.times_go_on.ensures.follows c.times_go_on.ensures.within c.times_go_on.ensures.on
     c.given_is_a_prefix.ensures r h.sound c.args.bytes.now steps c.in-Ok.ensures.recorded in
-    finds-of g.S.RowSource.gave g.S.RowSource.is_over whole version binding skew c.finish-found.result.1 old now
+    IsAnswerForDump-at_end g.S.RowSource.gave g.S.RowSource.is_over whole version binding skew c.finish-found.result.1
+    old now
     c.args.bytes.now r end (with_steps r.given steps) c.in-Ok.ensures.recorded c.in-Ok.ensures.whole
     (record { whole = h.sound.whole; formed = c.in-Ok.ensures.formed }) c.in-Ok-found.found
     (rw c.in-Ok-found.is at (c.finish-found.ensures.finds whole version (skew_of skew) r.given

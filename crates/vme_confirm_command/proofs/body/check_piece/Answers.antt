@@ -8,7 +8,7 @@ use Rattle.vme_dump_input.specs.DumpBeginnings.{IsAtBody}
 use Rattle.vme_dump_input.specs.BufferedInputs.{InputSoFar}
 use Rattle.vme_dump_input.specs.BodyPieces.{FailsPiece}
 use Rattle.vme_dump_input.proofs.BodyLemmas.{HasFaultBefore-StopsAs, IsAtBody-taken, GoOnTo-piece}
-use Rattle.vme_confirm_command.proofs.BodyLemmas.{checked-next}
+use Rattle.vme_confirm_command.proofs.BodyLemmas.{IsChecked-piece}
 use Rattle.vme_dump_input.proofs.BufferedLemmas.{IsReading-some}
 use Rattle.vme_confirm_command.proofs.body.check_piece.Goals as goal
 
@@ -57,7 +57,7 @@ returns-in-Ok-take-clause-checks g c skew t h =
     let (later, stepped, compared) = c.in-Ok-take.ensures.stepped skew r.given (whole_reading r []).time t
     h.stepped go in (
       later,
-      checked-next skew r next steps (take n held) c.time-time.result later c.take-in-Ok.new.self h.sound taken
+      IsChecked-piece skew r next steps (take n held) c.time-time.result later c.take-in-Ok.new.self h.sound taken
           made.given c.time-time.ensures stepped,
       compared,
     )

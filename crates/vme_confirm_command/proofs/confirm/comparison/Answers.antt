@@ -2,7 +2,7 @@ use Rattle.std.specs.Prelude.{Err}
 use Rattle.vme_stream.specs.declared.refusal.Refusal.TheVariants.{Memory}
 use Rattle.vme_stream.specs.Answers.{binding_read, dump_read}
 use Rattle.vme_stream.proofs.InputLemmas.{IsReading-unread}
-use Rattle.vme_confirm_command.proofs.ConfirmLemmas.{binding_lacks}
+use Rattle.vme_confirm_command.proofs.ConfirmLemmas.{GivesConfirmation-no_binding}
 use Rattle.vme_confirm_command.proofs.confirm.comparison.Goals as goal
 
 pub returns-in-Ok : goal.returns-in-Ok
@@ -24,6 +24,6 @@ returns-in-Err g c =
       dump.1,
       listing.1,
       tt,
-      binding_lacks c.args.skew (binding_read bound)
+      GivesConfirmation-no_binding c.args.skew (binding_read bound)
           (dump_read dump.0) (Err Memory) c.in-Err.refusal refused,
     )

@@ -4,7 +4,7 @@ use Rattle.vme_stream.specs.declared.refusal.Refusal.TheVariants.{Memory}
 use Rattle.vme_stream.proofs.InputLemmas.{IsReading-unread}
 use Rattle.vme_stream.specs.Inputs.{longest_input}
 use Rattle.vme_dump_input.specs.BufferedInputs.{InputSoFar, IsReadTo}
-use Rattle.vme_confirm_command.proofs.FoundLemmas.{confirms-refused}
+use Rattle.vme_confirm_command.proofs.FoundLemmas.{GivesConfirmation-no_dump}
 use Rattle.vme_dump_input.proofs.BufferedLemmas.{IsReadTo-not_read}
 use Rattle.vme_confirm_command.proofs.confirm.comparison_bound.Goals as goal
 
@@ -31,7 +31,7 @@ returns g c =
     (IsReadTo-not_read old longest_input 65536
     (record { some = omega arith; few = omega arith; small = omega arith })) in
     let limit = ap (λ (i : InputSoFar). i.limit) c.in-Ok.ensures in
-    let (dump, reading, gives) = confirms-refused c.args.skew c.args.bound.now old _ c.in-Err.refusal
+    let (dump, reading, gives) = GivesConfirmation-no_dump c.args.skew c.args.bound.now old _ c.in-Err.refusal
     (c.in-Err.ensures.read old first limit) in
     let listing = IsReading-unread (g.L.Source.reading c.args.listing) in
     (dump, listing.0, Err Memory, reading, listing.1, tt, gives)

@@ -3,7 +3,7 @@ use Rattle.std.proofs.Common.{◌++◌, Some, subst}
 use Rattle.vme_dump_input.specs.BufferedInputs.{FailsAs, IsAllOf}
 use Rattle.vme_confirm_command.specs.RowsOfListing.{ListingGaveRows}
 use Rattle.vme_confirm_command.specs.declared.rows_fault.RowsFault.{RowsFault}
-use Rattle.vme_confirm_command.proofs.ListingLemmas.{input-ends, text-ends}
+use Rattle.vme_confirm_command.proofs.ListingLemmas.{IsListingRead-input_fault, IsListingRead-text_fault}
 use Rattle.vme_confirm_command.proofs.listing_rows.read_to_end.Goals as goal
 
 pub returns-in-Input : goal.returns-in-Input
@@ -12,7 +12,7 @@ returns-in-Input g c old version rows pieces gave =
     let had = subst (λ (f : RowsFault). ListingGaveRows old version now c.args.input pieces (Some f) rows) c.in-Input.is
     gave
     in
-    input-ends old version now rows c.in-Input.fault had.1
+    IsListingRead-input_fault old version now rows c.in-Input.fault had.1
 
 pub returns-in-Ok : goal.returns-in-Ok
 returns-in-Ok g c old version rows pieces gave =
@@ -22,7 +22,7 @@ returns-in-Ok g c old version rows pieces gave =
     let (done, read, has) = had.1 in
     let now = g.L.Source.reading c.read_rest.new.source in
     let (more, ends, all) = c.in-Ok.ensures.whole old done read in
-    text-ends old version now rows done c.args.input more c.in-Text.fault
+    IsListingRead-text_fault old version now rows done c.args.input more c.in-Text.fault
     (subst (IsAllOf old now (done ++ (c.args.input.held ++ more))) had.0 all) has ends
 
 pub returns : goal.returns
@@ -32,5 +32,5 @@ returns g c old version rows pieces gave =
     (Some f) rows) c.in-Text.is gave in
     let (done, read, has) = had.1 in
     let now = g.L.Source.reading c.read_rest.new.source in
-    input-ends old version now rows c.in-Err.fault
+    IsListingRead-input_fault old version now rows c.in-Err.fault
     (subst (λ n. FailsAs n old now c.in-Err.fault) had.0 (c.in-Err.ensures.fails old done read))

@@ -5,7 +5,7 @@ use Rattle.vme_listing.specs.Reading.{HasNoListing, HasRead, IsFirstFault, IsFol
 use Rattle.vme_listing.specs.declared.fault.ListFault.TheVariants.{BadHeader}
 use Rattle.vme_dump_input.specs.BufferedInputs.{FailsAs, InputSoFar}
 use Rattle.vme_confirm_command.specs.RowsOfListing.{AreRead, IsCounted}
-use Rattle.vme_confirm_command.proofs.RowLemmas.{counted-first, rows-taken}
+use Rattle.vme_confirm_command.proofs.RowLemmas.{IsCounted-first, AreRead-taken}
 use Rattle.vme_confirm_command.proofs.row_reading.begin_rows.Goals as goal
 
 pub returns-in-Err-clause-begun : goal.returns-in-Err-clause-begun
@@ -19,7 +19,7 @@ returns-in-Some-clause-begun g c old read limit =
     let n = c.in-Some.count in
     let pieces = c.in-Some.pieces in
     subst (λ (i : InputSoFar). AreRead old now i (Ok pieces) []) (sym c.take_first.ensures)
-    (rows-taken old now [] c.fill.new.input (c.in_default.ensures.read old [] read) n
+    (AreRead-taken old now [] c.fill.new.input (c.in_default.ensures.read old [] read) n
     (subst (λ (l : List ℕ). n ≤ length l) c.bytes.ensures.held c.in-Some.ensures.within) pieces []
     (λ future ends. subst (λ (l : List ℕ). HasRead (l ++ future) [] (behind_rows pieces (drop n l ++ future)))
     c.bytes.ensures.held (c.in-Some.ensures.read future)))
@@ -40,5 +40,5 @@ returns-in-None-clause-begun g c old read limit = (
 pub returns-in-Some-clause-counted : goal.returns-in-Some-clause-counted
 returns-in-Some-clause-counted g c =
     subst (IsCounted c.in-Some.pieces) (sym c.take_first.ensures)
-    (counted-first c.in-Some.pieces c.fill.new.input c.in-Some.count c.in-Some.ensures.first
+    (IsCounted-first c.in-Some.pieces c.fill.new.input c.in-Some.count c.in-Some.ensures.first
     (c.fill.ensures.small c.requires.small) (omega (arith, c.fill.ensures.counted, c.requires.held)))

@@ -6,7 +6,7 @@ use Rattle.vme_listing.specs.declared.row.Version.{Version}
 use Rattle.vme_listing.specs.declared.row.Row.{Row}
 use Rattle.vme_dump_input.specs.BufferedInputs.{FailsAs, InputSoFar}
 use Rattle.vme_confirm_command.specs.RowsOfListing.{AreRead}
-use Rattle.vme_confirm_command.proofs.RowLemmas.{rows-filled, rows-taken}
+use Rattle.vme_confirm_command.proofs.RowLemmas.{HasReadRows-filled, AreRead-taken}
 use Rattle.vme_confirm_command.proofs.row_reading.next_row.Goals as goal
 
 pub returns-in-Err-clause-row : goal.returns-in-Err-clause-row
@@ -23,13 +23,15 @@ returns-in-Ok-Some-clause-row g c old rows are limit =
     let row = c.in-Ok-Some.row in
     let n = c.in-Ok-Some.count in
     let next = c.next.new.self in
-    let filled = rows-filled done c.args.input.now c.fill.new.input c.args.pieces.now rows c.in_default.ensures.filled
+    let filled = HasReadRows-filled done c.args.input.now c.fill.new.input c.args.pieces.now rows
+    c.in_default.ensures.filled
     has in
     let within = subst (λ (l : List ℕ). n ≤ length l) c.bytes.ensures.held
     (subst (λ (found : Option (Row × ℕ)). IfSome found (λ next. (0 < next.1) × (next.1 ≤ length c.bytes.result.now)))
     c.in-Ok-Some.field-0-is c.in-Ok-Some.ensures.within).1 in
     subst (λ (i : InputSoFar). AreRead old now i (Ok next) (rows ++ row ∷ [])) (sym c.take_first.ensures)
-    (rows-taken old now done c.fill.new.input (c.in_default.ensures.read old done read) n within next (rows ++ row ∷ [])
+    (AreRead-taken old now done c.fill.new.input (c.in_default.ensures.read old done read) n within next
+    (rows ++ row ∷ [])
     (λ future ends.
     let follows = subst (λ (b : Bool). IsFollowedBy b future) (sym c.is_whole.ensures) ends in
     let text = done ++ (held ++ future) in
@@ -45,7 +47,8 @@ returns-in-Ok-None-clause-row g c old rows are limit =
     let (done, read, has) = are in
     let held = c.fill.new.input.held in
     let pieces = c.args.pieces.now in
-    let filled = rows-filled done c.args.input.now c.fill.new.input pieces rows c.in_default.ensures.filled has in
+    let filled = HasReadRows-filled done c.args.input.now c.fill.new.input pieces rows c.in_default.ensures.filled has
+    in
     let now_read = c.in_default.ensures.read old done read in
     let is_none = ap (λ (found : Option (Row × ℕ)). Ok found) c.in-Ok-None.field-0-is in
     let same = (c.in-Ok-None.ensures.stays (c.in-Ok-None.ensures.over is_none)).1 in (
@@ -74,7 +77,8 @@ returns-in-Err-next-clause-row g c old rows are limit =
     let (done, read, has) = are in
     let held = c.fill.new.input.held in
     let pieces = c.args.pieces.now in
-    let filled = rows-filled done c.args.input.now c.fill.new.input pieces rows c.in_default.ensures.filled has in (
+    let filled = HasReadRows-filled done c.args.input.now c.fill.new.input pieces rows c.in_default.ensures.filled has
+    in (
       done,
       c.in_default.ensures.read old done read,
       λ future ends.

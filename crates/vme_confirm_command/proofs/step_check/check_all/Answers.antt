@@ -5,16 +5,16 @@ use Rattle.vme_trace.specs.Followed.{with_steps}
 use Rattle.vme_trace.specs.Trace.{Trace}
 use Rattle.vme_trace.specs.declared.step.Step.{Step}
 use Rattle.vme_cert.specs.Checking.{HasCompared, HasFollowed}
-use Rattle.vme_confirm_command.proofs.StepLemmas.{all-of, may-next, next-to, none-taken}
+use Rattle.vme_confirm_command.proofs.StepLemmas.{take-past, MayGoOn-next, with_steps-next, with_steps-none}
 use Rattle.vme_confirm_command.proofs.step_check.check_all.Goals as goal
 
 pub loop-step-init : goal.loop-step-init
 loop-step-init g c = record {
   taken = λ recorded taken.
-      subst (λ (u : Trace). HasFollowed u c.args.checker.now) (sym (none-taken recorded c.args.steps.now)) taken;
+      subst (λ (u : Trace). HasFollowed u c.args.checker.now) (sym (with_steps-none recorded c.args.steps.now)) taken;
   compared = λ whole version recorded taken compared.
       subst (λ (u : Trace). HasCompared g.S.RowSource.gave g.S.RowSource.is_over whole version u c.args.checker.now)
-      (sym (none-taken recorded c.args.steps.now)) compared;
+      (sym (with_steps-none recorded c.args.steps.now)) compared;
 }
 
 pub take-requires : goal.take-requires
@@ -26,7 +26,7 @@ take-requires g c =
     let (recorded, taken, may) = c.requires in (
       with_steps recorded (take i steps),
       c.loop-step.invariant.taken recorded taken,
-      may-next recorded steps i step found may,
+      MayGoOn-next recorded steps i step found may,
     )
 
 pub loop-step-preserved : goal.loop-step-preserved
@@ -37,11 +37,11 @@ loop-step-preserved g c =
     let found = slice_get_read steps (length steps) i step refl c.loop-step-test.true c.step-item.is in
     record {
       taken = λ recorded taken.
-          subst (λ (u : Trace). HasFollowed u c.take.new.self) (next-to recorded steps i step found)
+          subst (λ (u : Trace). HasFollowed u c.take.new.self) (with_steps-next recorded steps i step found)
           (c.take.ensures.taken (with_steps recorded (take i steps)) (c.loop-step.invariant.taken recorded taken));
       compared = λ whole version recorded taken compared.
           subst (λ (u : Trace). HasCompared g.S.RowSource.gave g.S.RowSource.is_over whole version u c.take.new.self)
-          (next-to recorded steps i step found)
+          (with_steps-next recorded steps i step found)
           (c.take.ensures.compared whole version (with_steps recorded (take i steps))
           (c.loop-step.invariant.taken recorded taken)
           (c.loop-step.invariant.compared whole version recorded taken compared));
@@ -50,12 +50,12 @@ loop-step-preserved g c =
 pub returns-clause-taken : goal.returns-clause-taken
 returns-clause-taken g c recorded taken =
     subst (λ (l : List Step). HasFollowed (with_steps recorded l) c.loop-step.checker)
-    (all-of c.args.steps.now c.loop-step.step-index c.loop-step-test.false)
+    (take-past c.args.steps.now c.loop-step.step-index c.loop-step-test.false)
     (c.loop-step.invariant.taken recorded taken)
 
 pub returns-clause-compared : goal.returns-clause-compared
 returns-clause-compared g c whole version recorded taken compared =
     subst (λ (l : List Step). HasCompared g.S.RowSource.gave g.S.RowSource.is_over whole version
     (with_steps recorded l) c.loop-step.checker)
-    (all-of c.args.steps.now c.loop-step.step-index c.loop-step-test.false)
+    (take-past c.args.steps.now c.loop-step.step-index c.loop-step-test.false)
     (c.loop-step.invariant.compared whole version recorded taken compared)

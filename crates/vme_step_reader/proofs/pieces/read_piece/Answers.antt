@@ -4,7 +4,7 @@ use Rattle.vcd_read.specs.Reading.{line_behind}
 use Rattle.vcd_read.specs.Tokens.{tokens_from}
 use Rattle.vme_bind.specs.TextPieces.{TextReached}
 use Rattle.vme_bind.specs.TextReading.{StopsAs, reading_ahead}
-use Rattle.vme_step_reader.proofs.PieceSteps.{piece-leaves, piece-stops}
+use Rattle.vme_step_reader.proofs.PieceSteps.{reading_ahead-piece, StopsAs-piece}
 use Rattle.vme_step_reader.proofs.pieces.read_piece.Goals as goal
 
 pub returns-in-Ok-clause-line : goal.returns-in-Ok-clause-line
@@ -22,7 +22,7 @@ returns-in-Ok-clause-rest c =
       opening = c.into_speculative-speculative.result.1.opening;
       steps = c.into_speculative-speculative.result.1.steps.items;
     } in
-    piece-leaves c.recorded_before_is_a_prefix.ensures w none c.none_taken.ensures.none
+    reading_ahead-piece c.recorded_before_is_a_prefix.ensures w none c.none_taken.ensures.none
     c.into_speculative-speculative.result.0 read
     (tokens_from w.body.line piece)
     (λ more. ap (λ (t : TextReached). reading_ahead t (tokens_from t.body.line piece) more)
@@ -38,7 +38,7 @@ returns-in-Err-clause-stopped c given more =
     let none : Trace = record { opening = c.none_taken.result.opening; steps = c.none_taken.result.steps.items } in
     let read : Trace = record { opening = s.visitor.opening; steps = s.visitor.steps.items } in
     rw (c.steps_before.ensures.fault, c.steps_before.ensures.time, c.steps_before.ensures.steps)
-    (piece-stops c.recorded_before_is_a_prefix.ensures w none c.none_taken.ensures.none s.fault.line s.fault.kind read
+    (StopsAs-piece c.recorded_before_is_a_prefix.ensures w none c.none_taken.ensures.none s.fault.line s.fault.kind read
     s.time (tokens_from w.body.line piece) given more
     (subst (λ (t : TextReached). StopsAs s.fault.line s.fault.kind read s.time
     (reading_ahead t (tokens_from t.body.line piece) more)) c.with_step_visitor-text.ensures

@@ -1,7 +1,8 @@
 -- The rest is read.
 use Rattle.std.proofs.Common.{[], ◌∷◌, ◌++◌, append_assoc, append-nil, refl, subst, sym, ◌∙◌}
 use Rattle.vme_confirm_command.specs.RowsOfListing.{ListingGaveRows, IsOver}
-use Rattle.vme_confirm_command.proofs.ListingLemmas.{fault-gave, more-after, never-some, no-more, one-more, whole-ends}
+use Rattle.vme_confirm_command.proofs.ListingLemmas.{ListingGaveRows-fault, IsListingRead-more, is_some-not_None}
+use Rattle.vme_confirm_command.proofs.ListingLemmas.{Gives-no_row, Gives-row, IsListingRead-whole}
 use Rattle.vme_confirm_command.proofs.listing_rows.ListingRows.finish.Goals as goal
 
 pub loop-init : goal.loop-init
@@ -24,15 +25,15 @@ loop-preserved g c =
     record {
       gave = λ old version rows gave.
           let (more, here, none) = inv.gave old version rows gave in
-          let (row, given) = one-more old version now next.input next.pieces next.fault (rows ++ more) c.give.result
+          let (row, given) = Gives-row old version now next.input next.pieces next.fault (rows ++ more) c.give.result
           some (c.give.ensures.gave old version (rows ++ more) here) in (
             more ++ row ∷ [],
             subst (ListingGaveRows old version now next.input next.pieces next.fault)
                 (append_assoc rows more (row ∷ []))
                 given,
-            λ over. absurd (never-some c.give.result some (c.give.ensures.stays (inv.over over))),
+            λ over. absurd (is_some-not_None c.give.result some (c.give.ensures.stays (inv.over over))),
           );
-      over = λ over. absurd (never-some c.give.result some (c.give.ensures.stays (inv.over over)));
+      over = λ over. absurd (is_some-not_None c.give.result some (c.give.ensures.stays (inv.over over)));
     }
 
 pub returns-in-None : goal.returns-in-None
@@ -40,9 +41,9 @@ returns-in-None g c old version rows gave =
     let next = c.give.new.self in
     let now = g.L.Source.reading next.source in
     let (more, here, none) = c.loop.invariant.gave old version rows gave in
-    let ends = no-more old version now next.input next.pieces next.fault (rows ++ more) c.give.result
+    let ends = Gives-no_row old version now next.input next.pieces next.fault (rows ++ more) c.give.result
     (sym c.is_some.ensures ∙ c.loop-test.false) (c.give.ensures.gave old version (rows ++ more) here) in
-    whole-ends old version now next.input next.pieces next.fault c.in-None.is rows more
+    IsListingRead-whole old version now next.input next.pieces next.fault c.in-None.is rows more
     (IsOver c.args.self.pieces c.args.self.fault) none ends
 
 pub returns-in-Some : goal.returns-in-Some
@@ -50,9 +51,10 @@ returns-in-Some g c old version rows gave =
     let next = c.give.new.self in
     let now = g.L.Source.reading next.source in
     let (more, here, none) = c.loop.invariant.gave old version rows gave in
-    let ends = no-more old version now next.input next.pieces next.fault (rows ++ more) c.give.result
+    let ends = Gives-no_row old version now next.input next.pieces next.fault (rows ++ more) c.give.result
     (sym c.is_some.ensures ∙ c.loop-test.false) (c.give.ensures.gave old version (rows ++ more) here) in
-    more-after old version (g.L.Source.reading c.read_to_end.result.1) rows more
+    IsListingRead-more old version (g.L.Source.reading c.read_to_end.result.1) rows more
     (IsOver c.args.self.pieces c.args.self.fault) none c.read_to_end.result.0
     (c.read_to_end.ensures old version (rows ++ more) next.pieces
-    (fault-gave old version now next.input next.pieces next.fault c.in-Some.fault c.in-Some.is (rows ++ more) ends))
+    (ListingGaveRows-fault old version now next.input next.pieces next.fault c.in-Some.fault c.in-Some.is (rows ++ more)
+    ends))

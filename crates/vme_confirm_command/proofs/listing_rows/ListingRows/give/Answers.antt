@@ -2,15 +2,16 @@
 use Rattle.std.proofs.Common.{Option, Some, subst, sym, ◌∙◌}
 use Rattle.vme_listing.specs.Reading.{RowsSoFar}
 use Rattle.vme_confirm_command.specs.RowsOfListing.{AreCounted, ListingGaveAllRows, ListingGaveRows, IsOver}
-use Rattle.vme_confirm_command.proofs.ListingLemmas.{gives-on, no-pieces, over-none, rows-read}
-use Rattle.vme_confirm_command.proofs.RowLemmas.{is-counted, no-fault}
+use Rattle.vme_confirm_command.proofs.ListingLemmas.{ReadsRow-gives, ListingGaveAllRows-no_more, IsOver-none}
+use Rattle.vme_confirm_command.proofs.ListingLemmas.{ListingGaveRows-read}
+use Rattle.vme_confirm_command.proofs.RowLemmas.{IsCounted-AreCounted, AreCounted-no_fault}
 use Rattle.vme_confirm_command.proofs.listing_rows.ListingRows.give.Goals as goal
 
 pub next_row-requires : goal.next_row-requires
 next_row-requires g c =
     let self = c.args.self.now in
     record {
-      counted = is-counted c.in-Some.pieces self.fault self.input
+      counted = IsCounted-AreCounted c.in-Some.pieces self.fault self.input
           (subst (λ (p : Option RowsSoFar). AreCounted p self.fault self.input)
           (sym c.take.ensures.value ∙ c.in-Some.is) self.counted);
     }
@@ -20,29 +21,30 @@ returns-in_default-clause-gave g c old version rows gave =
     let self = c.args.self.now in
     let now = g.L.Source.reading self.source in
     subst (λ (p : Option RowsSoFar). ListingGaveAllRows old version now self.input p self.fault rows)
-    (sym c.take.ensures.after) (no-pieces old version now self.input rows self.fault
+    (sym c.take.ensures.after) (ListingGaveAllRows-no_more old version now self.input rows self.fault
     (subst (λ (p : Option RowsSoFar). ListingGaveRows old version now self.input p self.fault rows)
     (sym c.take.ensures.value ∙ c.in_default.is) gave))
 
 pub returns-in_default-clause-over : goal.returns-in_default-clause-over
 returns-in_default-clause-over g c _ =
     subst (λ (p : Option RowsSoFar). IsOver p c.args.self.now.fault) (sym c.take.ensures.after)
-    (over-none c.args.self.now.fault)
+    (IsOver-none c.args.self.now.fault)
 
 pub returns-in-Ok-clause-gave : goal.returns-in-Ok-clause-gave
 returns-in-Ok-clause-gave g c old version rows gave =
     let self = c.args.self.now in
     let so_far = c.in-Some.pieces in
     let now = g.L.Source.reading c.next_row.new.source in
-    let none = no-fault so_far self.fault self.input
+    let none = AreCounted-no_fault so_far self.fault self.input
     (subst (λ (p : Option RowsSoFar). AreCounted p self.fault self.input) (sym c.take.ensures.value ∙ c.in-Some.is)
     self.counted) in
-    let (limit, same, are) = rows-read old version (g.L.Source.reading self.source) self.input rows so_far self.fault
+    let (limit, same, are) = ListingGaveRows-read old version (g.L.Source.reading self.source) self.input rows so_far
+    self.fault
     none
     (subst (λ (p : Option RowsSoFar). ListingGaveRows old version (g.L.Source.reading self.source) self.input p
     self.fault
     rows) (sym c.take.ensures.value ∙ c.in-Some.is) gave) in
-    gives-on old version now c.next_row.new.input rows c.next_row.new.pieces self.fault none
+    ReadsRow-gives old version now c.next_row.new.input rows c.next_row.new.pieces self.fault none
     (c.next_row.ensures.limit ∙ limit) (c.next_row.ensures.version ∙ same) c.in-Ok.row
     (c.in-Ok.ensures.row old rows are limit)
 
@@ -50,10 +52,11 @@ pub returns-in-Err-clause-gave : goal.returns-in-Err-clause-gave
 returns-in-Err-clause-gave g c old version rows gave =
     let self = c.args.self.now in
     let so_far = c.in-Some.pieces in
-    let none = no-fault so_far self.fault self.input
+    let none = AreCounted-no_fault so_far self.fault self.input
     (subst (λ (p : Option RowsSoFar). AreCounted p self.fault self.input) (sym c.take.ensures.value ∙ c.in-Some.is)
     self.counted) in
-    let (limit, same, are) = rows-read old version (g.L.Source.reading self.source) self.input rows so_far self.fault
+    let (limit, same, are) = ListingGaveRows-read old version (g.L.Source.reading self.source) self.input rows so_far
+    self.fault
     none
     (subst (λ (p : Option RowsSoFar). ListingGaveRows old version (g.L.Source.reading self.source) self.input p
     self.fault

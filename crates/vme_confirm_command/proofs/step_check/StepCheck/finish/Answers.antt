@@ -6,7 +6,8 @@ use Rattle.vme_trace.specs.WellFormed.{capture_limit}
 use Rattle.vme_cert.specs.Checking.{HasCompared, HasFollowed}
 use Rattle.vme_dump_input.specs.SettledReadings.{settled_whole}
 use Rattle.vme_dump_input.proofs.ReadSteps.{settled_whole-formed}
-use Rattle.vme_confirm_command.proofs.StepLemmas.{limited-fits, limited-long, many-came, may-whole, not-many}
+use Rattle.vme_confirm_command.proofs.StepLemmas.{limited-fits, limited-long, HasDeskewed-too_many}
+use Rattle.vme_confirm_command.proofs.StepLemmas.{StepsMayFollow-settled_whole, HasDeskewed-counted}
 use Rattle.vme_confirm_command.proofs.step_check.StepCheck.finish.Goals as goal
 
 pub returns-then-not-count_more-clause-finds : goal.returns-then-not-count_more-clause-finds
@@ -15,7 +16,7 @@ returns-then-not-count_more-clause-finds g c whole version skew given from t h c
     let steps = c.args.steps.items in
     let counted = c.count_more.ensures in
     let none = c.if-not-count_more.true in
-    let many = many-came skew given from self.settler self.count self.is_too_long t steps h.comes
+    let many = HasDeskewed-too_many skew given from self.settler self.count self.is_too_long t steps h.comes
     (λ short. omega (arith, counted.many none short, c.len.ensures)) in (
       limited-long (with_steps given steps) many,
       c.into_source.ensures whole version (record {
@@ -40,7 +41,7 @@ check_all-requires g c =
     let counted = c.count_more.ensures in
     let some = c.if-not-count_more.false in
     let (skew, given, from, t, h, go) = c.requires in
-    let (same, few, comes) = not-many skew given from self.settler self.count self.is_too_long t h.comes
+    let (same, few, comes) = HasDeskewed-counted skew given from self.settler self.count self.is_too_long t h.comes
     (counted.few some).2 in
     let long : length (given.steps ++ steps) ≤ capture_limit = omega (
       arith,
@@ -53,7 +54,7 @@ check_all-requires g c =
     let settled = c.in-Ok.ensures skew given t from (rw counted.left.0 comes) go in (
       t,
       rw counted.left.1 h.taken,
-      may-whole skew t (with_steps given steps) c.as_slice.result.now long
+      StepsMayFollow-settled_whole skew t (with_steps given steps) c.as_slice.result.now long
           (ap (with_steps t) c.as_slice.ensures.value ∙ settled)
           (settled_whole-formed skew (with_steps given steps) go.whole go.formed),
     )
@@ -69,7 +70,7 @@ returns-in-Ok-clause-finds g c whole version skew given from t h compared go =
     let steps = c.args.steps.items in
     let counted = c.count_more.ensures in
     let some = c.if-not-count_more.false in
-    let (same, few, comes) = not-many skew given from self.settler self.count self.is_too_long t h.comes
+    let (same, few, comes) = HasDeskewed-counted skew given from self.settler self.count self.is_too_long t h.comes
     (counted.few some).2 in
     let long : length (given.steps ++ steps) ≤ capture_limit = omega (
       arith,

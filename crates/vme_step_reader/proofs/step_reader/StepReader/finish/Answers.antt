@@ -4,7 +4,7 @@ use Rattle.vme_trace.specs.Trace.{Trace}
 use Rattle.vme_trace.specs.WellFormed.{malformed_step}
 use Rattle.vme_step_reader.specs.StepReading.{StepReading, whole_reading}
 use Rattle.vme_step_reader.specs.Stops.{StopsBehind}
-use Rattle.vme_step_reader.proofs.PieceSteps.{stopped-formed}
+use Rattle.vme_step_reader.proofs.PieceSteps.{malformed_step-stopped}
 use Rattle.vme_step_reader.proofs.step_reader.StepReader.finish.Goals as goal
 
 pub returns-in-Ok-clause-recorded : goal.returns-in-Ok-clause-recorded
@@ -42,5 +42,5 @@ returns-in-Err-clause-formed_before c other =
     let s = c.in-Err.stopped in
     let r : StepReading = record { given = given; speculative = i.speculative } in
     subst (λ (r : StepReading). malformed_step (with_steps r.given s.steps.items) ≡ None) c.self.view_is
-    (stopped-formed s.fault.line s.fault.kind (with_steps given s.steps.items) s.time
+    (malformed_step-stopped s.fault.line s.fault.kind (with_steps given s.steps.items) s.time
     (whole_reading r c.args.rest.now) (c.in-Err.ensures.stopped given) (c.self.invariant c.args.rest.now) other)
