@@ -1,4 +1,4 @@
--- What the typed getters of a parse read.
+-- What the typed getters of a parse read from its matches, and that these are what an order needs and says.
 use Rattle.std.proofs.Common.{◌≡◌, ℕ, ◌<◌, ◌≤◌, ◌^◌, List, [], refl, ap, sym, subst, ◌∙◌, IfErr, IsErrAnd, false, inl}
 use Rattle.std.proofs.Common.{inr, is_some, true≢false}
 use Rattle.std.specs.Prelude.{Option, Some, None, Result, Ok, Err, find, option_map, slice_get, unwrap_or}
@@ -25,11 +25,12 @@ use Rattle.vme_words.specs.declared.order.Order.{Order}
 use Rattle.vme_words.specs.declared.order.Task.{Task}
 
 -- if a getter reads the number `n` of the option `id`, then `n` is the number of its text
-pub number_read : (E : Type 0) (G : List ℕ → Result ℕ E → Type 0) (m : ArgMatches) (id : Text) (n : ℕ) (r : Option ℕ)
+pub number_in-read : (E : Type 0) (G : List ℕ → Result ℕ E → Type 0) (m : ArgMatches) (id : Text) (n : ℕ) (r : Option ℕ)
     → (one_text (found_of m) id ≡ None → r ≡ None) → ((t : List ℕ) → one_text (found_of m) id ≡ Some t → ReadsOne G t r)
     → ((t : List ℕ) (v : ℕ) → G t (Ok v) → v ≡ number_of t) → r ≡ Some n → number_in id (rows_of (found_of m)) ≡ Some n
-number_read E G m id n r none value reads is = go (one_text (found_of m) id) refl
+number_in-read E G m id n r none value reads is = go (one_text (found_of m) id) refl
   where
+    -- whether the option has a text or not
     go : (o : Option (List ℕ)) → one_text (found_of m) id ≡ o → number_in id (rows_of (found_of m)) ≡ Some n
     go None e =
         let bad : None ≡ Some n = sym (none e) ∙ is in
@@ -41,107 +42,115 @@ number_read E G m id n r none value reads is = go (one_text (found_of m) id) ref
         ∙ ap (λ (k : ℕ). Some k) (sym number)
 
 -- if the option `id` has a number from `least` to `greatest`, below 2^32, the getter reads one in that range
-pub number_there : (E : Type 0) (G : List ℕ → Result ℕ E → Type 0) (m : ArgMatches) (id : Text) (least greatest : ℕ)
+pub HasSignedIn-read : (E : Type 0) (G : List ℕ → Result ℕ E → Type 0) (m : ArgMatches) (id : Text) (least greatest : ℕ)
     (r : Option ℕ)
     → HasSignedIn id least greatest (rows_of (found_of m)) → greatest < 2 ^ 32
     → ((t : List ℕ) → one_text (found_of m) id ≡ Some t → ReadsOne G t r)
     → ((t : List ℕ) (x : Result ℕ E) → G t x → ParsesUnsigned 32 10 t x)
     → (n : ℕ) × (r ≡ Some n) × (least ≤ n) × (n ≤ greatest)
-number_there E G m id least greatest r has small value only =
+HasSignedIn-read E G m id least greatest r has small value only =
     signed_reads E G 32 least greatest has.text r (value (without_minus has.text) (one_text-rows (found_of m) id
     ∙ has.read)) only small has.says
 
 -- a text that is a number of 64 bits from `least` on is read as such a number
-unsigned_reads : (E : Type 0) (G : List ℕ → Result ℕ E → Type 0) (least : ℕ) (t : List ℕ) (r : Option ℕ)
+IsUnsignedIn-read : (E : Type 0) (G : List ℕ → Result ℕ E → Type 0) (least : ℕ) (t : List ℕ) (r : Option ℕ)
     → ReadsOne G t r → ((u : List ℕ) (x : Result ℕ E) → G u x → ParsesUnsigned 64 10 u x)
     → IsUnsignedIn least greatest_number t → (n : ℕ) × (r ≡ Some n) × (least ≤ n)
-unsigned_reads E G least t (Some n) read only says =
+IsUnsignedIn-read E G least t (Some n) read only says =
     let parsed = only t (Ok n) read in
     (n, refl, rw parsed.1 says.2)
-unsigned_reads E G least t None read only says = absurd (only t (Err read.0) read.1 (says.0, says.1))
+IsUnsignedIn-read E G least t None read only says = absurd (only t (Err read.0) read.1 (says.0, says.1))
 
 -- if the option `id` has a number of 64 bits from `least` on, the getter reads one in that range
-pub unsigned_there : (E : Type 0) (G : List ℕ → Result ℕ E → Type 0) (m : ArgMatches) (id : Text) (least : ℕ)
+pub HasUnsignedFrom-read : (E : Type 0) (G : List ℕ → Result ℕ E → Type 0) (m : ArgMatches) (id : Text) (least : ℕ)
     (r : Option ℕ) → HasUnsignedFrom id least (rows_of (found_of m))
     → ((t : List ℕ) → one_text (found_of m) id ≡ Some t → ReadsOne G t r)
     → ((t : List ℕ) (x : Result ℕ E) → G t x → ParsesUnsigned 64 10 t x) → (n : ℕ) × (r ≡ Some n) × (least ≤ n)
-unsigned_there E G m id least r has value only =
-    unsigned_reads E G least has.text r (value has.text (one_text-rows (found_of m) id ∙ has.read)) only has.says
+HasUnsignedFrom-read E G m id least r has value only =
+    IsUnsignedIn-read E G least has.text r (value has.text (one_text-rows (found_of m) id ∙ has.read)) only has.says
 
 -- an option that isn't given has no number
-pub no_number : (id : Text) (rows : List Row) → first_of id rows ≡ None → number_in id rows ≡ None
-no_number id rows none = go (find (λ r. bytes_eq r.id id) rows) refl
+pub number_in-none : (id : Text) (rows : List Row) → first_of id rows ≡ None → number_in id rows ≡ None
+number_in-none id rows none = go (find (λ r. bytes_eq r.id id) rows) refl
   where
+    -- where there is no text, there is no number
     text : (o : Option Text) (how : Reading) → o ≡ None → option_map number_of (option_map (read_as how) o) ≡ None
     text o how e = rw e refl
 
+    -- whether the option has a row or not
     go : (o : Option Row) → find (λ r. bytes_eq r.id id) rows ≡ o → number_in id rows ≡ None
     go None e = rw e refl
     go (Some r) e = rw e (text (slice_get r.values 0) r.reading (rw e at none))
 
--- if the argument `id` isn't given, the getter reads no value; `none_given` is the converse
-pub not_given : (m : ArgMatches) (id : Text) (r : Option (Bor (List ℕ))) → option_map (λ (s : Bor (List ℕ)). s.now) r
+-- if the argument `id` isn't given, the getter reads no value
+pub is_some-not_given : (m : ArgMatches) (id : Text) (r : Option (Bor (List ℕ)))
+    → option_map (λ (s : Bor (List ℕ)). s.now) r
     ≡ first_value (found_of m) id → first_of id (rows_of (found_of m)) ≡ None → is_some r ≡ false
-not_given m id None gives none = refl
-not_given m id (Some s) gives none =
+is_some-not_given m id None gives none = refl
+is_some-not_given m id (Some s) gives none =
     let bad : Some s.now ≡ None = gives ∙ first_value-rows (found_of m) id ∙ none in
     cc
 
-pub none_given : (m : ArgMatches) (id : Text) (r : Option (Bor (List ℕ))) → option_map (λ (s : Bor (List ℕ)). s.now) r
+-- if the getter reads no value, the argument `id` isn't given
+pub first_of-not_given : (m : ArgMatches) (id : Text) (r : Option (Bor (List ℕ)))
+    → option_map (λ (s : Bor (List ℕ)). s.now) r
     ≡ first_value (found_of m) id → is_some r ≡ false → first_of id (rows_of (found_of m)) ≡ None
-none_given m id None gives e = sym (first_value-rows (found_of m) id) ∙ sym gives
-none_given m id (Some s) gives e = absurd (true≢false e)
+first_of-not_given m id None gives e = sym (first_value-rows (found_of m) id) ∙ sym gives
+first_of-not_given m id (Some s) gives e = absurd (true≢false e)
 
 -- ---- an error of a parse
 
+-- the error of a fault, or else the other one
 abbrev error_in : Error → OrderFault → Error
 error_in other (Usage error) = error
 error_in other no_memory = other
 
-is_told : (a b : Error) → Usage a ≡ Usage b → a ≡ b
-is_told a b is = ap (error_in a) is
+-- a fault has one error
+Usage-same : (a b : Error) → Usage a ≡ Usage b → a ≡ b
+Usage-same a b is = ap (error_in a) is
 
 -- a fault that comes of an error of the parse of `words` is a fault of `words`
-comes_of_words : (words : List Text) (error : Error) (fault : OrderFault) → ComesOf error fault
+IsFaultOf-ComesOf : (words : List Text) (error : Error) (fault : OrderFault) → ComesOf error fault
     → HasKind (fault_of vmecheck_app words) error → IsFaultOf words fault
-comes_of_words words error (Usage told) comes (inl none) =
+IsFaultOf-ComesOf words error (Usage told) comes (inl none) =
     let bad : Usage told ≡ no_memory = comes.memory none in
     cc
-comes_of_words words error (Usage told) comes (inr among) =
+IsFaultOf-ComesOf words error (Usage told) comes (inr among) =
     let is : Usage told ≡ Usage error = comes.usage (λ none. let bad : Usage told ≡ no_memory = comes.memory none in
     cc) in
-    let same : told ≡ error = is_told told error is in
+    let same : told ≡ error = Usage-same told error is in
     subst (λ (e : Error). IsAmong (kind_of e) (fault_of vmecheck_app words)) (sym same) among
-comes_of_words words error no_memory comes has = tt
+IsFaultOf-ComesOf words error no_memory comes has = tt
 
 -- if `r` is a fault that `?` made of an error of the parse of `words`, it is a fault of `words`
-pub passed_up : {T : Type 0} (r : Result T OrderFault) (error : Error) (words : List Text)
+pub IsFaultOf-passed_up : {T : Type 0} (r : Result T OrderFault) (error : Error) (words : List Text)
     → IsErrAnd r (λ fault. ComesOf error fault)
     → HasKind (fault_of vmecheck_app words) error → IfErr r (IsFaultOf words)
-passed_up (Ok x) error words comes has = tt
-passed_up (Err fault) error words comes has = comes_of_words words error fault comes has
+IsFaultOf-passed_up (Ok x) error words comes has = tt
+IsFaultOf-passed_up (Err fault) error words comes has = IsFaultOf-ComesOf words error fault comes has
 
 -- ---- an order by its task
 
-maps : {A B C : Type 0} (f : A → B) (g : B → C) (o : Option A) → option_map (λ a. g (f a)) o
+-- two maps, one after the other, are one
+option_map-map : {A B C : Type 0} (f : A → B) (g : B → C) (o : Option A) → option_map (λ a. g (f a)) o
     ≡ option_map g (option_map f o)
-maps f g None = refl
-maps f g (Some a) = refl
+option_map-map f g None = refl
+option_map-map f g (Some a) = refl
 
 -- if the subcommand of `m` is named `name`, `task` is the only task of that name, and `m` has all that an order needs,
 -- then `rows`, those of the subcommand, have all that the order of `task` needs
-pub order_met : (m : ArgMatches) (name : Text) (rows : List Row) (task : Task) → subcommand_name_of m ≡ Some name
+pub HasAll-met : (m : ArgMatches) (name : Text) (rows : List Row) (task : Task) → subcommand_name_of m ≡ Some name
     → option_map (λ (p : Text × List Row). p.1) (subcommand_rows_of m) ≡ Some rows
     → ((t : Task) → name ≡ task_name t → task ≡ t) → HasOrder (subcommand_rows_of m) → HasAll task rows
-order_met m name rows task named its only has =
+HasAll-met m name rows task named its only has =
     let both = ap (option_map (λ (p : Text × List Row). p.0)) has.command in
     let called : name ≡ task_name has.task = ap (λ (o : Option Text). unwrap_or o [])
-    (sym named ∙ maps _ (λ (p : Text × List Row). p.0) (out-ArgMatches m).subcommand ∙ both) in
+    (sym named ∙ option_map-map _ (λ (p : Text × List Row). p.0) (out-ArgMatches m).subcommand ∙ both) in
     let same : rows ≡ has.rows = ap (λ (o : Option (List Row)). unwrap_or o [])
     (sym its ∙ ap (option_map (λ (p : Text × List Row). p.1)) has.command) in
     rw (only has.task called, same) has.has
 
 -- if `rows` have the values of `order`, then `order` is that of its task's name with `rows`
-pub is_order : (order : Order) (rows : List Row) → Says order rows
+pub is_order_by_values : (order : Order) (rows : List Row) → Says order rows
     → IsOrder order (Some (task_name (task_of order), rows))
-is_order order rows says = record { rows = rows; command = refl; says = says }
+is_order_by_values order rows says = record { rows = rows; command = refl; says = says }

@@ -1,4 +1,4 @@
--- Words without a fault name a task, and give all that its order needs.
+-- Words in which clap finds no fault name a task of the program, and give all that the order of the task needs.
 use Rattle.std.proofs.Common.{◌≡◌, ◌∙◌, ◌⊎◌, ◌&&◌, ◌||◌, Bool, true, false, not, refl, sym, ap, subst, codes, List, []}
 use Rattle.std.proofs.Common.{◌∷◌, Option, Some, None, is_some, true≢false, inl, inr}
 use Rattle.std.specs.Prelude.{cond, find, drop, option_map, pos, unwrap_or}
@@ -25,173 +25,228 @@ use Rattle.vme_words.specs.Orders.{HasSkewAndNames, MayHaveSignedIn, MayHaveUnsi
 use Rattle.vme_words.specs.declared.limits.TheConstants.{MOST_SLOTS, MOST_STEPS, MOST_WORKERS}
 use Rattle.vme_words.specs.declared.order.Task.TheVariants.{Annotate, Audit, Bind, Check, Confirm, Explain, Faults}
 use Rattle.vme_words.specs.declared.order.Task.TheVariants.{Join, List as Listing, Part, Rules, Tell, Variables}
-use Rattle.vme_words.proofs.RowLemmas.{EachKnown, NamesNoHelp, both_free, default_adds, defaults_keep, given_text}
-use Rattle.vme_words.proofs.RowLemmas.{level_good, row_may_say, row_says, walk_stops}
+use Rattle.vme_words.proofs.RowLemmas.{EachKnown, NamesNoHelp, or_else-none, has_row-own_default, has_row-defaults}
+use Rattle.vme_words.proofs.RowLemmas.{first_of-given}
+use Rattle.vme_words.proofs.RowLemmas.{AllGood-level, one_of-accepted_or_none, one_of-accepted, NamesNoHelp-walked}
 
 -- ---- the program's command as clap builds it: the shape of each subcommand
 
-abbrev above : Shape
-above = with_leaf_noted (marked_built vmecheck_app.top)
+-- the program's command as clap has it when it builds a subcommand
+abbrev program_level : Shape
+program_level = with_leaf_noted (marked_built vmecheck_app.top)
 
+-- the shape of a subcommand that judges a recording, by its name
 abbrev recording : Text → Shape
-recording name = built_leaf (inherited above (recording_app name).top)
+recording name = built_leaf (inherited program_level (recording_app name).top)
 
+-- the shape of `list`
 abbrev of_list : Shape
-of_list = built_leaf (inherited above list_app.top)
+of_list = built_leaf (inherited program_level list_app.top)
 
+-- the shape of `annotate`
 abbrev of_annotate : Shape
-of_annotate = built_leaf (inherited above annotate_app.top)
+of_annotate = built_leaf (inherited program_level annotate_app.top)
 
+-- the shape of `confirm`
 abbrev confirmation : Shape
-confirmation = built_leaf (inherited above confirm_app.top)
+confirmation = built_leaf (inherited program_level confirm_app.top)
 
+-- the shape of `audit`
 abbrev of_audit : Shape
-of_audit = built_leaf (inherited above audit_app.top)
+of_audit = built_leaf (inherited program_level audit_app.top)
 
+-- the shape of `rules`
 abbrev of_rules : Shape
-of_rules = built_leaf (inherited above rules_app.top)
+of_rules = built_leaf (inherited program_level rules_app.top)
 
+-- the shape of `faults`
 abbrev of_faults : Shape
-of_faults = built_leaf (inherited above faults_app.top)
+of_faults = built_leaf (inherited program_level faults_app.top)
 
+-- the shape of `variables`
 abbrev of_variables : Shape
-of_variables = built_leaf (inherited above variables_app.top)
+of_variables = built_leaf (inherited program_level variables_app.top)
 
+-- the shape of `bind`
 abbrev of_bind : Shape
-of_bind = built_leaf (inherited above bind_app.top)
+of_bind = built_leaf (inherited program_level bind_app.top)
 
+-- the shape of `explain`
 abbrev of_explain : Shape
-of_explain = built_leaf (inherited above explain_app.top)
+of_explain = built_leaf (inherited program_level explain_app.top)
 
+-- the shape of `part`
 abbrev of_part : Shape
-of_part = built_leaf (inherited above part_app.top)
+of_part = built_leaf (inherited program_level part_app.top)
 
+-- the shape of `join`
 abbrev of_join : Shape
-of_join = built_leaf (inherited above join_app.top)
+of_join = built_leaf (inherited program_level join_app.top)
 
+-- the shape of `tell`
 abbrev of_tell : Shape
-of_tell = built_leaf (inherited above tell_app.top)
+of_tell = built_leaf (inherited program_level tell_app.top)
 
+-- the argument `--block`, as clap builds it; so are those that follow
 abbrev block : Rule
 block = with_index 1 (filled block_rule)
 
+-- the argument `--workers`
 abbrev workers : Rule
 workers = with_index 1 (filled workers_rule)
 
+-- the argument `--skew`
 abbrev skew : Rule
 skew = with_index 1 (filled skew_rule)
 
+-- the argument BINDING
 abbrev binding : Rule
 binding = with_index 1 (filled (file_rule (codes "BINDING")))
 
+-- the argument DUMP after BINDING
 abbrev dump : Rule
 dump = with_index 2 (filled (file_rule (codes "DUMP")))
 
+-- the argument LISTING
 abbrev listing : Rule
 listing = with_index 3 (filled (file_rule (codes "LISTING")))
 
+-- the argument `--help`
 abbrev help : Rule
 help = filled help_rule
 
+-- the argument RULE
 abbrev rule : Rule
 rule = with_index 1 (filled (new_rule (codes "RULE")))
 
+-- the argument KIND
 abbrev kind : Rule
 kind = with_index 1 (filled (new_rule (codes "KIND")))
 
+-- the argument DUMP without BINDING
 abbrev only_dump : Rule
 only_dump = with_index 1 (filled (file_rule (codes "DUMP")))
 
+-- the argument `--slots`
 abbrev slots : Rule
 slots = with_index 1 (filled slots_rule)
 
+-- the argument `--scope`
 abbrev scope : Rule
 scope = with_index 1 (filled (word_rule (codes "scope")))
 
+-- the argument `--gtkw`
 abbrev save_file : Rule
 save_file = with_index 1 (filled (word_rule (codes "gtkw")))
 
+-- the argument `--svg`
 abbrev picture : Rule
 picture = with_index 1 (filled (word_rule (codes "svg")))
 
+-- the argument `--transfers`
 abbrev transfers : Rule
 transfers = with_index 1 (filled transfers_rule)
 
+-- the argument `--allow`
 abbrev allow : Rule
 allow = with_index 1 (filled allow_rule)
 
+-- the argument `--stop`
 abbrev stop : Rule
 stop = with_index 1 (filled stop_rule)
 
+-- the argument `--quiet`
 abbrev quiet : Rule
 quiet = with_index 1 (filled (flag_rule (codes "quiet")))
 
+-- the argument `--times`
 abbrev times : Rule
 times = with_index 1 (filled (flag_rule (codes "times")))
 
+-- the argument `--junit`
 abbrev junit : Rule
 junit = with_index 1 (filled (word_rule (codes "junit")))
 
+-- the argument DUMP of which there may be several
 abbrev dumps : Rule
 dumps = with_index 2 (filled (files_rule (codes "DUMP")))
 
+-- the argument `--number`
 abbrev file_number : Rule
 file_number = with_index 1 (filled file_number_rule)
 
+-- the argument `--listing`
 abbrev marks : Rule
 marks = with_index 1 (filled (flag_rule (codes "listing")))
 
+-- the argument `--list`
 abbrev list : Rule
 list = with_index 1 (filled (flag_rule (codes "list")))
 
+-- the argument `--files`
 abbrev file_count : Rule
 file_count = with_index 1 (filled file_count_rule)
 
+-- the argument PART
 abbrev parts : Rule
 parts = with_index 1 (filled (files_rule (codes "PART")))
 
+-- the arguments of a subcommand that judges a recording, such as `check`
 abbrev recording_rules : List Rule
 recording_rules = block ∷ workers ∷ skew ∷ binding ∷ dump ∷ help ∷ []
 
+-- the arguments of `list`
 abbrev listing_rules : List Rule
 listing_rules = block ∷ workers ∷ skew ∷ binding ∷ dump ∷ times ∷ help ∷ []
 
+-- the arguments of `annotate`
 abbrev annotate_rules : List Rule
 annotate_rules = skew ∷ binding ∷ dump ∷ help ∷ []
 
+-- the arguments of `confirm`
 abbrev confirmation_rules : List Rule
 confirmation_rules = skew ∷ binding ∷ dump ∷ listing ∷ help ∷ []
 
+-- the arguments of `audit`
 abbrev audit_rules : List Rule
 audit_rules = transfers ∷ allow ∷ stop ∷ skew ∷ workers ∷ quiet ∷ junit ∷ binding ∷ dumps ∷ help ∷ []
 
+-- the arguments of `rules`
 abbrev rules_rules : List Rule
 rules_rules = rule ∷ help ∷ []
 
+-- the arguments of `faults`
 abbrev faults_rules : List Rule
 faults_rules = kind ∷ help ∷ []
 
+-- the arguments of `variables`
 abbrev variables_rules : List Rule
 variables_rules = only_dump ∷ help ∷ []
 
+-- the arguments of `bind`
 abbrev bind_rules : List Rule
 bind_rules = slots ∷ scope ∷ only_dump ∷ help ∷ []
 
+-- the arguments of `explain`
 abbrev explain_rules : List Rule
 explain_rules = save_file ∷ picture ∷ skew ∷ binding ∷ dump ∷ help ∷ []
 
+-- the arguments of `part`
 abbrev part_rules : List Rule
 part_rules = file_number ∷ marks ∷ binding ∷ dump ∷ help ∷ []
 
+-- the arguments of `join`
 abbrev join_rules : List Rule
 join_rules = parts ∷ help ∷ []
 
+-- the arguments of `tell`
 abbrev tell_rules : List Rule
 tell_rules = list ∷ file_count ∷ parts ∷ help ∷ []
 
-recording_known : EachKnown recording_rules recording_rules
+-- each argument of such a subcommand is known
+EachKnown-recording : EachKnown recording_rules recording_rules
 unfolding clap_on_literals
-recording_known = (
+EachKnown-recording = (
   record { own = refl; acts = refl; defaults = refl },
   (
     record { own = refl; acts = refl; defaults = refl },
@@ -208,9 +263,10 @@ recording_known = (
   ),
 )
 
-listing_known : EachKnown listing_rules listing_rules
+-- each argument of `list` is known
+EachKnown-list : EachKnown listing_rules listing_rules
 unfolding clap_on_literals
-listing_known = (
+EachKnown-list = (
   record { own = refl; acts = refl; defaults = refl },
   (
     record { own = refl; acts = refl; defaults = refl },
@@ -230,9 +286,10 @@ listing_known = (
   ),
 )
 
-annotate_known : EachKnown annotate_rules annotate_rules
+-- each argument of `annotate` is known
+EachKnown-annotate : EachKnown annotate_rules annotate_rules
 unfolding clap_on_literals
-annotate_known = (
+EachKnown-annotate = (
   record { own = refl; acts = refl; defaults = refl },
   (
     record { own = refl; acts = refl; defaults = refl },
@@ -243,9 +300,10 @@ annotate_known = (
   ),
 )
 
-confirmation_known : EachKnown confirmation_rules confirmation_rules
+-- each argument of `confirm` is known
+EachKnown-confirm : EachKnown confirmation_rules confirmation_rules
 unfolding clap_on_literals
-confirmation_known = (
+EachKnown-confirm = (
   record { own = refl; acts = refl; defaults = refl },
   (
     record { own = refl; acts = refl; defaults = refl },
@@ -259,9 +317,10 @@ confirmation_known = (
   ),
 )
 
-audit_known : EachKnown audit_rules audit_rules
+-- each argument of `audit` is known
+EachKnown-audit : EachKnown audit_rules audit_rules
 unfolding clap_on_literals
-audit_known = (
+EachKnown-audit = (
   record { own = refl; acts = refl; defaults = refl },
   (
     record { own = refl; acts = refl; defaults = refl },
@@ -290,16 +349,18 @@ audit_known = (
   ),
 )
 
-variables_known : EachKnown variables_rules variables_rules
+-- each argument of `variables` is known
+EachKnown-variables : EachKnown variables_rules variables_rules
 unfolding clap_on_literals
-variables_known = (
+EachKnown-variables = (
   record { own = refl; acts = refl; defaults = refl },
   (record { own = refl; acts = tt; defaults = refl }, tt),
 )
 
-bind_known : EachKnown bind_rules bind_rules
+-- each argument of `bind` is known
+EachKnown-bind : EachKnown bind_rules bind_rules
 unfolding clap_on_literals
-bind_known = (
+EachKnown-bind = (
   record { own = refl; acts = refl; defaults = refl },
   (
     record { own = refl; acts = refl; defaults = refl },
@@ -310,9 +371,10 @@ bind_known = (
   ),
 )
 
-explain_known : EachKnown explain_rules explain_rules
+-- each argument of `explain` is known
+EachKnown-explain : EachKnown explain_rules explain_rules
 unfolding clap_on_literals
-explain_known = (
+EachKnown-explain = (
   record { own = refl; acts = refl; defaults = refl },
   (
     record { own = refl; acts = refl; defaults = refl },
@@ -329,9 +391,10 @@ explain_known = (
   ),
 )
 
-part_known : EachKnown part_rules part_rules
+-- each argument of `part` is known
+EachKnown-part : EachKnown part_rules part_rules
 unfolding clap_on_literals
-part_known = (
+EachKnown-part = (
   record { own = refl; acts = refl; defaults = refl },
   (
     record { own = refl; acts = refl; defaults = refl },
@@ -345,9 +408,10 @@ part_known = (
   ),
 )
 
-tell_known : EachKnown tell_rules tell_rules
+-- each argument of `tell` is known
+EachKnown-tell : EachKnown tell_rules tell_rules
 unfolding clap_on_literals
-tell_known = (
+EachKnown-tell = (
   record { own = refl; acts = refl; defaults = refl },
   (
     record { own = refl; acts = refl; defaults = refl },
@@ -360,42 +424,48 @@ tell_known = (
 
 -- ---- the matches of a subcommand
 
-one_given : (d : Bool) → check_kinds false false (not d || false) ≡ [] → d ≡ true
-one_given true e = refl
-one_given false e = cc
+-- if no required argument is missing, the one is given
+check_kinds-one : (d : Bool) → check_kinds false false (not d || false) ≡ [] → d ≡ true
+check_kinds-one true e = refl
+check_kinds-one false e = cc
 
-two_given : (b d : Bool) → check_kinds false false (not b || (not d || false)) ≡ [] → (b ≡ true) × (d ≡ true)
-two_given true true e = (refl, refl)
-two_given true false e = cc
-two_given false d e = cc
+-- if no required argument is missing, both are given
+check_kinds-two : (b d : Bool) → check_kinds false false (not b || (not d || false)) ≡ [] → (b ≡ true) × (d ≡ true)
+check_kinds-two true true e = (refl, refl)
+check_kinds-two true false e = cc
+check_kinds-two false d e = cc
 
-three_given : (b d l : Bool) → check_kinds false false (not b || (not d || (not l || false))) ≡ [] → (b ≡ true)
+-- if no required argument is missing, all three are given
+check_kinds-three : (b d l : Bool) → check_kinds false false (not b || (not d || (not l || false))) ≡ [] → (b ≡ true)
     × (d ≡ true) × (l ≡ true)
-three_given true true true e = (refl, refl, refl)
-three_given true true false e = cc
-three_given true false l e = cc
-three_given false d l e = cc
+check_kinds-three true true true e = (refl, refl, refl)
+check_kinds-three true true false e = cc
+check_kinds-three true false l e = cc
+check_kinds-three false d l e = cc
 
-recording_has : (name : Text) (words : List Text) → level_fault (recording name) [] nothing_held words false [] ≡ []
+-- words of such a subcommand without a fault give its options and the names of its files
+HasOptionsAndNames-recording : (name : Text) (words : List Text)
+    → level_fault (recording name) [] nothing_held words false [] ≡ []
     → HasOptionsAndNames (rows_after recording_rules [] words)
-recording_has name words e =
-    let level = level_good (recording name) words recording_known e in
+HasOptionsAndNames-recording name words e =
+    let level = AllGood-level (recording name) words EachKnown-recording e in
     let rows = rows_after recording_rules [] words in
-    let before = (settled recording_rules (walk recording_rules [] nothing_held words).held).rows in
-    let given = two_given (is_given (codes "BINDING") rows) (is_given (codes "DUMP") rows) level.1 in
-    let behind_block = with_default before block in
-    let behind_workers = with_default behind_block workers in
-    let in_block = row_says recording_rules rows block (Signed (pos 1) (pos MOST_STEPS)) level.0
-    recording_known.0.own refl
-    (defaults_keep (codes "block") (workers ∷ skew ∷ binding ∷ dump ∷ help ∷ []) behind_block
-    (default_adds before block (codes "16384") [] refl)) in
-    let in_workers = row_says recording_rules rows workers (Signed (pos 1) (pos MOST_WORKERS)) level.0
-    recording_known.1.0.own refl
-    (defaults_keep (codes "workers") (skew ∷ binding ∷ dump ∷ help ∷ []) behind_workers
-    (default_adds behind_block workers (codes "4") [] refl)) in
-    let in_skew = row_says recording_rules rows skew (Unsigned 0 greatest_number) level.0 recording_known.1.1.0.own refl
-    (defaults_keep (codes "skew") (binding ∷ dump ∷ help ∷ []) (with_default behind_workers skew)
-    (default_adds behind_workers skew (codes "0") [] refl)) in
+    let given_rows = (settled recording_rules (walk recording_rules [] nothing_held words).held).rows in
+    let given = check_kinds-two (is_given (codes "BINDING") rows) (is_given (codes "DUMP") rows) level.1 in
+    let rows_with_block = with_default given_rows block in
+    let rows_with_workers = with_default rows_with_block workers in
+    let in_block = one_of-accepted recording_rules rows block (Signed (pos 1) (pos MOST_STEPS)) level.0
+    EachKnown-recording.0.own refl
+    (has_row-defaults (codes "block") (workers ∷ skew ∷ binding ∷ dump ∷ help ∷ []) rows_with_block
+    (has_row-own_default given_rows block (codes "16384") [] refl)) in
+    let in_workers = one_of-accepted recording_rules rows workers (Signed (pos 1) (pos MOST_WORKERS)) level.0
+    EachKnown-recording.1.0.own refl
+    (has_row-defaults (codes "workers") (skew ∷ binding ∷ dump ∷ help ∷ []) rows_with_workers
+    (has_row-own_default rows_with_block workers (codes "4") [] refl)) in
+    let in_skew = one_of-accepted recording_rules rows skew (Unsigned 0 greatest_number) level.0
+    EachKnown-recording.1.1.0.own refl
+    (has_row-defaults (codes "skew") (binding ∷ dump ∷ help ∷ []) (with_default rows_with_workers skew)
+    (has_row-own_default rows_with_workers skew (codes "0") [] refl)) in
     record {
       options = record {
         block = record { text = in_block.0; read = in_block.1; says = in_block.2 };
@@ -403,31 +473,33 @@ recording_has name words e =
         skew = record { text = in_skew.0; read = in_skew.1; says = in_skew.2 };
       };
       names = record {
-        binding = given_text recording_rules rows binding level.0 recording_known.1.1.1.0.own given.0;
-        dump = given_text recording_rules rows dump level.0 recording_known.1.1.1.1.0.own given.1;
+        binding = first_of-given recording_rules rows binding level.0 EachKnown-recording.1.1.1.0.own given.0;
+        dump = first_of-given recording_rules rows dump level.0 EachKnown-recording.1.1.1.1.0.own given.1;
       };
     }
 
-listing_has : (words : List Text) → level_fault of_list [] nothing_held words false [] ≡ []
+-- words of `list` without a fault give its options and the names of its files
+HasOptionsAndNames-list : (words : List Text) → level_fault of_list [] nothing_held words false [] ≡ []
     → HasOptionsAndNames (rows_after listing_rules [] words)
-listing_has words e =
-    let level = level_good of_list words listing_known e in
+HasOptionsAndNames-list words e =
+    let level = AllGood-level of_list words EachKnown-list e in
     let rows = rows_after listing_rules [] words in
-    let before = (settled listing_rules (walk listing_rules [] nothing_held words).held).rows in
-    let given = two_given (is_given (codes "BINDING") rows) (is_given (codes "DUMP") rows) level.1 in
-    let behind_block = with_default before block in
-    let behind_workers = with_default behind_block workers in
-    let in_block = row_says listing_rules rows block (Signed (pos 1) (pos MOST_STEPS)) level.0
-    listing_known.0.own refl
-    (defaults_keep (codes "block") (workers ∷ skew ∷ binding ∷ dump ∷ times ∷ help ∷ []) behind_block
-    (default_adds before block (codes "16384") [] refl)) in
-    let in_workers = row_says listing_rules rows workers (Signed (pos 1) (pos MOST_WORKERS)) level.0
-    listing_known.1.0.own refl
-    (defaults_keep (codes "workers") (skew ∷ binding ∷ dump ∷ times ∷ help ∷ []) behind_workers
-    (default_adds behind_block workers (codes "4") [] refl)) in
-    let in_skew = row_says listing_rules rows skew (Unsigned 0 greatest_number) level.0 listing_known.1.1.0.own refl
-    (defaults_keep (codes "skew") (binding ∷ dump ∷ times ∷ help ∷ []) (with_default behind_workers skew)
-    (default_adds behind_workers skew (codes "0") [] refl)) in
+    let given_rows = (settled listing_rules (walk listing_rules [] nothing_held words).held).rows in
+    let given = check_kinds-two (is_given (codes "BINDING") rows) (is_given (codes "DUMP") rows) level.1 in
+    let rows_with_block = with_default given_rows block in
+    let rows_with_workers = with_default rows_with_block workers in
+    let in_block = one_of-accepted listing_rules rows block (Signed (pos 1) (pos MOST_STEPS)) level.0
+    EachKnown-list.0.own refl
+    (has_row-defaults (codes "block") (workers ∷ skew ∷ binding ∷ dump ∷ times ∷ help ∷ []) rows_with_block
+    (has_row-own_default given_rows block (codes "16384") [] refl)) in
+    let in_workers = one_of-accepted listing_rules rows workers (Signed (pos 1) (pos MOST_WORKERS)) level.0
+    EachKnown-list.1.0.own refl
+    (has_row-defaults (codes "workers") (skew ∷ binding ∷ dump ∷ times ∷ help ∷ []) rows_with_workers
+    (has_row-own_default rows_with_block workers (codes "4") [] refl)) in
+    let in_skew = one_of-accepted listing_rules rows skew (Unsigned 0 greatest_number) level.0 EachKnown-list.1.1.0.own
+    refl
+    (has_row-defaults (codes "skew") (binding ∷ dump ∷ times ∷ help ∷ []) (with_default rows_with_workers skew)
+    (has_row-own_default rows_with_workers skew (codes "0") [] refl)) in
     record {
       options = record {
         block = record { text = in_block.0; read = in_block.1; says = in_block.2 };
@@ -435,55 +507,63 @@ listing_has words e =
         skew = record { text = in_skew.0; read = in_skew.1; says = in_skew.2 };
       };
       names = record {
-        binding = given_text listing_rules rows binding level.0 listing_known.1.1.1.0.own given.0;
-        dump = given_text listing_rules rows dump level.0 listing_known.1.1.1.1.0.own given.1;
+        binding = first_of-given listing_rules rows binding level.0 EachKnown-list.1.1.1.0.own given.0;
+        dump = first_of-given listing_rules rows dump level.0 EachKnown-list.1.1.1.1.0.own given.1;
       };
     }
 
-confirmation_has : (words : List Text) → level_fault confirmation [] nothing_held words false [] ≡ [] → HasConfirmation
+-- words of `confirm` without a fault give all that it needs
+HasConfirmation-confirm : (words : List Text) → level_fault confirmation [] nothing_held words false [] ≡ []
+    → HasConfirmation
     (rows_after confirmation_rules [] words)
-confirmation_has words e =
-    let level = level_good confirmation words confirmation_known e in
+HasConfirmation-confirm words e =
+    let level = AllGood-level confirmation words EachKnown-confirm e in
     let rows = rows_after confirmation_rules [] words in
-    let before = (settled confirmation_rules (walk confirmation_rules [] nothing_held words).held).rows in
-    let given = three_given (is_given (codes "BINDING") rows) (is_given (codes "DUMP") rows)
+    let given_rows = (settled confirmation_rules (walk confirmation_rules [] nothing_held words).held).rows in
+    let given = check_kinds-three (is_given (codes "BINDING") rows) (is_given (codes "DUMP") rows)
     (is_given (codes "LISTING") rows) level.1 in
-    let in_skew = row_says confirmation_rules rows skew (Unsigned 0 greatest_number) level.0 confirmation_known.0.own
+    let in_skew = one_of-accepted confirmation_rules rows skew (Unsigned 0 greatest_number) level.0
+    EachKnown-confirm.0.own
     refl
-    (defaults_keep (codes "skew") (binding ∷ dump ∷ listing ∷ help ∷ []) (with_default before skew)
-    (default_adds before skew (codes "0") [] refl)) in
+    (has_row-defaults (codes "skew") (binding ∷ dump ∷ listing ∷ help ∷ []) (with_default given_rows skew)
+    (has_row-own_default given_rows skew (codes "0") [] refl)) in
     record {
       skew = record { text = in_skew.0; read = in_skew.1; says = in_skew.2 };
       names = record {
-        binding = given_text confirmation_rules rows binding level.0 confirmation_known.1.0.own given.0;
-        dump = given_text confirmation_rules rows dump level.0 confirmation_known.1.1.0.own given.1;
+        binding = first_of-given confirmation_rules rows binding level.0 EachKnown-confirm.1.0.own given.0;
+        dump = first_of-given confirmation_rules rows dump level.0 EachKnown-confirm.1.1.0.own given.1;
       };
-      listing = given_text confirmation_rules rows listing level.0 confirmation_known.1.1.1.0.own given.2;
+      listing = first_of-given confirmation_rules rows listing level.0 EachKnown-confirm.1.1.1.0.own given.2;
     }
 
-audit_has : (words : List Text) → level_fault of_audit [] nothing_held words false [] ≡ [] → HasAudit
+-- words of `audit` without a fault give all that it needs
+HasAudit-audit : (words : List Text) → level_fault of_audit [] nothing_held words false [] ≡ [] → HasAudit
     (rows_after audit_rules [] words)
-audit_has words e =
-    let level = level_good of_audit words audit_known e in
+HasAudit-audit words e =
+    let level = AllGood-level of_audit words EachKnown-audit e in
     let rows = rows_after audit_rules [] words in
-    let before = (settled audit_rules (walk audit_rules [] nothing_held words).held).rows in
-    let given = two_given (is_given (codes "BINDING") rows) (is_given (codes "DUMP") rows) level.1 in
-    let behind_transfers = with_default before transfers in
-    let before_skew = with_default (with_default behind_transfers allow) stop in
-    let behind_skew = with_default before_skew skew in
-    let in_transfers = row_says audit_rules rows transfers (Unsigned 0 greatest_number) level.0 audit_known.0.own refl
-    (defaults_keep (codes "transfers")
-    (allow ∷ stop ∷ skew ∷ workers ∷ quiet ∷ junit ∷ binding ∷ dumps ∷ help ∷ []) behind_transfers
-    (default_adds before transfers (codes "1") [] refl)) in
-    let in_skew = row_says audit_rules rows skew (Unsigned 0 greatest_number) level.0 audit_known.1.1.1.0.own refl
-    (defaults_keep (codes "skew") (workers ∷ quiet ∷ junit ∷ binding ∷ dumps ∷ help ∷ []) behind_skew
-    (default_adds before_skew skew (codes "0") [] refl)) in
-    let in_workers = row_says audit_rules rows workers (Signed (pos 1) (pos MOST_WORKERS)) level.0
-    audit_known.1.1.1.1.0.own refl
-    (defaults_keep (codes "workers") (quiet ∷ junit ∷ binding ∷ dumps ∷ help ∷ []) (with_default behind_skew workers)
-    (default_adds behind_skew workers (codes "4") [] refl)) in
+    let given_rows = (settled audit_rules (walk audit_rules [] nothing_held words).held).rows in
+    let given = check_kinds-two (is_given (codes "BINDING") rows) (is_given (codes "DUMP") rows) level.1 in
+    let rows_with_transfers = with_default given_rows transfers in
+    let rows_before_skew = with_default (with_default rows_with_transfers allow) stop in
+    let rows_with_skew = with_default rows_before_skew skew in
+    let in_transfers = one_of-accepted audit_rules rows transfers (Unsigned 0 greatest_number) level.0
+    EachKnown-audit.0.own refl
+    (has_row-defaults (codes "transfers")
+    (allow ∷ stop ∷ skew ∷ workers ∷ quiet ∷ junit ∷ binding ∷ dumps ∷ help ∷ []) rows_with_transfers
+    (has_row-own_default given_rows transfers (codes "1") [] refl)) in
+    let in_skew = one_of-accepted audit_rules rows skew (Unsigned 0 greatest_number) level.0 EachKnown-audit.1.1.1.0.own
+    refl
+    (has_row-defaults (codes "skew") (workers ∷ quiet ∷ junit ∷ binding ∷ dumps ∷ help ∷ []) rows_with_skew
+    (has_row-own_default rows_before_skew skew (codes "0") [] refl)) in
+    let in_workers = one_of-accepted audit_rules rows workers (Signed (pos 1) (pos MOST_WORKERS)) level.0
+    EachKnown-audit.1.1.1.1.0.own refl
+    (has_row-defaults (codes "workers") (quiet ∷ junit ∷ binding ∷ dumps ∷ help ∷ [])
+    (with_default rows_with_skew workers)
+    (has_row-own_default rows_with_skew workers (codes "4") [] refl)) in
     let may_stop : MayHaveUnsignedFrom (codes "stop") 1 rows = elim
-    (row_may_say audit_rules rows stop (Unsigned 1 greatest_number) level.0 audit_known.1.1.0.own refl) [
+    (one_of-accepted_or_none audit_rules rows stop (Unsigned 1 greatest_number)
+    level.0 EachKnown-audit.1.1.0.own refl) [
       | inl none ↦ inl none
       | inr n ↦ inr (record { text = n.0; read = n.1; says = n.2 })
     ] in
@@ -492,96 +572,107 @@ audit_has words e =
       stop = may_stop;
       skew = record { text = in_skew.0; read = in_skew.1; says = in_skew.2 };
       workers = record { text = in_workers.0; read = in_workers.1; says = in_workers.2 };
-      binding = given_text audit_rules rows binding level.0 audit_known.1.1.1.1.1.1.1.0.own given.0;
+      binding = first_of-given audit_rules rows binding level.0 EachKnown-audit.1.1.1.1.1.1.1.0.own given.0;
     }
 
-variables_has : (words : List Text) → level_fault of_variables [] nothing_held words false [] ≡ []
+-- words of `variables` without a fault give the name of the dump
+HasName-variables : (words : List Text) → level_fault of_variables [] nothing_held words false [] ≡ []
     → HasName (codes "DUMP") (rows_after variables_rules [] words)
-variables_has words e =
-    let level = level_good of_variables words variables_known e in
+HasName-variables words e =
+    let level = AllGood-level of_variables words EachKnown-variables e in
     let rows = rows_after variables_rules [] words in
-    given_text variables_rules rows only_dump level.0 variables_known.0.own (one_given (is_given (codes "DUMP") rows)
+    first_of-given variables_rules rows only_dump level.0 EachKnown-variables.0.own
+    (check_kinds-one (is_given (codes "DUMP") rows)
     level.1)
 
-bind_has : (words : List Text) → level_fault of_bind [] nothing_held words false [] ≡ []
+-- words of `bind` without a fault give all that it needs
+HasBind-bind : (words : List Text) → level_fault of_bind [] nothing_held words false [] ≡ []
     → HasBind (rows_after bind_rules [] words)
-bind_has words e =
-    let level = level_good of_bind words bind_known e in
+HasBind-bind words e =
+    let level = AllGood-level of_bind words EachKnown-bind e in
     let rows = rows_after bind_rules [] words in
     let may_have_slots : MayHaveSignedIn (codes "slots") 1 MOST_SLOTS rows = elim
-    (row_may_say bind_rules rows slots (Signed (pos 1) (pos MOST_SLOTS)) level.0 bind_known.0.own refl) [
+    (one_of-accepted_or_none bind_rules rows slots (Signed (pos 1) (pos MOST_SLOTS))
+    level.0 EachKnown-bind.0.own refl) [
       | inl none ↦ inl none
       | inr n ↦ inr (record { text = n.0; read = n.1; says = n.2 })
     ] in
     record {
       slots = may_have_slots;
       dump =
-          given_text bind_rules rows only_dump level.0 bind_known.1.1.0.own
-          (one_given (is_given (codes "DUMP") rows) level.1);
+          first_of-given bind_rules rows only_dump level.0 EachKnown-bind.1.1.0.own
+          (check_kinds-one (is_given (codes "DUMP") rows) level.1);
     }
 
-explain_has : (words : List Text) → level_fault of_explain [] nothing_held words false [] ≡ []
+-- words of `explain` without a fault give its skew and the names of its files
+HasSkewAndNames-explain : (words : List Text) → level_fault of_explain [] nothing_held words false [] ≡ []
     → HasSkewAndNames (rows_after explain_rules [] words)
-explain_has words e =
-    let level = level_good of_explain words explain_known e in
+HasSkewAndNames-explain words e =
+    let level = AllGood-level of_explain words EachKnown-explain e in
     let rows = rows_after explain_rules [] words in
-    let before = (settled explain_rules (walk explain_rules [] nothing_held words).held).rows in
-    let given = two_given (is_given (codes "BINDING") rows) (is_given (codes "DUMP") rows) level.1 in
-    let behind_files = with_default (with_default before save_file) picture in
-    let in_skew = row_says explain_rules rows skew (Unsigned 0 greatest_number) level.0 explain_known.1.1.0.own refl
-    (defaults_keep (codes "skew") (binding ∷ dump ∷ help ∷ []) (with_default behind_files skew)
-    (default_adds behind_files skew (codes "0") [] refl)) in
+    let given_rows = (settled explain_rules (walk explain_rules [] nothing_held words).held).rows in
+    let given = check_kinds-two (is_given (codes "BINDING") rows) (is_given (codes "DUMP") rows) level.1 in
+    let rows_with_files = with_default (with_default given_rows save_file) picture in
+    let in_skew = one_of-accepted explain_rules rows skew (Unsigned 0 greatest_number) level.0
+    EachKnown-explain.1.1.0.own refl
+    (has_row-defaults (codes "skew") (binding ∷ dump ∷ help ∷ []) (with_default rows_with_files skew)
+    (has_row-own_default rows_with_files skew (codes "0") [] refl)) in
     record {
       skew = record { text = in_skew.0; read = in_skew.1; says = in_skew.2 };
       names = record {
-        binding = given_text explain_rules rows binding level.0 explain_known.1.1.1.0.own given.0;
-        dump = given_text explain_rules rows dump level.0 explain_known.1.1.1.1.0.own given.1;
+        binding = first_of-given explain_rules rows binding level.0 EachKnown-explain.1.1.1.0.own given.0;
+        dump = first_of-given explain_rules rows dump level.0 EachKnown-explain.1.1.1.1.0.own given.1;
       };
     }
 
-annotate_has : (words : List Text) → level_fault of_annotate [] nothing_held words false [] ≡ []
+-- words of `annotate` without a fault give its skew and the names of its files
+HasSkewAndNames-annotate : (words : List Text) → level_fault of_annotate [] nothing_held words false [] ≡ []
     → HasSkewAndNames (rows_after annotate_rules [] words)
-annotate_has words e =
-    let level = level_good of_annotate words annotate_known e in
+HasSkewAndNames-annotate words e =
+    let level = AllGood-level of_annotate words EachKnown-annotate e in
     let rows = rows_after annotate_rules [] words in
-    let before = (settled annotate_rules (walk annotate_rules [] nothing_held words).held).rows in
-    let given = two_given (is_given (codes "BINDING") rows) (is_given (codes "DUMP") rows) level.1 in
-    let in_skew = row_says annotate_rules rows skew (Unsigned 0 greatest_number) level.0 annotate_known.0.own refl
-    (defaults_keep (codes "skew") (binding ∷ dump ∷ help ∷ []) (with_default before skew)
-    (default_adds before skew (codes "0") [] refl)) in
+    let given_rows = (settled annotate_rules (walk annotate_rules [] nothing_held words).held).rows in
+    let given = check_kinds-two (is_given (codes "BINDING") rows) (is_given (codes "DUMP") rows) level.1 in
+    let in_skew = one_of-accepted annotate_rules rows skew (Unsigned 0 greatest_number) level.0 EachKnown-annotate.0.own
+    refl
+    (has_row-defaults (codes "skew") (binding ∷ dump ∷ help ∷ []) (with_default given_rows skew)
+    (has_row-own_default given_rows skew (codes "0") [] refl)) in
     record {
       skew = record { text = in_skew.0; read = in_skew.1; says = in_skew.2 };
       names = record {
-        binding = given_text annotate_rules rows binding level.0 annotate_known.1.0.own given.0;
-        dump = given_text annotate_rules rows dump level.0 annotate_known.1.1.0.own given.1;
+        binding = first_of-given annotate_rules rows binding level.0 EachKnown-annotate.1.0.own given.0;
+        dump = first_of-given annotate_rules rows dump level.0 EachKnown-annotate.1.1.0.own given.1;
       };
     }
 
-part_has : (words : List Text) → level_fault of_part [] nothing_held words false [] ≡ []
+-- words of `part` without a fault give all that it needs
+HasPart-part : (words : List Text) → level_fault of_part [] nothing_held words false [] ≡ []
     → HasPart (rows_after part_rules [] words)
-part_has words e =
-    let level = level_good of_part words part_known e in
+HasPart-part words e =
+    let level = AllGood-level of_part words EachKnown-part e in
     let rows = rows_after part_rules [] words in
-    let before = (settled part_rules (walk part_rules [] nothing_held words).held).rows in
-    let given = two_given (is_given (codes "BINDING") rows) (is_given (codes "DUMP") rows) level.1 in
-    let in_number = row_says part_rules rows file_number (Signed (pos 0) (pos greatest_file_number)) level.0
-    part_known.0.own refl
-    (defaults_keep (codes "number") (marks ∷ binding ∷ dump ∷ help ∷ []) (with_default before file_number)
-    (default_adds before file_number (codes "0") [] refl)) in
+    let given_rows = (settled part_rules (walk part_rules [] nothing_held words).held).rows in
+    let given = check_kinds-two (is_given (codes "BINDING") rows) (is_given (codes "DUMP") rows) level.1 in
+    let in_number = one_of-accepted part_rules rows file_number (Signed (pos 0) (pos greatest_file_number)) level.0
+    EachKnown-part.0.own refl
+    (has_row-defaults (codes "number") (marks ∷ binding ∷ dump ∷ help ∷ []) (with_default given_rows file_number)
+    (has_row-own_default given_rows file_number (codes "0") [] refl)) in
     record {
       number = record { text = in_number.0; read = in_number.1; says = in_number.2 };
       names = record {
-        binding = given_text part_rules rows binding level.0 part_known.1.1.0.own given.0;
-        dump = given_text part_rules rows dump level.0 part_known.1.1.1.0.own given.1;
+        binding = first_of-given part_rules rows binding level.0 EachKnown-part.1.1.0.own given.0;
+        dump = first_of-given part_rules rows dump level.0 EachKnown-part.1.1.1.0.own given.1;
       };
     }
 
-tell_has : (words : List Text) → level_fault of_tell [] nothing_held words false [] ≡ []
+-- words of `tell` without a fault give a number of files from 1 on, or none
+MayHaveUnsignedFrom-tell : (words : List Text) → level_fault of_tell [] nothing_held words false [] ≡ []
     → MayHaveUnsignedFrom (codes "files") 1 (rows_after tell_rules [] words)
-tell_has words e =
-    let level = level_good of_tell words tell_known e in
+MayHaveUnsignedFrom-tell words e =
+    let level = AllGood-level of_tell words EachKnown-tell e in
     let rows = rows_after tell_rules [] words in
-    elim (row_may_say tell_rules rows file_count (Unsigned 1 greatest_number) level.0 tell_known.1.0.own refl) [
+    elim (one_of-accepted_or_none tell_rules rows file_count (Unsigned 1 greatest_number) level.0 EachKnown-tell.1.0.own
+    refl) [
       | inl none ↦ inl none
       | inr n ↦ inr (record { text = n.0; read = n.1; says = n.2 })
     ]
@@ -593,14 +684,16 @@ abbrev Makes : Shape → Type 0
 Makes s = (words : List Text) → level_fault s [] nothing_held words false [] ≡ [] → HasOrder (Some (rows_at s words)) ⊎
     (label_of s ≡ (codes "help", []))
 
+-- so does each of these subcommands
 abbrev EachMakes : List Shape → Type 0
 EachMakes [] = Unit {0}
 EachMakes (s ∷ rest) = Makes s × EachMakes rest
 
-found_makes : (xs : List Shape) (test : Shape → Bool) (s : Shape) → EachMakes xs → find test xs ≡ Some s → Makes s
+-- a subcommand that is found among such ones is such a one, and passes the test
+Makes-found : (xs : List Shape) (test : Shape → Bool) (s : Shape) → EachMakes xs → find test xs ≡ Some s → Makes s
     × (test s ≡ true)
-found_makes [] test s makes e = cc
-found_makes (x ∷ xs) test s makes e = go (test x) refl e (λ f. found_makes xs test s makes.1 f)
+Makes-found [] test s makes e = cc
+Makes-found (x ∷ xs) test s makes e = go (test x) refl e (λ f. Makes-found xs test s makes.1 f)
   where
     go : (t : Bool) → test x ≡ t → cond t (Some x) (find test xs) ≡ Some s → (find test xs ≡ Some s → Makes s
         × (test s ≡ true)) → Makes s × (test s ≡ true)
@@ -608,8 +701,9 @@ found_makes (x ∷ xs) test s makes e = go (test x) refl e (λ f. found_makes xs
         (makes.0, is)
     go false is f rest = rest f
 
-is_help : (word : Text) → bytes_eq word (codes "help") ≡ false → answers_to word (codes "help", []) ≡ true → ⊥
-is_help word not_it it = go (bytes_eq (codes "help") word) refl it
+-- a word other than `help` isn't the name of the subcommand `help`
+answers_to-help : (word : Text) → bytes_eq word (codes "help") ≡ false → answers_to word (codes "help", []) ≡ true → ⊥
+answers_to-help word not_it it = go (bytes_eq (codes "help") word) refl it
   where
     go : (t : Bool) → bytes_eq (codes "help") word ≡ t → (t || false) ≡ true → ⊥
     go true is f = absurd
@@ -617,163 +711,181 @@ is_help word not_it it = go (bytes_eq (codes "help") word) refl it
         ∙ not_it))
     go false is f = absurd (true≢false (sym f))
 
-entered_order : (a : App) (stop : Option (Text × List Text)) → EachMakes a.subs → NamesNoHelp stop → entered_fault a
+-- if each subcommand gives an order, one other than `help` that is entered without a fault gives one
+HasOrder-entered : (a : App) (stop : Option (Text × List Text)) → EachMakes a.subs → NamesNoHelp stop → entered_fault a
     stop ≡ [] → is_some (entered a stop) ≡ true → HasOrder (entered a stop)
-entered_order a None makes named e has = absurd (true≢false (sym has))
-entered_order a (Some p) makes named e has = go (find (λ s. answers_to p.0 (label_of s)) a.subs) refl
+HasOrder-entered a None makes named e has = absurd (true≢false (sym has))
+HasOrder-entered a (Some p) makes named e has = go (find (λ s. answers_to p.0 (label_of s)) a.subs) refl
   where
     go : (o : Option Shape) → find (λ s. answers_to p.0 (label_of s)) a.subs ≡ o
         → HasOrder (option_map (λ s. rows_at s p.1) o)
     go None is = let bad = rw is at has in cc
     go (Some s) is =
-        let found = found_makes a.subs (λ x. answers_to p.0 (label_of x)) s makes is in
+        let found = Makes-found a.subs (λ x. answers_to p.0 (label_of x)) s makes is in
         elim (found.0 p.1 (rw is at e)) [
           | inl h ↦ h
-          | inr helps ↦ absurd (is_help p.0 named (subst (λ (l : Text × List Text). answers_to p.0 l ≡ true) helps
+          | inr helps ↦ absurd (answers_to-help p.0 named (subst (λ (l : Text × List Text). answers_to p.0 l ≡ true)
+              helps
               found.1))
         ]
 
 -- if a subcommand is required (`wants`) and there is no fault, one was entered (`has`)
-one_entered : (has helps wants needs : Bool) → wants ≡ true → check_kinds (not has && helps) (not has && wants) needs
+check_kinds-entered : (has helps wants needs : Bool) → wants ≡ true
+    → check_kinds (not has && helps) (not has && wants) needs
     ≡ [] → has ≡ true
-one_entered true helps wants needs is e = refl
-one_entered false true wants needs is e = cc
-one_entered false false wants needs is e = let bad = rw is at e in cc
+check_kinds-entered true helps wants needs is e = refl
+check_kinds-entered false true wants needs is e = cc
+check_kinds-entered false false wants needs is e = let bad = rw is at e in cc
 
 -- words in which `a`, which requires a subcommand, finds no fault have an order, if those of each of its subcommands do
-order_of_app : (a : App) (words : List Text) → EachMakes a.subs → a.top.disable_help_subcommand ≡ false
+HasOrder-of_app : (a : App) (words : List Text) → EachMakes a.subs → a.top.disable_help_subcommand ≡ false
     → a.top.subcommand_required ≡ true
     → built_fault a nothing_held words ≡ [] → HasOrder (entered a (stop_after a.top.rules (names_of a) words))
-order_of_app a words makes helps wants e =
+HasOrder-of_app a words makes helps wants e =
     let stop = stop_after a.top.rules (names_of a) words in
     let end = (walk a.top.rules (names_of a) nothing_held words).held in
-    let f = both_free (walk_fault a.top (names_of a) (walk_from nothing_held) words) _ e in
-    let below = both_free (entered_fault a stop) _ f.1 in
-    let settle = both_free (settle_fault a.top.rules a.top.args_override_self end) _ below.1 in
-    let last = both_free (defaults_fault (settled a.top.rules end).rows a.top.rules)
+    let f = or_else-none (walk_fault a.top (names_of a) (walk_from nothing_held) words) _ e in
+    let below = or_else-none (entered_fault a stop) _ f.1 in
+    let settle = or_else-none (settle_fault a.top.rules a.top.args_override_self end) _ below.1 in
+    let last = or_else-none (defaults_fault (settled a.top.rules end).rows a.top.rules)
     (check_fault a.top (finished a.top.rules end) (is_some (entered a stop))) settle.1 in
-    entered_order a stop makes (walk_stops a.top (names_of a) helps words (walk_from nothing_held) f.0 tt) below.0
-    (one_entered (is_some (entered a stop)) _ a.top.subcommand_required _ wants last.1)
+    HasOrder-entered a stop makes (NamesNoHelp-walked a.top (names_of a) helps words (walk_from nothing_held) f.0 tt)
+    below.0
+    (check_kinds-entered (is_some (entered a stop)) _ a.top.subcommand_required _ wants last.1)
 
-check_makes : Makes (recording (codes "check"))
-check_makes words e = inl (record {
+-- words of `check` without a fault give an order
+Makes-check : Makes (recording (codes "check"))
+Makes-check words e = inl (record {
   task = Check;
   rows = rows_after recording_rules [] words;
   command = refl;
   has
-      = recording_has (codes "check") words e;
+      = HasOptionsAndNames-recording (codes "check") words e;
 })
 
-list_makes : Makes of_list
-list_makes words e = inl (record {
+-- words of `list` without a fault give an order
+Makes-list : Makes of_list
+Makes-list words e = inl (record {
   task = Listing;
   rows = rows_after listing_rules [] words;
   command = refl;
-  has = listing_has words e;
+  has = HasOptionsAndNames-list words e;
 })
 
-confirm_makes : Makes confirmation
-confirm_makes words e = inl (record {
+-- words of `confirm` without a fault give an order
+Makes-confirm : Makes confirmation
+Makes-confirm words e = inl (record {
   task = Confirm;
   rows = rows_after confirmation_rules [] words;
   command = refl;
   has
-      = confirmation_has words e;
+      = HasConfirmation-confirm words e;
 })
 
-audit_makes : Makes of_audit
-audit_makes words e = inl (record {
+-- words of `audit` without a fault give an order
+Makes-audit : Makes of_audit
+Makes-audit words e = inl (record {
   task = Audit;
   rows = rows_after audit_rules [] words;
   command = refl;
   has
-      = audit_has words e;
+      = HasAudit-audit words e;
 })
 
-rules_makes : Makes of_rules
-rules_makes words e = inl (record { task = Rules; rows = rows_after rules_rules [] words; command = refl; has = tt })
+-- words of `rules` without a fault give an order
+Makes-rules : Makes of_rules
+Makes-rules words e = inl (record { task = Rules; rows = rows_after rules_rules [] words; command = refl; has = tt })
 
-faults_makes : Makes of_faults
-faults_makes words e = inl (record { task = Faults; rows = rows_after faults_rules [] words; command = refl; has = tt })
+-- words of `faults` without a fault give an order
+Makes-faults : Makes of_faults
+Makes-faults words e = inl (record { task = Faults; rows = rows_after faults_rules [] words; command = refl; has = tt })
 
-variables_makes : Makes of_variables
-variables_makes words e = inl (record {
+-- words of `variables` without a fault give an order
+Makes-variables : Makes of_variables
+Makes-variables words e = inl (record {
   task = Variables;
   rows = rows_after variables_rules [] words;
   command = refl;
-  has = variables_has words e;
+  has = HasName-variables words e;
 })
 
-bind_makes : Makes of_bind
-bind_makes words e = inl (record {
+-- words of `bind` without a fault give an order
+Makes-bind : Makes of_bind
+Makes-bind words e = inl (record {
   task = Bind;
   rows = rows_after bind_rules [] words;
   command = refl;
-  has = bind_has
+  has = HasBind-bind
       words e;
 })
 
-explain_makes : Makes of_explain
-explain_makes words e = inl (record {
+-- words of `explain` without a fault give an order
+Makes-explain : Makes of_explain
+Makes-explain words e = inl (record {
   task = Explain;
   rows = rows_after explain_rules [] words;
   command = refl;
   has
-      = explain_has words e;
+      = HasSkewAndNames-explain words e;
 })
 
-annotate_makes : Makes of_annotate
-annotate_makes words e = inl (record {
+-- words of `annotate` without a fault give an order
+Makes-annotate : Makes of_annotate
+Makes-annotate words e = inl (record {
   task = Annotate;
   rows = rows_after annotate_rules [] words;
   command = refl;
-  has = annotate_has words e;
+  has = HasSkewAndNames-annotate words e;
 })
 
-part_makes : Makes of_part
-part_makes words e = inl (record {
+-- words of `part` without a fault give an order
+Makes-part : Makes of_part
+Makes-part words e = inl (record {
   task = Part;
   rows = rows_after part_rules [] words;
   command = refl;
   has
-      = part_has words e;
+      = HasPart-part words e;
 })
 
-join_makes : Makes of_join
-join_makes words e = inl (record { task = Join; rows = rows_after join_rules [] words; command = refl; has = tt })
+-- words of `join` without a fault give an order
+Makes-join : Makes of_join
+Makes-join words e = inl (record { task = Join; rows = rows_after join_rules [] words; command = refl; has = tt })
 
-tell_makes : Makes of_tell
-tell_makes words e = inl (record {
+-- words of `tell` without a fault give an order
+Makes-tell : Makes of_tell
+Makes-tell words e = inl (record {
   task = Tell;
   rows = rows_after tell_rules [] words;
   command = refl;
   has
-      = tell_has words e;
+      = MayHaveUnsignedFrom-tell words e;
 })
 
-help_makes : Makes (built_leaf help_shape)
-help_makes words e = inr refl
+-- the subcommand `help` is the one that gives none
+Makes-help : Makes (built_leaf help_shape)
+Makes-help words e = inr refl
 
 -- words in which clap finds no fault by the program's command have all that an order needs
-pub words_have_order : (words : List Text) → fault_of vmecheck_app words ≡ []
+pub HasOrder-words : (words : List Text) → fault_of vmecheck_app words ≡ []
     → HasOrder (subcommand_of vmecheck_app words)
-words_have_order words e = order_of_app (built vmecheck_app) (drop 1 words) (
-  check_makes,
+HasOrder-words words e = HasOrder-of_app (built vmecheck_app) (drop 1 words) (
+  Makes-check,
   (
-    list_makes,
+    Makes-list,
     (
-      confirm_makes,
+      Makes-confirm,
       (
-        audit_makes,
+        Makes-audit,
         (
-          rules_makes,
+          Makes-rules,
           (
-            faults_makes,
+            Makes-faults,
             (
-              variables_makes,
+              Makes-variables,
               (
-                bind_makes,
-                (explain_makes, (annotate_makes, (part_makes, (join_makes, (tell_makes, (help_makes, tt)))))),
+                Makes-bind,
+                (Makes-explain, (Makes-annotate, (Makes-part, (Makes-join, (Makes-tell, (Makes-help, tt)))))),
               ),
             ),
           ),

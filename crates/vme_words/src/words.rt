@@ -120,7 +120,7 @@ fn order_to(alloc: Global, task: Task, found: &ArgMatches<'_>) -> Result<Option<
 }
 
 /// The order that the matches of `check` stand for, if they have all that it needs.
-#[tactic(auto, using(crate::proofs::OrderLemmas::is_order))]
+#[tactic(auto, using(crate::proofs::OrderLemmas::is_order_by_values))]
 fn check_order(alloc: Global, found: &ArgMatches<'_>) -> Result<Option<Order>, AllocError>
     ensures said { IfOk result (λ o. IfSome o (λ order. IsOrder order
         (Some (codes "check", rows_of (found_of found.now))))) }
@@ -136,7 +136,7 @@ fn check_order(alloc: Global, found: &ArgMatches<'_>) -> Result<Option<Order>, A
 }
 
 /// The order that the matches of `list` stand for, if they have all that it needs.
-#[tactic(auto, using(crate::proofs::OrderLemmas::is_order))]
+#[tactic(auto, using(crate::proofs::OrderLemmas::is_order_by_values))]
 fn list_order(alloc: Global, found: &ArgMatches<'_>) -> Result<Option<Order>, AllocError>
     ensures said { IfOk result (λ o. IfSome o (λ order. IsOrder order
         (Some (codes "list", rows_of (found_of found.now))))) }
@@ -156,7 +156,7 @@ fn list_order(alloc: Global, found: &ArgMatches<'_>) -> Result<Option<Order>, Al
 }
 
 /// The order that the matches of `confirm` stand for, if they have all that it needs.
-#[tactic(auto, using(crate::proofs::OrderLemmas::is_order))]
+#[tactic(auto, using(crate::proofs::OrderLemmas::is_order_by_values))]
 fn confirm_order(alloc: Global, found: &ArgMatches<'_>) -> Result<Option<Order>, AllocError>
     ensures said { IfOk result (λ o. IfSome o (λ order. IsOrder order
         (Some (codes "confirm", rows_of (found_of found.now))))) }
@@ -179,7 +179,7 @@ fn confirm_order(alloc: Global, found: &ArgMatches<'_>) -> Result<Option<Order>,
 }
 
 /// The order that the matches of `audit` stand for, if they have all that it needs.
-#[tactic(auto, using(crate::proofs::OrderLemmas::is_order))]
+#[tactic(auto, using(crate::proofs::OrderLemmas::is_order_by_values))]
 fn audit_order(alloc: Global, found: &ArgMatches<'_>) -> Result<Option<Order>, AllocError>
     ensures said { IfOk result (λ o. IfSome o (λ order. IsOrder order
         (Some (codes "audit", rows_of (found_of found.now))))) }
@@ -217,7 +217,7 @@ fn audit_order(alloc: Global, found: &ArgMatches<'_>) -> Result<Option<Order>, A
 }
 
 /// The order that the matches of `rules` stand for.
-#[tactic(auto, using(crate::proofs::OrderLemmas::is_order))]
+#[tactic(auto, using(crate::proofs::OrderLemmas::is_order_by_values))]
 fn rules_order(alloc: Global, found: &ArgMatches<'_>) -> Result<Option<Order>, AllocError>
     ensures said { IfOk result (λ o. IfSome o (λ order. IsOrder order
         (Some (codes "rules", rows_of (found_of found.now))))) }
@@ -228,7 +228,7 @@ fn rules_order(alloc: Global, found: &ArgMatches<'_>) -> Result<Option<Order>, A
 }
 
 /// The order that the matches of `faults` stand for.
-#[tactic(auto, using(crate::proofs::OrderLemmas::is_order))]
+#[tactic(auto, using(crate::proofs::OrderLemmas::is_order_by_values))]
 fn faults_order(alloc: Global, found: &ArgMatches<'_>) -> Result<Option<Order>, AllocError>
     ensures said { IfOk result (λ o. IfSome o (λ order. IsOrder order
         (Some (codes "faults", rows_of (found_of found.now))))) }
@@ -239,7 +239,7 @@ fn faults_order(alloc: Global, found: &ArgMatches<'_>) -> Result<Option<Order>, 
 }
 
 /// The order that the matches of `variables` stand for, if they name the dump.
-#[tactic(auto, using(crate::proofs::OrderLemmas::is_order))]
+#[tactic(auto, using(crate::proofs::OrderLemmas::is_order_by_values))]
 fn variables_order(alloc: Global, found: &ArgMatches<'_>) -> Result<Option<Order>, AllocError>
     ensures said { IfOk result (λ o. IfSome o (λ order. IsOrder order
         (Some (codes "variables", rows_of (found_of found.now))))) }
@@ -252,7 +252,7 @@ fn variables_order(alloc: Global, found: &ArgMatches<'_>) -> Result<Option<Order
 }
 
 /// The order that the matches of `bind` stand for, if they have all that it needs.
-#[tactic(auto, using(crate::proofs::OrderLemmas::is_order))]
+#[tactic(auto, using(crate::proofs::OrderLemmas::is_order_by_values))]
 fn bind_order(alloc: Global, found: &ArgMatches<'_>) -> Result<Option<Order>, AllocError>
     ensures said { IfOk result (λ o. IfSome o (λ order. IsOrder order
         (Some (codes "bind", rows_of (found_of found.now))))) }
@@ -269,7 +269,7 @@ fn bind_order(alloc: Global, found: &ArgMatches<'_>) -> Result<Option<Order>, Al
 }
 
 /// The order that the matches of `explain` stand for, if they have all that it needs.
-#[tactic(auto, using(crate::proofs::OrderLemmas::is_order))]
+#[tactic(auto, using(crate::proofs::OrderLemmas::is_order_by_values))]
 fn explain_order(alloc: Global, found: &ArgMatches<'_>) -> Result<Option<Order>, AllocError>
     ensures said { IfOk result (λ o. IfSome o (λ order. IsOrder order
         (Some (codes "explain", rows_of (found_of found.now))))) }
@@ -292,7 +292,7 @@ fn explain_order(alloc: Global, found: &ArgMatches<'_>) -> Result<Option<Order>,
 }
 
 /// The order that the matches of `annotate` stand for, if they have all that it needs.
-#[tactic(auto, using(crate::proofs::OrderLemmas::is_order))]
+#[tactic(auto, using(crate::proofs::OrderLemmas::is_order_by_values))]
 fn annotate_order(alloc: Global, found: &ArgMatches<'_>) -> Result<Option<Order>, AllocError>
     ensures said { IfOk result (λ o. IfSome o (λ order. IsOrder order
         (Some (codes "annotate", rows_of (found_of found.now))))) }
@@ -308,7 +308,7 @@ fn annotate_order(alloc: Global, found: &ArgMatches<'_>) -> Result<Option<Order>
 }
 
 /// The order that the matches of `part` stand for, if they have all that it needs.
-#[tactic(auto, using(crate::proofs::OrderLemmas::is_order))]
+#[tactic(auto, using(crate::proofs::OrderLemmas::is_order_by_values))]
 fn part_order(alloc: Global, found: &ArgMatches<'_>) -> Result<Option<Order>, AllocError>
     ensures said { IfOk result (λ o. IfSome o (λ order. IsOrder order
         (Some (codes "part", rows_of (found_of found.now))))) }
@@ -328,7 +328,7 @@ fn part_order(alloc: Global, found: &ArgMatches<'_>) -> Result<Option<Order>, Al
 }
 
 /// The order that the matches of `join` stand for.
-#[tactic(auto, using(crate::proofs::OrderLemmas::is_order))]
+#[tactic(auto, using(crate::proofs::OrderLemmas::is_order_by_values))]
 fn join_order(alloc: Global, found: &ArgMatches<'_>) -> Result<Option<Order>, AllocError>
     ensures said { IfOk result (λ o. IfSome o (λ order. IsOrder order
         (Some (codes "join", rows_of (found_of found.now))))) }
@@ -339,7 +339,7 @@ fn join_order(alloc: Global, found: &ArgMatches<'_>) -> Result<Option<Order>, Al
 }
 
 /// The order that the matches of `tell` stand for, if they have all that it needs.
-#[tactic(auto, using(crate::proofs::OrderLemmas::is_order))]
+#[tactic(auto, using(crate::proofs::OrderLemmas::is_order_by_values))]
 fn tell_order(alloc: Global, found: &ArgMatches<'_>) -> Result<Option<Order>, AllocError>
     ensures said { IfOk result (λ o. IfSome o (λ order. IsOrder order
         (Some (codes "tell", rows_of (found_of found.now))))) }

@@ -1,7 +1,7 @@
 use Rattle.std.proofs.Common.{◌≡◌, ◌∙◌, ℕ, Option, Some, None, ap, sym, arith}
 use Rattle.std.specs.Prelude.{unwrap_or}
 use Rattle.std.specs.Str.Parse.{ParsesUnsigned, ExplainsUnsignedError, HasUnsignedDigitsIfOk}
-use Rattle.vme_words.proofs.OrderLemmas.{number_read, number_there}
+use Rattle.vme_words.proofs.OrderLemmas.{number_in-read, HasSignedIn-read}
 use Rattle.vme_words.proofs.words.number.Goals as goal
 
 number_is : (r : Option ℕ) (n m : ℕ) → r ≡ Some n → r ≡ Some m → n ≡ m
@@ -14,13 +14,14 @@ none_is r n is none =
 
 pub returns-in-Some-clause-value : goal.returns-in-Some-clause-value
 returns-in-Some-clause-value c =
-    number_read _ (λ bs r. ParsesUnsigned 32 10 bs r × ExplainsUnsignedError 10 bs r × HasUnsignedDigitsIfOk bs r)
+    number_in-read _ (λ bs r. ParsesUnsigned 32 10 bs r × ExplainsUnsignedError 10 bs r × HasUnsignedDigitsIfOk bs r)
     c.args.found.now c.args.name.now
     c.in-Some.number c.get_one.result c.get_one.ensures.none c.get_one.ensures.value (λ t v h. h.0.1) c.in-Some.is
 
 pub returns-in_default-clause-found : goal.returns-in_default-clause-found
 returns-in_default-clause-found c has =
-    let got = number_there _ (λ bs r. ParsesUnsigned 32 10 bs r × ExplainsUnsignedError 10 bs r × HasUnsignedDigitsIfOk
+    let got = HasSignedIn-read _ (λ bs r. ParsesUnsigned 32 10 bs r × ExplainsUnsignedError 10 bs r
+    × HasUnsignedDigitsIfOk
     bs r) c.args.found.now c.args.name.now
     c.args.least c.args.greatest c.get_one.result has c.ranges.greatest.fits c.get_one.ensures.value (λ t x h. h.0) in
     let same = number_is c.get_one.result got.0 c.in-Some.number got.1 c.in-Some.is in
@@ -28,7 +29,8 @@ returns-in_default-clause-found c has =
 
 pub returns-in_default-2-clause-found : goal.returns-in_default-2-clause-found
 returns-in_default-2-clause-found c has =
-    let got = number_there _ (λ bs r. ParsesUnsigned 32 10 bs r × ExplainsUnsignedError 10 bs r × HasUnsignedDigitsIfOk
+    let got = HasSignedIn-read _ (λ bs r. ParsesUnsigned 32 10 bs r × ExplainsUnsignedError 10 bs r
+    × HasUnsignedDigitsIfOk
     bs r) c.args.found.now c.args.name.now
     c.args.least c.args.greatest c.get_one.result has c.ranges.greatest.fits c.get_one.ensures.value (λ t x h. h.0) in
     let same = number_is c.get_one.result got.0 c.in-Some.number got.1 c.in-Some.is in
@@ -36,7 +38,8 @@ returns-in_default-2-clause-found c has =
 
 pub returns-in_default-3-clause-found : goal.returns-in_default-3-clause-found
 returns-in_default-3-clause-found c has =
-    let got = number_there _ (λ bs r. ParsesUnsigned 32 10 bs r × ExplainsUnsignedError 10 bs r × HasUnsignedDigitsIfOk
+    let got = HasSignedIn-read _ (λ bs r. ParsesUnsigned 32 10 bs r × ExplainsUnsignedError 10 bs r
+    × HasUnsignedDigitsIfOk
     bs r) c.args.found.now c.args.name.now
     c.args.least c.args.greatest c.get_one.result has c.ranges.greatest.fits c.get_one.ensures.value (λ t x h. h.0) in
     absurd (none_is c.get_one.result got.0 got.1 c.in_default.is)

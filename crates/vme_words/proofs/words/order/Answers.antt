@@ -3,8 +3,8 @@ use Rattle.clap.specs.Words.{App, HasKind, fault_of, is_simple, is_simple_and_fr
 use Rattle.clap.proofs.OnLiterals.{clap_on_literals}
 use Rattle.vme_words.specs.Commands.{vmecheck_app}
 use Rattle.vme_words.specs.Orders.{HasOrder, IsOrder}
-use Rattle.vme_words.proofs.OrderLemmas.{passed_up}
-use Rattle.vme_words.proofs.TakenLemmas.{words_have_order}
+use Rattle.vme_words.proofs.OrderLemmas.{IsFaultOf-passed_up}
+use Rattle.vme_words.proofs.TakenLemmas.{HasOrder-words}
 use Rattle.vme_words.proofs.words.order.Goals as goal
 
 is_simple_app : is_simple_and_free vmecheck_app ≡ true
@@ -19,7 +19,7 @@ pub returns-in_err-matches-clause-faulty : goal.returns-in_err-matches-clause-fa
 returns-in_err-matches-clause-faulty c =
     let app = c.in_ok-vmecheck_command.ensures in
     let words = map string_bytes c.args.words.now in
-    passed_up c.from_residual-in_err-matches.result c.in_err-matches.field-0.0 words
+    IsFaultOf-passed_up c.from_residual-in_err-matches.result c.in_err-matches.field-0.0 words
     c.from_residual-in_err-matches.ensures.1
     (subst (λ (a : App). HasKind (fault_of a words) c.in_err-matches.field-0.0) app
     (c.in_err-matches.ensures.kinds (ap is_simple_and_free app ∙ is_simple_app)))
@@ -48,5 +48,5 @@ returns-clause-faulty c =
     (c.in_ok-matches.ensures.kinds (ap is_simple_and_free app ∙ is_simple_app)) in
     let met = (c.in_ok-matches.ensures.matches (ap is_simple app ∙ is_simple_only)).1
     ∙ ap (λ (a : App). subcommand_of a words) app in
-    let found = c.in_ok-order.ensures.found (subst HasOrder (sym met) (words_have_order words taken)) in
+    let found = c.in_ok-order.ensures.found (subst HasOrder (sym met) (HasOrder-words words taken)) in
     absurd (true≢false (sym found ∙ ap is_some c.in-None.is))
