@@ -2,5 +2,6 @@
 use Rattle.std.proofs.Common.{List, Option}
 use Rattle.vcd_read.specs.declared.dump.Bit.{Bit}
 
+-- for each net its value, or none
 abbrev pub CurrentValues : Type 0
 CurrentValues = List (Option (List Bit))

@@ -348,12 +348,14 @@ module _ {V : Type 0} (with_variable : V → Variable → V) where
     abbrev after_skipped : List Token → Reading
     after_skipped rest = header_of with_variable text d rest
 
+    -- a section `$var` that can't be read is a fault of the header
     pub var_stops : (fault : VcdFault) → Var ≡ opening_of t.bytes → ReadFails fault (section_from t.line ts)
         → ReadFails fault (header_of with_variable text d (t ∷ ts))
     var_stops fault e h = ReadFails-bind fault (header_of with_variable text d (t ∷ ts)) (section_from t.line ts)
         after_var
         (header_of-var text d t ts e) h
 
+    -- a section `$var` whose words declare no variable is a fault of the header
     pub var_refused : (fault : VcdFault) (words : List (List ℕ)) (rest : List Token) → Var ≡ opening_of t.bytes
         → section_from t.line ts ≡ Ok (record { words = words; rest = rest }) → ReadFails fault
         (at_line t.line (declare_var with_variable d words)) → ReadFails fault (header_of with_variable text d (t ∷ ts))
@@ -364,6 +366,7 @@ module _ {V : Type 0} (with_variable : V → Variable → V) where
         (bind-of_ok (header_of with_variable text d (t ∷ ts)) (section_from t.line ts) after_var
         (record { words = words; rest = rest }) (header_of-var text d t ts e) is) h
 
+    -- after a section `$var` that declares a variable, the header goes on with it
     pub var_continues : (words : List (List ℕ)) (rest : List Token) (next : Declared V) → Var ≡ opening_of t.bytes
         → section_from t.line ts ≡ Ok (record { words = words; rest = rest })
         → at_line t.line (declare_var with_variable d words) ≡ Ok next → header_of with_variable text d (t ∷ ts)
@@ -374,12 +377,14 @@ module _ {V : Type 0} (with_variable : V → Variable → V) where
         (bind-of_ok (header_of with_variable text d (t ∷ ts)) (section_from t.line ts) after_var
         (record { words = words; rest = rest }) (header_of-var text d t ts e) is) h
 
+    -- a section `$scope` that can't be read is a fault of the header
     pub scope_stops : (fault : VcdFault) → Scope ≡ opening_of t.bytes → ReadFails fault (section_from t.line ts)
         → ReadFails fault (header_of with_variable text d (t ∷ ts))
     scope_stops fault e h = ReadFails-bind fault (header_of with_variable text d (t ∷ ts)) (section_from t.line ts)
         after_scope
         (header_of-scope text d t ts e) h
 
+    -- after a section `$scope` the header goes on in this scope
     pub scope_continues : (words : List (List ℕ)) (rest : List Token) → Scope ≡ opening_of t.bytes
         → section_from t.line ts ≡ Ok (record { words = words; rest = rest })
         → header_of with_variable text d (t ∷ ts) ≡ header_of with_variable text (open_scope d words) rest
@@ -387,11 +392,13 @@ module _ {V : Type 0} (with_variable : V → Variable → V) where
         bind-of_ok (header_of with_variable text d (t ∷ ts)) (section_from t.line ts) after_scope
         (record { words = words; rest = rest }) (header_of-scope text d t ts e) is
 
+    -- a section `$upscope` that can't be read is a fault of the header
     pub upscope_stops : (fault : VcdFault) → Upscope ≡ opening_of t.bytes → ReadFails fault (after_section t.line ts)
         → ReadFails fault (header_of with_variable text d (t ∷ ts))
     upscope_stops fault e h = ReadFails-bind fault (header_of with_variable text d (t ∷ ts)) (after_section t.line ts)
         after_upscope (header_of-upscope text d t ts e) h
 
+    -- a section `$upscope` where no scope is open is a fault of the header
     pub upscope_refused : (rest : List Token) → Upscope ≡ opening_of t.bytes → after_section t.line ts ≡ Ok rest
         → d.scopes ≡ [] → header_of with_variable text d (t ∷ ts)
         ≡ Err (record { line = t.line; kind = ScopeUnderflow })
@@ -401,6 +408,7 @@ module _ {V : Type 0} (with_variable : V → Variable → V) where
         ∙ ap (λ (scopes : List (List ℕ)). at_line t.line (close_scope d scopes) >>= λ next. header_of with_variable text
         next rest) none
 
+    -- after a section `$upscope` the header goes on without the innermost scope
     pub upscope_continues : (rest : List Token) (name : List ℕ) (scopes : List (List ℕ)) → Upscope ≡ opening_of t.bytes
         → after_section t.line ts ≡ Ok rest → d.scopes ≡ name ∷ scopes → header_of with_variable text d (t ∷ ts)
         ≡ header_of with_variable text (record d { scopes = scopes }) rest
@@ -410,23 +418,27 @@ module _ {V : Type 0} (with_variable : V → Variable → V) where
         ∙ ap (λ (scopes : List (List ℕ)). at_line t.line (close_scope d scopes) >>= λ next. header_of with_variable text
         next rest) some
 
+    -- a section `$enddefinitions` that can't be read is a fault of the header
     pub end_stops : (fault : VcdFault) → EndDefinitions ≡ opening_of t.bytes → ReadFails fault
         (after_section t.line ts) → ReadFails fault (header_of with_variable text d (t ∷ ts))
     end_stops fault e h = ReadFails-bind fault (header_of with_variable text d (t ∷ ts)) (after_section t.line ts)
         after_end
         (header_of-enddefinitions text d t ts e) h
 
+    -- after a section `$enddefinitions` the tokens are the body
     pub end_continues : (rest : List Token) → EndDefinitions ≡ opening_of t.bytes → after_section t.line ts ≡ Ok rest
         → header_of with_variable text d (t ∷ ts) ≡ Ok (headed d rest)
     end_continues rest e is = bind-of_ok (header_of with_variable text d (t ∷ ts)) (after_section t.line ts) after_end
         rest
         (header_of-enddefinitions text d t ts e) is
 
+    -- a section of another kind that can't be read is a fault of the header
     pub skipped_stops : (fault : VcdFault) → Skipped ≡ opening_of t.bytes → ReadFails fault (after_section t.line ts)
         → ReadFails fault (header_of with_variable text d (t ∷ ts))
     skipped_stops fault e h = ReadFails-bind fault (header_of with_variable text d (t ∷ ts)) (after_section t.line ts)
         after_skipped (header_of-skipped text d t ts e) h
 
+    -- after a section of another kind the header goes on as before
     pub skipped_continues : (rest : List Token) → Skipped ≡ opening_of t.bytes → after_section t.line ts ≡ Ok rest
         → header_of with_variable text d (t ∷ ts) ≡ header_of with_variable text d rest
     skipped_continues rest e is =

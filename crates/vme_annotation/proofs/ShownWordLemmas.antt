@@ -99,6 +99,7 @@ is_space-digit_text : (moved : Bool) (digit flag : ℕ) → not (is_space (digit
 is_space-digit_text false digit flag = refl
 is_space-digit_text true digit flag = go (eqb flag 1)
   where
+    -- whether the digit is unknown (`test`) or not
     go : (test : Bool) → not (is_space (cond test 88 (digit_glyph true digit))) ≡ true
     go true = refl
     go false = is_space-from_48 (digit_glyph true digit) (digit_glyph-from_48 true digit)
@@ -331,6 +332,7 @@ are_words-each_instant (c ∷ changes) each =
     rest : (instant : ℕ) → are_words (at instant changes) ≡ true
     rest instant = go (eqb c.instant instant) (each instant)
       where
+        -- whether the first change is at the instant or not
         go : (test : Bool) → are_words (cond test (c ∷ at instant changes) (at instant changes)) ≡ true
             → are_words (at instant changes) ≡ true
         go true words = (and_parts (shows_word c) (are_words (at instant changes)) words).1

@@ -129,6 +129,7 @@ module _ (code : List ℕ) where
       nets_in (Err kind) = None
   net_for-other_code nets other size (Some net) joined is differs lacks e = by_size (eqb (size_of nets net) size) e
     where
+      -- the net of the code after that, if there is no fault
       nets_in : Result JoinedNets FaultKind → Option ℕ
       nets_in (Ok j) = net_of j.nets code
       nets_in (Err kind) = None

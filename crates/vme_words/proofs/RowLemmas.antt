@@ -75,6 +75,7 @@ AllGood-at_row c id change missing [] step m h = m
 AllGood-at_row c id change missing (r ∷ rs) step m h = go (bytes_eq r.id id) refl
     (AllGood-at_row c id change missing rs step m h.1)
   where
+    -- whether the first row is that of the argument or not
     go : (t : Bool) → bytes_eq r.id id ≡ t → AllGood c (at_row id change missing rs)
         → AllGood c (if t then change r ++ rs else r ∷ at_row id change missing rs)
     go true e rest = AllGood-append c (change r) rs (step r e h.0) h.1
@@ -169,6 +170,7 @@ Known-found : (c xs : List Rule) (p : Rule → Bool) (a : Rule) → EachKnown c 
 Known-found c [] p a known e = cc
 Known-found c (x ∷ xs) p a known e = go (p x) e (λ f. Known-found c xs p a known.1 f)
   where
+    -- whether the first argument passes `p` or not
     go : (t : Bool) → cond t (Some x) (find p xs) ≡ Some a → (find p xs ≡ Some a → Known c a) → Known c a
     go true e rest = subst (Known c) (some-same_rule x a e) known.0
     go false e rest = rest e
@@ -183,6 +185,7 @@ list_all-accepts i p (v ∷ vs) e = go (accepts i p v) refl
     (list_all-accepts i p vs (or_else-none (value_kinds i p v) (values_kinds i p vs) e).1)
     (or_else-none (value_kinds i p v) (values_kinds i p vs) e).0
   where
+    -- whether the first text passes the parser or not
     go : (t : Bool) → accepts i p v ≡ t → list_all (accepts i p) vs ≡ true → value_kinds i p v ≡ []
         → (accepts i p v && list_all (accepts i p) vs) ≡ true
     go true is rest f = rw is rest
@@ -242,6 +245,7 @@ module _ (c : List Rule) (again : Bool) (known : EachKnown c c) where
   AllGood-settled_rows None rows e h = h
   AllGood-settled_rows (Some p) rows e h = go (arg_by_id c p.0) refl e
     where
+      -- whether the pending name is that of an argument or not
       go : (o : Option Rule) → arg_by_id c p.0 ≡ o → option_map_or (λ (a : Rule). use_fault again a p.1 rows) o [] ≡ []
           → AllGood c (used_by_id o p.1 rows)
       go None is f = h
@@ -275,6 +279,7 @@ module _ (c : List Rule) (again : Bool) (known : EachKnown c c) where
   AllGood-long_met None name v h is e g = g
   AllGood-long_met (Some a) name v h is e g = go (takes_values a) refl
     where
+      -- whether the argument takes values or not
       go : (t : Bool) → takes_values a ≡ t → AllGood c (if t then option_met c a v h else flag_met c a v h).0.rows
       go true t = AllGood-option_met a v h (Known-found c c _ a known is) (rw t at e) g
       go false t = let f = rw t at e in AllGood-flag_met a v h (Known-found c c _ a known is) (λ none. rw none at f) g
@@ -287,6 +292,7 @@ module _ (c : List Rule) (again : Bool) (known : EachKnown c c) where
   AllGood-short_met None x rest h onward after is later e g = g
   AllGood-short_met (Some a) x rest h onward after is later e g = go (takes_values a) refl
     where
+      -- whether the argument takes values or not
       go : (t : Bool) → takes_values a ≡ t → AllGood c (if t then option_met c a (attached_value rest) h else onward
           (reacted c a [] h)).0.rows
       go true t = AllGood-option_met a (attached_value rest) h (Known-found c c _ a known is) (rw t at e) g
@@ -327,6 +333,7 @@ module _ (c : List Rule) (again : Bool) (known : EachKnown c c) where
   AllGood-plain_word idle word h g = g
   AllGood-plain_word (option id) word h g = go (arg_by_id c id)
     where
+      -- whether the name is that of an argument or not
       go : (o : Option Rule) → AllGood c (option_word o id word h).0.rows
       go None = g
       go (Some a) = g
@@ -350,6 +357,7 @@ module _ (c : List Rule) (again : Bool) (known : EachKnown c c) where
       (AllGood-long_met (arg_by_long c p.0) p.0 p.1 h refl e g)
   AllGood-long_or_other None waiting word h e g = go (short_of word) e
     where
+      -- whether the word has short names or not
       go : (o : Option Text) → option_map_or (λ (flags : Text). flags_fault c again (length flags) flags h.skip
           (record h { skip = 0 })) o [] ≡ []
           → AllGood c (short_or_plain c waiting word o h).0.rows
@@ -368,6 +376,7 @@ module _ (s : Shape) (known : EachKnown s.rules s.rules) where
   AllGood-subcommand_or_other (Some name) waiting position word h e g = g
   AllGood-subcommand_or_other None waiting position word h e g = go (bytes_eq word (45 ∷ 45 ∷ [])) refl
     where
+      -- whether the word is `--` or not
       go : (t : Bool) → bytes_eq word (45 ∷ 45 ∷ []) ≡ t
           → AllGood s.rules (if t then (h, trailing position) else long_or_other s.rules waiting word (long_of word)
           h).0.rows
@@ -391,6 +400,7 @@ module _ (s : Shape) (known : EachKnown s.rules s.rules) where
   AllGood-to_positional None w word h e g = g
   AllGood-to_positional (Some a) w word h e g = go (is_pending a h.pending && takes_several a) refl
     where
+      -- whether the argument is pending and takes several values, or not
       go : (t : Bool) → (is_pending a h.pending && takes_several a) ≡ t → AllGood s.rules
           (if t then h else settled s.rules h).rows
       go true is = g
@@ -447,6 +457,7 @@ AllGood-with_default : (c : List Rule) (a : Rule) (rows : List Row) → Known c 
     → AllGood c (with_default rows a)
 AllGood-with_default c a rows k g = go (has_row a.id rows)
   where
+    -- whether the argument has a row already or not
     go : (t : Bool) → AllGood c (if t then rows else default_rows a.id (reading_by a) a.defaults rows)
     go true = g
     go false = AllGood-default_rows c a a.defaults rows k k.defaults g
@@ -485,6 +496,7 @@ Good-found : (c : List Rule) (rows : List Row) (id : Text) (r : Row) → AllGood
 Good-found c [] id r g e = cc
 Good-found c (x ∷ xs) id r g e = go (bytes_eq x.id id) refl e (λ f. Good-found c xs id r g.1 f)
   where
+    -- whether the first row is that of the argument or not
     go : (t : Bool) → bytes_eq x.id id ≡ t → cond t (Some x) (find (λ y. bytes_eq y.id id) xs) ≡ Some r
         → (find (λ y. bytes_eq y.id id) xs ≡ Some r → Good c r × (bytes_eq r.id id ≡ true)) → Good c r
         × (bytes_eq r.id id ≡ true)
@@ -509,6 +521,7 @@ pub first_of-given : (c : List Rule) (rows : List Row) (a : Rule) → AllGood c 
     → is_given a.id rows ≡ true → is_some (first_of a.id rows) ≡ true
 first_of-given c rows a g own given = go (find (λ r. bytes_eq r.id a.id) rows) refl
   where
+    -- whether a row is found or not
     go : (o : Option Row) → find (λ r. bytes_eq r.id a.id) rows ≡ o → is_some (first_of a.id rows) ≡ true
     go None e = let bad = rw e at given in cc
     go (Some r) e = rw e (slice_get-first r.values (IsGood-found c rows a r g own e).nonempty)
@@ -527,6 +540,7 @@ has_row-none : (rows : List Row) (id : Text) → find (λ r. bytes_eq r.id id) r
 has_row-none [] id e = refl
 has_row-none (r ∷ rs) id e = go (bytes_eq r.id id) refl (λ f. has_row-none rs id f)
   where
+    -- whether the first row is that of the argument or not
     go : (t : Bool) → bytes_eq r.id id ≡ t → (find (λ x. bytes_eq x.id id) rs ≡ None → has_row id rs ≡ false)
         → has_row id (r ∷ rs) ≡ false
     go true is rest = let bad = rw is at e in cc
@@ -538,6 +552,7 @@ pub one_of-accepted : (c : List Rule) (rows : List Row) (a : Rule) (p : ValuePar
     → (text : Text) × (one_of a.id rows ≡ Some (read_as (reading_of p) text)) × Accepts a.ignore_case p text
 one_of-accepted c rows a p g own parser has = go (find (λ r. bytes_eq r.id a.id) rows) refl
   where
+    -- whether a row is found or not
     go : (o : Option Row) → find (λ r. bytes_eq r.id a.id) rows ≡ o
         → (text : Text) × (one_of a.id rows ≡ Some (read_as (reading_of p) text)) × Accepts a.ignore_case p text
     go None e = absurd (true≢false (sym has ∙ has_row-none rows a.id e))
@@ -552,6 +567,7 @@ pub one_of-accepted_or_none : (c : List Rule) (rows : List Row) (a : Rule) (p : 
     ⊎ ((text : Text) × (one_of a.id rows ≡ Some (read_as (reading_of p) text)) × Accepts a.ignore_case p text)
 one_of-accepted_or_none c rows a p g own parser = go (find (λ r. bytes_eq r.id a.id) rows) refl
   where
+    -- whether a row is found or not
     go : (o : Option Row) → find (λ r. bytes_eq r.id a.id) rows ≡ o → (first_of a.id rows ≡ None)
         ⊎ ((text : Text) × (one_of a.id rows ≡ Some (read_as (reading_of p) text)) × Accepts a.ignore_case p text)
     go None e = inl (rw e refl)
@@ -568,6 +584,7 @@ has_row-with_values id other how s values [] has = cc
 has_row-with_values id other how s values (r ∷ rs) has = go (bytes_eq r.id other) (bytes_eq r.id id) refl has
     (λ f. has_row-with_values id other how s values rs f)
   where
+    -- whether the first row is that of the argument or not, and takes the texts or not
     go : (t b : Bool) → bytes_eq r.id id ≡ b → (b || has_row id rs) ≡ true
         → (has_row id rs ≡ true → has_row id (with_values other how s values rs) ≡ true)
         → has_row id (if t then more_values s values r ++ rs else r ∷ with_values other how s values rs) ≡ true
@@ -582,6 +599,7 @@ has_row-with_own_values id how s values [] = rw ((bytes_eq-Decides id id).1 refl
 has_row-with_own_values id how s values (r ∷ rs) = go (bytes_eq r.id id) refl
     (has_row-with_own_values id how s values rs)
   where
+    -- whether the first row is that of the argument or not
     go : (t : Bool) → bytes_eq r.id id ≡ t → has_row id (with_values id how s values rs) ≡ true
         → has_row id (if t then more_values s values r ++ rs else r ∷ with_values id how s values rs) ≡ true
     go true is rest = rw is refl
@@ -593,6 +611,7 @@ has_row-with_default : (id : Text) (rows : List Row) (a : Rule) → has_row id r
     ≡ true
 has_row-with_default id rows a has = go (has_row a.id rows) a.defaults
   where
+    -- whether the other argument has a row already or not
     go : (t : Bool) (ds : List Text) → has_row id (if t then rows else default_rows a.id (reading_by a) ds rows) ≡ true
     go true ds = has
     go false [] = has
@@ -610,6 +629,7 @@ pub has_row-own_default : (rows : List Row) (a : Rule) (v : Text) (vs : List Tex
     → has_row a.id (with_default rows a) ≡ true
 has_row-own_default rows a v vs is = go (has_row a.id rows) refl
   where
+    -- whether the argument has a row already or not
     go : (t : Bool) → has_row a.id rows ≡ t → has_row a.id (if t then rows else default_rows a.id (reading_by a)
         a.defaults rows) ≡ true
     go true has = has
@@ -651,6 +671,7 @@ StepsNoHelp-long_or_other c waiting word (Some p) h = StepsNoHelp-after_flag c w
     (long_met c (arg_by_long c p.0) p.1 h).1
 StepsNoHelp-long_or_other c waiting word None h = go (short_of word)
   where
+    -- whether the word has short names or not
     go : (o : Option Text) → StepsNoHelp (short_or_plain c waiting word o h).1
     go None = StepsNoHelp-plain_word c waiting word h
     go (Some flags) = StepsNoHelp-after_flag c waiting word (bundle c flags h).0 (bundle c flags h).1
@@ -662,11 +683,13 @@ module _ (s : Shape) (names : Names) (helps : s.disable_help_subcommand ≡ fals
       ≡ [] → StepsNoHelp (subcommand_or_other s.rules o waiting position word h).1
   StepsNoHelp-subcommand_or_other (Some name) waiting position word h e = go (bytes_eq name (codes "help")) refl
     where
+      -- the name that is met isn't `help`, since that would be a fault
       go : (t : Bool) → bytes_eq name (codes "help") ≡ t → bytes_eq name (codes "help") ≡ false
       go true is = let bad = rw (is, helps) at e in cc
       go false is = is
   StepsNoHelp-subcommand_or_other None waiting position word h e = go (bytes_eq word (45 ∷ 45 ∷ []))
     where
+      -- whether the word is `--` or not
       go : (t : Bool) → StepsNoHelp (if t then (h, trailing position) else long_or_other s.rules waiting word
           (long_of word) h).1
       go true = tt

@@ -695,6 +695,7 @@ Makes-found : (xs : List Shape) (test : Shape → Bool) (s : Shape) → EachMake
 Makes-found [] test s makes e = cc
 Makes-found (x ∷ xs) test s makes e = go (test x) refl e (λ f. Makes-found xs test s makes.1 f)
   where
+    -- whether the first subcommand passes the test or not
     go : (t : Bool) → test x ≡ t → cond t (Some x) (find test xs) ≡ Some s → (find test xs ≡ Some s → Makes s
         × (test s ≡ true)) → Makes s × (test s ≡ true)
     go true is f rest = subst (λ (y : Shape). Makes y × (test y ≡ true)) (ap (λ (o : Option Shape). unwrap_or o x) f)
@@ -705,6 +706,7 @@ Makes-found (x ∷ xs) test s makes e = go (test x) refl e (λ f. Makes-found xs
 answers_to-help : (word : Text) → bytes_eq word (codes "help") ≡ false → answers_to word (codes "help", []) ≡ true → ⊥
 answers_to-help word not_it it = go (bytes_eq (codes "help") word) refl it
   where
+    -- whether the word is `help` or not
     go : (t : Bool) → bytes_eq (codes "help") word ≡ t → (t || false) ≡ true → ⊥
     go true is f = absurd
         (true≢false (sym ((bytes_eq-Decides word (codes "help")).1 (sym ((bytes_eq-Decides (codes "help") word).0 is)))
@@ -717,6 +719,7 @@ HasOrder-entered : (a : App) (stop : Option (Text × List Text)) → EachMakes a
 HasOrder-entered a None makes named e has = absurd (true≢false (sym has))
 HasOrder-entered a (Some p) makes named e has = go (find (λ s. answers_to p.0 (label_of s)) a.subs) refl
   where
+    -- whether the name is that of a subcommand or not
     go : (o : Option Shape) → find (λ s. answers_to p.0 (label_of s)) a.subs ≡ o
         → HasOrder (option_map (λ s. rows_at s p.1) o)
     go None is = let bad = rw is at has in cc
