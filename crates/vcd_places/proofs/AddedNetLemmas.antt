@@ -48,8 +48,8 @@ position-push p xs y =
     place_below-push (position_or_len p xs) (length xs) (position_or_len p (xs ++ y ∷ [])) (length (xs ++ y ∷ [])) (p y)
     (prefix_len-le-length (λ x. not (p x)) xs) (length_push xs y) (position_or_len_push p xs y)
 
--- of the place before, if there is one, and the new one, if its test holds, the new one counts, if only one of them is
--- there
+-- what was found before, or else the new place if `c` holds, is the new place if `c` holds, or else what was found
+-- before: `c` holds only where nothing was found
 new_or_before : (b c : Bool) (k n : ℕ) (o before : Option ℕ) → before ≡ cond b (Some k) None → o
     ≡ cond b before (cond c (Some n) None) → (c ≡ true → before ≡ None) → o ≡ cond c (Some n) before
 new_or_before true true k n o before e is h = absurd (none-some k (sym (h refl) ∙ e))

@@ -146,8 +146,9 @@ module _ (more : List Token) where
         | true ↦ record { items = []; body = Some ts }
         | false ↦ with_item (whole section) (header_from between ts)
       ]).items (header_from between more)
-  SplitsHeader-section_end section ts true rest goes = absurd (true≢false goes.0)
-  SplitsHeader-section_end section ts false rest goes = ap (with_item (whole section)) (rest goes)
+  SplitsHeader-section_end section ts true rest between_sections = absurd (true≢false between_sections.0)
+  SplitsHeader-section_end section ts false rest between_sections = ap (with_item (whole section))
+      (rest between_sections)
 
   -- a token in a section, its end if `test` holds, splits the header so, if the tokens after it do
   SplitsHeader-inside : (section : Section) (t : Token) (ts : List Token) (test : Bool) → SplitsHeader between ts
@@ -173,9 +174,9 @@ module _ (more : List Token) where
         ]
         | false ↦ header_from (inside (with_word section t.bytes)) ts
       ]).items (header_from between more)
-  SplitsHeader-inside section t ts true rest goes_on goes = SplitsHeader-section_end section ts
-      (ends_definitions section) rest goes
-  SplitsHeader-inside section t ts false rest goes_on goes = goes_on goes
+  SplitsHeader-inside section t ts true rest goes_on between_sections = SplitsHeader-section_end section ts
+      (ends_definitions section) rest between_sections
+  SplitsHeader-inside section t ts false rest goes_on between_sections = goes_on between_sections
 
   -- a token between sections, which opens one if `test` holds, splits the header so, if the tokens after it do
   SplitsHeader-between : (t : Token) (ts : List Token) (test : Bool) → SplitsHeader between ts
@@ -192,20 +193,20 @@ module _ (more : List Token) where
         | true ↦ header_from (inside (opened t)) ts
         | false ↦ with_item (stray t.line) (header_from between ts)
       ]).items (header_from between more)
-  SplitsHeader-between t ts true rest goes_on goes = goes_on goes
-  SplitsHeader-between t ts false rest goes_on goes = ap (with_item (stray t.line)) (rest goes)
+  SplitsHeader-between t ts true rest goes_on between_sections = goes_on between_sections
+  SplitsHeader-between t ts false rest goes_on between_sections = ap (with_item (stray t.line)) (rest between_sections)
 
   -- all tokens split the header so, from each place on
   pub SplitsHeader-all : (ts : List Token) (place : HeaderPlace) → SplitsHeader place ts
   unfolding header_from
-  SplitsHeader-all [] between goes = refl
-  SplitsHeader-all [] (inside section) goes = absurd (true≢false goes.1)
-  SplitsHeader-all (t ∷ ts) between goes =
+  SplitsHeader-all [] between between_sections = refl
+  SplitsHeader-all [] (inside section) between_sections = absurd (true≢false between_sections.1)
+  SplitsHeader-all (t ∷ ts) between between_sections =
       SplitsHeader-between t ts (opens_section t.bytes) (SplitsHeader-all ts between)
-      (SplitsHeader-all ts (inside (opened t))) goes
-  SplitsHeader-all (t ∷ ts) (inside section) goes =
+      (SplitsHeader-all ts (inside (opened t))) between_sections
+  SplitsHeader-all (t ∷ ts) (inside section) between_sections =
       SplitsHeader-inside section t ts (is_end t.bytes) (SplitsHeader-all ts between)
-      (SplitsHeader-all ts (inside (with_word section t.bytes))) goes
+      (SplitsHeader-all ts (inside (with_word section t.bytes))) between_sections
 
 module _ (more : List Token) where
   -- `header` with the body `body ++ more`

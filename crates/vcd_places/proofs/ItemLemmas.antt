@@ -1,5 +1,5 @@
--- The tokens of one item of a body are taken: the place after them is between two items, and the times of the item are
--- taken.
+-- The tokens of one item of a body are taken: after them is a place between two items, and only the times after it are
+-- left.
 use Rattle.std.proofs.Common.{◌≡◌, ℕ, ◌^◌, ◌≤◌, Bool, true, false, cond, List, [], ◌∷◌, ◌++◌}
 use Rattle.std.proofs.Common.{Option, Some}
 use Rattle.std.proofs.Common.{None, Ok, Err, length, take, drop, refl, sym, ap, subst, ◌∙◌, append_assoc}

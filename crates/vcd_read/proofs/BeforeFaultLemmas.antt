@@ -102,7 +102,8 @@ Starts-state_before_fault nets s (item ∷ items) h = Starts-state_before_fault_
 
 -- ---- the current instant is the last
 
--- with the current instant `x`, if there is one, or else no instant at all, those that are done are all but the last
+-- the instants that are done are all but the last, which is `x` if there is an instant at the current time; if there is
+-- none, no instant is done
 done-all_but_last : (has_instant : Bool) (done : List Instant) (x : Instant) → (has_instant ≡ false → done ≡ [])
     → (rest : List Instant) × (cond has_instant (done ++ x ∷ []) done ≡ done ++ rest)
     × (length done ≡ length (cond has_instant (done ++ x ∷ []) done) - 1)

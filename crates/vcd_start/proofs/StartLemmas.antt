@@ -51,8 +51,8 @@ Follows-first_time nets body =
 first_time-followed : (r : Result (List Instant) VcdFault) (taken : Result (Option ℕ) VcdFault)
     (instants : List Instant)
     → r ≡ Ok instants → Follows (Ends HasFirst) r taken → taken ≡ Ok (first_time_of instants)
-first_time-followed (Ok own) taken instants is f =
-    let same : own ≡ instants = cc in
+first_time-followed (Ok read_result) taken instants is f =
+    let same : read_result ≡ instants = cc in
     f.1 ∙ ap (λ (s : Option ℕ). Ok s) (f.2.1 ∙ ap first_time_of same)
 first_time-followed (Err fault) taken instants is f = absurd (cc)
 
@@ -94,10 +94,10 @@ module _ (text : List ℕ) (ts : List Token) (same : tokens text ≡ ts) where
         → dump_of text ≡ Ok dump → fold_body first_time_kept first_time_or h.nets None h.body ≡ Ok (start_of dump)
     fold_body-start_of is dump whole =
         let (variables, found) = whole_header-variables (whole_header text) (sym header_of-whole_header ∙ is) in
-        let behind = dump_of-whole_header text (defined h variables) found in
+        let by_header = dump_of-whole_header text (defined h variables) found in
         first_time-followed (instants_from h.nets h.body) (fold_body first_time_kept first_time_or h.nets None h.body)
         dump.instants
-        (instants-of_dump variables dump (instants_from h.nets h.body) (sym behind ∙ whole))
+        (instants-of_dump variables dump (instants_from h.nets h.body) (sym by_header ∙ whole))
         (Follows-first_time h.nets h.body)
 
     -- if the first part of a reading fails with this kind of fault at this line, so does the whole
@@ -123,8 +123,8 @@ module _ (text : List ℕ) (ts : List Token) (same : tokens text ≡ ts) where
       → ReadFailsAs line kind (w >>= contents_of_header)
   ReadFailsAs-header line Memory w fails = fails
   ReadFailsAs-header line kind (Ok d) fails = absurd (cc)
-  ReadFailsAs-header line kind (Err own) fails =
-      let same_fault : own ≡ record { line = line; kind = kind } = cc in ap (λ (f : VcdFault). Err f) same_fault
+  ReadFailsAs-header line kind (Err read_result) fails =
+      let same_fault : read_result ≡ record { line = line; kind = kind } = cc in ap (λ (f : VcdFault). Err f) same_fault
 
   -- a fault of the header is a fault of the dump
   pub ReadFails-header : (fault : VcdFault) → ReadFails fault (header_of without_variables text (nothing_declared tt)
@@ -140,7 +140,7 @@ module _ (text : List ℕ) (ts : List Token) (same : tokens text ≡ ts) where
       → (w >>= λ (d : Defined (List Variable)). Ok (taken_head without_variables tt d)) ≡ Err fault
       → (w >>= contents_of_header) ≡ Ok dump → ⊥
   header-not_faulty fault dump (Ok d) fails whole = absurd (cc)
-  header-not_faulty fault dump (Err own) fails whole = absurd (cc)
+  header-not_faulty fault dump (Err read_result) fails whole = absurd (cc)
 
   -- a text whose header has a fault is no dump
   pub dump_of-faulty_header : (fault : VcdFault) → header_of without_variables text (nothing_declared tt) ts ≡ Err fault

@@ -103,11 +103,11 @@ WritesAnswer-defined : (text dump : List ℕ) (found defined : Result Trace Refu
     → Ends (annotation_answer_by text found) out err status → AnswerGives (λ (t : Trace). t) found defined
     → IsAnnotationOf (Some dump) found text → out.1.failures ≡ out.0.failures → (status ≡ 4 → ⊥)
     → IsAnnotationOf (Some dump) defined text × WritesAnswer (annotation_answer_by text defined) out err status
-WritesAnswer-defined text dump found defined out err status (inl told) given annotation same memory =
+WritesAnswer-defined text dump found defined out err status (inl is_written) given annotation same memory =
     let is : found ≡ defined =
-    found-is_defined text found defined given (λ is_memory. memory (told.status_is ∙ is_memory)) in (
+    found-is_defined text found defined given (λ is_memory. memory (is_written.status_is ∙ is_memory)) in (
       subst (λ (r : Result Trace Refusal). IsAnnotationOf (Some dump) r text) is annotation,
-      subst (λ (r : Result Trace Refusal). WritesAnswer (annotation_answer_by text r) out err status) is told,
+      subst (λ (r : Result Trace Refusal). WritesAnswer (annotation_answer_by text r) out err status) is is_written,
     )
 WritesAnswer-defined text dump found defined out err status (inr failed) given annotation same memory =
     absurd (eq-not_suc out.1.failures out.0.failures same failed.out_is.1)
@@ -124,20 +124,21 @@ module _ (skew : ℕ) (binding dump : Reading × Reading) (out err : Writing × 
   pub Annotates-exact : Annotates skew binding dump out err status → (b d : List ℕ)
       → IsReadWhole binding.0 binding.1 b → IsReadWhole dump.0 dump.1 d → out.1.failures ≡ out.0.failures
       → (status ≡ 4 → ⊥) → TellsAnnotation skew b d out err status
-  Annotates-exact does b d told_b told_d same memory =
+  Annotates-exact does b d binding_whole dump_whole same memory =
       let (binding_bytes, dump_bytes, found, text, binding_read, dump_read, given, annotation, end) = does in
-      let b_is : binding_bytes ≡ Some b = IsReading-whole binding.0 binding.1 binding_bytes b binding_read told_b in
-      let d_is : dump_bytes ≡ Some d = IsReading-whole dump.0 dump.1 dump_bytes d dump_read told_d in
+      let b_is : binding_bytes ≡ Some b = IsReading-whole binding.0 binding.1 binding_bytes b binding_read binding_whole in
+      let d_is : dump_bytes ≡ Some d = IsReading-whole dump.0 dump.1 dump_bytes d dump_read dump_whole in
       let with_b = subst (λ (x : Option (List ℕ)).
       AnswerGives (λ (t : Trace). t) found (settled_recording skew x dump_bytes BLOCK)) b_is given in
       let with_d = subst (λ (x : Option (List ℕ)).
       AnswerGives (λ (t : Trace). t) found (settled_recording skew (Some b) x BLOCK)) d_is with_b in
       let whole = subst (λ (x : Option (List ℕ)). IsAnnotationOf x found text) d_is annotation in
-      let (told, tells) = WritesAnswer-defined text d found (settled_recording skew (Some b) (Some d) BLOCK) out err
+      let (is_written, tells) = WritesAnswer-defined text d found (settled_recording skew (Some b) (Some d) BLOCK) out
+      err
       status
       end
       with_d whole same memory in
-      (text, told, tells)
+      (text, is_written, tells)
 
 -- Let `d` be a dump that is prepared for the recording `t`, and `put` its changes, each where the dump comes to its
 -- time. Then `annotated ..` is that dump, annotated with `t`.

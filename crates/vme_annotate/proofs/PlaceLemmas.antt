@@ -117,7 +117,7 @@ module _ (dump : List ℕ) (found : TimedListingValue) (changes : List PlannedCh
     (put : List PutChange) (old new : WritingPlace) (so_far : IsPutSoFar dump found changes start done put old)
     (c : PlannedChange) (some : done < length changes) (is : (d : PlannedChange) → get_or changes done d ≡ c) (time : ℕ)
     (time_is : time ≡ get_or found.times (max c.instant 1 - 1) 0) (forward : old.count ≤ new.count)
-    (goes : (asked : ℕ) → IsWrittenTo dump asked asked old → asked ≤ time → IsReached dump time
+    (reaches_time : (asked : ℕ) → IsWrittenTo dump asked asked old → asked ≤ time → IsReached dump time
     → IsAscendingFrom 0 (times_of_body dump) → IsWrittenTo dump time time new) where
   -- the change `c` at its place
   abbrev pub one_more : PutChange
@@ -140,7 +140,7 @@ module _ (dump : List ℕ) (found : TimedListingValue) (changes : List PlannedCh
         omega (arith, before.ahead done c (omega arith) some, ap (shown_time t) here, time-shown_time) in
         let reached : IsReached dump time = subst (IsReached dump) (sym time-shown_time) (has.reached (max c.instant 1))
         in
-        let written = goes before.asked before.written le reached has.sorted in
+        let written = reaches_time before.asked before.written le reached has.sorted in
         record {
           placed = ArePutAt-push dump t start put one_more before.placed
               (ArePlacedTo-later_end start put old.count new.count so_far.to forward)
@@ -174,9 +174,9 @@ pub IsPutSoFar-next : (dump : List ℕ) (found : TimedListingValue) (changes : L
     → IsAscendingFrom 0 (times_of_body dump) → IsWrittenTo dump time time new)
     → IsPutSoFar dump found changes start (done + 1)
     (put ++ record { place = new.count; change = planned found.listing.rows (get_or changes done d) } ∷ []) new
-IsPutSoFar-next dump found changes start done put old new so_far d some time time_is forward goes =
+IsPutSoFar-next dump found changes start done put old new so_far d some time time_is forward reaches_time =
     IsPutSoFar-one_more dump found changes start done put old new so_far (get_or changes done d) some
-    (λ (e : PlannedChange). get_or_default changes done e d some) time time_is forward goes
+    (λ (e : PlannedChange). get_or_default changes done e d some) time time_is forward reaches_time
 
 -- the bytes up to the change with the index `done`, and that change, are written
 pub HasPut-next : (dump scope : List ℕ) (own : List (List ℕ)) (found : TimedListingValue)
@@ -191,12 +191,13 @@ pub HasPut-next : (dump scope : List ℕ) (own : List (List ℕ)) (found : Timed
     ++ change_text own (planned found.listing.rows (get_or changes done d)))
     → (more : List PutChange) × IsPutSoFar dump found changes start (done + 1) more new
     × HasPut sink now b (written_front dump scope own start more new.count)
-HasPut-next dump scope own found changes start done put old new so_far d some time time_is forward goes sink now b
+HasPut-next dump scope own found changes start done put old new so_far d some time time_is forward reaches_time sink now
+    b
     text =
     let one : PutChange =
     record { place = new.count; change = planned found.listing.rows (get_or changes done d) } in (
       put ++ one ∷ [],
-      IsPutSoFar-next dump found changes start done put old new so_far d some time time_is forward goes,
+      IsPutSoFar-next dump found changes start done put old new so_far d some time time_is forward reaches_time,
       subst (λ (l : List ℕ). HasPut sink now b l)
           (ap (λ (l : List ℕ). l ++ change_text own one.change)
           (written_front-bytes dump scope own start put old.count new.count so_far.to forward)

@@ -99,7 +99,7 @@ is_space-digit_text : (moved : Bool) (digit flag : ℕ) → not (is_space (digit
 is_space-digit_text false digit flag = refl
 is_space-digit_text true digit flag = go (eqb flag 1)
   where
-    -- whether the digit is unknown (`test`) or not
+    -- whether X stands for the digit (`test`) or not
     go : (test : Bool) → not (is_space (cond test 88 (digit_glyph true digit))) ≡ true
     go true = refl
     go false = is_space-from_48 (digit_glyph true digit) (digit_glyph-from_48 true digit)

@@ -67,28 +67,30 @@ append-cancel_nil {A = A} (x ∷ xs) ys e = append-cancel_nil xs ys (ap rest e)
 
 -- ---- a text after `front`, which ends between two sections of the definitions
 
-module _ (front : List ℕ) (ends : ends_at_boundary front ≡ true) (goes : is_between_sections front ≡ true) where
-  -- the line that `front` ends on
-  abbrev line : ℕ
-  line = line_behind 1 front
+module _ (front : List ℕ) (ends : ends_at_boundary front ≡ true) (between_sections : is_between_sections front ≡ true)
+  where
+    -- the line that `front` ends on
+    abbrev line : ℕ
+    line = line_behind 1 front
 
-  -- the header of a text after `front`
-  abbrev header_after : List ℕ → Header
-  header_after rest = header_from between (tokens_from line rest)
+    -- the header of a text after `front`
+    abbrev header_after : List ℕ → Header
+    header_after rest = header_from between (tokens_from line rest)
 
-  -- the header of `front` has no body, and none of its items is unfinished
-  IsBetweenSections-front : IsBetweenSections (header_from between (tokens front))
-  IsBetweenSections-front =
-      let header : Header = header_from between (tokens front) in
-      let parts = and_parts (not (is_some header.body)) (not (list_any is_unfinished header.items)) goes in
-      (not-true (is_some header.body) parts.0, not-true (list_any is_unfinished header.items) parts.1)
+    -- the header of `front` has no body, and none of its items is unfinished
+    IsBetweenSections-front : IsBetweenSections (header_from between (tokens front))
+    IsBetweenSections-front =
+        let header : Header = header_from between (tokens front) in
+        let parts = and_parts (not (is_some header.body))
+        (not (list_any is_unfinished header.items)) between_sections in
+        (not-true (is_some header.body) parts.0, not-true (list_any is_unfinished header.items) parts.1)
 
-  -- the items of `front` followed by `rest` are those of `front` and then those of `rest`
-  pub header_from-front : (rest : List ℕ) → header_from between (tokens (front ++ rest))
-      ≡ after_items (items_of_text front) (header_after rest)
-  header_from-front rest =
-      ap (header_from between) (tokens_from-append_spaced front rest 1 ends)
-      ∙ SplitsHeader-all (tokens_from line rest) (tokens front) between IsBetweenSections-front
+    -- the items of `front` followed by `rest` are those of `front` and then those of `rest`
+    pub header_from-front : (rest : List ℕ) → header_from between (tokens (front ++ rest))
+        ≡ after_items (items_of_text front) (header_after rest)
+    header_from-front rest =
+        ap (header_from between) (tokens_from-append_spaced front rest 1 ends)
+        ∙ SplitsHeader-all (tokens_from line rest) (tokens front) between IsBetweenSections-front
 
 -- all items of a dump are before `start`, where the section that ends its definitions begins
 pub items_of_text-before_end : (dump : List ℕ) (start : ℕ) → ends_definitions_at dump start ≡ true → (body : List Token)

@@ -129,7 +129,7 @@ IsConfirmation-compared skew (Ok bound) (Ok contents) text given found memory ro
 -- if no write to `out` fails, the answer is written
 WritesAnswer-Ends : (answer : CommandAnswer) (out err : Writing × Writing) (status : ℕ) → Ends answer out err status
     → out.1.failures ≡ out.0.failures → WritesAnswer answer out err status
-WritesAnswer-Ends answer out err status (inl told) same = told
+WritesAnswer-Ends answer out err status (inl is_written) same = is_written
 WritesAnswer-Ends answer out err status (inr failed) same =
     absurd
     (eq-not_suc out.1.failures out.0.failures same failed.out_is.1)
@@ -142,7 +142,8 @@ pub Confirms-exact : (skew : ℕ) (binding dump listing : Reading × Reading) (o
     l
     → out.1.failures ≡ out.0.failures → (status ≡ 4 → ⊥)
     → TellsConfirmation skew b d l out err status
-Confirms-exact skew binding dump listing out err status confirms b d l told_b told_d told_l same memory =
+Confirms-exact skew binding dump listing out err status confirms b d l binding_whole dump_whole listing_whole same
+    memory =
     let (
       binding_bytes,
       dump_bytes,
@@ -156,22 +157,23 @@ Confirms-exact skew binding dump listing out err status confirms b d l told_b to
       answered,
       end,
     ) = confirms in
-    let told : WritesAnswer (confirmation_answer_by found) out err status =
+    let is_written : WritesAnswer (confirmation_answer_by found) out err status =
     WritesAnswer-Ends (confirmation_answer_by found) out err
     status end same in
     let none : (found ≡ Err Memory → ⊥) =
-    λ lacks. memory (told.status_is ∙ ap (λ (f : Result Confirmation Refusal). (confirmation_answer_by f).status) lacks)
+    λ lacks. memory (is_written.status_is ∙ ap (λ (f : Result Confirmation Refusal). (confirmation_answer_by f).status)
+    lacks)
     in
     let is = IsConfirmation-compared skew (binding_read binding_bytes) (dump_read dump_bytes)
     (listing_text listing_bytes) given
     found none rows answered in
-    let b_is : binding_bytes ≡ Some b = IsReading-whole binding.0 binding.1 binding_bytes b binding_reading told_b in
-    let d_is : dump_bytes ≡ Some d = IsReading-whole dump.0 dump.1 dump_bytes d dump_reading told_d in
-    let l_is : listing_bytes ≡ Some l = IsReading-whole listing.0 listing.1 listing_bytes l listing_reading told_l in
+    let b_is : binding_bytes ≡ Some b = IsReading-whole binding.0 binding.1 binding_bytes b binding_reading binding_whole in
+    let d_is : dump_bytes ≡ Some d = IsReading-whole dump.0 dump.1 dump_bytes d dump_reading dump_whole in
+    let l_is : listing_bytes ≡ Some l = IsReading-whole listing.0 listing.1 listing_bytes l listing_reading listing_whole in
     let with_b = subst (λ (x : Option (List ℕ)). IsConfirmation skew (binding_read x) (dump_read dump_bytes)
     (listing_text listing_bytes) found) b_is is in
     let with_d = subst (λ (x : Option (List ℕ)). IsConfirmation skew (binding_read (Some b)) (dump_read x)
     (listing_text listing_bytes) found) d_is with_b in
     let with_l = subst (λ (x : Option (List ℕ)). IsConfirmation skew (binding_read (Some b)) (dump_read (Some d))
     (listing_text x) found) l_is with_d in
-    (found, with_l, told)
+    (found, with_l, is_written)

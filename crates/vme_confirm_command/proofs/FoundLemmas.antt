@@ -69,10 +69,10 @@ IsAnswerToListing-whole old version now given over expected_rows found ends find
         → IsAnswerTo version expected_rows (Ok (listed version (given ++ more))) result
     by_expected (Ok expected) (Ok answer) finds more none is =
         (answer, is, refl, DecidesListing-so_far version expected given more over none answer finds)
-    by_expected (Err own) (Err fault) finds more none is =
+    by_expected (Err reported) (Err fault) finds more none is =
         is ∙ ap (λ (f : BindFault). Err (BadBinding f)) (sym finds)
     by_expected (Ok expected) (Err fault) finds more none is = absurd finds
-    by_expected (Err own) (Ok answer) finds more none is = absurd finds
+    by_expected (Err reported) (Ok answer) finds more none is = absurd finds
 
 -- a listing with a fault is refused for it
 pub IsAnswerToListing-faulty : (old : Reading) (version : Version) (now : Reading) (given : List Row) (over : Type 0)

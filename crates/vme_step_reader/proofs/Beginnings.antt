@@ -49,14 +49,14 @@ recording_of_text-definitions_fail b text fault is = ap (recording_read b) (dump
     by_bound_groups : {A : Type 0} (reading : A → TextReading) (r : Result A BindFault)
         → (or_binding r >>= λ x. Ok (reading x)) ≡ Err (Dump fault) → ⊥
     by_bound_groups reading (Ok x) e = cc
-    by_bound_groups reading (Err own) e = cc
+    by_bound_groups reading (Err reported) e = cc
 
     -- whatever reading the header gives
     by_header : (r : Result (Defined (List Variable)) VcdFault) → (or_dump r >>= reading_after b) ≡ Err (Dump fault)
         → recording_read b (r >>= contents_of_header) ≡ Err (Dump fault)
     by_header (Ok d) e = absurd (by_bound_groups (λ bound_groups. body_reading b.slots bound_groups d.head)
         (bound_groups_in d.variables b.assignments) e)
-    by_header (Err own) e = ap (λ (f : VcdFault). Err (Dump f)) (Dump-same own fault _ refl e)
+    by_header (Err reported) e = ap (λ (f : VcdFault). Err (Dump f)) (Dump-same reported fault _ refl e)
 
 -- no result is a fault of the dump and a value
 pub Err-not_Ok : {X : Type 0} (fault : VcdFault) (x : X) (r : Result X CaptureFault) → r ≡ Err (Dump fault) → r ≡ Ok x
@@ -65,16 +65,16 @@ Err-not_Ok fault x r e h = cc
 
 -- if two results have the same fault of the dump, an error that reports the fault of the first reports that of the
 -- second
-pub CaptureFailsBy-same_fault : {X Y : Type 0} (own : CaptureFault) (fault : VcdFault) (a : Result X CaptureFault)
-    (b : Result Y CaptureFault) → a ≡ Err (Dump fault) → b ≡ Err (Dump fault) → CaptureFailsBy own a
-    → CaptureFailsBy own b
-CaptureFailsBy-same_fault (Dump own) fault a b ea eb fails = by_kind own.line own.kind fails
+pub CaptureFailsBy-same_fault : {X Y : Type 0} (reported : CaptureFault) (fault : VcdFault) (a : Result X CaptureFault)
+    (b : Result Y CaptureFault) → a ≡ Err (Dump fault) → b ≡ Err (Dump fault) → CaptureFailsBy reported a
+    → CaptureFailsBy reported b
+CaptureFailsBy-same_fault (Dump reported) fault a b ea eb fails = by_kind reported.line reported.kind fails
   where
     -- a fault of the dump of any kind
     by_kind : (line : ℕ) (kind : FaultKind) → DumpFails line kind a → DumpFails line kind b
     by_kind line Memory fails = fails
     by_kind line kind fails = eb ∙ ap (λ (f : VcdFault). Err (Dump f)) (Dump-same _ _ a ea fails)
-CaptureFailsBy-same_fault (Binding own) fault a b ea eb fails = by_kind own.line own.kind fails
+CaptureFailsBy-same_fault (Binding reported) fault a b ea eb fails = by_kind reported.line reported.kind fails
   where
     -- a fault of the binding of any kind
     by_kind : (line : ℕ) (kind : BindFaultKind) → BindingFails line kind a → BindingFails line kind b

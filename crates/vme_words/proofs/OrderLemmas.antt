@@ -112,13 +112,14 @@ Usage-same a b is = ap (error_in a) is
 -- a fault that comes of an error of the parse of `words` is a fault of `words`
 IsFaultOf-ComesOf : (words : List Text) (error : Error) (fault : OrderFault) → ComesOf error fault
     → HasKind (fault_of vmecheck_app words) error → IsFaultOf words fault
-IsFaultOf-ComesOf words error (Usage told) comes (inl none) =
-    let bad : Usage told ≡ no_memory = comes.memory none in
+IsFaultOf-ComesOf words error (Usage usage_error) comes (inl none) =
+    let bad : Usage usage_error ≡ no_memory = comes.memory none in
     cc
-IsFaultOf-ComesOf words error (Usage told) comes (inr among) =
-    let is : Usage told ≡ Usage error = comes.usage (λ none. let bad : Usage told ≡ no_memory = comes.memory none in
+IsFaultOf-ComesOf words error (Usage usage_error) comes (inr among) =
+    let is : Usage usage_error ≡ Usage error = comes.usage (λ none. let bad : Usage usage_error
+    ≡ no_memory = comes.memory none in
     cc) in
-    let same : told ≡ error = Usage-same told error is in
+    let same : usage_error ≡ error = Usage-same usage_error error is in
     subst (λ (e : Error). IsAmong (kind_of e) (fault_of vmecheck_app words)) (sym same) among
 IsFaultOf-ComesOf words error no_memory comes has = tt
 

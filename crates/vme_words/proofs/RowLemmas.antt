@@ -111,9 +111,9 @@ row_with a s values = record { id = a.id; values = values; count = None; source 
 Good-row_with : (c : List Rule) (a : Rule) (s : ValueSource) (values : List Text) → arg_by_id c a.id ≡ Some a
     → 0 < length values → values_pass a values ≡ true
     → Good c (row_with a s values)
-Good-row_with c a s values own some passes b found =
+Good-row_with c a s values is_by_id some passes b found =
     let good : IsGood a (row_with a s values) = record { nonempty = some; passes = passes; reading = refl } in
-    subst (λ (x : Rule). IsGood x (row_with a s values)) (some-same_rule a b (sym own ∙ found)) good
+    subst (λ (x : Rule). IsGood x (row_with a s values)) (some-same_rule a b (sym is_by_id ∙ found)) good
 
 -- a good row with more texts that pass the parser is good
 Good-more_values : (c : List Rule) (a : Rule) (s : ValueSource) (values : List Text) (r changed : Row) → changed.id
@@ -121,10 +121,10 @@ Good-more_values : (c : List Rule) (a : Rule) (s : ValueSource) (values : List T
     → changed.values ≡ r.values ++ values → changed.reading ≡ r.reading
     → arg_by_id c a.id ≡ Some a → 0 < length values → values_pass a values ≡ true → bytes_eq r.id a.id ≡ true → Good c r
     → Good c changed
-Good-more_values c a s values r changed id texts reading own some passes e g b found =
+Good-more_values c a s values r changed id texts reading is_by_id some passes e g b found =
     let here : arg_by_id c r.id ≡ Some b = ap (arg_by_id c) (sym id) ∙ found in
     let same : r.id ≡ a.id = (bytes_eq-Decides r.id a.id).0 e in
-    let is : a ≡ b = some-same_rule a b (sym own ∙ (ap (arg_by_id c) (sym same) ∙ here)) in
+    let is : a ≡ b = some-same_rule a b (sym is_by_id ∙ (ap (arg_by_id c) (sym same) ∙ here)) in
     let old = g b here in
     let all : values_pass b (r.values ++ values) ≡ true = list_all-both _ r.values values old.passes
     (subst (λ (x : Rule). values_pass x values ≡ true) is passes) in
@@ -139,10 +139,10 @@ AllGood-with_values : (c : List Rule) (a : Rule) (s : ValueSource) (values : Lis
     → arg_by_id c a.id
     ≡ Some a → 0 < length values
     → values_pass a values ≡ true → AllGood c rows → AllGood c (with_values a.id (reading_by a) s values rows)
-AllGood-with_values c a s values rows own some passes h =
+AllGood-with_values c a s values rows is_by_id some passes h =
     AllGood-at_row c a.id (more_values s values) (row_with a s values ∷ []) rows
-    (λ r e g. (Good-more_values c a s values r _ refl refl refl own some passes e g, tt))
-    (Good-row_with c a s values own some passes, tt) h
+    (λ r e g. (Good-more_values c a s values r _ refl refl refl is_by_id some passes e g, tt))
+    (Good-row_with c a s values is_by_id some passes, tt) h
 
 -- ---- the arguments of a command
 
@@ -156,7 +156,7 @@ Acts _ a = ⊥
 
 -- `a` is the argument in `c` with its id, its action is as `Acts` says, and its default values pass its parser
 pub record Known (c : List Rule) (a : Rule) : Type 0 where
-  pub own : arg_by_id c a.id ≡ Some a
+  pub is_by_id : arg_by_id c a.id ≡ Some a
   pub acts : Acts (action_of a) a
   pub defaults : values_pass a a.defaults ≡ true
 
@@ -211,23 +211,23 @@ AllGood-used_as : (c : List Rule) (again : Bool) (x : ArgAction) (a : Rule) (val
     → range_kinds (unwrap_or_range a.range).start_inclusive (most_values a) (length values) ≡ []
     → action_fault x again a (values_or_missing a values) rows ≡ [] → AllGood c rows
     → AllGood c (used_as x a.id (reading_by a) (values_or_missing a values) rows)
-AllGood-used_as c again action.Set a values rows acts own range free h =
-    AllGood-with_values c a CommandLine (values_or_missing a values) (without a.id rows) own
+AllGood-used_as c again action.Set a values rows acts is_by_id range free h =
+    AllGood-with_values c a CommandLine (values_or_missing a values) (without a.id rows) is_by_id
     (values_or_missing-some a values _ (most_values a)
     acts range)
     (list_all-accepts a.ignore_case (parser_of_value a.parser) (values_or_missing a values) (or_else-none _ _ free).1)
     (AllGood-without c a.id rows h)
-AllGood-used_as c again action.Append a values rows acts own range free h =
-    AllGood-with_values c a CommandLine (values_or_missing a values) rows own
+AllGood-used_as c again action.Append a values rows acts is_by_id range free h =
+    AllGood-with_values c a CommandLine (values_or_missing a values) rows is_by_id
     (values_or_missing-some a values _ (most_values a) acts range)
     (list_all-accepts a.ignore_case (parser_of_value a.parser) (values_or_missing a values) free) h
-AllGood-used_as c again action.SetTrue a values rows acts own range free h =
-    AllGood-with_values c a CommandLine (values_or_missing a values) (without a.id rows) own
+AllGood-used_as c again action.SetTrue a values rows acts is_by_id range free h =
+    AllGood-with_values c a CommandLine (values_or_missing a values) (without a.id rows) is_by_id
     (values_or_missing-missing a values a.missing refl acts)
     (list_all-accepts a.ignore_case (parser_of_value a.parser) (values_or_missing a values) (or_else-none _ _ free).1)
     (AllGood-without c a.id rows h)
-AllGood-used_as c again action.Help a values rows acts own range free h = cc
-AllGood-used_as c again _ a values rows acts own range free h = absurd acts
+AllGood-used_as c again action.Help a values rows acts is_by_id range free h = cc
+AllGood-used_as c again _ a values rows acts is_by_id range free h = absurd acts
 
 module _ (c : List Rule) (again : Bool) (known : EachKnown c c) where
   -- one use of a known argument without a fault leaves good rows
@@ -236,7 +236,7 @@ module _ (c : List Rule) (again : Bool) (known : EachKnown c c) where
   AllGood-used a values rows k e h =
       let f = or_else-none (range_kinds (unwrap_or_range a.range).start_inclusive (most_values a) (length values))
       (action_fault (action_of a) again a (values_or_missing a values) rows) e in
-      AllGood-used_as c again (action_of a) a values rows k.acts k.own f.0 f.1 h
+      AllGood-used_as c again (action_of a) a values rows k.acts k.is_by_id f.0 f.1 h
 
   -- to settle a pending argument without a fault leaves good rows
   AllGood-settled_rows : (pending : Option (Text × List Text)) (rows : List Row)
@@ -449,7 +449,8 @@ AllGood-default_rows : (c : List Rule) (a : Rule) (ds : List Text) (rows : List 
     ≡ true
     → AllGood c rows → AllGood c (default_rows a.id (reading_by a) ds rows)
 AllGood-default_rows c a [] rows k e g = g
-AllGood-default_rows c a (v ∷ vs) rows k e g = AllGood-with_values c a DefaultValue (v ∷ vs) rows k.own (omega arith) e
+AllGood-default_rows c a (v ∷ vs) rows k e g = AllGood-with_values c a DefaultValue (v ∷ vs) rows k.is_by_id
+    (omega arith) e
     g
 
 -- the default values of a known argument leave good rows
@@ -507,9 +508,9 @@ Good-found c (x ∷ xs) id r g e = go (bytes_eq x.id id) refl e (λ f. Good-foun
 -- so it is for the argument with this name
 IsGood-found : (c : List Rule) (rows : List Row) (a : Rule) (r : Row) → AllGood c rows → arg_by_id c a.id ≡ Some a
     → find (λ x. bytes_eq x.id a.id) rows ≡ Some r → IsGood a r
-IsGood-found c rows a r g own e =
+IsGood-found c rows a r g is_by_id e =
     let found = Good-found c rows a.id r g e in
-    found.0 a (ap (arg_by_id c) ((bytes_eq-Decides r.id a.id).0 found.1) ∙ own)
+    found.0 a (ap (arg_by_id c) ((bytes_eq-Decides r.id a.id).0 found.1) ∙ is_by_id)
 
 -- of some texts there is a first
 slice_get-first : (xs : List Text) → 0 < length xs → is_some (slice_get xs 0) ≡ true
@@ -519,12 +520,12 @@ slice_get-first (x ∷ xs) h = refl
 -- an argument that was given has a first text
 pub first_of-given : (c : List Rule) (rows : List Row) (a : Rule) → AllGood c rows → arg_by_id c a.id ≡ Some a
     → is_given a.id rows ≡ true → is_some (first_of a.id rows) ≡ true
-first_of-given c rows a g own given = go (find (λ r. bytes_eq r.id a.id) rows) refl
+first_of-given c rows a g is_by_id given = go (find (λ r. bytes_eq r.id a.id) rows) refl
   where
     -- whether a row is found or not
     go : (o : Option Row) → find (λ r. bytes_eq r.id a.id) rows ≡ o → is_some (first_of a.id rows) ≡ true
     go None e = let bad = rw e at given in cc
-    go (Some r) e = rw e (slice_get-first r.values (IsGood-found c rows a r g own e).nonempty)
+    go (Some r) e = rw e (slice_get-first r.values (IsGood-found c rows a r g is_by_id e).nonempty)
 
 -- a good row of an argument with the parser `p` has a text that passes `p`
 row_text-accepted : (a : Rule) (r : Row) (p : ValueParser) (vs : List Text) → r.values ≡ vs → IsGood a r → a.parser
@@ -550,14 +551,14 @@ has_row-none (r ∷ rs) id e = go (bytes_eq r.id id) refl (λ f. has_row-none rs
 pub one_of-accepted : (c : List Rule) (rows : List Row) (a : Rule) (p : ValueParser) → AllGood c rows → arg_by_id c a.id
     ≡ Some a → a.parser ≡ Some p → has_row a.id rows ≡ true
     → (text : Text) × (one_of a.id rows ≡ Some (read_as (reading_of p) text)) × Accepts a.ignore_case p text
-one_of-accepted c rows a p g own parser has = go (find (λ r. bytes_eq r.id a.id) rows) refl
+one_of-accepted c rows a p g is_by_id parser has = go (find (λ r. bytes_eq r.id a.id) rows) refl
   where
     -- whether a row is found or not
     go : (o : Option Row) → find (λ r. bytes_eq r.id a.id) rows ≡ o
         → (text : Text) × (one_of a.id rows ≡ Some (read_as (reading_of p) text)) × Accepts a.ignore_case p text
     go None e = absurd (true≢false (sym has ∙ has_row-none rows a.id e))
     go (Some r) e =
-        let n = row_text-accepted a r p r.values refl (IsGood-found c rows a r g own e) parser in
+        let n = row_text-accepted a r p r.values refl (IsGood-found c rows a r g is_by_id e) parser in
         (n.0, rw e n.1, n.2)
 
 -- an argument with the parser `p` isn't given, or has a text that passes `p`
@@ -565,14 +566,14 @@ pub one_of-accepted_or_none : (c : List Rule) (rows : List Row) (a : Rule) (p : 
     → arg_by_id c a.id
     ≡ Some a → a.parser ≡ Some p → (first_of a.id rows ≡ None)
     ⊎ ((text : Text) × (one_of a.id rows ≡ Some (read_as (reading_of p) text)) × Accepts a.ignore_case p text)
-one_of-accepted_or_none c rows a p g own parser = go (find (λ r. bytes_eq r.id a.id) rows) refl
+one_of-accepted_or_none c rows a p g is_by_id parser = go (find (λ r. bytes_eq r.id a.id) rows) refl
   where
     -- whether a row is found or not
     go : (o : Option Row) → find (λ r. bytes_eq r.id a.id) rows ≡ o → (first_of a.id rows ≡ None)
         ⊎ ((text : Text) × (one_of a.id rows ≡ Some (read_as (reading_of p) text)) × Accepts a.ignore_case p text)
     go None e = inl (rw e refl)
     go (Some r) e =
-        let n = row_text-accepted a r p r.values refl (IsGood-found c rows a r g own e) parser in
+        let n = row_text-accepted a r p r.values refl (IsGood-found c rows a r g is_by_id e) parser in
         inr (n.0, rw e n.1, n.2)
 
 -- ---- rows of arguments with a default

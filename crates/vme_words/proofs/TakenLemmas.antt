@@ -247,16 +247,16 @@ tell_rules = list ∷ file_count ∷ parts ∷ help ∷ []
 EachKnown-recording : EachKnown recording_rules recording_rules
 unfolding clap_on_literals
 EachKnown-recording = (
-  record { own = refl; acts = refl; defaults = refl },
+  record { is_by_id = refl; acts = refl; defaults = refl },
   (
-    record { own = refl; acts = refl; defaults = refl },
+    record { is_by_id = refl; acts = refl; defaults = refl },
     (
-      record { own = refl; acts = refl; defaults = refl },
+      record { is_by_id = refl; acts = refl; defaults = refl },
       (
-        record { own = refl; acts = refl; defaults = refl },
+        record { is_by_id = refl; acts = refl; defaults = refl },
         (
-          record { own = refl; acts = refl; defaults = refl },
-          (record { own = refl; acts = tt; defaults = refl }, tt),
+          record { is_by_id = refl; acts = refl; defaults = refl },
+          (record { is_by_id = refl; acts = tt; defaults = refl }, tt),
         ),
       ),
     ),
@@ -267,18 +267,18 @@ EachKnown-recording = (
 EachKnown-list : EachKnown listing_rules listing_rules
 unfolding clap_on_literals
 EachKnown-list = (
-  record { own = refl; acts = refl; defaults = refl },
+  record { is_by_id = refl; acts = refl; defaults = refl },
   (
-    record { own = refl; acts = refl; defaults = refl },
+    record { is_by_id = refl; acts = refl; defaults = refl },
     (
-      record { own = refl; acts = refl; defaults = refl },
+      record { is_by_id = refl; acts = refl; defaults = refl },
       (
-        record { own = refl; acts = refl; defaults = refl },
+        record { is_by_id = refl; acts = refl; defaults = refl },
         (
-          record { own = refl; acts = refl; defaults = refl },
+          record { is_by_id = refl; acts = refl; defaults = refl },
           (
-            record { own = refl; acts = refl; defaults = refl },
-            (record { own = refl; acts = tt; defaults = refl }, tt),
+            record { is_by_id = refl; acts = refl; defaults = refl },
+            (record { is_by_id = refl; acts = tt; defaults = refl }, tt),
           ),
         ),
       ),
@@ -290,12 +290,12 @@ EachKnown-list = (
 EachKnown-annotate : EachKnown annotate_rules annotate_rules
 unfolding clap_on_literals
 EachKnown-annotate = (
-  record { own = refl; acts = refl; defaults = refl },
+  record { is_by_id = refl; acts = refl; defaults = refl },
   (
-    record { own = refl; acts = refl; defaults = refl },
+    record { is_by_id = refl; acts = refl; defaults = refl },
     (
-      record { own = refl; acts = refl; defaults = refl },
-      (record { own = refl; acts = tt; defaults = refl }, tt),
+      record { is_by_id = refl; acts = refl; defaults = refl },
+      (record { is_by_id = refl; acts = tt; defaults = refl }, tt),
     ),
   ),
 )
@@ -304,14 +304,14 @@ EachKnown-annotate = (
 EachKnown-confirm : EachKnown confirmation_rules confirmation_rules
 unfolding clap_on_literals
 EachKnown-confirm = (
-  record { own = refl; acts = refl; defaults = refl },
+  record { is_by_id = refl; acts = refl; defaults = refl },
   (
-    record { own = refl; acts = refl; defaults = refl },
+    record { is_by_id = refl; acts = refl; defaults = refl },
     (
-      record { own = refl; acts = refl; defaults = refl },
+      record { is_by_id = refl; acts = refl; defaults = refl },
       (
-        record { own = refl; acts = refl; defaults = refl },
-        (record { own = refl; acts = tt; defaults = refl }, tt),
+        record { is_by_id = refl; acts = refl; defaults = refl },
+        (record { is_by_id = refl; acts = tt; defaults = refl }, tt),
       ),
     ),
   ),
@@ -321,24 +321,24 @@ EachKnown-confirm = (
 EachKnown-audit : EachKnown audit_rules audit_rules
 unfolding clap_on_literals
 EachKnown-audit = (
-  record { own = refl; acts = refl; defaults = refl },
+  record { is_by_id = refl; acts = refl; defaults = refl },
   (
-    record { own = refl; acts = refl; defaults = refl },
+    record { is_by_id = refl; acts = refl; defaults = refl },
     (
-      record { own = refl; acts = refl; defaults = refl },
+      record { is_by_id = refl; acts = refl; defaults = refl },
       (
-        record { own = refl; acts = refl; defaults = refl },
+        record { is_by_id = refl; acts = refl; defaults = refl },
         (
-          record { own = refl; acts = refl; defaults = refl },
+          record { is_by_id = refl; acts = refl; defaults = refl },
           (
-            record { own = refl; acts = refl; defaults = refl },
+            record { is_by_id = refl; acts = refl; defaults = refl },
             (
-              record { own = refl; acts = refl; defaults = refl },
+              record { is_by_id = refl; acts = refl; defaults = refl },
               (
-                record { own = refl; acts = refl; defaults = refl },
+                record { is_by_id = refl; acts = refl; defaults = refl },
                 (
-                  record { own = refl; acts = refl; defaults = refl },
-                  (record { own = refl; acts = tt; defaults = refl }, tt),
+                  record { is_by_id = refl; acts = refl; defaults = refl },
+                  (record { is_by_id = refl; acts = tt; defaults = refl }, tt),
                 ),
               ),
             ),
@@ -353,20 +353,20 @@ EachKnown-audit = (
 EachKnown-variables : EachKnown variables_rules variables_rules
 unfolding clap_on_literals
 EachKnown-variables = (
-  record { own = refl; acts = refl; defaults = refl },
-  (record { own = refl; acts = tt; defaults = refl }, tt),
+  record { is_by_id = refl; acts = refl; defaults = refl },
+  (record { is_by_id = refl; acts = tt; defaults = refl }, tt),
 )
 
 -- each argument of `bind` is known
 EachKnown-bind : EachKnown bind_rules bind_rules
 unfolding clap_on_literals
 EachKnown-bind = (
-  record { own = refl; acts = refl; defaults = refl },
+  record { is_by_id = refl; acts = refl; defaults = refl },
   (
-    record { own = refl; acts = refl; defaults = refl },
+    record { is_by_id = refl; acts = refl; defaults = refl },
     (
-      record { own = refl; acts = refl; defaults = refl },
-      (record { own = refl; acts = tt; defaults = refl }, tt),
+      record { is_by_id = refl; acts = refl; defaults = refl },
+      (record { is_by_id = refl; acts = tt; defaults = refl }, tt),
     ),
   ),
 )
@@ -375,16 +375,16 @@ EachKnown-bind = (
 EachKnown-explain : EachKnown explain_rules explain_rules
 unfolding clap_on_literals
 EachKnown-explain = (
-  record { own = refl; acts = refl; defaults = refl },
+  record { is_by_id = refl; acts = refl; defaults = refl },
   (
-    record { own = refl; acts = refl; defaults = refl },
+    record { is_by_id = refl; acts = refl; defaults = refl },
     (
-      record { own = refl; acts = refl; defaults = refl },
+      record { is_by_id = refl; acts = refl; defaults = refl },
       (
-        record { own = refl; acts = refl; defaults = refl },
+        record { is_by_id = refl; acts = refl; defaults = refl },
         (
-          record { own = refl; acts = refl; defaults = refl },
-          (record { own = refl; acts = tt; defaults = refl }, tt),
+          record { is_by_id = refl; acts = refl; defaults = refl },
+          (record { is_by_id = refl; acts = tt; defaults = refl }, tt),
         ),
       ),
     ),
@@ -395,14 +395,14 @@ EachKnown-explain = (
 EachKnown-part : EachKnown part_rules part_rules
 unfolding clap_on_literals
 EachKnown-part = (
-  record { own = refl; acts = refl; defaults = refl },
+  record { is_by_id = refl; acts = refl; defaults = refl },
   (
-    record { own = refl; acts = refl; defaults = refl },
+    record { is_by_id = refl; acts = refl; defaults = refl },
     (
-      record { own = refl; acts = refl; defaults = refl },
+      record { is_by_id = refl; acts = refl; defaults = refl },
       (
-        record { own = refl; acts = refl; defaults = refl },
-        (record { own = refl; acts = tt; defaults = refl }, tt),
+        record { is_by_id = refl; acts = refl; defaults = refl },
+        (record { is_by_id = refl; acts = tt; defaults = refl }, tt),
       ),
     ),
   ),
@@ -412,12 +412,12 @@ EachKnown-part = (
 EachKnown-tell : EachKnown tell_rules tell_rules
 unfolding clap_on_literals
 EachKnown-tell = (
-  record { own = refl; acts = refl; defaults = refl },
+  record { is_by_id = refl; acts = refl; defaults = refl },
   (
-    record { own = refl; acts = refl; defaults = refl },
+    record { is_by_id = refl; acts = refl; defaults = refl },
     (
-      record { own = refl; acts = refl; defaults = refl },
-      (record { own = refl; acts = tt; defaults = refl }, tt),
+      record { is_by_id = refl; acts = refl; defaults = refl },
+      (record { is_by_id = refl; acts = tt; defaults = refl }, tt),
     ),
   ),
 )
@@ -455,15 +455,15 @@ HasOptionsAndNames-recording name words e =
     let rows_with_block = with_default given_rows block in
     let rows_with_workers = with_default rows_with_block workers in
     let in_block = one_of-accepted recording_rules rows block (Signed (pos 1) (pos MOST_STEPS)) level.0
-    EachKnown-recording.0.own refl
+    EachKnown-recording.0.is_by_id refl
     (has_row-defaults (codes "block") (workers ∷ skew ∷ binding ∷ dump ∷ help ∷ []) rows_with_block
     (has_row-own_default given_rows block (codes "16384") [] refl)) in
     let in_workers = one_of-accepted recording_rules rows workers (Signed (pos 1) (pos MOST_WORKERS)) level.0
-    EachKnown-recording.1.0.own refl
+    EachKnown-recording.1.0.is_by_id refl
     (has_row-defaults (codes "workers") (skew ∷ binding ∷ dump ∷ help ∷ []) rows_with_workers
     (has_row-own_default rows_with_block workers (codes "4") [] refl)) in
     let in_skew = one_of-accepted recording_rules rows skew (Unsigned 0 greatest_number) level.0
-    EachKnown-recording.1.1.0.own refl
+    EachKnown-recording.1.1.0.is_by_id refl
     (has_row-defaults (codes "skew") (binding ∷ dump ∷ help ∷ []) (with_default rows_with_workers skew)
     (has_row-own_default rows_with_workers skew (codes "0") [] refl)) in
     record {
@@ -473,8 +473,8 @@ HasOptionsAndNames-recording name words e =
         skew = record { text = in_skew.0; read = in_skew.1; says = in_skew.2 };
       };
       names = record {
-        binding = first_of-given recording_rules rows binding level.0 EachKnown-recording.1.1.1.0.own given.0;
-        dump = first_of-given recording_rules rows dump level.0 EachKnown-recording.1.1.1.1.0.own given.1;
+        binding = first_of-given recording_rules rows binding level.0 EachKnown-recording.1.1.1.0.is_by_id given.0;
+        dump = first_of-given recording_rules rows dump level.0 EachKnown-recording.1.1.1.1.0.is_by_id given.1;
       };
     }
 
@@ -489,14 +489,15 @@ HasOptionsAndNames-list words e =
     let rows_with_block = with_default given_rows block in
     let rows_with_workers = with_default rows_with_block workers in
     let in_block = one_of-accepted listing_rules rows block (Signed (pos 1) (pos MOST_STEPS)) level.0
-    EachKnown-list.0.own refl
+    EachKnown-list.0.is_by_id refl
     (has_row-defaults (codes "block") (workers ∷ skew ∷ binding ∷ dump ∷ times ∷ help ∷ []) rows_with_block
     (has_row-own_default given_rows block (codes "16384") [] refl)) in
     let in_workers = one_of-accepted listing_rules rows workers (Signed (pos 1) (pos MOST_WORKERS)) level.0
-    EachKnown-list.1.0.own refl
+    EachKnown-list.1.0.is_by_id refl
     (has_row-defaults (codes "workers") (skew ∷ binding ∷ dump ∷ times ∷ help ∷ []) rows_with_workers
     (has_row-own_default rows_with_block workers (codes "4") [] refl)) in
-    let in_skew = one_of-accepted listing_rules rows skew (Unsigned 0 greatest_number) level.0 EachKnown-list.1.1.0.own
+    let in_skew = one_of-accepted listing_rules rows skew (Unsigned 0 greatest_number) level.0
+    EachKnown-list.1.1.0.is_by_id
     refl
     (has_row-defaults (codes "skew") (binding ∷ dump ∷ times ∷ help ∷ []) (with_default rows_with_workers skew)
     (has_row-own_default rows_with_workers skew (codes "0") [] refl)) in
@@ -507,8 +508,8 @@ HasOptionsAndNames-list words e =
         skew = record { text = in_skew.0; read = in_skew.1; says = in_skew.2 };
       };
       names = record {
-        binding = first_of-given listing_rules rows binding level.0 EachKnown-list.1.1.1.0.own given.0;
-        dump = first_of-given listing_rules rows dump level.0 EachKnown-list.1.1.1.1.0.own given.1;
+        binding = first_of-given listing_rules rows binding level.0 EachKnown-list.1.1.1.0.is_by_id given.0;
+        dump = first_of-given listing_rules rows dump level.0 EachKnown-list.1.1.1.1.0.is_by_id given.1;
       };
     }
 
@@ -523,17 +524,17 @@ HasConfirmation-confirm words e =
     let given = check_kinds-three (is_given (codes "BINDING") rows) (is_given (codes "DUMP") rows)
     (is_given (codes "LISTING") rows) level.1 in
     let in_skew = one_of-accepted confirmation_rules rows skew (Unsigned 0 greatest_number) level.0
-    EachKnown-confirm.0.own
+    EachKnown-confirm.0.is_by_id
     refl
     (has_row-defaults (codes "skew") (binding ∷ dump ∷ listing ∷ help ∷ []) (with_default given_rows skew)
     (has_row-own_default given_rows skew (codes "0") [] refl)) in
     record {
       skew = record { text = in_skew.0; read = in_skew.1; says = in_skew.2 };
       names = record {
-        binding = first_of-given confirmation_rules rows binding level.0 EachKnown-confirm.1.0.own given.0;
-        dump = first_of-given confirmation_rules rows dump level.0 EachKnown-confirm.1.1.0.own given.1;
+        binding = first_of-given confirmation_rules rows binding level.0 EachKnown-confirm.1.0.is_by_id given.0;
+        dump = first_of-given confirmation_rules rows dump level.0 EachKnown-confirm.1.1.0.is_by_id given.1;
       };
-      listing = first_of-given confirmation_rules rows listing level.0 EachKnown-confirm.1.1.1.0.own given.2;
+      listing = first_of-given confirmation_rules rows listing level.0 EachKnown-confirm.1.1.1.0.is_by_id given.2;
     }
 
 -- words of `audit` without a fault give all that it needs
@@ -548,22 +549,23 @@ HasAudit-audit words e =
     let rows_before_skew = with_default (with_default rows_with_transfers allow) stop in
     let rows_with_skew = with_default rows_before_skew skew in
     let in_transfers = one_of-accepted audit_rules rows transfers (Unsigned 0 greatest_number) level.0
-    EachKnown-audit.0.own refl
+    EachKnown-audit.0.is_by_id refl
     (has_row-defaults (codes "transfers")
     (allow ∷ stop ∷ skew ∷ workers ∷ quiet ∷ junit ∷ binding ∷ dumps ∷ help ∷ []) rows_with_transfers
     (has_row-own_default given_rows transfers (codes "1") [] refl)) in
-    let in_skew = one_of-accepted audit_rules rows skew (Unsigned 0 greatest_number) level.0 EachKnown-audit.1.1.1.0.own
+    let in_skew = one_of-accepted audit_rules rows skew (Unsigned 0 greatest_number) level.0
+    EachKnown-audit.1.1.1.0.is_by_id
     refl
     (has_row-defaults (codes "skew") (workers ∷ quiet ∷ junit ∷ binding ∷ dumps ∷ help ∷ []) rows_with_skew
     (has_row-own_default rows_before_skew skew (codes "0") [] refl)) in
     let in_workers = one_of-accepted audit_rules rows workers (Signed (pos 1) (pos MOST_WORKERS)) level.0
-    EachKnown-audit.1.1.1.1.0.own refl
+    EachKnown-audit.1.1.1.1.0.is_by_id refl
     (has_row-defaults (codes "workers") (quiet ∷ junit ∷ binding ∷ dumps ∷ help ∷ [])
     (with_default rows_with_skew workers)
     (has_row-own_default rows_with_skew workers (codes "4") [] refl)) in
     let may_stop : MayHaveUnsignedFrom (codes "stop") 1 rows = elim
     (one_of-accepted_or_none audit_rules rows stop (Unsigned 1 greatest_number)
-    level.0 EachKnown-audit.1.1.0.own refl) [
+    level.0 EachKnown-audit.1.1.0.is_by_id refl) [
       | inl none ↦ inl none
       | inr n ↦ inr (record { text = n.0; read = n.1; says = n.2 })
     ] in
@@ -572,7 +574,7 @@ HasAudit-audit words e =
       stop = may_stop;
       skew = record { text = in_skew.0; read = in_skew.1; says = in_skew.2 };
       workers = record { text = in_workers.0; read = in_workers.1; says = in_workers.2 };
-      binding = first_of-given audit_rules rows binding level.0 EachKnown-audit.1.1.1.1.1.1.1.0.own given.0;
+      binding = first_of-given audit_rules rows binding level.0 EachKnown-audit.1.1.1.1.1.1.1.0.is_by_id given.0;
     }
 
 -- words of `variables` without a fault give the name of the dump
@@ -581,7 +583,7 @@ HasName-variables : (words : List Text) → level_fault of_variables [] nothing_
 HasName-variables words e =
     let level = AllGood-level of_variables words EachKnown-variables e in
     let rows = rows_after variables_rules [] words in
-    first_of-given variables_rules rows only_dump level.0 EachKnown-variables.0.own
+    first_of-given variables_rules rows only_dump level.0 EachKnown-variables.0.is_by_id
     (check_kinds-one (is_given (codes "DUMP") rows)
     level.1)
 
@@ -593,14 +595,14 @@ HasBind-bind words e =
     let rows = rows_after bind_rules [] words in
     let may_have_slots : MayHaveSignedIn (codes "slots") 1 MOST_SLOTS rows = elim
     (one_of-accepted_or_none bind_rules rows slots (Signed (pos 1) (pos MOST_SLOTS))
-    level.0 EachKnown-bind.0.own refl) [
+    level.0 EachKnown-bind.0.is_by_id refl) [
       | inl none ↦ inl none
       | inr n ↦ inr (record { text = n.0; read = n.1; says = n.2 })
     ] in
     record {
       slots = may_have_slots;
       dump =
-          first_of-given bind_rules rows only_dump level.0 EachKnown-bind.1.1.0.own
+          first_of-given bind_rules rows only_dump level.0 EachKnown-bind.1.1.0.is_by_id
           (check_kinds-one (is_given (codes "DUMP") rows) level.1);
     }
 
@@ -614,14 +616,14 @@ HasSkewAndNames-explain words e =
     let given = check_kinds-two (is_given (codes "BINDING") rows) (is_given (codes "DUMP") rows) level.1 in
     let rows_with_files = with_default (with_default given_rows save_file) picture in
     let in_skew = one_of-accepted explain_rules rows skew (Unsigned 0 greatest_number) level.0
-    EachKnown-explain.1.1.0.own refl
+    EachKnown-explain.1.1.0.is_by_id refl
     (has_row-defaults (codes "skew") (binding ∷ dump ∷ help ∷ []) (with_default rows_with_files skew)
     (has_row-own_default rows_with_files skew (codes "0") [] refl)) in
     record {
       skew = record { text = in_skew.0; read = in_skew.1; says = in_skew.2 };
       names = record {
-        binding = first_of-given explain_rules rows binding level.0 EachKnown-explain.1.1.1.0.own given.0;
-        dump = first_of-given explain_rules rows dump level.0 EachKnown-explain.1.1.1.1.0.own given.1;
+        binding = first_of-given explain_rules rows binding level.0 EachKnown-explain.1.1.1.0.is_by_id given.0;
+        dump = first_of-given explain_rules rows dump level.0 EachKnown-explain.1.1.1.1.0.is_by_id given.1;
       };
     }
 
@@ -633,15 +635,16 @@ HasSkewAndNames-annotate words e =
     let rows = rows_after annotate_rules [] words in
     let given_rows = (settled annotate_rules (walk annotate_rules [] nothing_held words).held).rows in
     let given = check_kinds-two (is_given (codes "BINDING") rows) (is_given (codes "DUMP") rows) level.1 in
-    let in_skew = one_of-accepted annotate_rules rows skew (Unsigned 0 greatest_number) level.0 EachKnown-annotate.0.own
+    let in_skew = one_of-accepted annotate_rules rows skew (Unsigned 0 greatest_number) level.0
+    EachKnown-annotate.0.is_by_id
     refl
     (has_row-defaults (codes "skew") (binding ∷ dump ∷ help ∷ []) (with_default given_rows skew)
     (has_row-own_default given_rows skew (codes "0") [] refl)) in
     record {
       skew = record { text = in_skew.0; read = in_skew.1; says = in_skew.2 };
       names = record {
-        binding = first_of-given annotate_rules rows binding level.0 EachKnown-annotate.1.0.own given.0;
-        dump = first_of-given annotate_rules rows dump level.0 EachKnown-annotate.1.1.0.own given.1;
+        binding = first_of-given annotate_rules rows binding level.0 EachKnown-annotate.1.0.is_by_id given.0;
+        dump = first_of-given annotate_rules rows dump level.0 EachKnown-annotate.1.1.0.is_by_id given.1;
       };
     }
 
@@ -654,14 +657,14 @@ HasPart-part words e =
     let given_rows = (settled part_rules (walk part_rules [] nothing_held words).held).rows in
     let given = check_kinds-two (is_given (codes "BINDING") rows) (is_given (codes "DUMP") rows) level.1 in
     let in_number = one_of-accepted part_rules rows file_number (Signed (pos 0) (pos greatest_file_number)) level.0
-    EachKnown-part.0.own refl
+    EachKnown-part.0.is_by_id refl
     (has_row-defaults (codes "number") (marks ∷ binding ∷ dump ∷ help ∷ []) (with_default given_rows file_number)
     (has_row-own_default given_rows file_number (codes "0") [] refl)) in
     record {
       number = record { text = in_number.0; read = in_number.1; says = in_number.2 };
       names = record {
-        binding = first_of-given part_rules rows binding level.0 EachKnown-part.1.1.0.own given.0;
-        dump = first_of-given part_rules rows dump level.0 EachKnown-part.1.1.1.0.own given.1;
+        binding = first_of-given part_rules rows binding level.0 EachKnown-part.1.1.0.is_by_id given.0;
+        dump = first_of-given part_rules rows dump level.0 EachKnown-part.1.1.1.0.is_by_id given.1;
       };
     }
 
@@ -671,7 +674,8 @@ MayHaveUnsignedFrom-tell : (words : List Text) → level_fault of_tell [] nothin
 MayHaveUnsignedFrom-tell words e =
     let level = AllGood-level of_tell words EachKnown-tell e in
     let rows = rows_after tell_rules [] words in
-    elim (one_of-accepted_or_none tell_rules rows file_count (Unsigned 1 greatest_number) level.0 EachKnown-tell.1.0.own
+    elim (one_of-accepted_or_none tell_rules rows file_count (Unsigned 1 greatest_number) level.0
+    EachKnown-tell.1.0.is_by_id
     refl) [
       | inl none ↦ inl none
       | inr n ↦ inr (record { text = n.0; read = n.1; says = n.2 })
