@@ -34,7 +34,7 @@ use Rattle.vme_monitor.specs.Tracking.{entered, is_unanswered, is_within}
 use Rattle.vme_monitor.specs.declared.mark.CycleStart.{CycleStart}
 use Rattle.vme_monitor.specs.declared.mark.StepMarks.{StepMarks}
 use Rattle.vme_monitor.specs.declared.tracking.TransferPhase.{TransferPhase}
-use Rattle.vme_monitor.proofs.Alongside.{changes_fit, levels_step}
+use Rattle.vme_monitor.proofs.Alongside.{are_changes-step, levels_at-step}
 use Rattle.vme_monitor.proofs.StretchFacts.{IsStretch}
 use Rattle.vme_dtb.specs.CycleState.{cycle_entered, is_interrupt_acknowledge, is_answered_interrupt_acknowledge}
 use Rattle.vme_dtb.specs.CycleState.{unanswered_of}
@@ -361,14 +361,14 @@ module _ (t : Trace) (ok : malformed_step t ≡ None) (few : t.opening.slots ≤
 
   -- the changes make the levels after the step from those before
   changed-after : changed v cs ≡ w
-  changed-after = sym (levels_step t n within)
+  changed-after = sym (levels_at-step t n within)
 
   -- some change of the step lets a chosen line fall exactly if a chosen line falls at n + 1
   any_falls-at : (chosen : ℕ → Bool) (e : AskedEvents) → any_falls e m v w cs shown chosen
       ≡ any (λ l. chosen l && falls t l (suc n)) 0 line_count
   any_falls-at chosen e =
       ap (λ (w : Levels). any_falls e m v w cs shown chosen) (sym changed-after)
-      ∙ sym (any-falls_between v few_slots cs (changes_fit t n ok within) chosen)
+      ∙ sym (any-falls_between v few_slots cs (are_changes-step t n ok within) chosen)
       ∙ ap (λ (w : Levels). any (λ l. chosen l && falls_between v w l) 0 line_count) changed-after
       ∙ any-alike (λ l. chosen l && falls_between v w l) (λ l. chosen l && falls t l (suc n)) 0 line_count
       (λ l a b. ap (λ x. chosen l && x) (sym (falls_is t n l)))
@@ -378,7 +378,7 @@ module _ (t : Trace) (ok : malformed_step t ≡ None) (few : t.opening.slots ≤
       ≡ any (λ l. chosen l && rises t l (suc n)) 0 line_count
   any_rises-at chosen e =
       ap (λ (w : Levels). any_rises e m v w cs shown chosen) (sym changed-after)
-      ∙ sym (any-rises_between v few_slots cs (changes_fit t n ok within) chosen)
+      ∙ sym (any-rises_between v few_slots cs (are_changes-step t n ok within) chosen)
       ∙ ap (λ (w : Levels). any (λ l. chosen l && rises_between v w l) 0 line_count) changed-after
       ∙ any-alike (λ l. chosen l && rises_between v w l) (λ l. chosen l && rises t l (suc n)) 0 line_count
       (λ l a b. ap (λ x. chosen l && x) (sym (rises_is t n l)))

@@ -30,8 +30,8 @@ use Rattle.vme_monitor.specs.Whole.{has_any_stretch}
 use Rattle.vme_monitor.specs.declared.known.Stateless.{Stateless}
 use Rattle.vme_monitor.specs.declared.mark.Fault.{Fault}
 use Rattle.vme_monitor.specs.declared.over_stretches.StretchPhase.{StretchPhase}
-use Rattle.vme_monitor.proofs.Alongside.{item, levels_step, levels_taken, run_at, taken}
-use Rattle.vme_monitor.proofs.StretchLists.{stretches_started, started}
+use Rattle.vme_monitor.proofs.Alongside.{slice_get-below, levels_at-step, levels_at-take, IsRunTo-take, take-next}
+use Rattle.vme_monitor.proofs.StretchLists.{judged_stretches-started, started_stretches}
 use Rattle.vme_dtb.specs.Machine.{dtb_begin}
 use Rattle.vme_dtb.specs.declared.memory.HandshakeMemory.{HandshakeMemory}
 use Rattle.vme_summary.specs.Runs.{handshake_run, known_run}
@@ -199,14 +199,15 @@ module _ (o : Levels) (x : List Step) where
       ≡ memory_from known_at t (start_in known_begin o) 0 n
   unfolding known_run
   known-at_instant n h =
-      known-unbroken (take n x) (memories_at o) o ∙ (run_at known_at t (start_in known_begin o) n h).leaving
+      known-unbroken (take n x) (memories_at o) o
+      ∙ (IsRunTo-take known_at t (start_in known_begin o) n h).leaving
 
   -- after the first `n` steps the memory of the handshake monitor is that of instant `n`
   handshake-at_instant : (n : ℕ) → n ≤ length x → (unbroken_memories (memories_at o) o (take n x)).handshake
       ≡ memory_from handshake_at t (start_in dtb_begin o) 0 n
   unfolding handshake_run
   handshake-at_instant n h =
-      handshake-unbroken (take n x) (memories_at o) o ∙ (run_at handshake_at t (start_in dtb_begin o) n h).leaving
+      handshake-unbroken (take n x) (memories_at o) o ∙ (IsRunTo-take handshake_at t (start_in dtb_begin o) n h).leaving
 
   -- the noted events after a step, by the memories of the two monitors
   abbrev events_of_step : AskedEvents → StretchPhase HandshakeMemory → StretchPhase Stateless → Levels → Levels
@@ -222,15 +223,15 @@ module _ (o : Levels) (x : List Step) where
     unfolding unbroken_events
     unbroken_events-asked_to e zero h = refl
     unbroken_events-asked_to e (suc n) h =
-        let s = item x n (omega arith) in
+        let s = slice_get-below x n (omega arith) in
         let so_far = unbroken_events-asked_to e n (omega arith) in
         let memories = unbroken_memories (memories_at o) o (take n x) in
         let before = levels_after o (take n x) in
-        let left = sym (levels_taken t n (omega arith)) in
+        let left = sym (levels_at-take t n (omega arith)) in
         let own : s.0.changes ≡ changes_of (slice_get x n) = rw s.1 refl in
         let ahead : changed (levels_at t n) (changes_of (slice_get x n)) ≡ levels_at t (suc n) =
-        sym (levels_step t n (omega arith)) in
-        ap (unbroken_events (memories_at o) o e) (taken x n s.0 (omega arith) s.1)
+        sym (levels_at-step t n (omega arith)) in
+        ap (unbroken_events (memories_at o) o e) (take-next x n s.0 (omega arith) s.1)
         ∙ unbroken_events-next (take n x) (memories_at o) o e s.0
         ∙ ap (λ (e : AskedEvents). events_of_step e memories.handshake memories.known before
         (changed before s.0.changes)
@@ -267,7 +268,7 @@ module _ (o : Levels) (x : List Step) (ok : malformed_step (recorded o x) ≡ No
   -- then
   list_any-asks_in : (r : Rule) (own : ends_stretch r ≡ false)
       → list_any (asks_in whole found r) (judged_stretches whole)
-      ≡ list_any (happened_by whole ok few r own k) (started whole k)
+      ≡ list_any (happened_by whole ok few r own k) (started_stretches whole k)
   unfolding asks_in
   list_any-asks_in r own =
       let far : k + (length x - k) ≡ length x = omega arith in
@@ -275,8 +276,8 @@ module _ (o : Levels) (x : List Step) (ok : malformed_step (recorded o x) ≡ No
       (λ stretch. or_fails (ends_stretch r) (any (happens whole stretch r) (stretch.start + 1)
       (min stretch.end (asking_end whole found))) own
       ∙ ap (λ j. any (happens whole stretch r) (stretch.start + 1) (min stretch.end j)) asking)
-      ∙ ap (list_any (happened_by whole ok few r own k)) (stretches_started whole
-      ∙ ap (started whole) (sym far))
+      ∙ ap (list_any (happened_by whole ok few r own k)) (judged_stretches-started whole
+      ∙ ap (started_stretches whole) (sym far))
       ∙ list_any-later_stretches whole ok few r own k (length x - k)
 
   -- U1 is asked exactly if there is a stretch
@@ -309,7 +310,7 @@ module _ (o : Levels) (x : List Step) (ok : malformed_step (recorded o x) ≡ No
     Asks-other r own =
         ap (λ (e : AskedEvents). asks_by e r) (unbroken_events-asked_to o x ok few opened k within)
         ∙ HaveHappened-asked_to whole ok few r own opened k within
-        ∙ ap (λ b. b || list_any (happened_by whole ok few r own k) (started whole k))
+        ∙ ap (λ b. b || list_any (happened_by whole ok few r own k) (started_stretches whole k))
         (asks_by-with_stretch r e (has_started (memories_at o).known) own)
         ∙ ap (λ b. asks_by e r || b) (sym (list_any-asks_in r own))
 
@@ -380,7 +381,7 @@ module _ (finds : FindsFirst) (starts : KnowsStart) where
     unfolding known_run
     has_started-at_end =
         ap has_started
-        (sym (run_at known_at (recorded o x) (start_in known_begin o) (length x) (omega arith)).leaving
+        (sym (IsRunTo-take known_at (recorded o x) (start_in known_begin o) (length x) (omega arith)).leaving
         ∙ ap (λ (y : List Step). (known_run (start_in known_begin o) o y).leaving) (take_all (length x) x
         (omega arith)))
         ∙ starts (recorded o x) ok few
@@ -397,7 +398,7 @@ module _ (finds : FindsFirst) (starts : KnowsStart) where
         let judged : has_any_stretch (judged_stretches (recorded o front)) ≡ true =
         has_any_stretch-broken (recorded o front) b
         (finds (recorded o front) sound few ∙ first_break_from-cut x (memories_at o) o b e) in
-        ap has_started (sym (run_at known_at (recorded o x) (start_in known_begin o) b.instant h).leaving)
+        ap has_started (sym (IsRunTo-take known_at (recorded o x) (start_in known_begin o) b.instant h).leaving)
         ∙ starts (recorded o front) sound few ∙ judged
         ∙ sym (has_any_stretch-broken (recorded o x) b (finds (recorded o x) ok few ∙ e))
 

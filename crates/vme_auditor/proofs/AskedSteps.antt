@@ -32,12 +32,13 @@ use Rattle.vme_monitor.specs.declared.over_stretches.StretchPhase.{StretchPhase}
 use Rattle.vme_monitor.specs.declared.over_stretches.StretchPhase.TheVariants as phase
 use Rattle.vme_monitor.specs.declared.view.End.{End}
 use Rattle.vme_monitor.specs.declared.view.End.TheVariants as end
-use Rattle.vme_monitor.proofs.Alongside.{not_before}
+use Rattle.vme_monitor.proofs.Alongside.{nat_lt-zero}
 use Rattle.vme_monitor.proofs.StretchFacts.{IsStretch, stretch_facts}
-use Rattle.vme_monitor.proofs.StretchLists.{AreOver, started, started_none, started_one}
-use Rattle.vme_monitor.proofs.OuterMachine.{IsAtWork, JudgesOn, Loses, Resets, Stands, inner_at, moves, outer_next}
-use Rattle.vme_monitor.proofs.OuterMachine.{stands}
-use Rattle.vme_monitor.proofs.Transitions.{outer_judging, waits}
+use Rattle.vme_monitor.proofs.StretchLists.{AreOver, started_stretches, started_stretches-none, started_stretches-one}
+use Rattle.vme_monitor.proofs.OuterMachine.{IsAtWork, JudgesOn, Loses, Resets, Stands, inner_at, StepCase-at}
+use Rattle.vme_monitor.proofs.OuterMachine.{outer_next}
+use Rattle.vme_monitor.proofs.OuterMachine.{Stands-at}
+use Rattle.vme_monitor.proofs.Transitions.{outer-in_stretch, waits}
 use Rattle.vme_dtb.specs.Machine.{dtb_begin, dtb_end_fault, dtb_start_marks, dtb_observation, dtb_step}
 use Rattle.vme_dtb.specs.declared.memory.HandshakeMemory.{HandshakeMemory}
 use Rattle.vme_dtb.proofs.HandshakeMeaning.{Holds}
@@ -216,7 +217,7 @@ module _ (t : Trace) (ok : malformed_step t ≡ None) (few : t.opening.slots ≤
       ∙ stretch-asked_to e n (omega arith))
       ∙ or_assoc e.stretch (has_started (known_phase n)) kinds.start
       ∙ ap (λ b. e.stretch || b)
-      (sym (rw (not_before n) (StartsBy-known_at (known_phase n) (levels_at t n) (levels_at t (suc n)) (cs_at n))))
+      (sym (rw (nat_lt-zero n) (StartsBy-known_at (known_phase n) (levels_at t n) (levels_at t (suc n)) (cs_at n))))
 
   -- a rule other than U1, whose event is the stretch itself
   module _ (r : Rule) (own : ends_stretch r ≡ false) where
@@ -256,23 +257,23 @@ module _ (t : Trace) (ok : malformed_step t ≡ None) (few : t.opening.slots ≤
         ∙ ap (λ b. happened_by n stretch || b) (list_any-ended n stretches h.1)
 
     -- a stretch that starts at instant `n + 1` adds no event up to an instant `k ≤ n + 1`
-    list_any-new_stretch : (k n : ℕ) → k ≤ suc n → list_any (happened_by k) (started t (suc n))
-        ≡ list_any (happened_by k) (started t n)
+    list_any-new_stretch : (k n : ℕ) → k ≤ suc n → list_any (happened_by k) (started_stretches t (suc n))
+        ≡ list_any (happened_by k) (started_stretches t n)
     list_any-new_stretch k n h = by_start (stretch_starts t (suc n)) refl
       where
-        by_start : (b : Bool) → stretch_starts t (suc n) ≡ b → list_any (happened_by k) (started t (suc n))
-            ≡ list_any (happened_by k) (started t n)
+        by_start : (b : Bool) → stretch_starts t (suc n) ≡ b → list_any (happened_by k) (started_stretches t (suc n))
+            ≡ list_any (happened_by k) (started_stretches t n)
         by_start true e =
             ap (list_any (happened_by k)) (stretches_more t (suc n) e)
-            ∙ list_any-append (happened_by k) (started t n) (stretch_from t (suc n) ∷ [])
-            ∙ ap (λ b. list_any (happened_by k) (started t n) || (b || false))
+            ∙ list_any-append (happened_by k) (started_stretches t n) (stretch_from t (suc n) ∷ [])
+            ∙ ap (λ b. list_any (happened_by k) (started_stretches t n) || (b || false))
             (happened_by-before_start k (stretch_from t (suc n)) h)
-            ∙ or-false (list_any (happened_by k) (started t n))
+            ∙ or-false (list_any (happened_by k) (started_stretches t n))
         by_start false e = ap (list_any (happened_by k)) (stretches_kept t (suc n) e)
 
     -- up to instant `n` rule `r` is asked exactly if it was asked before, or its event happens in a started stretch
     abbrev HaveHappened : AskedEvents → ℕ → Type 0
-    HaveHappened e n = asks_by (asked_to e n) r ≡ (asks_by e r || list_any (happened_by n) (started t n))
+    HaveHappened e n = asks_by (asked_to e n) r ≡ (asks_by e r || list_any (happened_by n) (started_stretches t n))
 
     -- the step from instant n to the next, if `HaveHappened` holds at n
     module _ (e : AskedEvents) (n : ℕ) (within : n < length t.steps) (so_far : HaveHappened e n) where
@@ -305,7 +306,8 @@ module _ (t : Trace) (ok : malformed_step t ≡ None) (few : t.opening.slots ≤
       asks_by-next = asks_by-with_stretch r now (next_at known_at t (known_phase n) n).shown.start own
 
       -- `HaveHappened` holds at n + 1 if the step adds no event to those noted, and none happens in a stretch
-      unjudged : now ≡ before → list_any (happened_by (suc n)) (started t n) ≡ list_any (happened_by n) (started t n)
+      unjudged : now ≡ before → list_any (happened_by (suc n)) (started_stretches t n)
+          ≡ list_any (happened_by n) (started_stretches t n)
           → HaveHappened e (suc n)
       unjudged quiet over =
           asks_by-next ∙ ap (λ (e : AskedEvents). asks_by e r) quiet ∙ so_far
@@ -317,7 +319,8 @@ module _ (t : Trace) (ok : malformed_step t ≡ None) (few : t.opening.slots ≤
           ≡ judging dtb_begin dtb_start_marks no_step_marks dtb_end_fault dtb_step p v w ends
           (dtb_observation v w (cs_at n))
       outer_next-judging p at =
-          rw at (outer_judging dtb_begin dtb_start_marks no_step_marks dtb_end_fault dtb_observation dtb_step
+          rw at (outer-in_stretch dtb_begin dtb_start_marks no_step_marks dtb_end_fault dtb_observation
+          dtb_step
           v w (cs_at n) p)
 
       -- a step that ends the stretch adds no event
@@ -336,7 +339,7 @@ module _ (t : Trace) (ok : malformed_step t ≡ None) (few : t.opening.slots ≤
             n
 
         -- the event has happened in a started stretch exactly if in one of those that are over, or in this one
-        list_any-past_and_here : (k : ℕ) → list_any (happened_by k) (started t n)
+        list_any-past_and_here : (k : ℕ) → list_any (happened_by k) (started_stretches t n)
             ≡ (list_any (happened_by k) work.past || happened_by k here)
         list_any-past_and_here k =
             ap (list_any (happened_by k)) work.stretches ∙ list_any-append (happened_by k) work.past (here ∷ [])
@@ -425,30 +428,31 @@ module _ (t : Trace) (ok : malformed_step t ≡ None) (few : t.opening.slots ≤
             HaveHappened-ended end.0 end.1 (omega (arith, loses.last))
 
       -- `HaveHappened` holds at n + 1 if n is in no judged stretch
-      HaveHappened-unjudged : AreOver n (started t n)
+      HaveHappened-unjudged : AreOver n (started_stretches t n)
           → Stands dtb_begin dtb_start_marks no_step_marks dtb_end_fault dtb_observation dtb_step t few ok n
           → HaveHappened e (suc n)
       HaveHappened-unjudged over (inl rest) =
           unjudged (events_in-waiting before (phase_at n) ends v w (cs_at n) kinds rest.waiting)
-          (list_any-ended n (started t n) over)
+          (list_any-ended n (started_stretches t n) over)
       HaveHappened-unjudged over (inr (inl work)) =
           let past_end = AreOver-last n work.past (stretch_from t work.start) (subst (AreOver n) work.stretches over) in
           absurd (omega (arith, past_end, work.running.before))
       HaveHappened-unjudged over (inr (inr at_end)) =
-          unjudged (rw at_end.ended refl) (list_any-ended n (started t n) over)
+          unjudged (rw at_end.ended refl) (list_any-ended n (started_stretches t n) over)
 
       -- `HaveHappened` holds at n + 1
       HaveHappened-next : HaveHappened e (suc n)
       HaveHappened-next =
-          elim (moves dtb_begin dtb_start_marks no_step_marks dtb_end_fault dtb_observation dtb_step t few ok n
+          elim (StepCase-at dtb_begin dtb_start_marks no_step_marks dtb_end_fault dtb_observation dtb_step t few ok n
           within) [
             | inl stays ↦ HaveHappened-unjudged stays.over
-                (stands dtb_begin dtb_start_marks no_step_marks dtb_end_fault dtb_observation dtb_step t few ok n
+                (Stands-at dtb_begin dtb_start_marks no_step_marks dtb_end_fault dtb_observation dtb_step t few ok n
                 (omega arith))
             | inr moving ↦
                 elim moving [
                   | inl starts ↦ HaveHappened-unjudged starts.over
-                      (stands dtb_begin dtb_start_marks no_step_marks dtb_end_fault dtb_observation dtb_step t few ok n
+                      (Stands-at dtb_begin dtb_start_marks no_step_marks dtb_end_fault dtb_observation dtb_step t few ok
+                      n
                       (omega arith))
                   | inr works ↦
                       elim works.does [
@@ -467,10 +471,10 @@ module _ (t : Trace) (ok : malformed_step t ≡ None) (few : t.opening.slots ≤
     HaveHappened-opening e = sym (ap (λ b. asks_by e r || b) (none_happened (stretch_starts t 0) refl)
         ∙ or-false (asks_by e r))
       where
-        none_happened : (b : Bool) → stretch_starts t 0 ≡ b → list_any (happened_by 0) (started t 0) ≡ false
-        none_happened true e = ap (list_any (happened_by 0)) (started_one t e)
+        none_happened : (b : Bool) → stretch_starts t 0 ≡ b → list_any (happened_by 0) (started_stretches t 0) ≡ false
+        none_happened true e = ap (list_any (happened_by 0)) (started_stretches-one t e)
             ∙ ap (λ b. b || false) (happened_by-before_start 0 (stretch_from t 0) (omega arith))
-        none_happened false e = ap (list_any (happened_by 0)) (started_none t e)
+        none_happened false e = ap (list_any (happened_by 0)) (started_stretches-none t e)
 
     -- `HaveHappened` holds at each instant
     pub HaveHappened-asked_to : (e : AskedEvents) (n : ℕ) → n ≤ length t.steps → HaveHappened e n
@@ -478,12 +482,12 @@ module _ (t : Trace) (ok : malformed_step t ≡ None) (few : t.opening.slots ≤
     HaveHappened-asked_to e (suc n) h = HaveHappened-next e n (omega arith) (HaveHappened-asked_to e n (omega arith))
 
     -- stretches that start after instant `k` add no event up to `k`
-    pub list_any-later_stretches : (k d : ℕ) → list_any (happened_by k) (started t (k + d))
-        ≡ list_any (happened_by k) (started t k)
+    pub list_any-later_stretches : (k d : ℕ) → list_any (happened_by k) (started_stretches t (k + d))
+        ≡ list_any (happened_by k) (started_stretches t k)
     list_any-later_stretches k zero =
         let none : k + 0 ≡ k = omega arith in
-        ap (λ n. list_any (happened_by k) (started t n)) none
+        ap (λ n. list_any (happened_by k) (started_stretches t n)) none
     list_any-later_stretches k (suc d) =
         let one : k + suc d ≡ suc (k + d) = omega arith in
-        ap (λ n. list_any (happened_by k) (started t n)) one ∙ list_any-new_stretch k (k + d) (omega arith)
+        ap (λ n. list_any (happened_by k) (started_stretches t n)) one ∙ list_any-new_stretch k (k + d) (omega arith)
         ∙ list_any-later_stretches k d

@@ -21,7 +21,7 @@ use Rattle.vme_monitor.specs.Whole.{FindsLeast, ShowsAll}
 use Rattle.vme_monitor.specs.declared.mark.Next.{Next}
 use Rattle.vme_monitor.proofs.InsideRules.{inside_first_break, inside_marks}
 use Rattle.vme_monitor.proofs.StretchFacts.{IsStretch}
-use Rattle.vme_monitor.proofs.Alongside.{levels_step, changes_fit, memory_early}
+use Rattle.vme_monitor.proofs.Alongside.{levels_at-step, are_changes-step, memory_from-before}
 use Rattle.vme_chains.specs.AcknowledgeRules.{acknowledge_begin, acknowledge_end_fault, acknowledge_next}
 use Rattle.vme_chains.specs.AcknowledgeRules.{acknowledge_start_marks, acknowledge_rules, acknowledge_shown}
 use Rattle.vme_chains.specs.AcknowledgeRules.{acknowledge_observation, fault_among, fault_on, changes_memory}
@@ -64,8 +64,8 @@ module _ (t : Trace) (stretch : Stretch) (ok : malformed_step t ≡ None) (few :
     first_changed-passes_on : first_changed (passes_on old new) changes ≡ least (passes_on old new) 0 line_count
     first_changed-passes_on =
         subst (λ (w : Levels). first_changed (passes_on old w) changes ≡ least (passes_on old w) 0 line_count)
-        (sym (levels_step t n within))
-        (first_changed-least old (passes_on old (changed old changes)) few_slots 0 changes (changes_fit t n ok within)
+        (sym (levels_at-step t n within))
+        (first_changed-least old (passes_on old (changed old changes)) few_slots 0 changes (are_changes-step t n ok within)
         (passes_on-unchanged old changes))
 
     -- the first changed line for which `passes_unasked` holds is the least of all lines for which it holds
@@ -73,9 +73,9 @@ module _ (t : Trace) (stretch : Stretch) (ok : malformed_step t ≡ None) (few :
         ≡ least (passes_unasked old new) 0 line_count
     first_changed-passes_unasked =
         subst (λ (w : Levels). first_changed (passes_unasked old w) changes ≡ least (passes_unasked old w) 0 line_count)
-        (sym (levels_step t n within))
+        (sym (levels_at-step t n within))
         (first_changed-least old (passes_unasked old (changed old changes)) few_slots 0 changes
-        (changes_fit t n ok within)
+        (are_changes-step t n ok within)
         (passes_unasked-unchanged old changes))
 
     -- the machine's step from n, with an observation or without
@@ -179,7 +179,7 @@ module _ (t : Trace) (stretch : Stretch) (ok : malformed_step t ≡ None) (few :
       elim (first_or_later stretch.start n from) [
         | inl first ↦
             let e : stretch.start ≡ suc n = omega arith in
-            rw (memory_early step t (acknowledge_begin (levels_at t stretch.start)) stretch.start (suc n) first)
+            rw (memory_from-before step t (acknowledge_begin (levels_at t stretch.start)) stretch.start (suc n) first)
             (subst (λ k. Holds t stretch k (acknowledge_begin (levels_at t stretch.start))) e
             (Holds-start t stretch facts))
         | inr later ↦ rw (le-ltb n stretch.start later) (holds_after n later before (omega arith) (memory_at n)

@@ -21,7 +21,7 @@ use Rattle.vme_monitor.specs.OverStretches.{observed, phase_step, start_in}
 use Rattle.vme_monitor.specs.Whole.{FindsLeast, ShowsAll}
 use Rattle.vme_monitor.specs.declared.mark.BusGrant.{BusGrant}
 use Rattle.vme_monitor.proofs.InsideRules.{inside_first_break, inside_marks}
-use Rattle.vme_monitor.proofs.Alongside.{levels_step, changes_fit, memory_early}
+use Rattle.vme_monitor.proofs.Alongside.{levels_at-step, are_changes-step, memory_from-before}
 use Rattle.vme_chains.specs.GrantLevels.{falls_between, rises_between, is_low_in, grant_begins, requested_in}
 use Rattle.vme_chains.specs.GrantLevels.{taken_between, touches_arbitration, is_cycle_unowned, is_ungranted}
 use Rattle.vme_chains.specs.GrantMemory.{is_in, union}
@@ -245,13 +245,14 @@ module _ (t : Trace) (stretch : Stretch) (few : t.opening.slots ≤ 21) where
     Holds-along zero from before within = Holds-at_start zero (omega arith)
     Holds-along (suc n) from before within =
         elim (le-suc_cases stretch.start n from) [
-          | inl e ↦ rw (memory_early (machine_step grant_observation grant_next) t started stretch.start (suc n)
+          | inl e ↦ rw (memory_from-before (machine_step grant_observation grant_next) t started stretch.start (suc n)
               (omega arith))
               (Holds-at_start (suc n) e)
           | inr earlier ↦
               rw (le-ltb n stretch.start earlier)
-              (Holds-next n earlier before (changes_of (slice_get t.steps n)) (levels_step t n (omega arith))
-              (changes_fit t n ok (omega arith)) (memory n) (touches_arbitration (changes_of (slice_get t.steps n)) ||
+              (Holds-next n earlier before (changes_of (slice_get t.steps n)) (levels_at-step t n (omega arith))
+              (are_changes-step t n ok (omega arith)) (memory n)
+              (touches_arbitration (changes_of (slice_get t.steps n)) ||
               is_cycle_unowned (levels_at t n) (levels_at t (suc n))) refl
               (Holds-along n earlier (omega arith) (omega arith)))
         ]
@@ -262,15 +263,15 @@ module _ (t : Trace) (stretch : Stretch) (few : t.opening.slots ≤ 21) where
         (memory n)
         n).fault ≡ break_at t stretch grant_rules (suc n)
     fault-inside n from before within =
-        fault-break_at n from before (changes_of (slice_get t.steps n)) (levels_step t n within)
-        (changes_fit t n ok within)
+        fault-break_at n from before (changes_of (slice_get t.steps n)) (levels_at-step t n within)
+        (are_changes-step t n ok within)
         (memory n) (Holds-along n from (omega arith) (omega arith))
 
     -- at each judged instant the machine shows the marks of tenures
     pub shown-inside : (n : ℕ) → stretch.start ≤ n → suc n < stretch.end → n < length t.steps
         → (next_at (machine_step grant_observation grant_next) t (memory n) n).shown ≡ tenures_shown t stretch (suc n)
     shown-inside n from before within = shown-tenures n from before (changes_of (slice_get t.steps n))
-        (levels_step t n within) (changes_fit t n ok within) (memory n)
+        (levels_at-step t n within) (are_changes-step t n ok within) (memory n)
 
   -- at the start of the stretch the machine shows the marks of tenures there
   grant_start_marks-shown : grant_start_marks (levels_at t stretch.start) ≡ tenures_shown t stretch stretch.start

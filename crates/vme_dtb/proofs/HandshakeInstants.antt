@@ -16,7 +16,7 @@ use Rattle.vme_monitor.specs.Tracking.{entered, is_unanswered, is_writing}
 use Rattle.vme_monitor.specs.declared.mark.Next.{Next}
 use Rattle.vme_monitor.specs.declared.tracking.TransferPhase.{TransferPhase}
 use Rattle.vme_monitor.proofs.StretchFacts.{IsStretch}
-use Rattle.vme_monitor.proofs.Alongside.{memory_early}
+use Rattle.vme_monitor.proofs.Alongside.{memory_from-before}
 use Rattle.vme_monitor.proofs.TrackedTransfers.{says_start, tracked_is}
 use Rattle.vme_dtb.specs.CycleState.{after_answer, cycle_entered}
 use Rattle.vme_dtb.specs.Edge.{edges_between}
@@ -120,7 +120,8 @@ module _ (t : Trace) (stretch : Stretch) (facts : IsStretch t stretch) where
 
   held_start : Holds t stretch stretch.start (memory_at stretch.start)
   held_start = subst (Holds t stretch stretch.start)
-      (sym (memory_early (machine_step dtb_observation dtb_step) t (dtb_begin (levels_at t stretch.start)) stretch.start
+      (sym (memory_from-before (machine_step dtb_observation dtb_step) t (dtb_begin (levels_at t stretch.start))
+      stretch.start
       stretch.start
       (omega arith))) holds_start
 

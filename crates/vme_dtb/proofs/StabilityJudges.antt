@@ -23,7 +23,7 @@ use Rattle.vme_monitor.specs.Whole.{FindsLeast, ShowsAll}
 use Rattle.vme_monitor.specs.declared.mark.Next.{Next}
 use Rattle.vme_monitor.proofs.InsideRules.{inside_first_break, inside_marks}
 use Rattle.vme_monitor.proofs.StretchFacts.{IsStretch}
-use Rattle.vme_monitor.proofs.Alongside.{changes_fit, levels_step, memory_early}
+use Rattle.vme_monitor.proofs.Alongside.{are_changes-step, levels_at-step, memory_from-before}
 use Rattle.vme_dtb.specs.StabilityRules.{fault_on, is_observed, shifted_fault, undriven_fault, keeps_direction}
 use Rattle.vme_dtb.specs.StabilityRules.{direction_turned, moved_fault, observation_of, stability_begin}
 use Rattle.vme_dtb.specs.StabilityRules.{stability_end_fault}
@@ -91,11 +91,11 @@ module _ (t : Trace) (stretch : Stretch) (ok : malformed_step t ≡ None) (facts
           address_least t stretch facts.reads n from before,
           direction_least t stretch facts.reads n from before,
           undriven_least t stretch facts.reads n from before m holds unbroken (changes_at n),
-          moved_least t stretch facts n from before unbroken (changes_at n) (levels_step t n within)
-              (changes_fit t n ok within) m holds,
+          moved_least t stretch facts n from before unbroken (changes_at n) (levels_at-step t n within)
+              (are_changes-step t n ok within) m holds,
           turned_least t stretch facts.reads n from before m holds (changes_at n),
-          shifted_least t stretch facts.reads n from before m holds unbroken (changes_at n) (levels_step t n within)
-              (changes_fit t n ok within),
+          shifted_least t stretch facts.reads n from before m holds unbroken (changes_at n) (levels_at-step t n within)
+              (are_changes-step t n ok within),
         )
         (first_fault (suc n) (time_at t (suc n)) (unknown_address (levels_at t n) (levels_at t (suc n)))
         (unknown_direction (levels_at t n) (levels_at t (suc n)))
@@ -179,7 +179,7 @@ module _ (t : Trace) (stretch : Stretch) (ok : malformed_step t ≡ None) (facts
     where
       at_start : stretch.start ≡ suc n → Holds t stretch (suc n) (memory_at (suc n))
       at_start e = rw (
-        memory_early step t (stability_begin (levels_at t stretch.start)) stretch.start (suc n) (omega arith),
+        memory_from-before step t (stability_begin (levels_at t stretch.start)) stretch.start (suc n) (omega arith),
         ← e,
       ) (holds_start t stretch facts.reads address_high (levels_at t stretch.start))
 

@@ -1,4 +1,4 @@
--- Facts of a stretch of a recording.
+-- What holds of each stretch of a recording: where it starts and ends, and that its control lines are known.
 use Rattle.std.proofs.Common.{◌≡◌, ℕ, ◌+◌, ◌<◌, ◌≤◌, Bool, true, false, not, ◌&&◌, refl, ◌∙◌, ap, arith}
 use Rattle.vme_trace.specs.LineNumbers.{line_count, is_control}
 use Rattle.vme_trace.specs.Levels.{level_at, is_known, is_idle, is_lost, is_reset, loses_control}
@@ -22,34 +22,39 @@ pub record IsStretch (t : Trace) (stretch : Stretch) : Type 0 where
       → is_known (level_at (levels_at t n) l) ≡ true
   pub reads : ReadsStrobes t stretch
 
-known_of : (a b c : Bool) → (a && not b && not c) ≡ false → a ≡ true → c ≡ false → b ≡ true
-known_of true true c h e f = refl
-known_of true false true h e f = absurd (cc)
-known_of true false false h e f = absurd (cc)
-known_of false b c h e f = absurd (cc)
+-- b is true if a is true and c false, and `a && not b && not c` is false
+is_known-of_unlost : (a b c : Bool) → (a && not b && not c) ≡ false → a ≡ true → c ≡ false → b ≡ true
+is_known-of_unlost true true c h e f = refl
+is_known-of_unlost true false true h e f = absurd (cc)
+is_known-of_unlost true false false h e f = absurd (cc)
+is_known-of_unlost false b c h e f = absurd (cc)
 
 module _ (t : Trace) (stretch : Stretch) (is : IsStretchOf t stretch) where
-  known_at : (n l : ℕ) → stretch.start ≤ n → n < stretch.end → l < line_count → is_control t.opening.slots l ≡ true
+  -- a control line is known at each instant of the stretch but its end
+  is_known-at : (n l : ℕ) → stretch.start ≤ n → n < stretch.end → l < line_count → is_control t.opening.slots l ≡ true
       → is_known (level_at (levels_at t n) l) ≡ true
   unfolding loses_control loses_control_at is_reset_at
-  known_at n l from before exists control =
-      known_of (is_control (levels_at t n).slots l) (is_known (level_at (levels_at t n) l)) (is_reset (levels_at t n))
+  is_known-at n l from before exists control =
+      is_known-of_unlost (is_control (levels_at t n).slots l) (is_known (level_at (levels_at t n) l))
+      (is_reset (levels_at t n))
       (any-fails (is_lost (levels_at t n)) 0 line_count l (stretch_unlost t stretch n is from before) (omega arith)
       exists)
       (ap (λ k. is_control k l) (slots_at t n) ∙ control)
       (stretch_unreset t stretch n is from before)
 
-  idle_start : is_idle (levels_at t stretch.start) ≡ true
+  -- the bus is idle at the start of the stretch
+  is_idle-start : is_idle (levels_at t stretch.start) ≡ true
   unfolding is_idle_at
-  idle_start = starts_idle t stretch is
+  is_idle-start = starts_idle t stretch is
 
+  -- each stretch of a recording has the parts of `IsStretch`
   pub stretch_facts : IsStretch t stretch
   stretch_facts =
       record {
-        idle = idle_start;
+        idle = is_idle-start;
         within = is.within;
         first = starts_before_end t stretch is;
         last = ends_within t stretch is;
-        known = known_at;
+        known = is_known-at;
         reads = stretch_reads t stretch is;
       }

@@ -19,35 +19,41 @@ use Rattle.vme_monitor.specs.Shows.{marks_on, marks_until, marks_within, marks_o
 use Rattle.vme_monitor.specs.Whole.{has_any_stretch}
 use Rattle.vme_monitor.specs.declared.mark.StepMarks.{StepMarks}
 use Rattle.vme_monitor.specs.declared.mark.Mark.{Mark}
-use Rattle.vme_monitor.proofs.Unbroken.{unbroken_after, unbroken_before}
+use Rattle.vme_monitor.proofs.Unbroken.{break_at-after_end, break_at-before_start}
 
 -- the stretches that have started at instant n or before
-abbrev pub started : Trace → ℕ → List Stretch
-started t n = stretches_before t (suc n)
+abbrev pub started_stretches : Trace → ℕ → List Stretch
+started_stretches t n = stretches_before t (suc n)
 
-none_before : (t : Trace) → stretches_before t 0 ≡ []
+-- no stretch starts before instant 0
+stretches_before-zero : (t : Trace) → stretches_before t 0 ≡ []
 unfolding those
-none_before t = refl
+stretches_before-zero t = refl
 
-pub started_none : (t : Trace) → stretch_starts t 0 ≡ false → started t 0 ≡ []
-started_none t h = stretches_kept t 0 h ∙ none_before t
+-- if no stretch starts at instant 0, none has started there
+pub started_stretches-none : (t : Trace) → stretch_starts t 0 ≡ false → started_stretches t 0 ≡ []
+started_stretches-none t h = stretches_kept t 0 h ∙ stretches_before-zero t
 
-pub started_one : (t : Trace) → stretch_starts t 0 ≡ true → started t 0 ≡ stretch_from t 0 ∷ []
-started_one t h = stretches_more t 0 h ∙ ap (λ stretches. stretches ++ stretch_from t 0 ∷ []) (none_before t)
+-- if a stretch starts at instant 0, it is the only one that has started there
+pub started_stretches-one : (t : Trace) → stretch_starts t 0 ≡ true → started_stretches t 0 ≡ stretch_from t 0 ∷ []
+started_stretches-one t h = stretches_more t 0 h ∙ ap (λ stretches. stretches ++ stretch_from t 0 ∷ [])
+    (stretches_before-zero t)
 
 -- each stretch of a list has ended at instant n or before
 abbrev pub AreOver : ℕ → List Stretch → Type 0
 AreOver n [] = Unit {0}
 AreOver n (stretch ∷ stretches) = (stretch.end ≤ n) × AreOver n stretches
 
-pub over_later : (n : ℕ) (stretches : List Stretch) → AreOver n stretches → AreOver (suc n) stretches
-over_later n [] h = tt
-over_later n (stretch ∷ stretches) h = (omega (arith, h.0), over_later n stretches h.1)
+-- stretches that are over at instant n are over at n + 1
+pub AreOver-later : (n : ℕ) (stretches : List Stretch) → AreOver n stretches → AreOver (suc n) stretches
+AreOver-later n [] h = tt
+AreOver-later n (stretch ∷ stretches) h = (omega (arith, h.0), AreOver-later n stretches h.1)
 
-pub over_both : (n : ℕ) (stretches : List Stretch) (stretch : Stretch) → AreOver n stretches → stretch.end ≤ n
+-- stretches that are over at n, and one more that has ended by n, are all over at n
+pub AreOver-append : (n : ℕ) (stretches : List Stretch) (stretch : Stretch) → AreOver n stretches → stretch.end ≤ n
     → AreOver n (stretches ++ stretch ∷ [])
-over_both n [] stretch h e = (e, tt)
-over_both n (x ∷ stretches) stretch h e = (h.0, over_both n stretches stretch h.1 e)
+AreOver-append n [] stretch h e = (e, tt)
+AreOver-append n (x ∷ stretches) stretch h e = (h.0, AreOver-append n stretches stretch h.1 e)
 
 -- the first break before instant n, over the stretches in order
 abbrev pub breaks_to : Trace → List Rule → ℕ → List Stretch → Option Break
@@ -59,124 +65,145 @@ abbrev pub marks_to : (Stretch → ℕ → StepMarks) → ℕ → List Stretch �
 marks_to shown n [] = []
 marks_to shown n (stretch ∷ stretches) = marks_until stretch (shown stretch) n ++ marks_to shown n stretches
 
-or_apart : (a b c : Option Break) → option_or (option_or a b) c ≡ option_or a (option_or b c)
-or_apart None b c = refl
-or_apart (Some x) b c = refl
+-- the first of three optional breaks, however they are grouped
+option_or-assoc : (a b c : Option Break) → option_or (option_or a b) c ≡ option_or a (option_or b c)
+option_or-assoc None b c = refl
+option_or-assoc (Some x) b c = refl
 
-pub earlier_none : (a : Option Break) → earlier a None ≡ a
-earlier_none None = refl
-earlier_none (Some b) = refl
+-- a break is the earlier one of itself and none
+pub earlier-none : (a : Option Break) → earlier a None ≡ a
+earlier-none None = refl
+earlier-none (Some b) = refl
 
 -- the first of a, b and c is the first of a, b and d, if c and d are equal where there is no b
-pub then_first : (a b c d : Option Break) → (b ≡ None → c ≡ d) → earlier (option_or a b) c ≡ option_or a (option_or b d)
-then_first None None c d h = h refl
-then_first None (Some b) c d h = refl
-then_first (Some a) b c d h = refl
+pub earlier-option_or : (a b c d : Option Break) → (b ≡ None → c ≡ d) → earlier (option_or a b) c
+    ≡ option_or a (option_or b d)
+earlier-option_or None None c d h = h refl
+earlier-option_or None (Some b) c d h = refl
+earlier-option_or (Some a) b c d h = refl
 
-pub has_some : (stretches : List Stretch) (stretch : Stretch) → has_any_stretch (stretches ++ stretch ∷ []) ≡ true
-has_some [] stretch = refl
-has_some (x ∷ stretches) stretch = refl
+-- a list with a stretch at its end has a stretch
+pub has_any_stretch-append : (stretches : List Stretch) (stretch : Stretch)
+    → has_any_stretch (stretches ++ stretch ∷ []) ≡ true
+has_any_stretch-append [] stretch = refl
+has_any_stretch-append (x ∷ stretches) stretch = refl
 
-pub stretches_started : (t : Trace) → judged_stretches t ≡ started t (last_instant t)
-stretches_started t = stretches_all t ∙ ap (stretches_before t) (add-one (last_instant t))
+-- the judged stretches are those that have started at the last instant
+pub judged_stretches-started : (t : Trace) → judged_stretches t ≡ started_stretches t (last_instant t)
+judged_stretches-started t = stretches_all t ∙ ap (stretches_before t) (add-one (last_instant t))
 
 module _ (t : Trace) (rules : List Rule) where
-  pub least_is : (stretches : List Stretch) → least_of rules t stretches
+  -- the least break of the rules over stretches is their first break up to the last instant
+  pub least_of-breaks_to : (stretches : List Stretch) → least_of rules t stretches
       ≡ breaks_to t rules (last_instant t + 1) stretches
   unfolding least_break
-  least_is [] = refl
-  least_is (stretch ∷ []) = sym (option_or-none (break_before t stretch rules (last_instant t + 1)))
-  least_is (stretch ∷ x ∷ stretches) = ap (option_or (break_before t stretch rules (last_instant t + 1)))
-      (least_is (x ∷ stretches))
+  least_of-breaks_to [] = refl
+  least_of-breaks_to (stretch ∷ []) = sym (option_or-none (break_before t stretch rules (last_instant t + 1)))
+  least_of-breaks_to (stretch ∷ x ∷ stretches) = ap (option_or (break_before t stretch rules (last_instant t + 1)))
+      (least_of-breaks_to (x ∷ stretches))
 
-  pub breaks_both : (n : ℕ) (stretches : List Stretch) (stretch : Stretch)
+  -- the first break over stretches and one more is that over the stretches, or else that of the last one
+  pub breaks_to-append : (n : ℕ) (stretches : List Stretch) (stretch : Stretch)
       → breaks_to t rules n (stretches ++ stretch ∷ [])
       ≡ option_or (breaks_to t rules n stretches) (break_before t stretch rules n)
-  breaks_both n [] stretch = option_or-none (break_before t stretch rules n)
-  breaks_both n (x ∷ stretches) stretch = rw (breaks_both n stretches stretch)
-      (sym (or_apart (break_before t x rules n) (breaks_to t rules n stretches) (break_before t stretch rules n)))
+  breaks_to-append n [] stretch = option_or-none (break_before t stretch rules n)
+  breaks_to-append n (x ∷ stretches) stretch = rw (breaks_to-append n stretches stretch)
+      (sym (option_or-assoc (break_before t x rules n) (breaks_to t rules n stretches)
+      (break_before t stretch rules n)))
 
-  pub before_next : (stretch : Stretch) (n : ℕ) → break_before t stretch rules (suc n)
+  -- the first break before instant n + 1 is the one before n, or else the one at n
+  pub break_before-next : (stretch : Stretch) (n : ℕ) → break_before t stretch rules (suc n)
       ≡ option_or (break_before t stretch rules n) (break_at t stretch rules n)
   unfolding break_before
-  before_next stretch n = refl
+  break_before-next stretch n = refl
 
-  before_first : (stretch : Stretch) → break_before t stretch rules 0 ≡ None
+  -- no stretch has a break before instant 0
+  break_before-zero : (stretch : Stretch) → break_before t stretch rules 0 ≡ None
   unfolding break_before
-  before_first stretch = refl
+  break_before-zero stretch = refl
 
   -- up to its start s, a stretch has no break
-  pub before_start : (s n : ℕ) → s ≤ last_instant t → n ≤ s + 1 → break_before t (stretch_from t s) rules n ≡ None
-  before_start s zero within h = before_first (stretch_from t s)
-  before_start s (suc n) within h =
-      before_next (stretch_from t s) n
+  pub break_before-start : (s n : ℕ) → s ≤ last_instant t → n ≤ s + 1 → break_before t (stretch_from t s) rules n ≡ None
+  break_before-start s zero within h = break_before-zero (stretch_from t s)
+  break_before-start s (suc n) within h =
+      break_before-next (stretch_from t s) n
       ∙ rw (
-        before_start s n within (omega arith),
-        unbroken_before t (stretch_from t s) rules n (end-after t s within)
+        break_before-start s n within (omega arith),
+        break_at-before_start t (stretch_from t s) rules n (end-after t s within)
             (omega arith),
       ) refl
 
   -- stretches that are over at n have nothing more at n + 1
-  pub breaks_over : (n : ℕ) (stretches : List Stretch) → AreOver n stretches → breaks_to t rules (suc (suc n)) stretches
+  pub breaks_to-over : (n : ℕ) (stretches : List Stretch) → AreOver n stretches
+      → breaks_to t rules (suc (suc n)) stretches
       ≡ breaks_to t rules (suc n) stretches
-  breaks_over n [] over = refl
-  breaks_over n (stretch ∷ stretches) over =
+  breaks_to-over n [] over = refl
+  breaks_to-over n (stretch ∷ stretches) over =
       rw (
-        breaks_over n stretches over.1,
-        before_next stretch (suc n),
-        unbroken_after t stretch rules (suc n)
+        breaks_to-over n stretches over.1,
+        break_before-next stretch (suc n),
+        break_at-after_end t stretch rules (suc n)
             (omega (arith, over.0)),
         option_or-none (break_before t stretch rules (suc n)),
       ) refl
 
 module _ (shown : Stretch → ℕ → StepMarks) where
-  pub marks_are : (t : Trace) (stretches : List Stretch) → marks_over shown t stretches
+  -- the marks over stretches are those up to the last instant
+  pub marks_over-marks_to : (t : Trace) (stretches : List Stretch) → marks_over shown t stretches
       ≡ marks_to shown (last_instant t + 1)
       stretches
-  marks_are t [] = refl
-  marks_are t (stretch ∷ stretches) = ap (λ ms. marks_within t stretch (shown stretch) ++ ms) (marks_are t stretches)
+  marks_over-marks_to t [] = refl
+  marks_over-marks_to t (stretch ∷ stretches) = ap (λ ms. marks_within t stretch (shown stretch) ++ ms)
+      (marks_over-marks_to t stretches)
 
-  pub marks_both : (n : ℕ) (stretches : List Stretch) (stretch : Stretch) → marks_to shown n (stretches ++ stretch ∷ [])
+  -- the marks over stretches and one more are those over the stretches, and then those of the last one
+  pub marks_to-append : (n : ℕ) (stretches : List Stretch) (stretch : Stretch)
+      → marks_to shown n (stretches ++ stretch ∷ [])
       ≡ marks_to shown n stretches ++ marks_until stretch (shown stretch) n
-  marks_both n [] stretch = append-nil (marks_until stretch (shown stretch) n)
-  marks_both n (x ∷ stretches) stretch = rw (marks_both n stretches stretch)
+  marks_to-append n [] stretch = append-nil (marks_until stretch (shown stretch) n)
+  marks_to-append n (x ∷ stretches) stretch = rw (marks_to-append n stretches stretch)
       (sym (append_assoc (marks_until x (shown x) n) (marks_to shown n stretches)
       (marks_until stretch (shown stretch) n)))
 
-  off_before : (j s e : ℕ) → j < s → (nat_lt 0 j && nat_le s j && nat_le j e) ≡ false
-  off_before j s e h = grind (arith, nat_tests)
+  -- an instant j before s is not within s and e
+  not_within-before : (j s e : ℕ) → j < s → (nat_lt 0 j && nat_le s j && nat_le j e) ≡ false
+  not_within-before j s e h = grind (arith, nat_tests)
 
-  off_after : (j s e : ℕ) → e < j → (nat_lt 0 j && nat_le s j && nat_le j e) ≡ false
-  off_after j s e h = grind (arith, nat_tests)
+  -- an instant j after e is not within s and e
+  not_within-after : (j s e : ℕ) → e < j → (nat_lt 0 j && nat_le s j && nat_le j e) ≡ false
+  not_within-after j s e h = grind (arith, nat_tests)
 
-  on_test : (j s e : ℕ) → 0 < j → s ≤ j → j ≤ e → (nat_lt 0 j && nat_le s j && nat_le j e) ≡ true
-  on_test j s e a b c = grind (arith, nat_tests)
+  -- an instant j other than 0, from s to e, is within s and e
+  within-true : (j s e : ℕ) → 0 < j → s ≤ j → j ≤ e → (nat_lt 0 j && nat_le s j && nat_le j e) ≡ true
+  within-true j s e a b c = grind (arith, nat_tests)
 
-  pub on_one_stretch : (stretch : Stretch) (n : ℕ) → stretch.start ≤ suc n → suc n ≤ stretch.end
+  -- at an instant from the start of a stretch to its end, the marks are what is shown there
+  pub marks_on-within : (stretch : Stretch) (n : ℕ) → stretch.start ≤ suc n → suc n ≤ stretch.end
       → marks_on stretch (shown stretch) (suc n)
       ≡ map (mark_at (suc n)) (kinds_of (shown stretch (suc n)))
-  on_one_stretch stretch n from to = rw (on_test (suc n) stretch.start stretch.end (omega arith) from to) refl
+  marks_on-within stretch n from to = rw (within-true (suc n) stretch.start stretch.end (omega arith) from to) refl
 
   -- up to its start a stretch has no marks
-  pub until_start : (stretch : Stretch) (n : ℕ) → n ≤ stretch.start → marks_until stretch (shown stretch) n ≡ []
-  until_start stretch zero h = refl
-  until_start stretch (suc n) h = rw (
-    until_start stretch n (omega arith),
-    off_before n stretch.start stretch.end (omega arith),
+  pub marks_until-start : (stretch : Stretch) (n : ℕ) → n ≤ stretch.start → marks_until stretch (shown stretch) n ≡ []
+  marks_until-start stretch zero h = refl
+  marks_until-start stretch (suc n) h = rw (
+    marks_until-start stretch n (omega arith),
+    not_within-before n stretch.start stretch.end (omega arith),
   )
       refl
 
-  pub marks_first : (stretches : List Stretch) → marks_to shown 1 stretches ≡ []
-  marks_first [] = refl
-  marks_first (stretch ∷ stretches) = marks_first stretches
+  -- before instant 1 there are no marks
+  pub marks_to-one : (stretches : List Stretch) → marks_to shown 1 stretches ≡ []
+  marks_to-one [] = refl
+  marks_to-one (stretch ∷ stretches) = marks_to-one stretches
 
   -- stretches that are over at n have nothing more at n + 1
-  pub marks_no_more : (n : ℕ) (stretches : List Stretch) → AreOver n stretches → marks_to shown (suc (suc n)) stretches
+  pub marks_to-over : (n : ℕ) (stretches : List Stretch) → AreOver n stretches → marks_to shown (suc (suc n)) stretches
       ≡ marks_to shown (suc n) stretches
-  marks_no_more n [] over = refl
-  marks_no_more n (stretch ∷ stretches) over =
+  marks_to-over n [] over = refl
+  marks_to-over n (stretch ∷ stretches) over =
       rw (
-        marks_no_more n stretches over.1,
-        off_after (suc n) stretch.start stretch.end (omega (arith, over.0)),
+        marks_to-over n stretches over.1,
+        not_within-after (suc n) stretch.start stretch.end (omega (arith, over.0)),
         append-nil (marks_until stretch (shown stretch) (suc n)),
       ) refl

@@ -15,52 +15,63 @@ use Rattle.vme_trace.specs.declared.rule.Rule.TheVariants.{U1}
 use Rattle.vme_trace.proofs.Ranges.{fails-any, least-none}
 
 -- no rule but U1 is broken at the end of a stretch
-ends_alone : (r : Rule) → (ends_stretch r ≡ false) ⊎ (r ≡ U1)
-ends_alone U1 = inr refl
-ends_alone r = inl refl
+ends_stretch-only_U1 : (r : Rule) → (ends_stretch r ≡ false) ⊎ (r ≡ U1)
+ends_stretch-only_U1 U1 = inr refl
+ends_stretch-only_U1 r = inl refl
 
 module _ (t : Trace) (stretch : Stretch) (j : ℕ) (unjudged : is_judged stretch j ≡ false)
-    (kept : (l : ℕ) → ((j == stretch.end) && nat_le j (last_instant t) && is_lost (levels_at t j) l) ≡ false) where
-  never : (r : Rule) (l : ℕ) → breaks t stretch r j l ≡ false
+    (no_line_lost : (l : ℕ) → ((j == stretch.end) && nat_le j (last_instant t) && is_lost (levels_at t j) l)
+    ≡ false) where
+  -- no line breaks a rule at an instant j that isn't judged, unless j is the stretch's end and a line is lost there
+  breaks-none : (r : Rule) (l : ℕ) → breaks t stretch r j l ≡ false
   unfolding breaks is_broken
-  never r l = elim (ends_alone r) [
+  breaks-none r l = elim (ends_stretch-only_U1 r) [
     | inl e ↦ rw (e, unjudged) refl
-    | inr e ↦ rw (e, kept l)
+    | inr e ↦ rw (e, no_line_lost l)
         (and-false (has_line t.opening.slots l))
   ]
 
-  rule_unbroken : (r : Rule) → rule_break t stretch j r ≡ None
+  -- no rule is broken at such an instant
+  rule_break-none : (r : Rule) → rule_break t stretch j r ≡ None
   unfolding rule_break
-  rule_unbroken r = rw (least-none (breaks t stretch r j) 0 line_count (fails-any (breaks t stretch r j) 0 line_count
-      (λ l a b. never r l))) refl
+  rule_break-none r = rw (least-none (breaks t stretch r j) 0 line_count (fails-any (breaks t stretch r j) 0 line_count
+      (λ l a b. breaks-none r l))) refl
 
-  unbroken : (rules : List Rule) → break_at t stretch rules j ≡ None
+  -- none of the rules is broken at such an instant
+  break_at-none : (rules : List Rule) → break_at t stretch rules j ≡ None
   unfolding break_at
-  unbroken [] = refl
-  unbroken (r ∷ rs) = rw (rule_unbroken r, unbroken rs) refl
+  break_at-none [] = refl
+  break_at-none (r ∷ rs) = rw (rule_break-none r, break_at-none rs) refl
 
 module _ (t : Trace) (stretch : Stretch) (rules : List Rule) where
-  off_before : (j s e : ℕ) → j ≤ s → (nat_lt s j && nat_lt j e) ≡ false
-  off_before j s e h = grind (arith, nat_tests)
+  -- an instant j up to s is not after s and before e
+  not_between-before : (j s e : ℕ) → j ≤ s → (nat_lt s j && nat_lt j e) ≡ false
+  not_between-before j s e h = grind (arith, nat_tests)
 
-  off_after : (j s e : ℕ) → e ≤ j → (nat_lt s j && nat_lt j e) ≡ false
-  off_after j s e h = grind (arith, nat_tests)
+  -- an instant j from e on is not after s and before e
+  not_between-after : (j s e : ℕ) → e ≤ j → (nat_lt s j && nat_lt j e) ≡ false
+  not_between-after j s e h = grind (arith, nat_tests)
 
-  elsewhere : (j e : ℕ) (a b : Bool) → (j < e) ⊎ (e < j) → ((j == e) && a && b) ≡ false
-  elsewhere j e a b h = grind (arith, nat_tests)
+  -- an instant j other than e is not e
+  not_end-elsewhere : (j e : ℕ) (a b : Bool) → (j < e) ⊎ (e < j) → ((j == e) && a && b) ≡ false
+  not_end-elsewhere j e a b h = grind (arith, nat_tests)
 
-  pub unbroken_before : (j : ℕ) → stretch.start < stretch.end → j ≤ stretch.start → break_at t stretch rules j ≡ None
-  unbroken_before j order h = unbroken t stretch j (off_before j stretch.start stretch.end h)
-      (λ l. elsewhere j stretch.end _ _ (inl (omega arith))) rules
+  -- no rule is broken up to the start of a stretch
+  pub break_at-before_start : (j : ℕ) → stretch.start < stretch.end → j ≤ stretch.start → break_at t stretch rules j
+      ≡ None
+  break_at-before_start j order h = break_at-none t stretch j (not_between-before j stretch.start stretch.end h)
+      (λ l. not_end-elsewhere j stretch.end _ _ (inl (omega arith))) rules
 
-  pub unbroken_after : (j : ℕ) → stretch.end < j → break_at t stretch rules j ≡ None
-  unbroken_after j h = unbroken t stretch j (off_after j stretch.start stretch.end (omega arith))
-      (λ l. elsewhere j stretch.end _ _ (inr h)) rules
+  -- no rule is broken after the end of a stretch
+  pub break_at-after_end : (j : ℕ) → stretch.end < j → break_at t stretch rules j ≡ None
+  break_at-after_end j h = break_at-none t stretch j (not_between-after j stretch.start stretch.end (omega arith))
+      (λ l. not_end-elsewhere j stretch.end _ _ (inr h)) rules
 
-  pub unbroken_at_reset : (j : ℕ) → stretch.end ≡ j → is_reset_at t j ≡ true → break_at t stretch rules j ≡ None
+  -- no rule is broken at the end of a stretch, if the bus is reset there
+  pub break_at-reset : (j : ℕ) → stretch.end ≡ j → is_reset_at t j ≡ true → break_at t stretch rules j ≡ None
   unfolding is_reset_at
-  unbroken_at_reset j e reset =
-      unbroken t stretch j (off_after j stretch.start stretch.end (omega arith))
+  break_at-reset j e reset =
+      break_at-none t stretch j (not_between-after j stretch.start stretch.end (omega arith))
       (λ l. rw reset (last_false (j == stretch.end) (nat_le j (last_instant t)) _)) rules
     where
       last_false : (a b c : Bool) → (a && b && (c && not true)) ≡ false
