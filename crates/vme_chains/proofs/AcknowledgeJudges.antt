@@ -19,7 +19,7 @@ use Rattle.vme_monitor.specs.Run.{break_of_fault, machine_step, no_step_marks, r
 use Rattle.vme_monitor.specs.OverStretches.{observed, phase_step, start_in}
 use Rattle.vme_monitor.specs.Whole.{FindsLeast, ShowsAll}
 use Rattle.vme_monitor.specs.declared.mark.Next.{Next}
-use Rattle.vme_monitor.proofs.InsideRules.{inside_first_break, inside_marks}
+use Rattle.vme_monitor.proofs.InsideRules.{FindsLeast-inside, ShowsAll-inside}
 use Rattle.vme_monitor.proofs.StretchFacts.{IsStretch}
 use Rattle.vme_monitor.proofs.Alongside.{levels_at-step, are_changes-step, memory_from-before}
 use Rattle.vme_chains.specs.AcknowledgeRules.{acknowledge_begin, acknowledge_end_fault, acknowledge_next}
@@ -199,7 +199,7 @@ pub acknowledge_first_break : FindsLeast
     (run_of (machine_step (observed acknowledge_observation) (phase_step acknowledge_begin acknowledge_start_marks
     no_step_marks (λ l. None)
     acknowledge_next))) (start_in acknowledge_begin) acknowledge_rules
-acknowledge_first_break = inside_first_break acknowledge_begin acknowledge_start_marks acknowledge_observation
+acknowledge_first_break = FindsLeast-inside acknowledge_begin acknowledge_start_marks acknowledge_observation
     acknowledge_next acknowledge_rules
     refl (λ t stretch ok few facts n from before within unbroken. acknowledge_inside t stretch ok few facts n from
     before
@@ -211,7 +211,7 @@ pub acknowledge_marks : ShowsAll
     (phase_step acknowledge_begin acknowledge_start_marks no_step_marks acknowledge_end_fault
     acknowledge_next))) (start_in acknowledge_begin) no_step_marks acknowledge_shown
 acknowledge_marks =
-    inside_marks acknowledge_begin acknowledge_start_marks acknowledge_observation acknowledge_next
+    ShowsAll-inside acknowledge_begin acknowledge_start_marks acknowledge_observation acknowledge_next
     acknowledge_end_fault acknowledge_shown
     (λ t stretch ok few facts. record {
       at_start = refl;

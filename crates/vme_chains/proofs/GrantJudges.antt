@@ -20,7 +20,7 @@ use Rattle.vme_monitor.specs.Run.{break_of_fault, machine_step, run_of, no_step_
 use Rattle.vme_monitor.specs.OverStretches.{observed, phase_step, start_in}
 use Rattle.vme_monitor.specs.Whole.{FindsLeast, ShowsAll}
 use Rattle.vme_monitor.specs.declared.mark.BusGrant.{BusGrant}
-use Rattle.vme_monitor.proofs.InsideRules.{inside_first_break, inside_marks}
+use Rattle.vme_monitor.proofs.InsideRules.{FindsLeast-inside, ShowsAll-inside}
 use Rattle.vme_monitor.proofs.Alongside.{levels_at-step, are_changes-step, memory_from-before}
 use Rattle.vme_chains.specs.GrantLevels.{falls_between, rises_between, is_low_in, grant_begins, requested_in}
 use Rattle.vme_chains.specs.GrantLevels.{taken_between, touches_arbitration, is_cycle_unowned, is_ungranted}
@@ -297,7 +297,7 @@ pub grant_first_break : FindsLeast
     (run_of (machine_step (observed grant_observation)
     (phase_step grant_begin grant_start_marks no_step_marks (λ l. None) grant_next)))
     (start_in grant_begin) grant_rules
-grant_first_break = inside_first_break grant_begin grant_start_marks grant_observation grant_next grant_rules refl
+grant_first_break = FindsLeast-inside grant_begin grant_start_marks grant_observation grant_next grant_rules refl
     (λ t stretch ok few facts n from before within unbroken. fault-inside t stretch few ok n from before within)
 
 -- over every recording the grant monitor shows the tenures
@@ -306,7 +306,7 @@ pub grant_marks : ShowsAll
     (phase_step grant_begin grant_start_marks no_step_marks grant_end_fault grant_next)))
     (start_in grant_begin) no_step_marks tenures_shown
 grant_marks =
-    inside_marks grant_begin grant_start_marks grant_observation grant_next grant_end_fault tenures_shown
+    ShowsAll-inside grant_begin grant_start_marks grant_observation grant_next grant_end_fault tenures_shown
     (λ t stretch ok few facts. record {
       at_start = grant_start_marks-shown t stretch few;
       inside = λ n from before within. shown-inside t stretch few ok n from before within;

@@ -31,7 +31,7 @@ use Rattle.vme_monitor.specs.declared.mark.Next.{Next}
 use Rattle.vme_monitor.specs.declared.tracking.TransferPhase.{TransferPhase}
 use Rattle.vme_monitor.specs.declared.tracking.TransferPhase.TheVariants.{Closed, Reading, Writing, Answered}
 use Rattle.vme_monitor.proofs.LeastLines.{least_answer}
-use Rattle.vme_monitor.proofs.InsideRules.{inside_first_break, inside_marks}
+use Rattle.vme_monitor.proofs.InsideRules.{FindsLeast-inside, ShowsAll-inside}
 use Rattle.vme_monitor.proofs.StretchFacts.{IsStretch}
 use Rattle.vme_dtb.specs.Edge.{cycle_start_of, edges_between}
 use Rattle.vme_dtb.specs.Machine.{answer_in, answered_in, cycle_faults, cycle_rules, dtb_begin, dtb_end_fault, dtb_next}
@@ -194,7 +194,7 @@ pub dtb_first_break : FindsLeast
     dtb_step))) (start_in dtb_begin)
     handshake_rules
 dtb_first_break =
-    inside_first_break dtb_begin dtb_start_marks dtb_observation dtb_step handshake_rules refl
+    FindsLeast-inside dtb_begin dtb_start_marks dtb_observation dtb_step handshake_rules refl
     (λ t stretch ok few facts n from before within unbroken. dtb_inside t stretch facts n from before
     (memory_at t stretch facts n) (holds_at t stretch facts n from (omega (arith, before))))
 
@@ -202,7 +202,7 @@ pub dtb_marks : ShowsAll
     (run_of (machine_step (observed dtb_observation) (phase_step dtb_begin dtb_start_marks no_step_marks dtb_end_fault
     dtb_step))) (start_in dtb_begin) no_step_marks handshake_shown
 dtb_marks =
-    inside_marks dtb_begin dtb_start_marks dtb_observation dtb_step dtb_end_fault handshake_shown
+    ShowsAll-inside dtb_begin dtb_start_marks dtb_observation dtb_step dtb_end_fault handshake_shown
     (λ t stretch ok few facts. record {
       at_start = shown_start t stretch;
       inside = λ n from before within. dtb_kinds t stretch facts n from before (memory_at t stretch facts n)

@@ -21,7 +21,7 @@ use Rattle.vme_monitor.specs.Run.{break_of_fault, no_step_marks, machine_step, q
 use Rattle.vme_monitor.specs.OverStretches.{observed, phase_step, start_in}
 use Rattle.vme_monitor.specs.Whole.{FindsLeast, ShowsAll}
 use Rattle.vme_monitor.specs.declared.mark.Next.{Next}
-use Rattle.vme_monitor.proofs.InsideRules.{inside_first_break, inside_marks}
+use Rattle.vme_monitor.proofs.InsideRules.{FindsLeast-inside, ShowsAll-inside}
 use Rattle.vme_monitor.proofs.StretchFacts.{IsStretch}
 use Rattle.vme_monitor.proofs.Alongside.{are_changes-step, levels_at-step, memory_from-before}
 use Rattle.vme_dtb.specs.StabilityRules.{fault_on, is_observed, shifted_fault, undriven_fault, keeps_direction}
@@ -198,7 +198,7 @@ pub stability_first_break : FindsLeast
     (phase_step stability_begin stability_start_marks no_step_marks
     (λ l. None)
     stability_next))) (start_in stability_begin) stability_rules
-stability_first_break = inside_first_break stability_begin stability_start_marks stability_observation stability_next
+stability_first_break = FindsLeast-inside stability_begin stability_start_marks stability_observation stability_next
     stability_rules refl
     (λ t stretch ok few facts n from before within unbroken. judges_inside t stretch ok facts n from before within
     unbroken)
@@ -208,7 +208,7 @@ pub stability_marks : ShowsAll
     (phase_step stability_begin stability_start_marks no_step_marks stability_end_fault
     stability_next))) (start_in stability_begin) no_step_marks stability_shown
 stability_marks =
-    inside_marks stability_begin stability_start_marks stability_observation stability_next stability_end_fault
+    ShowsAll-inside stability_begin stability_start_marks stability_observation stability_next stability_end_fault
     stability_shown (λ t stretch ok few facts. record {
       at_start = refl;
       inside = λ n from before within. by_observation (stability_observation (levels_at t n) (levels_at t (suc n))

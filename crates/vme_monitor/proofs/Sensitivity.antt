@@ -1,3 +1,5 @@
+-- A step that no row of a table notices changes no row; and only a step of threshold 0, which each row notices, can
+-- make a row more sensitive.
 use Rattle.std.proofs.Common.{◌≡◌, ℕ, ◌<◌, ◌≤◌, List, [], ◌∷◌, length, map, refl, sym, ◌∙◌, ap, append-nil, arith}
 use Rattle.std.proofs.Common.{Option, Some, None}
 use Rattle.std.proofs.lemmas.List.{get_or-map, length-map}
@@ -12,18 +14,19 @@ use Rattle.vme_monitor.specs.declared.link.TableRow.{TableRow}
 use Rattle.vme_monitor.specs.declared.mark.Next.{Next}
 
 -- a bound m on the sizes gives each greater bound n
-pub no_more : {A : Type 0} (size : A → ℕ) (m n : ℕ) (xs : List A) → m ≤ n → All (λ x. size x ≤ m) xs
+pub All-greater_bound : {A : Type 0} (size : A → ℕ) (m n : ℕ) (xs : List A) → m ≤ n → All (λ x. size x ≤ m) xs
     → All (λ x. size x ≤ n) xs
-no_more size m n xs h a k d b = let small : size (get_or xs k d) ≤ m = a k d b in omega arith
+All-greater_bound size m n xs h a k d b = let small : size (get_or xs k d) ≤ m = a k d b in omega arith
 
+-- the earlier of a and none is a
 earlier-none : {A : Type 0} (a : Option A) → earlier a None ≡ a
 earlier-none None = refl
 earlier-none (Some x) = refl
 
 -- a step that leaves the memory as it is, breaks nothing and shows nothing, leaves the outcome as it is
-pub extended_quiet : {P : Type 0} (n time : ℕ) (a : Outcome P) (next : Next P) → next ≡ quiet a.leaving
+pub extended-quiet : {P : Type 0} (n time : ℕ) (a : Outcome P) (next : Next P) → next ≡ quiet a.leaving
     → extended a (outcome_at n time next) ≡ a
-extended_quiet n time a next e = rw (e, earlier-none a.first_break, append-nil a.marks) refl
+extended-quiet n time a next e = rw (e, earlier-none a.first_break, append-nil a.marks) refl
 
 module _ {P S : Type 0} (observation : Levels → Levels → List Change → Option S) (next : P → Levels → Levels → S
     → Next P) (sensitivity : P → ℕ) (threshold : S → ℕ)
@@ -39,7 +42,7 @@ module _ {P S : Type 0} (observation : Levels → Levels → List Change → Opt
   rows_unchanged before after cs seen n time most [] e h a = refl
   rows_unchanged before after cs seen n time most (row ∷ rows) e h a =
       let here : extended (outcome_of row) (outcome_at n time (next row.memory before after seen))
-      ≡ outcome_of row = extended_quiet n time (outcome_of row) (next row.memory before after seen)
+      ≡ outcome_of row = extended-quiet n time (outcome_of row) (next row.memory before after seen)
       (unchanged row.memory before after seen (first (a 0 row (omega arith)))) in
       rw (
         e,

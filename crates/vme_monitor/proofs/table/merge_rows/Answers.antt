@@ -4,7 +4,7 @@ use Rattle.std.proofs.lemmas.List.{map-append}
 use Rattle.vme_monitor.specs.Walk.{outcome_of, link_value, link_values}
 use Rattle.vme_monitor.specs.declared.link.Link.{Link}
 use Rattle.vme_monitor.proofs.Reaches.{reach-rejoin}
-use Rattle.vme_monitor.proofs.Storing.{marks_rejoined}
+use Rattle.vme_monitor.proofs.Storing.{marks_of-rejoined}
 use Rattle.vme_monitor.proofs.table.merge_rows.Goals as goal
 
 pub returns-in_ok-push : goal.returns-in_ok-push
@@ -17,6 +17,6 @@ returns-in_ok-push g c =
       bounded = λ a. rw c.as_slice-then-have_merged.ensures.value at c.most_sensitive.ensures;
       apart = c.in_ok-links.ensures.apart;
       among = c.in_ok-links.ensures.among;
-      marks = rw (c.in_ok-push.ensures.items, e, m.1) (marks_rejoined (link_values c.args.layers.now.items) m.0
+      marks = rw (c.in_ok-push.ensures.items, e, m.1) (marks_of-rejoined (link_values c.args.layers.now.items) m.0
           (map outcome_of c.args.rows.now.items) (map link_value c.in_ok-links.links.items) m.2);
     }

@@ -1,5 +1,5 @@
 use Rattle.std.proofs.Common.{rules, ap, sym, ◌∙◌}
-use Rattle.vme_monitor.proofs.Stepped.{stepped_rest}
+use Rattle.vme_monitor.proofs.Stepped.{drop-set_next}
 use Rattle.vme_part_tables.specs.Composed.{entry_on}
 use Rattle.vme_part_tables.proofs.Stepping.{stepped_one}
 use Rattle.vme_part_tables.proofs.compose.connect_entries.Goals as goal
@@ -12,6 +12,6 @@ loop-entry-preserved c =
           c.connect_entry.new.entry (search rules) (search rules) (search rules)
           (c.connect_entry.ensures ∙ ap g (sym c.entry-item.is)) c.loop-entry.invariant.done
           c.loop-entry.invariant.rest;
-      rest = stepped_rest c.loop-entry.entries c.args.entries.now c.loop-entry.entry-index c.connect_entry.new.entry
+      rest = drop-set_next c.loop-entry.entries c.args.entries.now c.loop-entry.entry-index c.connect_entry.new.entry
           c.loop-entry.invariant.rest;
     }

@@ -1,6 +1,6 @@
 use Rattle.std.proofs.Common.{◌≡◌, ◌-◌, ◌≤◌, rules, ap, sym, ◌∙◌, arith, length, map, take}
 use Rattle.std.proofs.lemmas.List.{length-map, take_all}
-use Rattle.vme_monitor.proofs.Stepped.{stepped_rest}
+use Rattle.vme_monitor.proofs.Stepped.{drop-set_next}
 use Rattle.vme_part_format.specs.Tables.{node_value}
 use Rattle.vme_part_tables.specs.Composed.{node_on, nodes_on}
 use Rattle.vme_part_tables.proofs.Composing.{length-nodes_on}
@@ -17,7 +17,7 @@ loop-node-preserved c =
           c.connect_node.new.node (search rules) (search rules) (search rules) (omega arith)
           (c.connect_node.ensures ∙ ap (λ n. g j (node_value n)) (sym c.node-item.is)) c.loop-node.invariant.done
           c.loop-node.invariant.rest;
-      rest = stepped_rest c.loop-node.nodes c.args.nodes.now c.loop-node.node-index c.connect_node.new.node
+      rest = drop-set_next c.loop-node.nodes c.args.nodes.now c.loop-node.node-index c.connect_node.new.node
           c.loop-node.invariant.rest;
     }
 

@@ -1,5 +1,5 @@
 use Rattle.std.proofs.Common.{rules, ap, sym, subst, ◌∙◌}
-use Rattle.vme_monitor.proofs.Stepped.{stepped_rest}
+use Rattle.vme_monitor.proofs.Stepped.{drop-set_next}
 use Rattle.vme_part_format.specs.declared.table.TableEntry.{TableEntry}
 use Rattle.vme_part_tables.specs.Pruned.{IsKept, entry_kept}
 use Rattle.vme_part_tables.proofs.Stepping.{same_at, stepped_one}
@@ -20,6 +20,6 @@ loop-entry-preserved c =
           c.renumber_entry.new.entry (search rules) (search rules) (search rules)
           (c.renumber_entry.ensures ∙ ap g (sym c.entry-item.is)) c.loop-entry.invariant.done
           c.loop-entry.invariant.rest;
-      rest = stepped_rest c.loop-entry.entries c.args.entries.now c.loop-entry.entry-index c.renumber_entry.new.entry
+      rest = drop-set_next c.loop-entry.entries c.args.entries.now c.loop-entry.entry-index c.renumber_entry.new.entry
           c.loop-entry.invariant.rest;
     }

@@ -2,7 +2,7 @@ use Rattle.std.proofs.Common.{rules, ap, map, ◌∙◌}
 use Rattle.vme_monitor.specs.Run.{machine_step}
 use Rattle.vme_monitor.specs.Walk.{link_values, outcome_of}
 use Rattle.vme_monitor.proofs.DistinctRows.{fresh_apart}
-use Rattle.vme_monitor.proofs.Storing.{marks_fresh}
+use Rattle.vme_monitor.proofs.Storing.{marks_of-fresh}
 use Rattle.vme_monitor.proofs.Summarising.{fresh_gives}
 use Rattle.vme_monitor.proofs.table.Unfinished.new.Goals as goal
 
@@ -20,6 +20,6 @@ returns g c =
           fresh_apart next g.M.Memory.Enumerable.COUNT g.M.Memory.Enumerable.place_of g.M.Memory.Enumerable.nth_of
           (link_values c.merge_rows.new.layers.items) (map outcome_of c.merge_rows.new.rows.items) o
           c.in_ok-most.ensures.apart
-          (c.in_ok-most.ensures.marks ∙ marks_fresh (link_values c.new-layers.result.items) c.in_ok-all.all.items
+          (c.in_ok-most.ensures.marks ∙ marks_of-fresh (link_values c.new-layers.result.items) c.in_ok-all.all.items
           (map outcome_of c.in_ok-rows.rows.items) (ap link_values c.new-layers.ensures.items) (search rules));
     }
