@@ -24,7 +24,7 @@ use Rattle.vme_monitor.specs.Tracking.{answered_by, entered, is_unanswered}
 use Rattle.vme_monitor.specs.declared.tracking.TransferPhase.{TransferPhase}
 use Rattle.vme_monitor.specs.declared.tracking.TransferPhase.TheVariants.{Closed, Reading, Writing, Answered}
 use Rattle.vme_monitor.proofs.StretchFacts.{IsStretch}
-use Rattle.vme_monitor.proofs.TrackedTransfers.{says_start, tracked_is, is_answer_is}
+use Rattle.vme_monitor.proofs.TrackedTransfers.{IsTransferPhase-start, IsTransferPhase-tracked, is_answer-tracked}
 use Rattle.vme_chains.specs.AcknowledgeRules.{acknowledge_begin, answered_by_dtack_after, changes_memory}
 use Rattle.vme_chains.specs.AcknowledgeRules.{changes_strobes}
 use Rattle.vme_chains.specs.AcknowledgeRules.{is_answered_by_dtack, memory_after}
@@ -82,7 +82,7 @@ module _ (t : Trace) (stretch : Stretch) where
     pub Holds-start : Holds stretch.start (acknowledge_begin (levels_at t stretch.start))
     unfolding low
     Holds-start = record {
-      transfer = says_start t stretch facts.reads;
+      transfer = IsTransferPhase-start t stretch facts.reads;
       idle = λ off. refl;
       cycle = λ on. absurd
           (clash (is_low (level_at (levels_at t stretch.start) AS)) on
@@ -108,7 +108,8 @@ module _ (t : Trace) (stretch : Stretch) where
       dtack_answers-next : (m : TransferPhase) → IsTransferPhase t stretch n m → dtack_answers (suc n)
           ≡ is_answered_by_dtack m old
           new
-      dtack_answers-next m is_phase = rw (is_answer_is t stretch facts.reads n from before m is_phase, falls-next DTACK)
+      dtack_answers-next m is_phase =
+          rw (is_answer-tracked t stretch facts.reads n from before m is_phase, falls-next DTACK)
           (by_tests (is_unanswered (entered m old new)) (falls_between old new DTACK) (falls_between old new BERR))
         where
           by_tests : (u d b : Bool) → ((u && (d || b)) && d) ≡ (u && d)
@@ -213,7 +214,7 @@ module _ (t : Trace) (stretch : Stretch) where
       -- the memory is right of n + 1
       pub Holds-next : (m : AcknowledgeMemory) → Holds n m → Holds (suc n) (memory_after m old new)
       Holds-next m h = record {
-        transfer = tracked_is t stretch facts.reads n from before m.transfer h.transfer;
+        transfer = IsTransferPhase-tracked t stretch facts.reads n from before m.transfer h.transfer;
         idle
             = answered_by_dtack-idle m;
         cycle = HasOpenCycle-next m h;

@@ -21,7 +21,7 @@ use Rattle.vme_monitor.specs.Run.{break_of_fault}
 use Rattle.vme_monitor.specs.Tracking.{entered, is_unanswered, is_writing}
 use Rattle.vme_monitor.specs.declared.tracking.TransferPhase.{TransferPhase}
 use Rattle.vme_monitor.specs.declared.tracking.TransferPhase.TheVariants.{Closed, Reading, Writing, Answered}
-use Rattle.vme_monitor.proofs.TrackedTransfers.{answers_write_is}
+use Rattle.vme_monitor.proofs.TrackedTransfers.{answers_write-tracked}
 use Rattle.vme_dtb.specs.CycleState.{cycle_entered, is_interrupt_acknowledge, is_answered_interrupt_acknowledge}
 use Rattle.vme_dtb.specs.CycleState.{is_read_modify_write_broken, is_direction_changed}
 use Rattle.vme_dtb.specs.Edge.{cycle_start_of, edges_between}
@@ -99,7 +99,7 @@ module _ (t : Trace) (stretch : Stretch) (reads : ReadsStrobes t stretch) (n : �
   -- whether instant n + 1 is the answer of a write, by the phase of the transfer and the edges
   pub write_is : answers_write t stretch (suc n) ≡ (is_writing within && is_some seen.answer_fall)
   write_is =
-      answers_write_is t stretch reads n from before m.transfer holds.transfer
+      answers_write-tracked t stretch reads n from before m.transfer holds.transfer
       ∙ ap (λ b. is_writing within && b) (some_of (falls_between (old t n) (new t n) DTACK)
       (falls_between (old t n) (new t n) BERR) DTACK BERR)
 

@@ -19,7 +19,7 @@ use Rattle.vme_trace.proofs.OpenTransfers.{ReadsStrobes}
 use Rattle.vme_monitor.specs.Run.{break_of_fault}
 use Rattle.vme_monitor.specs.Tracking.{entered, is_unanswered, is_within}
 use Rattle.vme_monitor.specs.declared.tracking.TransferPhase.{TransferPhase}
-use Rattle.vme_monitor.proofs.TrackedTransfers.{in_transfer_is, is_answer_is}
+use Rattle.vme_monitor.proofs.TrackedTransfers.{in_transfer-tracked, is_answer-tracked}
 use Rattle.vme_dtb.specs.Edge.{edges_between}
 use Rattle.vme_dtb.specs.Machine.{answer_in, fault_if, early_rise, may_rise, is_doubled, is_replied, is_left_unanswered}
 use Rattle.vme_dtb.specs.Machine.{strobe_faults}
@@ -131,7 +131,7 @@ module _ (t : Trace) (stretch : Stretch) (reads : ReadsStrobes t stretch) (n : �
       rule_from t n stretch from before H4 (not (is_within within)) seen.answer_fall
       (on_answers t n stretch from before H4 (λ l. falls t l (suc n)) (not (in_transfer t stretch (λ i. true) (suc n)))
       form_4
-      ∙ same_cond _ _ _ _ (ap not (in_transfer_is t stretch reads n from before m.transfer holds.transfer))
+      ∙ same_cond _ _ _ _ (ap not (in_transfer-tracked t stretch reads n from before m.transfer holds.transfer))
       (answer_fall_is t n))
 
   abbrev twice_at : ℕ → Bool
@@ -218,7 +218,7 @@ module _ (t : Trace) (stretch : Stretch) (reads : ReadsStrobes t stretch) (n : �
   -- whether instant n + 1 is an answer, by the phase of the transfer and the edges
   pub answer_is : is_answer t stretch (suc n) ≡ (is_unanswered within && is_some seen.answer_fall)
   answer_is =
-      is_answer_is t stretch reads n from before m.transfer holds.transfer
+      is_answer-tracked t stretch reads n from before m.transfer holds.transfer
       ∙ ap (λ b. is_unanswered within && b) (some_of (falls_between (old t n) (new t n) DTACK)
       (falls_between (old t n) (new t n) BERR) DTACK BERR)
 

@@ -17,7 +17,7 @@ use Rattle.vme_monitor.specs.declared.mark.Next.{Next}
 use Rattle.vme_monitor.specs.declared.tracking.TransferPhase.{TransferPhase}
 use Rattle.vme_monitor.proofs.StretchFacts.{IsStretch}
 use Rattle.vme_monitor.proofs.Alongside.{memory_from-before}
-use Rattle.vme_monitor.proofs.TrackedTransfers.{says_start, tracked_is}
+use Rattle.vme_monitor.proofs.TrackedTransfers.{IsTransferPhase-start, IsTransferPhase-tracked}
 use Rattle.vme_dtb.specs.CycleState.{after_answer, cycle_entered}
 use Rattle.vme_dtb.specs.Edge.{edges_between}
 use Rattle.vme_dtb.specs.Machine.{answer_in, dtb_begin, dtb_observation, dtb_step, may_rise, memory_after}
@@ -54,7 +54,7 @@ module _ (t : Trace) (stretch : Stretch) (facts : IsStretch t stretch) where
   pub holds_start : Holds t stretch stretch.start (dtb_begin (levels_at t stretch.start))
   holds_start =
       record {
-        transfer = says_start t stretch facts.reads;
+        transfer = IsTransferPhase-start t stretch facts.reads;
         cycle = sym (cycle_start t stretch);
         dtack = may_rise_start t stretch DTACK stretch.start (idle_line (levels_at t stretch.start) 3 (lit< tt)
             facts.idle);
@@ -105,7 +105,7 @@ module _ (t : Trace) (stretch : Stretch) (facts : IsStretch t stretch) where
       pub holds_next : Holds t stretch (suc n) (memory_after m (old t n) (new t n) (edges_between (old t n) (new t n)))
       holds_next =
           record {
-            transfer = tracked_is t stretch facts.reads n from before m.transfer holds.transfer;
+            transfer = IsTransferPhase-tracked t stretch facts.reads n from before m.transfer holds.transfer;
             cycle = cycle_next;
             dtack = may_rise_next DTACK m.dtack_may_rise holds.dtack
                 (facts.known n 3 from (omega (arith, before)) (lit< tt)

@@ -29,7 +29,7 @@ use Rattle.vme_trace.proofs.StretchEnds.{slots_at}
 use Rattle.vme_monitor.specs.Tracking.{entered, is_writing}
 use Rattle.vme_monitor.specs.declared.tracking.TransferPhase.{TransferPhase}
 use Rattle.vme_monitor.specs.declared.tracking.TransferPhase.TheVariants.{Closed, Reading, Writing, Answered}
-use Rattle.vme_monitor.proofs.TrackedTransfers.{IsIn, Enters, entered_is}
+use Rattle.vme_monitor.proofs.TrackedTransfers.{IsIn, Enters, Enters-entered}
 use Rattle.vme_dtb.specs.HoldingNumbers.{has_risen, writes_of}
 use Rattle.vme_dtb.specs.StabilityRules.{is_shifted, is_undriven, keeps_data, kept, may_write, shifted_fault}
 use Rattle.vme_dtb.specs.StabilityRules.{observation_of, stability_rules, undriven_fault, writes_now}
@@ -163,7 +163,7 @@ module _ (t : Trace) (stretch : Stretch) (reads : ReadsStrobes t stretch) (n : �
   highs = high_is t stretch reads n from before holds.state holds.says
 
   enters : Enters t stretch (suc n) (entered holds.state old new)
-  enters = entered_is t stretch reads n from before holds.state holds.says
+  enters = Enters-entered t stretch reads n from before holds.state holds.says
 
   -- the transfer that starts at i is a write that had no answer before n + 1
   abbrev is_asked : ℕ → Bool

@@ -17,7 +17,7 @@ use Rattle.vme_monitor.specs.Tracked.{StaysOpen, IsTransferPhase}
 use Rattle.vme_monitor.specs.Tracking.{is_unanswered, is_within}
 use Rattle.vme_monitor.specs.declared.tracking.TransferPhase.{TransferPhase}
 use Rattle.vme_monitor.specs.declared.tracking.TransferPhase.TheVariants.{Closed, Reading, Writing, Answered}
-use Rattle.vme_monitor.proofs.TrackedTransfers.{IsIn, Enters, entered_is}
+use Rattle.vme_monitor.proofs.TrackedTransfers.{IsIn, Enters, Enters-entered}
 use Rattle.vme_monitor.specs.Tracking.{entered}
 use Rattle.vme_trace.specs.Trace.{levels_at}
 use Rattle.vme_dtb.specs.Machine.{is_replied}
@@ -87,7 +87,7 @@ module _ (t : Trace) (stretch : Stretch) (reads : ReadsStrobes t stretch) (n : �
   -- if no transfer is open at n, instant n + 1 is in none that started before
   closed_is : (p : ℕ → Bool) → strobes_high t n ≡ true → p (suc n) ≡ false → in_transfer t stretch p (suc n) ≡ false
   closed_is p high_before fails = closed_by p (entered Closed (levels_at t n) (levels_at t (suc n)))
-      (entered_is t stretch reads n from before Closed high_before) high_before fails
+      (Enters-entered t stretch reads n from before Closed high_before) high_before fails
 
   open_answered : (i : ℕ) (w a : Bool) → StaysOpen t stretch n i w a → is_answered t stretch i (suc n + 1)
       ≡ (a || answer_falls t (suc n))
@@ -162,4 +162,4 @@ module _ (t : Trace) (stretch : Stretch) (reads : ReadsStrobes t stretch) (n : �
       in_transfer t stretch answered_twice (suc n)
       ≡ (is_replied e || (is_unanswered e && (falls t DTACK (suc n) && falls t BERR (suc n))))
   doubled_is m says = doubled_by (entered m (levels_at t n) (levels_at t (suc n)))
-      (entered_is t stretch reads n from before m says)
+      (Enters-entered t stretch reads n from before m says)

@@ -25,7 +25,7 @@ use Rattle.vme_monitor.specs.Tracked.{IsTransferPhase}
 use Rattle.vme_monitor.specs.Tracking.{answered_by, is_unanswered, is_writing, tracked}
 use Rattle.vme_monitor.specs.declared.tracking.TransferPhase.{TransferPhase}
 use Rattle.vme_monitor.specs.declared.tracking.TransferPhase.TheVariants.{Closed, Reading, Writing, Answered}
-use Rattle.vme_monitor.proofs.TrackedTransfers.{says_start, tracked_is, is_answer_is}
+use Rattle.vme_monitor.proofs.TrackedTransfers.{IsTransferPhase-start, IsTransferPhase-tracked, is_answer-tracked}
 use Rattle.vme_dtb.specs.StabilityRules.{answers_in, awaits_answer, holds_direction as holds_direction_of}
 use Rattle.vme_dtb.specs.StabilityRules.{keeps_address, keeps_direction, stability_begin, stability_rules, stepped}
 use Rattle.vme_dtb.specs.declared.holding.Holding.{Holding}
@@ -148,7 +148,7 @@ module _ (t : Trace) (stretch : Stretch) where
   holds_start reads off v =
       record {
         state = Closed;
-        says = says_start t stretch reads;
+        says = IsTransferPhase-start t stretch reads;
         transfer = refl;
         closed = λ h. refl;
         fresh = λ i a s low. absurd (clash (strobes_high t stretch.start) reads.opens (low_there i a low));
@@ -205,7 +205,7 @@ module _ (t : Trace) (stretch : Stretch) where
 
     pub answer_is : (m : Holding) → Holds n m → is_answer t stretch (suc n) ≡ answers_in m old new
     answer_is m h =
-        is_answer_is t stretch reads n from before h.state h.says
+        is_answer-tracked t stretch reads n from before h.state h.says
         ∙ rw (
           unanswered_is h.state (strobes_high_in old) (strobe_low_in new) (is_low (level_at new WRITE))
               (high_is h.state h.says),
@@ -345,7 +345,7 @@ module _ (t : Trace) (stretch : Stretch) where
         (known_new DS1 (omega arith)) in
         record {
           state = tracked h.state old new;
-          says = tracked_is t stretch reads n from before h.state h.says;
+          says = IsTransferPhase-tracked t stretch reads n from before h.state h.says;
           transfer = answered_next h.state (strobes_high_in old) (strobe_low_in new) (is_low (level_at new WRITE))
               (strobes_high_in new) (answer_between old new) (high_is h.state h.says) low_new
               ∙ rw h.transfer (sym (was_passed (answered_now m) (risen_now m) (writing_now m)));

@@ -1,3 +1,4 @@
+-- The loop over rows: there is a link for each row so far, shifted, to the place of its memory.
 use Rattle.std.proofs.Common.{◌≡◌, map, take}
 use Rattle.vme_monitor.specs.Walk.{later_outcome, outcome_of, link_to_place, link_value}
 use Rattle.vme_monitor.proofs.link.links_to_places.Given as goal

@@ -1,3 +1,4 @@
+-- The loop over links: the count is the number of marks of the links so far, at most 2^64 - 1.
 use Rattle.std.proofs.Common.{◌≡◌, ◌-◌, ◌^◌, map, take}
 use Rattle.std.specs.Prelude.{min}
 use Rattle.std.specs.List.{sum_by}

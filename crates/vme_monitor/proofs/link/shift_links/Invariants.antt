@@ -1,3 +1,4 @@
+-- The loop over links: those so far are shifted, and the others are as they were.
 use Rattle.std.proofs.Common.{◌≡◌, map, take, drop}
 use Rattle.vme_monitor.specs.Walk.{later_link_value, link_value}
 use Rattle.vme_monitor.proofs.link.shift_links.Given as goal

@@ -1,3 +1,4 @@
+-- The loop over marks: those so far are shifted, and the others are as they were.
 use Rattle.std.proofs.Common.{◌≡◌, map, take, drop}
 use Rattle.vme_monitor.specs.Walk.{later_mark}
 use Rattle.vme_monitor.proofs.link.shift_marks.Given as goal

@@ -1,3 +1,4 @@
+-- The loop over rows: those so far are in different memories, and these are stamped.
 use Rattle.std.proofs.Common.{map, take}
 use Rattle.vme_monitor.specs.Meeting.{AreDistinct, memories_in}
 use Rattle.vme_monitor.specs.Walk.{outcome_of}

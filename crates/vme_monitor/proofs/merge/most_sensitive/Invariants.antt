@@ -1,3 +1,4 @@
+-- The loop over rows: none so far is more sensitive than `most`.
 use Rattle.std.proofs.Common.{◌≤◌, All, take}
 use Rattle.vme_monitor.proofs.merge.most_sensitive.Given as goal
 

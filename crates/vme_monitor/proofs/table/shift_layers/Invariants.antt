@@ -1,3 +1,4 @@
+-- The loop over layers: those so far are shifted, and the others are as they were.
 use Rattle.std.proofs.Common.{◌≡◌, map, take, drop}
 use Rattle.std.specs.Global.{Vec}
 use Rattle.vme_monitor.specs.Walk.{link_value, later_link_value}

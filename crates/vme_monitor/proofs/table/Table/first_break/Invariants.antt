@@ -1,3 +1,5 @@
+-- The loop over layers: a run from the layer and the index that are reached has the first break of the memory's
+-- outcome.
 use Rattle.std.proofs.Common.{◌≡◌, drop}
 use Rattle.vme_monitor.specs.Tables.{outcome}
 use Rattle.vme_monitor.proofs.table.Table.first_break.Given as goal

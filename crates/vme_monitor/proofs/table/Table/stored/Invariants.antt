@@ -1,3 +1,4 @@
+-- The loop over layers: the count is the number of marks of the layers so far, at most 2^64 - 1.
 use Rattle.std.proofs.Common.{◌≡◌, ◌-◌, ◌^◌, take}
 use Rattle.std.specs.Prelude.{min}
 use Rattle.std.specs.List.{sum_by}
