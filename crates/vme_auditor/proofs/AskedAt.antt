@@ -45,13 +45,13 @@ use Rattle.vme_dtb.specs.declared.cycle.CyclePhase.TheVariants.{Block, BlockRead
 use Rattle.vme_dtb.specs.declared.cycle.CyclePhase.TheVariants.{InterruptDone, Single, SingleDone, SingleRead}
 use Rattle.vme_dtb.specs.declared.edges.Edges.{Edges}
 use Rattle.vme_dtb.specs.declared.memory.HandshakeMemory.{HandshakeMemory}
-use Rattle.vme_dtb.proofs.CycleBreaks.{cycle_starts_is, here_is}
-use Rattle.vme_dtb.proofs.CycleMemory.{cycle_before, in_interrupt_acknowledge, in_answered_interrupt_acknowledge, told}
-use Rattle.vme_dtb.proofs.CycleMemory.{told_of}
-use Rattle.vme_dtb.proofs.HandshakeBreaks.{answer_is}
+use Rattle.vme_dtb.proofs.CycleBreaks.{cycle_starts-between, cycle_before-here}
+use Rattle.vme_dtb.proofs.CycleMemory.{cycle_before, in_interrupt_acknowledge, in_answered_interrupt_acknowledge, phase_by_answers}
+use Rattle.vme_dtb.proofs.CycleMemory.{phase_of_cycle}
+use Rattle.vme_dtb.proofs.HandshakeBreaks.{is_answer-unanswered}
 use Rattle.vme_dtb.proofs.HandshakeMeaning.{Holds}
-use Rattle.vme_dtb.proofs.OpenState.{started_is}
-use Rattle.vme_dtb.proofs.StepFacts.{falls_is, judged, new, old, rises_is, starts_is}
+use Rattle.vme_dtb.proofs.OpenState.{in_transfer-is_within}
+use Rattle.vme_dtb.proofs.StepFacts.{falls-between, is_judged-next, new, old, rises-between, transfer_starts-between}
 use Rattle.vme_audit.specs.AskedRules.{any_grant_falls, answer_rises, answered_again_in_class}
 use Rattle.vme_audit.specs.AskedRules.{answered_in_class, event_happens, happens, within_transfer}
 use Rattle.vme_audit.specs.AskedRules.{write_starts}
@@ -172,7 +172,7 @@ module _ (t : Trace) (stretch : Stretch) where
   -- a cycle of class `c` with the answers `rs` is single and has an answer exactly if its phase says so
   is_single_answered-of_answers : (c : Class) (rs : List ℕ) → (is_single c && has_earlier_answer rs)
       ≡ is_single_answered
-      (told t stretch c rs)
+      (phase_by_answers t stretch c rs)
   is_single_answered-of_answers class.S [] = refl
   is_single_answered-of_answers class.S (r ∷ []) = by_write (answers_write t stretch r)
     where
@@ -192,7 +192,7 @@ module _ (t : Trace) (stretch : Stretch) where
 
   -- a cycle of class `c` with the answers `rs` is a block transfer and has an answer exactly if its phase says so
   is_block_answered-of_answers : (c : Class) (rs : List ℕ) → (is_block_class c && has_earlier_answer rs)
-      ≡ is_block_answered (told t stretch c rs)
+      ≡ is_block_answered (phase_by_answers t stretch c rs)
   is_block_answered-of_answers class.S [] = refl
   is_block_answered-of_answers class.S (r ∷ []) = by_write (answers_write t stretch r)
     where
@@ -220,7 +220,7 @@ module _ (t : Trace) (stretch : Stretch) where
       by_cycle : (o : Option ℕ)
           → option_map_or (λ i. is_single (class_at t stretch i) && has_earlier_answer (answers_of t stretch i j)) o
           false
-          ≡ is_single_answered (told_of t stretch o j)
+          ≡ is_single_answered (phase_of_cycle t stretch o j)
       by_cycle None = refl
       by_cycle (Some i) = is_single_answered-of_answers (class_at t stretch i) (answers_of t stretch i j)
 
@@ -236,7 +236,7 @@ module _ (t : Trace) (stretch : Stretch) where
           → option_map_or (λ i. is_block_class (class_at t stretch i) && has_earlier_answer (answers_of t stretch i j))
           o
           false
-          ≡ is_block_answered (told_of t stretch o j)
+          ≡ is_block_answered (phase_of_cycle t stretch o j)
       by_cycle None = refl
       by_cycle (Some i) = is_block_answered-of_answers (class_at t stretch i) (answers_of t stretch i j)
 
@@ -275,61 +275,61 @@ module _ (t : Trace) (ok : malformed_step t ≡ None) (few : t.opening.slots ≤
   cycle_event : is_some shown.cycle ≡ cycle_starts t stretch (suc n)
   cycle_event =
       is_some-cond (falls_between v w AS) (cycle_start_of w)
-      ∙ sym (cycle_starts_is t stretch facts.reads n from before m
+      ∙ sym (cycle_starts-between t stretch facts.reads n from before m
       holds)
 
   -- the address strobe rises in the step exactly if it rises at n + 1
   cycle_end_event : rises_between v w AS ≡ rises t AS (suc n)
-  cycle_end_event = sym (rises_is t n AS)
+  cycle_end_event = sym (rises-between t n AS)
 
   -- the step shows the start of a transfer exactly if one starts at n + 1
   transfer_event : is_some shown.transfer ≡ transfer_starts t stretch (suc n)
   transfer_event =
-      is_some-cond (starts_between v w) (is_low (level_at w WRITE)) ∙ sym (starts_is t n stretch from before)
+      is_some-cond (starts_between v w) (is_low (level_at w WRITE)) ∙ sym (transfer_starts-between t n stretch from before)
 
   -- the step shows the start of a write exactly if one starts at n + 1
   write_event : option_map_or (λ (w : Bool). w) shown.transfer false ≡ write_starts t stretch (suc n)
   unfolding is_write low
   write_event =
       option_map_or-cond (starts_between v w) (is_low (level_at w WRITE))
-      ∙ ap (λ b. b && is_low (level_at w WRITE)) (sym (starts_is t n stretch from before))
+      ∙ ap (λ b. b && is_low (level_at w WRITE)) (sym (transfer_starts-between t n stretch from before))
 
   -- a transfer is open before the step exactly if n + 1 is in a transfer that started before
   within_event : is_within m.transfer ≡ within_transfer t stretch (suc n)
-  within_event = sym (started_is t stretch facts.reads n from before m.transfer holds.transfer)
+  within_event = sym (in_transfer-is_within t stretch facts.reads n from before m.transfer holds.transfer)
 
   -- a strobe rises in the step, within a transfer, exactly if one does at n + 1
   strobe_rise_event : (is_within m.transfer && strobe_rises_between v w)
       ≡ (strobe_rises t (suc n) && within_transfer t stretch (suc n))
   strobe_rise_event =
       and_comm (is_within m.transfer) (strobe_rises_between v w)
-      ∙ and-equal_parts _ _ _ _ (or-equal_parts _ _ _ _ (sym (rises_is t n DS0)) (sym (rises_is t n DS1))) within_event
+      ∙ and-equal_parts _ _ _ _ (or-equal_parts _ _ _ _ (sym (rises-between t n DS0)) (sym (rises-between t n DS1))) within_event
 
   -- a strobe falls in the step, within a transfer, exactly if one does at n + 1
   strobe_fall_event : (is_within m.transfer && strobe_falls_between v w)
       ≡ (strobe_falls t (suc n) && within_transfer t stretch (suc n))
   strobe_fall_event =
       and_comm (is_within m.transfer) (strobe_falls_between v w)
-      ∙ and-equal_parts _ _ _ _ (or-equal_parts _ _ _ _ (sym (falls_is t n DS0)) (sym (falls_is t n DS1))) within_event
+      ∙ and-equal_parts _ _ _ _ (or-equal_parts _ _ _ _ (sym (falls-between t n DS0)) (sym (falls-between t n DS1))) within_event
 
   -- an answer line falls in the step exactly if one falls at n + 1
   answer_fall_event : answer_between v w ≡ answer_falls t (suc n)
-  answer_fall_event = or-equal_parts _ _ _ _ (sym (falls_is t n DTACK)) (sym (falls_is t n BERR))
+  answer_fall_event = or-equal_parts _ _ _ _ (sym (falls-between t n DTACK)) (sym (falls-between t n BERR))
 
   -- an answer line rises in the step exactly if one rises at n + 1
   answer_rise_event : (rises_between v w DTACK || rises_between v w BERR) ≡ answer_rises t (suc n)
-  answer_rise_event = or-equal_parts _ _ _ _ (sym (rises_is t n DTACK)) (sym (rises_is t n BERR))
+  answer_rise_event = or-equal_parts _ _ _ _ (sym (rises-between t n DTACK)) (sym (rises-between t n BERR))
 
   -- the step shows an answer exactly if a transfer is answered at n + 1
   answer_event : is_some shown.answer ≡ is_answer t stretch (suc n)
   answer_event =
       is_some-option_map _ (answer_in transfer_entered step_edges)
       ∙ is_some-cond_option (is_unanswered transfer_entered) step_edges.answer_fall
-      ∙ sym (answer_is t stretch facts.reads n from before m holds)
+      ∙ sym (is_answer-unanswered t stretch facts.reads n from before m holds)
 
   -- the phase of the cycle at n + 1, before an answer there, is that of the memory, or that of the cycle that starts
   cycle_before-entered : cycle_before t stretch (suc n) ≡ cycle_entered m.cycle shown.cycle
-  cycle_before-entered = here_is t stretch facts.reads n from before m holds
+  cycle_before-entered = cycle_before-here t stretch facts.reads n from before m holds
 
   -- the step shows an answer in an interrupt acknowledge exactly if a transfer of one is answered at n + 1
   interrupt_event : (is_some shown.answer && is_interrupt_entered m.cycle shown.cycle)
@@ -353,7 +353,7 @@ module _ (t : Trace) (ok : malformed_step t ≡ None) (few : t.opening.slots ≤
   -- BBSY falls in the step exactly if a tenure starts at n + 1
   tenure_event : falls_between v w BBSY ≡ tenure_starts t stretch (suc n)
   unfolding tenure_starts
-  tenure_event = sym (falls_is t n BBSY) ∙ ap (λ b. b && falls t BBSY (suc n)) (sym (judged t n stretch from before))
+  tenure_event = sym (falls-between t n BBSY) ∙ ap (λ b. b && falls t BBSY (suc n)) (sym (is_judged-next t n stretch from before))
 
   -- the levels before the step have at most 21 slots, as the opening has
   few_slots : v.slots ≤ 21
@@ -371,7 +371,7 @@ module _ (t : Trace) (ok : malformed_step t ≡ None) (few : t.opening.slots ≤
       ∙ sym (any-falls_between v few_slots cs (are_changes-step t n ok within) chosen)
       ∙ ap (λ (w : Levels). any (λ l. chosen l && falls_between v w l) 0 line_count) changed-after
       ∙ any-alike (λ l. chosen l && falls_between v w l) (λ l. chosen l && falls t l (suc n)) 0 line_count
-      (λ l a b. ap (λ x. chosen l && x) (sym (falls_is t n l)))
+      (λ l a b. ap (λ x. chosen l && x) (sym (falls-between t n l)))
 
   -- some change of the step lets a chosen line rise exactly if a chosen line rises at n + 1
   any_rises-at : (chosen : ℕ → Bool) (e : AskedEvents) → any_rises e m v w cs shown chosen
@@ -381,7 +381,7 @@ module _ (t : Trace) (ok : malformed_step t ≡ None) (few : t.opening.slots ≤
       ∙ sym (any-rises_between v few_slots cs (are_changes-step t n ok within) chosen)
       ∙ ap (λ (w : Levels). any (λ l. chosen l && rises_between v w l) 0 line_count) changed-after
       ∙ any-alike (λ l. chosen l && rises_between v w l) (λ l. chosen l && rises t l (suc n)) 0 line_count
-      (λ l a b. ap (λ x. chosen l && x) (sym (rises_is t n l)))
+      (λ l a b. ap (λ x. chosen l && x) (sym (rises-between t n l)))
 
   -- some change lets a grant net of the arbiter fall exactly if the arbiter grants at n + 1
   arbiter_event : (e : AskedEvents) → any_falls e m v w cs shown is_arbiter_grant ≡ grant_falls t (suc n)

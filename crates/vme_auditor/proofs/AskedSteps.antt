@@ -43,7 +43,7 @@ use Rattle.vme_dtb.specs.Machine.{dtb_begin, dtb_end_fault, dtb_start_marks, dtb
 use Rattle.vme_dtb.specs.declared.memory.HandshakeMemory.{HandshakeMemory}
 use Rattle.vme_dtb.proofs.HandshakeMeaning.{Holds}
 use Rattle.vme_dtb.proofs.HandshakeInstants.{holds_at}
-use Rattle.vme_dtb.proofs.StillSteps.{machine_step_is}
+use Rattle.vme_dtb.proofs.StillSteps.{machine_step-dtb_next}
 use Rattle.vme_audit.specs.AskedRules.{happens}
 use Rattle.vme_auditor.specs.Audited.{events_by, events_in, with_stretch}
 use Rattle.vme_auditor.specs.Events.{asks_by, at_step}
@@ -383,7 +383,7 @@ module _ (t : Trace) (ok : malformed_step t ≡ None) (few : t.opening.slots ≤
           kinds-shown : kinds ≡ shown t ok few here facts n work.running.from on.before within p holds
           kinds-shown =
               ap (λ (x : Next (StretchPhase HandshakeMemory)). x.shown) on.step
-              ∙ ap (λ (x : Next HandshakeMemory). x.shown) (machine_step_is t here n p holds (cs_at n))
+              ∙ ap (λ (x : Next HandshakeMemory). x.shown) (machine_step-dtb_next t here n p holds (cs_at n))
 
           -- the events of the step are added to those noted
           now-at_step : now ≡ at_step before p v w (cs_at n)

@@ -18,7 +18,7 @@ use Rattle.vme_trace.specs.declared.level.Level.{Level}
 use Rattle.vme_trace.specs.declared.step.Change.{Change}
 use Rattle.vme_trace.proofs.Changing.{level-kept, slots-kept, exists_below}
 use Rattle.vme_trace.proofs.Ranges.{any-holds, any-least, clash, least-found}
-use Rattle.vme_dtb.proofs.StillSteps.{never_falls, never_rises}
+use Rattle.vme_dtb.proofs.StillSteps.{not_high_and_low, not_low_and_high}
 use Rattle.vme_auditor.specs.Events.{net_falls, net_rises}
 use Rattle.vme_auditor.proofs.Truth.{or_swapped}
 
@@ -125,7 +125,8 @@ module _ (v : Levels) (few : v.slots ≤ 21) (cs : List Change) (fit : are_chang
 
       alone : (l : ℕ) → is_changed cs l ≡ false → (chosen l && falls_between v after l) ≡ false
       alone l e = and-no_edge l (falls_between v after l)
-          (ap (λ (x : Level). is_high (level_at v l) && is_low x) (level-kept v cs l e) ∙ never_falls (level_at v l))
+          (ap (λ (x : Level). is_high (level_at v l) && is_low x) (level-kept v cs l e)
+          ∙ not_high_and_low (level_at v l))
 
   -- a chosen line rises exactly if some change lets a chosen line rise
   pub any-rises_between : any (λ l. chosen l && rises_between v after l) 0 line_count
@@ -140,7 +141,8 @@ module _ (v : Levels) (few : v.slots ≤ 21) (cs : List Change) (fit : are_chang
 
       alone : (l : ℕ) → is_changed cs l ≡ false → (chosen l && rises_between v after l) ≡ false
       alone l e = and-no_edge l (rises_between v after l)
-          (ap (λ (x : Level). is_low (level_at v l) && is_high x) (level-kept v cs l e) ∙ never_rises (level_at v l))
+          (ap (λ (x : Level). is_low (level_at v l) && is_high x) (level-kept v cs l e)
+          ∙ not_low_and_high (level_at v l))
 
 -- the first net of the grant chain of each of the levels 0 to 3 is the arbiter's
 is_arbiter_grant-of_level : (n : ℕ) → n < 4 → is_arbiter_grant (grant n 0) ≡ true

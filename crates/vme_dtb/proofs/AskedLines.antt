@@ -20,8 +20,8 @@ use Rattle.vme_trace.proofs.OpenTransfers.{ReadsStrobes}
 use Rattle.vme_trace.proofs.Ranges.{fails-any, least-alike, least-is, least-none}
 use Rattle.vme_trace.proofs.Changing.{bus_line_exists}
 use Rattle.vme_dtb.specs.StabilityRules.{lacks, unknown_address, unknown_direction}
-use Rattle.vme_dtb.proofs.StabilityMeaning.{judged, cycle_starts_is, transfer_starts_is}
-use Rattle.vme_dtb.proofs.Needed.{needed_below}
+use Rattle.vme_dtb.proofs.StabilityMeaning.{is_judged-next, cycle_starts-between, transfer_starts-between}
+use Rattle.vme_dtb.proofs.Needed.{needs_of-below}
 
 pub least_and : (b : Bool) (p : ℕ → Bool) → least (λ l. b && p l) 0 line_count ≡ cond b (least p 0 line_count) None
 least_and true p = refl
@@ -75,8 +75,8 @@ module _ (t : Trace) (stretch : Stretch) (reads : ReadsStrobes t stretch) (n : �
   address_asked l =
       asked (is_judged stretch (suc n)) (has_line t.opening.slots l) (cycle_starts t stretch (suc n))
       (falls_between old new AS) (is_within (needs_of new) l) (is_known_on new l)
-      (judged t stretch reads n from before) (cycle_starts_is t stretch reads n from before)
-      (λ e. bus_line_exists t.opening.slots l (omega (arith, needed_below new l e)))
+      (is_judged-next t stretch reads n from before) (cycle_starts-between t stretch reads n from before)
+      (λ e. bus_line_exists t.opening.slots l (omega (arith, needs_of-below new l e)))
 
   -- the least line that breaks U2 is the least unknown line that the starting cycle needs
   pub address_least : least (breaks t stretch U2 (suc n)) 0 line_count ≡ unknown_address old new
@@ -90,9 +90,9 @@ module _ (t : Trace) (stretch : Stretch) (reads : ReadsStrobes t stretch) (n : �
 
   direction_asked : breaks t stretch U3 (suc n) WRITE ≡ (starts_between old new && not (is_known_on new WRITE))
   unfolding breaks is_broken known
-  direction_asked = rw (transfer_starts_is t stretch reads n from before)
+  direction_asked = rw (transfer_starts-between t stretch reads n from before)
       (on_line (is_judged stretch (suc n)) (starts_between old new) (not (is_known_on new WRITE))
-      (judged t stretch reads n from before))
+      (is_judged-next t stretch reads n from before))
 
   -- the least line that breaks U3 is WRITE*, if it is unknown as a transfer starts
   pub direction_least : least (breaks t stretch U3 (suc n)) 0 line_count ≡ unknown_direction old new

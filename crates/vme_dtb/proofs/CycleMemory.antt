@@ -25,207 +25,219 @@ use Rattle.vme_dtb.proofs.Searches.{greatest_more, greatest_within, those_more}
 
 module _ (t : Trace) (stretch : Stretch) where
   -- the phase of a cycle of the class with answers at these instants
-  abbrev pub told : Class → List ℕ → CyclePhase
-  told class.F rs = Free
-  told class.S [] = Single
-  told class.S (r ∷ []) = cond (answers_write t stretch r) SingleDone SingleRead
-  told class.S (r ∷ q ∷ rs) = SingleDone
-  told class.K [] = Block
-  told class.K (r ∷ rs) = cond (answers_write t stretch r) BlockWriting BlockReading
-  told class.I [] = Interrupt
-  told class.I (r ∷ rs) = InterruptDone
+  abbrev pub phase_by_answers : Class → List ℕ → CyclePhase
+  phase_by_answers class.F rs = Free
+  phase_by_answers class.S [] = Single
+  phase_by_answers class.S (r ∷ []) = cond (answers_write t stretch r) SingleDone SingleRead
+  phase_by_answers class.S (r ∷ q ∷ rs) = SingleDone
+  phase_by_answers class.K [] = Block
+  phase_by_answers class.K (r ∷ rs) = cond (answers_write t stretch r) BlockWriting BlockReading
+  phase_by_answers class.I [] = Interrupt
+  phase_by_answers class.I (r ∷ rs) = InterruptDone
 
   -- the phase of the cycle that starts at i, by its answers before n
-  abbrev pub told_of : Option ℕ → ℕ → CyclePhase
-  told_of None n = Free
-  told_of (Some i) n = told (class_at t stretch i) (answers_of t stretch i n)
+  abbrev pub phase_of_cycle : Option ℕ → ℕ → CyclePhase
+  phase_of_cycle None n = Free
+  phase_of_cycle (Some i) n = phase_by_answers (class_at t stretch i) (answers_of t stretch i n)
 
   -- the phase of the cycle to which an answer at j belongs, by the answers before j
   abbrev pub cycle_before : ℕ → CyclePhase
-  cycle_before j = told_of (cycle_of t stretch j) j
+  cycle_before j = phase_of_cycle (cycle_of t stretch j) j
 
   -- the phase of the cycle to which an answer at j belongs, by the answers up to j
   abbrev pub cycle_after : ℕ → CyclePhase
-  cycle_after j = told_of (cycle_of t stretch j) (suc j)
+  cycle_after j = phase_of_cycle (cycle_of t stretch j) (suc j)
 
-  told_none : (c : Class) → told c [] ≡ unanswered_of c
-  told_none class.S = refl
-  told_none class.K = refl
-  told_none class.I = refl
-  told_none class.F = refl
+  -- a cycle without answers has the phase of its class
+  phase_by_answers-none : (c : Class) → phase_by_answers c [] ≡ unanswered_of c
+  phase_by_answers-none class.S = refl
+  phase_by_answers-none class.K = refl
+  phase_by_answers-none class.I = refl
+  phase_by_answers-none class.F = refl
 
-  told_more : (c : Class) (rs : List ℕ) (j : ℕ) → told c (rs ++ j ∷ []) ≡ after_answer (told c rs)
+  -- one more answer, at j, makes the next phase
+  phase_by_answers-next : (c : Class) (rs : List ℕ) (j : ℕ) → phase_by_answers c (rs ++ j ∷ [])
+      ≡ after_answer (phase_by_answers c rs)
       (answers_write t stretch j)
-  told_more class.F rs j = refl
-  told_more class.S [] j = by_write (answers_write t stretch j)
+  phase_by_answers-next class.F rs j = refl
+  phase_by_answers-next class.S [] j = by_write (answers_write t stretch j)
     where
       by_write : (b : Bool) → cond b SingleDone SingleRead ≡ after_answer Single b
       by_write true = refl
       by_write false = refl
-  told_more class.S (r ∷ []) j = by_write (answers_write t stretch r) (answers_write t stretch j)
+  phase_by_answers-next class.S (r ∷ []) j = by_write (answers_write t stretch r) (answers_write t stretch j)
     where
       by_write : (a b : Bool) → SingleDone ≡ after_answer (cond a SingleDone SingleRead) b
       by_write true b = refl
       by_write false b = refl
-  told_more class.S (r ∷ q ∷ rs) j = refl
-  told_more class.K [] j = by_write (answers_write t stretch j)
+  phase_by_answers-next class.S (r ∷ q ∷ rs) j = refl
+  phase_by_answers-next class.K [] j = by_write (answers_write t stretch j)
     where
       by_write : (b : Bool) → cond b BlockWriting BlockReading ≡ after_answer Block b
       by_write true = refl
       by_write false = refl
-  told_more class.K (r ∷ rs) j = by_write (answers_write t stretch r) (answers_write t stretch j)
+  phase_by_answers-next class.K (r ∷ rs) j = by_write (answers_write t stretch r) (answers_write t stretch j)
     where
       by_write : (a b : Bool) → cond a BlockWriting BlockReading ≡ after_answer (cond a BlockWriting BlockReading) b
       by_write true b = refl
       by_write false b = refl
-  told_more class.I [] j = refl
-  told_more class.I (r ∷ rs) j = refl
+  phase_by_answers-next class.I [] j = refl
+  phase_by_answers-next class.I (r ∷ rs) j = refl
 
   -- the last cycle to start up to n + 1: one that starts there, or else the last one up to n
-  cycle_of_suc : (n : ℕ) → stretch.start ≤ n → cycle_of t stretch (suc n)
+  cycle_of-next : (n : ℕ) → stretch.start ≤ n → cycle_of t stretch (suc n)
       ≡ cond (cycle_starts t stretch (suc n)) (Some (suc n))
       (cycle_of t stretch n)
   unfolding cycle_of
-  cycle_of_suc n from =
+  cycle_of-next n from =
       ap (greatest (cycle_starts t stretch) (stretch.start + 1)) (add-one (suc n))
       ∙ greatest_more (cycle_starts t stretch) (stretch.start + 1) (suc n) (omega arith)
       ∙ ap (λ k. cond (cycle_starts t stretch (suc n)) (Some (suc n))
       (greatest (cycle_starts t stretch) (stretch.start + 1) k))
       (sym (add-one n))
 
-  cycle_within : (j i : ℕ) → cycle_of t stretch j ≡ Some i → i ≤ j
+  -- the last cycle to start up to j starts at j or before
+  cycle_of-within : (j i : ℕ) → cycle_of t stretch j ≡ Some i → i ≤ j
   unfolding cycle_of
-  cycle_within j i h = let found = greatest_within (cycle_starts t stretch) (stretch.start + 1) (j + 1) i h in
+  cycle_of-within j i h = let found = greatest_within (cycle_starts t stretch) (stretch.start + 1) (j + 1) i h in
       omega (arith, found.1)
 
-  answers_suc : (i j : ℕ) → i ≤ j → answers_of t stretch i (suc j) ≡ answers_of t stretch i j
+  -- the answers before j + 1 are those before j, and j if it is an answer
+  answers_of-next : (i j : ℕ) → i ≤ j → answers_of t stretch i (suc j) ≡ answers_of t stretch i j
       ++ cond (is_answer t stretch j)
       (j ∷ []) []
   unfolding answers_of
-  answers_suc i j h = those_more (is_answer t stretch) i j h
+  answers_of-next i j h = those_more (is_answer t stretch) i j h
 
-  answers_none : (i : ℕ) → answers_of t stretch i i ≡ []
+  -- a cycle has no answers before its start
+  answers_of-none : (i : ℕ) → answers_of t stretch i i ≡ []
   unfolding answers_of
-  answers_none i = those-empty (is_answer t stretch) i i (omega arith)
+  answers_of-none i = those-empty (is_answer t stretch) i i (omega arith)
 
   -- at the start of the stretch no cycle has started, so its phase is `Free`
-  pub cycle_start : cycle_after stretch.start ≡ Free
+  pub cycle_after-start : cycle_after stretch.start ≡ Free
   unfolding cycle_of
-  cycle_start = ap (λ o. told_of o (suc stretch.start)) (greatest-empty (cycle_starts t stretch) (stretch.start + 1)
+  cycle_after-start = ap (λ o. phase_of_cycle o (suc stretch.start))
+      (greatest-empty (cycle_starts t stretch) (stretch.start + 1)
       (stretch.start + 1) (omega arith))
 
   -- instant n + 1 is in the cycle that starts there, or else in that of instant n
-  pub before_is : (n : ℕ) → stretch.start ≤ n → cycle_before (suc n) ≡ cycle_entered (cycle_after n)
+  pub cycle_before-next : (n : ℕ) → stretch.start ≤ n → cycle_before (suc n) ≡ cycle_entered (cycle_after n)
       (cond (cycle_starts t stretch (suc n)) (Some (cycle_start_of (levels_at t (suc n)))) None)
-  before_is n from = ap (λ o. told_of o (suc n)) (cycle_of_suc n from) ∙ by_start (cycle_starts t stretch (suc n))
+  cycle_before-next n from = ap (λ o. phase_of_cycle o (suc n)) (cycle_of-next n from)
+      ∙ by_start (cycle_starts t stretch (suc n))
     where
-      by_start : (b : Bool) → told_of (cond b (Some (suc n)) (cycle_of t stretch n)) (suc n)
+      by_start : (b : Bool) → phase_of_cycle (cond b (Some (suc n)) (cycle_of t stretch n)) (suc n)
           ≡ cycle_entered (cycle_after n) (cond b (Some (cycle_start_of (levels_at t (suc n)))) None)
-      by_start true = ap (told (class_at t stretch (suc n))) (answers_none (suc n))
-          ∙ told_none (class_at t stretch (suc n))
+      by_start true = ap (phase_by_answers (class_at t stretch (suc n))) (answers_of-none (suc n))
+          ∙ phase_by_answers-none (class_at t stretch (suc n))
       by_start false = refl
 
   -- the phase after instant j is that before j, with the answer at j if there is one
-  pub after_is : (j : ℕ) → cycle_after j ≡ cond (is_answer t stretch j)
+  pub cycle_after-answer : (j : ℕ) → cycle_after j ≡ cond (is_answer t stretch j)
       (after_answer (cycle_before j) (answers_write t stretch j)) (cycle_before j)
-  after_is j = by_cycle (cycle_of t stretch j) refl
+  cycle_after-answer j = by_cycle (cycle_of t stretch j) refl
     where
       none : (b w : Bool) → Free ≡ cond b (after_answer Free w) Free
       none true w = refl
       none false w = refl
 
-      by_answer : (c : Class) (rs : List ℕ) (b : Bool) → told c (rs ++ cond b (j ∷ []) [])
-          ≡ cond b (after_answer (told c rs) (answers_write t stretch j)) (told c rs)
-      by_answer c rs true = told_more c rs j
-      by_answer c rs false = ap (told c) (append-nil rs)
+      by_answer : (c : Class) (rs : List ℕ) (b : Bool) → phase_by_answers c (rs ++ cond b (j ∷ []) [])
+          ≡ cond b (after_answer (phase_by_answers c rs) (answers_write t stretch j)) (phase_by_answers c rs)
+      by_answer c rs true = phase_by_answers-next c rs j
+      by_answer c rs false = ap (phase_by_answers c) (append-nil rs)
 
-      by_cycle : (o : Option ℕ) → cycle_of t stretch j ≡ o → told_of o (suc j) ≡ cond (is_answer t stretch j)
-          (after_answer (told_of o j) (answers_write t stretch j)) (told_of o j)
+      by_cycle : (o : Option ℕ) → cycle_of t stretch j ≡ o → phase_of_cycle o (suc j) ≡ cond (is_answer t stretch j)
+          (after_answer (phase_of_cycle o j) (answers_write t stretch j)) (phase_of_cycle o j)
       by_cycle None e = none (is_answer t stretch j) (answers_write t stretch j)
-      by_cycle (Some i) e = ap (told (class_at t stretch i)) (answers_suc i j (cycle_within j i e))
+      by_cycle (Some i) e = ap (phase_by_answers (class_at t stretch i)) (answers_of-next i j (cycle_of-within j i e))
           ∙ by_answer (class_at t stretch i) (answers_of t stretch i j) (is_answer t stretch j)
 
-  breaks_read_modify_write_is : (c : Class) (rs : List ℕ) (j : ℕ)
-      → (is_single c && breaks_read_modify_write t stretch rs j) ≡ is_read_modify_write_broken (told c rs)
+  -- whether an answer at j breaks C1, by the class and the phase
+  breaks_read_modify_write-phase : (c : Class) (rs : List ℕ) (j : ℕ)
+      → (is_single c && breaks_read_modify_write t stretch rs j) ≡ is_read_modify_write_broken (phase_by_answers c rs)
       (answers_write t stretch j)
   unfolding breaks_read_modify_write
-  breaks_read_modify_write_is class.S [] j = refl
-  breaks_read_modify_write_is class.S (r ∷ []) j = by_write (answers_write t stretch r) (answers_write t stretch j)
+  breaks_read_modify_write-phase class.S [] j = refl
+  breaks_read_modify_write-phase class.S (r ∷ []) j = by_write (answers_write t stretch r) (answers_write t stretch j)
     where
       by_write : (a b : Bool) → (a || not b) ≡ is_read_modify_write_broken (cond a SingleDone SingleRead) b
       by_write true b = refl
       by_write false b = refl
-  breaks_read_modify_write_is class.S (r ∷ q ∷ rs) j = refl
-  breaks_read_modify_write_is class.K [] j = refl
-  breaks_read_modify_write_is class.K (r ∷ rs) j = by_write (answers_write t stretch r) (answers_write t stretch j)
+  breaks_read_modify_write-phase class.S (r ∷ q ∷ rs) j = refl
+  breaks_read_modify_write-phase class.K [] j = refl
+  breaks_read_modify_write-phase class.K (r ∷ rs) j = by_write (answers_write t stretch r) (answers_write t stretch j)
     where
       by_write : (a b : Bool) → false ≡ is_read_modify_write_broken (cond a BlockWriting BlockReading) b
       by_write true b = refl
       by_write false b = refl
-  breaks_read_modify_write_is class.I [] j = refl
-  breaks_read_modify_write_is class.I (r ∷ rs) j = refl
-  breaks_read_modify_write_is class.F rs j = refl
+  breaks_read_modify_write-phase class.I [] j = refl
+  breaks_read_modify_write-phase class.I (r ∷ rs) j = refl
+  breaks_read_modify_write-phase class.F rs j = refl
 
-  changes_direction_is : (c : Class) (rs : List ℕ) (j : ℕ) → (is_block_class c && changes_direction t stretch rs j)
-      ≡ is_direction_changed (told c rs) (answers_write t stretch j)
+  -- whether an answer at j changes the direction of a block transfer, by the phase
+  changes_direction-phase : (c : Class) (rs : List ℕ) (j : ℕ) → (is_block_class c && changes_direction t stretch rs j)
+      ≡ is_direction_changed (phase_by_answers c rs) (answers_write t stretch j)
   unfolding changes_direction
-  changes_direction_is class.S [] j = refl
-  changes_direction_is class.S (r ∷ []) j = by_write (answers_write t stretch r) (answers_write t stretch j)
+  changes_direction-phase class.S [] j = refl
+  changes_direction-phase class.S (r ∷ []) j = by_write (answers_write t stretch r) (answers_write t stretch j)
     where
       by_write : (a b : Bool) → false ≡ is_direction_changed (cond a SingleDone SingleRead) b
       by_write true b = refl
       by_write false b = refl
-  changes_direction_is class.S (r ∷ q ∷ rs) j = refl
-  changes_direction_is class.K [] j = refl
-  changes_direction_is class.K (r ∷ rs) j = by_write (answers_write t stretch r) (answers_write t stretch j)
+  changes_direction-phase class.S (r ∷ q ∷ rs) j = refl
+  changes_direction-phase class.K [] j = refl
+  changes_direction-phase class.K (r ∷ rs) j = by_write (answers_write t stretch r) (answers_write t stretch j)
     where
       by_write : (a b : Bool) → differ a b ≡ is_direction_changed (cond a BlockWriting BlockReading) b
       by_write true true = refl
       by_write true false = refl
       by_write false true = refl
       by_write false false = refl
-  changes_direction_is class.I [] j = refl
-  changes_direction_is class.I (r ∷ rs) j = refl
-  changes_direction_is class.F rs j = refl
+  changes_direction-phase class.I [] j = refl
+  changes_direction-phase class.I (r ∷ rs) j = refl
+  changes_direction-phase class.F rs j = refl
 
-  acknowledge_is : (c : Class) (rs : List ℕ) → is_interrupt c ≡ is_interrupt_acknowledge (told c rs)
-  acknowledge_is class.S [] = refl
-  acknowledge_is class.S (r ∷ []) = by_write (answers_write t stretch r)
+  -- whether a cycle is an interrupt acknowledge, by its phase
+  is_interrupt-phase : (c : Class) (rs : List ℕ) → is_interrupt c ≡ is_interrupt_acknowledge (phase_by_answers c rs)
+  is_interrupt-phase class.S [] = refl
+  is_interrupt-phase class.S (r ∷ []) = by_write (answers_write t stretch r)
     where
       by_write : (a : Bool) → false ≡ is_interrupt_acknowledge (cond a SingleDone SingleRead)
       by_write true = refl
       by_write false = refl
-  acknowledge_is class.S (r ∷ q ∷ rs) = refl
-  acknowledge_is class.K [] = refl
-  acknowledge_is class.K (r ∷ rs) = by_write (answers_write t stretch r)
+  is_interrupt-phase class.S (r ∷ q ∷ rs) = refl
+  is_interrupt-phase class.K [] = refl
+  is_interrupt-phase class.K (r ∷ rs) = by_write (answers_write t stretch r)
     where
       by_write : (a : Bool) → false ≡ is_interrupt_acknowledge (cond a BlockWriting BlockReading)
       by_write true = refl
       by_write false = refl
-  acknowledge_is class.I [] = refl
-  acknowledge_is class.I (r ∷ rs) = refl
-  acknowledge_is class.F rs = refl
+  is_interrupt-phase class.I [] = refl
+  is_interrupt-phase class.I (r ∷ rs) = refl
+  is_interrupt-phase class.F rs = refl
 
-  acknowledged_is : (c : Class) (rs : List ℕ) → (is_interrupt c && has_earlier_answer rs)
-      ≡ is_answered_interrupt_acknowledge (told c rs)
-  acknowledged_is class.S [] = refl
-  acknowledged_is class.S (r ∷ []) = by_write (answers_write t stretch r)
+  -- whether a cycle is an interrupt acknowledge with an answer, by its phase
+  has_earlier_answer-phase : (c : Class) (rs : List ℕ) → (is_interrupt c && has_earlier_answer rs)
+      ≡ is_answered_interrupt_acknowledge (phase_by_answers c rs)
+  has_earlier_answer-phase class.S [] = refl
+  has_earlier_answer-phase class.S (r ∷ []) = by_write (answers_write t stretch r)
     where
       by_write : (a : Bool) → false ≡ is_answered_interrupt_acknowledge (cond a SingleDone SingleRead)
       by_write true = refl
       by_write false = refl
-  acknowledged_is class.S (r ∷ q ∷ rs) = refl
-  acknowledged_is class.K [] = refl
-  acknowledged_is class.K (r ∷ rs) = by_write (answers_write t stretch r)
+  has_earlier_answer-phase class.S (r ∷ q ∷ rs) = refl
+  has_earlier_answer-phase class.K [] = refl
+  has_earlier_answer-phase class.K (r ∷ rs) = by_write (answers_write t stretch r)
     where
       by_write : (a : Bool) → false ≡ is_answered_interrupt_acknowledge (cond a BlockWriting BlockReading)
       by_write true = refl
       by_write false = refl
-  acknowledged_is class.I [] = refl
-  acknowledged_is class.I (r ∷ rs) = refl
-  acknowledged_is class.F rs = refl
+  has_earlier_answer-phase class.I [] = refl
+  has_earlier_answer-phase class.I (r ∷ rs) = refl
+  has_earlier_answer-phase class.F rs = refl
 
-  -- the tests of C1, C2, I4 and I5 on a cycle, by its phase
+  -- the test of C1 on a cycle, by its phase
   pub in_broken_read_modify_write : (j : ℕ) → in_cycle t stretch (λ i. is_single (class_at t stretch i)
       && breaks_read_modify_write t stretch
       (answers_of t stretch i j) j) j ≡ is_read_modify_write_broken (cycle_before j) (answers_write t stretch j)
@@ -234,10 +246,12 @@ module _ (t : Trace) (stretch : Stretch) where
     where
       by_cycle : (o : Option ℕ) → option_map_or (λ i. is_single (class_at t stretch i)
           && breaks_read_modify_write t stretch
-          (answers_of t stretch i j) j) o false ≡ is_read_modify_write_broken (told_of o j) (answers_write t stretch j)
+          (answers_of t stretch i j) j) o false ≡ is_read_modify_write_broken (phase_of_cycle o j)
+          (answers_write t stretch j)
       by_cycle None = refl
-      by_cycle (Some i) = breaks_read_modify_write_is (class_at t stretch i) (answers_of t stretch i j) j
+      by_cycle (Some i) = breaks_read_modify_write-phase (class_at t stretch i) (answers_of t stretch i j) j
 
+  -- the test of C2 on a cycle, by its phase
   pub in_changed_direction : (j : ℕ) → in_cycle t stretch (λ i. is_block_class (class_at t stretch i)
       && changes_direction t stretch (answers_of t stretch i j) j) j ≡ is_direction_changed (cycle_before j)
       (answers_write t stretch j)
@@ -245,27 +259,31 @@ module _ (t : Trace) (stretch : Stretch) where
   in_changed_direction j = by_cycle (cycle_of t stretch j)
     where
       by_cycle : (o : Option ℕ) → option_map_or (λ i. is_block_class (class_at t stretch i)
-          && changes_direction t stretch (answers_of t stretch i j) j) o false ≡ is_direction_changed (told_of o j)
+          && changes_direction t stretch (answers_of t stretch i j) j) o false
+          ≡ is_direction_changed (phase_of_cycle o j)
           (answers_write t stretch j)
       by_cycle None = refl
-      by_cycle (Some i) = changes_direction_is (class_at t stretch i) (answers_of t stretch i j) j
+      by_cycle (Some i) = changes_direction-phase (class_at t stretch i) (answers_of t stretch i j) j
 
+  -- the test of I4 on a cycle, by its phase
   pub in_interrupt_acknowledge : (j : ℕ) → in_cycle t stretch (λ i. is_interrupt (class_at t stretch i)) j
       ≡ is_interrupt_acknowledge (cycle_before j)
   unfolding in_cycle
   in_interrupt_acknowledge j = by_cycle (cycle_of t stretch j)
     where
       by_cycle : (o : Option ℕ) → option_map_or (λ i. is_interrupt (class_at t stretch i)) o false
-          ≡ is_interrupt_acknowledge (told_of o j)
+          ≡ is_interrupt_acknowledge (phase_of_cycle o j)
       by_cycle None = refl
-      by_cycle (Some i) = acknowledge_is (class_at t stretch i) (answers_of t stretch i j)
+      by_cycle (Some i) = is_interrupt-phase (class_at t stretch i) (answers_of t stretch i j)
 
+  -- the test of I5 on a cycle, by its phase
   pub in_answered_interrupt_acknowledge : (j : ℕ) → in_cycle t stretch (λ i. is_interrupt (class_at t stretch i)
       && has_earlier_answer (answers_of t stretch i j)) j ≡ is_answered_interrupt_acknowledge (cycle_before j)
   unfolding in_cycle
   in_answered_interrupt_acknowledge j = by_cycle (cycle_of t stretch j)
     where
       by_cycle : (o : Option ℕ) → option_map_or (λ i. is_interrupt (class_at t stretch i)
-          && has_earlier_answer (answers_of t stretch i j)) o false ≡ is_answered_interrupt_acknowledge (told_of o j)
+          && has_earlier_answer (answers_of t stretch i j)) o false
+          ≡ is_answered_interrupt_acknowledge (phase_of_cycle o j)
       by_cycle None = refl
-      by_cycle (Some i) = acknowledged_is (class_at t stretch i) (answers_of t stretch i j)
+      by_cycle (Some i) = has_earlier_answer-phase (class_at t stretch i) (answers_of t stretch i j)

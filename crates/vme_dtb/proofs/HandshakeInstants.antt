@@ -24,13 +24,13 @@ use Rattle.vme_dtb.specs.Machine.{answer_in, dtb_begin, dtb_observation, dtb_ste
 use Rattle.vme_dtb.specs.declared.cycle.CyclePhase.{CyclePhase}
 use Rattle.vme_dtb.specs.declared.edges.Edges.{Edges}
 use Rattle.vme_dtb.specs.declared.memory.HandshakeMemory.{HandshakeMemory}
-use Rattle.vme_dtb.proofs.CycleBreaks.{here_is, write_is}
-use Rattle.vme_dtb.proofs.CycleMemory.{after_is, cycle_after, cycle_before, cycle_start}
+use Rattle.vme_dtb.proofs.CycleBreaks.{cycle_before-here, answers_write-is_writing}
+use Rattle.vme_dtb.proofs.CycleMemory.{cycle_after-answer, cycle_after, cycle_before, cycle_after-start}
 use Rattle.vme_dtb.proofs.AnswerRises.{may_rise_at, may_rise_start, may_rise_suc}
-use Rattle.vme_dtb.proofs.HandshakeBreaks.{answer_is}
+use Rattle.vme_dtb.proofs.HandshakeBreaks.{is_answer-unanswered}
 use Rattle.vme_dtb.proofs.HandshakeMeaning.{Holds}
-use Rattle.vme_dtb.proofs.StepFacts.{old, new, strobe_rises_is}
-use Rattle.vme_dtb.proofs.StillSteps.{machine_step_is}
+use Rattle.vme_dtb.proofs.StepFacts.{old, new, strobe_rises-between}
+use Rattle.vme_dtb.proofs.StillSteps.{machine_step-dtb_next}
 
 idle_line : (v : Levels) (l : ℕ) → l < line_count → is_idle v ≡ true → is_idle_on v l ≡ true
 unfolding is_idle
@@ -55,7 +55,7 @@ module _ (t : Trace) (stretch : Stretch) (facts : IsStretch t stretch) where
   holds_start =
       record {
         transfer = IsTransferPhase-start t stretch facts.reads;
-        cycle = sym (cycle_start t stretch);
+        cycle = sym (cycle_after-start t stretch);
         dtack = may_rise_start t stretch DTACK stretch.start (idle_line (levels_at t stretch.start) 3 (lit< tt)
             facts.idle);
         berr = may_rise_start t stretch BERR stretch.start (idle_line (levels_at t stretch.start) 4 (lit< tt)
@@ -78,12 +78,13 @@ module _ (t : Trace) (stretch : Stretch) (facts : IsStretch t stretch) where
           ≡ cycle_after t stretch (suc n)
       cycle_next =
           sym
-          (after_is t stretch (suc n)
+          (cycle_after-answer t stretch (suc n)
           ∙ same_counted (is_answer t stretch (suc n)) (is_unanswered within && is_some seen.answer_fall)
           (cycle_before t stretch (suc n)) here (answers_write t stretch (suc n)) (is_writing within
           && is_some seen.answer_fall)
-          (answer_is t stretch facts.reads n from before m holds) (here_is t stretch facts.reads n from before m holds)
-          (write_is t stretch facts.reads n from before m holds)
+          (is_answer-unanswered t stretch facts.reads n from before m holds)
+          (cycle_before-here t stretch facts.reads n from before m holds)
+          (answers_write-is_writing t stretch facts.reads n from before m holds)
           ∙ counted (is_unanswered within) (is_writing within) seen.answer_fall here)
         where
           same_counted : (a b : Bool) (c d : CyclePhase) (w x : Bool) → a ≡ b → c ≡ d → w ≡ x
@@ -96,7 +97,7 @@ module _ (t : Trace) (stretch : Stretch) (facts : IsStretch t stretch) where
       unfolding low
       may_rise_next l was e readable =
           same_may_rise (is_low (level_at (new t n) l)) was (may_rise_at t stretch l n) (is_some seen.strobe_rise)
-          (strobe_rises t (suc n)) e (sym (strobe_rises_is t n))
+          (strobe_rises t (suc n)) e (sym (strobe_rises-between t n))
           ∙ sym (may_rise_suc t stretch l n from readable)
         where
           same_may_rise : (a b c d f : Bool) → b ≡ c → d ≡ f → (a && (b || d)) ≡ (a && (c || f))
@@ -136,6 +137,6 @@ module _ (t : Trace) (stretch : Stretch) (facts : IsStretch t stretch) where
             let so_far = holds_at n earlier (omega arith) in
             rw (le-ltb n stretch.start earlier)
             (subst (Holds t stretch (suc n)) (ap (λ (x : Next HandshakeMemory). x.memory)
-            (sym (machine_step_is t stretch n (memory_at n) so_far (changes_of (slice_get t.steps n)))))
+            (sym (machine_step-dtb_next t stretch n (memory_at n) so_far (changes_of (slice_get t.steps n)))))
             (holds_next n earlier before (memory_at n) so_far))
       ]

@@ -42,20 +42,23 @@ use Rattle.vme_dtb.specs.CycleState.{cycle_entered}
 use Rattle.vme_dtb.specs.Shown.{answer_line, answered, closes, handshake_shown}
 use Rattle.vme_dtb.specs.declared.edges.Edges.{Edges}
 use Rattle.vme_dtb.specs.declared.memory.HandshakeMemory.{HandshakeMemory}
-use Rattle.vme_dtb.proofs.CycleBreaks.{cycle_starts_is, cycle_faults-are-breaks, write_is}
+use Rattle.vme_dtb.proofs.CycleBreaks.{cycle_starts-between, cycle_faults-are-breaks, answers_write-is_writing}
 use Rattle.vme_dtb.proofs.Faults.{both-first}
-use Rattle.vme_dtb.proofs.HandshakeBreaks.{answer_is, handshake_faults-are-breaks}
+use Rattle.vme_dtb.proofs.HandshakeBreaks.{is_answer-unanswered, handshake_faults-are-breaks}
 use Rattle.vme_dtb.proofs.HandshakeMeaning.{Holds}
 use Rattle.vme_dtb.proofs.HandshakeInstants.{holds_at, memory_at}
-use Rattle.vme_dtb.proofs.OpenState.{started_is}
-use Rattle.vme_dtb.proofs.StepFacts.{old, new, answer_fall_is, judged, rises_is, starts_is}
-use Rattle.vme_dtb.proofs.StillSteps.{machine_step_is}
+use Rattle.vme_dtb.proofs.OpenState.{in_transfer-is_within}
+use Rattle.vme_dtb.proofs.StepFacts.{old, new, first_of-answer_fall, is_judged-next, rises-between}
+use Rattle.vme_dtb.proofs.StepFacts.{transfer_starts-between}
+use Rattle.vme_dtb.proofs.StillSteps.{machine_step-dtb_next}
 
-answered_line : (u : Bool) (o : Option ℕ) → cond (u && is_some o) o None ≡ cond u o None
-answered_line true None = refl
-answered_line true (Some l) = refl
-answered_line false o = refl
+-- the result is o or none, so the test of whether there is o can be left out
+cond-answer_line : (u : Bool) (o : Option ℕ) → cond (u && is_some o) o None ≡ cond u o None
+cond-answer_line true None = refl
+cond-answer_line true (Some l) = refl
+cond-answer_line false o = refl
 
+-- the answer by the line o, if there is one, with the data d
 abbrev answer_on : Option Lanes → Option ℕ → Option Answer
 answer_on d o = option_map (λ l. record { line = l; lanes = d }) o
 
@@ -71,60 +74,71 @@ answer_by_write Answered o d = refl
 
 module _ (t : Trace) (stretch : Stretch) (facts : IsStretch t stretch) (n : ℕ) (from : stretch.start ≤ n)
     (before : suc n < stretch.end) (m : HandshakeMemory) (holds : Holds t stretch n m) where
+  -- the edges of the step from n to n + 1
   abbrev seen : Edges
   seen = edges_between (old t n) (new t n)
 
+  -- the phase of the transfer in which n + 1 is, before an answer counts
   abbrev within : TransferPhase
   within = entered m.transfer (old t n) (new t n)
 
+  -- the phase of the cycle in which n + 1 is
   abbrev here : CyclePhase
   here = cycle_entered m.cycle seen.shown.cycle
 
   -- the machine's fault at instant n + 1 is the first broken rule
-  breaks_are : option_map (break_of_fault (suc n) (time_at t (suc n))) (fault_in m (old t n) (new t n) seen)
+  break_at-fault_in : option_map (break_of_fault (suc n) (time_at t (suc n))) (fault_in m (old t n) (new t n) seen)
       ≡ break_at t stretch handshake_rules (suc n)
   unfolding break_at
-  breaks_are =
+  break_at-fault_in =
       both-first (break_of_fault (suc n) (time_at t (suc n))) (rule_break t stretch (suc n)) strobe_rules cycle_rules
       (strobe_faults m within seen) (cycle_faults here (is_writing within) (answer_in within seen))
       (handshake_faults-are-breaks t stretch facts.reads n from before m holds)
       (cycle_faults-are-breaks t stretch facts.reads n from before m holds)
 
+  -- the fault of the machine's step is the first broken rule
   pub dtb_inside : option_map (break_of_fault (suc n) (time_at t (suc n)))
       (next_at (machine_step dtb_observation dtb_step) t m n).fault
       ≡ break_at t stretch handshake_rules (suc n)
   dtb_inside = ap (λ (x : Next HandshakeMemory). option_map (break_of_fault (suc n) (time_at t (suc n))) x.fault)
-      (machine_step_is t stretch n m holds (changes_of (slice_get t.steps n))) ∙ breaks_are
+      (machine_step-dtb_next t stretch n m holds (changes_of (slice_get t.steps n))) ∙ break_at-fault_in
 
-  least_fall : least (λ l. is_answer_line l && falls t l (suc n)) 0 line_count ≡ seen.answer_fall
-  least_fall = least_answer (λ l. is_answer_line l && falls t l (suc n)) (λ l h. rw h refl) ∙ answer_fall_is t n
+  -- the least answer line that falls at n + 1 is that of the edges
+  least-answer_fall : least (λ l. is_answer_line l && falls t l (suc n)) 0 line_count ≡ seen.answer_fall
+  least-answer_fall = least_answer (λ l. is_answer_line l && falls t l (suc n)) (λ l h. rw h refl)
+      ∙ first_of-answer_fall t n
 
-  answer_line_is : answer_line t stretch (suc n) ≡ answer_in within seen
+  -- the line that answers a transfer at n + 1 is that of the phase and the edges
+  answer_line-answer_in : answer_line t stretch (suc n) ≡ answer_in within seen
   unfolding answer_line
-  answer_line_is =
+  answer_line-answer_in =
       same_answer (is_answer t stretch (suc n)) (is_unanswered within && is_some seen.answer_fall)
       (least (λ l. is_answer_line l && falls t l (suc n)) 0 line_count) seen.answer_fall
-      (answer_is t stretch facts.reads n from before m holds) least_fall
-      ∙ answered_line (is_unanswered within) seen.answer_fall
+      (is_answer-unanswered t stretch facts.reads n from before m holds) least-answer_fall
+      ∙ cond-answer_line (is_unanswered within) seen.answer_fall
     where
       same_answer : (a b : Bool) (o q : Option ℕ) → a ≡ b → o ≡ q → cond a o None ≡ cond b q None
       same_answer a b o q e f = rw (e, f) refl
 
-  data_is : data_at t stretch (suc n) ≡ lanes_at (cond (starts_between (old t n) (new t n)) (new t n) (old t n))
+  -- the data of a transfer at n + 1 is that after the step if a transfer starts there, else that before it
+  data_at-lanes_at : data_at t stretch (suc n) ≡ lanes_at
+      (cond (starts_between (old t n) (new t n)) (new t n) (old t n))
   unfolding data_at
-  data_is = rw (starts_is t n stretch from before, suc-sub-one n) (by_start (starts_between (old t n) (new t n)))
+  data_at-lanes_at = rw (transfer_starts-between t n stretch from before, suc-sub-one n)
+      (by_start (starts_between (old t n) (new t n)))
     where
       by_start : (b : Bool) → lanes_at (levels_at t (cond b (suc n) n)) ≡ lanes_at (cond b (new t n) (old t n))
       by_start true = refl
       by_start false = refl
 
-  answered_is : answered t stretch (suc n) ≡ answered_in within (old t n) (new t n) seen
+  -- the answer at n + 1 is that of the phase and the edges
+  answered-answered_in : answered t stretch (suc n) ≡ answered_in within (old t n) (new t n) seen
   unfolding answered
-  answered_is =
+  answered-answered_in =
       same_answer_on (answers_write t stretch (suc n)) (is_writing within && is_some seen.answer_fall)
       (data_at t stretch (suc n)) (lanes_at (cond (starts_between (old t n) (new t n)) (new t n) (old t n)))
       (answer_line t stretch (suc n)) (answer_in within seen)
-      (write_is t stretch facts.reads n from before m holds) data_is answer_line_is
+      (answers_write-is_writing t stretch facts.reads n from before m holds) data_at-lanes_at answer_line-answer_in
       ∙ answer_by_write within seen.answer_fall
       (lanes_at (cond (starts_between (old t n) (new t n)) (new t n) (old t n)))
     where
@@ -132,63 +146,80 @@ module _ (t : Trace) (stretch : Stretch) (facts : IsStretch t stretch) (n : ℕ)
           → answer_on (cond a (Some d) None) o ≡ answer_on (cond b (Some e) None) q
       same_answer_on a b d e o q x y z = rw (x, y, z) refl
 
-  open_unless : (p : TransferPhase) → IsTransferPhase t stretch n p → is_within p ≡ not (strobes_high t n)
-  open_unless Closed h = rw h refl
-  open_unless Reading o = rw (o.1.still n o.1.within (omega arith)) refl
-  open_unless Writing o = rw (o.1.still n o.1.within (omega arith)) refl
-  open_unless Answered o = rw (o.2.still n o.2.within (omega arith)) refl
+  -- a phase that is right of n has a transfer exactly if the strobes aren't both high
+  is_within-not_high : (p : TransferPhase) → IsTransferPhase t stretch n p → is_within p ≡ not (strobes_high t n)
+  is_within-not_high Closed h = rw h refl
+  is_within-not_high Reading o = rw (o.1.still n o.1.within (omega arith)) refl
+  is_within-not_high Writing o = rw (o.1.still n o.1.within (omega arith)) refl
+  is_within-not_high Answered o = rw (o.2.still n o.2.within (omega arith)) refl
 
-  closes_is : closes t stretch (suc n) ≡ (strobes_high_in (new t n) && not (strobes_high_in (old t n)))
+  -- a transfer closes at n + 1 exactly if both strobes are high there, and weren't
+  closes-between : closes t stretch (suc n) ≡ (strobes_high_in (new t n) && not (strobes_high_in (old t n)))
   unfolding closes high
-  closes_is = ap (λ b. strobes_high t (suc n) && b) (started_is t stretch facts.reads n from before m.transfer
-      holds.transfer ∙ open_unless m.transfer holds.transfer)
+  closes-between = ap (λ b. strobes_high t (suc n) && b)
+      (in_transfer-is_within t stretch facts.reads n from before m.transfer
+      holds.transfer ∙ is_within-not_high m.transfer holds.transfer)
 
-  cycle_end_is : (is_judged stretch (suc n) && rises t AS (suc n)) ≡ rises_between (old t n) (new t n) AS
-  cycle_end_is = rw (judged t n stretch from before, rises_is t n AS) refl
+  -- AS* rises at the judged instant n + 1 exactly if it rises between the levels
+  cycle_end-between : (is_judged stretch (suc n) && rises t AS (suc n)) ≡ rises_between (old t n) (new t n) AS
+  cycle_end-between = rw (is_judged-next t n stretch from before, rises-between t n AS) refl
 
-  transfer_is : cond (transfer_starts t stretch (suc n)) (Some (is_write t stretch (suc n))) None
+  -- the transfer that starts at n + 1, by the levels
+  transfer-between : cond (transfer_starts t stretch (suc n)) (Some (is_write t stretch (suc n))) None
       ≡ cond (starts_between (old t n) (new t n)) (Some (is_low (level_at (new t n) WRITE))) None
   unfolding is_write low
-  transfer_is = ap (λ b. cond b (Some (is_low (level_at (new t n) WRITE))) None) (starts_is t n stretch from before)
+  transfer-between = ap (λ b. cond b (Some (is_low (level_at (new t n) WRITE))) None)
+      (transfer_starts-between t n stretch from before)
 
-  cycle_is : cond (cycle_starts t stretch (suc n)) (Some (cycle_start_of (new t n))) None
+  -- the cycle that starts at n + 1, by the levels
+  cycle-between : cond (cycle_starts t stretch (suc n)) (Some (cycle_start_of (new t n))) None
       ≡ cond (falls_between (old t n) (new t n) AS) (Some (cycle_start_of (new t n))) None
-  cycle_is = ap (λ b. cond b (Some (cycle_start_of (new t n))) None)
-      (cycle_starts_is t stretch facts.reads n from before m
+  cycle-between = ap (λ b. cond b (Some (cycle_start_of (new t n))) None)
+      (cycle_starts-between t stretch facts.reads n from before m
       holds)
 
-  same_kinds : (a b : Option CycleStart) (c d : Bool) (e f : Option Bool) (g h : Option Answer) (i j : Bool) → a ≡ b → c
+  -- marks of a step with equal parts are equal
+  step_marks-same : (a b : Option CycleStart) (c d : Bool) (e f : Option Bool) (g h : Option Answer) (i j : Bool) → a
+      ≡ b → c
       ≡ d → e ≡ f → g ≡ h → i ≡ j
       → record no_step_marks { cycle = a; cycle_end = c; transfer = e; answer = g; close = i }
       ≡ record no_step_marks { cycle = b; cycle_end = d; transfer = f; answer = h; close = j }
-  same_kinds a b c d e f g h i j x y z u v = rw (x, y, z, u, v) refl
+  step_marks-same a b c d e f g h i j x y z u v = rw (x, y, z, u, v) refl
 
-  kinds_are : (dtb_next m (old t n) (new t n) seen).shown ≡ handshake_shown t stretch (suc n)
-  kinds_are = same_kinds _ _ _ _ _ _ _ _ _ _ (sym cycle_is) (sym cycle_end_is) (sym transfer_is) (sym answered_is)
-      (sym closes_is)
+  -- what the machine shows at n + 1 is what the definitions say
+  shown-handshake : (dtb_next m (old t n) (new t n) seen).shown ≡ handshake_shown t stretch (suc n)
+  shown-handshake = step_marks-same _ _ _ _ _ _ _ _ _ _ (sym cycle-between) (sym cycle_end-between)
+      (sym transfer-between) (sym answered-answered_in)
+      (sym closes-between)
 
+  -- what the machine's step shows is what the definitions say
   pub dtb_kinds : (next_at (machine_step dtb_observation dtb_step) t m n).shown ≡ handshake_shown t stretch (suc n)
   dtb_kinds = ap (λ (x : Next HandshakeMemory). x.shown)
-      (machine_step_is t stretch n m holds (changes_of (slice_get t.steps n))) ∙ kinds_are
+      (machine_step-dtb_next t stretch n m holds (changes_of (slice_get t.steps n))) ∙ shown-handshake
 
 module _ (t : Trace) (stretch : Stretch) where
-  unjudged : is_judged stretch stretch.start ≡ false
-  unjudged = rw (le-ltb stretch.start stretch.start (omega arith)) refl
+  -- the start of a stretch isn't judged
+  not_judged-start : is_judged stretch stretch.start ≡ false
+  not_judged-start = rw (le-ltb stretch.start stretch.start (omega arith)) refl
 
-  in_none : (p : ℕ → Bool) → in_transfer t stretch p stretch.start ≡ false
+  -- the start of a stretch is in no transfer
+  in_transfer-start : (p : ℕ → Bool) → in_transfer t stretch p stretch.start ≡ false
   unfolding in_transfer
-  in_none p = fails-any (λ i. transfer_starts t stretch i && lasts t stretch i stretch.start && p i) (stretch.start + 1)
+  in_transfer-start p = fails-any (λ i. transfer_starts t stretch i && lasts t stretch i stretch.start && p i)
+      (stretch.start + 1)
       (stretch.start + 1) (λ i a b. absurd (omega arith))
 
-  shown_start : no_step_marks ≡ handshake_shown t stretch stretch.start
+  -- nothing is shown at the start of a stretch
+  handshake_shown-start : no_step_marks ≡ handshake_shown t stretch stretch.start
   unfolding cycle_starts transfer_starts answered answer_line is_answer closes
-  shown_start = rw (
-    unjudged,
-    in_none (λ i. answers t stretch i stretch.start),
-    in_none (λ i. nat_lt i stretch.start),
+  handshake_shown-start = rw (
+    not_judged-start,
+    in_transfer-start (λ i. answers t stretch i stretch.start),
+    in_transfer-start (λ i. nat_lt i stretch.start),
     and-false (strobes_high t stretch.start),
   ) refl
 
+-- the machine of the handshake finds the least break of its rules
 pub dtb_first_break : FindsLeast
     (run_of (machine_step (observed dtb_observation) (phase_step dtb_begin dtb_start_marks no_step_marks (λ l. None)
     dtb_step))) (start_in dtb_begin)
@@ -198,13 +229,14 @@ dtb_first_break =
     (λ t stretch ok few facts n from before within unbroken. dtb_inside t stretch facts n from before
     (memory_at t stretch facts n) (holds_at t stretch facts n from (omega (arith, before))))
 
+-- the machine of the handshake shows the cycles and transfers of a recording
 pub dtb_marks : ShowsAll
     (run_of (machine_step (observed dtb_observation) (phase_step dtb_begin dtb_start_marks no_step_marks dtb_end_fault
     dtb_step))) (start_in dtb_begin) no_step_marks handshake_shown
 dtb_marks =
     ShowsAll-inside dtb_begin dtb_start_marks dtb_observation dtb_step dtb_end_fault handshake_shown
     (λ t stretch ok few facts. record {
-      at_start = shown_start t stretch;
+      at_start = handshake_shown-start t stretch;
       inside = λ n from before within. dtb_kinds t stretch facts n from before (memory_at t stretch facts n)
           (holds_at t stretch facts n from (omega (arith, before)));
     })

@@ -29,48 +29,56 @@ use Rattle.vme_trace.proofs.Ranges.{least-none-any}
 use Rattle.vme_monitor.proofs.StretchFacts.{IsStretch}
 use Rattle.vme_dtb.specs.StabilityRules.{address_moved, moved_fault, observation_of, stability_rules}
 use Rattle.vme_dtb.specs.declared.holding.Holding.{Holding}
-use Rattle.vme_dtb.proofs.ChangedLines.{edge_is, first_least, same_itself}
-use Rattle.vme_dtb.proofs.Needed.{needed_below, needs_same}
+use Rattle.vme_dtb.proofs.ChangedLines.{is_changed-edge, first_among-least, same_level-refl}
+use Rattle.vme_dtb.proofs.Needed.{needs_of-below, needs_of-same}
 use Rattle.vme_dtb.proofs.Lasting.{any-and, none_shorter}
-use Rattle.vme_dtb.proofs.StabilityMeaning.{Holds, holds_address, keeps_address_is}
+use Rattle.vme_dtb.proofs.StabilityMeaning.{Holds, holds_address, keeps_address-any}
 
-or_none : {A : Type 0} (a b : Option A) → option_or a b ≡ None → (a ≡ None) × (b ≡ None)
-or_none None b h = (refl, h)
-or_none (Some x) b h = absurd (cc)
+-- if the first of two options is none, both are
+option_or-none_parts : {A : Type 0} (a b : Option A) → option_or a b ≡ None → (a ≡ None) × (b ≡ None)
+option_or-none_parts None b h = (refl, h)
+option_or-none_parts (Some x) b h = absurd (cc)
 
-unmapped : {A B : Type 0} (f : A → B) (a : Option A) → option_map f a ≡ None → a ≡ None
-unmapped f None h = refl
-unmapped f (Some x) h = absurd (cc)
+-- if f of an option is none, the option is
+option_map-none : {A B : Type 0} (f : A → B) (a : Option A) → option_map f a ≡ None → a ≡ None
+option_map-none f None h = refl
+option_map-none f (Some x) h = absurd (cc)
 
-same_equal : (x y : Level) → not (same_level x y) ≡ false → y ≡ x
-same_equal Low Low h = refl
-same_equal Low High h = absurd (cc)
-same_equal Low Unknown h = absurd (cc)
-same_equal High Low h = absurd (cc)
-same_equal High High h = refl
-same_equal High Unknown h = absurd (cc)
-same_equal Unknown Low h = absurd (cc)
-same_equal Unknown High h = absurd (cc)
-same_equal Unknown Unknown h = refl
+-- levels that the test finds the same are equal
+same_level-equal : (x y : Level) → not (same_level x y) ≡ false → y ≡ x
+same_level-equal Low Low h = refl
+same_level-equal Low High h = absurd (cc)
+same_level-equal Low Unknown h = absurd (cc)
+same_level-equal High Low h = absurd (cc)
+same_level-equal High High h = refl
+same_level-equal High Unknown h = absurd (cc)
+same_level-equal Unknown Low h = absurd (cc)
+same_level-equal Unknown High h = absurd (cc)
+same_level-equal Unknown Unknown h = refl
 
+-- an instant up to n + 1 is n + 1, or up to n
 last_or_before : (k n : ℕ) → k ≤ suc n → (k ≡ suc n) ⊎ (k ≤ n)
 last_or_before k n h = grind arith
 
-edge_off : (j h e a : Bool) → (j && h && (e && a)) ≡ false → j ≡ true → h ≡ true → a ≡ true → e ≡ false
-edge_off j h true a x jt ht at = rw (jt, ht, at) at x
-edge_off j h false a x jt ht at = refl
+-- if a conjunction is false in which only e may be false, e is
+has_edge-off : (j h e a : Bool) → (j && h && (e && a)) ≡ false → j ≡ true → h ≡ true → a ≡ true → e ≡ false
+has_edge-off j h true a x jt ht at = rw (jt, ht, at) at x
+has_edge-off j h false a x jt ht at = refl
 
-known_not_high : (x : Level) → is_known x ≡ true → is_high x ≡ false → is_low x ≡ true
-known_not_high Low h k = refl
-known_not_high High h k = absurd (cc)
-known_not_high Unknown h k = absurd (cc)
+-- a known level that isn't high is low
+is_low-known_not_high : (x : Level) → is_known x ≡ true → is_high x ≡ false → is_low x ≡ true
+is_low-known_not_high Low h k = refl
+is_low-known_not_high High h k = absurd (cc)
+is_low-known_not_high Unknown h k = absurd (cc)
 
-not_risen : (a b : Bool) → a ≡ true → (a && b) ≡ false → b ≡ false
-not_risen true b h k = k
-not_risen false b h k = absurd (cc)
+-- if a is true, and `a && b` false, b is false
+and-false_second : (a b : Bool) → a ≡ true → (a && b) ≡ false → b ≡ false
+and-false_second true b h k = k
+and-false_second false b h k = absurd (cc)
 
-known_within : (xs : List Level) (l : ℕ) → is_known (unwrap_or (slice_get xs l) Unknown) ≡ true → l < length xs
-known_within xs l h =
+-- a list of levels in which index l is known is longer than l
+length-known_level : (xs : List Level) (l : ℕ) → is_known (unwrap_or (slice_get xs l) Unknown) ≡ true → l < length xs
+length-known_level xs l h =
     elim (cases_lt l (length xs)) [
       | inl below ↦ below
       | inr past ↦ absurd (unknown (rw (slice_get_past xs l past) at h))
@@ -80,190 +88,229 @@ known_within xs l h =
     unknown h = cc
 
 module _ (t : Trace) (stretch : Stretch) where
-  no_break : (n k : ℕ) → break_before t stretch stability_rules (suc n) ≡ None → k ≤ n
+  -- if no rule is broken before n + 1, none is at each k up to n
+  break_at-none_before : (n k : ℕ) → break_before t stretch stability_rules (suc n) ≡ None → k ≤ n
       → break_at t stretch stability_rules k
       ≡ None
   unfolding break_before
-  no_break zero k h order = let e : k ≡ 0 = omega arith in subst (λ j. break_at t stretch stability_rules j ≡ None)
+  break_at-none_before zero k h order = let e : k ≡ 0 = omega arith in subst (λ j. break_at t stretch stability_rules j
+      ≡ None)
       (sym e)
-      (or_none (break_before t stretch stability_rules 0) (break_at t stretch stability_rules 0) h).1
-  no_break (suc n) k h order =
+      (option_or-none_parts (break_before t stretch stability_rules 0) (break_at t stretch stability_rules 0) h).1
+  break_at-none_before (suc n) k h order =
       elim (last_or_before k n order) [
         | inl e ↦ subst (λ j. break_at t stretch stability_rules j ≡ None) (sym e)
-            (or_none (break_before t stretch stability_rules (suc n)) (break_at t stretch stability_rules (suc n)) h).1
-        | inr earlier ↦ no_break n k (or_none (break_before t stretch stability_rules (suc n))
+            (option_or-none_parts (break_before t stretch stability_rules (suc n))
+            (break_at t stretch stability_rules (suc n)) h).1
+        | inr earlier ↦ break_at-none_before n k (option_or-none_parts (break_before t stretch stability_rules (suc n))
             (break_at t stretch stability_rules (suc n)) h).0 earlier
       ]
 
-  S1_least : (k : ℕ) → break_at t stretch stability_rules k ≡ None → rule_break t stretch k S1 ≡ None
+  -- where no rule is broken, S1 isn't
+  rule_break-S1_none : (k : ℕ) → break_at t stretch stability_rules k ≡ None → rule_break t stretch k S1 ≡ None
   unfolding break_at
-  S1_least k h =
-      let second = (or_none (rule_break t stretch k U2) (option_or (rule_break t stretch k U3)
+  rule_break-S1_none k h =
+      let second = (option_or-none_parts (rule_break t stretch k U2) (option_or (rule_break t stretch k U3)
       (option_or (rule_break t stretch k U4) (option_or (rule_break t stretch k S1)
       (option_or (rule_break t stretch k S2)
       (option_or (rule_break t stretch k S3) None))))) h).1 in
-      let third = (or_none (rule_break t stretch k U3) (option_or (rule_break t stretch k U4)
+      let third = (option_or-none_parts (rule_break t stretch k U3) (option_or (rule_break t stretch k U4)
       (option_or (rule_break t stretch k S1) (option_or (rule_break t stretch k S2)
       (option_or (rule_break t stretch k S3)
       None)))) second).1 in
-      let fourth = (or_none (rule_break t stretch k U4) (option_or (rule_break t stretch k S1)
+      let fourth = (option_or-none_parts (rule_break t stretch k U4) (option_or (rule_break t stretch k S1)
       (option_or (rule_break t stretch k S2) (option_or (rule_break t stretch k S3) None))) third).1 in
-      (or_none (rule_break t stretch k S1) (option_or (rule_break t stretch k S2)
+      (option_or-none_parts (rule_break t stretch k S1) (option_or (rule_break t stretch k S2)
       (option_or (rule_break t stretch k S3) None))
       fourth).0
 
-  pub S2_least : (k : ℕ) → break_at t stretch stability_rules k ≡ None → rule_break t stretch k S2 ≡ None
+  -- where no rule is broken, S2 isn't
+  pub rule_break-S2_none : (k : ℕ) → break_at t stretch stability_rules k ≡ None → rule_break t stretch k S2 ≡ None
   unfolding break_at
-  S2_least k h =
-      let second = (or_none (rule_break t stretch k U2) (option_or (rule_break t stretch k U3)
+  rule_break-S2_none k h =
+      let second = (option_or-none_parts (rule_break t stretch k U2) (option_or (rule_break t stretch k U3)
       (option_or (rule_break t stretch k U4) (option_or (rule_break t stretch k S1)
       (option_or (rule_break t stretch k S2)
       (option_or (rule_break t stretch k S3) None))))) h).1 in
-      let third = (or_none (rule_break t stretch k U3) (option_or (rule_break t stretch k U4)
+      let third = (option_or-none_parts (rule_break t stretch k U3) (option_or (rule_break t stretch k U4)
       (option_or (rule_break t stretch k S1) (option_or (rule_break t stretch k S2)
       (option_or (rule_break t stretch k S3)
       None)))) second).1 in
-      let fourth = (or_none (rule_break t stretch k U4) (option_or (rule_break t stretch k S1)
+      let fourth = (option_or-none_parts (rule_break t stretch k U4) (option_or (rule_break t stretch k S1)
       (option_or (rule_break t stretch k S2) (option_or (rule_break t stretch k S3) None))) third).1 in
-      let fifth = (or_none (rule_break t stretch k S1) (option_or (rule_break t stretch k S2)
+      let fifth = (option_or-none_parts (rule_break t stretch k S1) (option_or (rule_break t stretch k S2)
       (option_or (rule_break t stretch k S3) None)) fourth).1 in
-      (or_none (rule_break t stretch k S2) (option_or (rule_break t stretch k S3) None) fifth).0
+      (option_or-none_parts (rule_break t stretch k S2) (option_or (rule_break t stretch k S3) None) fifth).0
 
   -- if there is no break before n + 1, there is none before n and none at n
-  pub before_last : (n : ℕ) → break_before t stretch stability_rules (suc n) ≡ None
+  pub break_before-none_parts : (n : ℕ) → break_before t stretch stability_rules (suc n) ≡ None
       → (break_before t stretch stability_rules n ≡ None) × (break_at t stretch stability_rules n ≡ None)
   unfolding break_before
-  before_last n h = or_none (break_before t stretch stability_rules n) (break_at t stretch stability_rules n) h
+  break_before-none_parts n h = option_or-none_parts (break_before t stretch stability_rules n)
+      (break_at t stretch stability_rules n) h
 
   -- if S2 isn't broken at k, it is broken on no line
-  pub no_fault : (k : ℕ) (f : Option ℕ) → least (breaks t stretch S2 k) 0 line_count ≡ f → rule_break t stretch k S2
+  pub least-S2_none : (k : ℕ) (f : Option ℕ) → least (breaks t stretch S2 k) 0 line_count ≡ f
+      → rule_break t stretch k S2
       ≡ None
       → f ≡ None
   unfolding rule_break
-  no_fault k f e h = sym e ∙ unmapped (λ (x : ℕ). record { instant = k; time = time_at t k; rule = S2; line = x })
+  least-S2_none k f e h = sym e
+      ∙ option_map-none (λ (x : ℕ). record { instant = k; time = time_at t k; rule = S2; line = x })
       (least (breaks t stretch S2 k) 0 line_count) h
 
-  unbroken_at : (k : ℕ) → rule_break t stretch k S1 ≡ None → (l : ℕ) → l < line_count → breaks t stretch S1 k l ≡ false
+  -- if S1 isn't broken at k, it is broken on no line
+  breaks-S1_none : (k : ℕ) → rule_break t stretch k S1 ≡ None → (l : ℕ) → l < line_count → breaks t stretch S1 k l
+      ≡ false
   unfolding rule_break
-  unbroken_at k h l below = any-fails (breaks t stretch S1 k) 0 line_count l (least-none-any (breaks t stretch S1 k) 0
-      line_count (unmapped (λ (x : ℕ). record { instant = k; time = time_at t k; rule = S1; line = x })
+  breaks-S1_none k h l below = any-fails (breaks t stretch S1 k) 0 line_count l
+      (least-none-any (breaks t stretch S1 k) 0
+      line_count (option_map-none (λ (x : ℕ). record { instant = k; time = time_at t k; rule = S1; line = x })
       (least (breaks t stretch S1 k) 0 line_count) h)) (omega arith) below
 
   module _ (facts : IsStretch t stretch) (n : ℕ) (before : n < stretch.end)
       (unbroken : break_before t stretch stability_rules
       (suc n) ≡ None) (i : ℕ) (after : stretch.start < i) (order : i ≤ n)
       (held : holds_address t stretch n i ≡ true) where
+    -- the cycle starts at i
     starts : cycle_starts t stretch i ≡ true
     starts = (and_parts _ _ (and_parts _ _ held).0).0
 
+    -- the cycle runs at n
     runs : cycle_runs t stretch i n ≡ true
     runs = (and_parts _ _ (and_parts _ _ held).0).1
 
+    -- the cycle has no answer up to n
     unanswered : none (is_answer t stretch) i (n + 1) ≡ true
     unanswered = (and_parts _ _ held).1
 
-    runs_to : (k : ℕ) → k ≤ n → cycle_runs t stretch i k ≡ true
+    -- the cycle runs at each instant up to n
+    cycle_runs-to : (k : ℕ) → k ≤ n → cycle_runs t stretch i k ≡ true
     unfolding cycle_runs
-    runs_to k h = none_shorter (rises t AS) (i + 1) (k + 1) (n + 1) (omega arith) runs
+    cycle_runs-to k h = none_shorter (rises t AS) (i + 1) (k + 1) (n + 1) (omega arith) runs
 
-    held_to : (k : ℕ) → k ≤ n → holds_address t stretch k i ≡ true
-    held_to k h = rw (
+    -- the cycle holds its lines at each instant up to n
+    holds_address-to : (k : ℕ) → k ≤ n → holds_address t stretch k i ≡ true
+    holds_address-to k h = rw (
       starts,
-      runs_to k h,
+      cycle_runs-to k h,
       none_shorter (is_answer t stretch) i (k + 1) (n + 1) (omega arith)
           unanswered,
     )
         refl
 
-    no_edge : (k l : ℕ) → i ≤ k → suc k ≤ n → is_needed (levels_at t i) l ≡ true → l < 45 → has_edge t l (suc k) ≡ false
+    -- a line that the cycle needs has no edge up to n
+    has_edge-held : (k l : ℕ) → i ≤ k → suc k ≤ n → is_needed (levels_at t i) l ≡ true → l < 45 → has_edge t l (suc k)
+        ≡ false
     unfolding breaks is_broken
-    no_edge k l from to needed small =
-        edge_off (is_judged stretch (suc k)) (has_line t.opening.slots l) (has_edge t l (suc k)) _
-        (unbroken_at (suc k) (S1_least (suc k) (no_break n (suc k) unbroken to)) l (omega arith))
+    has_edge-held k l from to needed small =
+        has_edge-off (is_judged stretch (suc k)) (has_line t.opening.slots l) (has_edge t l (suc k)) _
+        (breaks-S1_none (suc k) (rule_break-S1_none (suc k) (break_at-none_before n (suc k) unbroken to)) l
+        (omega arith))
         (is_judged-holds stretch (suc k) (omega arith) (omega arith)) (bus_line_exists t.opening.slots l (omega arith))
         (any-holds (λ j. holds_address t stretch (suc k) j && is_needed (levels_at t j) l) (stretch.start + 1) (suc k) i
-        (omega arith) (omega arith) (rw (held_to (suc k) to, needed) refl))
+        (omega arith) (omega arith) (rw (holds_address-to (suc k) to, needed) refl))
 
-    same_next : (k l : ℕ) → has_edge t l (suc k) ≡ false → level_at (levels_at t (suc k)) l ≡ level_at (levels_at t k) l
+    -- a line without an edge has the level that it had
+    level_at-no_edge : (k l : ℕ) → has_edge t l (suc k) ≡ false → level_at (levels_at t (suc k)) l
+        ≡ level_at (levels_at t k) l
     unfolding has_edge
-    same_next k l h = same_equal (level_at (levels_at t k) l) (level_at (levels_at t (suc k)) l)
+    level_at-no_edge k l h = same_level-equal (level_at (levels_at t k) l) (level_at (levels_at t (suc k)) l)
         (rw (suc-sub-one k) at h)
 
-    stays : (k l : ℕ) → i ≤ k → k ≤ n → is_needed (levels_at t i) l ≡ true → l < 45 → level_at (levels_at t k) l
+    -- a line that the cycle needs has, at each instant up to n, the level of its start
+    level_at-held : (k l : ℕ) → i ≤ k → k ≤ n → is_needed (levels_at t i) l ≡ true → l < 45 → level_at (levels_at t k) l
         ≡ level_at (levels_at t i) l
-    stays zero l from to needed small = let e : i ≡ 0 = omega arith in rw e refl
-    stays (suc k) l from to needed small =
+    level_at-held zero l from to needed small = let e : i ≡ 0 = omega arith in rw e refl
+    level_at-held (suc k) l from to needed small =
         elim (last_or_before i k from) [
           | inl e ↦ rw e refl
-          | inr later ↦ same_next k l (no_edge k l later to needed small) ∙ stays k l later (omega arith) needed small
+          | inr later ↦ level_at-no_edge k l (has_edge-held k l later to needed small)
+              ∙ level_at-held k l later (omega arith) needed small
         ]
 
     -- while the lines of a cycle are held, the levels need the same lines as at its start
-    pub same_needs : needs_of (levels_at t n) ≡ needs_of (levels_at t i)
+    pub needs_of-held : needs_of (levels_at t n) ≡ needs_of (levels_at t i)
     unfolding is_needed
-    same_needs = needs_same (levels_at t i) (levels_at t n) (λ l h. stays n l order (omega arith) h
-        (needed_below (levels_at t i) l h))
+    needs_of-held = needs_of-same (levels_at t i) (levels_at t n) (λ l h. level_at-held n l order (omega arith) h
+        (needs_of-below (levels_at t i) l h))
 
-    low_start : cycle_starts t stretch i ≡ true → low t AS i ≡ true
+    -- AS* is low where a cycle starts
+    low-cycle_start : cycle_starts t stretch i ≡ true → low t AS i ≡ true
     unfolding cycle_starts falls
-    low_start h = (and_parts _ _ (and_parts _ _ h).1).1
+    low-cycle_start h = (and_parts _ _ (and_parts _ _ h).1).1
 
-    no_rise : cycle_runs t stretch i n ≡ true → (k : ℕ) → i ≤ k → suc k ≤ n → (low t AS k && high t AS (suc k)) ≡ false
+    -- AS* doesn't rise while a cycle runs
+    rises-none_in_cycle : cycle_runs t stretch i n ≡ true → (k : ℕ) → i ≤ k → suc k ≤ n
+        → (low t AS k && high t AS (suc k)) ≡ false
     unfolding cycle_runs rises
-    no_rise h k from to = rw (suc-sub-one k) at (any-fails (rises t AS) (i + 1) (n + 1) (suc k) (not-true _ h)
+    rises-none_in_cycle h k from to =
+        rw (suc-sub-one k) at (any-fails (rises t AS) (i + 1) (n + 1) (suc k) (not-true _ h)
         (omega arith) (omega arith))
 
-    low_next : (k : ℕ) → stretch.start ≤ suc k → suc k < stretch.end → low t AS k ≡ true
+    -- if AS* is low and doesn't rise, it is low at the next judged instant
+    low-next : (k : ℕ) → stretch.start ≤ suc k → suc k < stretch.end → low t AS k ≡ true
         → (low t AS k && high t AS (suc k))
         ≡ false → low t AS (suc k) ≡ true
     unfolding low high
-    low_next k from to h r = known_not_high (level_at (levels_at t (suc k)) AS)
-        (facts.known (suc k) AS from to (lit< tt) refl) (not_risen _ _ h r)
+    low-next k from to h r = is_low-known_not_high (level_at (levels_at t (suc k)) AS)
+        (facts.known (suc k) AS from to (lit< tt) refl) (and-false_second _ _ h r)
 
-    stays_low : (k : ℕ) → i ≤ k → k ≤ n → low t AS k ≡ true
-    stays_low zero from to = let e : i ≡ 0 = omega arith in rw e at (low_start starts)
-    stays_low (suc k) from to =
+    -- AS* is low at each instant from the start of the cycle to n
+    low-held : (k : ℕ) → i ≤ k → k ≤ n → low t AS k ≡ true
+    low-held zero from to = let e : i ≡ 0 = omega arith in rw e at (low-cycle_start starts)
+    low-held (suc k) from to =
         elim (last_or_before i k from) [
-          | inl e ↦ rw e at (low_start starts)
-          | inr later ↦ low_next k (omega arith) (omega arith) (stays_low k later (omega arith))
-              (no_rise runs k later to)
+          | inl e ↦ rw e at (low-cycle_start starts)
+          | inr later ↦ low-next k (omega arith) (omega arith) (low-held k later (omega arith))
+              (rises-none_in_cycle runs k later to)
         ]
 
     -- while the lines of a cycle are held, AS* is low
-    pub strobe_low : is_low (level_at (levels_at t n) AS) ≡ true
+    pub is_low-held : is_low (level_at (levels_at t n) AS) ≡ true
     unfolding low
-    strobe_low = stays_low n order (omega arith)
+    is_low-held = low-held n order (omega arith)
 
   module _ (facts : IsStretch t stretch) (n : ℕ) (from : stretch.start ≤ n) (before : suc n < stretch.end)
       (unbroken : break_before t stretch stability_rules (suc n) ≡ None) where
+    -- the levels before the step
     abbrev old : Levels
     old = levels_at t n
 
+    -- the levels after the step
     abbrev new : Levels
     new = levels_at t (suc n)
 
+    -- some cycle that started before n + 1 holds its lines at n + 1
     abbrev still_held : Bool
     still_held = any (holds_address t stretch (suc n)) (stretch.start + 1) (suc n)
 
-    -- a cycle that runs at n + 1 runs at n; likewise (`held_before`) held lines
-    runs_before : (i : ℕ) → cycle_runs t stretch i (suc n) ≡ true → cycle_runs t stretch i n ≡ true
+    -- a cycle that runs at n + 1 runs at n; likewise (`holds_address-before`) held lines
+    cycle_runs-before : (i : ℕ) → cycle_runs t stretch i (suc n) ≡ true → cycle_runs t stretch i n ≡ true
     unfolding cycle_runs
-    runs_before i h = none_shorter (rises t AS) (i + 1) (n + 1) (suc n + 1) (omega arith) h
+    cycle_runs-before i h = none_shorter (rises t AS) (i + 1) (n + 1) (suc n + 1) (omega arith) h
 
-    held_before : (i : ℕ) → i ≤ n → holds_address t stretch (suc n) i ≡ true → holds_address t stretch n i ≡ true
-    held_before i order h =
+    -- held lines of a cycle that started up to n were held at n
+    holds_address-before : (i : ℕ) → i ≤ n → holds_address t stretch (suc n) i ≡ true → holds_address t stretch n i
+        ≡ true
+    holds_address-before i order h =
         let two = and_parts (cycle_starts t stretch i && cycle_runs t stretch i (suc n))
         (none (is_answer t stretch) i (suc n + 1)) h in
         let one = and_parts (cycle_starts t stretch i) (cycle_runs t stretch i (suc n)) two.0 in
-        rw (one.0, runs_before i one.1, none_shorter (is_answer t stretch) i (n + 1) (suc n + 1) (omega arith) two.1)
+        rw (
+          one.0,
+          cycle_runs-before i one.1,
+          none_shorter (is_answer t stretch) i (n + 1) (suc n + 1)
+              (omega arith) two.1,
+        )
         refl
 
     -- the lines that the held cycle needs are those that the levels before the step need
-    needed_since : (l : ℕ) → any (λ i. holds_address t stretch (suc n) i && is_needed (levels_at t i) l)
+    any-needed_held : (l : ℕ) → any (λ i. holds_address t stretch (suc n) i && is_needed (levels_at t i) l)
         (stretch.start + 1)
         (suc n) ≡ (still_held && is_needed old l)
     unfolding is_needed
-    needed_since l = any-alike (λ i. holds_address t stretch (suc n) i && is_needed (levels_at t i) l)
+    any-needed_held l = any-alike (λ i. holds_address t stretch (suc n) i && is_needed (levels_at t i) l)
         (λ i. holds_address t stretch (suc n) i && is_needed old l) (stretch.start + 1) (suc n) same
         ∙ any-and (holds_address t stretch (suc n)) (is_needed old l) (stretch.start + 1) (suc n)
       where
@@ -275,31 +322,36 @@ module _ (t : Trace) (stretch : Stretch) where
             by_test : (h : Bool) → holds_address t stretch (suc n) i ≡ h → (h && is_needed (levels_at t i) l)
                 ≡ (h && is_needed old l)
             by_test true e = ap (λ needs. is_within needs l)
-                (sym (same_needs facts n (omega arith) unbroken i (omega arith) (omega arith)
-                (held_before i (omega arith) e)))
+                (sym (needs_of-held facts n (omega arith) unbroken i (omega arith) (omega arith)
+                (holds_address-before i (omega arith) e)))
             by_test false e = refl
 
-    low_before : still_held ≡ true → is_low (level_at old AS) ≡ true
-    low_before h =
+    -- AS* is low before the step if lines are still held
+    is_low-still_held : still_held ≡ true → is_low (level_at old AS) ≡ true
+    is_low-still_held h =
         let found = any-least (holds_address t stretch (suc n)) (stretch.start + 1) (suc n) h in
         let least_one = least-found (holds_address t stretch (suc n)) (stretch.start + 1) (suc n) found.0 found.1 in
-        strobe_low facts n (omega arith) unbroken found.0 (omega (arith, least_one.first))
-        (omega (arith, least_one.below)) (held_before found.0 (omega (arith, least_one.below)) least_one.holds)
+        is_low-held facts n (omega arith) unbroken found.0 (omega (arith, least_one.first))
+        (omega (arith, least_one.below)) (holds_address-before found.0 (omega (arith, least_one.below)) least_one.holds)
 
-    breaks_is : (l : ℕ) → breaks t stretch S1 (suc n) l ≡ (is_judged stretch (suc n) && has_line t.opening.slots l
+    -- S1 by its tests: the line has an edge, and a cycle that still holds its lines needs it
+    breaks-S1 : (l : ℕ) → breaks t stretch S1 (suc n) l ≡ (is_judged stretch (suc n) && has_line t.opening.slots l
         && (not (same_level (level_at old l) (level_at new l)) && (still_held && is_within (needs_of old) l)))
     unfolding breaks is_broken has_edge is_needed
-    breaks_is l = rw (suc-sub-one n, needed_since l) refl
+    breaks-S1 l = rw (suc-sub-one n, any-needed_held l) refl
 
-    bound : (l : ℕ) → is_within (needs_of old) l ≡ true → l < line_count
-    bound l h = omega (arith, needed_below old l h)
+    -- a line that a cycle needs is a line
+    is_within-below_line_count : (l : ℕ) → is_within (needs_of old) l ≡ true → l < line_count
+    is_within-below_line_count l h = omega (arith, needs_of-below old l h)
 
     module _ (cs : List Change) (stepped : new ≡ changed old cs) (fit : are_changes old 0 cs ≡ true) where
-      inside : 45 < length old.levels
-      inside = known_within old.levels 45 (facts.known n 45 from (omega arith) (lit< tt) refl)
+      -- the levels have more than 45 lines
+      length-levels_above_45 : 45 < length old.levels
+      length-levels_above_45 = length-known_level old.levels 45 (facts.known n 45 from (omega arith) (lit< tt) refl)
 
-      unchanged : (l : ℕ) → is_changed cs l ≡ false → breaks t stretch S1 (suc n) l ≡ false
-      unchanged l h = breaks_is l ∙ rw (stepped, level-kept old cs l h, same_itself (level_at old l))
+      -- S1 isn't broken on a line that isn't changed
+      breaks-S1_unchanged : (l : ℕ) → is_changed cs l ≡ false → breaks t stretch S1 (suc n) l ≡ false
+      breaks-S1_unchanged l h = breaks-S1 l ∙ rw (stepped, level-kept old cs l h, same_level-refl (level_at old l))
           (no_edge_no_break (is_judged stretch (suc n)) (has_line t.opening.slots l))
         where
           no_edge_no_break : (a b : Bool) → (a && b && false) ≡ false
@@ -307,9 +359,11 @@ module _ (t : Trace) (stretch : Stretch) where
           no_edge_no_break true false = refl
           no_edge_no_break false b = refl
 
-      changed_line : still_held ≡ true → (l : ℕ) → is_changed cs l ≡ true → breaks t stretch S1 (suc n) l
+      -- if lines are still held, S1 is broken on a changed line exactly if it is needed
+      breaks-S1_changed : still_held ≡ true → (l : ℕ) → is_changed cs l ≡ true → breaks t stretch S1 (suc n) l
           ≡ is_within (needs_of old) l
-      changed_line held l h = breaks_is l ∙ rw (stepped, held, is_judged-holds stretch (suc n) (omega arith) before)
+      breaks-S1_changed held l h = breaks-S1 l
+          ∙ rw (stepped, held, is_judged-holds stretch (suc n) (omega arith) before)
           (by_need (is_within (needs_of old) l) refl)
         where
           ends_false : (a b : Bool) → (true && a && (b && (true && false))) ≡ false
@@ -320,19 +374,25 @@ module _ (t : Trace) (stretch : Stretch) where
           by_need : (b : Bool) → is_within (needs_of old) l ≡ b → (true && has_line t.opening.slots l
               && (not (same_level (level_at old l) (level_at (changed old cs) l)) && (true && b))) ≡ b
           by_need true e =
-              let small = needed_below old l e in
-              rw (bus_line_exists t.opening.slots l (omega arith), edge_is old cs l fit (omega (arith, inside)), h) refl
+              let small = needs_of-below old l e in
+              rw (
+                bus_line_exists t.opening.slots l (omega arith),
+                is_changed-edge old cs l fit
+                    (omega (arith, length-levels_above_45)),
+                h,
+              ) refl
           by_need false e = ends_false (has_line t.opening.slots l)
               (not (same_level (level_at old l) (level_at (changed old cs) l)))
 
-      least_by : (b : Bool) → still_held ≡ b → least (breaks t stretch S1 (suc n)) 0 line_count
+      -- the least line that breaks S1 is the first changed line that is needed, if lines are still held
+      least-S1_by_held : (b : Bool) → still_held ≡ b → least (breaks t stretch S1 (suc n)) 0 line_count
           ≡ cond b (address_moved old cs) None
-      least_by true held = sym (rw (low_before held) (first_least (breaks t stretch S1 (suc n))
+      least-S1_by_held true held = sym (rw (is_low-still_held held) (first_among-least (breaks t stretch S1 (suc n))
           (is_within (needs_of old))
-          line_count bound old 0 cs fit unchanged (changed_line held)))
-      least_by false held = least-none (breaks t stretch S1 (suc n)) 0 line_count
+          line_count is_within-below_line_count old 0 cs fit breaks-S1_unchanged (breaks-S1_changed held)))
+      least-S1_by_held false held = least-none (breaks t stretch S1 (suc n)) 0 line_count
           (fails-any (breaks t stretch S1 (suc n)) 0
-          line_count (λ l a b. breaks_is l ∙ rw held (nothing_held (is_judged stretch (suc n))
+          line_count (λ l a b. breaks-S1 l ∙ rw held (nothing_held (is_judged stretch (suc n))
           (has_line t.opening.slots l)
           (not (same_level (level_at old l) (level_at new l))))))
         where
@@ -342,6 +402,8 @@ module _ (t : Trace) (stretch : Stretch) where
           nothing_held true false c = refl
           nothing_held false b c = refl
 
-      pub moved_least : (m : Holding) → Holds t stretch n m → least (breaks t stretch S1 (suc n)) 0 line_count
+      -- the least line that breaks S1 is the line of the machine's fault
+      pub least-S1 : (m : Holding) → Holds t stretch n m → least (breaks t stretch S1 (suc n)) 0 line_count
           ≡ moved_fault m old new (observation_of old new cs)
-      moved_least m holds = rw (keeps_address_is t stretch facts.reads n from before m holds) (least_by still_held refl)
+      least-S1 m holds = rw (keeps_address-any t stretch facts.reads n from before m holds)
+          (least-S1_by_held still_held refl)

@@ -35,42 +35,50 @@ use Rattle.vme_dtb.specs.StabilityRules.{is_shifted, is_undriven, keeps_data, ke
 use Rattle.vme_dtb.specs.StabilityRules.{observation_of, stability_rules, undriven_fault, writes_now}
 use Rattle.vme_dtb.specs.declared.holding.Holding.{Holding}
 use Rattle.vme_dtb.proofs.AskedLines.{least_and}
-use Rattle.vme_dtb.proofs.ChangedLines.{first_least, same_itself}
-use Rattle.vme_dtb.proofs.StabilityMeaning.{Holds, falls_is, high_is, judged, strobe_rises_is, transfer_starts_is}
+use Rattle.vme_dtb.proofs.ChangedLines.{first_among-least, same_level-refl}
+use Rattle.vme_dtb.proofs.StabilityMeaning.{Holds, falls-between, strobes_high_in-is_closed, is_judged-next}
+use Rattle.vme_dtb.proofs.StabilityMeaning.{strobe_rises-between, transfer_starts-between}
 use Rattle.vme_dtb.proofs.Lasting.{none_more}
 use Rattle.vme_dtb.proofs.Progressing.{held_data, is_closed, kept_is, writes_entered}
 
 -- lines that a transfer moves are from 159 on, the first data line
-data_from : (a b c d e : Bool) (l : ℕ)
+data_line-from : (a b c d e : Bool) (l : ℕ)
     → ((a && ((b && (nat_le 159 l && nat_le l 166)) || (c && (nat_le 167 l && nat_le l 174)))) || (d && e && b && c
     && (nat_le 159 l && nat_le l 190))) ≡ true → 159 ≤ l
-data_from a b c d e l h = grind (arith, nat_tests)
+data_line-from a b c d e l h = grind (arith, nat_tests)
 
-data_to : (a b c d e : Bool) (l : ℕ)
+-- lines that a transfer moves are below 191, one after the last data line
+data_line-to : (a b c d e : Bool) (l : ℕ)
     → ((a && ((b && (nat_le 159 l && nat_le l 166)) || (c && (nat_le 167 l && nat_le l 174)))) || (d && e && b && c
     && (nat_le 159 l && nat_le l 190))) ≡ true → l < 191
-data_to a b c d e l h = grind (arith, nat_tests)
+data_line-to a b c d e l h = grind (arith, nat_tests)
 
-pub selected_from : (v : Levels) (l : ℕ) → is_selected v l ≡ true → 159 ≤ l
+-- a line that a transfer moves is from 159 on
+pub is_selected-from : (v : Levels) (l : ℕ) → is_selected v l ≡ true → 159 ≤ l
 unfolding is_selected
-selected_from v l h = data_from (is_high (level_at v LWORD)) (is_low (level_at v DS0)) (is_low (level_at v DS1))
+is_selected-from v l h = data_line-from (is_high (level_at v LWORD)) (is_low (level_at v DS0)) (is_low (level_at v DS1))
     (is_low (level_at v LWORD)) (is_low (level_at v (A 1))) l h
 
-pub selected_to : (v : Levels) (l : ℕ) → is_selected v l ≡ true → l < 191
+-- a line that a transfer moves is below 191
+pub is_selected-to : (v : Levels) (l : ℕ) → is_selected v l ≡ true → l < 191
 unfolding is_selected
-selected_to v l h = data_to (is_high (level_at v LWORD)) (is_low (level_at v DS0)) (is_low (level_at v DS1))
+is_selected-to v l h = data_line-to (is_high (level_at v LWORD)) (is_low (level_at v DS0)) (is_low (level_at v DS1))
     (is_low (level_at v LWORD)) (is_low (level_at v (A 1))) l h
 
-pub data_line : (slots l : ℕ) → 159 ≤ l → l < 191 → has_line slots l ≡ true
-data_line slots l h k = grind (arith, nat_tests)
+-- each data line exists
+pub has_line-data : (slots l : ℕ) → 159 ≤ l → l < 191 → has_line slots l ≡ true
+has_line-data slots l h k = grind (arith, nat_tests)
 
-and_first : (a b : Bool) → (a && true) ≡ false → (a && b) ≡ false
-and_first true b h = absurd (cc)
-and_first false b h = refl
+-- if a and true is false, so is a and b
+and-false_first : (a b : Bool) → (a && true) ≡ false → (a && b) ≡ false
+and-false_first true b h = absurd (cc)
+and-false_first false b h = refl
 
-asked : (j h s k f w g x : Bool) → j ≡ true → f ≡ g → w ≡ x → (s ≡ true → h ≡ true) → (j && h && (s && not k && f && w))
+-- U4 on a line by equal tests, if the instant is judged and each line that a transfer moves exists
+undriven-by_tests : (j h s k f w g x : Bool) → j ≡ true → f ≡ g → w ≡ x → (s ≡ true → h ≡ true)
+    → (j && h && (s && not k && f && w))
     ≡ ((g && x) && (s && not k))
-asked j h s k f w g x jt fg wx sh = rw (jt, fg, wx) (by_need s h k g x sh)
+undriven-by_tests j h s k f w g x jt fg wx sh = rw (jt, fg, wx) (by_need s h k g x sh)
   where
     by_need : (s h k g x : Bool) → (s ≡ true → h ≡ true) → (true && h && (s && not k && g && x))
         ≡ ((g && x) && (s && not k))
@@ -100,22 +108,26 @@ asked j h s k f w g x jt fg wx sh = rw (jt, fg, wx) (by_need s h k g x sh)
     by_need false false false false true sh = refl
     by_need false false false false false sh = refl
 
-kept_line : (f w y : Bool) (o : Option ℕ) → (w ≡ true → y ≡ true) → cond (f && w) o None ≡ kept w (cond (f && y) o None)
-kept_line true true y None h = rw (h refl) refl
-kept_line true true y (Some l) h = rw (h refl) refl
-kept_line true false true None h = refl
-kept_line true false true (Some l) h = refl
-kept_line true false false o h = refl
-kept_line false w y o h = refl
+-- a line that is taken where a strobe falls in a write is the line that is taken where it may be a write, kept if it is
+-- one
+kept-may_write : (f w y : Bool) (o : Option ℕ) → (w ≡ true → y ≡ true) → cond (f && w) o None
+    ≡ kept w (cond (f && y) o None)
+kept-may_write true true y None h = rw (h refl) refl
+kept-may_write true true y (Some l) h = rw (h refl) refl
+kept-may_write true false true None h = refl
+kept-may_write true false true (Some l) h = refl
+kept-may_write true false false o h = refl
+kept-may_write false w y o h = refl
 
-may : (h l d z : Bool) → cond h (l && d) z ≡ true → (not h || d) ≡ true
-may true l d z e = (and_parts l d e).1
-may false l d z e = refl
+-- a transfer that is a write after the step may be a write by the levels
+may_write-of_write : (h l d z : Bool) → cond h (l && d) z ≡ true → (not h || d) ≡ true
+may_write-of_write true l d z e = (and_parts l d e).1
+may_write-of_write false l d z e = refl
 
 -- if the instant is judged, and the write is held, the rule is broken on a line exactly if the line moves
-moved : (j h s e q k d : Bool) → j ≡ true → q ≡ (k && d) → (k && d) ≡ true → (j && h && (s && e && q))
+shifted-by_tests : (j h s e q k d : Bool) → j ≡ true → q ≡ (k && d) → (k && d) ≡ true → (j && h && (s && e && q))
     ≡ (h && h && (s && e))
-moved j h s e q k d jt qk kd = rw (jt, qk, kd) (by_tests h s e)
+shifted-by_tests j h s e q k d jt qk kd = rw (jt, qk, kd) (by_tests h s e)
   where
     by_tests : (h s e : Bool) → (true && h && (s && e && true)) ≡ (h && h && (s && e))
     by_tests true true true = refl
@@ -127,83 +139,106 @@ moved j h s e q k d jt qk kd = rw (jt, qk, kd) (by_tests h s e)
     by_tests false false true = refl
     by_tests false false false = refl
 
-not_held : (j h s e q : Bool) → q ≡ false → (j && h && (s && e && q)) ≡ false
-not_held j h s e q x = grind (arith, nat_tests)
+-- S3 isn't broken on a line if no data is held
+shifted-not_held : (j h s e q : Bool) → q ≡ false → (j && h && (s && e && q)) ≡ false
+shifted-not_held j h s e q x = grind (arith, nat_tests)
 
 module _ (t : Trace) (stretch : Stretch) (reads : ReadsStrobes t stretch) (n : ℕ) (from : stretch.start ≤ n)
     (before : suc n < stretch.end) (m : Holding) (holds : Holds t stretch n m)
     (unbroken : break_before t stretch stability_rules (suc n) ≡ None) where
+  -- the levels before the step
   abbrev old : Levels
   old = levels_at t n
 
+  -- the levels after the step
   abbrev new : Levels
   new = levels_at t (suc n)
 
-  less_in : (p : ℕ → Bool) → in_transfer t stretch (λ i. true) (suc n) ≡ false → in_transfer t stretch p (suc n) ≡ false
+  -- at an instant that is in no transfer, it is in none with p
+  in_transfer-fewer : (p : ℕ → Bool) → in_transfer t stretch (λ i. true) (suc n) ≡ false
+      → in_transfer t stretch p (suc n) ≡ false
   unfolding in_transfer
-  less_in p h = fails-any (λ i. transfer_starts t stretch i && lasts t stretch i (suc n) && p i) (stretch.start + 1)
+  in_transfer-fewer p h = fails-any (λ i. transfer_starts t stretch i && lasts t stretch i (suc n) && p i)
+      (stretch.start + 1)
       (suc n + 1)
-      (λ i a b. and_first (transfer_starts t stretch i && lasts t stretch i (suc n)) (p i)
+      (λ i a b. and-false_first (transfer_starts t stretch i && lasts t stretch i (suc n)) (p i)
       (any-fails (λ k. transfer_starts t stretch k && lasts t stretch k (suc n) && true) (stretch.start + 1) (suc n + 1)
       i h a
       b))
 
-  in_none : (p : ℕ → Bool) → strobes_high t (suc n - 1) ≡ true → strobes_high t (suc n) ≡ true → in_transfer t stretch p
+  -- if both strobes are high at n and at n + 1, no transfer is at n + 1
+  in_transfer-closed : (p : ℕ → Bool) → strobes_high t (suc n - 1) ≡ true → strobes_high t (suc n) ≡ true
+      → in_transfer t stretch p
       (suc n) ≡ false
-  in_none p high_before high_here = less_in p (in_transfer-levels t stretch reads n from before
+  in_transfer-closed p high_before high_here = in_transfer-fewer p (in_transfer-levels t stretch reads n from before
       ∙ rw (ap (strobes_high t) (sym (suc-sub-one n)) ∙ high_before, high_here) refl)
 
-  in_one : (p : ℕ → Bool) (i : ℕ) (w a : Bool) → IsIn t stretch (suc n) i w a → in_transfer t stretch p (suc n) ≡ p i
-  in_one p i w a o = in_transfer-is t stretch p i (suc n) o.later o.within o.starts o.last
+  -- while the transfer of i lasts to n + 1, p holds of a transfer there exactly if it holds of i
+  in_transfer-open : (p : ℕ → Bool) (i : ℕ) (w a : Bool) → IsIn t stretch (suc n) i w a
+      → in_transfer t stretch p (suc n) ≡ p i
+  in_transfer-open p i w a o = in_transfer-is t stretch p i (suc n) o.later o.within o.starts o.last
 
-  directed : strobes_high_in old ≡ false → writes_of m.transfer (is_low (level_at old WRITE)) ≡ is_writing holds.state
-  directed = holds.directed unbroken
+  -- in an open transfer the memory and WRITE* say whether it is a write without an answer
+  writes_of-direction : strobes_high_in old ≡ false → writes_of m.transfer (is_low (level_at old WRITE))
+      ≡ is_writing holds.state
+  writes_of-direction = holds.directed unbroken
 
-  highs : strobes_high_in old ≡ is_closed holds.state
-  highs = high_is t stretch reads n from before holds.state holds.says
+  -- both strobes are high at n exactly if no transfer is open
+  strobes_high_in-state : strobes_high_in old ≡ is_closed holds.state
+  strobes_high_in-state = strobes_high_in-is_closed t stretch reads n from before holds.state holds.says
 
-  enters : Enters t stretch (suc n) (entered holds.state old new)
-  enters = Enters-entered t stretch reads n from before holds.state holds.says
+  -- the phase that the step enters is right of n + 1 before its answer counts
+  Enters-now : Enters t stretch (suc n) (entered holds.state old new)
+  Enters-now = Enters-entered t stretch reads n from before holds.state holds.says
 
   -- the transfer that starts at i is a write that had no answer before n + 1
   abbrev is_asked : ℕ → Bool
   is_asked i = is_write t stretch i && not (is_answered t stretch i (suc n))
 
-  asks_by : (e : TransferPhase) → Enters t stretch (suc n) e → in_transfer t stretch is_asked (suc n) ≡ is_writing e
-  asks_by Closed o = in_none is_asked o.0 o.1
-  asks_by Reading o = in_one is_asked o.0 false false o.1 ∙ rw o.1.direction refl
-  asks_by Writing o = in_one is_asked o.0 true false o.1 ∙ rw (o.1.direction, o.1.reply) refl
-  asks_by Answered o = in_one is_asked o.0 o.1 true o.2 ∙ rw (o.2.direction, o.2.reply) (and-false o.1)
+  -- n + 1 is in a write without an answer before it exactly if the phase is `Writing`
+  in_transfer-asked : (e : TransferPhase) → Enters t stretch (suc n) e → in_transfer t stretch is_asked (suc n)
+      ≡ is_writing e
+  in_transfer-asked Closed o = in_transfer-closed is_asked o.0 o.1
+  in_transfer-asked Reading o = in_transfer-open is_asked o.0 false false o.1 ∙ rw o.1.direction refl
+  in_transfer-asked Writing o = in_transfer-open is_asked o.0 true false o.1 ∙ rw (o.1.direction, o.1.reply) refl
+  in_transfer-asked Answered o = in_transfer-open is_asked o.0 o.1 true o.2
+      ∙ rw (o.2.direction, o.2.reply) (and-false o.1)
 
-  writes_is : in_transfer t stretch is_asked (suc n) ≡ writes_now m old new
-  writes_is = asks_by (entered holds.state old new) enters ∙ writes_entered holds.state (strobes_high_in old)
-      (strobe_low_in new) (is_low (level_at new WRITE)) (writes_of m.transfer (is_low (level_at old WRITE))) highs
-      directed
+  -- n + 1 is in a write without an answer before it exactly if the memory and the levels say so
+  in_transfer-writes_now : in_transfer t stretch is_asked (suc n) ≡ writes_now m old new
+  in_transfer-writes_now = in_transfer-asked (entered holds.state old new) Enters-now
+      ∙ writes_entered holds.state (strobes_high_in old)
+      (strobe_low_in new) (is_low (level_at new WRITE)) (writes_of m.transfer (is_low (level_at old WRITE)))
+      strobes_high_in-state
+      writes_of-direction
 
-  falls_here : strobe_falls t (suc n) ≡ strobe_falls_between old new
-  falls_here = rw (falls_is t stretch reads n from before DS0, falls_is t stretch reads n from before DS1) refl
+  -- a strobe falls at n + 1 exactly if one falls between the levels
+  strobe_falls-between : strobe_falls t (suc n) ≡ strobe_falls_between old new
+  strobe_falls-between =
+      rw (falls-between t stretch reads n from before DS0, falls-between t stretch reads n from before DS1) refl
 
-  undriven_asked : (l : ℕ) → breaks t stretch U4 (suc n) l ≡ ((strobe_falls_between old new && writes_now m old new)
+  -- U4 is broken on a line exactly if a strobe falls in a write without an answer, and the line is moved and unknown
+  breaks-U4 : (l : ℕ) → breaks t stretch U4 (suc n) l ≡ ((strobe_falls_between old new && writes_now m old new)
       && is_undriven new l)
   unfolding breaks is_broken known
-  undriven_asked l =
-      asked (is_judged stretch (suc n)) (has_line t.opening.slots l) (is_selected new l) (is_known_on new l)
+  breaks-U4 l =
+      undriven-by_tests (is_judged stretch (suc n)) (has_line t.opening.slots l) (is_selected new l) (is_known_on new l)
       (strobe_falls t (suc n)) (in_transfer t stretch is_asked (suc n)) (strobe_falls_between old new)
       (writes_now m old new)
-      (judged t stretch reads n from before) falls_here writes_is
-      (λ e. data_line t.opening.slots l (selected_from new l e)
-      (selected_to new l e))
+      (is_judged-next t stretch reads n from before) strobe_falls-between in_transfer-writes_now
+      (λ e. has_line-data t.opening.slots l (is_selected-from new l e)
+      (is_selected-to new l e))
 
   -- the least line that breaks U4 is the least unknown line that the write moves as a strobe falls
-  pub undriven_least : (cs : List Change) → least (breaks t stretch U4 (suc n)) 0 line_count ≡ undriven_fault m old new
+  pub least-U4 : (cs : List Change) → least (breaks t stretch U4 (suc n)) 0 line_count ≡ undriven_fault m old new
       (observation_of old new cs)
-  undriven_least cs =
+  least-U4 cs =
       least-alike (breaks t stretch U4 (suc n)) (λ l. (strobe_falls_between old new && writes_now m old new)
-      && is_undriven new l) 0 line_count (λ l a b. undriven_asked l)
+      && is_undriven new l) 0 line_count (λ l a b. breaks-U4 l)
       ∙ (least_and (strobe_falls_between old new && writes_now m old new) (is_undriven new)
-      ∙ kept_line (strobe_falls_between old new) (writes_now m old new) (may_write old new)
+      ∙ kept-may_write (strobe_falls_between old new) (writes_now m old new) (may_write old new)
       (least (is_undriven new) 0 line_count)
-      (may (strobes_high_in old) (strobe_low_in new) (is_low (level_at new WRITE))
+      (may_write-of_write (strobes_high_in old) (strobe_low_in new) (is_low (level_at new WRITE))
       (writes_of m.transfer (is_low (level_at old WRITE)))))
 
   -- the transfer that starts at i is a write that started before n + 1 and has had no answer and no rising strobe up to
@@ -213,80 +248,97 @@ module _ (t : Trace) (stretch : Stretch) (reads : ReadsStrobes t stretch) (n : �
       && none (strobe_rises t)
       (i + 1) (suc n + 1)
 
-  order_of : (i : ℕ) → i ≤ suc n → (i ≡ suc n) ⊎ (i ≤ n)
-  order_of i h = grind arith
+  -- an instant up to n + 1 is n + 1, or up to n
+  now_or_earlier : (i : ℕ) → i ≤ suc n → (i ≡ suc n) ⊎ (i ≤ n)
+  now_or_earlier i h = grind arith
 
-  before_next : (i : ℕ) → i ≤ n → nat_lt i (suc n) ≡ true
-  before_next i h = grind (arith, nat_tests)
+  -- an instant up to n is before n + 1
+  nat_lt-earlier : (i : ℕ) → i ≤ n → nat_lt i (suc n) ≡ true
+  nat_lt-earlier i h = grind (arith, nat_tests)
 
-  not_before : (i : ℕ) → i ≡ suc n → nat_lt i (suc n) ≡ false
-  not_before i h = grind (arith, nat_tests)
+  -- instant n + 1 isn't before n + 1
+  nat_lt-now : (i : ℕ) → i ≡ suc n → nat_lt i (suc n) ≡ false
+  nat_lt-now i h = grind (arith, nat_tests)
 
   -- a transfer that starts at n + 1 isn't held there
-  just_started : (i : ℕ) (w a : Bool) → IsIn t stretch (suc n) i w a → strobes_high t n ≡ true → is_held i ≡ false
-  just_started i w a o highs =
-      elim (order_of i o.within) [
-        | inl e ↦ rw (not_before i e) refl
-        | inr earlier ↦ absurd (clash (strobes_high t n) highs (o.still n earlier (omega arith)))
+  is_held-just_started : (i : ℕ) (w a : Bool) → IsIn t stretch (suc n) i w a → strobes_high t n ≡ true → is_held i
+      ≡ false
+  is_held-just_started i w a o strobes_high_in-state =
+      elim (now_or_earlier i o.within) [
+        | inl e ↦ rw (nat_lt-now i e) refl
+        | inr earlier ↦ absurd (clash (strobes_high t n) strobes_high_in-state (o.still n earlier (omega arith)))
       ]
 
-  held_from_high : (e : TransferPhase) → Enters t stretch (suc n) e → strobes_high t n ≡ true
+  -- if both strobes are high at n, no data is held at n + 1
+  in_transfer-held_from_high : (e : TransferPhase) → Enters t stretch (suc n) e → strobes_high t n ≡ true
       → in_transfer t stretch is_held
       (suc n) ≡ false
-  held_from_high Closed o h = in_none is_held o.0 o.1
-  held_from_high Reading o h = in_one is_held o.0 false false o.1 ∙ just_started o.0 false false o.1 h
-  held_from_high Writing o h = in_one is_held o.0 true false o.1 ∙ just_started o.0 true false o.1 h
-  held_from_high Answered o h = in_one is_held o.0 o.1 true o.2 ∙ just_started o.0 o.1 true o.2 h
+  in_transfer-held_from_high Closed o h = in_transfer-closed is_held o.0 o.1
+  in_transfer-held_from_high Reading o h = in_transfer-open is_held o.0 false false o.1
+      ∙ is_held-just_started o.0 false false o.1 h
+  in_transfer-held_from_high Writing o h = in_transfer-open is_held o.0 true false o.1
+      ∙ is_held-just_started o.0 true false o.1 h
+  in_transfer-held_from_high Answered o h = in_transfer-open is_held o.0 o.1 true o.2
+      ∙ is_held-just_started o.0 o.1 true o.2 h
 
-  answer_here : answer_falls t (suc n) ≡ answer_between old new
-  answer_here = rw (falls_is t stretch reads n from before DTACK, falls_is t stretch reads n from before BERR) refl
+  -- an answer line falls at n + 1 exactly if one falls between the levels
+  answer_falls-between : answer_falls t (suc n) ≡ answer_between old new
+  answer_falls-between =
+      rw (falls-between t stretch reads n from before DTACK, falls-between t stretch reads n from before BERR) refl
 
-  answered_more : (i : ℕ) (w a : Bool) → IsIn t stretch (suc n) i w a → is_answered t stretch i (suc n + 1)
+  -- a transfer that lasts to n + 1 is answered up to it if it was, or if an answer falls there
+  is_answered-next : (i : ℕ) (w a : Bool) → IsIn t stretch (suc n) i w a → is_answered t stretch i (suc n + 1)
       ≡ (a || answer_between old new)
   unfolding is_answered
-  answered_more i w a o =
+  is_answered-next i w a o =
       any-step (λ r. lasts t stretch i r && answer_falls t r) i (suc n)
-      ∙ rw (o.reply, o.last, le-leb i (suc n) o.within, answer_here) refl
+      ∙ rw (o.reply, o.last, le-leb i (suc n) o.within, answer_falls-between) refl
 
   -- a transfer that was open at n started at n or before
-  started : (i : ℕ) (w a : Bool) → IsIn t stretch (suc n) i w a → strobes_high_in old ≡ false → i ≤ n
-  started i w a o low =
-      elim (order_of i o.within) [
+  started_before : (i : ℕ) (w a : Bool) → IsIn t stretch (suc n) i w a → strobes_high_in old ≡ false → i ≤ n
+  started_before i w a o low =
+      elim (now_or_earlier i o.within) [
         | inl e ↦ absurd (clash (strobes_high_in old) (and_parts (strobes_high_in old) (strobe_low_in new)
-            (sym (transfer_starts_is t stretch reads n from before) ∙ (rw e at o.starts))).0 low)
+            (sym (transfer_starts-between t stretch reads n from before) ∙ (rw e at o.starts))).0 low)
         | inr earlier ↦ earlier
       ]
 
-  risen_more : (i : ℕ) (w a : Bool) → IsIn t stretch (suc n) i w a → strobes_high_in old ≡ false → none (strobe_rises t)
+  -- no strobe has risen up to n + 1 in an open transfer exactly if none had, by the memory, and none rises
+  none_rises-next : (i : ℕ) (w a : Bool) → IsIn t stretch (suc n) i w a → strobes_high_in old ≡ false
+      → none (strobe_rises t)
       (i + 1) (suc n + 1) ≡ (not (has_risen m.transfer) && not (strobe_rises_between old new))
-  risen_more i w a o low =
-      let earlier = started i w a o low in
+  none_rises-next i w a o low =
+      let earlier = started_before i w a o low in
       none_more (strobe_rises t) (i + 1) n (omega arith)
       ∙ rw (
         holds.fresh i earlier o.starts (λ r x y. o.still r x (omega arith)),
-        strobe_rises_is t stretch reads n from
+        strobe_rises-between t stretch reads n from
             before,
       ) refl
 
-  held_from_low : (e : TransferPhase) → Enters t stretch (suc n) e → is_closed e ≡ false → strobes_high_in old ≡ false
+  -- if a transfer is open at n, its data is held at n + 1 exactly if it is a write without an answer and without a
+  -- rising strobe
+  in_transfer-held_from_low : (e : TransferPhase) → Enters t stretch (suc n) e → is_closed e ≡ false
+      → strobes_high_in old ≡ false
       → in_transfer t stretch is_held (suc n) ≡ (is_writing e && not (answer_between old new)
       && (not (has_risen m.transfer) && not (strobe_rises_between old new)))
-  held_from_low Closed o c low = absurd (cc)
-  held_from_low Reading o c low = in_one is_held o.0 false false o.1 ∙ rw o.1.direction (read (nat_lt o.0 (suc n)) _ _)
+  in_transfer-held_from_low Closed o c low = absurd (cc)
+  in_transfer-held_from_low Reading o c low = in_transfer-open is_held o.0 false false o.1
+      ∙ rw o.1.direction (read (nat_lt o.0 (suc n)) _ _)
     where
       read : (a b c : Bool) → (a && false && b && c) ≡ false
       read true b c = refl
       read false b c = refl
-  held_from_low Writing o c low =
-      in_one is_held o.0 true false o.1
+  in_transfer-held_from_low Writing o c low =
+      in_transfer-open is_held o.0 true false o.1
       ∙ rw (
         o.1.direction,
-        before_next o.0 (started o.0 true false o.1 low),
-        answered_more o.0 true false o.1,
-        risen_more o.0 true false o.1 low,
+        nat_lt-earlier o.0 (started_before o.0 true false o.1 low),
+        is_answered-next o.0 true false o.1,
+        none_rises-next o.0 true false o.1 low,
       ) refl
-  held_from_low Answered o c low =
-      in_one is_held o.0 o.1 true o.2 ∙ rw (answered_more o.0 o.1 true o.2)
+  in_transfer-held_from_low Answered o c low =
+      in_transfer-open is_held o.0 o.1 true o.2 ∙ rw (is_answered-next o.0 o.1 true o.2)
       (over (nat_lt o.0 (suc n)) (is_write t stretch o.0) _)
     where
       over : (a b c : Bool) → (a && b && false && c) ≡ false
@@ -294,55 +346,61 @@ module _ (t : Trace) (stretch : Stretch) (reads : ReadsStrobes t stretch) (n : �
       over true false c = refl
       over false b c = refl
 
-  data_is : in_transfer t stretch is_held (suc n) ≡ (keeps_data m old new && is_low (level_at old WRITE))
+  -- data is held at n + 1 exactly if the memory keeps it and WRITE* was low
+  in_transfer-keeps_data : in_transfer t stretch is_held (suc n) ≡ (keeps_data m old new && is_low (level_at old WRITE))
   unfolding high
-  data_is = by_strobes (strobes_high_in old) refl
+  in_transfer-keeps_data = by_strobes (strobes_high_in old) refl
     where
       by_strobes : (b : Bool) → strobes_high_in old ≡ b → in_transfer t stretch is_held (suc n)
           ≡ (keeps_data m old new && is_low (level_at old WRITE))
-      by_strobes true e = held_from_high (entered holds.state old new) enters e ∙ rw e refl
+      by_strobes true e = in_transfer-held_from_high (entered holds.state old new) Enters-now e ∙ rw e refl
       by_strobes false e =
-          held_from_low holds.state (rw e at enters) (sym highs ∙ e) e
-          ∙ rw (← directed e, e) (held_data m.transfer (answer_between old new) (strobe_rises_between old new)
+          in_transfer-held_from_low holds.state (rw e at Enters-now) (sym strobes_high_in-state ∙ e) e
+          ∙ rw (← writes_of-direction e, e) (held_data m.transfer (answer_between old new)
+          (strobe_rises_between old new)
           (is_low (level_at old WRITE)))
 
-  breaks_is : (l : ℕ) → breaks t stretch S3 (suc n) l ≡ (is_judged stretch (suc n) && has_line t.opening.slots l
+  -- S3 by its tests: a line that was moved has an edge while data is held
+  breaks-S3 : (l : ℕ) → breaks t stretch S3 (suc n) l ≡ (is_judged stretch (suc n) && has_line t.opening.slots l
       && (is_selected old l && not (same_level (level_at old l) (level_at new l)) && in_transfer t stretch is_held
       (suc n)))
   unfolding breaks is_broken has_edge
-  breaks_is l = rw (suc-sub-one n) refl
+  breaks-S3 l = rw (suc-sub-one n) refl
 
-  shifted_as : keeps_data m old new ≡ true → is_low (level_at old WRITE) ≡ true → (l : ℕ)
+  -- while data is held, S3 is broken on a line exactly if it is shifted
+  breaks-is_shifted : keeps_data m old new ≡ true → is_low (level_at old WRITE) ≡ true → (l : ℕ)
       → breaks t stretch S3 (suc n) l
       ≡ is_shifted old new l
-  shifted_as k d l =
-      breaks_is l
-      ∙ moved (is_judged stretch (suc n)) (has_line t.opening.slots l) (is_selected old l)
+  breaks-is_shifted k d l =
+      breaks-S3 l
+      ∙ shifted-by_tests (is_judged stretch (suc n)) (has_line t.opening.slots l) (is_selected old l)
       (not (same_level (level_at old l) (level_at new l))) (in_transfer t stretch is_held (suc n))
       (keeps_data m old new)
       (is_low (level_at old WRITE))
-      (judged t stretch reads n from before) data_is (rw (k, d) refl)
+      (is_judged-next t stretch reads n from before) in_transfer-keeps_data (rw (k, d) refl)
       ∙ rw (slots_at t n, slots_at t (suc n)) refl
 
-  bound : (l : ℕ) → is_shifted old new l ≡ true → l < line_count
-  bound l h = let within : l < 191 = selected_to old l
+  -- a line that is shifted is a line
+  is_shifted-below : (l : ℕ) → is_shifted old new l ≡ true → l < line_count
+  is_shifted-below l h = let within : l < 191 = is_selected-to old l
       (and_parts _ _ (and_parts (has_line old.slots l && has_line new.slots l) _ h).1).0 in omega arith
 
-  none_where : (cs : List Change) → (keeps_data m old new && is_low (level_at old WRITE)) ≡ false
+  -- if no data is held, S3 is broken on no line
+  least-S3_none : (cs : List Change) → (keeps_data m old new && is_low (level_at old WRITE)) ≡ false
       → least (breaks t stretch S3 (suc n)) 0 line_count ≡ None
-  none_where cs h = least-none (breaks t stretch S3 (suc n)) 0 line_count (fails-any (breaks t stretch S3 (suc n)) 0
-      line_count (λ l a b. breaks_is l ∙ not_held (is_judged stretch (suc n)) (has_line t.opening.slots l)
+  least-S3_none cs h = least-none (breaks t stretch S3 (suc n)) 0 line_count (fails-any (breaks t stretch S3 (suc n)) 0
+      line_count (λ l a b. breaks-S3 l ∙ shifted-not_held (is_judged stretch (suc n)) (has_line t.opening.slots l)
       (is_selected old l) (not (same_level (level_at old l) (level_at new l))) (in_transfer t stretch is_held (suc n))
-      (data_is ∙ h)))
+      (in_transfer-keeps_data ∙ h)))
 
   -- the least line that breaks S3 is the first changed data line of a write that has had no answer and no rising strobe
-  pub shifted_least : (cs : List Change) → new ≡ changed old cs → are_changes old 0 cs ≡ true
+  pub least-S3 : (cs : List Change) → new ≡ changed old cs → are_changes old 0 cs ≡ true
       → least (breaks t stretch S3 (suc n)) 0 line_count ≡ shifted_fault m old new (observation_of old new cs)
-  shifted_least cs stepped fit = by_tests (keeps_data m old new) (is_low (level_at old WRITE)) refl refl
+  least-S3 cs stepped fit = by_tests (keeps_data m old new) (is_low (level_at old WRITE)) refl refl
       ∙ sym (kept_is (keeps_data m old new) _)
     where
       unchanged : (l : ℕ) → is_changed cs l ≡ false → breaks t stretch S3 (suc n) l ≡ false
-      unchanged l h = breaks_is l ∙ rw (stepped, level-kept old cs l h, same_itself (level_at old l))
+      unchanged l h = breaks-S3 l ∙ rw (stepped, level-kept old cs l h, same_level-refl (level_at old l))
           (no_edge (is_judged stretch (suc n)) (has_line t.opening.slots l) (is_selected old l) _)
         where
           no_edge : (a b c d : Bool) → (a && b && (c && false && d)) ≡ false
@@ -350,7 +408,8 @@ module _ (t : Trace) (stretch : Stretch) (reads : ReadsStrobes t stretch) (n : �
 
       by_tests : (k d : Bool) → keeps_data m old new ≡ k → is_low (level_at old WRITE) ≡ d
           → least (breaks t stretch S3 (suc n)) 0 line_count ≡ cond k (observation_of old new cs).shifted None
-      by_tests true true ke de = sym (rw de (first_least (breaks t stretch S3 (suc n)) (is_shifted old new) line_count
-          bound old 0 cs fit unchanged (λ l h. shifted_as ke de l)))
-      by_tests true false ke de = none_where cs (rw (ke, de) refl) ∙ sym (rw de refl)
-      by_tests false d ke de = none_where cs (rw ke refl)
+      by_tests true true ke de =
+          sym (rw de (first_among-least (breaks t stretch S3 (suc n)) (is_shifted old new) line_count
+          is_shifted-below old 0 cs fit unchanged (λ l h. breaks-is_shifted ke de l)))
+      by_tests true false ke de = least-S3_none cs (rw (ke, de) refl) ∙ sym (rw de refl)
+      by_tests false d ke de = least-S3_none cs (rw ke refl)

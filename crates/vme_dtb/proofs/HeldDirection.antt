@@ -16,7 +16,7 @@ use Rattle.vme_trace.proofs.OpenTransfers.{ReadsStrobes, suc-sub-one}
 use Rattle.vme_dtb.specs.StabilityRules.{direction_turned, keeps_direction, observation_of, turned_fault}
 use Rattle.vme_dtb.specs.declared.holding.Holding.{Holding}
 use Rattle.vme_dtb.proofs.AskedLines.{least_write}
-use Rattle.vme_dtb.proofs.StabilityMeaning.{Holds, holds_direction, judged, keeps_direction_is}
+use Rattle.vme_dtb.proofs.StabilityMeaning.{Holds, holds_direction, is_judged-next, keeps_direction-any}
 
 off_line : (j h e a b : Bool) → e ≡ false → (j && h && (e && a && b)) ≡ false
 off_line j h e a b x = grind (arith, nat_tests)
@@ -47,7 +47,8 @@ module _ (t : Trace) (stretch : Stretch) (reads : ReadsStrobes t stretch) (n : �
       on_line (is_judged stretch (suc n)) (has_edge t WRITE (suc n))
       (any (holds_direction t stretch (suc n)) (stretch.start + 1)
       (suc n)) (keeps_direction m old new) (direction_turned old new)
-      (judged t stretch reads n from before) turns (sym (keeps_direction_is t stretch reads n from before m holds))
+      (is_judged-next t stretch reads n from before) turns
+      (sym (keeps_direction-any t stretch reads n from before m holds))
 
   pub turned_least : (cs : List Change) → least (breaks t stretch S2 (suc n)) 0 line_count ≡ turned_fault m old new
       (observation_of old new cs)

@@ -8,12 +8,12 @@ use Rattle.vme_trace.specs.LineNumbers.{is_data}
 use Rattle.vme_trace.specs.Levels.{Levels}
 use Rattle.vme_trace.specs.declared.step.Change.{Change}
 use Rattle.vme_dtb.specs.StabilityRules.{first_among, is_shifted}
-use Rattle.vme_dtb.proofs.HeldData.{selected_from, selected_to}
+use Rattle.vme_dtb.proofs.HeldData.{is_selected-from, is_selected-to}
 
 not_moved : (v w : Levels) (l : ℕ) → is_data l ≡ false → is_shifted v w l ≡ false
 not_moved v w l h =
     false_from_ne_true (is_shifted v w l) (λ e. let moved = (and_parts _ _ (and_parts _ _ e).1).0 in
-    apart l h (selected_from v l moved) (selected_to v l moved))
+    apart l h (is_selected-from v l moved) (is_selected-to v l moved))
   where
     apart : (l : ℕ) → is_data l ≡ false → 159 ≤ l → l < 191 → ⊥
     apart l h k m = grind (arith, nat_tests)

@@ -32,12 +32,13 @@ use Rattle.vme_dtb.specs.StabilityRules.{stability_observation, turned_fault, un
 use Rattle.vme_dtb.specs.declared.holding.Holding.{Holding}
 use Rattle.vme_dtb.specs.declared.observation.HoldingObservation.{HoldingObservation}
 use Rattle.vme_dtb.proofs.AskedLines.{address_least, direction_least}
-use Rattle.vme_dtb.proofs.HeldAddress.{S2_least, before_last, moved_least, no_fault}
-use Rattle.vme_dtb.proofs.HeldData.{shifted_least, undriven_least}
+use Rattle.vme_dtb.proofs.HeldAddress.{rule_break-S2_none, break_before-none_parts, least-S1, least-S2_none}
+use Rattle.vme_dtb.proofs.HeldData.{least-S3, least-U4}
 use Rattle.vme_dtb.proofs.HeldDirection.{turned_least}
-use Rattle.vme_dtb.proofs.StabilityMeaning.{Holds, holds_next, holds_start}
+use Rattle.vme_dtb.proofs.StabilityMeaning.{Holds, Holds-next, Holds-start}
 use Rattle.vme_dtb.proofs.Unobserved.{quiet_there}
 
+-- the step of the machine of stability
 abbrev step : Holding → Levels → Levels → List Change → Next Holding
 step = machine_step stability_observation stability_next
 
@@ -60,21 +61,24 @@ first_fault n time None None None None None (Some l) = refl
 first_fault n time None None None None None None = refl
 
 module _ (t : Trace) (stretch : Stretch) (ok : malformed_step t ≡ None) (facts : IsStretch t stretch) where
+  -- the machine's memory at instant n
   abbrev memory_at : ℕ → Holding
   memory_at n = memory_from step t (stability_begin (levels_at t stretch.start)) stretch.start n
 
+  -- the changes of the step from instant n
   abbrev changes_at : ℕ → List Change
   changes_at n = changes_of (slice_get t.steps n)
 
   module _ (n : ℕ) (from : stretch.start ≤ n) (before : suc n < stretch.end) (within : n < length t.steps) (m : Holding)
       (holds : Holds t stretch n m) where
+    -- what the machine would give if each step were observed
     abbrev full : Next Holding
     full = stability_next m (levels_at t n) (levels_at t (suc n)) (observation_of (levels_at t n) (levels_at t (suc n))
         (changes_at n))
 
     -- the machine's step is the full one: without an observation it would change nothing
-    next_is : next_at step t m n ≡ full
-    next_is = by_test (is_observed (levels_at t n) (levels_at t (suc n)) (changes_at n)) refl
+    next_at-full : next_at step t m n ≡ full
+    next_at-full = by_test (is_observed (levels_at t n) (levels_at t (suc n)) (changes_at n)) refl
       where
         by_test : (b : Bool) → is_observed (levels_at t n) (levels_at t (suc n)) (changes_at n) ≡ b
             → option_map_or (stability_next m (levels_at t n) (levels_at t (suc n)))
@@ -82,19 +86,20 @@ module _ (t : Trace) (stretch : Stretch) (ok : malformed_step t ≡ None) (facts
         by_test true e = refl
         by_test false e = sym (quiet_there t stretch facts n from before m (changes_at n) holds e)
 
-    fault_is : break_before t stretch stability_rules (suc n) ≡ None
+    -- the fault of that step is the first broken rule at n + 1, if no rule is broken before
+    break_at-full_fault : break_before t stretch stability_rules (suc n) ≡ None
         → option_map (break_of_fault (suc n) (time_at t (suc n)))
         full.fault ≡ break_at t stretch stability_rules (suc n)
     unfolding break_at rule_break
-    fault_is unbroken =
+    break_at-full_fault unbroken =
         rw (
           address_least t stretch facts.reads n from before,
           direction_least t stretch facts.reads n from before,
-          undriven_least t stretch facts.reads n from before m holds unbroken (changes_at n),
-          moved_least t stretch facts n from before unbroken (changes_at n) (levels_at-step t n within)
+          least-U4 t stretch facts.reads n from before m holds unbroken (changes_at n),
+          least-S1 t stretch facts n from before unbroken (changes_at n) (levels_at-step t n within)
               (are_changes-step t n ok within) m holds,
           turned_least t stretch facts.reads n from before m holds (changes_at n),
-          shifted_least t stretch facts.reads n from before m holds unbroken (changes_at n) (levels_at-step t n within)
+          least-S3 t stretch facts.reads n from before m holds unbroken (changes_at n) (levels_at-step t n within)
               (are_changes-step t n ok within),
         )
         (first_fault (suc n) (time_at t (suc n)) (unknown_address (levels_at t n) (levels_at t (suc n)))
@@ -108,51 +113,56 @@ module _ (t : Trace) (stretch : Stretch) (ok : malformed_step t ≡ None) (facts
         (shifted_fault m (levels_at t n) (levels_at t (suc n)) (observation_of (levels_at t n) (levels_at t (suc n))
         (changes_at n))))
 
-  earlier : (n : ℕ) → break_before t stretch stability_rules (suc (suc n)) ≡ None
+  -- if no rule is broken before n + 2, none is before n + 1
+  break_before-earlier : (n : ℕ) → break_before t stretch stability_rules (suc (suc n)) ≡ None
       → break_before t stretch stability_rules
       (suc n) ≡ None
-  earlier n h = (before_last t stretch (suc n) h).0
+  break_before-earlier n h = (break_before-none_parts t stretch (suc n) h).0
 
-  unturned : (b c : Bool) → b ≡ true → cond (b && c) (Some WRITE) None ≡ None → c ≡ false
-  unturned true true e h = absurd (cc)
-  unturned true false e h = refl
-  unturned false c e h = absurd (cc)
+  -- if `b && c` gives nothing, and b is true, c is false
+  cond-None_second : (b c : Bool) → b ≡ true → cond (b && c) (Some WRITE) None ≡ None → c ≡ false
+  cond-None_second true true e h = absurd (cc)
+  cond-None_second true false e h = refl
+  cond-None_second false c e h = absurd (cc)
 
-  same_low : (x y : Level) → not (same_level x y) ≡ false → is_low y ≡ is_low x
-  same_low Low Low h = refl
-  same_low Low High h = absurd (cc)
-  same_low Low Unknown h = absurd (cc)
-  same_low High Low h = absurd (cc)
-  same_low High High h = refl
-  same_low High Unknown h = refl
-  same_low Unknown Low h = absurd (cc)
-  same_low Unknown High h = refl
-  same_low Unknown Unknown h = refl
+  -- levels that the test finds the same are both low or both not low
+  is_low-same_level : (x y : Level) → not (same_level x y) ≡ false → is_low y ≡ is_low x
+  is_low-same_level Low Low h = refl
+  is_low-same_level Low High h = absurd (cc)
+  is_low-same_level Low Unknown h = absurd (cc)
+  is_low-same_level High Low h = absurd (cc)
+  is_low-same_level High High h = refl
+  is_low-same_level High Unknown h = refl
+  is_low-same_level Unknown Low h = absurd (cc)
+  is_low-same_level Unknown High h = refl
+  is_low-same_level Unknown Unknown h = refl
 
   -- while the direction is held, WRITE* stays low, or stays not low, if no rule is broken
-  stays : (n : ℕ) → stretch.start ≤ n → suc n < stretch.end → (m : Holding) → Holds t stretch n m
+  is_low-WRITE_held : (n : ℕ) → stretch.start ≤ n → suc n < stretch.end → (m : Holding) → Holds t stretch n m
       → break_before t stretch
       stability_rules (suc (suc n)) ≡ None → keeps_direction m (levels_at t n) (levels_at t (suc n)) ≡ true
       → is_low (level_at (levels_at t (suc n)) WRITE) ≡ is_low (level_at (levels_at t n) WRITE)
-  stays n from before m holds unbroken keeps =
-      same_low (level_at (levels_at t n) WRITE) (level_at (levels_at t (suc n)) WRITE)
-      (unturned (keeps_direction m (levels_at t n) (levels_at t (suc n)))
+  is_low-WRITE_held n from before m holds unbroken keeps =
+      is_low-same_level (level_at (levels_at t n) WRITE) (level_at (levels_at t (suc n)) WRITE)
+      (cond-None_second (keeps_direction m (levels_at t n) (levels_at t (suc n)))
       (direction_turned (levels_at t n) (levels_at t (suc n))) keeps
-      (no_fault t stretch (suc n) (turned_fault m (levels_at t n) (levels_at t (suc n))
+      (least-S2_none t stretch (suc n) (turned_fault m (levels_at t n) (levels_at t (suc n))
       (observation_of (levels_at t n) (levels_at t (suc n)) []))
       (turned_least t stretch facts.reads n from before m holds [])
-      (S2_least t stretch (suc n) (before_last t stretch (suc n) unbroken).1)))
+      (rule_break-S2_none t stretch (suc n) (break_before-none_parts t stretch (suc n) unbroken).1)))
 
-  strobe_control : (s l : ℕ) → l < 3 → is_control s l ≡ true
-  strobe_control s l h = grind (arith, nat_tests)
+  -- AS*, DS0* and DS1* are control lines
+  is_control-strobe : (s l : ℕ) → l < 3 → is_control s l ≡ true
+  is_control-strobe s l h = grind (arith, nat_tests)
 
+  -- an s up to n + 1 is n + 1, or up to n
   first_or_later : (s n : ℕ) → s ≤ suc n → (s ≡ suc n) ⊎ (s ≤ n)
   first_or_later s n h = grind arith
 
   -- AS* isn't low at the start of the stretch
-  address_high : is_low (level_at (levels_at t stretch.start) AS) ≡ false
+  is_low-AS_start : is_low (level_at (levels_at t stretch.start) AS) ≡ false
   unfolding is_idle
-  address_high = not_low (level_at (levels_at t stretch.start) AS)
+  is_low-AS_start = not_low (level_at (levels_at t stretch.start) AS)
       (any-fails (λ k. not (is_idle_on (levels_at t stretch.start) k)) 0 line_count AS (not-true _ facts.idle)
       (omega arith) (lit< tt))
     where
@@ -162,37 +172,40 @@ module _ (t : Trace) (stretch : Stretch) (ok : malformed_step t ≡ None) (facts
       not_low Unknown h = refl
 
   -- the memory is right of each judged instant
-  holds_at : (n : ℕ) → stretch.start ≤ n → n < stretch.end → n ≤ length t.steps → Holds t stretch n (memory_at n)
-  holds_at zero from before within = let e : stretch.start ≡ 0 = omega arith in
+  Holds-at : (n : ℕ) → stretch.start ≤ n → n < stretch.end → n ≤ length t.steps → Holds t stretch n (memory_at n)
+  Holds-at zero from before within = let e : stretch.start ≡ 0 = omega arith in
       subst (λ k. Holds t stretch k (stability_begin (levels_at t stretch.start))) e
-      (holds_start t stretch facts.reads address_high (levels_at t stretch.start))
-  holds_at (suc n) from before within =
+      (Holds-start t stretch facts.reads is_low-AS_start (levels_at t stretch.start))
+  Holds-at (suc n) from before within =
       elim (first_or_later stretch.start n from) [
         | inl e ↦ at_start e
-        | inr later ↦ let holds = holds_at n later (omega arith) (omega arith) in
-            rw (le-ltb n stretch.start later, next_is n later before (omega arith) (memory_at n) holds)
-            (holds_next t stretch facts.reads n later before (earlier n) (stays n later before)
-            (λ l below. facts.known n l later (omega arith) (omega arith) (strobe_control t.opening.slots l below))
+        | inr later ↦ let holds = Holds-at n later (omega arith) (omega arith) in
+            rw (le-ltb n stretch.start later, next_at-full n later before (omega arith) (memory_at n) holds)
+            (Holds-next t stretch facts.reads n later before (break_before-earlier n) (is_low-WRITE_held n later before)
+            (λ l below. facts.known n l later (omega arith) (omega arith) (is_control-strobe t.opening.slots l below))
             (λ l below. facts.known (suc n) l (omega arith) before (omega arith)
-            (strobe_control t.opening.slots l below)) (memory_at n) holds)
+            (is_control-strobe t.opening.slots l below)) (memory_at n) holds)
       ]
     where
       at_start : stretch.start ≡ suc n → Holds t stretch (suc n) (memory_at (suc n))
       at_start e = rw (
         memory_from-before step t (stability_begin (levels_at t stretch.start)) stretch.start (suc n) (omega arith),
         ← e,
-      ) (holds_start t stretch facts.reads address_high (levels_at t stretch.start))
+      ) (Holds-start t stretch facts.reads is_low-AS_start (levels_at t stretch.start))
 
-  judges_inside : (n : ℕ) → stretch.start ≤ n → suc n < stretch.end → n < length t.steps
+  -- the machine's fault at n + 1 is the first broken rule there, if none is broken before
+  break_at-inside : (n : ℕ) → stretch.start ≤ n → suc n < stretch.end → n < length t.steps
       → break_before t stretch stability_rules
       (suc n) ≡ None
       → option_map (break_of_fault (suc n) (time_at t (suc n))) (next_at step t (memory_at n) n).fault
       ≡ break_at t stretch
       stability_rules (suc n)
-  judges_inside n from before within unbroken =
-      let holds = holds_at n from (omega arith) (omega arith) in
-      rw (next_is n from before within (memory_at n) holds) (fault_is n from before within (memory_at n) holds unbroken)
+  break_at-inside n from before within unbroken =
+      let holds = Holds-at n from (omega arith) (omega arith) in
+      rw (next_at-full n from before within (memory_at n) holds)
+      (break_at-full_fault n from before within (memory_at n) holds unbroken)
 
+-- the machine of stability finds the least break of its rules
 pub stability_first_break : FindsLeast
     (run_of (machine_step (observed stability_observation)
     (phase_step stability_begin stability_start_marks no_step_marks
@@ -200,9 +213,10 @@ pub stability_first_break : FindsLeast
     stability_next))) (start_in stability_begin) stability_rules
 stability_first_break = FindsLeast-inside stability_begin stability_start_marks stability_observation stability_next
     stability_rules refl
-    (λ t stretch ok few facts n from before within unbroken. judges_inside t stretch ok facts n from before within
+    (λ t stretch ok few facts n from before within unbroken. break_at-inside t stretch ok facts n from before within
     unbroken)
 
+-- the machine of stability shows nothing
 pub stability_marks : ShowsAll
     (run_of (machine_step (observed stability_observation)
     (phase_step stability_begin stability_start_marks no_step_marks stability_end_fault

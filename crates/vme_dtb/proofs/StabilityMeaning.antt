@@ -35,87 +35,91 @@ use Rattle.vme_dtb.proofs.Progressing.{risen_passed, was_passed}
 use Rattle.vme_dtb.proofs.Lasting.{none_more, none_empty, none_one, lasts_on}
 
 -- whether the transfer that the step enters, or that was open, has had no answer
-unanswered_is : (p : TransferPhase) (h l w : Bool) → h ≡ is_closed p
+is_unanswered-entered : (p : TransferPhase) (h l w : Bool) → h ≡ is_closed p
     → is_unanswered (cond (h && l) (cond w Writing Reading)
     p) ≡ (not (is_answered_state p) && (not h || l))
-unanswered_is Closed h l w e = rw e (by_tests l w)
+is_unanswered-entered Closed h l w e = rw e (by_tests l w)
   where
     by_tests : (l w : Bool) → is_unanswered (cond l (cond w Writing Reading) Closed) ≡ l
     by_tests true true = refl
     by_tests true false = refl
     by_tests false w = refl
-unanswered_is Reading h l w e = rw e refl
-unanswered_is Writing h l w e = rw e refl
-unanswered_is Answered h l w e = rw e refl
+is_unanswered-entered Reading h l w e = rw e refl
+is_unanswered-entered Writing h l w e = rw e refl
+is_unanswered-entered Answered h l w e = rw e refl
 
-answered_next : (p : TransferPhase) (h l w k a : Bool) → h ≡ is_closed p → l ≡ not k → is_answered_state
+-- whether the transfer in which the step ends has an answer, by the strobes, the answer and the phase before it
+is_answered_state-next : (p : TransferPhase) (h l w k a : Bool) → h ≡ is_closed p → l ≡ not k → is_answered_state
     (cond k Closed (answered_by a (cond (h && l) (cond w Writing Reading) p))) ≡ (not k && (is_answered_state p || a))
-answered_next p h l w true a e low = refl
-answered_next Closed h l w false a e low = rw (e, low) (by_tests w a)
+is_answered_state-next p h l w true a e low = refl
+is_answered_state-next Closed h l w false a e low = rw (e, low) (by_tests w a)
   where
     by_tests : (w a : Bool) → is_answered_state (answered_by a (cond w Writing Reading)) ≡ a
     by_tests true true = refl
     by_tests true false = refl
     by_tests false true = refl
     by_tests false false = refl
-answered_next Reading h l w false true e low = rw e refl
-answered_next Reading h l w false false e low = rw e refl
-answered_next Writing h l w false true e low = rw e refl
-answered_next Writing h l w false false e low = rw e refl
-answered_next Answered h l w false true e low = rw e refl
-answered_next Answered h l w false false e low = rw e refl
+is_answered_state-next Reading h l w false true e low = rw e refl
+is_answered_state-next Reading h l w false false e low = rw e refl
+is_answered_state-next Writing h l w false true e low = rw e refl
+is_answered_state-next Writing h l w false false e low = rw e refl
+is_answered_state-next Answered h l w false true e low = rw e refl
+is_answered_state-next Answered h l w false false e low = rw e refl
 
 -- of two known levels, one is low exactly if not both are high
-low_is : (x y : Level) → is_known x ≡ true → is_known y ≡ true → (is_low x || is_low y) ≡ not (is_high x && is_high y)
-low_is Low y k j = refl
-low_is High Low k j = refl
-low_is High High k j = refl
-low_is High Unknown k j = absurd (cc)
-low_is Unknown y k j = absurd (cc)
+is_low-known_pair : (x y : Level) → is_known x ≡ true → is_known y ≡ true → (is_low x || is_low y)
+    ≡ not (is_high x && is_high y)
+is_low-known_pair Low y k j = refl
+is_low-known_pair High Low k j = refl
+is_low-known_pair High High k j = refl
+is_low-known_pair High Unknown k j = absurd (cc)
+is_low-known_pair Unknown y k j = absurd (cc)
 
 -- high strobes don't rise
-no_rise : (x y a b : Level) → (is_high x && is_high y) ≡ true → ((is_low x && is_high a) || (is_low y && is_high b))
+rises-none_of_high : (x y a b : Level) → (is_high x && is_high y) ≡ true
+    → ((is_low x && is_high a) || (is_low y && is_high b))
     ≡ false
-no_rise High High a b h = refl
-no_rise High Low a b h = absurd (cc)
-no_rise High Unknown a b h = absurd (cc)
-no_rise Low y a b h = absurd (cc)
-no_rise Unknown y a b h = absurd (cc)
+rises-none_of_high High High a b h = refl
+rises-none_of_high High Low a b h = absurd (cc)
+rises-none_of_high High Unknown a b h = absurd (cc)
+rises-none_of_high Low y a b h = absurd (cc)
+rises-none_of_high Unknown y a b h = absurd (cc)
 
 -- a known level that doesn't rise was high before, if it is high now
-was_high : (x y : Level) → is_known x ≡ true → (is_low x && is_high y) ≡ false → is_high y ≡ true → is_high x ≡ true
-was_high High y k r h = refl
-was_high Low y k r h = absurd (clash (is_high y) h r)
-was_high Unknown y k r h = absurd (cc)
+is_high-before : (x y : Level) → is_known x ≡ true → (is_low x && is_high y) ≡ false → is_high y ≡ true → is_high x
+    ≡ true
+is_high-before High y k r h = refl
+is_high-before Low y k r h = absurd (clash (is_high y) h r)
+is_high-before Unknown y k r h = absurd (cc)
 
 -- known strobes that don't rise, and are high, were high
-pub high_before : (v w : Levels) → is_known (level_at v DS0) ≡ true → is_known (level_at v DS1) ≡ true
+pub strobes_high_in-before : (v w : Levels) → is_known (level_at v DS0) ≡ true → is_known (level_at v DS1) ≡ true
     → strobe_rises_between v w ≡ false → strobes_high_in w ≡ true → strobes_high_in v ≡ true
-high_before v w first second still h =
+strobes_high_in-before v w first second still h =
     let rises = or_parts (rises_between v w DS0) (rises_between v w DS1) still in
     let highs = and_parts (is_high (level_at w DS0)) (is_high (level_at w DS1)) h in
     rw (
-      was_high (level_at v DS0) (level_at w DS0) first rises.0 highs.0,
-      was_high (level_at v DS1) (level_at w DS1)
+      is_high-before (level_at v DS0) (level_at w DS0) first rises.0 highs.0,
+      is_high-before (level_at v DS1) (level_at w DS1)
           second rises.1 highs.1,
     ) refl
 
 -- whether a transfer is open in which no strobe has risen, by the strobes before and after the step
-unturned_next : (h k l r s : Bool) → (h ≡ true → s ≡ false) → (h ≡ true → r ≡ false) → l ≡ not k
+direction-next_by_strobes : (h k l r s : Bool) → (h ≡ true → s ≡ false) → (h ≡ true → r ≡ false) → l ≡ not k
     → (r ≡ false → k ≡ true → h ≡ true)
     → (not k && not (not k && (s || r))) ≡ (((not h && not s) && not r) || (h && l))
-unturned_next true k l r s fresh still low back = rw (fresh refl, still refl, low) (by_test k)
+direction-next_by_strobes true k l r s fresh still low back = rw (fresh refl, still refl, low) (by_test k)
   where
     by_test : (k : Bool) → (not k && not (not k && false)) ≡ not k
     by_test true = refl
     by_test false = refl
-unturned_next false true l true true fresh still low back = refl
-unturned_next false true l true false fresh still low back = refl
-unturned_next false true l false s fresh still low back = absurd (clash false (back refl refl) refl)
-unturned_next false false l true true fresh still low back = refl
-unturned_next false false l true false fresh still low back = refl
-unturned_next false false l false true fresh still low back = refl
-unturned_next false false l false false fresh still low back = refl
+direction-next_by_strobes false true l true true fresh still low back = refl
+direction-next_by_strobes false true l true false fresh still low back = refl
+direction-next_by_strobes false true l false s fresh still low back = absurd (clash false (back refl refl) refl)
+direction-next_by_strobes false false l true true fresh still low back = refl
+direction-next_by_strobes false false l true false fresh still low back = refl
+direction-next_by_strobes false false l false true fresh still low back = refl
+direction-next_by_strobes false false l false false fresh still low back = refl
 
 module _ (t : Trace) (stretch : Stretch) where
   -- a cycle that started at i runs at n, and has had no answer
@@ -142,10 +146,10 @@ module _ (t : Trace) (stretch : Stretch) where
     pub direction : holds_direction_of m (levels_at t n) ≡ any (holds_direction n) (stretch.start + 1) (n + 1)
 
   -- at the start of a stretch nothing is held
-  pub holds_start : ReadsStrobes t stretch → is_low (level_at (levels_at t stretch.start) AS) ≡ false → (v : Levels)
+  pub Holds-start : ReadsStrobes t stretch → is_low (level_at (levels_at t stretch.start) AS) ≡ false → (v : Levels)
       → Holds stretch.start (stability_begin v)
   unfolding high
-  holds_start reads off v =
+  Holds-start reads off v =
       record {
         state = Closed;
         says = IsTransferPhase-start t stretch reads;
@@ -173,58 +177,68 @@ module _ (t : Trace) (stretch : Stretch) where
     abbrev pub new : Levels
     new = levels_at t (suc n)
 
-    pub judged : is_judged stretch (suc n) ≡ true
-    judged = is_judged-holds stretch (suc n) (omega arith) before
+    -- instant n + 1 is judged
+    pub is_judged-next : is_judged stretch (suc n) ≡ true
+    is_judged-next = is_judged-holds stretch (suc n) (omega arith) before
 
-    pub falls_is : (l : ℕ) → falls t l (suc n) ≡ falls_between old new l
+    -- a line falls at n + 1 exactly if it falls between the levels
+    pub falls-between : (l : ℕ) → falls t l (suc n) ≡ falls_between old new l
     unfolding falls high low
-    falls_is l = rw (suc-sub-one n) refl
+    falls-between l = rw (suc-sub-one n) refl
 
-    pub rises_is : (l : ℕ) → rises t l (suc n) ≡ rises_between old new l
+    -- a line rises at n + 1 exactly if it rises between the levels
+    pub rises-between : (l : ℕ) → rises t l (suc n) ≡ rises_between old new l
     unfolding rises high low
-    rises_is l = rw (suc-sub-one n) refl
+    rises-between l = rw (suc-sub-one n) refl
 
-    pub strobe_rises_is : strobe_rises t (suc n) ≡ strobe_rises_between old new
-    strobe_rises_is = rw (rises_is DS0, rises_is DS1) refl
+    -- a strobe rises at n + 1 exactly if one rises between the levels
+    pub strobe_rises-between : strobe_rises t (suc n) ≡ strobe_rises_between old new
+    strobe_rises-between = rw (rises-between DS0, rises-between DS1) refl
 
-    pub transfer_starts_is : transfer_starts t stretch (suc n) ≡ starts_between old new
+    -- a transfer starts at n + 1 exactly if one starts between the levels
+    pub transfer_starts-between : transfer_starts t stretch (suc n) ≡ starts_between old new
     unfolding transfer_starts high low
-    transfer_starts_is = rw (judged, suc-sub-one n) refl
+    transfer_starts-between = rw (is_judged-next, suc-sub-one n) refl
 
-    pub cycle_starts_is : cycle_starts t stretch (suc n) ≡ falls_between old new AS
+    -- a cycle starts at n + 1 exactly if AS* falls between the levels
+    pub cycle_starts-between : cycle_starts t stretch (suc n) ≡ falls_between old new AS
     unfolding cycle_starts
-    cycle_starts_is = rw (judged, falls_is AS) refl
+    cycle_starts-between = rw (is_judged-next, falls-between AS) refl
 
     -- both strobes are high exactly if no transfer is open
-    pub high_is : (p : TransferPhase) → IsTransferPhase t stretch n p → strobes_high_in old ≡ is_closed p
+    pub strobes_high_in-is_closed : (p : TransferPhase) → IsTransferPhase t stretch n p → strobes_high_in old
+        ≡ is_closed p
     unfolding high
-    high_is Closed says = says
-    high_is Reading says = says.1.still n says.1.within (omega arith)
-    high_is Writing says = says.1.still n says.1.within (omega arith)
-    high_is Answered says = says.2.still n says.2.within (omega arith)
+    strobes_high_in-is_closed Closed says = says
+    strobes_high_in-is_closed Reading says = says.1.still n says.1.within (omega arith)
+    strobes_high_in-is_closed Writing says = says.1.still n says.1.within (omega arith)
+    strobes_high_in-is_closed Answered says = says.2.still n says.2.within (omega arith)
 
-    pub answer_is : (m : Holding) → Holds n m → is_answer t stretch (suc n) ≡ answers_in m old new
-    answer_is m h =
+    -- n + 1 is an answer exactly if it is one by a memory that is right of n
+    pub is_answer-answers_in : (m : Holding) → Holds n m → is_answer t stretch (suc n) ≡ answers_in m old new
+    is_answer-answers_in m h =
         is_answer-tracked t stretch reads n from before h.state h.says
         ∙ rw (
-          unanswered_is h.state (strobes_high_in old) (strobe_low_in new) (is_low (level_at new WRITE))
-              (high_is h.state h.says),
+          is_unanswered-entered h.state (strobes_high_in old) (strobe_low_in new) (is_low (level_at new WRITE))
+              (strobes_high_in-is_closed h.state h.says),
           h.transfer,
         ) refl
 
-    runs_more : (i : ℕ) → i ≤ n → cycle_runs t stretch i (suc n)
+    -- a cycle that started up to n runs at n + 1 exactly if it runs at n and AS* doesn't rise
+    cycle_runs-next : (i : ℕ) → i ≤ n → cycle_runs t stretch i (suc n)
         ≡ (cycle_runs t stretch i n && not (rises t AS (suc n)))
     unfolding cycle_runs
-    runs_more i h = none_more (rises t AS) (i + 1) n (omega arith)
+    cycle_runs-next i h = none_more (rises t AS) (i + 1) n (omega arith)
 
-    runs_here : cycle_runs t stretch (suc n) (suc n) ≡ true
+    -- a cycle runs at its start
+    cycle_runs-start : cycle_runs t stretch (suc n) (suc n) ≡ true
     unfolding cycle_runs
-    runs_here = none_empty (rises t AS) (suc n + 1)
+    cycle_runs-start = none_empty (rises t AS) (suc n + 1)
 
     -- the lines of a cycle are held at n + 1 if they were at n, AS* doesn't rise, and no answer comes
-    pub address_more : (i : ℕ) → stretch.start + 1 ≤ i → i ≤ n → holds_address (suc n) i
+    pub holds_address-next : (i : ℕ) → stretch.start + 1 ≤ i → i ≤ n → holds_address (suc n) i
         ≡ (holds_address n i && (not (rises t AS (suc n)) && not (is_answer t stretch (suc n))))
-    address_more i a b = rw (runs_more i b, none_more (is_answer t stretch) i n (omega arith))
+    holds_address-next i a b = rw (cycle_runs-next i b, none_more (is_answer t stretch) i n (omega arith))
         (regroup (cycle_starts t stretch i) (cycle_runs t stretch i n) (not (rises t AS (suc n)))
         (none (is_answer t stretch) i (n + 1)) (not (is_answer t stretch (suc n))))
       where
@@ -235,104 +249,121 @@ module _ (t : Trace) (stretch : Stretch) where
         regroup true true false true e = refl
         regroup true true false false e = refl
 
-    address_here : holds_address (suc n) (suc n) ≡ (falls_between old new AS && not (is_answer t stretch (suc n)))
-    address_here = rw (cycle_starts_is, runs_here, none_one (is_answer t stretch) (suc n))
+    -- a cycle that starts at n + 1 holds its lines there unless it is answered there
+    holds_address-start : holds_address (suc n) (suc n)
+        ≡ (falls_between old new AS && not (is_answer t stretch (suc n)))
+    holds_address-start = rw (cycle_starts-between, cycle_runs-start, none_one (is_answer t stretch) (suc n))
         (no_test (falls_between old new AS) (not (is_answer t stretch (suc n))))
       where
         no_test : (a b : Bool) → (a && true && b) ≡ (a && b)
         no_test true b = refl
         no_test false b = refl
 
-    pub direction_more : (i : ℕ) → stretch.start + 1 ≤ i → i ≤ n → holds_direction (suc n) i
+    -- a transfer that started up to n has had no rising strobe up to n + 1 exactly if it had none up to n and none
+    -- rises
+    pub holds_direction-next : (i : ℕ) → stretch.start + 1 ≤ i → i ≤ n → holds_direction (suc n) i
         ≡ (holds_direction n i && not (strobe_rises t (suc n)))
-    direction_more i a b = rw (none_more (strobe_rises t) (i + 1) n (omega arith)) (sym (and_assoc
+    holds_direction-next i a b = rw (none_more (strobe_rises t) (i + 1) n (omega arith)) (sym (and_assoc
         (transfer_starts t stretch i) (none (strobe_rises t) (i + 1) (n + 1)) (not (strobe_rises t (suc n)))))
 
-    direction_here : holds_direction (suc n) (suc n) ≡ starts_between old new
-    direction_here = rw (transfer_starts_is, none_empty (strobe_rises t) (suc n + 1))
+    -- the transfer that starts at n + 1 has had no rising strobe
+    holds_direction-start : holds_direction (suc n) (suc n) ≡ starts_between old new
+    holds_direction-start = rw (transfer_starts-between, none_empty (strobe_rises t) (suc n + 1))
         (and-true (starts_between old new))
 
     -- whether the lines that a cycle needs are still held at n + 1
-    pub keeps_address_is : (m : Holding) → Holds n m → keeps_address m old new ≡ any (holds_address (suc n))
+    pub keeps_address-any : (m : Holding) → Holds n m → keeps_address m old new ≡ any (holds_address (suc n))
         (stretch.start + 1) (suc n)
-    keeps_address_is m h =
+    keeps_address-any m h =
         and_assoc (awaits_answer m old) (not (rises_between old new AS)) (not (answers_in m old new))
         ∙ sym (lasts_on (holds_address n) (holds_address (suc n)) (not (rises t AS (suc n))
-        && not (is_answer t stretch (suc n))) (stretch.start + 1) n (omega arith) address_more
-        ∙ rw (rises_is AS, answer_is m h, ← h.address) refl)
+        && not (is_answer t stretch (suc n))) (stretch.start + 1) n (omega arith) holds_address-next
+        ∙ rw (rises-between AS, is_answer-answers_in m h, ← h.address) refl)
 
-    pub keeps_direction_is : (m : Holding) → Holds n m → keeps_direction m old new ≡ any (holds_direction (suc n))
+    -- whether the direction is still held at n + 1
+    pub keeps_direction-any : (m : Holding) → Holds n m → keeps_direction m old new ≡ any (holds_direction (suc n))
         (stretch.start + 1) (suc n)
-    keeps_direction_is m h =
+    keeps_direction-any m h =
         sym (lasts_on (holds_direction n) (holds_direction (suc n)) (not (strobe_rises t (suc n))) (stretch.start + 1) n
-        (omega arith) direction_more ∙ rw (strobe_rises_is, ← h.direction) refl)
+        (omega arith) holds_direction-next ∙ rw (strobe_rises-between, ← h.direction) refl)
 
-    address_next : (m : Holding) → Holds n m
+    -- the lines of some cycle are held at n + 1 exactly if they are still held, or a cycle starts there without an
+    -- answer
+    holds_address-any_next : (m : Holding) → Holds n m
         → (keeps_address m old new || (falls_between old new AS && not (answers_in m old new)))
         ≡ any (holds_address (suc n)) (stretch.start + 1) (suc n + 1)
-    address_next m h =
-        rw (keeps_address_is m h, ← answer_is m h) (sym (any-step (holds_address (suc n)) (stretch.start + 1) (suc n)
-        ∙ rw (le-leb (stretch.start + 1) (suc n) (omega arith), address_here) refl))
+    holds_address-any_next m h =
+        rw (keeps_address-any m h, ← is_answer-answers_in m h)
+        (sym (any-step (holds_address (suc n)) (stretch.start + 1) (suc n)
+        ∙ rw (le-leb (stretch.start + 1) (suc n) (omega arith), holds_address-start) refl))
 
-    awaits_next : (x y : Level) (a u : Bool) → is_known x ≡ true → is_known y ≡ true → (is_low x ≡ false → a ≡ false)
+    -- whether a cycle without an answer runs after the step, by the known levels of AS* before and after it
+    awaits_answer-by_levels : (x y : Level) (a u : Bool) → is_known x ≡ true → is_known y ≡ true
+        → (is_low x ≡ false → a ≡ false)
         → (is_low y && not (is_low y && (a || u))) ≡ (((is_low x && not a) && not (is_low x && is_high y) && not u) ||
         ((is_high x && is_low y) && not u))
-    awaits_next Low Low true u k j idle = refl
-    awaits_next Low Low false true k j idle = refl
-    awaits_next Low Low false false k j idle = refl
-    awaits_next Low High true u k j idle = refl
-    awaits_next Low High false u k j idle = refl
-    awaits_next High Low true u k j idle = absurd (clash true refl (idle refl))
-    awaits_next High Low false u k j idle = refl
-    awaits_next High High a u k j idle = refl
-    awaits_next Unknown y a u k j idle = absurd (cc)
-    awaits_next Low Unknown a u k j idle = absurd (cc)
-    awaits_next High Unknown a u k j idle = absurd (cc)
+    awaits_answer-by_levels Low Low true u k j idle = refl
+    awaits_answer-by_levels Low Low false true k j idle = refl
+    awaits_answer-by_levels Low Low false false k j idle = refl
+    awaits_answer-by_levels Low High true u k j idle = refl
+    awaits_answer-by_levels Low High false u k j idle = refl
+    awaits_answer-by_levels High Low true u k j idle = absurd (clash true refl (idle refl))
+    awaits_answer-by_levels High Low false u k j idle = refl
+    awaits_answer-by_levels High High a u k j idle = refl
+    awaits_answer-by_levels Unknown y a u k j idle = absurd (cc)
+    awaits_answer-by_levels Low Unknown a u k j idle = absurd (cc)
+    awaits_answer-by_levels High Unknown a u k j idle = absurd (cc)
 
-    direction_next : (m : Holding) → Holds n m → (keeps_direction m old new || starts_between old new)
+    -- the direction of some transfer is held at n + 1 exactly if it is still held, or a transfer starts there
+    holds_direction-any_next : (m : Holding) → Holds n m → (keeps_direction m old new || starts_between old new)
         ≡ any (holds_direction (suc n)) (stretch.start + 1) (suc n + 1)
-    direction_next m h =
-        rw (keeps_direction_is m h) (sym (any-step (holds_direction (suc n)) (stretch.start + 1) (suc n)
-        ∙ rw (le-leb (stretch.start + 1) (suc n) (omega arith), direction_here) refl))
+    holds_direction-any_next m h =
+        rw (keeps_direction-any m h) (sym (any-step (holds_direction (suc n)) (stretch.start + 1) (suc n)
+        ∙ rw (le-leb (stretch.start + 1) (suc n) (omega arith), holds_direction-start) refl))
 
+    -- the transfer that is open after the step has an answer
     abbrev answered_now : Holding → Bool
     answered_now m = not (strobes_high_in new) && (was_answered m.transfer || answer_between old new)
 
+    -- a strobe has risen in the transfer that is open after the step
     abbrev risen_now : Holding → Bool
     risen_now m = not (strobes_high_in new) && (has_risen m.transfer || strobe_rises_between old new)
 
+    -- the transfer is a write that had no answer before the step
     abbrev writing_now : Holding → Bool
     writing_now m = writes_of m.transfer (is_low (level_at old WRITE))
 
-    high_old : transfer_starts t stretch (suc n) ≡ true → strobes_high_in old ≡ true
-    high_old s = (and_parts (strobes_high_in old) (strobe_low_in new) (sym transfer_starts_is ∙ s)).0
+    -- where a transfer starts at n + 1, both strobes are high at n
+    strobes_high_in-start : transfer_starts t stretch (suc n) ≡ true → strobes_high_in old ≡ true
+    strobes_high_in-start s = (and_parts (strobes_high_in old) (strobe_low_in new) (sym transfer_starts-between ∙ s)).0
 
+    -- an instant up to n + 1 is n + 1, or up to n
     last_or_before : (i : ℕ) → i ≤ suc n → (i ≡ suc n) ⊎ (i ≤ n)
     last_or_before i h = grind arith
 
     -- whether no strobe has risen up to n + 1 in the transfer that is open
-    fresh_next : (m : Holding) → Holds n m → (i : ℕ) → i ≤ suc n → transfer_starts t stretch i ≡ true
+    none_rises-fresh : (m : Holding) → Holds n m → (i : ℕ) → i ≤ suc n → transfer_starts t stretch i ≡ true
         → ((r : ℕ) → i ≤ r → r ≤ suc n → strobes_high t r ≡ false) → none (strobe_rises t) (i + 1) (suc n + 1)
         ≡ not (risen_now m)
     unfolding high
-    fresh_next m h i a s low =
+    none_rises-fresh m h i a s low =
         elim (last_or_before i a) [
           | inl e ↦
               rw e
               (none_empty (strobe_rises t) (suc n + 1)
               ∙ fresh_here (strobes_high_in new) (has_risen m.transfer) (strobe_rises_between old new)
-              (h.closed (high_old (rw e at s)))
-              (no_rise (level_at old DS0) (level_at old DS1) (level_at new DS0) (level_at new DS1)
-              (high_old (rw e at s))))
+              (h.closed (strobes_high_in-start (rw e at s)))
+              (rises-none_of_high (level_at old DS0) (level_at old DS1) (level_at new DS0) (level_at new DS1)
+              (strobes_high_in-start (rw e at s))))
           | inr b ↦
               none_more (strobe_rises t) (i + 1) n (omega arith)
-              ∙ rw (h.fresh i b s (λ r x y. low r x (omega arith)), strobe_rises_is)
+              ∙ rw (h.fresh i b s (λ r x y. low r x (omega arith)), strobe_rises-between)
               (fresh_more (strobes_high_in new) (has_risen m.transfer) (strobe_rises_between old new)
               (low (suc n) a (omega arith)))
         ]
 
     -- the memory is right of n + 1, if the direction stays while it is held
-    pub holds_next : (break_before t stretch stability_rules (suc (suc n)) ≡ None
+    pub Holds-next : (break_before t stretch stability_rules (suc (suc n)) ≡ None
         → break_before t stretch stability_rules
         (suc n) ≡ None)
         → ((m : Holding) → Holds n m → break_before t stretch stability_rules (suc (suc n)) ≡ None
@@ -340,33 +371,35 @@ module _ (t : Trace) (stretch : Stretch) where
         new ≡ true → is_low (level_at new WRITE) ≡ is_low (level_at old WRITE))
         → ((l : ℕ) → l < 3 → is_known (level_at old l) ≡ true) → ((l : ℕ) → l < 3 → is_known (level_at new l) ≡ true)
         → (m : Holding) → Holds n m → Holds (suc n) (stepped m old new)
-    holds_next earlier stays known_old known_new m h =
-        let low_new = low_is (level_at new DS0) (level_at new DS1) (known_new DS0 (omega arith))
+    Holds-next earlier stays known_old known_new m h =
+        let low_new = is_low-known_pair (level_at new DS0) (level_at new DS1) (known_new DS0 (omega arith))
         (known_new DS1 (omega arith)) in
         record {
           state = tracked h.state old new;
           says = IsTransferPhase-tracked t stretch reads n from before h.state h.says;
-          transfer = answered_next h.state (strobes_high_in old) (strobe_low_in new) (is_low (level_at new WRITE))
-              (strobes_high_in new) (answer_between old new) (high_is h.state h.says) low_new
+          transfer = is_answered_state-next h.state (strobes_high_in old) (strobe_low_in new)
+              (is_low (level_at new WRITE))
+              (strobes_high_in new) (answer_between old new) (strobes_high_in-is_closed h.state h.says) low_new
               ∙ rw h.transfer (sym (was_passed (answered_now m) (risen_now m) (writing_now m)));
           closed = λ highs. risen_passed (answered_now m) (risen_now m) (writing_now m) ∙ rw highs refl;
-          fresh = λ i a s low. fresh_next m h i a s low
+          fresh = λ i a s low. none_rises-fresh m h i a s low
               ∙ ap not (sym (risen_passed (answered_now m) (risen_now m) (writing_now m)));
           directed = λ unbroken low.
               directed_by h.state m.transfer (strobes_high_in old) (strobe_low_in new) (strobes_high_in new)
               (answer_between old new) (strobe_rises_between old new)
-              (is_low (level_at old WRITE)) (is_low (level_at new WRITE)) (high_is h.state h.says) low_new low
+              (is_low (level_at old WRITE)) (is_low (level_at new WRITE))
+              (strobes_high_in-is_closed h.state h.says) low_new low
               h.transfer h.closed
-              (no_rise (level_at old DS0) (level_at old DS1) (level_at new DS0) (level_at new DS1))
+              (rises-none_of_high (level_at old DS0) (level_at old DS1) (level_at new DS0) (level_at new DS1))
               (h.directed (earlier unbroken)) (stays m h unbroken);
           idle = λ off. rw off refl;
-          address = awaits_next (level_at old AS) (level_at new AS) m.cycle_answered (answers_in m old new)
-              (known_old AS (omega arith)) (known_new AS (omega arith)) h.idle ∙ address_next m h;
+          address = awaits_answer-by_levels (level_at old AS) (level_at new AS) m.cycle_answered (answers_in m old new)
+              (known_old AS (omega arith)) (known_new AS (omega arith)) h.idle ∙ holds_address-any_next m h;
           direction =
               rw (risen_passed (answered_now m) (risen_now m) (writing_now m))
-              (unturned_next (strobes_high_in old) (strobes_high_in new) (strobe_low_in new)
+              (direction-next_by_strobes (strobes_high_in old) (strobes_high_in new) (strobe_low_in new)
               (strobe_rises_between old new) (has_risen m.transfer) h.closed
-              (no_rise (level_at old DS0) (level_at old DS1) (level_at new DS0) (level_at new DS1)) low_new
-              (high_before old new (known_old DS0 (omega arith)) (known_old DS1 (omega arith)))
-              ∙ direction_next m h);
+              (rises-none_of_high (level_at old DS0) (level_at old DS1) (level_at new DS0) (level_at new DS1)) low_new
+              (strobes_high_in-before old new (known_old DS0 (omega arith)) (known_old DS1 (omega arith)))
+              ∙ holds_direction-any_next m h);
         }

@@ -10,7 +10,7 @@ use Rattle.vme_trace.specs.Levels.{Levels, is_known_on}
 use Rattle.vme_trace.proofs.Counting.{least-outside}
 use Rattle.vme_trace.proofs.Ranges.{any-fails, any-step, fails-any, least-is, least-none}
 use Rattle.vme_dtb.specs.StabilityRules.{is_undriven}
-use Rattle.vme_dtb.proofs.HeldData.{selected_from, selected_to}
+use Rattle.vme_dtb.proofs.HeldData.{is_selected-from, is_selected-to}
 use Rattle.vme_dtb.proofs.UnknownNeeds.{unknown_one}
 
 first_false : (a b : Bool) → (a ≡ true → ⊥) → (a && b) ≡ false
@@ -19,7 +19,7 @@ first_false false b h = refl
 
 module _ (v : Levels) where
   outside : (l : ℕ) → l < 159 → is_undriven v l ≡ false
-  outside l h = first_false (is_selected v l) (not (is_known_on v l)) (λ e. apart l h (selected_from v l e))
+  outside l h = first_false (is_selected v l) (not (is_known_on v l)) (λ e. apart l h (is_selected-from v l e))
     where
       apart : (l : ℕ) → l < 159 → 159 ≤ l → ⊥
       apart l h k = omega arith
@@ -28,7 +28,7 @@ module _ (v : Levels) where
   undriven_first = fails-any (is_undriven v) 0 159 (λ l a b. outside l b)
 
   beyond : (l : ℕ) → 191 ≤ l → is_undriven v l ≡ false
-  beyond l h = first_false (is_selected v l) (not (is_known_on v l)) (λ e. apart l h (selected_to v l e))
+  beyond l h = first_false (is_selected v l) (not (is_known_on v l)) (λ e. apart l h (is_selected-to v l e))
     where
       apart : (l : ℕ) → 191 ≤ l → l < 191 → ⊥
       apart l h k = omega arith
@@ -48,7 +48,7 @@ module _ (v : Levels) where
   undriven_known h =
       least-outside (is_known_on v) (is_undriven v) 159 191 line_count h
       (λ l below e. let of = unknown_one (is_selected v l) (is_known_on v l) e in
-      (selected_from v l of.0, selected_to v l of.0, of.1))
+      (is_selected-from v l of.0, is_selected-to v l of.0, of.1))
 
   pub undriven_here : (n : ℕ) → n < 191 → any (is_undriven v) 0 n ≡ false → is_undriven v n ≡ true
       → least (is_undriven v) 0 line_count ≡ Some n

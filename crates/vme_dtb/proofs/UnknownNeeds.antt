@@ -10,7 +10,7 @@ use Rattle.vme_trace.specs.Levels.{Levels, is_known_on}
 use Rattle.vme_trace.proofs.Counting.{least-outside}
 use Rattle.vme_trace.proofs.Ranges.{any-fails, any-step, fails-any, least-is, least-none}
 use Rattle.vme_dtb.specs.StabilityRules.{lacks, unknown_need}
-use Rattle.vme_dtb.proofs.Needed.{needed_above, needed_below}
+use Rattle.vme_dtb.proofs.Needed.{needs_of-above, needs_of-below}
 
 first_false : (a b : Bool) → (a ≡ true → ⊥) → (a && b) ≡ false
 first_false true b h = absurd (h refl)
@@ -25,7 +25,7 @@ module _ (v : Levels) where
   outside : (l : ℕ) → (5 ≤ l → l < 45 → ⊥) → lacks v l ≡ false
   unfolding is_needed
   outside l h = first_false (is_within (needs_of v) l) (not (is_known_on v l))
-      (λ e. h (needed_above v l e) (needed_below v l e))
+      (λ e. h (needs_of-above v l e) (needs_of-below v l e))
 
   -- no line below 5, the first that a cycle may need, is lacked
   pub lacks_first : any (lacks v) 0 5 ≡ false
@@ -46,7 +46,7 @@ module _ (v : Levels) where
   lacks_known h =
       least-outside (is_known_on v) (lacks v) 5 45 line_count h
       (λ l below e. let of = unknown_one (is_within (needs_of v) l) (is_known_on v l) e in
-      (needed_above v l of.0, needed_below v l of.0, of.1))
+      (needs_of-above v l of.0, needs_of-below v l of.0, of.1))
 
   pub lacks_here : (n : ℕ) → n < 45 → any (lacks v) 0 n ≡ false → lacks v n ≡ true → unknown_need v ≡ Some n
   lacks_here n below h e = least-is (lacks v) 0 line_count n (omega arith) (omega arith) e h

@@ -23,7 +23,7 @@ use Rattle.vme_dtb.specs.StabilityRules.{faults_unknown, held_fault, is_observed
 use Rattle.vme_dtb.specs.StabilityRules.{observation_of, shifted_line, stability_next, stepped, undriven_line}
 use Rattle.vme_dtb.specs.declared.holding.Holding.{Holding}
 use Rattle.vme_dtb.specs.HoldingNumbers.{has_risen, was_answered}
-use Rattle.vme_dtb.proofs.StabilityMeaning.{Holds, high_before, high_is}
+use Rattle.vme_dtb.proofs.StabilityMeaning.{Holds, strobes_high_in-before, strobes_high_in-is_closed}
 use Rattle.vme_dtb.proofs.Progressing.{is_answered_state, is_closed, passed_same}
 
 none_of : {A : Type 0} (o : Option A) → is_some o ≡ false → o ≡ None
@@ -106,7 +106,7 @@ module _ (t : Trace) (stretch : Stretch) (facts : IsStretch t stretch) (n : ℕ)
       let address = or_parts (answer_between old new || strobe_rises_between old new) (rises_between old new AS)
       held.1 in
       let strobe = or_parts (answer_between old new) (strobe_rises_between old new) address.0 in
-      let highs = high_before old new (facts.known n DS0 from (omega arith) (lit< tt) refl)
+      let highs = strobes_high_in-before old new (facts.known n DS0 from (omega arith) (lit< tt) refl)
       (facts.known n DS1 from (omega arith) (lit< tt) refl) strobe.1 in
       rw (
         none_of (faults_unknown old new) moved.0,
@@ -114,7 +114,8 @@ module _ (t : Trace) (stretch : Stretch) (facts : IsStretch t stretch) (n : ℕ)
         none_of (shifted_line old new cs) all.1,
         none_held old new m cs (none_of (address_moved old cs) moved.1) turned.1,
         same_memory old new m strobe.0 strobe.1 address.1
-            (λ h. sym holds.transfer ∙ closed_there holds.state (high_is t stretch facts.reads n from before holds.state
+            (λ h. sym holds.transfer ∙ closed_there holds.state
+            (strobes_high_in-is_closed t stretch facts.reads n from before holds.state
             holds.says) (highs h))
             (λ h. holds.closed (highs h)) holds.idle (facts.known (suc n) AS (omega arith) before (lit< tt) refl),
       )

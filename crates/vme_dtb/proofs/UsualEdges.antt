@@ -13,7 +13,8 @@ use Rattle.vme_dtb.specs.Edge.{cycle_start_of, edges_between, closes_between, fi
 use Rattle.vme_dtb.specs.Edge.{is_answer_not_high, stays_on}
 use Rattle.vme_dtb.specs.UsualSteps.{is_answer_alone, is_start_alone, is_strobes_alone}
 use Rattle.vme_dtb.specs.declared.edges.Edges.{Edges}
-use Rattle.vme_dtb.proofs.StillSteps.{all_five, built, never_falls, never_rises, never_starts, same_is}
+use Rattle.vme_dtb.proofs.StillSteps.{and-five_parts, edges_by_tests, not_high_and_low, not_low_and_high}
+use Rattle.vme_dtb.proofs.StillSteps.{not_high_and_one_low, same_level-equal}
 
 -- the edges of a step that has none, while AS* is low
 abbrev no_edges : Edges
@@ -51,46 +52,52 @@ strobes_edges rise fall start close end = record no_edges {
 }
 
 -- a line that falls doesn't rise, and is low
-falls_alone : (x y : Level) → (is_high x && is_low y) ≡ true → ((is_low x && is_high y) ≡ false)
+falls-not_rises : (x y : Level) → (is_high x && is_low y) ≡ true → ((is_low x && is_high y) ≡ false)
     × (not (is_low x || is_low y) ≡ false)
-falls_alone High Low h = (refl, refl)
-falls_alone High High h = absurd (cc)
-falls_alone High Unknown h = absurd (cc)
-falls_alone Low y h = absurd (cc)
-falls_alone Unknown y h = absurd (cc)
+falls-not_rises High Low h = (refl, refl)
+falls-not_rises High High h = absurd (cc)
+falls-not_rises High Unknown h = absurd (cc)
+falls-not_rises Low y h = absurd (cc)
+falls-not_rises Unknown y h = absurd (cc)
 
-pub rises_alone : (x y : Level) → (is_low x && is_high y) ≡ true → (is_high x && is_low y) ≡ false
-rises_alone Low High h = refl
-rises_alone Low Low h = absurd (cc)
-rises_alone Low Unknown h = absurd (cc)
-rises_alone High y h = absurd (cc)
-rises_alone Unknown y h = absurd (cc)
+-- a line that rises doesn't fall
+pub rises-not_falls : (x y : Level) → (is_low x && is_high y) ≡ true → (is_high x && is_low y) ≡ false
+rises-not_falls Low High h = refl
+rises-not_falls Low Low h = absurd (cc)
+rises-not_falls Low Unknown h = absurd (cc)
+rises-not_falls High y h = absurd (cc)
+rises-not_falls Unknown y h = absurd (cc)
 
-from_low : (x y : Level) → is_low x ≡ true → ((is_high x && is_low y) ≡ false) × (not (is_low x || is_low y) ≡ false)
-from_low Low y h = (refl, refl)
-from_low High y h = absurd (cc)
-from_low Unknown y h = absurd (cc)
+-- a line that is low before a step doesn't fall, and is low before or after it
+low-not_falling : (x y : Level) → is_low x ≡ true → ((is_high x && is_low y) ≡ false)
+    × (not (is_low x || is_low y) ≡ false)
+low-not_falling Low y h = (refl, refl)
+low-not_falling High y h = absurd (cc)
+low-not_falling Unknown y h = absurd (cc)
 
-pub all_four : (a b c d : Bool) → (a && b && c && d) ≡ true → (a ≡ true) × (b ≡ true) × (c ≡ true) × (d ≡ true)
-all_four true true true true h = (refl, refl, refl, refl)
-all_four false b c d h = absurd (cc)
-all_four true false c d h = absurd (cc)
-all_four true true false d h = absurd (cc)
-all_four true true true false h = absurd (cc)
+-- each of four tests is true if their conjunction is
+pub and-four_parts : (a b c d : Bool) → (a && b && c && d) ≡ true → (a ≡ true) × (b ≡ true) × (c ≡ true) × (d ≡ true)
+and-four_parts true true true true h = (refl, refl, refl, refl)
+and-four_parts false b c d h = absurd (cc)
+and-four_parts true false c d h = absurd (cc)
+and-four_parts true true false d h = absurd (cc)
+and-four_parts true true true false h = absurd (cc)
 
 -- if both answer lines are high wherever a transfer starts, neither is named as not high
-readied : (s x y b c : Bool) (k l : ℕ) → (not s || (x && y)) ≡ true
+answer_not_high-none : (s x y b c : Bool) (k l : ℕ) → (not s || (x && y)) ≡ true
     → cond s (first_of (not (x || b)) k (not (y || c)) l) None ≡ None
-readied false x y b c k l h = refl
-readied true true true b c k l h = refl
-readied true true false b c k l h = absurd (cc)
-readied true false y b c k l h = absurd (cc)
+answer_not_high-none false x y b c k l h = refl
+answer_not_high-none true true true b c k l h = refl
+answer_not_high-none true true false b c k l h = absurd (cc)
+answer_not_high-none true false y b c k l h = absurd (cc)
 
-answer_built : (a b s c r0 r1 f0 f1 d e g h u : Bool) (x : CycleStart) (y : Bool) (o : Option ℕ) → a ≡ false → b ≡ false
+-- if of all tests only that of the fall of DTACK* holds, the edges are those of an answer
+answer_edges-by_tests : (a b s c r0 r1 f0 f1 d e g h u : Bool) (x : CycleStart) (y : Bool) (o : Option ℕ) → a ≡ false
+    → b ≡ false
     → s ≡ false → c ≡ false → r0 ≡ false → r1 ≡ false → f0 ≡ false → f1 ≡ false → d ≡ true → e ≡ false → g ≡ false → h
     ≡ false → u ≡ false
-    → answer_edges ≡ built a b s c r0 r1 f0 f1 d e g h u x y o
-answer_built a b s c r0 r1 f0 f1 d e g h u x y o pa pb ps pc p0 p1 q0 q1 pd pe pg ph pu = rw (
+    → answer_edges ≡ edges_by_tests a b s c r0 r1 f0 f1 d e g h u x y o
+answer_edges-by_tests a b s c r0 r1 f0 f1 d e g h u x y o pa pb ps pc p0 p1 q0 q1 pd pe pg ph pu = rw (
   pa,
   pb,
   ps,
@@ -106,11 +113,13 @@ answer_built a b s c r0 r1 f0 f1 d e g h u x y o pa pb ps pc p0 p1 q0 q1 pd pe p
   pu,
 ) refl
 
-ready_built : (a b s c r0 r1 f0 f1 d e g h u : Bool) (x : CycleStart) (y : Bool) (o : Option ℕ) → a ≡ false → b ≡ false
+-- if of all tests of edges only that of the rise of DTACK* holds, the edges are those of a rise of DTACK*
+ready_edges-by_tests : (a b s c r0 r1 f0 f1 d e g h u : Bool) (x : CycleStart) (y : Bool) (o : Option ℕ) → a ≡ false → b
+    ≡ false
     → s ≡ false → c ≡ false → r0 ≡ false → r1 ≡ false → f0 ≡ false → f1 ≡ false → d ≡ false → e ≡ false → g ≡ true → h
     ≡ false
-    → ready_edges u ≡ built a b s c r0 r1 f0 f1 d e g h u x y o
-ready_built a b s c r0 r1 f0 f1 d e g h u x y o pa pb ps pc p0 p1 q0 q1 pd pe pg ph = rw (
+    → ready_edges u ≡ edges_by_tests a b s c r0 r1 f0 f1 d e g h u x y o
+ready_edges-by_tests a b s c r0 r1 f0 f1 d e g h u x y o pa pb ps pc p0 p1 q0 q1 pd pe pg ph = rw (
   pa,
   pb,
   ps,
@@ -125,11 +134,13 @@ ready_built a b s c r0 r1 f0 f1 d e g h u x y o pa pb ps pc p0 p1 q0 q1 pd pe pg
   ph,
 ) refl
 
-start_built : (a b s c r0 r1 f0 f1 d e g h u : Bool) (x : CycleStart) (y : Bool) (o : Option ℕ) → a ≡ true → b ≡ false
+-- if of all tests only that of the fall of AS* holds, the edges are those of the start of a cycle
+start_edges-by_tests : (a b s c r0 r1 f0 f1 d e g h u : Bool) (x : CycleStart) (y : Bool) (o : Option ℕ) → a ≡ true → b
+    ≡ false
     → s ≡ false → c ≡ false → r0 ≡ false → r1 ≡ false → f0 ≡ false → f1 ≡ false → d ≡ false → e ≡ false → g ≡ false → h
     ≡ false → u ≡ false
-    → start_edges x ≡ built a b s c r0 r1 f0 f1 d e g h u x y o
-start_built a b s c r0 r1 f0 f1 d e g h u x y o pa pb ps pc p0 p1 q0 q1 pd pe pg ph pu = rw (
+    → start_edges x ≡ edges_by_tests a b s c r0 r1 f0 f1 d e g h u x y o
+start_edges-by_tests a b s c r0 r1 f0 f1 d e g h u x y o pa pb ps pc p0 p1 q0 q1 pd pe pg ph pu = rw (
   pa,
   pb,
   ps,
@@ -145,85 +156,109 @@ start_built a b s c r0 r1 f0 f1 d e g h u x y o pa pb ps pc p0 p1 q0 q1 pd pe pg
   pu,
 ) refl
 
-strobes_built : (a b s c r0 r1 f0 f1 d e g h u : Bool) (x : CycleStart) (y : Bool) (o : Option ℕ) → a ≡ false
+-- if the answer lines don't move, and AS* doesn't fall, the edges are those of the strobes and of a rise of AS*
+strobes_edges-by_tests : (a b s c r0 r1 f0 f1 d e g h u : Bool) (x : CycleStart) (y : Bool) (o : Option ℕ) → a ≡ false
     → cond s o None ≡ None → d ≡ false → e ≡ false → g ≡ false → h ≡ false → u ≡ false
-    → strobes_edges (first_of r0 DS0 r1 DS1) (first_of f0 DS0 f1 DS1) (cond s (Some y) None) c b ≡ built a b s c r0 r1
+    → strobes_edges (first_of r0 DS0 r1 DS1) (first_of f0 DS0 f1 DS1) (cond s (Some y) None) c b
+    ≡ edges_by_tests a b s c r0 r1
     f0 f1 d e g h u x y o
-strobes_built a b s c r0 r1 f0 f1 d e g h u x y o pa po pd pe pg ph pu = rw (pa, po, pd, pe, pg, ph, pu) refl
+strobes_edges-by_tests a b s c r0 r1 f0 f1 d e g h u x y o pa po pd pe pg ph pu = rw (pa, po, pd, pe, pg, ph, pu) refl
 
 module _ (v w : Levels) where
-  pub no_fall : (l : ℕ) → stays_on v w l ≡ true → falls_between v w l ≡ false
-  no_fall l h = ap (λ x. is_high (level_at v l) && is_low x) (same_is (level_at v l) (level_at w l) h)
-      ∙ never_falls (level_at v l)
+  -- a line that stays as it is doesn't fall
+  pub falls_between-stays : (l : ℕ) → stays_on v w l ≡ true → falls_between v w l ≡ false
+  falls_between-stays l h = ap (λ x. is_high (level_at v l) && is_low x)
+      (same_level-equal (level_at v l) (level_at w l) h)
+      ∙ not_high_and_low (level_at v l)
 
-  no_rise : (l : ℕ) → stays_on v w l ≡ true → rises_between v w l ≡ false
-  no_rise l h = ap (λ x. is_low (level_at v l) && is_high x) (same_is (level_at v l) (level_at w l) h)
-      ∙ never_rises (level_at v l)
+  -- a line that stays as it is doesn't rise
+  rises_between-stays : (l : ℕ) → stays_on v w l ≡ true → rises_between v w l ≡ false
+  rises_between-stays l h = ap (λ x. is_low (level_at v l) && is_high x)
+      (same_level-equal (level_at v l) (level_at w l) h)
+      ∙ not_low_and_high (level_at v l)
 
-  pub no_start : stays_on v w DS0 ≡ true → stays_on v w DS1 ≡ true → starts_between v w ≡ false
-  no_start h k =
-      ap (λ x. strobes_high_in v && (is_low x || is_low (level_at w DS1))) (same_is (level_at v DS0) (level_at w DS0) h)
-      ∙ ap (λ x. strobes_high_in v && (is_low (level_at v DS0) || is_low x)) (same_is (level_at v DS1) (level_at w DS1)
+  -- no transfer starts if the strobes stay as they are
+  pub starts_between-stays : stays_on v w DS0 ≡ true → stays_on v w DS1 ≡ true → starts_between v w ≡ false
+  starts_between-stays h k =
+      ap (λ x. strobes_high_in v && (is_low x || is_low (level_at w DS1)))
+      (same_level-equal (level_at v DS0) (level_at w DS0) h)
+      ∙ ap (λ x. strobes_high_in v && (is_low (level_at v DS0) || is_low x))
+      (same_level-equal (level_at v DS1) (level_at w DS1)
       k)
-      ∙ never_starts (level_at v DS0) (level_at v DS1)
+      ∙ not_high_and_one_low (level_at v DS0) (level_at v DS1)
 
-  no_close : stays_on v w DS0 ≡ true → stays_on v w DS1 ≡ true → closes_between v w ≡ false
-  no_close h k =
+  -- no transfer closes if the strobes stay as they are
+  closes_between-stays : stays_on v w DS0 ≡ true → stays_on v w DS1 ≡ true → closes_between v w ≡ false
+  closes_between-stays h k =
       ap (λ x. (is_high x && is_high (level_at w DS1)) && not (strobes_high_in v))
-      (same_is (level_at v DS0) (level_at w DS0) h)
+      (same_level-equal (level_at v DS0) (level_at w DS0) h)
       ∙ ap (λ x. (is_high (level_at v DS0) && is_high x) && not (strobes_high_in v))
-      (same_is (level_at v DS1) (level_at w DS1) k)
+      (same_level-equal (level_at v DS1) (level_at w DS1) k)
       ∙ and-not_self (strobes_high_in v)
 
+  -- the first answer line that is high neither before nor after the step
   abbrev answer_not_high_in : Option ℕ
   answer_not_high_in = first_of (is_answer_not_high v w DTACK) DTACK (is_answer_not_high v w BERR) BERR
 
-  pub answer_is : is_answer_alone v w ≡ true → falls_between v w DTACK ≡ true → is_addressed v w ≡ true → answer_edges
+  -- a step in which DTACK* alone falls while AS* is low has the edges of an answer
+  pub answer_edges-between : is_answer_alone v w ≡ true → falls_between v w DTACK ≡ true → is_addressed v w ≡ true
+      → answer_edges
       ≡ edges_between v w
-  answer_is alone falls addressed =
-      let all = all_four (stays_on v w AS) (stays_on v w DS0) (stays_on v w DS1) (stays_on v w BERR) alone in
-      answer_built _ _ _ _ _ _ _ _ _ _ _ _ _ (cycle_start_of w) (is_low (level_at w WRITE)) answer_not_high_in
-      (no_fall AS all.0)
-      (no_rise AS all.0) (no_start all.1 all.2) (no_close all.1 all.2) (no_rise DS0 all.1) (no_rise DS1 all.2)
-      (no_fall DS0 all.1) (no_fall DS1 all.2) falls
-      (no_fall BERR all.3) (falls_alone (level_at v DTACK) (level_at w DTACK) falls).0 (no_rise BERR all.3)
+  answer_edges-between alone falls addressed =
+      let all = and-four_parts (stays_on v w AS) (stays_on v w DS0) (stays_on v w DS1) (stays_on v w BERR) alone in
+      answer_edges-by_tests _ _ _ _ _ _ _ _ _ _ _ _ _ (cycle_start_of w) (is_low (level_at w WRITE)) answer_not_high_in
+      (falls_between-stays AS all.0)
+      (rises_between-stays AS all.0) (starts_between-stays all.1 all.2) (closes_between-stays all.1 all.2)
+      (rises_between-stays DS0 all.1) (rises_between-stays DS1 all.2)
+      (falls_between-stays DS0 all.1) (falls_between-stays DS1 all.2) falls
+      (falls_between-stays BERR all.3) (falls-not_rises (level_at v DTACK) (level_at w DTACK) falls).0
+      (rises_between-stays BERR all.3)
       (not_from_true _ addressed)
 
-  pub ready_is : is_answer_alone v w ≡ true → rises_between v w DTACK ≡ true → ready_edges (not (is_addressed v w))
+  -- a step in which DTACK* alone rises has the edges of that
+  pub ready_edges-between : is_answer_alone v w ≡ true → rises_between v w DTACK ≡ true
+      → ready_edges (not (is_addressed v w))
       ≡ edges_between v w
-  ready_is alone rises =
-      let all = all_four (stays_on v w AS) (stays_on v w DS0) (stays_on v w DS1) (stays_on v w BERR) alone in
-      ready_built _ _ _ _ _ _ _ _ _ _ _ _ (not (is_addressed v w)) (cycle_start_of w)
+  ready_edges-between alone rises =
+      let all = and-four_parts (stays_on v w AS) (stays_on v w DS0) (stays_on v w DS1) (stays_on v w BERR) alone in
+      ready_edges-by_tests _ _ _ _ _ _ _ _ _ _ _ _ (not (is_addressed v w)) (cycle_start_of w)
       (is_low (level_at w WRITE)) answer_not_high_in
-      (no_fall AS all.0) (no_rise AS all.0) (no_start all.1 all.2) (no_close all.1 all.2) (no_rise DS0 all.1)
-      (no_rise DS1 all.2) (no_fall DS0 all.1) (no_fall DS1 all.2)
-      (rises_alone (level_at v DTACK) (level_at w DTACK) rises) (no_fall BERR all.3) rises (no_rise BERR all.3)
+      (falls_between-stays AS all.0) (rises_between-stays AS all.0) (starts_between-stays all.1 all.2)
+      (closes_between-stays all.1 all.2) (rises_between-stays DS0 all.1)
+      (rises_between-stays DS1 all.2) (falls_between-stays DS0 all.1) (falls_between-stays DS1 all.2)
+      (rises-not_falls (level_at v DTACK) (level_at w DTACK) rises)
+      (falls_between-stays BERR all.3) rises (rises_between-stays BERR all.3)
 
-  pub start_is : is_start_alone v w ≡ true → start_edges (cycle_start_of w) ≡ edges_between v w
-  start_is alone =
-      let all = all_five (falls_between v w AS) (stays_on v w DS0) (stays_on v w DS1) (stays_on v w DTACK)
+  -- a step in which AS* alone falls has the edges of the start of a cycle
+  pub start_edges-between : is_start_alone v w ≡ true → start_edges (cycle_start_of w) ≡ edges_between v w
+  start_edges-between alone =
+      let all = and-five_parts (falls_between v w AS) (stays_on v w DS0) (stays_on v w DS1) (stays_on v w DTACK)
       (stays_on v w BERR) alone in
-      let fall = falls_alone (level_at v AS) (level_at w AS) all.0 in
-      start_built _ _ _ _ _ _ _ _ _ _ _ _ _ (cycle_start_of w) (is_low (level_at w WRITE)) answer_not_high_in all.0
+      let fall = falls-not_rises (level_at v AS) (level_at w AS) all.0 in
+      start_edges-by_tests _ _ _ _ _ _ _ _ _ _ _ _ _ (cycle_start_of w)
+      (is_low (level_at w WRITE)) answer_not_high_in all.0
       fall.0
-      (no_start all.1 all.2) (no_close all.1 all.2) (no_rise DS0 all.1) (no_rise DS1 all.2) (no_fall DS0 all.1)
-      (no_fall DS1 all.2) (no_fall DTACK all.3) (no_fall BERR all.4)
-      (no_rise DTACK all.3) (no_rise BERR all.4) fall.1
+      (starts_between-stays all.1 all.2) (closes_between-stays all.1 all.2) (rises_between-stays DS0 all.1)
+      (rises_between-stays DS1 all.2) (falls_between-stays DS0 all.1)
+      (falls_between-stays DS1 all.2) (falls_between-stays DTACK all.3) (falls_between-stays BERR all.4)
+      (rises_between-stays DTACK all.3) (rises_between-stays BERR all.4) fall.1
 
+  -- the edges of the strobes and of a rise of AS* between the levels
   abbrev pub strobes_here : Edges
   strobes_here =
       strobes_edges (first_of (rises_between v w DS0) DS0 (rises_between v w DS1) DS1)
       (first_of (falls_between v w DS0) DS0 (falls_between v w DS1) DS1)
       (cond (starts_between v w) (Some (is_low (level_at w WRITE))) None) (closes_between v w) (rises_between v w AS)
 
-  pub strobes_are : is_strobes_alone v w ≡ true → strobes_here ≡ edges_between v w
-  strobes_are alone =
-      let all = all_four (is_low (level_at v AS)) (stays_on v w DTACK) (stays_on v w BERR)
+  -- a step in which the strobes move, from a low AS*, has these edges
+  pub strobes_here-between : is_strobes_alone v w ≡ true → strobes_here ≡ edges_between v w
+  strobes_here-between alone =
+      let all = and-four_parts (is_low (level_at v AS)) (stays_on v w DTACK) (stays_on v w BERR)
       (not (starts_between v w) || (is_high (level_at v DTACK) && is_high (level_at v BERR))) alone in
-      let low = from_low (level_at v AS) (level_at w AS) all.0 in
-      strobes_built _ (rises_between v w AS) (starts_between v w) (closes_between v w) (rises_between v w DS0)
+      let low = low-not_falling (level_at v AS) (level_at w AS) all.0 in
+      strobes_edges-by_tests _ (rises_between v w AS) (starts_between v w) (closes_between v w) (rises_between v w DS0)
       (rises_between v w DS1) (falls_between v w DS0) (falls_between v w DS1) _ _ _ _ _ (cycle_start_of w)
       (is_low (level_at w WRITE)) answer_not_high_in low.0
-      (readied (starts_between v w) (is_high (level_at v DTACK)) (is_high (level_at v BERR))
-      (is_high (level_at w DTACK)) (is_high (level_at w BERR)) DTACK BERR all.3) (no_fall DTACK all.1)
-      (no_fall BERR all.2) (no_rise DTACK all.1) (no_rise BERR all.2) low.1
+      (answer_not_high-none (starts_between v w) (is_high (level_at v DTACK)) (is_high (level_at v BERR))
+      (is_high (level_at w DTACK)) (is_high (level_at w BERR)) DTACK BERR all.3) (falls_between-stays DTACK all.1)
+      (falls_between-stays BERR all.2) (rises_between-stays DTACK all.1) (rises_between-stays BERR all.2) low.1

@@ -28,11 +28,14 @@ use Rattle.vme_dtb.specs.UsualSteps.{is_answer_alone, strobes_break_rule, is_sta
 use Rattle.vme_dtb.specs.declared.cycle.CyclePhase.{CyclePhase}
 use Rattle.vme_dtb.specs.declared.memory.HandshakeMemory.{HandshakeMemory}
 use Rattle.vme_dtb.proofs.Faults.{none-first, not_applied, unanswered, unnamed}
-use Rattle.vme_dtb.proofs.StillSteps.{all_five}
-use Rattle.vme_dtb.proofs.UsualEdges.{all_four, answer_edges, answer_is, no_fall, no_start, ready_edges, ready_is}
-use Rattle.vme_dtb.proofs.UsualEdges.{rises_alone, start_edges, start_is, strobes_are, strobes_here}
+use Rattle.vme_dtb.proofs.StillSteps.{and-five_parts}
+use Rattle.vme_dtb.proofs.UsualEdges.{and-four_parts, answer_edges, answer_edges-between, falls_between-stays}
+use Rattle.vme_dtb.proofs.UsualEdges.{starts_between-stays, ready_edges, ready_edges-between}
+use Rattle.vme_dtb.proofs.UsualEdges.{rises-not_falls, start_edges, start_edges-between, strobes_here-between}
+use Rattle.vme_dtb.proofs.UsualEdges.{strobes_here}
 
-same_next : (p l : TransferPhase) (k : StepMarks) (c d : CyclePhase) (x y : Bool) (h q r : Option Fault)
+-- the results of two steps are equal if their parts are, and if no rule on strobes is broken
+next-same_parts : (p l : TransferPhase) (k : StepMarks) (c d : CyclePhase) (x y : Bool) (h q r : Option Fault)
     (a b : Option Answer) → p
     ≡ l → c ≡ d → h ≡ None → q ≡ r → a ≡ b
     → ◌≡◌ {A = Next HandshakeMemory}
@@ -47,78 +50,92 @@ same_next : (p l : TransferPhase) (k : StepMarks) (c d : CyclePhase) (x y : Bool
       shown = record k
           { answer = b };
     })
-same_next p l k c d x y h q r a b o e f g i = rw (o, e, f, g, i) refl
+next-same_parts p l k c d x y h q r a b o e f g i = rw (o, e, f, g, i) refl
 
-nowhere : (b : Bool) → let none : Option ℕ = None in cond b none none ≡ none
-nowhere true = refl
-nowhere false = refl
+-- none is none under each test
+cond-none : (b : Bool) → let none : Option ℕ = None in cond b none none ≡ none
+cond-none true = refl
+cond-none false = refl
 
-any_of : (a b : Bool) (k l : ℕ) → is_some (first_of a k b l) ≡ (a || b)
-any_of true b k l = refl
-any_of false true k l = refl
-any_of false false k l = refl
+-- there is a first of k if a, and l if b, exactly if a or b holds
+is_some-first_of : (a b : Bool) (k l : ℕ) → is_some (first_of a k b l) ≡ (a || b)
+is_some-first_of true b k l = refl
+is_some-first_of false true k l = refl
+is_some-first_of false false k l = refl
 
-no_line_fault : (r : Rule) (a b : Bool) (k l : ℕ) → (a || b) ≡ false → fault_if r true (first_of a k b l) ≡ None
-no_line_fault r false false k l h = refl
-no_line_fault r true b k l h = absurd (cc)
-no_line_fault r false true k l h = absurd (cc)
+-- a rule isn't broken if neither line has the edge
+fault_if-no_line : (r : Rule) (a b : Bool) (k l : ℕ) → (a || b) ≡ false → fault_if r true (first_of a k b l) ≡ None
+fault_if-no_line r false false k l h = refl
+fault_if-no_line r true b k l h = absurd (cc)
+fault_if-no_line r false true k l h = absurd (cc)
 
-broken_by_rise : (p : TransferPhase) (a b e f : Bool) → strobes_break_rule p (a || b) e f ≡ false
+-- if no rule on the strobes is broken, H2 isn't
+fault_if-H2 : (p : TransferPhase) (a b e f : Bool) → strobes_break_rule p (a || b) e f ≡ false
     → fault_if H2 (is_unanswered p && true)
     (first_of a DS0 b DS1) ≡ None
-broken_by_rise Closed a b e f h = refl
-broken_by_rise Answered a b e f h = refl
-broken_by_rise Reading a b e f h = no_line_fault H2 a b DS0 DS1 (or_parts (a || b) e h).0
-broken_by_rise Writing a b e f h = no_line_fault H2 a b DS0 DS1 (or_parts (a || b) e h).0
+fault_if-H2 Closed a b e f h = refl
+fault_if-H2 Answered a b e f h = refl
+fault_if-H2 Reading a b e f h = fault_if-no_line H2 a b DS0 DS1 (or_parts (a || b) e h).0
+fault_if-H2 Writing a b e f h = fault_if-no_line H2 a b DS0 DS1 (or_parts (a || b) e h).0
 
-broken_by_fall : (p : TransferPhase) (r e a b : Bool) → strobes_break_rule p r e (a || b) ≡ false
+-- if no rule on the strobes is broken, H3 isn't
+fault_if-H3 : (p : TransferPhase) (r e a b : Bool) → strobes_break_rule p r e (a || b) ≡ false
     → fault_if H3 (is_replied p) (first_of a DS0 b DS1) ≡ None
-broken_by_fall Closed r e a b h = refl
-broken_by_fall Reading r e a b h = refl
-broken_by_fall Writing r e a b h = refl
-broken_by_fall Answered r e a b h = no_line_fault H3 a b DS0 DS1 h
+fault_if-H3 Closed r e a b h = refl
+fault_if-H3 Reading r e a b h = refl
+fault_if-H3 Writing r e a b h = refl
+fault_if-H3 Answered r e a b h = fault_if-no_line H3 a b DS0 DS1 h
 
-broken_by_end : (p : TransferPhase) (r e f : Bool) → strobes_break_rule p r e f ≡ false
+-- if no rule on the strobes is broken, the cycle doesn't end in a transfer without an answer
+cycle_end-unbroken : (p : TransferPhase) (r e f : Bool) → strobes_break_rule p r e f ≡ false
     → ((is_unanswered p && true) && e)
     ≡ false
-broken_by_end Closed r e f h = refl
-broken_by_end Answered r e f h = refl
-broken_by_end Reading r e f h = (or_parts r e h).1
-broken_by_end Writing r e f h = (or_parts r e h).1
+cycle_end-unbroken Closed r e f h = refl
+cycle_end-unbroken Answered r e f h = refl
+cycle_end-unbroken Reading r e f h = (or_parts r e h).1
+cycle_end-unbroken Writing r e f h = (or_parts r e h).1
 
 -- in a transfer without an answer, DTACK* alone is its answer, and no second one
-one_answer : (e : TransferPhase) → is_unanswered e ≡ true → (not (is_within e) ≡ false)
+unanswered-one_answer : (e : TransferPhase) → is_unanswered e ≡ true → (not (is_within e) ≡ false)
     × ((is_replied e || (is_unanswered e && false)) ≡ false) × (cond (is_unanswered e) (Some DTACK) None ≡ Some DTACK)
-one_answer Reading h = (refl, refl, refl)
-one_answer Writing h = (refl, refl, refl)
-one_answer Closed h = absurd (cc)
-one_answer Answered h = absurd (cc)
+unanswered-one_answer Reading h = (refl, refl, refl)
+unanswered-one_answer Writing h = (refl, refl, refl)
+unanswered-one_answer Closed h = absurd (cc)
+unanswered-one_answer Answered h = absurd (cc)
 
-pub closed_twice : (h : Bool) (p : TransferPhase) → cond h Closed (cond h Closed p) ≡ cond h Closed p
-closed_twice true p = refl
-closed_twice false p = refl
+-- a phase that is closed if h is the same when it is closed if h again
+pub cond-Closed_twice : (h : Bool) (p : TransferPhase) → cond h Closed (cond h Closed p) ≡ cond h Closed p
+cond-Closed_twice true p = refl
+cond-Closed_twice false p = refl
 
 module _ (m : HandshakeMemory) (v w : Levels) where
+  -- the phase of the transfer in which the step ends, before an answer counts
   abbrev within : TransferPhase
   within = entered m.transfer v w
 
   -- without an answer, no rule on the answers of a cycle is broken
-  unanswered_here : (c : CyclePhase) → cycle_fault c (is_writing within) (cond (is_unanswered within) None None) ≡ None
-  unanswered_here c = ap (cycle_fault c (is_writing within)) (nowhere (is_unanswered within))
+  cycle_fault-unanswered : (c : CyclePhase) → cycle_fault c (is_writing within) (cond (is_unanswered within) None None)
+      ≡ None
+  cycle_fault-unanswered c = ap (cycle_fault c (is_writing within)) (cond-none (is_unanswered within))
       ∙ sym (unanswered c (is_writing within))
 
-  kept_cycle : (c : CyclePhase) → (let none : Option ℕ = None in cond (is_some (cond (is_unanswered within) none none))
+  -- without an answer, the phase of the cycle stays as it is
+  cycle-unanswered : (c : CyclePhase) → (let none : Option ℕ =
+      None in cond (is_some (cond (is_unanswered within) none none))
       (after_answer c (is_writing within)) c) ≡ c
-  kept_cycle c = ap (λ (o : Option ℕ). cond (is_some o) (after_answer c (is_writing within)) c)
-      (nowhere (is_unanswered within))
+  cycle-unanswered c = ap (λ (o : Option ℕ). cond (is_some o) (after_answer c (is_writing within)) c)
+      (cond-none (is_unanswered within))
 
-  no_h8 : (u : Bool) → fault_if H8 u (cond (is_unanswered within) None None) ≡ None
-  no_h8 u = ap (fault_if H8 u) (nowhere (is_unanswered within)) ∙ unnamed H8 u
+  -- without an answer, H8 isn't broken
+  fault_if-H8 : (u : Bool) → fault_if H8 u (cond (is_unanswered within) None None) ≡ None
+  fault_if-H8 u = ap (fault_if H8 u) (cond-none (is_unanswered within)) ∙ unnamed H8 u
 
   -- the phase of the transfer after a step in which no answer line falls
-  unanswered_left : (o : TransferPhase) → falls_between v w DTACK ≡ false → falls_between v w BERR ≡ false → within ≡ o
+  tracked-unanswered : (o : TransferPhase) → falls_between v w DTACK ≡ false → falls_between v w BERR ≡ false → within
+      ≡ o
       → tracked m.transfer v w ≡ cond (strobes_high_in w) Closed o
-  unanswered_left o d b e = left_by (strobes_high_in w) (falls_between v w DTACK) (falls_between v w BERR) within o d b
+  tracked-unanswered o d b e = left_by (strobes_high_in w) (falls_between v w DTACK)
+      (falls_between v w BERR) within o d b
       e
     where
       left_by : (h d b : Bool) (e o : TransferPhase) → d ≡ false → b ≡ false → e ≡ o
@@ -126,9 +143,10 @@ module _ (m : HandshakeMemory) (v w : Levels) where
           ≡ cond h Closed o
       left_by h d b e o x y z = rw (x, y, z) refl
 
-  answered_left : falls_between v w DTACK ≡ true → is_unanswered within ≡ true → tracked m.transfer v w
+  -- the phase of the transfer after a step in which DTACK* answers it
+  tracked-answered : falls_between v w DTACK ≡ true → is_unanswered within ≡ true → tracked m.transfer v w
       ≡ cond (strobes_high_in w) Closed Answered
-  answered_left d u = ap (λ (b : Bool). cond (strobes_high_in w) Closed (answered_by (b || falls_between v w BERR)
+  tracked-answered d u = ap (λ (b : Bool). cond (strobes_high_in w) Closed (answered_by (b || falls_between v w BERR)
       within)) d ∙ ap (cond (strobes_high_in w) Closed) (has_answer within u)
     where
       has_answer : (e : TransferPhase) → is_unanswered e ≡ true → answered_by true e ≡ Answered
@@ -137,45 +155,52 @@ module _ (m : HandshakeMemory) (v w : Levels) where
       has_answer Closed h = absurd (cc)
       has_answer Answered h = absurd (cc)
 
-  within_is : starts_between v w ≡ false → within ≡ m.transfer
-  within_is s = ap (λ (b : Bool). cond b (cond (is_low (level_at w WRITE)) Writing Reading) m.transfer) s
+  -- if no transfer starts, the phase is that of the memory
+  within-no_start : starts_between v w ≡ false → within ≡ m.transfer
+  within-no_start s = ap (λ (b : Bool). cond b (cond (is_low (level_at w WRITE)) Writing Reading) m.transfer) s
 
+  -- the answer by the line l with the data d
   abbrev answer_with : Option Lanes → ℕ → Answer
   answer_with d l = record { line = l; lanes = d }
 
+  -- the answer by the line l in the transfer in which the step ends
   abbrev answer_on : ℕ → Answer
   answer_on = answer_with (data_in within v w)
 
-  no_mark : option_map answer_on (cond (is_unanswered within) None None) ≡ None
-  no_mark = ap (option_map answer_on) (nowhere (is_unanswered within))
+  -- without an answer, none is shown
+  answer-unanswered : option_map answer_on (cond (is_unanswered within) None None) ≡ None
+  answer-unanswered = ap (option_map answer_on) (cond-none (is_unanswered within))
 
   -- the answer of the transfer that was open before the step
   abbrev pub plain_answer : ℕ → Answer
   plain_answer = answer_with (cond (is_writing m.transfer) (Some (lanes_at v)) None)
 
-  plain_data : starts_between v w ≡ false → data_in within v w ≡ cond (is_writing m.transfer) (Some (lanes_at v)) None
-  plain_data s = by_start (starts_between v w) within m.transfer s (within_is s)
+  -- if no transfer starts, the data of an answer is that before the step
+  data_in-no_start : starts_between v w ≡ false → data_in within v w
+      ≡ cond (is_writing m.transfer) (Some (lanes_at v)) None
+  data_in-no_start s = by_start (starts_between v w) within m.transfer s (within-no_start s)
     where
       by_start : (b : Bool) (e p : TransferPhase) → b ≡ false → e ≡ p → cond (is_writing e)
           (Some (lanes_at (cond b w v))) None ≡ cond (is_writing p) (Some (lanes_at v)) None
       by_start b e p x y = rw (x, y) refl
 
-  pub start_next : is_start_alone v w ≡ true
+  -- what a step gives in which AS* alone falls: a cycle starts
+  pub dtb_next-start_alone : is_start_alone v w ≡ true
       → record {
         memory = memory_left m w m.transfer (unanswered_of (cycle_start_of w).class) false;
         fault = None;
         shown
             = record no_step_marks { cycle = Some (cycle_start_of w) };
       } ≡ dtb_next m v w (edges_between v w)
-  start_next alone =
-      let all = all_five (falls_between v w AS) (stays_on v w DS0) (stays_on v w DS1) (stays_on v w DTACK)
+  dtb_next-start_alone alone =
+      let all = and-five_parts (falls_between v w AS) (stays_on v w DS0) (stays_on v w DS1) (stays_on v w DTACK)
       (stays_on v w BERR) alone in
       let s = start_edges (cycle_start_of w) in
       let c = unanswered_of (cycle_start_of w).class in
       sym
-      (same_next (tracked m.transfer v w) _ s.shown _ c _ _ (handshake_fault m within s) _ None _ None
-      (unanswered_left m.transfer (no_fall v w DTACK all.3) (no_fall v w BERR all.4)
-      (within_is (no_start v w all.1 all.2))) (kept_cycle c)
+      (next-same_parts (tracked m.transfer v w) _ s.shown _ c _ _ (handshake_fault m within s) _ None _ None
+      (tracked-unanswered m.transfer (falls_between-stays v w DTACK all.3) (falls_between-stays v w BERR all.4)
+      (within-no_start (starts_between-stays v w all.1 all.2))) (cycle-unanswered c)
       (none-first (strobe_faults m within s) (
         refl,
         (
@@ -186,16 +211,23 @@ module _ (m : HandshakeMemory) (v w : Levels) where
               unnamed H4 (not (is_within within)),
               (
                 unnamed H5 (is_doubled within s),
-                (refl, (not_applied H7 _ (Some AS) (and-false (is_left_unanswered m.transfer s)), (no_h8 false, tt))),
+                (
+                  refl,
+                  (
+                    not_applied H7 _ (Some AS) (and-false (is_left_unanswered m.transfer s)),
+                    (fault_if-H8 false, tt),
+                  ),
+                ),
               ),
             ),
           ),
         ),
       ))
-      (unanswered_here c) no_mark)
-      ∙ ap (dtb_next m v w) (start_is v w alone)
+      (cycle_fault-unanswered c) answer-unanswered)
+      ∙ ap (dtb_next m v w) (start_edges-between v w alone)
 
-  pub strobes_next : is_strobes_alone v w ≡ true → strobes_break_rule m.transfer (strobe_rises_between v w)
+  -- what a step gives in which the strobes move, from a low AS*, and no rule is broken
+  pub dtb_next-strobes_alone : is_strobes_alone v w ≡ true → strobes_break_rule m.transfer (strobe_rises_between v w)
       (rises_between v w AS)
       (strobe_falls_between v w) ≡ false
       → record {
@@ -209,22 +241,23 @@ module _ (m : HandshakeMemory) (v w : Levels) where
               close = closes_between v w;
             };
       } ≡ dtb_next m v w (edges_between v w)
-  strobes_next alone unbroken =
-      let all = all_four (is_low (level_at v AS)) (stays_on v w DTACK) (stays_on v w BERR)
+  dtb_next-strobes_alone alone unbroken =
+      let all = and-four_parts (is_low (level_at v AS)) (stays_on v w DTACK) (stays_on v w BERR)
       (not (starts_between v w) || (is_high (level_at v DTACK) && is_high (level_at v BERR))) alone in
       let s = strobes_here v w in
       ap (λ (b : Bool). by_rise (memory_left m w within m.cycle b))
-      (sym (any_of (rises_between v w DS0) (rises_between v w DS1) DS0 DS1))
+      (sym (is_some-first_of (rises_between v w DS0) (rises_between v w DS1) DS0 DS1))
       ∙ sym
-      (same_next (tracked m.transfer v w) _ s.shown _ m.cycle _ _ (handshake_fault m within s) _ None _ None
-      (unanswered_left within (no_fall v w DTACK all.1) (no_fall v w BERR all.2) refl) (kept_cycle m.cycle)
+      (next-same_parts (tracked m.transfer v w) _ s.shown _ m.cycle _ _ (handshake_fault m within s) _ None _ None
+      (tracked-unanswered within (falls_between-stays v w DTACK all.1) (falls_between-stays v w BERR all.2) refl)
+      (cycle-unanswered m.cycle)
       (none-first (strobe_faults m within s) (
         refl,
         (
-          broken_by_rise m.transfer (rises_between v w DS0) (rises_between v w DS1) (rises_between v w AS)
+          fault_if-H2 m.transfer (rises_between v w DS0) (rises_between v w DS1) (rises_between v w AS)
               (strobe_falls_between v w) unbroken,
           (
-            broken_by_fall m.transfer (strobe_rises_between v w) (rises_between v w AS)
+            fault_if-H3 m.transfer (strobe_rises_between v w) (rises_between v w AS)
                 (falls_between v w DS0) (falls_between v w DS1) unbroken,
             (
               unnamed H4 (not (is_within within)),
@@ -233,10 +266,10 @@ module _ (m : HandshakeMemory) (v w : Levels) where
                 (
                   refl,
                   (
-                    not_applied H7 _ (Some AS) (broken_by_end m.transfer (strobe_rises_between v w)
+                    not_applied H7 _ (Some AS) (cycle_end-unbroken m.transfer (strobe_rises_between v w)
                         (rises_between v w AS)
                         (strobe_falls_between v w) unbroken),
-                    (no_h8 false, tt),
+                    (fault_if-H8 false, tt),
                   ),
                 ),
               ),
@@ -244,8 +277,8 @@ module _ (m : HandshakeMemory) (v w : Levels) where
           ),
         ),
       ))
-      (unanswered_here m.cycle) no_mark)
-      ∙ ap (dtb_next m v w) (strobes_are v w alone)
+      (cycle_fault-unanswered m.cycle) answer-unanswered)
+      ∙ ap (dtb_next m v w) (strobes_here-between v w alone)
     where
       by_rise : HandshakeMemory → Next HandshakeMemory
       by_rise left = record {
@@ -258,7 +291,8 @@ module _ (m : HandshakeMemory) (v w : Levels) where
         };
       }
 
-  pub answer_next : is_answer_alone v w ≡ true → falls_between v w DTACK ≡ true → is_addressed v w ≡ true
+  -- what a step gives in which DTACK* alone falls, and answers a transfer
+  pub dtb_next-answer_alone : is_answer_alone v w ≡ true → falls_between v w DTACK ≡ true → is_addressed v w ≡ true
       → is_unanswered m.transfer ≡ true
       → record {
         memory = memory_left m w Answered (after_answer m.cycle (is_writing m.transfer)) false;
@@ -267,15 +301,15 @@ module _ (m : HandshakeMemory) (v w : Levels) where
         shown = record no_step_marks
             { answer = Some (plain_answer DTACK) };
       } ≡ dtb_next m v w (edges_between v w)
-  answer_next alone falls addressed waits =
-      let all = all_four (stays_on v w AS) (stays_on v w DS0) (stays_on v w DS1) (stays_on v w BERR) alone in
+  dtb_next-answer_alone alone falls addressed waits =
+      let all = and-four_parts (stays_on v w AS) (stays_on v w DS0) (stays_on v w DS1) (stays_on v w BERR) alone in
       let s = answer_edges in
-      let same = within_is (no_start v w all.1 all.2) in
-      let one = one_answer within (ap is_unanswered same ∙ waits) in
+      let same = within-no_start (starts_between-stays v w all.1 all.2) in
+      let one = unanswered-one_answer within (ap is_unanswered same ∙ waits) in
       sym
-      (same_next (tracked m.transfer v w) _ s.shown _ (after_answer m.cycle (is_writing m.transfer)) _ _
+      (next-same_parts (tracked m.transfer v w) _ s.shown _ (after_answer m.cycle (is_writing m.transfer)) _ _
       (handshake_fault m within s) _ (cycle_fault m.cycle (is_writing m.transfer) (Some DTACK)) _
-      (Some (plain_answer DTACK)) (answered_left falls (ap is_unanswered same ∙ waits))
+      (Some (plain_answer DTACK)) (tracked-answered falls (ap is_unanswered same ∙ waits))
       (ap (λ (o : Option ℕ). cond (is_some o) (after_answer m.cycle (is_writing within)) m.cycle) one.2
       ∙ ap (λ (p : TransferPhase). after_answer m.cycle (is_writing p)) same)
       (none-first (strobe_faults m within s) (
@@ -298,18 +332,20 @@ module _ (m : HandshakeMemory) (v w : Levels) where
       ∙ ap (λ (p : TransferPhase). cycle_fault m.cycle (is_writing p)
       (Some DTACK)) same)
       (ap (option_map answer_on) one.2 ∙ ap (λ (d : Option Lanes). Some (answer_with d DTACK))
-      (plain_data (no_start v w all.1 all.2))))
-      ∙ ap (dtb_next m v w) (answer_is v w alone falls addressed)
+      (data_in-no_start (starts_between-stays v w all.1 all.2))))
+      ∙ ap (dtb_next m v w) (answer_edges-between v w alone falls addressed)
 
-  pub ready_next : is_answer_alone v w ≡ true → rises_between v w DTACK ≡ true → m.dtack_may_rise ≡ true
+  -- what a step gives in which DTACK* alone rises, and may rise: nothing
+  pub dtb_next-answer_rises : is_answer_alone v w ≡ true → rises_between v w DTACK ≡ true → m.dtack_may_rise ≡ true
       → quiet (memory_left m w m.transfer m.cycle false) ≡ dtb_next m v w (edges_between v w)
-  ready_next alone rises gone =
-      let all = all_four (stays_on v w AS) (stays_on v w DS0) (stays_on v w DS1) (stays_on v w BERR) alone in
+  dtb_next-answer_rises alone rises gone =
+      let all = and-four_parts (stays_on v w AS) (stays_on v w DS0) (stays_on v w DS1) (stays_on v w BERR) alone in
       let s = ready_edges (not (is_addressed v w)) in
       sym
-      (same_next (tracked m.transfer v w) _ s.shown _ m.cycle _ _ (handshake_fault m within s) _ None _ None
-      (unanswered_left m.transfer (rises_alone (level_at v DTACK) (level_at w DTACK) rises) (no_fall v w BERR all.3)
-      (within_is (no_start v w all.1 all.2))) (kept_cycle m.cycle)
+      (next-same_parts (tracked m.transfer v w) _ s.shown _ m.cycle _ _ (handshake_fault m within s) _ None _ None
+      (tracked-unanswered m.transfer (rises-not_falls (level_at v DTACK) (level_at w DTACK) rises)
+      (falls_between-stays v w BERR all.3)
+      (within-no_start (starts_between-stays v w all.1 all.2))) (cycle-unanswered m.cycle)
       (none-first (strobe_faults m within s) (
         refl,
         (
@@ -324,7 +360,7 @@ module _ (m : HandshakeMemory) (v w : Levels) where
                   rw gone refl,
                   (
                     not_applied H7 _ (Some AS) (and-false (is_left_unanswered m.transfer s)),
-                    (no_h8 (not (is_addressed v w)), tt),
+                    (fault_if-H8 (not (is_addressed v w)), tt),
                   ),
                 ),
               ),
@@ -332,5 +368,5 @@ module _ (m : HandshakeMemory) (v w : Levels) where
           ),
         ),
       ))
-      (unanswered_here m.cycle) no_mark)
-      ∙ ap (dtb_next m v w) (ready_is v w alone rises)
+      (cycle_fault-unanswered m.cycle) answer-unanswered)
+      ∙ ap (dtb_next m v w) (ready_edges-between v w alone rises)

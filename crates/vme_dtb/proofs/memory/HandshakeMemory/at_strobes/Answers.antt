@@ -2,7 +2,7 @@ use Rattle.std.proofs.Common.{◌≡◌, false, arith}
 use Rattle.vme_trace.specs.Edges.{rises_between, strobe_falls_between, strobe_rises_between}
 use Rattle.vme_trace.specs.LineNumbers.{AS}
 use Rattle.vme_dtb.specs.UsualSteps.{strobes_break_rule}
-use Rattle.vme_dtb.proofs.UsualNexts.{strobes_next}
+use Rattle.vme_dtb.proofs.UsualNexts.{dtb_next-strobes_alone}
 use Rattle.vme_dtb.proofs.memory.HandshakeMemory.at_strobes.Goals as goal
 
 pub returns : goal.returns
@@ -19,4 +19,4 @@ returns c =
       c.rises-cycle_end.ensures,
       c.transfer_started.ensures,
       c.closes.ensures,
-    ) (strobes_next c.args.self v w c.requires unbroken)
+    ) (dtb_next-strobes_alone c.args.self v w c.requires unbroken)
