@@ -42,7 +42,7 @@ use Rattle.vme_monitor.proofs.Transitions.{outer-in_stretch, waits}
 use Rattle.vme_dtb.specs.Machine.{dtb_begin, dtb_end_fault, dtb_start_marks, dtb_observation, dtb_step}
 use Rattle.vme_dtb.specs.declared.memory.HandshakeMemory.{HandshakeMemory}
 use Rattle.vme_dtb.proofs.HandshakeMeaning.{Holds}
-use Rattle.vme_dtb.proofs.HandshakeInstants.{holds_at}
+use Rattle.vme_dtb.proofs.HandshakeInstants.{Holds-at}
 use Rattle.vme_dtb.proofs.StillSteps.{machine_step-dtb_next}
 use Rattle.vme_audit.specs.AskedRules.{happens}
 use Rattle.vme_auditor.specs.Audited.{events_by, events_in, with_stretch}
@@ -377,7 +377,7 @@ module _ (t : Trace) (ok : malformed_step t ≡ None) (few : t.opening.slots ≤
 
           -- the memory means what it should at n
           holds : Holds t here n p
-          holds = holds_at t here facts n work.running.from (omega (arith, on.before))
+          holds = Holds-at t here facts n work.running.from (omega (arith, on.before))
 
           -- the marks of the step are those of the handshake rules
           kinds-shown : kinds ≡ shown t ok few here facts n work.running.from on.before within p holds

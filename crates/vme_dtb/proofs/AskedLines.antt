@@ -23,14 +23,16 @@ use Rattle.vme_dtb.specs.StabilityRules.{lacks, unknown_address, unknown_directi
 use Rattle.vme_dtb.proofs.StabilityMeaning.{is_judged-next, cycle_starts-between, transfer_starts-between}
 use Rattle.vme_dtb.proofs.Needed.{needs_of-below}
 
-pub least_and : (b : Bool) (p : ℕ → Bool) → least (λ l. b && p l) 0 line_count ≡ cond b (least p 0 line_count) None
-least_and true p = refl
-least_and false p = least-none (λ l. false) 0 line_count (fails-any (λ l. false) 0 line_count (λ l a b. refl))
+-- the least line with p under a condition b is that with p if b holds, else none
+pub least-condition : (b : Bool) (p : ℕ → Bool) → least (λ l. b && p l) 0 line_count
+    ≡ cond b (least p 0 line_count) None
+least-condition true p = refl
+least-condition false p = least-none (λ l. false) 0 line_count (fails-any (λ l. false) 0 line_count (λ l a b. refl))
 
 -- the least line of a p that fails on all lines but WRITE*
-pub least_write : (p : ℕ → Bool) → ((l : ℕ) → (l == WRITE) ≡ false → p l ≡ false) → least p 0 line_count
+pub least-WRITE : (p : ℕ → Bool) → ((l : ℕ) → (l == WRITE) ≡ false → p l ≡ false) → least p 0 line_count
     ≡ cond (p WRITE) (Some WRITE) None
-least_write p elsewhere = by_test (p WRITE) refl
+least-WRITE p elsewhere = by_test (p WRITE) refl
   where
     unlike : (l k : ℕ) → l < k → (l == k) ≡ false
     unlike l k h = grind (arith, nat_tests)
@@ -44,9 +46,10 @@ least_write p elsewhere = by_test (p WRITE) refl
         (fails-any p 0 WRITE (λ l a b. elsewhere l (unlike l WRITE b)))
     by_test false e = least-none p 0 line_count (fails-any p 0 line_count (λ l a b. nowhere e l (l == WRITE) refl))
 
-asked : (j h c f d k : Bool) → j ≡ true → c ≡ f → (d ≡ true → h ≡ true) → (j && h && (c && d && not k))
+-- U2 on a line by equal tests, if the instant is judged and each needed line exists
+unknown-by_tests : (j h c f d k : Bool) → j ≡ true → c ≡ f → (d ≡ true → h ≡ true) → (j && h && (c && d && not k))
     ≡ (f && (d && not k))
-asked j h c f d k jt cf hd = rw (jt, cf) (by_need d h f hd)
+unknown-by_tests j h c f d k jt cf hd = rw (jt, cf) (by_need d h f hd)
   where
     by_need : (d h f : Bool) → (d ≡ true → h ≡ true) → (h && (f && d && not k)) ≡ (f && (d && not k))
     by_need true h true hd = rw (hd refl) refl
@@ -56,44 +59,51 @@ asked j h c f d k jt cf hd = rw (jt, cf) (by_need d h f hd)
     by_need false false true hd = refl
     by_need false false false hd = refl
 
-off_line : (j h e a b : Bool) → e ≡ false → (j && h && (e && a && b)) ≡ false
-off_line j h e a b x = grind (arith, nat_tests)
+-- U3 isn't broken where the line isn't WRITE*
+direction-off_line : (j h e a b : Bool) → e ≡ false → (j && h && (e && a && b)) ≡ false
+direction-off_line j h e a b x = grind (arith, nat_tests)
 
-on_line : (j a b : Bool) → j ≡ true → (j && true && (true && a && b)) ≡ (a && b)
-on_line j a b x = rw x refl
+-- U3 on WRITE*, if the instant is judged
+direction-on_line : (j a b : Bool) → j ≡ true → (j && true && (true && a && b)) ≡ (a && b)
+direction-on_line j a b x = rw x refl
 
 module _ (t : Trace) (stretch : Stretch) (reads : ReadsStrobes t stretch) (n : ℕ) (from : stretch.start ≤ n)
     (before : suc n < stretch.end) where
+  -- the levels before the step
   abbrev old : Levels
   old = levels_at t n
 
+  -- the levels after the step
   abbrev new : Levels
   new = levels_at t (suc n)
 
-  address_asked : (l : ℕ) → breaks t stretch U2 (suc n) l ≡ (falls_between old new AS && lacks new l)
+  -- U2 is broken on a line exactly if AS* falls and the line is needed and unknown
+  breaks-U2 : (l : ℕ) → breaks t stretch U2 (suc n) l ≡ (falls_between old new AS && lacks new l)
   unfolding breaks is_broken known is_needed
-  address_asked l =
-      asked (is_judged stretch (suc n)) (has_line t.opening.slots l) (cycle_starts t stretch (suc n))
+  breaks-U2 l =
+      unknown-by_tests (is_judged stretch (suc n)) (has_line t.opening.slots l) (cycle_starts t stretch (suc n))
       (falls_between old new AS) (is_within (needs_of new) l) (is_known_on new l)
       (is_judged-next t stretch reads n from before) (cycle_starts-between t stretch reads n from before)
       (λ e. bus_line_exists t.opening.slots l (omega (arith, needs_of-below new l e)))
 
   -- the least line that breaks U2 is the least unknown line that the starting cycle needs
-  pub address_least : least (breaks t stretch U2 (suc n)) 0 line_count ≡ unknown_address old new
-  address_least = least-alike (breaks t stretch U2 (suc n)) (λ l. falls_between old new AS && lacks new l) 0 line_count
-      (λ l a b. address_asked l) ∙ least_and (falls_between old new AS) (lacks new)
+  pub least-U2 : least (breaks t stretch U2 (suc n)) 0 line_count ≡ unknown_address old new
+  least-U2 = least-alike (breaks t stretch U2 (suc n)) (λ l. falls_between old new AS && lacks new l) 0 line_count
+      (λ l a b. breaks-U2 l) ∙ least-condition (falls_between old new AS) (lacks new)
 
-  direction_elsewhere : (l : ℕ) → (l == WRITE) ≡ false → breaks t stretch U3 (suc n) l ≡ false
+  -- U3 is broken on no line but WRITE*
+  breaks-U3_elsewhere : (l : ℕ) → (l == WRITE) ≡ false → breaks t stretch U3 (suc n) l ≡ false
   unfolding breaks is_broken
-  direction_elsewhere l h = off_line (is_judged stretch (suc n)) (has_line t.opening.slots l) (l == WRITE)
+  breaks-U3_elsewhere l h = direction-off_line (is_judged stretch (suc n)) (has_line t.opening.slots l) (l == WRITE)
       (transfer_starts t stretch (suc n)) (not (known t l (suc n))) h
 
-  direction_asked : breaks t stretch U3 (suc n) WRITE ≡ (starts_between old new && not (is_known_on new WRITE))
+  -- U3 is broken on WRITE* exactly if a transfer starts and WRITE* is unknown
+  breaks-U3 : breaks t stretch U3 (suc n) WRITE ≡ (starts_between old new && not (is_known_on new WRITE))
   unfolding breaks is_broken known
-  direction_asked = rw (transfer_starts-between t stretch reads n from before)
-      (on_line (is_judged stretch (suc n)) (starts_between old new) (not (is_known_on new WRITE))
+  breaks-U3 = rw (transfer_starts-between t stretch reads n from before)
+      (direction-on_line (is_judged stretch (suc n)) (starts_between old new) (not (is_known_on new WRITE))
       (is_judged-next t stretch reads n from before))
 
   -- the least line that breaks U3 is WRITE*, if it is unknown as a transfer starts
-  pub direction_least : least (breaks t stretch U3 (suc n)) 0 line_count ≡ unknown_direction old new
-  direction_least = least_write (breaks t stretch U3 (suc n)) direction_elsewhere ∙ rw direction_asked refl
+  pub least-U3 : least (breaks t stretch U3 (suc n)) 0 line_count ≡ unknown_direction old new
+  least-U3 = least-WRITE (breaks t stretch U3 (suc n)) breaks-U3_elsewhere ∙ rw breaks-U3 refl

@@ -21,7 +21,7 @@ use Rattle.vme_dtb.specs.declared.cycle.CyclePhase.{CyclePhase}
 use Rattle.vme_dtb.specs.declared.cycle.CyclePhase.TheVariants.{Free, Single, SingleRead, SingleDone, Block}
 use Rattle.vme_dtb.specs.declared.cycle.CyclePhase.TheVariants.{BlockReading}
 use Rattle.vme_dtb.specs.declared.cycle.CyclePhase.TheVariants.{BlockWriting, Interrupt, InterruptDone}
-use Rattle.vme_dtb.proofs.Searches.{greatest_more, greatest_within, those_more}
+use Rattle.vme_dtb.proofs.Searches.{greatest-next, greatest-within, those-next}
 
 module _ (t : Trace) (stretch : Stretch) where
   -- the phase of a cycle of the class with answers at these instants
@@ -91,7 +91,7 @@ module _ (t : Trace) (stretch : Stretch) where
   unfolding cycle_of
   cycle_of-next n from =
       ap (greatest (cycle_starts t stretch) (stretch.start + 1)) (add-one (suc n))
-      ∙ greatest_more (cycle_starts t stretch) (stretch.start + 1) (suc n) (omega arith)
+      ∙ greatest-next (cycle_starts t stretch) (stretch.start + 1) (suc n) (omega arith)
       ∙ ap (λ k. cond (cycle_starts t stretch (suc n)) (Some (suc n))
       (greatest (cycle_starts t stretch) (stretch.start + 1) k))
       (sym (add-one n))
@@ -99,7 +99,7 @@ module _ (t : Trace) (stretch : Stretch) where
   -- the last cycle to start up to j starts at j or before
   cycle_of-within : (j i : ℕ) → cycle_of t stretch j ≡ Some i → i ≤ j
   unfolding cycle_of
-  cycle_of-within j i h = let found = greatest_within (cycle_starts t stretch) (stretch.start + 1) (j + 1) i h in
+  cycle_of-within j i h = let found = greatest-within (cycle_starts t stretch) (stretch.start + 1) (j + 1) i h in
       omega (arith, found.1)
 
   -- the answers before j + 1 are those before j, and j if it is an answer
@@ -107,7 +107,7 @@ module _ (t : Trace) (stretch : Stretch) where
       ++ cond (is_answer t stretch j)
       (j ∷ []) []
   unfolding answers_of
-  answers_of-next i j h = those_more (is_answer t stretch) i j h
+  answers_of-next i j h = those-next (is_answer t stretch) i j h
 
   -- a cycle has no answers before its start
   answers_of-none : (i : ℕ) → answers_of t stretch i i ≡ []

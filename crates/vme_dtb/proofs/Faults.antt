@@ -12,42 +12,49 @@ use Rattle.vme_dtb.specs.CycleState.{is_read_modify_write_broken, is_direction_c
 use Rattle.vme_dtb.specs.Machine.{fault_if, cycle_fault, cycle_faults, first_of_faults, or_first}
 use Rattle.vme_dtb.specs.declared.cycle.CyclePhase.{CyclePhase}
 
--- there is no fault without a line, nor (`not_applied`) where the rule doesn't apply
-pub unnamed : (r : Rule) (applies : Bool) → fault_if r applies None ≡ None
-unnamed r true = refl
-unnamed r false = refl
+-- there is no fault without a line, nor (`fault_if-not_applied`) where the rule doesn't apply
+pub fault_if-none : (r : Rule) (applies : Bool) → fault_if r applies None ≡ None
+fault_if-none r true = refl
+fault_if-none r false = refl
 
-pub not_applied : (r : Rule) (b : Bool) (o : Option ℕ) → b ≡ false → fault_if r b o ≡ None
-not_applied r b o e = rw e refl
+pub fault_if-not_applied : (r : Rule) (b : Bool) (o : Option ℕ) → b ≡ false → fault_if r b o ≡ None
+fault_if-not_applied r b o e = rw e refl
 
 -- no fault of a list is there
 abbrev pub AreNone : List (Option Fault) → Type 0
 AreNone [] = Unit {0}
 AreNone (f ∷ fs) = (f ≡ None) × AreNone fs
 
-pub none-first : (fs : List (Option Fault)) → AreNone fs → first_of_faults fs ≡ None
-none-first [] h = refl
-none-first (f ∷ fs) h = ap (λ (o : Option Fault). or_first o fs) h.0 ∙ none-first fs h.1
+-- if no fault is there, there is no first one
+pub first_of_faults-none : (fs : List (Option Fault)) → AreNone fs → first_of_faults fs ≡ None
+first_of_faults-none [] h = refl
+first_of_faults-none (f ∷ fs) h = ap (λ (o : Option Fault). or_first o fs) h.0 ∙ first_of_faults-none fs h.1
 
 -- no rule of a cycle is broken where there is no answer
-pub unanswered : (c : CyclePhase) (w : Bool) → None ≡ cycle_fault c w None
-unanswered c w =
-    sym (none-first (cycle_faults c w None) (
-      unnamed C1 (is_read_modify_write_broken c w),
+pub cycle_fault-no_answer : (c : CyclePhase) (w : Bool) → None ≡ cycle_fault c w None
+cycle_fault-no_answer c w =
+    sym (first_of_faults-none (cycle_faults c w None) (
+      fault_if-none C1 (is_read_modify_write_broken c w),
       (
-        unnamed C2 (is_direction_changed c w),
-        (unnamed I4 (is_interrupt_acknowledge c && w), (unnamed I5 (is_answered_interrupt_acknowledge c), tt)),
+        fault_if-none C2 (is_direction_changed c w),
+        (
+          fault_if-none I4 (is_interrupt_acknowledge c && w),
+          (fault_if-none I5 (is_answered_interrupt_acknowledge c), tt),
+        ),
       ),
     ))
 
-map_or : (at : Fault → Break) (a b : Option Fault) → option_map at (option_or a b) ≡ option_or (option_map at a)
+-- the break of the first of two faults is the first of their breaks
+option_map-option_or : (at : Fault → Break) (a b : Option Fault) → option_map at (option_or a b)
+    ≡ option_or (option_map at a)
     (option_map at b)
-map_or at None b = refl
-map_or at (Some x) b = refl
+option_map-option_or at None b = refl
+option_map-option_or at (Some x) b = refl
 
-or_assoc : (a b c : Option Break) → option_or (option_or a b) c ≡ option_or a (option_or b c)
-or_assoc None b c = refl
-or_assoc (Some x) b c = refl
+-- the first of three breaks, however they are grouped
+option_or-assoc : (a b c : Option Break) → option_or (option_or a b) c ≡ option_or a (option_or b c)
+option_or-assoc None b c = refl
+option_or-assoc (Some x) b c = refl
 
 module _ (at : Fault → Break) (of : Rule → Option Break) where
   -- the first break of some rules, or else `later`
@@ -62,30 +69,32 @@ module _ (at : Fault → Break) (of : Rule → Option Break) where
   AreBreaksOf (r ∷ rs) [] = ⊥
   AreBreaksOf (r ∷ rs) (f ∷ fs) = (option_map at f ≡ of r) × AreBreaksOf rs fs
 
-  or_first-is : (rs : List Rule) (fs : List (Option Fault)) → AreBreaksOf rs fs → (earlier : Option Fault)
+  -- if each fault is the break of its rule, the first fault after `earlier` is the first break after it
+  or_first-breaks : (rs : List Rule) (fs : List (Option Fault)) → AreBreaksOf rs fs → (earlier : Option Fault)
       (later : Option Break)
       → option_or (option_map at (or_first earlier fs)) later ≡ option_or (option_map at earlier) (or_break rs later)
-  or_first-is [] [] h earlier later = refl
-  or_first-is [] (f ∷ fs) h earlier later = absurd h
-  or_first-is (r ∷ rs) [] h earlier later = absurd h
-  or_first-is (r ∷ rs) (f ∷ fs) h earlier later =
-      or_first-is rs fs h.1 (option_or earlier f) later
-      ∙ (ap (λ (o : Option Break). option_or o (or_break rs later)) (map_or at earlier f)
-      ∙ (or_assoc (option_map at earlier) (option_map at f) (or_break rs later)
+  or_first-breaks [] [] h earlier later = refl
+  or_first-breaks [] (f ∷ fs) h earlier later = absurd h
+  or_first-breaks (r ∷ rs) [] h earlier later = absurd h
+  or_first-breaks (r ∷ rs) (f ∷ fs) h earlier later =
+      or_first-breaks rs fs h.1 (option_or earlier f) later
+      ∙ (ap (λ (o : Option Break). option_or o (or_break rs later)) (option_map-option_or at earlier f)
+      ∙ (option_or-assoc (option_map at earlier) (option_map at f) (or_break rs later)
       ∙ ap (λ (o : Option Break). option_or (option_map at earlier) (option_or o (or_break rs later))) h.0))
 
-  pub first-is : (rs : List Rule) (fs : List (Option Fault)) → AreBreaksOf rs fs → (later : Option Break)
+  -- if each fault is the break of its rule, the first fault is the first break
+  pub first_of_faults-breaks : (rs : List Rule) (fs : List (Option Fault)) → AreBreaksOf rs fs → (later : Option Break)
       → option_or (option_map at (first_of_faults fs)) later ≡ or_break rs later
-  first-is rs fs h later = or_first-is rs fs h None later
+  first_of_faults-breaks rs fs h later = or_first-breaks rs fs h None later
 
   -- of two lists, the first fault of the first list, or else that of the second, is the first break of the rules of
   -- both
-  pub both-first : (rs qs : List Rule) (fs gs : List (Option Fault)) → AreBreaksOf rs fs → AreBreaksOf qs gs
+  pub first_of_faults-both : (rs qs : List Rule) (fs gs : List (Option Fault)) → AreBreaksOf rs fs → AreBreaksOf qs gs
       → option_map at (option_or (first_of_faults fs) (first_of_faults gs)) ≡ or_break rs (or_break qs None)
-  both-first rs qs fs gs h k =
-      map_or at (first_of_faults fs) (first_of_faults gs)
-      ∙ (first-is rs fs h (option_map at (first_of_faults gs))
-      ∙ ap (or_break rs) (or_none (option_map at (first_of_faults gs)) ∙ first-is qs gs k None))
+  first_of_faults-both rs qs fs gs h k =
+      option_map-option_or at (first_of_faults fs) (first_of_faults gs)
+      ∙ (first_of_faults-breaks rs fs h (option_map at (first_of_faults gs))
+      ∙ ap (or_break rs) (or_none (option_map at (first_of_faults gs)) ∙ first_of_faults-breaks qs gs k None))
     where
       or_none : (a : Option Break) → a ≡ option_or a None
       or_none None = refl

@@ -27,7 +27,7 @@ use Rattle.vme_dtb.specs.Machine.{strobe_rules}
 use Rattle.vme_dtb.specs.declared.edges.Edges.{Edges}
 use Rattle.vme_dtb.specs.declared.memory.HandshakeMemory.{HandshakeMemory}
 use Rattle.vme_dtb.proofs.Faults.{AreBreaksOf}
-use Rattle.vme_dtb.proofs.AnswerRises.{may_rise_at, held_is}
+use Rattle.vme_dtb.proofs.AnswerRises.{may_rise_at, rises-held}
 use Rattle.vme_dtb.proofs.HandshakeMeaning.{Holds}
 use Rattle.vme_dtb.proofs.OpenState.{in_transfer-answered_twice, in_transfer-is_replied, in_transfer-is_unanswered}
 use Rattle.vme_dtb.proofs.StepFacts.{old, new, answer_falls-between, first_of-answer_fall, falls-between, least-AS_rule}
@@ -200,7 +200,7 @@ module _ (t : Trace) (stretch : Stretch) (reads : ReadsStrobes t stretch) (n : �
       (and_assoc (is_answer_line l) (rises t l (suc n)) (none (strobe_rises t)
       (last_before t stretch (falls t l) (suc n))
       (suc n + 1))
-      ∙ ap (λ b. is_answer_line l && b) (held_is t stretch l n from)
+      ∙ ap (λ b. is_answer_line l && b) (rises-held t stretch l n from)
       ∙ and-true_last (is_answer_line l) (held_at l))
 
   -- an answer line rises too early exactly if it does by the edges and `was`, which says whether it may rise

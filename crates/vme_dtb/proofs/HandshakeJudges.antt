@@ -43,10 +43,10 @@ use Rattle.vme_dtb.specs.Shown.{answer_line, answered, closes, handshake_shown}
 use Rattle.vme_dtb.specs.declared.edges.Edges.{Edges}
 use Rattle.vme_dtb.specs.declared.memory.HandshakeMemory.{HandshakeMemory}
 use Rattle.vme_dtb.proofs.CycleBreaks.{cycle_starts-between, cycle_faults-are-breaks, answers_write-is_writing}
-use Rattle.vme_dtb.proofs.Faults.{both-first}
+use Rattle.vme_dtb.proofs.Faults.{first_of_faults-both}
 use Rattle.vme_dtb.proofs.HandshakeBreaks.{is_answer-unanswered, handshake_faults-are-breaks}
 use Rattle.vme_dtb.proofs.HandshakeMeaning.{Holds}
-use Rattle.vme_dtb.proofs.HandshakeInstants.{holds_at, memory_at}
+use Rattle.vme_dtb.proofs.HandshakeInstants.{Holds-at, memory_at}
 use Rattle.vme_dtb.proofs.OpenState.{in_transfer-is_within}
 use Rattle.vme_dtb.proofs.StepFacts.{old, new, first_of-answer_fall, is_judged-next, rises-between}
 use Rattle.vme_dtb.proofs.StepFacts.{transfer_starts-between}
@@ -91,7 +91,8 @@ module _ (t : Trace) (stretch : Stretch) (facts : IsStretch t stretch) (n : ℕ)
       ≡ break_at t stretch handshake_rules (suc n)
   unfolding break_at
   break_at-fault_in =
-      both-first (break_of_fault (suc n) (time_at t (suc n))) (rule_break t stretch (suc n)) strobe_rules cycle_rules
+      first_of_faults-both (break_of_fault (suc n) (time_at t (suc n)))
+      (rule_break t stretch (suc n)) strobe_rules cycle_rules
       (strobe_faults m within seen) (cycle_faults here (is_writing within) (answer_in within seen))
       (handshake_faults-are-breaks t stretch facts.reads n from before m holds)
       (cycle_faults-are-breaks t stretch facts.reads n from before m holds)
@@ -227,7 +228,7 @@ pub dtb_first_break : FindsLeast
 dtb_first_break =
     FindsLeast-inside dtb_begin dtb_start_marks dtb_observation dtb_step handshake_rules refl
     (λ t stretch ok few facts n from before within unbroken. dtb_inside t stretch facts n from before
-    (memory_at t stretch facts n) (holds_at t stretch facts n from (omega (arith, before))))
+    (memory_at t stretch facts n) (Holds-at t stretch facts n from (omega (arith, before))))
 
 -- the machine of the handshake shows the cycles and transfers of a recording
 pub dtb_marks : ShowsAll
@@ -238,5 +239,5 @@ dtb_marks =
     (λ t stretch ok few facts. record {
       at_start = handshake_shown-start t stretch;
       inside = λ n from before within. dtb_kinds t stretch facts n from before (memory_at t stretch facts n)
-          (holds_at t stretch facts n from (omega (arith, before)));
+          (Holds-at t stretch facts n from (omega (arith, before)));
     })

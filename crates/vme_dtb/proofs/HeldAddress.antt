@@ -31,7 +31,7 @@ use Rattle.vme_dtb.specs.StabilityRules.{address_moved, moved_fault, observation
 use Rattle.vme_dtb.specs.declared.holding.Holding.{Holding}
 use Rattle.vme_dtb.proofs.ChangedLines.{is_changed-edge, first_among-least, same_level-refl}
 use Rattle.vme_dtb.proofs.Needed.{needs_of-below, needs_of-same}
-use Rattle.vme_dtb.proofs.Lasting.{any-and, none_shorter}
+use Rattle.vme_dtb.proofs.Lasting.{any-and, none-shorter}
 use Rattle.vme_dtb.proofs.StabilityMeaning.{Holds, holds_address, keeps_address-any}
 
 -- if the first of two options is none, both are
@@ -187,14 +187,14 @@ module _ (t : Trace) (stretch : Stretch) where
     -- the cycle runs at each instant up to n
     cycle_runs-to : (k : ℕ) → k ≤ n → cycle_runs t stretch i k ≡ true
     unfolding cycle_runs
-    cycle_runs-to k h = none_shorter (rises t AS) (i + 1) (k + 1) (n + 1) (omega arith) runs
+    cycle_runs-to k h = none-shorter (rises t AS) (i + 1) (k + 1) (n + 1) (omega arith) runs
 
     -- the cycle holds its lines at each instant up to n
     holds_address-to : (k : ℕ) → k ≤ n → holds_address t stretch k i ≡ true
     holds_address-to k h = rw (
       starts,
       cycle_runs-to k h,
-      none_shorter (is_answer t stretch) i (k + 1) (n + 1) (omega arith)
+      none-shorter (is_answer t stretch) i (k + 1) (n + 1) (omega arith)
           unanswered,
     )
         refl
@@ -288,7 +288,7 @@ module _ (t : Trace) (stretch : Stretch) where
     -- a cycle that runs at n + 1 runs at n; likewise (`holds_address-before`) held lines
     cycle_runs-before : (i : ℕ) → cycle_runs t stretch i (suc n) ≡ true → cycle_runs t stretch i n ≡ true
     unfolding cycle_runs
-    cycle_runs-before i h = none_shorter (rises t AS) (i + 1) (n + 1) (suc n + 1) (omega arith) h
+    cycle_runs-before i h = none-shorter (rises t AS) (i + 1) (n + 1) (suc n + 1) (omega arith) h
 
     -- held lines of a cycle that started up to n were held at n
     holds_address-before : (i : ℕ) → i ≤ n → holds_address t stretch (suc n) i ≡ true → holds_address t stretch n i
@@ -300,7 +300,7 @@ module _ (t : Trace) (stretch : Stretch) where
         rw (
           one.0,
           cycle_runs-before i one.1,
-          none_shorter (is_answer t stretch) i (n + 1) (suc n + 1)
+          none-shorter (is_answer t stretch) i (n + 1) (suc n + 1)
               (omega arith) two.1,
         )
         refl

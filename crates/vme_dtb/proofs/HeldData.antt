@@ -34,12 +34,12 @@ use Rattle.vme_dtb.specs.HoldingNumbers.{has_risen, writes_of}
 use Rattle.vme_dtb.specs.StabilityRules.{is_shifted, is_undriven, keeps_data, kept, may_write, shifted_fault}
 use Rattle.vme_dtb.specs.StabilityRules.{observation_of, stability_rules, undriven_fault, writes_now}
 use Rattle.vme_dtb.specs.declared.holding.Holding.{Holding}
-use Rattle.vme_dtb.proofs.AskedLines.{least_and}
+use Rattle.vme_dtb.proofs.AskedLines.{least-condition}
 use Rattle.vme_dtb.proofs.ChangedLines.{first_among-least, same_level-refl}
 use Rattle.vme_dtb.proofs.StabilityMeaning.{Holds, falls-between, strobes_high_in-is_closed, is_judged-next}
 use Rattle.vme_dtb.proofs.StabilityMeaning.{strobe_rises-between, transfer_starts-between}
-use Rattle.vme_dtb.proofs.Lasting.{none_more}
-use Rattle.vme_dtb.proofs.Progressing.{held_data, is_closed, kept_is, writes_entered}
+use Rattle.vme_dtb.proofs.Lasting.{none-next}
+use Rattle.vme_dtb.proofs.Progressing.{keeps_data-by_state, is_closed, kept-cond, is_writing-entered}
 
 -- lines that a transfer moves are from 159 on, the first data line
 data_line-from : (a b c d e : Bool) (l : ℕ)
@@ -207,7 +207,7 @@ module _ (t : Trace) (stretch : Stretch) (reads : ReadsStrobes t stretch) (n : �
   -- n + 1 is in a write without an answer before it exactly if the memory and the levels say so
   in_transfer-writes_now : in_transfer t stretch is_asked (suc n) ≡ writes_now m old new
   in_transfer-writes_now = in_transfer-asked (entered holds.state old new) Enters-now
-      ∙ writes_entered holds.state (strobes_high_in old)
+      ∙ is_writing-entered holds.state (strobes_high_in old)
       (strobe_low_in new) (is_low (level_at new WRITE)) (writes_of m.transfer (is_low (level_at old WRITE)))
       strobes_high_in-state
       writes_of-direction
@@ -235,7 +235,7 @@ module _ (t : Trace) (stretch : Stretch) (reads : ReadsStrobes t stretch) (n : �
   least-U4 cs =
       least-alike (breaks t stretch U4 (suc n)) (λ l. (strobe_falls_between old new && writes_now m old new)
       && is_undriven new l) 0 line_count (λ l a b. breaks-U4 l)
-      ∙ (least_and (strobe_falls_between old new && writes_now m old new) (is_undriven new)
+      ∙ (least-condition (strobe_falls_between old new && writes_now m old new) (is_undriven new)
       ∙ kept-may_write (strobe_falls_between old new) (writes_now m old new) (may_write old new)
       (least (is_undriven new) 0 line_count)
       (may_write-of_write (strobes_high_in old) (strobe_low_in new) (is_low (level_at new WRITE))
@@ -309,7 +309,7 @@ module _ (t : Trace) (stretch : Stretch) (reads : ReadsStrobes t stretch) (n : �
       (i + 1) (suc n + 1) ≡ (not (has_risen m.transfer) && not (strobe_rises_between old new))
   none_rises-next i w a o low =
       let earlier = started_before i w a o low in
-      none_more (strobe_rises t) (i + 1) n (omega arith)
+      none-next (strobe_rises t) (i + 1) n (omega arith)
       ∙ rw (
         holds.fresh i earlier o.starts (λ r x y. o.still r x (omega arith)),
         strobe_rises-between t stretch reads n from
@@ -356,7 +356,7 @@ module _ (t : Trace) (stretch : Stretch) (reads : ReadsStrobes t stretch) (n : �
       by_strobes true e = in_transfer-held_from_high (entered holds.state old new) Enters-now e ∙ rw e refl
       by_strobes false e =
           in_transfer-held_from_low holds.state (rw e at Enters-now) (sym strobes_high_in-state ∙ e) e
-          ∙ rw (← writes_of-direction e, e) (held_data m.transfer (answer_between old new)
+          ∙ rw (← writes_of-direction e, e) (keeps_data-by_state m.transfer (answer_between old new)
           (strobe_rises_between old new)
           (is_low (level_at old WRITE)))
 
@@ -397,7 +397,7 @@ module _ (t : Trace) (stretch : Stretch) (reads : ReadsStrobes t stretch) (n : �
   pub least-S3 : (cs : List Change) → new ≡ changed old cs → are_changes old 0 cs ≡ true
       → least (breaks t stretch S3 (suc n)) 0 line_count ≡ shifted_fault m old new (observation_of old new cs)
   least-S3 cs stepped fit = by_tests (keeps_data m old new) (is_low (level_at old WRITE)) refl refl
-      ∙ sym (kept_is (keeps_data m old new) _)
+      ∙ sym (kept-cond (keeps_data m old new) _)
     where
       unchanged : (l : ℕ) → is_changed cs l ≡ false → breaks t stretch S3 (suc n) l ≡ false
       unchanged l h = breaks-S3 l ∙ rw (stepped, level-kept old cs l h, same_level-refl (level_at old l))

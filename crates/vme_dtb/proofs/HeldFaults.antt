@@ -11,27 +11,34 @@ use Rattle.vme_dtb.specs.StabilityRules.{turned_fault}
 use Rattle.vme_dtb.specs.declared.holding.Holding.{Holding}
 use Rattle.vme_dtb.specs.declared.observation.HoldingObservation.{HoldingObservation}
 
-none_or_none : (b : Bool) (o : Option ℕ) → is_some o ≡ false → (if b then o else None) ≡ None
-none_or_none true None h = refl
-none_or_none false None h = refl
-none_or_none b (Some l) h = absurd (cc)
+-- an option without a value is none under each test
+cond-none : (b : Bool) (o : Option ℕ) → is_some o ≡ false → (if b then o else None) ≡ None
+cond-none true None h = refl
+cond-none false None h = refl
+cond-none b (Some l) h = absurd (cc)
 
 module _ (m : Holding) (v w : Levels) (seen : HoldingObservation) where
-  pub no_line_moved : is_some seen.moved ≡ false → moved_fault m v w seen ≡ None
-  no_line_moved h = none_or_none (keeps_address m v w) seen.moved h
+  -- if no needed line moved, S1 isn't broken
+  pub moved_fault-no_line : is_some seen.moved ≡ false → moved_fault m v w seen ≡ None
+  moved_fault-no_line h = cond-none (keeps_address m v w) seen.moved h
 
-  pub unkept : keeps_address m v w ≡ false → moved_fault m v w seen ≡ None
-  unkept h = rw h refl
+  -- if the needed lines aren't held, S1 isn't broken
+  pub moved_fault-not_kept : keeps_address m v w ≡ false → moved_fault m v w seen ≡ None
+  moved_fault-not_kept h = rw h refl
 
-  pub turned : keeps_direction m v w ≡ true → seen.turned ≡ true → turned_fault m v w seen ≡ Some WRITE
-  turned k h = rw (k, h) refl
+  -- if the direction is held, and WRITE* turned, S2 is broken on WRITE*
+  pub turned_fault-turned : keeps_direction m v w ≡ true → seen.turned ≡ true → turned_fault m v w seen ≡ Some WRITE
+  turned_fault-turned k h = rw (k, h) refl
 
-  pub unturned : seen.turned ≡ false → turned_fault m v w seen ≡ None
-  unturned h = rw (h, and-false (keeps_direction m v w)) refl
+  -- if WRITE* didn't turn, S2 isn't broken
+  pub turned_fault-not_turned : seen.turned ≡ false → turned_fault m v w seen ≡ None
+  turned_fault-not_turned h = rw (h, and-false (keeps_direction m v w)) refl
 
-  pub undirected : keeps_direction m v w ≡ false → turned_fault m v w seen ≡ None
-  undirected h = rw h refl
+  -- if the direction isn't held, S2 isn't broken
+  pub turned_fault-not_kept : keeps_direction m v w ≡ false → turned_fault m v w seen ≡ None
+  turned_fault-not_kept h = rw h refl
 
   -- if no needed line breaks S1, the fault is that of S2
-  pub held-direction : moved_fault m v w seen ≡ None → held_fault m v w seen ≡ fault_on S2 (turned_fault m v w seen)
-  held-direction e = ap (λ (o : Option ℕ). option_or (fault_on S1 o) (fault_on S2 (turned_fault m v w seen))) e
+  pub held_fault-direction : moved_fault m v w seen ≡ None → held_fault m v w seen
+      ≡ fault_on S2 (turned_fault m v w seen)
+  held_fault-direction e = ap (λ (o : Option ℕ). option_or (fault_on S1 o) (fault_on S2 (turned_fault m v w seen))) e

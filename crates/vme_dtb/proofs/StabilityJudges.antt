@@ -31,12 +31,12 @@ use Rattle.vme_dtb.specs.StabilityRules.{stability_next, stability_start_marks, 
 use Rattle.vme_dtb.specs.StabilityRules.{stability_observation, turned_fault, unknown_address, unknown_direction}
 use Rattle.vme_dtb.specs.declared.holding.Holding.{Holding}
 use Rattle.vme_dtb.specs.declared.observation.HoldingObservation.{HoldingObservation}
-use Rattle.vme_dtb.proofs.AskedLines.{address_least, direction_least}
+use Rattle.vme_dtb.proofs.AskedLines.{least-U2, least-U3}
 use Rattle.vme_dtb.proofs.HeldAddress.{rule_break-S2_none, break_before-none_parts, least-S1, least-S2_none}
 use Rattle.vme_dtb.proofs.HeldData.{least-S3, least-U4}
-use Rattle.vme_dtb.proofs.HeldDirection.{turned_least}
+use Rattle.vme_dtb.proofs.HeldDirection.{least-S2}
 use Rattle.vme_dtb.proofs.StabilityMeaning.{Holds, Holds-next, Holds-start}
-use Rattle.vme_dtb.proofs.Unobserved.{quiet_there}
+use Rattle.vme_dtb.proofs.Unobserved.{stability_next-unobserved}
 
 -- the step of the machine of stability
 abbrev step : Holding → Levels → Levels → List Change → Next Holding
@@ -84,7 +84,7 @@ module _ (t : Trace) (stretch : Stretch) (ok : malformed_step t ≡ None) (facts
             → option_map_or (stability_next m (levels_at t n) (levels_at t (suc n)))
             (cond b (Some (observation_of (levels_at t n) (levels_at t (suc n)) (changes_at n))) None) (quiet m) ≡ full
         by_test true e = refl
-        by_test false e = sym (quiet_there t stretch facts n from before m (changes_at n) holds e)
+        by_test false e = sym (stability_next-unobserved t stretch facts n from before m (changes_at n) holds e)
 
     -- the fault of that step is the first broken rule at n + 1, if no rule is broken before
     break_at-full_fault : break_before t stretch stability_rules (suc n) ≡ None
@@ -93,12 +93,12 @@ module _ (t : Trace) (stretch : Stretch) (ok : malformed_step t ≡ None) (facts
     unfolding break_at rule_break
     break_at-full_fault unbroken =
         rw (
-          address_least t stretch facts.reads n from before,
-          direction_least t stretch facts.reads n from before,
+          least-U2 t stretch facts.reads n from before,
+          least-U3 t stretch facts.reads n from before,
           least-U4 t stretch facts.reads n from before m holds unbroken (changes_at n),
           least-S1 t stretch facts n from before unbroken (changes_at n) (levels_at-step t n within)
               (are_changes-step t n ok within) m holds,
-          turned_least t stretch facts.reads n from before m holds (changes_at n),
+          least-S2 t stretch facts.reads n from before m holds (changes_at n),
           least-S3 t stretch facts.reads n from before m holds unbroken (changes_at n) (levels_at-step t n within)
               (are_changes-step t n ok within),
         )
@@ -148,7 +148,7 @@ module _ (t : Trace) (stretch : Stretch) (ok : malformed_step t ≡ None) (facts
       (direction_turned (levels_at t n) (levels_at t (suc n))) keeps
       (least-S2_none t stretch (suc n) (turned_fault m (levels_at t n) (levels_at t (suc n))
       (observation_of (levels_at t n) (levels_at t (suc n)) []))
-      (turned_least t stretch facts.reads n from before m holds [])
+      (least-S2 t stretch facts.reads n from before m holds [])
       (rule_break-S2_none t stretch (suc n) (break_before-none_parts t stretch (suc n) unbroken).1)))
 
   -- AS*, DS0* and DS1* are control lines

@@ -30,9 +30,10 @@ use Rattle.vme_dtb.specs.StabilityRules.{answers_in, awaits_answer, holds_direct
 use Rattle.vme_dtb.specs.StabilityRules.{keeps_address, keeps_direction, stability_begin, stability_rules, stepped}
 use Rattle.vme_dtb.specs.declared.holding.Holding.{Holding}
 use Rattle.vme_dtb.specs.HoldingNumbers.{has_risen, was_answered, writes_of}
-use Rattle.vme_dtb.proofs.Progressing.{directed_by, fresh_here, fresh_more, is_answered_state, is_closed}
-use Rattle.vme_dtb.proofs.Progressing.{risen_passed, was_passed}
-use Rattle.vme_dtb.proofs.Lasting.{none_more, none_empty, none_one, lasts_on}
+use Rattle.vme_dtb.proofs.Progressing.{writes_of-by_strobes, not_risen-start, not_risen-next, is_answered_state}
+use Rattle.vme_dtb.proofs.Progressing.{is_closed}
+use Rattle.vme_dtb.proofs.Progressing.{has_risen-passed, was_answered-passed}
+use Rattle.vme_dtb.proofs.Lasting.{none-next, none-empty, none-one, any-kept}
 
 -- whether the transfer that the step enters, or that was open, has had no answer
 is_unanswered-entered : (p : TransferPhase) (h l w : Bool) → h ≡ is_closed p
@@ -228,17 +229,17 @@ module _ (t : Trace) (stretch : Stretch) where
     cycle_runs-next : (i : ℕ) → i ≤ n → cycle_runs t stretch i (suc n)
         ≡ (cycle_runs t stretch i n && not (rises t AS (suc n)))
     unfolding cycle_runs
-    cycle_runs-next i h = none_more (rises t AS) (i + 1) n (omega arith)
+    cycle_runs-next i h = none-next (rises t AS) (i + 1) n (omega arith)
 
     -- a cycle runs at its start
     cycle_runs-start : cycle_runs t stretch (suc n) (suc n) ≡ true
     unfolding cycle_runs
-    cycle_runs-start = none_empty (rises t AS) (suc n + 1)
+    cycle_runs-start = none-empty (rises t AS) (suc n + 1)
 
     -- the lines of a cycle are held at n + 1 if they were at n, AS* doesn't rise, and no answer comes
     pub holds_address-next : (i : ℕ) → stretch.start + 1 ≤ i → i ≤ n → holds_address (suc n) i
         ≡ (holds_address n i && (not (rises t AS (suc n)) && not (is_answer t stretch (suc n))))
-    holds_address-next i a b = rw (cycle_runs-next i b, none_more (is_answer t stretch) i n (omega arith))
+    holds_address-next i a b = rw (cycle_runs-next i b, none-next (is_answer t stretch) i n (omega arith))
         (regroup (cycle_starts t stretch i) (cycle_runs t stretch i n) (not (rises t AS (suc n)))
         (none (is_answer t stretch) i (n + 1)) (not (is_answer t stretch (suc n))))
       where
@@ -252,7 +253,7 @@ module _ (t : Trace) (stretch : Stretch) where
     -- a cycle that starts at n + 1 holds its lines there unless it is answered there
     holds_address-start : holds_address (suc n) (suc n)
         ≡ (falls_between old new AS && not (is_answer t stretch (suc n)))
-    holds_address-start = rw (cycle_starts-between, cycle_runs-start, none_one (is_answer t stretch) (suc n))
+    holds_address-start = rw (cycle_starts-between, cycle_runs-start, none-one (is_answer t stretch) (suc n))
         (no_test (falls_between old new AS) (not (is_answer t stretch (suc n))))
       where
         no_test : (a b : Bool) → (a && true && b) ≡ (a && b)
@@ -263,12 +264,12 @@ module _ (t : Trace) (stretch : Stretch) where
     -- rises
     pub holds_direction-next : (i : ℕ) → stretch.start + 1 ≤ i → i ≤ n → holds_direction (suc n) i
         ≡ (holds_direction n i && not (strobe_rises t (suc n)))
-    holds_direction-next i a b = rw (none_more (strobe_rises t) (i + 1) n (omega arith)) (sym (and_assoc
+    holds_direction-next i a b = rw (none-next (strobe_rises t) (i + 1) n (omega arith)) (sym (and_assoc
         (transfer_starts t stretch i) (none (strobe_rises t) (i + 1) (n + 1)) (not (strobe_rises t (suc n)))))
 
     -- the transfer that starts at n + 1 has had no rising strobe
     holds_direction-start : holds_direction (suc n) (suc n) ≡ starts_between old new
-    holds_direction-start = rw (transfer_starts-between, none_empty (strobe_rises t) (suc n + 1))
+    holds_direction-start = rw (transfer_starts-between, none-empty (strobe_rises t) (suc n + 1))
         (and-true (starts_between old new))
 
     -- whether the lines that a cycle needs are still held at n + 1
@@ -276,7 +277,7 @@ module _ (t : Trace) (stretch : Stretch) where
         (stretch.start + 1) (suc n)
     keeps_address-any m h =
         and_assoc (awaits_answer m old) (not (rises_between old new AS)) (not (answers_in m old new))
-        ∙ sym (lasts_on (holds_address n) (holds_address (suc n)) (not (rises t AS (suc n))
+        ∙ sym (any-kept (holds_address n) (holds_address (suc n)) (not (rises t AS (suc n))
         && not (is_answer t stretch (suc n))) (stretch.start + 1) n (omega arith) holds_address-next
         ∙ rw (rises-between AS, is_answer-answers_in m h, ← h.address) refl)
 
@@ -284,7 +285,7 @@ module _ (t : Trace) (stretch : Stretch) where
     pub keeps_direction-any : (m : Holding) → Holds n m → keeps_direction m old new ≡ any (holds_direction (suc n))
         (stretch.start + 1) (suc n)
     keeps_direction-any m h =
-        sym (lasts_on (holds_direction n) (holds_direction (suc n)) (not (strobe_rises t (suc n))) (stretch.start + 1) n
+        sym (any-kept (holds_direction n) (holds_direction (suc n)) (not (strobe_rises t (suc n))) (stretch.start + 1) n
         (omega arith) holds_direction-next ∙ rw (strobe_rises-between, ← h.direction) refl)
 
     -- the lines of some cycle are held at n + 1 exactly if they are still held, or a cycle starts there without an
@@ -350,15 +351,15 @@ module _ (t : Trace) (stretch : Stretch) where
         elim (last_or_before i a) [
           | inl e ↦
               rw e
-              (none_empty (strobe_rises t) (suc n + 1)
-              ∙ fresh_here (strobes_high_in new) (has_risen m.transfer) (strobe_rises_between old new)
+              (none-empty (strobe_rises t) (suc n + 1)
+              ∙ not_risen-start (strobes_high_in new) (has_risen m.transfer) (strobe_rises_between old new)
               (h.closed (strobes_high_in-start (rw e at s)))
               (rises-none_of_high (level_at old DS0) (level_at old DS1) (level_at new DS0) (level_at new DS1)
               (strobes_high_in-start (rw e at s))))
           | inr b ↦
-              none_more (strobe_rises t) (i + 1) n (omega arith)
+              none-next (strobe_rises t) (i + 1) n (omega arith)
               ∙ rw (h.fresh i b s (λ r x y. low r x (omega arith)), strobe_rises-between)
-              (fresh_more (strobes_high_in new) (has_risen m.transfer) (strobe_rises_between old new)
+              (not_risen-next (strobes_high_in new) (has_risen m.transfer) (strobe_rises_between old new)
               (low (suc n) a (omega arith)))
         ]
 
@@ -380,12 +381,12 @@ module _ (t : Trace) (stretch : Stretch) where
           transfer = is_answered_state-next h.state (strobes_high_in old) (strobe_low_in new)
               (is_low (level_at new WRITE))
               (strobes_high_in new) (answer_between old new) (strobes_high_in-is_closed h.state h.says) low_new
-              ∙ rw h.transfer (sym (was_passed (answered_now m) (risen_now m) (writing_now m)));
-          closed = λ highs. risen_passed (answered_now m) (risen_now m) (writing_now m) ∙ rw highs refl;
+              ∙ rw h.transfer (sym (was_answered-passed (answered_now m) (risen_now m) (writing_now m)));
+          closed = λ highs. has_risen-passed (answered_now m) (risen_now m) (writing_now m) ∙ rw highs refl;
           fresh = λ i a s low. none_rises-fresh m h i a s low
-              ∙ ap not (sym (risen_passed (answered_now m) (risen_now m) (writing_now m)));
+              ∙ ap not (sym (has_risen-passed (answered_now m) (risen_now m) (writing_now m)));
           directed = λ unbroken low.
-              directed_by h.state m.transfer (strobes_high_in old) (strobe_low_in new) (strobes_high_in new)
+              writes_of-by_strobes h.state m.transfer (strobes_high_in old) (strobe_low_in new) (strobes_high_in new)
               (answer_between old new) (strobe_rises_between old new)
               (is_low (level_at old WRITE)) (is_low (level_at new WRITE))
               (strobes_high_in-is_closed h.state h.says) low_new low
@@ -396,7 +397,7 @@ module _ (t : Trace) (stretch : Stretch) where
           address = awaits_answer-by_levels (level_at old AS) (level_at new AS) m.cycle_answered (answers_in m old new)
               (known_old AS (omega arith)) (known_new AS (omega arith)) h.idle ∙ holds_address-any_next m h;
           direction =
-              rw (risen_passed (answered_now m) (risen_now m) (writing_now m))
+              rw (has_risen-passed (answered_now m) (risen_now m) (writing_now m))
               (direction-next_by_strobes (strobes_high_in old) (strobes_high_in new) (strobe_low_in new)
               (strobe_rises_between old new) (has_risen m.transfer) h.closed
               (rises-none_of_high (level_at old DS0) (level_at old DS1) (level_at new DS0) (level_at new DS1)) low_new

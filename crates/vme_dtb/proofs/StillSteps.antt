@@ -33,7 +33,7 @@ use Rattle.vme_dtb.specs.Machine.{strobe_faults}
 use Rattle.vme_dtb.specs.declared.cycle.CyclePhase.{CyclePhase}
 use Rattle.vme_dtb.specs.declared.edges.Edges.{Edges}
 use Rattle.vme_dtb.specs.declared.memory.HandshakeMemory.{HandshakeMemory}
-use Rattle.vme_dtb.proofs.Faults.{none-first, not_applied, unanswered, unnamed}
+use Rattle.vme_dtb.proofs.Faults.{first_of_faults-none, fault_if-not_applied, cycle_fault-no_answer, fault_if-none}
 use Rattle.vme_dtb.proofs.HandshakeMeaning.{Holds}
 use Rattle.vme_dtb.proofs.StepFacts.{old, new}
 
@@ -288,21 +288,21 @@ module _ (t : Trace) (stretch : Stretch) (n : ℕ) (m : HandshakeMemory) (holds 
       holds.berr))
       (option_or-none (handshake_fault m e (absent_edges u))
       (cycle_fault m.cycle (is_writing e) (answer_in e (absent_edges u)))
-      (none-first (strobe_faults m e (absent_edges u)) (
+      (first_of_faults-none (strobe_faults m e (absent_edges u)) (
         refl,
         (
-          unnamed H2 (is_left_unanswered m.transfer (absent_edges u)),
+          fault_if-none H2 (is_left_unanswered m.transfer (absent_edges u)),
           (
-            unnamed H3 (is_replied m.transfer),
+            fault_if-none H3 (is_replied m.transfer),
             (
-              unnamed H4 (not (is_within e)),
+              fault_if-none H4 (not (is_within e)),
               (
-                unnamed H5 (is_doubled e (absent_edges u)),
+                fault_if-none H5 (is_doubled e (absent_edges u)),
                 (
                   refl,
                   (
-                    not_applied H7 _ (Some AS) (and-false (is_left_unanswered m.transfer (absent_edges u))),
-                    (ap (fault_if H8 u) none ∙ unnamed H8 u, tt),
+                    fault_if-not_applied H7 _ (Some AS) (and-false (is_left_unanswered m.transfer (absent_edges u))),
+                    (ap (fault_if H8 u) none ∙ fault_if-none H8 u, tt),
                   ),
                 ),
               ),
@@ -310,7 +310,7 @@ module _ (t : Trace) (stretch : Stretch) (n : ℕ) (m : HandshakeMemory) (holds 
           ),
         ),
       ))
-      (ap (cycle_fault m.cycle (is_writing e)) none ∙ sym (unanswered m.cycle (is_writing e))))
+      (ap (cycle_fault m.cycle (is_writing e)) none ∙ sym (cycle_fault-no_answer m.cycle (is_writing e))))
       no_mark
 
   -- the machine's step is `dtb_next`, also where nothing is observed

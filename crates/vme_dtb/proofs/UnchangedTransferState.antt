@@ -4,10 +4,11 @@ use Rattle.vme_dtb.specs.HoldingNumbers.{has_risen, passed, was_answered, writes
 use Rattle.vme_dtb.specs.declared.holding.TransferState.{TransferState}
 use Rattle.vme_dtb.specs.declared.holding.TransferState.TheVariants.{Fresh, RisenInRead, RisenInWrite, Answered, Over}
 
-pub passed_same : (m : TransferState) (low : Bool) → passed (was_answered m || false) (has_risen m || false)
+-- a state to which nothing is added is the state
+pub passed-unchanged : (m : TransferState) (low : Bool) → passed (was_answered m || false) (has_risen m || false)
     (writes_of m low) ≡ m
-passed_same Fresh low = refl
-passed_same RisenInRead low = refl
-passed_same RisenInWrite low = refl
-passed_same Answered low = refl
-passed_same Over low = refl
+passed-unchanged Fresh low = refl
+passed-unchanged RisenInRead low = refl
+passed-unchanged RisenInWrite low = refl
+passed-unchanged Answered low = refl
+passed-unchanged Over low = refl

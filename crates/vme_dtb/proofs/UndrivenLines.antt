@@ -11,62 +11,76 @@ use Rattle.vme_trace.proofs.Counting.{least-outside}
 use Rattle.vme_trace.proofs.Ranges.{any-fails, any-step, fails-any, least-is, least-none}
 use Rattle.vme_dtb.specs.StabilityRules.{is_undriven}
 use Rattle.vme_dtb.proofs.HeldData.{is_selected-from, is_selected-to}
-use Rattle.vme_dtb.proofs.UnknownNeeds.{unknown_one}
+use Rattle.vme_dtb.proofs.UnknownNeeds.{and-not_parts}
 
-first_false : (a b : Bool) → (a ≡ true → ⊥) → (a && b) ≡ false
-first_false true b h = absurd (h refl)
-first_false false b h = refl
+-- if a can't be true, a and b is false
+and-false_first : (a b : Bool) → (a ≡ true → ⊥) → (a && b) ≡ false
+and-false_first true b h = absurd (h refl)
+and-false_first false b h = refl
 
 module _ (v : Levels) where
-  outside : (l : ℕ) → l < 159 → is_undriven v l ≡ false
-  outside l h = first_false (is_selected v l) (not (is_known_on v l)) (λ e. apart l h (is_selected-from v l e))
+  -- no line before the data lines is undriven
+  is_undriven-before_data : (l : ℕ) → l < 159 → is_undriven v l ≡ false
+  is_undriven-before_data l h = and-false_first (is_selected v l) (not (is_known_on v l))
+      (λ e. apart l h (is_selected-from v l e))
     where
       apart : (l : ℕ) → l < 159 → 159 ≤ l → ⊥
       apart l h k = omega arith
 
-  pub undriven_first : any (is_undriven v) 0 159 ≡ false
-  undriven_first = fails-any (is_undriven v) 0 159 (λ l a b. outside l b)
+  -- a search of the lines before the data lines finds none that is undriven
+  pub is_undriven-none_before_data : any (is_undriven v) 0 159 ≡ false
+  is_undriven-none_before_data = fails-any (is_undriven v) 0 159 (λ l a b. is_undriven-before_data l b)
 
-  beyond : (l : ℕ) → 191 ≤ l → is_undriven v l ≡ false
-  beyond l h = first_false (is_selected v l) (not (is_known_on v l)) (λ e. apart l h (is_selected-to v l e))
+  -- no line after the data lines is undriven
+  is_undriven-after_data : (l : ℕ) → 191 ≤ l → is_undriven v l ≡ false
+  is_undriven-after_data l h = and-false_first (is_selected v l) (not (is_known_on v l))
+      (λ e. apart l h (is_selected-to v l e))
     where
       apart : (l : ℕ) → 191 ≤ l → l < 191 → ⊥
       apart l h k = omega arith
 
   -- if no line below n is undriven, and n is past the last data line, none is
-  pub undriven_none : (n : ℕ) → 191 ≤ n → any (is_undriven v) 0 n ≡ false → least (is_undriven v) 0 line_count ≡ None
-  undriven_none n past h =
+  pub is_undriven-none : (n : ℕ) → 191 ≤ n → any (is_undriven v) 0 n ≡ false → least (is_undriven v) 0 line_count ≡ None
+  is_undriven-none n past h =
       least-none (is_undriven v) 0 line_count (fails-any (is_undriven v) 0 line_count
       (λ l a b. by_place l (cases_lt l n)))
     where
       by_place : (l : ℕ) → (l < n) ⊎ (n ≤ l) → is_undriven v l ≡ false
       by_place l (inl below) = any-fails (is_undriven v) 0 n l h (omega arith) below
-      by_place l (inr from) = beyond l (omega arith)
+      by_place l (inr from) = is_undriven-after_data l (omega arith)
 
   -- if each data line is known, none is undriven
-  pub undriven_known : every (is_known_on v) 159 191 ≡ true → least (is_undriven v) 0 line_count ≡ None
-  undriven_known h =
+  pub is_undriven-none_if_known : every (is_known_on v) 159 191 ≡ true → least (is_undriven v) 0 line_count ≡ None
+  is_undriven-none_if_known h =
       least-outside (is_known_on v) (is_undriven v) 159 191 line_count h
-      (λ l below e. let of = unknown_one (is_selected v l) (is_known_on v l) e in
+      (λ l below e. let of = and-not_parts (is_selected v l) (is_known_on v l) e in
       (is_selected-from v l of.0, is_selected-to v l of.0, of.1))
 
-  pub undriven_here : (n : ℕ) → n < 191 → any (is_undriven v) 0 n ≡ false → is_undriven v n ≡ true
+  -- if no line below n is undriven, and n is, n is the least
+  pub is_undriven-least : (n : ℕ) → n < 191 → any (is_undriven v) 0 n ≡ false → is_undriven v n ≡ true
       → least (is_undriven v) 0 line_count ≡ Some n
-  undriven_here n below h e = least-is (is_undriven v) 0 line_count n (omega arith) (omega arith) e h
+  is_undriven-least n below h e = least-is (is_undriven v) 0 line_count n (omega arith) (omega arith) e h
 
-  pub undriven_more : (n : ℕ) → any (is_undriven v) 0 n ≡ false → is_undriven v n ≡ false → any (is_undriven v) 0
+  -- if no line below n is undriven, nor is n, none below n + 1 is
+  pub is_undriven-none_next : (n : ℕ) → any (is_undriven v) 0 n ≡ false → is_undriven v n ≡ false
+      → any (is_undriven v) 0
       (n + 1) ≡ false
-  undriven_more n h e = any-step (is_undriven v) 0 n ∙ rw (h, e) (and-false (nat_le 0 n))
+  is_undriven-none_next n h e = any-step (is_undriven v) 0 n ∙ rw (h, e) (and-false (nat_le 0 n))
 
-  pub next_line : (b : ℕ) → any (is_undriven v) 0 (159 + b + 1) ≡ false → any (is_undriven v) 0 (159 + (b + 1)) ≡ false
-  next_line b h = let next : 159 + (b + 1) ≡ 159 + b + 1 = omega arith in rw next h
+  -- the same, with the numbers of the data lines b and b + 1
+  pub is_undriven-none_to_next : (b : ℕ) → any (is_undriven v) 0 (159 + b + 1) ≡ false
+      → any (is_undriven v) 0 (159 + (b + 1)) ≡ false
+  is_undriven-none_to_next b h = let next : 159 + (b + 1) ≡ 159 + b + 1 = omega arith in rw next h
 
   module _ (n l : ℕ) (there : l ≡ n) where
-    pub undriven_there : is_selected v l ≡ true → is_known_on v l ≡ false → is_undriven v n ≡ true
-    undriven_there h k = rw (← there, h, k) refl
+    -- a line that a transfer moves, and that is unknown, is undriven
+    pub is_undriven-found : is_selected v l ≡ true → is_known_on v l ≡ false → is_undriven v n ≡ true
+    is_undriven-found h k = rw (← there, h, k) refl
 
-    pub not_moved : is_selected v l ≡ false → is_undriven v n ≡ false
-    not_moved h = rw (← there, h) refl
+    -- a line that no transfer moves isn't undriven
+    pub is_undriven-not_selected : is_selected v l ≡ false → is_undriven v n ≡ false
+    is_undriven-not_selected h = rw (← there, h) refl
 
-    pub not_unknown : is_known_on v l ≡ true → is_undriven v n ≡ false
-    not_unknown k = rw (← there, k) (and-false (is_selected v l))
+    -- a known line isn't undriven
+    pub is_undriven-not_unknown : is_known_on v l ≡ true → is_undriven v n ≡ false
+    is_undriven-not_unknown k = rw (← there, k) (and-false (is_selected v l))

@@ -24,48 +24,53 @@ use Rattle.vme_dtb.specs.StabilityRules.{observation_of, shifted_line, stability
 use Rattle.vme_dtb.specs.declared.holding.Holding.{Holding}
 use Rattle.vme_dtb.specs.HoldingNumbers.{has_risen, was_answered}
 use Rattle.vme_dtb.proofs.StabilityMeaning.{Holds, strobes_high_in-before, strobes_high_in-is_closed}
-use Rattle.vme_dtb.proofs.Progressing.{is_answered_state, is_closed, passed_same}
+use Rattle.vme_dtb.proofs.Progressing.{is_answered_state, is_closed, passed-parts}
 
-none_of : {A : Type 0} (o : Option A) → is_some o ≡ false → o ≡ None
-none_of None h = refl
-none_of (Some x) h = absurd (cc)
+-- an option that has no value is `None`
+is_some-none : {A : Type 0} (o : Option A) → is_some o ≡ false → o ≡ None
+is_some-none None h = refl
+is_some-none (Some x) h = absurd (cc)
 
-same_answered : (x y : Level) (a u : Bool) → is_known y ≡ true → (is_low x ≡ false → a ≡ false)
+-- whether the cycle has an answer stays, if AS* doesn't rise and no answer comes
+cycle_answered-same : (x y : Level) (a u : Bool) → is_known y ≡ true → (is_low x ≡ false → a ≡ false)
     → (is_low x && is_high y) ≡ false → (is_low y && (a || (u && false))) ≡ a
-same_answered x Unknown a u k idle r = absurd (cc)
-same_answered x High false u k idle r = refl
-same_answered x Low false true k idle r = refl
-same_answered x Low false false k idle r = refl
-same_answered x Low true u k idle r = refl
-same_answered Low High true u k idle r = absurd (cc)
-same_answered High High true u k idle r = sym (idle refl)
-same_answered Unknown High true u k idle r = sym (idle refl)
+cycle_answered-same x Unknown a u k idle r = absurd (cc)
+cycle_answered-same x High false u k idle r = refl
+cycle_answered-same x Low false true k idle r = refl
+cycle_answered-same x Low false false k idle r = refl
+cycle_answered-same x Low true u k idle r = refl
+cycle_answered-same Low High true u k idle r = absurd (cc)
+cycle_answered-same High High true u k idle r = sym (idle refl)
+cycle_answered-same Unknown High true u k idle r = sym (idle refl)
 
-same_open : (b a : Bool) → (b ≡ true → a ≡ false) → (not b && (a || false)) ≡ a
-same_open true a off = sym (off refl)
-same_open false true off = refl
-same_open false false off = refl
+-- what has happened in the transfer stays, if nothing had happened where both strobes are high
+transfer_part-same : (b a : Bool) → (b ≡ true → a ≡ false) → (not b && (a || false)) ≡ a
+transfer_part-same true a off = sym (off refl)
+transfer_part-same false true off = refl
+transfer_part-same false false off = refl
 
 -- a step without an answer and without a rise of a strobe or AS* leaves the memory as it is
-same_memory : (v w : Levels) (m : Holding) → answer_between v w ≡ false → strobe_rises_between v w ≡ false
+stepped-same : (v w : Levels) (m : Holding) → answer_between v w ≡ false → strobe_rises_between v w ≡ false
     → rises_between v w AS ≡ false
     → (strobes_high_in w ≡ true → was_answered m.transfer ≡ false) → (strobes_high_in w ≡ true → has_risen m.transfer
     ≡ false) → (is_low (level_at v AS) ≡ false → m.cycle_answered ≡ false) → is_known (level_at w AS) ≡ true
     → stepped m v w ≡ m
-same_memory v w m answer strobe address closed still idle known =
+stepped-same v w m answer strobe address closed still idle known =
     rw (answer, strobe)
     (rw (
-      same_open (strobes_high_in w) (was_answered m.transfer) closed,
-      same_open (strobes_high_in w) (has_risen m.transfer) still,
-      passed_same m.transfer (is_low (level_at v WRITE)),
-      same_answered (level_at v AS) (level_at w AS) m.cycle_answered (not (was_answered m.transfer)
+      transfer_part-same (strobes_high_in w) (was_answered m.transfer) closed,
+      transfer_part-same (strobes_high_in w) (has_risen m.transfer) still,
+      passed-parts m.transfer (is_low (level_at v WRITE)),
+      cycle_answered-same (level_at v AS) (level_at w AS) m.cycle_answered (not (was_answered m.transfer)
           && (not (strobes_high_in v) || strobe_low_in w)) known idle address,
     )
     refl)
 
-none_held : (v w : Levels) (m : Holding) (cs : List Change) → address_moved v cs ≡ None → direction_turned v w ≡ false
+-- no held line breaks a rule if no needed line moves and WRITE* stays
+held_fault-none : (v w : Levels) (m : Holding) (cs : List Change) → address_moved v cs ≡ None → direction_turned v w
+    ≡ false
     → held_fault m v w (observation_of v w cs) ≡ None
-none_held v w m cs moved turned = rw (moved, turned) (by_tests (keeps_address m v w) (keeps_direction m v w))
+held_fault-none v w m cs moved turned = rw (moved, turned) (by_tests (keeps_address m v w) (keeps_direction m v w))
   where
     by_tests : (a b : Bool) → option_or (fault_on S1 (cond a None None))
         (fault_on S2 (cond (b && false) (Some WRITE) None)) ≡ None
@@ -76,24 +81,28 @@ none_held v w m cs moved turned = rw (moved, turned) (by_tests (keeps_address m 
 
 module _ (t : Trace) (stretch : Stretch) (facts : IsStretch t stretch) (n : ℕ) (from : stretch.start ≤ n)
     (before : suc n < stretch.end) where
+  -- the levels before the step
   abbrev old : Levels
   old = levels_at t n
 
+  -- the levels after the step
   abbrev new : Levels
   new = levels_at t (suc n)
 
   -- if both strobes are high, no transfer is open, so none is answered
-  closed_there : (p : TransferPhase) → strobes_high_in old ≡ is_closed p → strobes_high_in old ≡ true
+  is_answered_state-closed : (p : TransferPhase) → strobes_high_in old ≡ is_closed p → strobes_high_in old ≡ true
       → is_answered_state p
       ≡ false
-  closed_there Closed e h = refl
-  closed_there Reading e h = refl
-  closed_there Writing e h = refl
-  closed_there Answered e h = absurd (clash (strobes_high_in old) h e)
+  is_answered_state-closed Closed e h = refl
+  is_answered_state-closed Reading e h = refl
+  is_answered_state-closed Writing e h = refl
+  is_answered_state-closed Answered e h = absurd (clash (strobes_high_in old) h e)
 
-  pub quiet_there : (m : Holding) (cs : List Change) → Holds t stretch n m → is_observed old new cs ≡ false
+  -- a step that isn't observed leaves a memory that is right of n as it is, and breaks no rule
+  pub stability_next-unobserved : (m : Holding) (cs : List Change) → Holds t stretch n m → is_observed old new cs
+      ≡ false
       → stability_next m old new (observation_of old new cs) ≡ quiet m
-  quiet_there m cs holds h =
+  stability_next-unobserved m cs holds h =
       let all = or_parts (is_some (faults_unknown old new) || is_some (address_moved old cs) || direction_turned old new
       || changes_holding old new || is_some (undriven_line old new)) (is_some (shifted_line old new cs)) h in
       let most = or_parts (is_some (faults_unknown old new) || is_some (address_moved old cs) || direction_turned old
@@ -109,12 +118,12 @@ module _ (t : Trace) (stretch : Stretch) (facts : IsStretch t stretch) (n : ℕ)
       let highs = strobes_high_in-before old new (facts.known n DS0 from (omega arith) (lit< tt) refl)
       (facts.known n DS1 from (omega arith) (lit< tt) refl) strobe.1 in
       rw (
-        none_of (faults_unknown old new) moved.0,
-        none_of (undriven_line old new) most.1,
-        none_of (shifted_line old new cs) all.1,
-        none_held old new m cs (none_of (address_moved old cs) moved.1) turned.1,
-        same_memory old new m strobe.0 strobe.1 address.1
-            (λ h. sym holds.transfer ∙ closed_there holds.state
+        is_some-none (faults_unknown old new) moved.0,
+        is_some-none (undriven_line old new) most.1,
+        is_some-none (shifted_line old new cs) all.1,
+        held_fault-none old new m cs (is_some-none (address_moved old cs) moved.1) turned.1,
+        stepped-same old new m strobe.0 strobe.1 address.1
+            (λ h. sym holds.transfer ∙ is_answered_state-closed holds.state
             (strobes_high_in-is_closed t stretch facts.reads n from before holds.state
             holds.says) (highs h))
             (λ h. holds.closed (highs h)) holds.idle (facts.known (suc n) AS (omega arith) before (lit< tt) refl),

@@ -27,7 +27,7 @@ use Rattle.vme_dtb.specs.Edge.{cycle_start_of, closes_between, edges_between, fi
 use Rattle.vme_dtb.specs.UsualSteps.{is_answer_alone, strobes_break_rule, is_start_alone, is_strobes_alone, memory_left}
 use Rattle.vme_dtb.specs.declared.cycle.CyclePhase.{CyclePhase}
 use Rattle.vme_dtb.specs.declared.memory.HandshakeMemory.{HandshakeMemory}
-use Rattle.vme_dtb.proofs.Faults.{none-first, not_applied, unanswered, unnamed}
+use Rattle.vme_dtb.proofs.Faults.{first_of_faults-none, fault_if-not_applied, cycle_fault-no_answer, fault_if-none}
 use Rattle.vme_dtb.proofs.StillSteps.{and-five_parts}
 use Rattle.vme_dtb.proofs.UsualEdges.{and-four_parts, answer_edges, answer_edges-between, falls_between-stays}
 use Rattle.vme_dtb.proofs.UsualEdges.{starts_between-stays, ready_edges, ready_edges-between}
@@ -117,7 +117,7 @@ module _ (m : HandshakeMemory) (v w : Levels) where
   cycle_fault-unanswered : (c : CyclePhase) → cycle_fault c (is_writing within) (cond (is_unanswered within) None None)
       ≡ None
   cycle_fault-unanswered c = ap (cycle_fault c (is_writing within)) (cond-none (is_unanswered within))
-      ∙ sym (unanswered c (is_writing within))
+      ∙ sym (cycle_fault-no_answer c (is_writing within))
 
   -- without an answer, the phase of the cycle stays as it is
   cycle-unanswered : (c : CyclePhase) → (let none : Option ℕ =
@@ -128,7 +128,7 @@ module _ (m : HandshakeMemory) (v w : Levels) where
 
   -- without an answer, H8 isn't broken
   fault_if-H8 : (u : Bool) → fault_if H8 u (cond (is_unanswered within) None None) ≡ None
-  fault_if-H8 u = ap (fault_if H8 u) (cond-none (is_unanswered within)) ∙ unnamed H8 u
+  fault_if-H8 u = ap (fault_if H8 u) (cond-none (is_unanswered within)) ∙ fault_if-none H8 u
 
   -- the phase of the transfer after a step in which no answer line falls
   tracked-unanswered : (o : TransferPhase) → falls_between v w DTACK ≡ false → falls_between v w BERR ≡ false → within
@@ -201,20 +201,20 @@ module _ (m : HandshakeMemory) (v w : Levels) where
       (next-same_parts (tracked m.transfer v w) _ s.shown _ c _ _ (handshake_fault m within s) _ None _ None
       (tracked-unanswered m.transfer (falls_between-stays v w DTACK all.3) (falls_between-stays v w BERR all.4)
       (within-no_start (starts_between-stays v w all.1 all.2))) (cycle-unanswered c)
-      (none-first (strobe_faults m within s) (
+      (first_of_faults-none (strobe_faults m within s) (
         refl,
         (
-          unnamed H2 (is_left_unanswered m.transfer s),
+          fault_if-none H2 (is_left_unanswered m.transfer s),
           (
-            unnamed H3 (is_replied m.transfer),
+            fault_if-none H3 (is_replied m.transfer),
             (
-              unnamed H4 (not (is_within within)),
+              fault_if-none H4 (not (is_within within)),
               (
-                unnamed H5 (is_doubled within s),
+                fault_if-none H5 (is_doubled within s),
                 (
                   refl,
                   (
-                    not_applied H7 _ (Some AS) (and-false (is_left_unanswered m.transfer s)),
+                    fault_if-not_applied H7 _ (Some AS) (and-false (is_left_unanswered m.transfer s)),
                     (fault_if-H8 false, tt),
                   ),
                 ),
@@ -251,7 +251,7 @@ module _ (m : HandshakeMemory) (v w : Levels) where
       (next-same_parts (tracked m.transfer v w) _ s.shown _ m.cycle _ _ (handshake_fault m within s) _ None _ None
       (tracked-unanswered within (falls_between-stays v w DTACK all.1) (falls_between-stays v w BERR all.2) refl)
       (cycle-unanswered m.cycle)
-      (none-first (strobe_faults m within s) (
+      (first_of_faults-none (strobe_faults m within s) (
         refl,
         (
           fault_if-H2 m.transfer (rises_between v w DS0) (rises_between v w DS1) (rises_between v w AS)
@@ -260,13 +260,13 @@ module _ (m : HandshakeMemory) (v w : Levels) where
             fault_if-H3 m.transfer (strobe_rises_between v w) (rises_between v w AS)
                 (falls_between v w DS0) (falls_between v w DS1) unbroken,
             (
-              unnamed H4 (not (is_within within)),
+              fault_if-none H4 (not (is_within within)),
               (
-                unnamed H5 (is_doubled within s),
+                fault_if-none H5 (is_doubled within s),
                 (
                   refl,
                   (
-                    not_applied H7 _ (Some AS) (cycle_end-unbroken m.transfer (strobe_rises_between v w)
+                    fault_if-not_applied H7 _ (Some AS) (cycle_end-unbroken m.transfer (strobe_rises_between v w)
                         (rises_between v w AS)
                         (strobe_falls_between v w) unbroken),
                     (fault_if-H8 false, tt),
@@ -312,17 +312,17 @@ module _ (m : HandshakeMemory) (v w : Levels) where
       (Some (plain_answer DTACK)) (tracked-answered falls (ap is_unanswered same ∙ waits))
       (ap (λ (o : Option ℕ). cond (is_some o) (after_answer m.cycle (is_writing within)) m.cycle) one.2
       ∙ ap (λ (p : TransferPhase). after_answer m.cycle (is_writing p)) same)
-      (none-first (strobe_faults m within s) (
+      (first_of_faults-none (strobe_faults m within s) (
         refl,
         (
-          unnamed H2 (is_left_unanswered m.transfer s),
+          fault_if-none H2 (is_left_unanswered m.transfer s),
           (
-            unnamed H3 (is_replied m.transfer),
+            fault_if-none H3 (is_replied m.transfer),
             (
-              not_applied H4 _ (Some DTACK) one.0,
+              fault_if-not_applied H4 _ (Some DTACK) one.0,
               (
-                not_applied H5 _ (Some DTACK) one.1,
-                (refl, (not_applied H7 _ (Some AS) (and-false (is_left_unanswered m.transfer s)), (refl, tt))),
+                fault_if-not_applied H5 _ (Some DTACK) one.1,
+                (refl, (fault_if-not_applied H7 _ (Some AS) (and-false (is_left_unanswered m.transfer s)), (refl, tt))),
               ),
             ),
           ),
@@ -346,20 +346,20 @@ module _ (m : HandshakeMemory) (v w : Levels) where
       (tracked-unanswered m.transfer (rises-not_falls (level_at v DTACK) (level_at w DTACK) rises)
       (falls_between-stays v w BERR all.3)
       (within-no_start (starts_between-stays v w all.1 all.2))) (cycle-unanswered m.cycle)
-      (none-first (strobe_faults m within s) (
+      (first_of_faults-none (strobe_faults m within s) (
         refl,
         (
-          unnamed H2 (is_left_unanswered m.transfer s),
+          fault_if-none H2 (is_left_unanswered m.transfer s),
           (
-            unnamed H3 (is_replied m.transfer),
+            fault_if-none H3 (is_replied m.transfer),
             (
-              unnamed H4 (not (is_within within)),
+              fault_if-none H4 (not (is_within within)),
               (
-                unnamed H5 (is_doubled within s),
+                fault_if-none H5 (is_doubled within s),
                 (
                   rw gone refl,
                   (
-                    not_applied H7 _ (Some AS) (and-false (is_left_unanswered m.transfer s)),
+                    fault_if-not_applied H7 _ (Some AS) (and-false (is_left_unanswered m.transfer s)),
                     (fault_if-H8 (not (is_addressed v w)), tt),
                   ),
                 ),

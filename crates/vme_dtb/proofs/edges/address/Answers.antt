@@ -1,6 +1,6 @@
 use Rattle.std.proofs.Common.{◌≡◌, refl, ap, ◌∙◌, arith}
 use Rattle.vme_dtb.specs.Edge.{address_below}
-use Rattle.vme_dtb.proofs.Addresses.{high_more, low_more}
+use Rattle.vme_dtb.proofs.Addresses.{address_below-next_high, address_below-next_low}
 use Rattle.vme_dtb.proofs.edges.address.Goals as goal
 use Rattle.vme_dtb.proofs.edges.address.Goals.{then-is_high, else-is_high}
 
@@ -12,12 +12,14 @@ pub loop-bit-preserved : goal.loop-bit-preserved
 loop-bit-preserved c =
     elim c.if-is_high.branch [
       | then-is_high w ↦
-          high_more c.args.lines.now c.loop-bit.bit c.loop-bit.address c.if-is_high.address c.loop-bit.invariant
+          address_below-next_high c.args.lines.now c.loop-bit.bit c.loop-bit.address c.if-is_high.address
+          c.loop-bit.invariant
           (omega arith) c.address.result c.level.result c.is_high.result (omega arith) c.address.ensures
           c.level.ensures c.is_high.ensures
           w.if-is_high.true w.address-is
       | else-is_high w ↦
-          low_more c.args.lines.now c.loop-bit.bit c.loop-bit.address c.if-is_high.address c.loop-bit.invariant
+          address_below-next_low c.args.lines.now c.loop-bit.bit c.loop-bit.address c.if-is_high.address
+          c.loop-bit.invariant
           (omega arith) c.address.result c.level.result c.is_high.result c.address.ensures c.level.ensures
           c.is_high.ensures
           w.if-is_high.false w.address-is

@@ -1,5 +1,5 @@
-use Rattle.vme_dtb.proofs.Faults.{unanswered}
+use Rattle.vme_dtb.proofs.Faults.{cycle_fault-no_answer}
 use Rattle.vme_dtb.proofs.handshake.cycle_fault.Goals as goal
 
 pub returns-in-None : goal.returns-in-None
-returns-in-None c = rw c.in-None.is (unanswered c.args.cycle c.args.write)
+returns-in-None c = rw c.in-None.is (cycle_fault-no_answer c.args.cycle c.args.write)

@@ -1,3 +1,4 @@
+-- The loop over data lines: no line before the current one is undriven.
 use Rattle.std.proofs.Common.{◌≡◌, false}
 use Rattle.vme_trace.specs.Instants.{any}
 use Rattle.vme_trace.specs.LineNumbers.{D}

@@ -1,3 +1,4 @@
+-- The loop over changes: for any levels, the first shifted line of the changes that are left is that of all changes.
 use Rattle.std.proofs.Common.{◌≡◌, drop}
 use Rattle.vme_trace.specs.Levels.{Levels}
 use Rattle.vme_dtb.specs.StabilityRules.{first_among, is_shifted}

@@ -5,9 +5,9 @@ use Rattle.vme_dtb.proofs.observation.touches_others.Goals as goal
 
 pub loop-change-preserved : goal.loop-change-preserved
 loop-change-preserved c = (
-  λ needs. unneeded.passed_more needs c.args.changes.now c.loop-change.change-index c.change-item.result
+  λ needs. unneeded.first_needed-drop_next needs c.args.changes.now c.loop-change.change-index c.change-item.result
       c.loop-change-test.true c.change-item.is (omega arith) (c.loop-change.invariant.0 needs),
-  λ v w. non_data.passed_more v w c.args.changes.now c.loop-change.change-index c.change-item.result
-      c.loop-change-test.true c.change-item.is (non_data.not_data c.change-item.result.line (omega arith))
+  λ v w. non_data.first_among-drop_next v w c.args.changes.now c.loop-change.change-index c.change-item.result
+      c.loop-change-test.true c.change-item.is (non_data.is_data-below c.change-item.result.line (omega arith))
       (c.loop-change.invariant.1 v w),
 )

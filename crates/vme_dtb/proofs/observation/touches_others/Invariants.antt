@@ -1,3 +1,5 @@
+-- The loop over changes: for any needs and levels, the first needed line and the first shifted line of the changes that
+-- are left are those of all changes.
 use Rattle.std.proofs.Common.{◌≡◌, drop}
 use Rattle.vme_trace.specs.Cycle.{Needs}
 use Rattle.vme_trace.specs.Levels.{Levels}

@@ -1,3 +1,4 @@
+-- The loop over lines: no line before the current one is needed and unknown.
 use Rattle.std.proofs.Common.{◌≡◌, false}
 use Rattle.vme_trace.specs.Instants.{any}
 use Rattle.vme_dtb.specs.StabilityRules.{lacks}

@@ -2,7 +2,8 @@ use Rattle.std.proofs.Common.{◌≡◌, ◌∙◌, ap, sym}
 use Rattle.std.specs.Prelude.{None}
 use Rattle.vme_trace.specs.declared.rule.Rule.TheVariants.{S2}
 use Rattle.vme_dtb.specs.StabilityRules.{fault_on, moved_fault, turned_fault}
-use Rattle.vme_dtb.proofs.HeldFaults.{held-direction, no_line_moved, turned, undirected, unkept, unturned}
+use Rattle.vme_dtb.proofs.HeldFaults.{held_fault-direction, moved_fault-no_line, turned_fault-turned}
+use Rattle.vme_dtb.proofs.HeldFaults.{turned_fault-not_kept, moved_fault-not_kept, turned_fault-not_turned}
 use Rattle.vme_dtb.proofs.holding.Holding.broken.Goals as goal
 use Rattle.vme_dtb.proofs.holding.Holding.broken.Goals.{else-is_some-via-then-is_some+else-keeps_address}
 use Rattle.vme_dtb.proofs.holding.Holding.broken.Goals.{else-is_some-via-else-is_some}
@@ -17,14 +18,15 @@ returns-then-keeps_direction c =
     let seen = c.args.seen.now in
     let still : moved_fault m v w seen ≡ None =
     elim c.else-is_some.branch [
-      | else-is_some-via-then-is_some+else-keeps_address x ↦ unkept m v w seen (sym x.keeps_address.ensures
+      | else-is_some-via-then-is_some+else-keeps_address x
+          ↦ moved_fault-not_kept m v w seen (sym x.keeps_address.ensures
           ∙ x.if-keeps_address.false)
-      | else-is_some-via-else-is_some x ↦ no_line_moved m v w seen (sym c.is_some.ensures ∙ x.if-is_some.false)
+      | else-is_some-via-else-is_some x ↦ moved_fault-no_line m v w seen (sym c.is_some.ensures ∙ x.if-is_some.false)
     ]
     in
     c.fault_on-then-keeps_direction.ensures
-    ∙ sym (held-direction m v w seen still ∙ ap (fault_on S2)
-    (turned m v w seen (sym c.keeps_direction.ensures ∙ c.if-keeps_direction.true) c.if-seen.true))
+    ∙ sym (held_fault-direction m v w seen still ∙ ap (fault_on S2)
+    (turned_fault-turned m v w seen (sym c.keeps_direction.ensures ∙ c.if-keeps_direction.true) c.if-seen.true))
 
 pub returns-else-seen : goal.returns-else-seen
 returns-else-seen c =
@@ -34,16 +36,17 @@ returns-else-seen c =
     let seen = c.args.seen.now in
     let still : moved_fault m v w seen ≡ None =
     elim c.else-is_some.branch [
-      | else-is_some-via-then-is_some+else-keeps_address x ↦ unkept m v w seen (sym x.keeps_address.ensures
+      | else-is_some-via-then-is_some+else-keeps_address x
+          ↦ moved_fault-not_kept m v w seen (sym x.keeps_address.ensures
           ∙ x.if-keeps_address.false)
-      | else-is_some-via-else-is_some x ↦ no_line_moved m v w seen (sym c.is_some.ensures ∙ x.if-is_some.false)
+      | else-is_some-via-else-is_some x ↦ moved_fault-no_line m v w seen (sym c.is_some.ensures ∙ x.if-is_some.false)
     ]
     in
     let keeps : turned_fault m v w seen ≡ None =
     elim c.else-seen.branch [
-      | else-seen-via-then-seen+else-keeps_direction x ↦ undirected m v w seen (sym x.keeps_direction.ensures
+      | else-seen-via-then-seen+else-keeps_direction x ↦ turned_fault-not_kept m v w seen (sym x.keeps_direction.ensures
           ∙ x.if-keeps_direction.false)
-      | else-seen-via-else-seen x ↦ unturned m v w seen x.if-seen.false
+      | else-seen-via-else-seen x ↦ turned_fault-not_turned m v w seen x.if-seen.false
     ]
     in
-    sym (held-direction m v w seen still ∙ ap (fault_on S2) keeps)
+    sym (held_fault-direction m v w seen still ∙ ap (fault_on S2) keeps)
