@@ -16,7 +16,7 @@ use Rattle.vme_trace.specs.WellFormed.{malformed_step}
 use Rattle.vme_trace.specs.declared.step.Step.{Step}
 use Rattle.vme_trace.specs.declared.verdict.Break.{Break}
 use Rattle.vme_trace.specs.declared.verdict.Verdict.TheVariants.{Conforming, NeverIdle}
-use Rattle.vme_trace.proofs.JudgedStretches.{awaits-first, stretches_from_first, stretches_next}
+use Rattle.vme_trace.proofs.JudgedStretches.{awaits-first, judged_stretches-after_first, stretches_after-next}
 use Rattle.vme_trace.proofs.Ranges.{fails-any}
 use Rattle.vme_audit.specs.Parts.{named_break}
 use Rattle.vme_listing.specs.Recorded.{outcome_of, recorded_rows}
@@ -112,7 +112,8 @@ has_any_stretch-idle : (t : Trace) → is_idle t.opening ≡ true → has_any_st
 unfolding is_idle_at levels_at
 has_any_stretch-idle t idle =
     let none : any (is_idle_at t) 0 0 ≡ false = fails-any (is_idle_at t) 0 0 (λ i a b. absurd (omega arith)) in
-    ap has_any_stretch (stretches_from_first t ∙ (stretches_next t 0 0 (awaits-first t) (omega arith) (omega arith) idle
+    ap has_any_stretch (judged_stretches-after_first t
+    ∙ (stretches_after-next t 0 0 (awaits-first t) (omega arith) (omega arith) idle
     none).1)
 
 -- a recording in which nothing is judged has no marks

@@ -17,7 +17,7 @@ use Rattle.vme_trace.specs.WellFormed.{malformed_step}
 use Rattle.vme_trace.specs.declared.rule.Rule.{Rule}
 use Rattle.vme_trace.specs.declared.rule.Rule.TheVariants as rule
 use Rattle.vme_trace.specs.declared.step.Change.{Change}
-use Rattle.vme_trace.proofs.JudgedStretches.{stretches_kept, stretches_more}
+use Rattle.vme_trace.proofs.JudgedStretches.{stretches_before-no_start, stretches_before-starts}
 use Rattle.vme_trace.proofs.Ranges.{fails-any, any-next}
 use Rattle.vme_monitor.specs.Along.{changes_of, memory_from, next_at}
 use Rattle.vme_monitor.specs.Ends.{end_among}
@@ -264,12 +264,12 @@ module _ (t : Trace) (ok : malformed_step t ≡ None) (few : t.opening.slots ≤
         by_start : (b : Bool) → stretch_starts t (suc n) ≡ b → list_any (happened_by k) (started_stretches t (suc n))
             ≡ list_any (happened_by k) (started_stretches t n)
         by_start true e =
-            ap (list_any (happened_by k)) (stretches_more t (suc n) e)
+            ap (list_any (happened_by k)) (stretches_before-starts t (suc n) e)
             ∙ list_any-append (happened_by k) (started_stretches t n) (stretch_from t (suc n) ∷ [])
             ∙ ap (λ b. list_any (happened_by k) (started_stretches t n) || (b || false))
             (happened_by-before_start k (stretch_from t (suc n)) h)
             ∙ or-false (list_any (happened_by k) (started_stretches t n))
-        by_start false e = ap (list_any (happened_by k)) (stretches_kept t (suc n) e)
+        by_start false e = ap (list_any (happened_by k)) (stretches_before-no_start t (suc n) e)
 
     -- up to instant `n` rule `r` is asked exactly if it was asked before, or its event happens in a started stretch
     abbrev HaveHappened : AskedEvents → ℕ → Type 0

@@ -9,17 +9,17 @@ use Rattle.std.proofs.lemmas.List.{append-nil, length-take-le, take_all}
 use Rattle.std.proofs.lemmas.Option.{slice_get_read, slice_get_within}
 use Rattle.std.proofs.Math.Seq.{get_or-append_seam}
 use Rattle.std.proofs.lemmas.Bool.{lt-ltb, le-ltb, and_parts, and_right, not-false, or_from, or_right}
-use Rattle.vme_trace.proofs.JudgedStretches.{AreInOrder, starts_before_end, ends_within, stretches_in_order}
+use Rattle.vme_trace.proofs.JudgedStretches.{AreInOrder, starts_before_end, ends_within, AreInOrder-judged_stretches}
 use Rattle.vme_trace.proofs.JudgedStretches.{stretch_unlost}
 use Rattle.vme_trace.proofs.JudgedStretches.{stretch_unreset, awaits-first, awaits-next, busy-no_start, end-after}
-use Rattle.vme_trace.proofs.JudgedStretches.{end-within, reset-unlost_at, stretch_reset, stretches_from_first}
-use Rattle.vme_trace.proofs.JudgedStretches.{stretches_next}
+use Rattle.vme_trace.proofs.JudgedStretches.{end-within, reset-unlost_at, stretch_reset, judged_stretches-after_first}
+use Rattle.vme_trace.proofs.JudgedStretches.{stretches_after-next}
 use Rattle.vme_trace.proofs.Changing.{lost-least}
 use Rattle.vme_trace.proofs.Ranges.{any-fails, any-holds, fails-any, least-alike, least-found, least-none-any}
 use Rattle.vme_trace.proofs.Ranges.{those-none, those-split}
 use Rattle.vme_trace.proofs.OpenTransfers.{suc-sub-one, is_judged-holds}
 use Rattle.vme_trace.proofs.StretchEnds.{break_before-stays, end-is, end-past, u1-lost, u1-unlost}
-use Rattle.vme_trace.proofs.CutBlocks.{levels_after-append, levels_at-taken, taken_more}
+use Rattle.vme_trace.proofs.CutBlocks.{levels_after-append, levels_at-taken, take-next}
 use Rattle.vme_listing.proofs.FoundBreaks.{least_break-judged}
 use Rattle.vme_cert.specs.Vocabulary.{Break, Change, Conforming, IsStretchOf, ListedVerdict, NeverIdle, Row, Rule}
 use Rattle.vme_cert.specs.Vocabulary.{Stretch}
@@ -162,7 +162,7 @@ module _ (t : Trace) where
 
   pub recorded-from : recorded_rows t ≡ rows_from t NeverIdle (judged_stretches t)
   unfolding listing_by
-  recorded-from = by_stretches (judged_stretches t) (stretches_in_order t)
+  recorded-from = by_stretches (judged_stretches t) (AreInOrder-judged_stretches t)
     where
       by_stretches : (stretches : List Stretch) → AreInOrder t stretches
           → listing_of_stretches all_rules t stretches ≡ rows_from t NeverIdle
@@ -347,7 +347,7 @@ module _ {Whole Source : Type 0} {gave : Whole → Source → List Row → Type 
   waits-first h = record {
     awaits = awaits-first t;
     done = [];
-    all = ap (rows_from t NeverIdle) (sym (stretches_from_first t)) ∙ sym (recorded-from t);
+    all = ap (rows_from t NeverIdle) (sym (judged_stretches-after_first t)) ∙ sym (recorded-from t);
     rows_are = h;
   }
 
@@ -370,7 +370,7 @@ module _ {Whole Source : Type 0} {gave : Whole → Source → List Row → Type 
         → Follows gave is_over whole v h.done t (stretch_from t n) (n + 1) later
         → IsInStretch gave is_over whole v t (n + 1) Conforming later state
     starts h idle holds follows =
-        let found = stretches_next t n n h.awaits (omega arith) within idle
+        let found = stretches_after-next t n n h.awaits (omega arith) within idle
         (fails-any (is_idle_at t) n n (λ i a b. absurd (omega arith))) in
         let order = end-after t n within in
         record {
@@ -680,7 +680,7 @@ module _ (t : Trace) (n : ℕ) where
   pub goes_on-to : (step : Step) → slice_get t.steps n ≡ Some step
       → with_steps (recorded_to t n) (step ∷ []) ≡ recorded_to t (n + 1)
   goes_on-to step found =
-      ap (λ (steps : List Step). record t { steps = steps }) (sym (taken_more t.steps n step found))
+      ap (λ (steps : List Step). record t { steps = steps }) (sym (take-next t.steps n step found))
 
   pub may-go_on : (step : Step) → IsCapture t → slice_get t.steps n ≡ Some step → MayGoOn (recorded_to t n) step
   may-go_on step capture found =

@@ -12,7 +12,7 @@ use Rattle.vme_trace.specs.Levels.{Levels}
 use Rattle.vme_trace.specs.Trace.{Trace, levels_at}
 use Rattle.vme_trace.specs.WellFormed.{are_changes, capture_limit, malformed_step}
 use Rattle.vme_trace.specs.declared.step.Step.{Step}
-use Rattle.vme_trace.proofs.CutBlocks.{levels_at-taken, taken_more}
+use Rattle.vme_trace.proofs.CutBlocks.{levels_at-taken, take-next}
 use Rattle.vme_bind.specs.Capture.{limited}
 use Rattle.vme_bind.specs.declared.fault.BindFaultKind.TheVariants.{TooManySteps}
 use Rattle.vme_skew.specs.Settled.{settled_until}
@@ -42,7 +42,7 @@ module _ (recorded : Trace) (steps : List Step) (i : ℕ) (step : Step) (found :
       ≡ with_steps recorded (take (i + 1) steps)
   with_steps-next =
       ap (λ (l : List Step). record recorded { steps = l }) (append_assoc recorded.steps (take i steps) (step ∷ [])
-      ∙ ap (λ (l : List Step). recorded.steps ++ l) (sym (taken_more steps i step found)))
+      ∙ ap (λ (l : List Step). recorded.steps ++ l) (sym (take-next steps i step found)))
 
   -- if the steps may follow the recording, the step at `i` may follow it and the steps before `i`
   pub MayGoOn-next : StepsMayFollow recorded steps → MayGoOn (with_steps recorded (take i steps)) step

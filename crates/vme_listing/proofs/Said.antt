@@ -9,7 +9,7 @@ use Rattle.vme_trace.specs.Names.{line_name, line_named, rule_named}
 use Rattle.vme_trace.specs.Rules.{rule_name}
 use Rattle.vme_trace.specs.declared.rule.Rule.{Rule}
 use Rattle.vme_trace.specs.declared.class.Class.TheVariants as class
-use Rattle.vme_trace.proofs.NameLaws.{line_named-found, rule_named-found, same_text}
+use Rattle.vme_trace.proofs.NameLaws.{line_named-found, rule_named-found, bytes_eq-same}
 use Rattle.vme_listing.specs.declared.row.AnswerLine.TheVariants.{Dtack, Berr}
 use Rattle.vme_listing.specs.declared.row.Direction.TheVariants.{Read, Write}
 use Rattle.vme_listing.specs.declared.row.ListedVerdict.{ListedVerdict}
@@ -261,9 +261,11 @@ outcome-said line verdict e = by_tests (bytes_eq line (codes "conforming")) (byt
         else break_in Unreadable (after_word (codes "unreadable ") line)) ≡ Some verdict
         → verdict_text verdict ≡ codes "verdict " ++ line
     by_tests true b c f g e =
-        ap verdict_text (sym (same_Some Conforming verdict e)) ∙ ap (λ l. codes "verdict " ++ l) (sym (same_text _ _ f))
+        ap verdict_text (sym (same_Some Conforming verdict e))
+        ∙ ap (λ l. codes "verdict " ++ l) (sym (bytes_eq-same _ _ f))
     by_tests false true c f g e =
-        ap verdict_text (sym (same_Some NeverIdle verdict e)) ∙ ap (λ l. codes "verdict " ++ l) (sym (same_text _ _ g))
+        ap verdict_text (sym (same_Some NeverIdle verdict e))
+        ∙ ap (λ l. codes "verdict " ++ l) (sym (bytes_eq-same _ _ g))
     by_tests false false true f g e =
         said Broken (codes "broken ") (break-said Broken (codes "broken ") broken_text _ verdict e)
     by_tests false false false f g e =

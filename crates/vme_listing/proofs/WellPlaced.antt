@@ -18,7 +18,7 @@ use Rattle.vme_trace.specs.Verdict.{least_break, least_of}
 use Rattle.vme_trace.specs.declared.rule.Rule.{Rule}
 use Rattle.vme_trace.specs.declared.rule.Rule.TheVariants.{U2, B4}
 use Rattle.vme_trace.specs.declared.verdict.Break.{Break}
-use Rattle.vme_trace.proofs.JudgedStretches.{AreInOrder, stretches_in_order, starts_before_end}
+use Rattle.vme_trace.proofs.JudgedStretches.{AreInOrder, AreInOrder-judged_stretches, starts_before_end}
 use Rattle.vme_listing.specs.Places.{follows, is_allowed_outcome, is_later_place, is_never_idle, is_reset, is_rest}
 use Rattle.vme_listing.specs.Places.{is_row, is_start, is_verdict, is_well_placed, never_idles, place_of}
 use Rattle.vme_listing.specs.Recorded.{cycle_rows, listed_end, listing_before, listing_by, recorded_rows}
@@ -513,7 +513,7 @@ module _ (t : Trace) (slots : t.opening.slots ≤ 21) (few : length t.steps < 2 
 pub listing_placed : (t : Trace) → t.opening.slots ≤ 21 → length t.steps < 2 ^ 32
     → is_well_placed (record { version = Three; rows = recorded_rows t }) ≡ true
 unfolding listing_by is_rest follows is_row
-listing_placed t slots few = by_stretches (judged_stretches t) (stretches_in_order t)
+listing_placed t slots few = by_stretches (judged_stretches t) (AreInOrder-judged_stretches t)
   where
     by_stretches : (stretches : List Stretch) → AreInOrder t stretches
         → is_rest Three None (listing_of_stretches all_rules t stretches)

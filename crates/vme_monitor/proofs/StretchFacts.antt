@@ -6,7 +6,7 @@ use Rattle.vme_trace.specs.Trace.{Trace, levels_at, last_instant}
 use Rattle.vme_trace.specs.Judged.{IsStretchOf, Stretch, is_idle_at, is_reset_at, loses_control_at}
 use Rattle.vme_trace.proofs.JudgedStretches.{ends_within, stretch_reads, stretch_unlost, stretch_unreset}
 use Rattle.vme_trace.proofs.JudgedStretches.{starts_before_end}
-use Rattle.vme_trace.proofs.JudgedStretches.{starts_idle}
+use Rattle.vme_trace.proofs.JudgedStretches.{is_idle_at-stretch_start}
 use Rattle.vme_trace.proofs.OpenTransfers.{ReadsStrobes}
 use Rattle.vme_trace.proofs.Ranges.{any-fails}
 use Rattle.vme_trace.proofs.StretchEnds.{slots_at}
@@ -45,7 +45,7 @@ module _ (t : Trace) (stretch : Stretch) (is : IsStretchOf t stretch) where
   -- the bus is idle at the start of the stretch
   is_idle-start : is_idle (levels_at t stretch.start) ≡ true
   unfolding is_idle_at
-  is_idle-start = starts_idle t stretch is
+  is_idle-start = is_idle_at-stretch_start t stretch is
 
   -- each stretch of a recording has the parts of `IsStretch`
   pub stretch_facts : IsStretch t stretch

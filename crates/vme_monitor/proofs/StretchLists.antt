@@ -11,7 +11,8 @@ use Rattle.vme_trace.specs.Judged.{Stretch, judged_stretches, stretch_from, stre
 use Rattle.vme_trace.specs.Verdict.{break_at, break_before, least_break, least_of}
 use Rattle.vme_trace.specs.declared.rule.Rule.{Rule}
 use Rattle.vme_trace.specs.declared.verdict.Break.{Break}
-use Rattle.vme_trace.proofs.JudgedStretches.{end-after, stretches_all, stretches_before, stretches_kept, stretches_more}
+use Rattle.vme_trace.proofs.JudgedStretches.{end-after, judged_stretches-before, stretches_before}
+use Rattle.vme_trace.proofs.JudgedStretches.{stretches_before-no_start, stretches_before-starts}
 use Rattle.vme_trace.proofs.ListLaws.{option_or-none}
 use Rattle.vme_monitor.specs.Outcome.{earlier}
 use Rattle.vme_monitor.specs.Run.{mark_at, kinds_of}
@@ -32,11 +33,11 @@ stretches_before-zero t = refl
 
 -- if no stretch starts at instant 0, none has started there
 pub started_stretches-none : (t : Trace) → stretch_starts t 0 ≡ false → started_stretches t 0 ≡ []
-started_stretches-none t h = stretches_kept t 0 h ∙ stretches_before-zero t
+started_stretches-none t h = stretches_before-no_start t 0 h ∙ stretches_before-zero t
 
 -- if a stretch starts at instant 0, it is the only one that has started there
 pub started_stretches-one : (t : Trace) → stretch_starts t 0 ≡ true → started_stretches t 0 ≡ stretch_from t 0 ∷ []
-started_stretches-one t h = stretches_more t 0 h ∙ ap (λ stretches. stretches ++ stretch_from t 0 ∷ [])
+started_stretches-one t h = stretches_before-starts t 0 h ∙ ap (λ stretches. stretches ++ stretch_from t 0 ∷ [])
     (stretches_before-zero t)
 
 -- each stretch of a list has ended at instant n or before
@@ -90,7 +91,7 @@ has_any_stretch-append (x ∷ stretches) stretch = refl
 
 -- the judged stretches are those that have started at the last instant
 pub judged_stretches-started : (t : Trace) → judged_stretches t ≡ started_stretches t (last_instant t)
-judged_stretches-started t = stretches_all t ∙ ap (stretches_before t) (add-one (last_instant t))
+judged_stretches-started t = judged_stretches-before t ∙ ap (stretches_before t) (add-one (last_instant t))
 
 module _ (t : Trace) (rules : List Rule) where
   -- the least break of the rules over stretches is their first break up to the last instant

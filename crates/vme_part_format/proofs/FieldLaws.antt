@@ -17,7 +17,7 @@ use Rattle.vme_trace.specs.LineNumbers.{line_count}
 use Rattle.vme_trace.specs.Names.{rule_number}
 use Rattle.vme_trace.specs.Rules.{all_rules}
 use Rattle.vme_trace.specs.declared.rule.Rule.{Rule}
-use Rattle.vme_trace.proofs.EveryRule.{listed}
+use Rattle.vme_trace.proofs.EveryRule.{slice_get-all_rules}
 use Rattle.vme_part_format.specs.declared.fault.PartFaultKind.TheVariants as fault
 use Rattle.vme_part_format.specs.declared.fault.FieldFault.{FieldFault}
 use Rattle.vme_part_format.specs.declared.table.TableEntry.{TableEntry}
@@ -330,7 +330,7 @@ first_break_by_again steps bad b rest fits =
     false_from_ne_true (eqb (rule_number b.rule + 1) 0)
     (λ e. omega (arith, eqb-true (rule_number b.rule + 1) 0 e)) in
     let one : rule_number b.rule + 1 - 1 ≡ rule_number b.rule = omega arith in
-    rw (some, one, listed b.rule) (break_again steps bad b rest fits)
+    rw (some, one, slice_get-all_rules b.rule) (break_again steps bad b rest fits)
 
 pub first_break_again : (steps : ℕ) (o : Option WideBreak) (rest : List ℕ) → IfSome o (FitsBreak steps)
     → first_break_at steps (first_break_bytes o ++ rest) ≡ Ok (o, rest)

@@ -16,7 +16,7 @@ use Rattle.vme_trace.specs.WellFormed.{are_changes, fits, is_empty, is_step, mal
 use Rattle.vme_trace.specs.declared.step.Change.{Change}
 use Rattle.vme_trace.specs.declared.step.Step.{Step}
 use Rattle.vme_trace.proofs.Changing.{slots-kept, level-kept}
-use Rattle.vme_trace.proofs.CutBlocks.{levels_after-append, taken_more}
+use Rattle.vme_trace.proofs.CutBlocks.{levels_after-append, take-next}
 use Rattle.vme_trace.proofs.Ranges.{any-fails, fails-any, least-none, least-none-any}
 use Rattle.vme_trace.proofs.WellFormedSteps.{fits-at}
 use Rattle.vme_bind.specs.Recording.{differs, changes_between, step_between}
@@ -305,7 +305,7 @@ groups-zero_skew t is (suc i) le =
           (begins_after-zero_skew t is.formed i le)
           ∙ ap (λ (xs : List Step). xs ++ step_to 0 t (suc i)) (groups-zero_skew t is i (omega (arith, le)))
           ∙ ap (λ (xs : List Step). take i t.steps ++ xs) (step_to-zero_skew t is i here.0 here.1 here.2)
-          ∙ sym (taken_more t.steps i here.0 here.2) ∙ ap (λ (n : ℕ). take n t.steps) one_more
+          ∙ sym (take-next t.steps i here.0 here.2) ∙ ap (λ (n : ℕ). take n t.steps) one_more
       | inr past ↦ absurd (omega (arith, past.0, le))
     ]
 

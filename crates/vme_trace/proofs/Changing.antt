@@ -18,35 +18,40 @@ use Rattle.vme_trace.specs.declared.level.Level.TheVariants.{Low, High, Unknown}
 use Rattle.vme_trace.specs.declared.step.Change.{Change}
 use Rattle.vme_trace.proofs.Ranges.{any-fails, fails-any, any-alike, least-is, least-none, clash}
 
-differs : (m l : ℕ) → (m == l) ≡ false → l ≢ m
-differs m l h e = absurd (same m l h e)
+-- numbers whose test fails differ
+eqb-differs : (m l : ℕ) → (m == l) ≡ false → l ≢ m
+eqb-differs m l h e = absurd (same m l h e)
   where
     same : (m l : ℕ) → (m == l) ≡ false → l ≡ m → ⊥
     same m l h e = grind (arith, nat_tests)
 
-kept_set : (v : Levels) (m l : ℕ) (x : Level) → (m == l) ≡ false → level_at (set_level v m x) l ≡ level_at v l
-kept_set v m l x h = unwrap_or-slice_get (slice_set v.levels m x) l Unknown
-    ∙ (get_or-set_other v.levels m l x Unknown (differs m l h) ∙ sym (unwrap_or-slice_get v.levels l Unknown))
+-- a line other than the one that is set keeps its level
+level_at-set_other : (v : Levels) (m l : ℕ) (x : Level) → (m == l) ≡ false → level_at (set_level v m x) l ≡ level_at v l
+level_at-set_other v m l x h = unwrap_or-slice_get (slice_set v.levels m x) l Unknown
+    ∙ (get_or-set_other v.levels m l x Unknown (eqb-differs m l h) ∙ sym (unwrap_or-slice_get v.levels l Unknown))
 
-each_idle : (v : Levels) (l : ℕ) → is_idle v ≡ true → l < line_count → is_idle_on v l ≡ true
+-- on an idle bus each line is idle
+is_idle_on-each : (v : Levels) (l : ℕ) → is_idle v ≡ true → l < line_count → is_idle_on v l ≡ true
 unfolding is_idle
-each_idle v l idle below = not-false _ (any-fails (λ k. not (is_idle_on v k)) 0 line_count l (not-true _ idle)
+is_idle_on-each v l idle below = not-false _ (any-fails (λ k. not (is_idle_on v k)) 0 line_count l (not-true _ idle)
     (omega arith) below)
 
-idle_known : (control strict reset : Bool) (x : Level) → cond (not control) true (cond strict (is_high x) (is_known x))
+-- a line that is idle isn't lost
+idle-known : (control strict reset : Bool) (x : Level) → cond (not control) true (cond strict (is_high x) (is_known x))
     ≡ true → (control && not (is_known x) && not reset) ≡ false
-idle_known false strict reset x h = refl
-idle_known true strict reset Low h = refl
-idle_known true strict reset High h = refl
-idle_known true true reset Unknown h = absurd (cc)
-idle_known true false reset Unknown h = absurd (cc)
+idle-known false strict reset x h = refl
+idle-known true strict reset Low h = refl
+idle-known true strict reset High h = refl
+idle-known true true reset Unknown h = absurd (cc)
+idle-known true false reset Unknown h = absurd (cc)
 
 -- an idle bus has no lost line
 pub idle-unlost : (v : Levels) → is_idle v ≡ true → loses_control v ≡ false
 unfolding loses_control
-idle-unlost v idle = fails-any (is_lost v) 0 line_count (λ l a b. idle_known (is_control v.slots l) (rests_high l)
-    (is_reset v) (level_at v l) (each_idle v l idle b))
+idle-unlost v idle = fails-any (is_lost v) 0 line_count (λ l a b. idle-known (is_control v.slots l) (rests_high l)
+    (is_reset v) (level_at v l) (is_idle_on-each v l idle b))
 
+-- a high level isn't low
 pub high_not_low : (x : Level) → is_high x ≡ true → is_low x ≡ false
 high_not_low Low h = absurd (cc)
 high_not_low High h = refl
@@ -54,17 +59,19 @@ high_not_low Unknown h = refl
 
 -- an idle bus isn't reset
 pub idle-unreset : (v : Levels) → is_idle v ≡ true → is_reset v ≡ false
-idle-unreset v idle = high_not_low (level_at v SYSRESET) (each_idle v SYSRESET idle (omega arith))
+idle-unreset v idle = high_not_low (level_at v SYSRESET) (is_idle_on-each v SYSRESET idle (omega arith))
 
-kept_unless : (a b : Bool) → b ≡ true → (a && not b) ≡ false
-kept_unless true b h = rw h refl
-kept_unless false b h = refl
+-- if b is true, a and not b is false
+and-not_true : (a b : Bool) → b ≡ true → (a && not b) ≡ false
+and-not_true true b h = rw h refl
+and-not_true false b h = refl
 
 -- a bus that is reset has no lost line
 pub reset-unlost : (v : Levels) → is_reset v ≡ true → loses_control v ≡ false
 unfolding loses_control
-reset-unlost v reset = fails-any (is_lost v) 0 line_count (λ l a b. kept_unless _ (is_reset v) reset)
+reset-unlost v reset = fails-any (is_lost v) 0 line_count (λ l a b. and-not_true _ (is_reset v) reset)
 
+-- changes leave the number of slots as it is
 pub slots-kept : (v : Levels) (cs : List Change) → (changed v cs).slots ≡ v.slots
 unfolding changed
 slots-kept v [] = refl
@@ -77,20 +84,23 @@ unfolding changed
 level-kept v [] l h = refl
 level-kept v (c ∷ cs) l h =
     let both = or_parts (c.line == l) (is_changed cs l) h in
-    level-kept (set_level v c.line c.level) cs l both.1 ∙ kept_set v c.line l c.level both.0
+    level-kept (set_level v c.line c.level) cs l both.1 ∙ level_at-set_other v c.line l c.level both.0
 
-untouched : (slots : ℕ) (cs : List Change) (l : ℕ) → touches_control slots cs ≡ false → is_control slots l ≡ true
+-- where no control line changes, a control line isn't changed
+is_changed-no_control : (slots : ℕ) (cs : List Change) (l : ℕ) → touches_control slots cs ≡ false → is_control slots l
+    ≡ true
     → is_changed cs l ≡ false
-untouched slots [] l h k = refl
-untouched slots (c ∷ cs) l h k =
+is_changed-no_control slots [] l h k = refl
+is_changed-no_control slots (c ∷ cs) l h k =
     let both = or_parts (is_control slots c.line) (touches_control slots cs) h in
-    rw (untouched slots cs l both.1 k) (other (c.line == l) refl)
+    rw (is_changed-no_control slots cs l both.1 k) (other (c.line == l) refl)
   where
     other : (b : Bool) → (c.line == l) ≡ b → (b || false) ≡ false
     other false e = refl
     other true e = absurd (clash (is_control slots l) k (ap (is_control slots) (sym (eqb-true c.line l e))
         ∙ (or_parts (is_control slots c.line) (touches_control slots cs) h).0))
 
+-- where no control line changes, a line is idle after the changes just if it was before
 idle_on-kept : (v : Levels) (cs : List Change) (l : ℕ) → touches_control v.slots cs ≡ false → is_idle_on (changed v cs)
     l ≡ is_idle_on v l
 idle_on-kept v cs l h = rw (slots-kept v cs) (by_control (is_control v.slots l) refl)
@@ -99,7 +109,7 @@ idle_on-kept v cs l h = rw (slots-kept v cs) (by_control (is_control v.slots l) 
         (cond (rests_high l) (is_high (level_at (changed v cs) l)) (is_known (level_at (changed v cs) l)))
         ≡ cond (not b) true (cond (rests_high l) (is_high (level_at v l)) (is_known (level_at v l)))
     by_control false e = refl
-    by_control true e = rw (level-kept v cs l (untouched v.slots cs l h e)) refl
+    by_control true e = rw (level-kept v cs l (is_changed-no_control v.slots cs l h e)) refl
 
 -- where no control line changes, the bus is idle after the changes just if it was before
 pub idle-kept : (v : Levels) (cs : List Change) → touches_control v.slots cs ≡ false → is_idle (changed v cs)
@@ -111,27 +121,30 @@ idle-kept v cs h = ap not (any-alike (λ l. not (is_idle_on (changed v cs) l)) (
 -- where no control line changes, the bus is reset after the changes just if it was before
 pub reset-kept : (v : Levels) (cs : List Change) → touches_control v.slots cs ≡ false → is_reset (changed v cs)
     ≡ is_reset v
-reset-kept v cs h = ap is_low (level-kept v cs SYSRESET (untouched v.slots cs SYSRESET h refl))
+reset-kept v cs h = ap is_low (level-kept v cs SYSRESET (is_changed-no_control v.slots cs SYSRESET h refl))
 
-still_false : (a b c : Bool) → (a && not b) ≡ false → b ≡ false → (a && not c) ≡ false
-still_false true true c h k = absurd (cc)
-still_false true false c h k = absurd (cc)
-still_false false b c h k = refl
+-- if a is false without b, it is so without c
+and-not_still_false : (a b c : Bool) → (a && not b) ≡ false → b ≡ false → (a && not c) ≡ false
+and-not_still_false true true c h k = absurd (cc)
+and-not_still_false true false c h k = absurd (cc)
+and-not_still_false false b c h k = refl
 
+-- a line that isn't changed, and isn't lost on a bus that isn't reset, isn't lost after the changes
 lost-kept : (v : Levels) (cs : List Change) (l : ℕ) → is_reset v ≡ false → is_lost v l ≡ false → is_changed cs l ≡ false
     → is_lost (changed v cs) l ≡ false
 lost-kept v cs l r h k = rw (slots-kept v cs, level-kept v cs l k)
-    (still_false (is_control v.slots l && not (is_known (level_at v l))) (is_reset v) (is_reset (changed v cs)) h r)
+    (and-not_still_false (is_control v.slots l && not (is_known (level_at v l))) (is_reset v)
+    (is_reset (changed v cs)) h r)
 
 -- a line below `lowest` isn't among the changed ones
-below_changes : (v : Levels) (lowest l : ℕ) (cs : List Change) → are_changes v lowest cs ≡ true → l < lowest
+is_changed-below : (v : Levels) (lowest l : ℕ) (cs : List Change) → are_changes v lowest cs ≡ true → l < lowest
     → is_changed cs l ≡ false
 unfolding are_changes
-below_changes v lowest l [] h b = refl
-below_changes v lowest l (c ∷ cs) h b =
+is_changed-below v lowest l [] h b = refl
+is_changed-below v lowest l (c ∷ cs) h b =
     let parts = and_parts _ _ h in
     let low = and_parts _ _ (and_parts _ _ parts.0).0 in
-    rw (below_changes v (c.line + 1) l cs parts.1 (past lowest c.line l low.0 b).0) (past lowest c.line l low.0 b).1
+    rw (is_changed-below v (c.line + 1) l cs parts.1 (past lowest c.line l low.0 b).0) (past lowest c.line l low.0 b).1
   where
     past : (k m l : ℕ) → nat_le k m ≡ true → l < k → (l < m + 1) × (((m == l) || false) ≡ false)
     past k m l h b = (before k m l h b, unlike k m l h b)
@@ -150,45 +163,54 @@ exists_below slots l few h = grind (arith, nat_tests)
 pub bus_line_exists : (slots l : ℕ) → l < 50 → has_line slots l ≡ true
 bus_line_exists slots l h = grind (arith, nat_tests)
 
-one_more : (l k : ℕ) → l < k → l < k + 1
-one_more l k h = omega arith
+-- a number below k is below k + 1
+lt-next : (l k : ℕ) → l < k → l < k + 1
+lt-next l k h = omega arith
 
 module _ (v now : Levels) (few : v.slots ≤ 21) where
-  lost_here : (c : Change) (cs : List Change) (b : Bool) → is_lost now c.line ≡ b → c.line < line_count
+  -- the line of the first change is the least lost line if it is lost, and else that of the rest is
+  lost_among-least_here : (c : Change) (cs : List Change) (b : Bool) → is_lost now c.line ≡ b → c.line < line_count
       → any (is_lost now) 0 c.line ≡ false → (b ≡ false → lost_among now cs ≡ least (is_lost now) 0 line_count)
       → cond b (Some c.line) (lost_among now cs) ≡ least (is_lost now) 0 line_count
-  lost_here c cs true e below before rest = sym (least-is (is_lost now) 0 line_count c.line (omega arith) below e
+  lost_among-least_here c cs true e below before rest = sym
+      (least-is (is_lost now) 0 line_count c.line (omega arith) below e
       before)
-  lost_here c cs false e below before rest = rest refl
+  lost_among-least_here c cs false e below before rest = rest refl
 
+  -- a number isn't equal to a lower one
   unlike : (a b : ℕ) → b < a → (a == b) ≡ false
   unlike a b h = grind (arith, nat_tests)
 
-  kept_else : (c : Change) (cs : List Change) → ((l : ℕ) → is_changed (c ∷ cs) l ≡ false → is_lost now l ≡ false)
+  -- if the line of the first change isn't lost, no line that the rest leaves unchanged is
+  is_lost-unchanged_rest : (c : Change) (cs : List Change)
+      → ((l : ℕ) → is_changed (c ∷ cs) l ≡ false → is_lost now l ≡ false)
       → is_lost now c.line ≡ false → (l : ℕ) → is_changed cs l ≡ false → is_lost now l ≡ false
-  kept_else c cs kept here l h = by_line (c.line == l) refl
+  is_lost-unchanged_rest c cs kept here l h = by_line (c.line == l) refl
     where
       by_line : (b : Bool) → (c.line == l) ≡ b → is_lost now l ≡ false
       by_line true e = ap (is_lost now) (sym (eqb-true c.line l e)) ∙ here
       by_line false e = kept l (rw (e, h) refl)
 
-  first_lost : (lowest : ℕ) (cs : List Change) → are_changes v lowest cs ≡ true → ((l : ℕ) → is_changed cs l ≡ false
+  -- where no unchanged line is lost, the first changed line that is lost is the least lost line
+  lost_among-least : (lowest : ℕ) (cs : List Change) → are_changes v lowest cs ≡ true
+      → ((l : ℕ) → is_changed cs l ≡ false
       → is_lost now l ≡ false) → lost_among now cs ≡ least (is_lost now) 0 line_count
   unfolding are_changes
-  first_lost lowest [] h kept = sym (least-none (is_lost now) 0 line_count (fails-any (is_lost now) 0 line_count
+  lost_among-least lowest [] h kept = sym (least-none (is_lost now) 0 line_count (fails-any (is_lost now) 0 line_count
       (λ l a b. kept l refl)))
-  first_lost lowest (c ∷ cs) h kept =
+  lost_among-least lowest (c ∷ cs) h kept =
       let parts = and_parts _ _ h in
       let exists = (and_parts _ _ (and_parts _ _ parts.0).0).1 in
-      lost_here c cs (is_lost now c.line) refl (exists_below v.slots c.line few exists)
+      lost_among-least_here c cs (is_lost now c.line) refl (exists_below v.slots c.line few exists)
       (fails-any (is_lost now) 0 c.line
-      (λ l a b. kept l (rw (unlike c.line l b, below_changes v (c.line + 1) l cs parts.1 (one_more l c.line b))
+      (λ l a b. kept l (rw (unlike c.line l b, is_changed-below v (c.line + 1) l cs parts.1 (lt-next l c.line b))
       refl)))
-      (λ e. first_lost (c.line + 1) cs parts.1 (kept_else c cs kept e))
+      (λ e. lost_among-least (c.line + 1) cs parts.1 (is_lost-unchanged_rest c cs kept e))
 
-none_lost : (v : Levels) (l : ℕ) → v.slots ≤ 21 → loses_control v ≡ false → is_lost v l ≡ false
+-- where control isn't lost, no line is
+is_lost-none : (v : Levels) (l : ℕ) → v.slots ≤ 21 → loses_control v ≡ false → is_lost v l ≡ false
 unfolding loses_control
-none_lost v l few h = by_test (is_lost v l) refl
+is_lost-none v l few h = by_test (is_lost v l) refl
   where
     by_test : (b : Bool) → is_lost v l ≡ b → b ≡ false
     by_test false e = refl
@@ -199,8 +221,8 @@ none_lost v l few h = by_test (is_lost v l) refl
 -- where the bus wasn't reset before and no line was lost, the first changed line that is lost is the least lost line
 pub lost-least : (v : Levels) (cs : List Change) → v.slots ≤ 21 → are_changes v 0 cs ≡ true → loses_control v ≡ false
     → is_reset v ≡ false → lost_among (changed v cs) cs ≡ least (is_lost (changed v cs)) 0 line_count
-lost-least v cs few h held unreset = first_lost v (changed v cs) few 0 cs h
-    (λ l k. lost-kept v cs l unreset (none_lost v l few held) k)
+lost-least v cs few h held unreset = lost_among-least v (changed v cs) few 0 cs h
+    (λ l k. lost-kept v cs l unreset (is_lost-none v l few held) k)
 
 -- where no control line is among the changed ones, none of them is lost
 pub lost-untouched : (now : Levels) (cs : List Change) → touches_control now.slots cs ≡ false → lost_among now cs ≡ None

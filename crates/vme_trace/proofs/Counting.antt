@@ -12,26 +12,30 @@ use Rattle.vme_trace.proofs.Ranges.{any-fails, any-step, clash, every-empty, fai
 abbrev pub AreCounted : (ℕ → Bool) → ℕ → ℕ → ℕ → Type 0
 AreCounted p first number count = (count + first ≤ number) × ((count + first == number) ≡ every p first number)
 
-none-more : (a b : Bool) → not (a || (true && not b)) ≡ (not a && b)
-none-more true b = refl
-none-more false true = refl
-none-more false false = refl
+-- neither a nor not b is a way to say not a and b
+not_or_not : (a b : Bool) → not (a || (true && not b)) ≡ (not a && b)
+not_or_not true b = refl
+not_or_not false true = refl
+not_or_not false false = refl
 
 module _ (p : ℕ → Bool) (first number count : ℕ) where
+  -- p holds of all of the range with `number` at its end just if it does of the range and of `number`
   every-step : first ≤ number → every p first (number + 1) ≡ (every p first number && p number)
   every-step h =
       ap not (any-step (λ k. not (p k)) first number) ∙ rw (le-leb first number h)
-      (none-more (any (λ k. not (p k)) first number) (p number))
+      (not_or_not (any (λ k. not (p k)) first number) (p number))
 
-  pub none-counted : number ≡ first → AreCounted p first number 0
-  none-counted e = (omega arith, rw e (same first ∙ sym (every-empty p first)))
+  -- before the first number none is counted
+  pub AreCounted-none : number ≡ first → AreCounted p first number 0
+  AreCounted-none e = (omega arith, rw e (same first ∙ sym (every-empty p first)))
     where
       same : (n : ℕ) → (0 + n == n) ≡ true
       same n = grind (arith, nat_tests)
 
-  pub one-counted : (next : ℕ) → next ≡ count + 1 → AreCounted p first number count → p number ≡ true
+  -- a number of which p holds is counted
+  pub AreCounted-one_more : (next : ℕ) → next ≡ count + 1 → AreCounted p first number count → p number ≡ true
       → AreCounted p first (number + 1) next
-  one-counted next e is h =
+  AreCounted-one_more next e is h =
       let le = is.0 in (
         omega (arith, e, le),
         rw (e, every-step (omega (arith, le)), h)
@@ -49,9 +53,11 @@ module _ (p : ℕ → Bool) (first number count : ℕ) where
       both true e = e
       both false e = e
 
-  pub one-passed : (next : ℕ) → next ≡ count → AreCounted p first number count → p number ≡ false → AreCounted p first
+  -- a number of which p doesn't hold is passed, and then the count is less than the length
+  pub AreCounted-one_passed : (next : ℕ) → next ≡ count → AreCounted p first number count → p number ≡ false
+      → AreCounted p first
       (number + 1) next
-  one-passed next e is h =
+  AreCounted-one_passed next e is h =
       let le = is.0 in (
         omega (arith, e, le),
         rw (e, every-step (omega (arith, le)), h) (fewer count first number le
@@ -62,9 +68,9 @@ module _ (p : ℕ → Bool) (first number count : ℕ) where
       fewer c f n h = grind (arith, nat_tests)
 
   -- at the end of the range, after `last`: the count is its length just if p holds of all of it
-  pub all-counted : (last : ℕ) → first ≤ last → number ≡ last + 1 → AreCounted p first number count
+  pub AreCounted-all : (last : ℕ) → first ≤ last → number ≡ last + 1 → AreCounted p first number count
       → (count == last - first + 1) ≡ every p first (last + 1)
-  all-counted last order e is = same count first last order ∙ (ap (λ n. count + first == n) (sym e) ∙ is.1
+  AreCounted-all last order e is = same count first last order ∙ (ap (λ n. count + first == n) (sym e) ∙ is.1
       ∙ ap (every p first) e)
     where
       same : (c f l : ℕ) → f ≤ l → (c == l - f + 1) ≡ (c + f == l + 1)
@@ -74,8 +80,10 @@ module _ (p : ℕ → Bool) (first number count : ℕ) where
           by_test true e = grind (arith, nat_tests)
           by_test false e = grind (arith, nat_tests)
 
-holds_at : (p : ℕ → Bool) (f n i : ℕ) → every p f n ≡ true → f ≤ i → i < n → p i ≡ true
-holds_at p f n i h a b = not-false (p i) (any-fails (λ k. not (p k)) f n i (not-true (any (λ k. not (p k)) f n) h) a b)
+-- where p holds of all of a range, it holds of each number of it
+every-holds_at : (p : ℕ → Bool) (f n i : ℕ) → every p f n ≡ true → f ≤ i → i < n → p i ≡ true
+every-holds_at p f n i h a b =
+    not-false (p i) (any-fails (λ k. not (p k)) f n i (not-true (any (λ k. not (p k)) f n) h) a b)
 
 -- where p holds of all of a range, and q only of numbers of that range of which p doesn't hold, q has no least number
 pub least-outside : (p q : ℕ → Bool) (first end n : ℕ) → every p first end ≡ true
@@ -83,5 +91,6 @@ pub least-outside : (p q : ℕ → Bool) (first end n : ℕ) → every p first e
 least-outside p q first end n all there = least-none q 0 n (fails-any q 0 n (λ i a b. by_test i b (q i) refl))
   where
     by_test : (i : ℕ) → i < n → (b : Bool) → q i ≡ b → q i ≡ false
-    by_test i below true e = let w = there i below e in absurd (clash (p i) (holds_at p first end i all w.0 w.1) w.2)
+    by_test i below true e = let w = there i below e in absurd
+        (clash (p i) (every-holds_at p first end i all w.0 w.1) w.2)
     by_test i below false e = e

@@ -24,16 +24,18 @@ levels_after-append v [] ys = refl
 levels_after-append v (x ∷ xs) ys = levels_after-append (changed v x.changes) xs ys
 
 -- the first n + 1 steps are the first n and then step n
-pub taken_more : (xs : List Step) (n : ℕ) (step : Step) → slice_get xs n ≡ Some step → take (n + 1) xs ≡ take n xs
+pub take-next : (xs : List Step) (n : ℕ) (step : Step) → slice_get xs n ≡ Some step → take (n + 1) xs ≡ take n xs
     ++ step ∷ []
-taken_more xs n step found = take_more xs n step (slice_get_within xs n step found) ∙ ap (λ s. take n xs ++ s ∷ [])
+take-next xs n step found = take_more xs n step (slice_get_within xs n step found) ∙ ap (λ s. take n xs ++ s ∷ [])
     (get_or_from_slice_get xs n step step found)
 
+-- the levels after the first n + 1 steps are those after the first n, changed by step n
 pub levels_after-more : (v : Levels) (xs : List Step) (n : ℕ) (step : Step) → slice_get xs n ≡ Some step
     → levels_after v (take (n + 1) xs) ≡ changed (levels_after v (take n xs)) step.changes
-levels_after-more v xs n step found = ap (levels_after v) (taken_more xs n step found) ∙ levels_after-append v
+levels_after-more v xs n step found = ap (levels_after v) (take-next xs n step found) ∙ levels_after-append v
     (take n xs) (step ∷ [])
 
+-- a list has an element at n, or n is past its end
 within_or_past : (xs : List Step) (n : ℕ)
     → (((x : Step) × (slice_get xs n ≡ Some x)) ⊎ ((length xs ≤ n) × (slice_get xs n ≡ None)))
 within_or_past xs n =
@@ -57,6 +59,7 @@ levels_at-taken t (suc n) =
     one_more : (n : ℕ) → n + 1 ≡ suc n
     one_more n = omega arith
 
+-- the levels before the first block are the opening's
 pub levels_at-first : (t : Trace) (size : ℕ) → levels_at t (0 * size) ≡ t.opening
 unfolding levels_at
 levels_at-first t size = ap (levels_at t) (zero_times size)
@@ -73,17 +76,17 @@ levels_at-more t k n =
     ∙ ap (λ v. levels_after v (take n (drop k t.steps))) (sym (levels_at-taken t k))
 
 -- the steps of the first k blocks are the first steps
-joined-taken : (size : ℕ) (t : Trace) (k : ℕ) → joined_steps (map (block_at size t) (range_with_len 0 k))
+joined_steps-first_blocks : (size : ℕ) (t : Trace) (k : ℕ) → joined_steps (map (block_at size t) (range_with_len 0 k))
     ≡ take (k * size) t.steps
-joined-taken size t zero = sym (ap (λ n. take n t.steps) (zero_times size))
+joined_steps-first_blocks size t zero = sym (ap (λ n. take n t.steps) (zero_times size))
   where
     zero_times : (n : ℕ) → 0 * n ≡ 0
     zero_times n = omega arith
-joined-taken size t (suc k) =
+joined_steps-first_blocks size t (suc k) =
     ap (λ n. joined_steps (map (block_at size t) (range_with_len 0 n))) (one_more k)
     ∙ ap joined_steps (map-range_with_len_more (block_at size t) 0 k k (omega arith))
     ∙ flat_map-append (λ b. b.steps) (map (block_at size t) (range_with_len 0 k)) (block_at size t k ∷ [])
-    ∙ ap (λ xs. xs ++ (take size (drop (k * size) t.steps) ++ [])) (joined-taken size t k)
+    ∙ ap (λ xs. xs ++ (take size (drop (k * size) t.steps) ++ [])) (joined_steps-first_blocks size t k)
     ∙ ap (λ xs. take (k * size) t.steps ++ xs) (append-nil (take size (drop (k * size) t.steps)))
     ∙ sym (take-add (k * size) size t.steps)
     ∙ ap (λ n. take n t.steps) (times_more k size)
@@ -95,8 +98,8 @@ joined-taken size t (suc k) =
     times_more k n = omega arith
 
 -- as many blocks of `size` steps as n steps fill have room for n steps
-filled : (size n : ℕ) → 0 < size → n ≤ max 1 (div_ceil n size) * size
-filled size n positive = by_rest (n % size) refl
+block_count-room : (size n : ℕ) → 0 < size → n ≤ max 1 (div_ceil n size) * size
+block_count-room size n positive = by_rest (n % size) refl
   where
     by_rest : (r : ℕ) → n % size ≡ r → n ≤ max 1 (n / size + min 1 (n % size)) * size
     by_rest zero e =
@@ -111,20 +114,21 @@ filled size n positive = by_rest (n % size) refl
 
 -- the joined steps of all blocks are the steps of the recording
 pub joined-blocks : (size : ℕ) (t : Trace) → 0 < size → joined_steps (blocks_of size t) ≡ t.steps
-joined-blocks size t positive = joined-taken size t (block_count size t) ∙ take_all (block_count size t * size) t.steps
-    (filled size (length t.steps) positive)
+joined-blocks size t positive = joined_steps-first_blocks size t (block_count size t)
+    ∙ take_all (block_count size t * size) t.steps
+    (block_count-room size (length t.steps) positive)
 
 -- each block starts within the steps
-pub starts_within : (size n k : ℕ) → k < max 1 (div_ceil n size) → k * size ≤ n
-starts_within size n k below =
+pub block_start-within : (size n k : ℕ) → k < max 1 (div_ceil n size) → k * size ≤ n
+block_start-within size n k below =
     let whole = div-mul-le_self n size in
     let fewer : k ≤ n / size = omega arith in
     omega (arith, whole, mul-le-mul_right size fewer)
 
 -- of the steps from k on, the first `size` are those before k + size, or before the end of xs where that is less
-pub last_part : (size k : ℕ) (xs : List Step) → take (min (length xs) (k + size) - k) (drop k xs)
+pub take-last_part : (size k : ℕ) (xs : List Step) → take (min (length xs) (k + size) - k) (drop k xs)
     ≡ take size (drop k xs)
-last_part size k xs =
+take-last_part size k xs =
     elim (whole_or_part (length xs) (k + size)) [
       | inl whole ↦ ap (λ n. take n (drop k xs)) (exact (length xs) k size whole)
       | inr part ↦ take_all _ (drop k xs) (omega (arith, length-drop k xs))
@@ -137,6 +141,7 @@ last_part size k xs =
     exact : (n k size : ℕ) → k + size ≤ n → min n (k + size) - k ≡ size
     exact n k size h = omega arith
 
+-- a block of these parts
 abbrev piece : ℕ → Levels → List Step → Block
 piece number opening steps = record { number = number; opening = opening; steps = steps }
 
@@ -150,7 +155,7 @@ block_at-is size t k number opening xs end same before all last = rw (
   all,
   last
       ∙ ap (λ ys. min (length ys) (k * size + size)) all,
-  last_part size (k * size) t.steps,
+  take-last_part size (k * size) t.steps,
 ) refl
 
 -- the levels after block k are those before block k + 1
@@ -159,7 +164,7 @@ pub levels_at-next : (size : ℕ) (t : Trace) (k : ℕ) (opening : Levels) (xs :
     (take (end - k * size) (drop (k * size) xs)) ≡ levels_at t ((k + 1) * size)
 levels_at-next size t k opening xs end before all last =
     let here : levels_after opening (take (end - k * size) (drop (k * size) xs)) ≡ levels_at t (k * size + size) = rw
-    (before, all, last ∙ ap (λ ys. min (length ys) (k * size + size)) all, last_part size (k * size) t.steps)
+    (before, all, last ∙ ap (λ ys. min (length ys) (k * size + size)) all, take-last_part size (k * size) t.steps)
     (sym (levels_at-more t (k * size) size)) in
     here ∙ ap (levels_at t) (times_more k size)
   where

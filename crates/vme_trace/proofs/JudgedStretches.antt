@@ -18,24 +18,29 @@ use Rattle.vme_trace.proofs.Ranges.{any-fails, fails-any, any-least, least-found
 use Rattle.vme_trace.proofs.Ranges.{those-next, those-split, clash}
 use Rattle.vme_trace.proofs.StretchEnds.{not_lost, not_reset, reads_strobes}
 
+-- 0 is at most n
 zero_le : (n : ℕ) → nat_le 0 n ≡ true
 zero_le n = grind (arith, nat_tests)
 
-greatest_within : (p : ℕ → Bool) (n : ℕ) → unwrap_or (greatest p 0 n) 0 ≤ n
+-- the greatest number below n with p, or else 0, is at most n
+greatest-or_zero : (p : ℕ → Bool) (n : ℕ) → unwrap_or (greatest p 0 n) 0 ≤ n
 unfolding greatest
-greatest_within p zero = omega arith
-greatest_within p (suc n) = by_test (nat_le 0 n && p n) (greatest_within p n)
+greatest-or_zero p zero = omega arith
+greatest-or_zero p (suc n) = by_test (nat_le 0 n && p n) (greatest-or_zero p n)
   where
     by_test : (b : Bool) → unwrap_or (greatest p 0 n) 0 ≤ n → unwrap_or (cond b (Some n) (greatest p 0 n)) 0 ≤ suc n
     by_test true h = omega arith
     by_test false h = omega arith
 
+-- an instant up to n + 1 is n + 1, or up to n
 last_or_before : (j n : ℕ) → j ≤ suc n → (j ≡ suc n) ⊎ (j ≤ n)
 last_or_before j n h = grind arith
 
+-- an instant n from s on is s, or after it
 same_or_after : (s n : ℕ) → s ≤ n → (s ≡ n) ⊎ (s < n)
 same_or_after s n h = grind arith
 
+-- n is before w, w itself, or after it
 trichotomy : (n w : ℕ) → (n < w) ⊎ ((w ≡ n) ⊎ (w < n))
 trichotomy n w = grind arith
 
@@ -53,19 +58,22 @@ module _ (t : Trace) where
     judging : (s : ℕ) → IsIn s n → InstantCase n
     over : any (is_cut_off t) 0 (suc n) ≡ true → InstantCase n
 
-  -- what the levels at one instant imply
+  -- where the bus is idle, no control line is lost
   pub idle-unlost_at : (n : ℕ) → is_idle_at t n ≡ true → loses_control_at t n ≡ false
   unfolding is_idle_at loses_control_at
   idle-unlost_at n h = idle-unlost (levels_at t n) h
 
+  -- where the bus is idle, it isn't reset
   pub idle-unreset_at : (n : ℕ) → is_idle_at t n ≡ true → is_reset_at t n ≡ false
   unfolding is_idle_at is_reset_at
   idle-unreset_at n h = idle-unreset (levels_at t n) h
 
+  -- where the bus is reset, no control line is lost
   pub reset-unlost_at : (n : ℕ) → is_reset_at t n ≡ true → loses_control_at t n ≡ false
   unfolding is_reset_at loses_control_at
   reset-unlost_at n h = reset-unlost (levels_at t n) h
 
+  -- where the bus is reset, it isn't idle
   pub reset-busy_at : (n : ℕ) → is_reset_at t n ≡ true → is_idle_at t n ≡ false
   reset-busy_at n h =
       elim (cases_Bool (is_idle_at t n)) [
@@ -81,38 +89,44 @@ module _ (t : Trace) where
         | inr busy ↦ busy
       ]
 
-  -- whether the bus was idle since the last reset, from instant to instant
+  -- before the opening the bus wasn't idle
   pub was_idle-first : was_idle t 0 ≡ false
   unfolding was_idle any greatest
   was_idle-first = refl
 
-  last_reset_here : (n : ℕ) → is_reset_at t n ≡ true → last_reset t (suc n) ≡ n
+  -- where the bus is reset at n, the last reset before n + 1 is n
+  last_reset-at : (n : ℕ) → is_reset_at t n ≡ true → last_reset t (suc n) ≡ n
   unfolding greatest
-  last_reset_here n h = rw (zero_le n, h) refl
+  last_reset-at n h = rw (zero_le n, h) refl
 
-  last_reset_before : (n : ℕ) → is_reset_at t n ≡ false → last_reset t (suc n) ≡ last_reset t n
+  -- where the bus isn't reset at n, the last reset before n + 1 is that before n
+  last_reset-unreset : (n : ℕ) → is_reset_at t n ≡ false → last_reset t (suc n) ≡ last_reset t n
   unfolding greatest
-  last_reset_before n h = rw (zero_le n, h) refl
+  last_reset-unreset n h = rw (zero_le n, h) refl
 
+  -- after a reset at n the bus wasn't idle since the last reset
   pub was_idle-reset : (n : ℕ) → is_reset_at t n ≡ true → was_idle t (suc n) ≡ false
   unfolding was_idle
   was_idle-reset n h =
-      ap (λ first. any (is_idle_at t) first (suc n)) (last_reset_here n h)
+      ap (λ first. any (is_idle_at t) first (suc n)) (last_reset-at n h)
       ∙ fails-any (is_idle_at t) n (suc n) (λ i a b. let e : i ≡ n = omega arith in
       ap (is_idle_at t) e ∙ reset-busy_at n h)
 
+  -- where the bus isn't reset at n, it was idle since the last reset before n + 1 just if it was before n, or is at n
   pub was_idle-next : (n : ℕ) → is_reset_at t n ≡ false → was_idle t (suc n) ≡ (was_idle t n || is_idle_at t n)
   unfolding was_idle any
   was_idle-next n h =
-      ap (λ first. any (is_idle_at t) first (suc n)) (last_reset_before n h)
+      ap (λ first. any (is_idle_at t) first (suc n)) (last_reset-unreset n h)
       ∙ ap (λ b. any (is_idle_at t) (last_reset t n) n || (b && is_idle_at t n))
-      (le-leb (last_reset t n) n (greatest_within (is_reset_at t) n))
+      (le-leb (last_reset t n) n (greatest-or_zero (is_reset_at t) n))
 
-  -- whether a stretch was cut off, from instant to instant
+  -- before the opening no stretch was cut off
   pub cut-first : any (is_cut_off t) 0 0 ≡ false
   unfolding any
   cut-first = refl
 
+  -- a stretch was cut off before n + 1 just if one was before n, or if a control line is lost at n where the bus was
+  -- idle
   pub cut-next : (n : ℕ) → any (is_cut_off t) 0 (suc n)
       ≡ (any (is_cut_off t) 0 n || (loses_control_at t n && was_idle t n))
   unfolding any is_cut_off
@@ -142,6 +156,7 @@ module _ (t : Trace) where
     uncut = cut-next n ∙ or_from _ _ w.uncut (rw w.unjudged (and-false (loses_control_at t n)));
   }
 
+  -- where a stretch is awaited at f, and no instant from f on and before n is idle, it is awaited at n
   pub awaits-until : (f n : ℕ) → Awaits t f → f ≤ n → any (is_idle_at t) f n ≡ false → Awaits t n
   awaits-until f zero w from busy = let e : f ≡ 0 = omega arith in subst (Awaits t) e w
   awaits-until f (suc n) w from busy =
@@ -158,29 +173,32 @@ module _ (t : Trace) where
   unfolding stretch_starts
   starts-idle s h = (and_parts _ _ (and_parts _ _ h).0).0
 
-  starts_awaited : (s : ℕ) → stretch_starts t s ≡ true → Awaits t s
+  -- a stretch is awaited where one starts
+  awaits-at_start : (s : ℕ) → stretch_starts t s ≡ true → Awaits t s
   unfolding stretch_starts
-  starts_awaited s h = record {
+  awaits-at_start s h = record {
     unjudged = not-true _ (and_parts _ _ (and_parts _ _ h).0).1;
     uncut = not-true _
         (and_parts _ _ h).1;
   }
 
-  -- no stretch starts after one was cut off, nor where the bus was idle since the last reset
+  -- no stretch starts after one was cut off
   pub cut-no_start : (n : ℕ) → any (is_cut_off t) 0 n ≡ true → stretch_starts t n ≡ false
   cut-no_start n h =
       elim (cases_Bool (stretch_starts t n)) [
-        | inl starts ↦ absurd (clash _ h (starts_awaited n starts).uncut)
+        | inl starts ↦ absurd (clash _ h (awaits-at_start n starts).uncut)
         | inr none ↦ none
       ]
 
+  -- no stretch starts where the bus was idle since the last reset
   pub idle-no_start : (n : ℕ) → was_idle t n ≡ true → stretch_starts t n ≡ false
   idle-no_start n h =
       elim (cases_Bool (stretch_starts t n)) [
-        | inl starts ↦ absurd (clash _ h (starts_awaited n starts).unjudged)
+        | inl starts ↦ absurd (clash _ h (awaits-at_start n starts).unjudged)
         | inr none ↦ none
       ]
 
+  -- no stretch starts where the bus isn't idle
   pub busy-no_start : (n : ℕ) → is_idle_at t n ≡ false → stretch_starts t n ≡ false
   busy-no_start n h =
       elim (cases_Bool (stretch_starts t n)) [
@@ -207,6 +225,7 @@ module _ (t : Trace) where
       by_end None e = omega arith
       by_end (Some w) e = omega (arith, (least-found (stops_at t) (s + 1) (last_instant t + 1) w e).first)
 
+  -- a stretch ends at the latest one after the last instant
   pub end-within : (s : ℕ) → stretch_end t s ≤ last_instant t + 1
   unfolding stretch_end
   end-within s = by_end (least (stops_at t) (s + 1) (last_instant t + 1)) refl
@@ -226,13 +245,15 @@ module _ (t : Trace) where
       by_end None e within = absurd (omega arith)
       by_end (Some w) e within = (least-found (stops_at t) (s + 1) (last_instant t + 1) w e).holds
 
-  -- within a stretch, from instant to instant
+  -- the start of a stretch is in it
   pub in-first : (s : ℕ) → stretch_starts t s ≡ true → s ≤ last_instant t → IsIn s s
   in-first s starts within = record { starts = starts; from = omega arith; before = end-after s within }
 
+  -- the next instant is in the stretch if it is before its end
   pub in-next : (s n : ℕ) → IsIn s n → suc n < stretch_end t s → IsIn s (suc n)
   in-next s n h before = record { starts = h.starts; from = omega (arith, h.from); before = before }
 
+  -- no control line is lost in a stretch
   pub in-unlost : (s n : ℕ) → IsIn s n → loses_control_at t n ≡ false
   in-unlost s n h =
       elim (same_or_after s n h.from) [
@@ -240,6 +261,7 @@ module _ (t : Trace) where
         | inr after ↦ not_lost t s n after h.before
       ]
 
+  -- the bus isn't reset in a stretch
   pub in-unreset : (s n : ℕ) → IsIn s n → is_reset_at t n ≡ false
   in-unreset s n h =
       elim (same_or_after s n h.from) [
@@ -247,23 +269,29 @@ module _ (t : Trace) where
         | inr after ↦ not_reset t s n after h.before
       ]
 
-  in_started : (s n : ℕ) → IsIn s n → (was_idle t (suc n) ≡ true) × (any (is_cut_off t) 0 (suc n) ≡ false)
-  in_started s zero h =
+  -- after an instant in a stretch, the bus was idle since the last reset, and no stretch was cut off
+  was_idle-in_stretch : (s n : ℕ) → IsIn s n → (was_idle t (suc n) ≡ true) × (any (is_cut_off t) 0 (suc n) ≡ false)
+  was_idle-in_stretch s zero h =
       let e : s ≡ 0 = omega (arith, h.from) in
       let starts = subst (λ i. stretch_starts t i ≡ true) e h.starts in (
         was_idle-next 0 (in-unreset s 0 h) ∙ or_right _ _ (starts-idle 0 starts),
         cut-next 0 ∙ or_from _ _ cut-first (ap (λ b. b && was_idle t 0) (in-unlost s 0 h)),
       )
-  in_started s (suc n) h =
+  was_idle-in_stretch s (suc n) h =
       elim (last_or_before s n h.from) [
         | inl e ↦
             let starts = subst (λ i. stretch_starts t i ≡ true) e h.starts in (
               was_idle-next (suc n) (in-unreset s (suc n) h) ∙ or_right _ _ (starts-idle (suc n) starts),
-              cut-next (suc n) ∙ or_from _ _ (starts_awaited (suc n) starts).uncut (ap (λ b. b && was_idle t (suc n))
+              cut-next (suc n) ∙ or_from _ _ (awaits-at_start (suc n) starts).uncut (ap (λ b. b && was_idle t (suc n))
                   (in-unlost s (suc n) h)),
             )
         | inr before ↦
-            let earlier = in_started s n (record { starts = h.starts; from = before; before = omega (arith, h.before) })
+            let earlier = was_idle-in_stretch s n (record {
+              starts = h.starts;
+              from = before;
+              before =
+                  omega (arith, h.before);
+            })
             in (
               was_idle-next (suc n) (in-unreset s (suc n) h) ∙ or_left _ _ earlier.0,
               cut-next (suc n) ∙ or_from _ _ earlier.1 (ap (λ b. b && was_idle t (suc n)) (in-unlost s (suc n) h)),
@@ -272,38 +300,40 @@ module _ (t : Trace) where
 
   -- no other stretch starts within a stretch, nor at its end
   pub in-no_start : (s n : ℕ) → IsIn s n → stretch_starts t (suc n) ≡ false
-  in-no_start s n h = idle-no_start (suc n) (in_started s n h).0
+  in-no_start s n h = idle-no_start (suc n) (was_idle-in_stretch s n h).0
 
   -- where a stretch ends by a reset, the next one is awaited
   pub in-reset : (s n : ℕ) → IsIn s n → is_reset_at t (suc n) ≡ true → Awaits t (suc (suc n))
   in-reset s n h reset = record {
     unjudged = was_idle-reset (suc n) reset;
-    uncut = cut-next (suc n) ∙ or_from _ _ (in_started s n h).1 (ap (λ b. b && was_idle t (suc n))
+    uncut = cut-next (suc n) ∙ or_from _ _ (was_idle-in_stretch s n h).1 (ap (λ b. b && was_idle t (suc n))
         (reset-unlost_at (suc n) reset));
   }
 
   -- where a stretch ends by a lost control line, it is cut off
   pub in-lost : (s n : ℕ) → IsIn s n → loses_control_at t (suc n) ≡ true → any (is_cut_off t) 0 (suc (suc n)) ≡ true
   in-lost s n h lost = cut-next (suc n) ∙ or_right _ (loses_control_at t (suc n) && was_idle t (suc n))
-      (rw (lost, (in_started s n h).0) refl)
+      (rw (lost, (was_idle-in_stretch s n h).0) refl)
 
-  second_of : (a b : Bool) → a ≡ false → (a || b) ≡ true → b ≡ true
-  second_of true b h k = absurd (cc)
-  second_of false b h k = k
+  -- if a is false, and a or b true, b is true
+  or-false_first : (a b : Bool) → a ≡ false → (a || b) ≡ true → b ≡ true
+  or-false_first true b h k = absurd (cc)
+  or-false_first false b h k = k
 
-  case_of_awaited : (n : ℕ) → n ≤ last_instant t → Awaits t n → InstantCase n
-  case_of_awaited n within w =
+  -- an instant at which a stretch is awaited has its case
+  InstantCase-awaited : (n : ℕ) → n ≤ last_instant t → Awaits t n → InstantCase n
+  InstantCase-awaited n within w =
       elim (cases_Bool (is_idle_at t n)) [
         | inl idle ↦ judging n (in-first n (awaits-starts n w ∙ idle) within)
         | inr busy ↦ awaiting (awaits-next n w busy)
       ]
 
   -- each instant has its case of `InstantCase`
-  pub case_of_instant : (n : ℕ) → n ≤ last_instant t → InstantCase n
-  case_of_instant zero within = case_of_awaited zero within awaits-first
-  case_of_instant (suc n) within =
-      elim (case_of_instant n (omega arith)) [
-        | awaiting w ↦ case_of_awaited (suc n) within w
+  pub InstantCase-at : (n : ℕ) → n ≤ last_instant t → InstantCase n
+  InstantCase-at zero within = InstantCase-awaited zero within awaits-first
+  InstantCase-at (suc n) within =
+      elim (InstantCase-at n (omega arith)) [
+        | awaiting w ↦ InstantCase-awaited (suc n) within w
         | judging s h ↦
             elim (trichotomy (suc n) (stretch_end t s)) [
               | inl before ↦ judging s (in-next s n h before)
@@ -313,7 +343,7 @@ module _ (t : Trace) where
                         let stops = ap (stops_at t) (sym e) ∙ end-stops s (omega (arith, e)) in
                         elim (cases_Bool (is_reset_at t (suc n))) [
                           | inl reset ↦ awaiting (in-reset s n h reset)
-                          | inr unreset ↦ over (in-lost s n h (second_of _ _ unreset stops))
+                          | inr unreset ↦ over (in-lost s n h (or-false_first _ _ unreset stops))
                         ]
                     | inr past ↦ absurd (omega (arith, h.before))
                   ]
@@ -321,23 +351,27 @@ module _ (t : Trace) where
         | over cut ↦ over (cut-next (suc n) ∙ or_left _ _ cut)
       ]
 
-  -- facts about a stretch that is judged
-  stretch-is : (stretch : Stretch) → IsStretchOf t stretch → stretch ≡ stretch_from t stretch.start
-  stretch-is stretch is = ap (λ end. from_to stretch.start end) is.ends
+  -- a stretch of a recording is the one that starts at its start
+  stretch_from-start : (stretch : Stretch) → IsStretchOf t stretch → stretch ≡ stretch_from t stretch.start
+  stretch_from-start stretch is = ap (λ end. from_to stretch.start end) is.ends
     where
       from_to : ℕ → ℕ → Stretch
       from_to start end = record { start = start; end = end }
 
-  in_stretch : (stretch : Stretch) (n : ℕ) → IsStretchOf t stretch → stretch.start ≤ n → n < stretch.end
+  -- an instant from the start of a stretch on and before its end is in it
+  IsIn-stretch : (stretch : Stretch) (n : ℕ) → IsStretchOf t stretch → stretch.start ≤ n → n < stretch.end
       → IsIn stretch.start n
-  in_stretch stretch n is from before = record { starts = is.starts; from = from; before = omega (arith, is.ends) }
+  IsIn-stretch stretch n is from before = record { starts = is.starts; from = from; before = omega (arith, is.ends) }
 
-  pub starts_idle : (stretch : Stretch) → IsStretchOf t stretch → is_idle_at t stretch.start ≡ true
-  starts_idle stretch is = starts-idle stretch.start is.starts
+  -- the bus is idle at the start of a stretch
+  pub is_idle_at-stretch_start : (stretch : Stretch) → IsStretchOf t stretch → is_idle_at t stretch.start ≡ true
+  is_idle_at-stretch_start stretch is = starts-idle stretch.start is.starts
 
+  -- a stretch starts before its end
   pub starts_before_end : (stretch : Stretch) → IsStretchOf t stretch → stretch.start < stretch.end
   starts_before_end stretch is = omega (arith, is.ends, end-after stretch.start is.within)
 
+  -- a stretch ends at the latest one after the last instant
   pub ends_within : (stretch : Stretch) → IsStretchOf t stretch → stretch.end ≤ last_instant t + 1
   ends_within stretch is = omega (arith, is.ends, end-within stretch.start)
 
@@ -345,16 +379,19 @@ module _ (t : Trace) where
   pub stretch_unlost : (stretch : Stretch) (n : ℕ) → IsStretchOf t stretch → stretch.start ≤ n → n < stretch.end
       → loses_control_at t n
       ≡ false
-  stretch_unlost stretch n is from before = in-unlost stretch.start n (in_stretch stretch n is from before)
+  stretch_unlost stretch n is from before = in-unlost stretch.start n (IsIn-stretch stretch n is from before)
 
+  -- within a stretch the bus isn't reset
   pub stretch_unreset : (stretch : Stretch) (n : ℕ) → IsStretchOf t stretch → stretch.start ≤ n → n < stretch.end
       → is_reset_at t n ≡ false
-  stretch_unreset stretch n is from before = in-unreset stretch.start n (in_stretch stretch n is from before)
+  stretch_unreset stretch n is from before = in-unreset stretch.start n (IsIn-stretch stretch n is from before)
 
+  -- a stretch starts with both strobes high, and within it both are known
   pub stretch_reads : (stretch : Stretch) → IsStretchOf t stretch → ReadsStrobes t stretch
-  stretch_reads stretch is = subst (ReadsStrobes t) (sym (stretch-is stretch is))
-      (reads_strobes t stretch.start (starts_idle stretch is))
+  stretch_reads stretch is = subst (ReadsStrobes t) (sym (stretch_from-start stretch is))
+      (reads_strobes t stretch.start (is_idle_at-stretch_start stretch is))
 
+  -- where a stretch ends within the recording, the bus is reset or a control line lost
   pub stretch_stops : (stretch : Stretch) → IsStretchOf t stretch → stretch.end ≤ last_instant t
       → stops_at t stretch.end ≡ true
   stretch_stops stretch is within = ap (stops_at t) is.ends ∙ end-stops stretch.start (omega (arith, is.ends))
@@ -363,17 +400,18 @@ module _ (t : Trace) where
   pub stretch_lost : (stretch : Stretch) → IsStretchOf t stretch → stretch.end ≤ last_instant t
       → is_reset_at t stretch.end ≡ false
       → loses_control_at t stretch.end ≡ true
-  stretch_lost stretch is within unreset = second_of _ _ unreset (stretch_stops stretch is within)
+  stretch_lost stretch is within unreset = or-false_first _ _ unreset (stretch_stops stretch is within)
 
-  last_of : (stretch : Stretch) → IsStretchOf t stretch → (n : ℕ) × (stretch.end ≡ suc n) × IsIn stretch.start n
-  last_of stretch is = by_end stretch.end refl
+  -- the last instant before the end of a stretch is in it
+  IsIn-last : (stretch : Stretch) → IsStretchOf t stretch → (n : ℕ) × (stretch.end ≡ suc n) × IsIn stretch.start n
+  IsIn-last stretch is = by_end stretch.end refl
     where
       by_end : (end : ℕ) → stretch.end ≡ end → (n : ℕ) × (stretch.end ≡ suc n) × IsIn stretch.start n
       by_end zero e = absurd (omega (arith, e, starts_before_end stretch is))
       by_end (suc n) e = (
         n,
         e,
-        in_stretch stretch n is (omega (arith, e, starts_before_end stretch is))
+        IsIn-stretch stretch n is (omega (arith, e, starts_before_end stretch is))
             (omega (arith, e)),
       )
 
@@ -382,7 +420,7 @@ module _ (t : Trace) where
       → is_reset_at t stretch.end
       ≡ false → stretch.end ≤ j → stretch_starts t j ≡ false
   stretch_final stretch j is within unreset from =
-      let last = last_of stretch is in
+      let last = IsIn-last stretch is in
       let lost = ap (loses_control_at t) (sym last.1) ∙ stretch_lost stretch is within unreset in
       elim (same_or_after stretch.end j from) [
         | inl e ↦ ap (stretch_starts t) (sym e) ∙ busy-no_start stretch.end
@@ -395,7 +433,7 @@ module _ (t : Trace) where
   pub stretch_reset : (stretch : Stretch) → IsStretchOf t stretch → is_reset_at t stretch.end ≡ true
       → Awaits t (suc stretch.end)
   stretch_reset stretch is reset =
-      let last = last_of stretch is in
+      let last = IsIn-last stretch is in
       subst (λ n. Awaits t (suc n)) (sym last.1) (in-reset stretch.start last.0 last.2 (ap (is_reset_at t) (sym last.1)
       ∙ reset))
 
@@ -404,13 +442,13 @@ module _ (t : Trace) where
       → stretch_starts t j ≡ false
   one_stretch_alone stretch zero is after upto = absurd (omega arith)
   one_stretch_alone stretch (suc n) is after upto = in-no_start stretch.start n
-      (in_stretch stretch n is (omega arith) (omega arith))
+      (IsIn-stretch stretch n is (omega arith) (omega arith))
 
   -- of two stretches the first one ends by a reset, before the second one starts
-  pub stretches_apart : (stretch next : Stretch) → IsStretchOf t stretch → IsStretchOf t next
+  pub stretches-apart : (stretch next : Stretch) → IsStretchOf t stretch → IsStretchOf t next
       → stretch.start < next.start
       → (is_reset_at t stretch.end ≡ true) × (stretch.end < next.start)
-  stretches_apart stretch next is is_next order =
+  stretches-apart stretch next is is_next order =
       elim (before_or_after next.start stretch.end) [
         | inl within ↦ absurd (clash _ is_next.starts (one_stretch_alone stretch next.start is order within))
         | inr past ↦ (by_test (is_reset_at t stretch.end) refl past, past)
@@ -425,22 +463,22 @@ module _ (t : Trace) where
           (clash _ is_next.starts (stretch_final stretch next.start is (omega (arith, is_next.within)) e (omega arith)))
 
   -- stretches with the same start are the same
-  pub stretches_same : (stretch other : Stretch) → IsStretchOf t stretch → IsStretchOf t other → stretch.start
+  pub stretches-same_start : (stretch other : Stretch) → IsStretchOf t stretch → IsStretchOf t other → stretch.start
       ≡ other.start → stretch ≡ other
-  stretches_same stretch other is is_other e = stretch-is stretch is
-      ∙ (ap (stretch_from t) e ∙ sym (stretch-is other is_other))
+  stretches-same_start stretch other is is_other e = stretch_from-start stretch is
+      ∙ (ap (stretch_from t) e ∙ sym (stretch_from-start other is_other))
 
   -- stretches with a common instant are the same
-  pub stretches_one : (stretch other : Stretch) (n : ℕ) → IsStretchOf t stretch → IsStretchOf t other
+  pub stretches-common_instant : (stretch other : Stretch) (n : ℕ) → IsStretchOf t stretch → IsStretchOf t other
       → stretch.start ≤ n → n < stretch.end
       → other.start ≤ n → n < other.end → stretch ≡ other
-  stretches_one stretch other n is is_other from before from_other before_other =
+  stretches-common_instant stretch other n is is_other from before from_other before_other =
       elim (trichotomy stretch.start other.start) [
-        | inl order ↦ absurd (omega (arith, (stretches_apart stretch other is is_other order).1))
+        | inl order ↦ absurd (omega (arith, (stretches-apart stretch other is is_other order).1))
         | inr not_before ↦
             elim not_before [
-              | inl e ↦ stretches_same stretch other is is_other (sym e)
-              | inr order ↦ absurd (omega (arith, (stretches_apart other stretch is_other is order).1))
+              | inl e ↦ stretches-same_start stretch other is is_other (sym e)
+              | inr order ↦ absurd (omega (arith, (stretches-apart other stretch is_other is order).1))
             ]
       ]
 
@@ -448,35 +486,42 @@ module _ (t : Trace) where
   abbrev pub stretches_before : ℕ → List Stretch
   stretches_before n = map (stretch_from t) (those (stretch_starts t) 0 n)
 
-  pub stretches_all : judged_stretches t ≡ stretches_before (last_instant t + 1)
+  -- the judged stretches are those that start before the instant after the last
+  pub judged_stretches-before : judged_stretches t ≡ stretches_before (last_instant t + 1)
   unfolding judged_stretches
-  stretches_all = refl
+  judged_stretches-before = refl
 
-  pub stretches_from_first : judged_stretches t ≡ stretches_after t 0
+  -- the judged stretches are those that start at the opening or later
+  pub judged_stretches-after_first : judged_stretches t ≡ stretches_after t 0
   unfolding judged_stretches
-  stretches_from_first = refl
+  judged_stretches-after_first = refl
 
-  pub stretches_more : (n : ℕ) → stretch_starts t n ≡ true → stretches_before (suc n) ≡ stretches_before n
+  -- where a stretch starts at n, it is added to those that start before n
+  pub stretches_before-starts : (n : ℕ) → stretch_starts t n ≡ true → stretches_before (suc n) ≡ stretches_before n
       ++ stretch_from t n ∷ []
-  stretches_more n h = ap (map (stretch_from t)) (those-more (stretch_starts t) 0 n (omega arith) h)
+  stretches_before-starts n h = ap (map (stretch_from t)) (those-more (stretch_starts t) 0 n (omega arith) h)
       ∙ map-append (stretch_from t)
       (those (stretch_starts t) 0 n) (n ∷ [])
 
-  pub stretches_kept : (n : ℕ) → stretch_starts t n ≡ false → stretches_before (suc n) ≡ stretches_before n
-  stretches_kept n h = ap (map (stretch_from t)) (those-same (stretch_starts t) 0 n h)
+  -- where no stretch starts at n, none is added
+  pub stretches_before-no_start : (n : ℕ) → stretch_starts t n ≡ false → stretches_before (suc n) ≡ stretches_before n
+  stretches_before-no_start n h = ap (map (stretch_from t)) (those-same (stretch_starts t) 0 n h)
 
   -- where a stretch is awaited at f and no instant from f on is idle, no stretch comes
-  pub stretches_none : (f : ℕ) → Awaits t f → any (is_idle_at t) f (last_instant t + 1) ≡ false → stretches_after t f
+  pub stretches_after-none : (f : ℕ) → Awaits t f → any (is_idle_at t) f (last_instant t + 1) ≡ false
+      → stretches_after t f
       ≡ []
-  stretches_none f w busy =
+  stretches_after-none f w busy =
       ap (map (stretch_from t))
       (those-none (stretch_starts t) f (last_instant t + 1)
       (fails-any (stretch_starts t) f (last_instant t + 1)
       (λ i a b. busy-no_start i (any-fails (is_idle_at t) f (last_instant t + 1) i busy a b))))
 
-  same_starts : (f m : ℕ) → f ≤ m → ((j : ℕ) → f ≤ j → j < m → stretch_starts t j ≡ false) → those (stretch_starts t) f
+  -- where no stretch starts from f on and before m, the starts from f on are those from m on
+  those-same_starts : (f m : ℕ) → f ≤ m → ((j : ℕ) → f ≤ j → j < m → stretch_starts t j ≡ false)
+      → those (stretch_starts t) f
       (last_instant t + 1) ≡ those (stretch_starts t) m (last_instant t + 1)
-  same_starts f m order none =
+  those-same_starts f m order none =
       elim (within_or_past m (last_instant t)) [
         | inl within ↦
             those-split (stretch_starts t) f m (last_instant t + 1) order (omega arith)
@@ -494,46 +539,50 @@ module _ (t : Trace) where
       within_or_past m last = grind arith
 
   -- the stretches that start after the start of one are those that start after its end
-  starts_past : (stretch : Stretch) → IsStretchOf t stretch → stretches_after t (stretch.start + 1)
+  stretches_after-past_end : (stretch : Stretch) → IsStretchOf t stretch → stretches_after t (stretch.start + 1)
       ≡ stretches_after t (stretch.end + 1)
-  starts_past stretch is =
-      ap (map (stretch_from t)) (same_starts (stretch.start + 1) (stretch.end + 1)
+  stretches_after-past_end stretch is =
+      ap (map (stretch_from t)) (those-same_starts (stretch.start + 1) (stretch.end + 1)
       (omega (arith, starts_before_end stretch is))
       (λ j a b. one_stretch_alone stretch j is (omega arith) (omega arith)))
 
-  starts_here : (f : ℕ) → f ≤ last_instant t → stretch_starts t f ≡ true → stretches_after t f ≡ stretch_from t f
+  -- where a stretch starts at f, it is the first of those that start from f on
+  stretches_after-here : (f : ℕ) → f ≤ last_instant t → stretch_starts t f ≡ true → stretches_after t f
+      ≡ stretch_from t f
       ∷ stretches_after t (f + 1)
-  starts_here f within starts =
+  stretches_after-here f within starts =
       ap (map (stretch_from t)) (those-next (stretch_starts t) f (last_instant t + 1) f (omega arith) (omega arith)
       starts
       (fails-any (stretch_starts t) f f (λ j a b. absurd (omega arith))))
 
-  starts_there : (f i : ℕ) → f ≤ i → i ≤ last_instant t → stretch_starts t i ≡ true → any (stretch_starts t) f i ≡ false
+  -- the stretch of the first start i from f on is the first of those that start from f on
+  stretches_after-there : (f i : ℕ) → f ≤ i → i ≤ last_instant t → stretch_starts t i ≡ true
+      → any (stretch_starts t) f i ≡ false
       → stretches_after t f ≡ stretch_from t i ∷ stretches_after t (i + 1)
-  starts_there f i from within starts none = ap (map (stretch_from t))
+  stretches_after-there f i from within starts none = ap (map (stretch_from t))
       (those-next (stretch_starts t) f (last_instant t + 1) i
       from (omega arith) starts none)
 
   -- where a stretch is awaited at f, the first idle instant i starts it, and the others start after its end
-  pub stretches_next : (f i : ℕ) → Awaits t f → f ≤ i → i ≤ last_instant t → is_idle_at t i ≡ true
+  pub stretches_after-next : (f i : ℕ) → Awaits t f → f ≤ i → i ≤ last_instant t → is_idle_at t i ≡ true
       → any (is_idle_at t) f i
       ≡ false
       → IsStretchOf t (stretch_from t i) × (stretches_after t f ≡ stretch_from t i
       ∷ stretches_after t (stretch_end t i + 1))
-  stretches_next f i w from within idle busy =
+  stretches_after-next f i w from within idle busy =
       let starts = awaits-starts i (awaits-until f i w from busy) ∙ idle in
       let is : IsStretchOf t (stretch_from t i) = record { within = within; starts = starts; ends = refl } in (
         is,
-        starts_there f i from within starts
+        stretches_after-there f i from within starts
             (fails-any (stretch_starts t) f i (λ j a b. busy-no_start j (any-fails (is_idle_at t) f i j busy a b)))
-            ∙ ap (λ stretches. stretch_from t i ∷ stretches) (starts_past (stretch_from t i) is),
+            ∙ ap (λ stretches. stretch_from t i ∷ stretches) (stretches_after-past_end (stretch_from t i) is),
       )
 
   -- no stretch comes after one that doesn't end by a reset
-  pub stretches_final : (stretch : Stretch) → IsStretchOf t stretch
+  pub stretches_after-final : (stretch : Stretch) → IsStretchOf t stretch
       → (stretch.end ≤ last_instant t → is_reset_at t stretch.end ≡ false)
       → stretches_after t (stretch.end + 1) ≡ []
-  stretches_final stretch is unreset =
+  stretches_after-final stretch is unreset =
       ap (map (stretch_from t))
       (those-none (stretch_starts t) (stretch.end + 1) (last_instant t + 1)
       (fails-any (stretch_starts t) (stretch.end + 1) (last_instant t + 1)
@@ -542,19 +591,21 @@ module _ (t : Trace) where
 
   -- `judged_stretches` is the stretches that start before `stretch`, then `stretch`, then those
   -- that start after its end
-  pub stretch_listed : (stretch : Stretch) → IsStretchOf t stretch → judged_stretches t ≡ stretches_before stretch.start
+  pub judged_stretches-split : (stretch : Stretch) → IsStretchOf t stretch → judged_stretches t
+      ≡ stretches_before stretch.start
       ++ stretch
       ∷ stretches_after t (stretch.end + 1)
-  stretch_listed stretch is =
-      stretches_all
+  judged_stretches-split stretch is =
+      judged_stretches-before
       ∙ (ap (map (stretch_from t)) (those-split (stretch_starts t) 0 stretch.start (last_instant t + 1) (omega arith)
       (omega (arith, is.within)))
       ∙ (map-append (stretch_from t) (those (stretch_starts t) 0 stretch.start)
       (those (stretch_starts t) stretch.start (last_instant t + 1))
-      ∙ ap (λ stretches. stretches_before stretch.start ++ stretches) (starts_here stretch.start is.within is.starts
-      ∙ (ap (λ first. first ∷ stretches_after t (stretch.start + 1)) (sym (stretch-is stretch is))
+      ∙ ap (λ stretches. stretches_before stretch.start ++ stretches)
+      (stretches_after-here stretch.start is.within is.starts
+      ∙ (ap (λ first. first ∷ stretches_after t (stretch.start + 1)) (sym (stretch_from-start stretch is))
       ∙ ap (λ stretches. stretch ∷ stretches)
-      (starts_past stretch is)))))
+      (stretches_after-past_end stretch is)))))
 
 -- the stretches are ones of t, in order: each but the last ends by a reset, before the next one starts
 abbrev pub AreInOrder : Trace → List Stretch → Type 0
@@ -565,13 +616,15 @@ AreInOrder t (stretch ∷ next ∷ stretches) = IsStretchOf t stretch × (is_res
     × AreInOrder t (next ∷ stretches)
 
 module _ (t : Trace) where
-  ordered_from : (k f : ℕ) → f + k ≡ last_instant t + 1 → AreInOrder t (stretches_after t f)
-  ordered_from zero f e =
+  -- the stretches that start from f on are in order; k is how many instants are left
+  AreInOrder-stretches_after : (k f : ℕ) → f + k ≡ last_instant t + 1 → AreInOrder t (stretches_after t f)
+  AreInOrder-stretches_after zero f e =
       let none : stretches_after t f ≡ [] = ap (map (stretch_from t))
       (those-none (stretch_starts t) f (last_instant t + 1)
       (fails-any (stretch_starts t) f (last_instant t + 1) (λ j a b. absurd (omega arith)))) in
       subst (AreInOrder t) (sym none) tt
-  ordered_from (suc k) f e = by_start (cases_Bool (stretch_starts t f)) (ordered_from k (f + 1) (omega arith))
+  AreInOrder-stretches_after (suc k) f e = by_start (cases_Bool (stretch_starts t f))
+      (AreInOrder-stretches_after k (f + 1) (omega arith))
     where
       is_one : (i : ℕ) → i ≤ last_instant t → stretch_starts t i ≡ true → IsStretchOf t (stretch_from t i)
       is_one i within starts = record { within = within; starts = starts; ends = refl }
@@ -586,10 +639,11 @@ module _ (t : Trace) where
       by_next starts (inl some) later =
           let i = any-least (stretch_starts t) (f + 1) (last_instant t + 1) some in
           let found = least-found (stretch_starts t) (f + 1) (last_instant t + 1) i.0 i.1 in
-          let there = starts_there t (f + 1) i.0 found.first (omega (arith, found.below)) found.holds found.least in
+          let there = stretches_after-there t (f + 1) i.0 found.first (omega (arith, found.below)) found.holds
+          found.least in
           let is = is_one f (omega arith) starts in
           let is_next = is_one i.0 (omega (arith, found.below)) found.holds in
-          let apart = stretches_apart t (stretch_from t f) (stretch_from t i.0) is is_next (omega (arith, found.first))
+          let apart = stretches-apart t (stretch_from t f) (stretch_from t i.0) is is_next (omega (arith, found.first))
           in
           subst (λ stretches. AreInOrder t (stretch_from t f ∷ stretches)) (sym there) (
             is,
@@ -603,15 +657,17 @@ module _ (t : Trace) where
           → AreInOrder t (stretches_after t f)
       by_start (inr none) later =
           let same : stretches_after t f ≡ stretches_after t (f + 1) = ap (map (stretch_from t))
-          (same_starts t f (f + 1) (omega arith) (λ j a b. let here : j ≡ f = omega arith in ap (stretch_starts t) here
+          (those-same_starts t f (f + 1) (omega arith) (λ j a b. let here : j ≡ f =
+          omega arith in ap (stretch_starts t) here
           ∙ none)) in
           subst (AreInOrder t) (sym same) later
-      by_start (inl starts) later = subst (AreInOrder t) (sym (starts_here t f (omega arith) starts))
+      by_start (inl starts) later = subst (AreInOrder t) (sym (stretches_after-here t f (omega arith) starts))
           (by_next starts (cases_Bool (any (stretch_starts t) (f + 1) (last_instant t + 1))) later)
 
-  pub stretches_in_order : AreInOrder t (judged_stretches t)
-  stretches_in_order = subst (AreInOrder t) (sym (stretches_from_first t))
-      (ordered_from (last_instant t + 1) 0 (omega arith))
+  -- the judged stretches are in order
+  pub AreInOrder-judged_stretches : AreInOrder t (judged_stretches t)
+  AreInOrder-judged_stretches = subst (AreInOrder t) (sym (judged_stretches-after_first t))
+      (AreInOrder-stretches_after (last_instant t + 1) 0 (omega arith))
 
   -- from the end of a stretch on and before the start of the next one, no instant is idle
   pub busy_between : (stretch next : Stretch) (n : ℕ) → IsStretchOf t stretch → IsStretchOf t next
@@ -626,7 +682,7 @@ module _ (t : Trace) where
       ]
     where
       apart : (is_reset_at t stretch.end ≡ true) × (stretch.end < next.start)
-      apart = stretches_apart t stretch next is is_next order
+      apart = stretches-apart t stretch next is is_next order
 
       by_test : (b : Bool) → any (is_idle_at t) (suc stretch.end) next.start ≡ b → b ≡ false
       by_test false e = refl

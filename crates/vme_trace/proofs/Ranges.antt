@@ -12,45 +12,51 @@ pub any-step : (p : ℕ → Bool) (f n : ℕ) → any p f (n + 1) ≡ (any p f n
 unfolding any
 any-step p f n = rw add-one refl
 
+-- `any` over a range with one more number, n, at its end
 pub any-suc : (p : ℕ → Bool) (f n : ℕ) → any p f (suc n) ≡ (any p f n || (nat_le f n && p n))
 unfolding any
 any-suc p f n = refl
 
--- where n isn't before the range
+-- `any` with one more number, n, that isn't before the range
 pub any-next : (p : ℕ → Bool) (f n : ℕ) → f ≤ n → any p f (suc n) ≡ (any p f n || p n)
 unfolding any
 any-next p f n h = rw (le-leb f n h) refl
 
-or_holds : (p : ℕ → Bool) (f n i : ℕ) (a : Bool) → f ≤ i → i < suc n → p i ≡ true → (i < n → a ≡ true)
+-- one step of `any-holds`: a says whether p holds of a number before n
+any-suc_holds : (p : ℕ → Bool) (f n i : ℕ) (a : Bool) → f ≤ i → i < suc n → p i ≡ true → (i < n → a ≡ true)
     → (a || (nat_le f n && p n)) ≡ true
-or_holds p f n i a in_range below h rest = grind (arith, nat_tests)
+any-suc_holds p f n i a in_range below h rest = grind (arith, nat_tests)
 
-or_fails : (p : ℕ → Bool) (f n i : ℕ) (a : Bool) → (a || (nat_le f n && p n)) ≡ false → f ≤ i → i < suc n
+-- one step of `any-fails`: a says whether p holds of a number before n
+any-suc_fails : (p : ℕ → Bool) (f n i : ℕ) (a : Bool) → (a || (nat_le f n && p n)) ≡ false → f ≤ i → i < suc n
     → (a ≡ false → i < n → p i ≡ false) → p i ≡ false
-or_fails p f n i a none in_range below rest = grind (arith, nat_tests)
+any-suc_fails p f n i a none in_range below rest = grind (arith, nat_tests)
 
+-- a number before n + 1 is n, or before it
 last_or_before : (n i : ℕ) → i < suc n → (i ≡ n) ⊎ (i < n)
 last_or_before n i h = grind arith
 
-here : (p : ℕ → Bool) (f i : ℕ) → f ≤ i → p i ≡ true → (nat_le f i && p i) ≡ true
-here p f i in_range h = grind (arith, nat_tests)
+-- where p holds of a number of the range, so does the test of both
+and-in_range : (p : ℕ → Bool) (f i : ℕ) → f ≤ i → p i ≡ true → (nat_le f i && p i) ≡ true
+and-in_range p f i in_range h = grind (arith, nat_tests)
 
 -- where p holds of some number of the range, `any` is true
 pub any-holds : (p : ℕ → Bool) (f n i : ℕ) → f ≤ i → i < n → p i ≡ true → any p f n ≡ true
 unfolding any
 any-holds p f zero i in_range below h = absurd (omega arith)
-any-holds p f (suc n) i in_range below h = or_holds p f n i (any p f n) in_range below h
+any-holds p f (suc n) i in_range below h = any-suc_holds p f n i (any p f n) in_range below h
     (λ b. any-holds p f n i in_range b h)
 
 -- where `any` is false, p holds of no number of the range
 pub any-fails : (p : ℕ → Bool) (f n i : ℕ) → any p f n ≡ false → f ≤ i → i < n → p i ≡ false
 unfolding any
 any-fails p f zero i none in_range below = absurd (omega arith)
-any-fails p f (suc n) i none in_range below = or_fails p f n i (any p f n) none in_range below
+any-fails p f (suc n) i none in_range below = any-suc_fails p f n i (any p f n) none in_range below
     (λ e b. any-fails p f n i e in_range b)
 
-and_fails : (p : ℕ → Bool) (f n : ℕ) → (f ≤ n → p n ≡ false) → (nat_le f n && p n) ≡ false
-and_fails p f n h = grind (arith, nat_tests)
+-- where p doesn't hold of n, should n be in the range, the test of both fails
+and-in_range_fails : (p : ℕ → Bool) (f n : ℕ) → (f ≤ n → p n ≡ false) → (nat_le f n && p n) ≡ false
+and-in_range_fails p f n h = grind (arith, nat_tests)
 
 -- where p holds of no number of the range, `any` is false
 pub fails-any : (p : ℕ → Bool) (f n : ℕ) → ((i : ℕ) → f ≤ i → i < n → p i ≡ false) → any p f n ≡ false
@@ -58,10 +64,11 @@ unfolding any
 fails-any p f zero h = refl
 fails-any p f (suc n) h = rw (
   fails-any p f n (λ i a b. h i a (omega arith)),
-  and_fails p f n
+  and-in_range_fails p f n
       (λ a. h n a (omega arith)),
 ) refl
 
+-- in an empty range p holds of no number
 pub any-empty : (p : ℕ → Bool) (f : ℕ) → any p f 0 ≡ false
 unfolding any
 any-empty p f = refl
@@ -72,13 +79,14 @@ unfolding least any
 least-is p f zero i in_range below h first = absurd (omega arith)
 least-is p f (suc n) i in_range below h first =
     elim (last_or_before n i below) [
-      | inl e ↦ rw (← e) (rw (first, here p f i in_range h) refl)
+      | inl e ↦ rw (← e) (rw (first, and-in_range p f i in_range h) refl)
       | inr b ↦ rw (any-holds p f n i in_range b h) (least-is p f n i in_range b h first)
     ]
 
-least_nowhere : (a b : Bool) (o : Option ℕ) (n : ℕ) → o ≡ None → a ≡ false → b ≡ false
+-- one step of `least-none`
+least-suc_none : (a b : Bool) (o : Option ℕ) (n : ℕ) → o ≡ None → a ≡ false → b ≡ false
     → (cond a o (cond b (Some n) None)) ≡ None
-least_nowhere a b o n e h k = rw (h, k) refl
+least-suc_none a b o n e h k = rw (h, k) refl
 
 -- where p fails of some number of the range, `every` is false
 pub every-fails : (p : ℕ → Bool) (f n i : ℕ) → f ≤ i → i < n → p i ≡ false → every p f n ≡ false
@@ -88,12 +96,13 @@ every-fails p f n i in_range below h = rw (any-holds (λ k. not (p k)) f n i in_
 pub least-none : (p : ℕ → Bool) (f n : ℕ) → any p f n ≡ false → least p f n ≡ None
 unfolding least any
 least-none p f zero none = refl
-least-none p f (suc n) none = least_nowhere _ _ _ _ (least-none p f n (or_parts _ _ none).0) (or_parts _ _ none).0
+least-none p f (suc n) none = least-suc_none _ _ _ _ (least-none p f n (or_parts _ _ none).0) (or_parts _ _ none).0
     (or_parts _ _ none).1
 
-chosen : (b : Bool) (x y z : Option ℕ) → cond b x y ≡ z → ((b ≡ true) × (x ≡ z)) ⊎ ((b ≡ false) × (y ≡ z))
-chosen true x y z h = inl (refl, h)
-chosen false x y z h = inr (refl, h)
+-- a choice is its first part where the test holds, else its second
+cond-cases : (b : Bool) (x y z : Option ℕ) → cond b x y ≡ z → ((b ≡ true) × (x ≡ z)) ⊎ ((b ≡ false) × (y ≡ z))
+cond-cases true x y z h = inl (refl, h)
+cond-cases false x y z h = inr (refl, h)
 
 -- i is the least number of the range of which p holds
 pub record IsLeast (p : ℕ → Bool) (f n i : ℕ) : Type 0 where
@@ -102,22 +111,24 @@ pub record IsLeast (p : ℕ → Bool) (f n i : ℕ) : Type 0 where
   pub holds : p i ≡ true
   pub least : any p f i ≡ false
 
-is_least_more : (p : ℕ → Bool) (f n i : ℕ) → IsLeast p f n i → IsLeast p f (suc n) i
-is_least_more p f n i h = record { first = h.first; below = omega arith; holds = h.holds; least = h.least }
+-- the least number of a range is the least of the range with n at its end
+IsLeast-next : (p : ℕ → Bool) (f n i : ℕ) → IsLeast p f n i → IsLeast p f (suc n) i
+IsLeast-next p f n i h = record { first = h.first; below = omega arith; holds = h.holds; least = h.least }
 
-last_is : (n i : ℕ) (b : Bool) → cond b (Some n) None ≡ Some i → (b ≡ true) × (n ≡ i)
-last_is n i true h = (refl, cc)
-last_is n i false h = absurd (cc)
+-- what is found at the end of a range is the number there
+cond-last : (n i : ℕ) (b : Bool) → cond b (Some n) None ≡ Some i → (b ≡ true) × (n ≡ i)
+cond-last n i true h = (refl, cc)
+cond-last n i false h = absurd (cc)
 
 -- what `least` finds is the least number of which p holds
 pub least-found : (p : ℕ → Bool) (f n i : ℕ) → least p f n ≡ Some i → IsLeast p f n i
 unfolding least any
 least-found p f zero i h = absurd (cc)
 least-found p f (suc n) i h =
-    elim (chosen (any p f n) (least p f n) (cond (nat_le f n && p n) (Some n) None) (Some i) h) [
-      | inl found ↦ is_least_more p f n i (least-found p f n i found.1)
+    elim (cond-cases (any p f n) (least p f n) (cond (nat_le f n && p n) (Some n) None) (Some i) h) [
+      | inl found ↦ IsLeast-next p f n i (least-found p f n i found.1)
       | inr none ↦
-          let here = last_is n i (nat_le f n && p n) none.1 in
+          let here = cond-last n i (nat_le f n && p n) none.1 in
           let both = and_parts (nat_le f n) (p n) here.0 in
           subst (λ k. IsLeast p f (suc n) k) here.1
           (record { first = leb-true f n both.0; below = omega arith; holds = both.1; least = none.0 })
@@ -144,26 +155,30 @@ unfolding greatest
 greatest-empty p f zero h = refl
 greatest-empty p f (suc n) h = rw (lt-leb f n (omega arith)) (greatest-empty p f n (omega arith))
 
-both_alike : (p q : ℕ → Bool) (f n : ℕ) → (f ≤ n → p n ≡ q n) → (nat_le f n && p n) ≡ (nat_le f n && q n)
-both_alike p q f n alike = grind (arith, nat_tests)
+-- where p and q agree on n, should n be in the range, so do the tests of both
+and-in_range_alike : (p q : ℕ → Bool) (f n : ℕ) → (f ≤ n → p n ≡ q n) → (nat_le f n && p n) ≡ (nat_le f n && q n)
+and-in_range_alike p q f n alike = grind (arith, nat_tests)
 
-some_or_none : (o : Option ℕ) → (o ≡ None → ⊥) → (i : ℕ) × (o ≡ Some i)
-some_or_none None not_none = absurd (not_none refl)
-some_or_none (Some i) not_none = (i, refl)
+-- an option that isn't `None` has a value
+is_some-unless_none : (o : Option ℕ) → (o ≡ None → ⊥) → (i : ℕ) × (o ≡ Some i)
+is_some-unless_none None not_none = absurd (not_none refl)
+is_some-unless_none (Some i) not_none = (i, refl)
 
+-- nothing is both true and false
 pub clash : (b : Bool) → b ≡ true → b ≡ false → ⊥
 clash b h k = cc
 
-cond_none : (n : ℕ) (b : Bool) → cond b (Some n) None ≡ None → b ≡ false
-cond_none n true h = absurd (cc)
-cond_none n false h = refl
+-- where nothing is found, the test fails
+cond-none : (n : ℕ) (b : Bool) → cond b (Some n) None ≡ None → b ≡ false
+cond-none n true h = absurd (cc)
+cond-none n false h = refl
 
 -- where p and q agree in the range, so do `any` of p and of q
 pub any-alike : (p q : ℕ → Bool) (f n : ℕ) → ((i : ℕ) → f ≤ i → i < n → p i ≡ q i) → any p f n ≡ any q f n
 unfolding any
 any-alike p q f zero alike = refl
 any-alike p q f (suc n) alike = rw (any-alike p q f n (λ i a b. alike i a (omega arith)))
-    (ap (λ b. any q f n || b) (both_alike p q f n (λ a. alike n a (omega arith))))
+    (ap (λ b. any q f n || b) (and-in_range_alike p q f n (λ a. alike n a (omega arith))))
 
 -- where p and q agree in the range, so do `least` of p and of q
 pub least-alike : (p q : ℕ → Bool) (f n : ℕ) → ((i : ℕ) → f ≤ i → i < n → p i ≡ q i) → least p f n ≡ least q f n
@@ -173,7 +188,7 @@ least-alike p q f (suc n) alike =
     rw (
       any-alike p q f n (λ i a b. alike i a (omega arith)),
       least-alike p q f n (λ i a b. alike i a (omega arith)),
-      both_alike p q f n (λ a. alike n a (omega arith)),
+      and-in_range_alike p q f n (λ a. alike n a (omega arith)),
     ) refl
 
 -- where `least` is None, p holds of no number of the range
@@ -181,14 +196,14 @@ pub least-none-any : (p : ℕ → Bool) (f n : ℕ) → least p f n ≡ None →
 unfolding least any
 least-none-any p f zero e = refl
 least-none-any p f (suc n) e =
-    elim (chosen (any p f n) (least p f n) (cond (nat_le f n && p n) (Some n) None) None e) [
+    elim (cond-cases (any p f n) (least p f n) (cond (nat_le f n && p n) (Some n) None) None e) [
       | inl found ↦ absurd (clash (any p f n) found.0 (least-none-any p f n found.1))
-      | inr none ↦ rw (none.0, cond_none n (nat_le f n && p n) none.1) refl
+      | inr none ↦ rw (none.0, cond-none n (nat_le f n && p n) none.1) refl
     ]
 
 -- where p holds of some number of the range, there is a least one
 pub any-least : (p : ℕ → Bool) (f n : ℕ) → any p f n ≡ true → (i : ℕ) × (least p f n ≡ Some i)
-any-least p f n h = some_or_none (least p f n) (λ e. clash (any p f n) h (least-none-any p f n e))
+any-least p f n h = is_some-unless_none (least p f n) (λ e. clash (any p f n) h (least-none-any p f n e))
 
 -- there is a least number of which p holds exactly if p holds of some number of the range
 pub is_some-least : (p : ℕ → Bool) (f n : ℕ) → is_some (least p f n) ≡ any p f n
@@ -208,17 +223,21 @@ every-more p f n so_far here = ap not (any-step (λ k. not (p k)) f n) ∙ more 
     more false true c h k = rw k refl
     more false false c h k = refl
 
+-- neither a nor b is a way to say not a and not b
 pub not_or : (a b : Bool) → not (a || b) ≡ (not a && not b)
 not_or true b = refl
 not_or false b = refl
 
+-- not both a and b is a way to say not a or not b
 pub not_and : (a b : Bool) → not (a && b) ≡ (not a || not b)
 not_and true b = refl
 not_and false b = refl
 
+-- p holds of all of an empty range
 pub every-empty : (p : ℕ → Bool) (f : ℕ) → every p f f ≡ true
 every-empty p f = ap not (fails-any (λ k. not (p k)) f f (λ i a b. absurd (omega arith)))
 
+-- p holds of some number of a range just if it does before m or from m on
 any-split : (p : ℕ → Bool) (f m n : ℕ) → f ≤ m → m ≤ n → any p f n ≡ (any p f m || any p m n)
 unfolding any
 any-split p f zero zero a b = refl
@@ -250,9 +269,11 @@ pub every-split : (p : ℕ → Bool) (f m n : ℕ) → f ≤ m → m ≤ n → e
 every-split p f m n a b = ap not (any-split (λ k. not (p k)) f m n a b) ∙ not_or (any (λ k. not (p k)) f m)
     (any (λ k. not (p k)) m n)
 
+-- where p and q agree in the range, so do `every` of p and of q
 pub every-alike : (p q : ℕ → Bool) (f n : ℕ) → ((i : ℕ) → f ≤ i → i < n → p i ≡ q i) → every p f n ≡ every q f n
 every-alike p q f n alike = ap not (any-alike (λ k. not (p k)) (λ k. not (q k)) f n (λ i a b. ap not (alike i a b)))
 
+-- where p holds of each number of the range, `every` is true
 pub every-holds : (p : ℕ → Bool) (f n : ℕ) → ((i : ℕ) → f ≤ i → i < n → p i ≡ true) → every p f n ≡ true
 every-holds p f n h = ap not (fails-any (λ k. not (p k)) f n (λ i a b. ap not (h i a b)))
 
@@ -263,14 +284,16 @@ those-none p f zero none = refl
 those-none p f (suc n) none = let both = or_parts (any p f n) (nat_le f n && p n) none in
     rw (those-none p f n both.0, both.1) refl
 
+-- there are none in an empty range
 pub those-empty : (p : ℕ → Bool) (f n : ℕ) → n ≤ f → those p f n ≡ []
 those-empty p f n h = those-none p f n (fails-any p f n (λ i a b. absurd (omega arith)))
 
 -- `those` of the range with n at its end has one more, n, where p holds of n, and no more where it doesn't
 pub those-more : (p : ℕ → Bool) (f n : ℕ) → f ≤ n → p n ≡ true → those p f (suc n) ≡ those p f n ++ n ∷ []
 unfolding those
-those-more p f n from h = rw (here p f n from h) refl
+those-more p f n from h = rw (and-in_range p f n from h) refl
 
+-- `those` of the range with n at its end are the same where p doesn't hold of n
 pub those-same : (p : ℕ → Bool) (f n : ℕ) → p n ≡ false → those p f (suc n) ≡ those p f n
 unfolding those
 those-same p f n h = rw (and_right (nat_le f n) (p n) h) (append-nil (those p f n))

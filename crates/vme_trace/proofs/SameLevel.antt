@@ -6,13 +6,14 @@ use Rattle.vme_trace.specs.contracts.level.Level.{the_type}
 use Rattle.vme_trace.specs.declared.level.Level.{Level}
 use Rattle.vme_trace.specs.declared.level.Level.TheVariants.{Low, High, Unknown}
 
-pub same : (a b : Level) → sameb the_type a b ≡ same_level a b
-same Low Low = refl
-same Low High = refl
-same Low Unknown = refl
-same High Low = refl
-same High High = refl
-same High Unknown = refl
-same Unknown Low = refl
-same Unknown High = refl
-same Unknown Unknown = refl
+-- two levels have the same variant exactly if they are the same
+pub sameb-same_level : (a b : Level) → sameb the_type a b ≡ same_level a b
+sameb-same_level Low Low = refl
+sameb-same_level Low High = refl
+sameb-same_level Low Unknown = refl
+sameb-same_level High Low = refl
+sameb-same_level High High = refl
+sameb-same_level High Unknown = refl
+sameb-same_level Unknown Low = refl
+sameb-same_level Unknown High = refl
+sameb-same_level Unknown Unknown = refl

@@ -21,6 +21,7 @@ use Rattle.vme_trace.proofs.Ranges.{any-fails, least-is, least-found, least-none
 use Rattle.vme_trace.proofs.OpenTransfers.{ReadsStrobes}
 use Rattle.vme_trace.proofs.Changing.{slots-kept}
 
+-- suc n is n + 1
 suc-is : (n : ℕ) → suc n ≡ n + 1
 suc-is n = omega arith
 
@@ -47,6 +48,7 @@ end-is t s n held from within stops =
     rw (least-is (stops_at t) (s + 1) (last_instant t + 1) (suc n) (omega arith) (omega arith) stops
     (ap (any (stops_at t) (s + 1)) (suc-is n) ∙ held)) refl
 
+-- a step leaves the number of slots as it is
 slots-after : (v : Levels) (step : Option Step) → (after v step).slots ≡ v.slots
 slots-after v None = refl
 slots-after v (Some step) = slots-kept v step.changes
@@ -57,13 +59,15 @@ unfolding levels_at
 slots_at t zero = refl
 slots_at t (suc n) = slots-after (levels_at t n) (slice_get t.steps n) ∙ slots_at t n
 
-ends_in_false : (a b c d : Bool) → d ≡ false → (a && (b && c && d)) ≡ false
-ends_in_false a b c d h = grind (arith, nat_tests)
+-- a conjunction whose last part is false is false
+and-last_false : (a b c d : Bool) → d ≡ false → (a && (b && c && d)) ≡ false
+and-last_false a b c d h = grind (arith, nat_tests)
 
-all_but_last : (a b c d e f g : Bool) → a ≡ d → b ≡ true → c ≡ true → (a && (b && c && (d && e && f && g)))
+-- the parts of a conjunction that are true can be left out
+and-true_tests : (a b c d e f g : Bool) → a ≡ d → b ≡ true → c ≡ true → (a && (b && c && (d && e && f && g)))
     ≡ (d && e && f && g)
-all_but_last a b c true e f g h k m = rw (h, k, m) refl
-all_but_last a b c false e f g h k m = rw h refl
+and-true_tests a b c true e f g h k m = rw (h, k, m) refl
+and-true_tests a b c false e f g h k m = rw h refl
 
 module _ (t : Trace) (s n : ℕ) where
   -- where no control line is lost at n + 1, U1 isn't broken there
@@ -71,7 +75,7 @@ module _ (t : Trace) (s n : ℕ) where
       → breaks t (stretch_from t s) U1 (suc n) l
       ≡ false
   unfolding breaks is_broken loses_control_at loses_control
-  u1-unlost held l below = ends_in_false (has_line t.opening.slots l) (suc n == stretch_end t s)
+  u1-unlost held l below = and-last_false (has_line t.opening.slots l) (suc n == stretch_end t s)
       (nat_le (suc n) (last_instant t)) (is_lost (levels_at t (suc n)) l) (any-fails (is_lost (levels_at t (suc n))) 0
       line_count l held (omega arith) below)
 
@@ -80,7 +84,7 @@ module _ (t : Trace) (s n : ℕ) where
       ≡ is_lost (levels_at t (suc n)) l
   unfolding breaks is_broken
   u1-lost ends within l =
-      all_but_last (has_line t.opening.slots l) (suc n == stretch_end t s) (nat_le (suc n) (last_instant t))
+      and-true_tests (has_line t.opening.slots l) (suc n == stretch_end t s) (nat_le (suc n) (last_instant t))
       (has_line (levels_at t (suc n)).slots l) _ _ _
       (ap (λ slots. has_line slots l) (sym (slots_at t (suc n)))) (eq-eqb (suc n) (stretch_end t s) (sym ends))
       (le_test n (last_instant t) within)
@@ -88,9 +92,10 @@ module _ (t : Trace) (s n : ℕ) where
       le_test : (a b : ℕ) → a < b → nat_le (suc a) b ≡ true
       le_test a b h = grind (arith, nat_tests)
 
-goes_on : (t : Trace) (s j : ℕ) → s < j → j < stretch_end t s → stops_at t j ≡ false
+-- within a stretch nothing ends it
+stops_at-within : (t : Trace) (s j : ℕ) → s < j → j < stretch_end t s → stops_at t j ≡ false
 unfolding stretch_end
-goes_on t s j after before = by_end (least (stops_at t) (s + 1) (last_instant t + 1)) refl before
+stops_at-within t s j after before = by_end (least (stops_at t) (s + 1) (last_instant t + 1)) refl before
   where
     by_end : (o : Option ℕ) → least (stops_at t) (s + 1) (last_instant t + 1) ≡ o → j < unwrap_or o (last_instant t + 1)
         → stops_at t j ≡ false
@@ -101,11 +106,12 @@ goes_on t s j after before = by_end (least (stops_at t) (s + 1) (last_instant t 
 
 -- within a stretch no control line is lost
 pub not_lost : (t : Trace) (s j : ℕ) → s < j → j < stretch_end t s → loses_control_at t j ≡ false
-not_lost t s j after before = (or_parts (is_reset_at t j) (loses_control_at t j) (goes_on t s j after before)).1
+not_lost t s j after before = (or_parts (is_reset_at t j) (loses_control_at t j) (stops_at-within t s j after before)).1
 
 -- within a stretch the bus isn't reset
 pub not_reset : (t : Trace) (s j : ℕ) → s < j → j < stretch_end t s → is_reset_at t j ≡ false
-not_reset t s j after before = (or_parts (is_reset_at t j) (loses_control_at t j) (goes_on t s j after before)).0
+not_reset t s j after before =
+    (or_parts (is_reset_at t j) (loses_control_at t j) (stops_at-within t s j after before)).0
 
 -- after an idle instant both strobes are known, in the stretch that starts there
 pub reads_strobes : (t : Trace) (s : ℕ) → is_idle_at t s ≡ true → ReadsStrobes t (stretch_from t s)
@@ -127,6 +133,7 @@ reads_strobes t s idle = record {
     known_unless false true h k = absurd (cc)
     known_unless false false h k = absurd (cc)
 
+-- an instant up to k + 1 is k + 1, or up to k
 last_or_before : (j k : ℕ) → j ≤ suc k → (j ≡ suc k) ⊎ (j ≤ k)
 last_or_before j k h = grind arith
 

@@ -1,3 +1,4 @@
+-- The loop over bits of the address modifier: each so far is known.
 use Rattle.std.proofs.Common.{◌≡◌, true}
 use Rattle.vme_trace.specs.Instants.{every}
 use Rattle.vme_trace.specs.Cycle.{is_modifier_bit_known}

@@ -3,7 +3,7 @@ use Rattle.std.proofs.Common.{◌≡◌, ◌++◌, ◌∷◌, [], Some, refl, sy
 use Rattle.std.specs.Prelude.{slice_get}
 use Rattle.std.proofs.lemmas.Option.{slice_get_read}
 use Rattle.vme_trace.specs.Trace.{changed}
-use Rattle.vme_trace.proofs.CutBlocks.{taken_more, levels_after-more}
+use Rattle.vme_trace.proofs.CutBlocks.{take-next, levels_after-more}
 use Rattle.vme_trace.proofs.block.Block.copied.Goals as goal
 
 pub loop-step-preserved : goal.loop-step-preserved
@@ -14,7 +14,7 @@ loop-step-preserved c =
     c.loop-step-test.true c.step-item.is in
     record {
       copied = c.in_ok-push.ensures.items ∙ ap (λ xs. xs ++ c.in_ok-copy.field-0 ∷ []) c.loop-step.invariant.copied
-          ∙ ap (λ s. take n steps ++ s ∷ []) c.in_ok-copy.ensures ∙ sym (taken_more steps n c.step-item.result here);
+          ∙ ap (λ s. take n steps ++ s ∷ []) c.in_ok-copy.ensures ∙ sym (take-next steps n c.step-item.result here);
       reached = c.apply.ensures ∙ ap (λ cs. changed c.loop-step.lines cs) c.as_slice.ensures
           ∙ ap (λ v. changed v c.step-item.result.changes) c.loop-step.invariant.reached
           ∙ sym (levels_after-more c.args.lines.now steps n c.step-item.result here);

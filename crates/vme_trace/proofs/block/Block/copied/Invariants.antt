@@ -1,3 +1,4 @@
+-- The loop over steps: those so far are copied, and the levels are those after them.
 use Rattle.std.proofs.Common.{◌≡◌, take}
 use Rattle.vme_trace.specs.Trace.{levels_after}
 use Rattle.vme_trace.proofs.block.Block.copied.Given as goal

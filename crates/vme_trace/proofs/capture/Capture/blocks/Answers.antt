@@ -3,7 +3,7 @@ use Rattle.std.proofs.Common.{◌≡◌, ◌++◌, ◌∷◌, [], length, map, r
 use Rattle.std.specs.List.{range_with_len}
 use Rattle.std.proofs.lemmas.List.FromFn.{map-range_with_len_more}
 use Rattle.vme_trace.specs.Blocks.{block_at, block_count, joined_steps}
-use Rattle.vme_trace.proofs.CutBlocks.{levels_at-first, levels_at-next, block_at-is, starts_within, joined-blocks}
+use Rattle.vme_trace.proofs.CutBlocks.{levels_at-first, levels_at-next, block_at-is, block_start-within, joined-blocks}
 use Rattle.vme_trace.proofs.capture.Capture.blocks.Goals as goal
 
 pub loop-number-init : goal.loop-number-init
@@ -16,7 +16,8 @@ loop-number-init c = record {
 pub overflow_mul-start : goal.overflow_mul-start
 overflow_mul-start c =
     let t = c.args.self.now in
-    let start = starts_within c.args.size (length t.steps) c.loop-number.number (omega (arith, c.requires.count)) in
+    let start = block_start-within c.args.size (length t.steps) c.loop-number.number
+    (omega (arith, c.requires.count)) in
     omega (arith, start, c.steps-steps.ensures.sound.limited)
 
 pub loop-number-preserved : goal.loop-number-preserved

@@ -1,3 +1,4 @@
+-- The loop over blocks: those so far are cut, and the levels are those before the next one.
 use Rattle.std.proofs.Common.{◌≡◌, ◌*◌, map}
 use Rattle.std.specs.List.{range_with_len}
 use Rattle.vme_trace.specs.Blocks.{block_at}

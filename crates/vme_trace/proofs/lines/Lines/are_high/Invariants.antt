@@ -1,3 +1,4 @@
+-- The loop over lines: each line so far is high.
 use Rattle.std.proofs.Common.{◌≡◌, true}
 use Rattle.vme_trace.specs.Instants.{every}
 use Rattle.vme_trace.specs.Levels.{is_high_on}

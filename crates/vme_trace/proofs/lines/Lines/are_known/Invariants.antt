@@ -1,3 +1,4 @@
+-- The loop over lines: the count is at most the number of lines so far, and equals it just if all of them are known.
 use Rattle.vme_trace.specs.Levels.{is_known_on}
 use Rattle.vme_trace.proofs.Counting.{AreCounted}
 use Rattle.vme_trace.proofs.lines.Lines.are_known.Given as goal

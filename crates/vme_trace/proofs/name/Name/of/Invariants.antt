@@ -1,3 +1,4 @@
+-- The loop over bytes: the name is the bytes so far.
 use Rattle.std.proofs.Common.{◌≡◌, take}
 use Rattle.vme_trace.proofs.name.Name.of.Given as goal
 

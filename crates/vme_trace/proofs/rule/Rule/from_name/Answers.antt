@@ -1,7 +1,7 @@
 -- The rule that is found in the list of all rules is the rule of the name.
 use Rattle.std.proofs.Common.{◌∙◌}
 use Rattle.vme_trace.specs.Names.{rule_named}
-use Rattle.vme_trace.proofs.NameLaws.{rule_named-is, named_by}
+use Rattle.vme_trace.proofs.NameLaws.{rule_named-is, rule_named-IfSome}
 use Rattle.vme_trace.proofs.rule.Rule.from_name.Goals as goal
 
 pub returns-clause-rule : goal.returns-clause-rule
@@ -10,7 +10,7 @@ returns-clause-rule c = c.first_named.ensures
 
 pub returns-clause-named : goal.returns-clause-named
 unfolding rule_named
-returns-clause-named c = named_by c.first_named.result c.args.name.now c.first_named.ensures
+returns-clause-named c = rule_named-IfSome c.first_named.result c.args.name.now c.first_named.ensures
 
 pub returns-clause-found : goal.returns-clause-found
 unfolding rule_named
