@@ -7,8 +7,8 @@ use Rattle.std.specs.Int.{bit_at}
 use Rattle.std.proofs.lemmas.Nat.Bits.{bit_at_set_same, bit_at_set_other, bit_at-zero}
 use Rattle.vme_board.specs.Words.{bit_of, mask_of}
 
-low : (n : ℕ) → n % 64 < 64
-low n = omega arith
+mod-below_64 : (n : ℕ) → n % 64 < 64
+mod-below_64 n = omega arith
 
 pub bit_small : (k : ℕ) (ws : List ℕ) (n : ℕ) → bit_of k ws n ≤ 1
 bit_small k ws n = omega arith
@@ -16,9 +16,9 @@ bit_small k ws n = omega arith
 -- a word and a mask belong to one number
 pub one_number : (k n m : ℕ) → 4 * (n / 64) + k ≡ 4 * (m / 64) + k → mask_of n ≡ mask_of m → n ≡ m
 one_number k n m a b = dite (ℕ_discrete (m % 64) (n % 64)) (λ e. omega (arith, a, e))
-    (λ ne. let z : bit_at (bit_or 0 (mask_of n)) (m % 64) ≡ 0 = bit_at_set_other w64 0 (n % 64) (low n) (m % 64) ne
+    (λ ne. let z : bit_at (bit_or 0 (mask_of n)) (m % 64) ≡ 0 = bit_at_set_other w64 0 (n % 64) (mod-below_64 n) (m % 64) ne
     ∙ bit_at-zero (m % 64) in
-    let o : bit_at (bit_or 0 (mask_of m)) (m % 64) ≡ 1 = bit_at_set_same w64 0 (m % 64) (low m) in
+    let o : bit_at (bit_or 0 (mask_of m)) (m % 64) ≡ 1 = bit_at_set_same w64 0 (m % 64) (mod-below_64 m) in
     let c : bit_at (bit_or 0 (mask_of n)) (m % 64) ≡ bit_at (bit_or 0 (mask_of m)) (m % 64) = ap
     (λ (y : ℕ). bit_at (bit_or 0 y) (m % 64)) b in absurd (omega (arith, z, o, c)))
 
@@ -30,7 +30,7 @@ module _ (k : ℕ) (ws : List ℕ) (n : ℕ) (within : 4 * (n / 64) + k < length
   pub bit_here : bit_of k (marked k ws n) n ≡ 1
   bit_here = ap (λ (y : ℕ). bit_at y (n % 64)) (get_or-set_same ws (4 * (n / 64) + k)
       (bit_or (get_or ws (4 * (n / 64) + k) 0) (mask_of n)) 0 within) ∙ bit_at_set_same w64
-      (get_or ws (4 * (n / 64) + k) 0) (n % 64) (low n)
+      (get_or ws (4 * (n / 64) + k) 0) (n % 64) (mod-below_64 n)
 
   -- a bit of another word doesn't change
   pub bit_apart : (k' m : ℕ) → 4 * (m / 64) + k' ≢ 4 * (n / 64) + k → bit_of k' (marked k ws n) m ≡ bit_of k' ws m
@@ -47,7 +47,7 @@ module _ (k : ℕ) (ws : List ℕ) (n : ℕ) (within : 4 * (n / 64) + k < length
       let apart : m % 64 ≢ n % 64 = λ f. ne (omega (arith, e, f)) in
       ap (λ (y : ℕ). bit_at (get_or (marked k ws n) y 0) (m % 64)) same
       ∙ (ap (λ (y : ℕ). bit_at y (m % 64)) (get_or-set_same ws i (bit_or (get_or ws i 0) (mask_of n)) 0 within)
-      ∙ (bit_at_set_other w64 (get_or ws i 0) (n % 64) (low n) (m % 64) apart
+      ∙ (bit_at_set_other w64 (get_or ws i 0) (n % 64) (mod-below_64 n) (m % 64) apart
       ∙ ap (λ (y : ℕ). bit_at (get_or ws y 0) (m % 64)) (sym same))))
       (λ e. bit_apart k m (λ f. e (omega (arith, f))))
 

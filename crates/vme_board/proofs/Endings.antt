@@ -16,13 +16,13 @@ use Rattle.vme_core.specs.declared.view.View.{View}
 use Rattle.vme_core.specs.Counting.{HasPair, occurrences, numbers, sum_below, missing_count}
 use Rattle.vme_core.specs.BoardInvariant.{BoardInvariant}
 use Rattle.vme_core.specs.Stages.{rank, seen}
-use Rattle.vme_core.proofs.StageRanks.{seen_free}
+use Rattle.vme_core.proofs.StageRanks.{seen-Free}
 use Rattle.vme_core.specs.Shares.{IsWholeShare}
-use Rattle.vme_core.proofs.Sums.{occurs_of_pair, pair_of_occurs}
-use Rattle.vme_core.proofs.SumsBelow.{sum_below_plus, sum_below_agree, sum_below_limit}
+use Rattle.vme_core.proofs.Sums.{occurrences-of_pair, HasPair-of_occurrences}
+use Rattle.vme_core.proofs.SumsBelow.{sum_below-plus, sum_below-agree, sum_below-limit}
 use Rattle.vme_core.proofs.InvariantSteps.{own_draws, own_claims, own_takes, whole_listed, whole_taken, unlisted}
 use Rattle.vme_core.proofs.InvariantSteps.{is_taken, list_length_bound, takes_length_bound, all_listed, all_taken}
-use Rattle.vme_core.proofs.InvariantSteps.{one_content}
+use Rattle.vme_core.proofs.InvariantSteps.{content-one}
 use Rattle.vme_board.specs.Words.{bit_of, Homes, IsEmpty, IsFilled, Holds, kept}
 use Rattle.vme_board.specs.Contents.{DidAll, HasBlock, filled_bit, filled_at, filled_count}
 use Rattle.vme_board.proofs.Bits.{bit_small}
@@ -106,7 +106,7 @@ module _ (width id : ℕ) (v : View) (ws : List ℕ) (xs items : List (Option Bl
   -- the place of a number that is filed and not taken has its content; any other place has no block (`bare`)
   full : (n : ℕ) (b : Block) → n < total → F n ≡ 1 → T n ≡ 0 → K n ≡ Some b → slice_get items n ≡ Some (Some b)
   full n b low f t k =
-      let w = r.contents.filed_is_stored n f t in let same : w.0 ≡ b = one_content (K n) w.0 b w.1 k in
+      let w = r.contents.filed_is_stored n f t in let same : w.0 ≡ b = content-one (K n) w.0 b w.1 k in
       let there : get_elem? xs n ≡ some (Some w.0) = fin.4 n (Some w.0) w.2 in
       each n low ∙ ap (λ (o : Option Block). Some o) (ap (λ (y : ℕ). kept y (T n) xs n) f
       ∙ (ap (λ (y : ℕ). kept 1 y xs n) t ∙ (at_or xs n (Some w.0) None there ∙ ap (λ (y : Block). Some y) same)))
@@ -116,7 +116,7 @@ module _ (width id : ℕ) (v : View) (ws : List ℕ) (xs items : List (Option Bl
 
   list_is : (n : ℕ) (b : Block) → HasPair v.list n b → (n < total) × (F n ≡ 1) × (K n ≡ Some b)
   list_is n b has =
-      let some_of = occurs_of_pair v.list n b has in let small = bit_small 1 ws n in
+      let some_of = occurrences-of_pair v.list n b has in let small = bit_small 1 ws n in
       let f : F n ≡ 1 = dite (ℕ_discrete (F n) 0)
       (λ z. absurd (omega (
         arith,
@@ -163,7 +163,7 @@ module _ (width id : ℕ) (v : View) (ws : List ℕ) (xs items : List (Option Bl
         dite (ℕ_discrete (occurrences n v.taken) 0)
         (λ a. dite (ℕ_discrete (occurrences n v.filed) 0)
         (λ c. dite (ℕ_discrete (occurrences n v.claimed) 0)
-        (λ d. let z : rank (seen v n) ≡ 0 = ap rank (seen_free v n a c d) in absurd (omega (arith, h, z)))
+        (λ d. let z : rank (seen v n) ≡ 0 = ap rank (seen-Free v n a c d) in absurd (omega (arith, h, z)))
         (λ ne. r.stages.saw_claimed id v at_view n (omega (arith, ne))))
         (λ ne. let f = r.stages.saw_filed id v at_view n (omega (arith, ne)) in omega (arith, b, p, f)))
         (λ ne. let f = r.stages.saw_taken id v at_view n (omega (arith, ne)) in omega (arith, b, p, t, f))
@@ -214,8 +214,8 @@ module _ (width id : ℕ) (v : View) (ws : List ℕ) (xs items : List (Option Bl
       let low : n < total = omega (arith, long_items, within_length items n (Some b) has) in
       dite (ℕ_discrete (occurrences n (numbers v.list)) 0)
       (λ z. absurd (some_none (sym (close_outside n all low z) ∙ has)))
-      (λ ne. let pair = pair_of_occurs v.list n (omega (arith, ne)) in
-      let same : pair.0 ≡ b = one_content (K n) pair.0 b (list_is n pair.0 pair.1).2 (content_at n b low has) in
+      (λ ne. let pair = HasPair-of_occurrences v.list n (omega (arith, ne)) in
+      let same : pair.0 ≡ b = content-one (K n) pair.0 b (list_is n pair.0 pair.1).2 (content_at n b low has) in
       subst (λ (y : Block). HasPair v.list n y) same pair.1)
 
   one_place : (n : ℕ) → n < total → filled_at items n + T n ≡ F n
@@ -231,8 +231,8 @@ module _ (width id : ℕ) (v : View) (ws : List ℕ) (xs items : List (Option Bl
 
   pub places_sum : length items ≡ total → filled_count items + sum_below T total ≡ sum_below F total
   places_sum long_items = ap (λ (m : ℕ). sum_below (filled_at items) m + sum_below T total) long_items
-      ∙ sym (sum_below_plus (filled_at items) T total) ∙ sum_below_agree (λ n. filled_at items n + T n) F total
+      ∙ sym (sum_below-plus (filled_at items) T total) ∙ sum_below-agree (λ n. filled_at items n + T n) F total
       one_place
 
   pub files_limit : sum_below F total ≤ total
-  files_limit = sum_below_limit F total (bit_small 1 ws)
+  files_limit = sum_below-limit F total (bit_small 1 ws)

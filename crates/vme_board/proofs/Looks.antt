@@ -15,7 +15,7 @@ use Rattle.vme_core.specs.Counting.{occurrences, set_bits}
 use Rattle.vme_core.specs.Stages.{SeesMore}
 use Rattle.vme_core.specs.Views.{after_claim, after_filing, after_take, with_claimed, with_filed, with_taken}
 use Rattle.vme_core.proofs.Sums.{occurrences-append}
-use Rattle.vme_core.proofs.SetBits.{set_bits_true, set_bits_all}
+use Rattle.vme_core.proofs.SetBits.{set_bits-true, set_bits-all}
 use Rattle.vme_board.specs.Postconditions.{SeatState, ClaimedLookPost, FiledLookPost, TakenLookPost}
 
 -- if P follows from a ≡ 1, it holds where the test for a ≡ 1 is true; below, the same for a ≢ 1 and false
@@ -39,13 +39,13 @@ module _ (i n k found : ℕ) (is : i ≡ 4 * (n / 64) + k) (small : k < 4) where
   shown = set_bits (64 * (i / 4)) (bit_at found) 64
 
   is_shown : (xs : List ℕ) → bit_at found (n % 64) ≡ 1 → 0 < occurrences n (shown ++ xs)
-  is_shown xs one = let m = set_bits_all (64 * (i / 4)) (bit_at found) 64 (n % 64) (omega arith) one in
+  is_shown xs one = let m = set_bits-all (64 * (i / 4)) (bit_at found) 64 (n % 64) (omega arith) one in
       let same : 64 * (i / 4) + n % 64 ≡ n = omega (arith, is, small) in let here : 0 < occurrences n shown = subst
       (λ (y : ℕ). 0 < occurrences y shown) same m in omega (arith, here, occurrences-append n shown xs)
 
   not_shown : bit_at found (n % 64) ≡ 0 → occurrences n shown ≡ 0
   not_shown zero_bit = dite (ℕ_discrete (occurrences n shown) 0) (λ e. e)
-      (λ ne. let t = set_bits_true (64 * (i / 4)) (bit_at found) 64 n (omega (arith, ne)) in let l = t.1 in
+      (λ ne. let t = set_bits-true (64 * (i / 4)) (bit_at found) 64 n (omega (arith, ne)) in let l = t.1 in
       let a = t.2 in let same : t.0 ≡ n % 64 = omega (arith, is, small, l, a) in let one : bit_at found (n % 64)
       ≡ 1 = ap (bit_at found) (sym same) ∙ t.3 in absurd (omega (arith, one, zero_bit)))
 

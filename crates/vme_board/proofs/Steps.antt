@@ -16,15 +16,15 @@ use Rattle.vme_core.specs.Counting.{occurrences, numbers, HasPair, set_bits, upd
 use Rattle.vme_core.specs.Views.{after_draw, with_found, after_claim, after_filing, after_take, with_claimed}
 use Rattle.vme_core.specs.Views.{with_filed, with_taken, kept_view, split_view, joint_view, empty_view, first_view}
 use Rattle.vme_core.specs.BoardInvariant.{BoardInvariant}
-use Rattle.vme_core.proofs.Sums.{update_here, update_else, cases_at}
-use Rattle.vme_core.proofs.ViewChanges.{saw_one, saw_both, from_fresh, shares_first}
-use Rattle.vme_core.proofs.SetBits.{set_bits_true}
-use Rattle.vme_core.proofs.SumsBelow.{sum_below_limit}
+use Rattle.vme_core.proofs.Sums.{update-same, update-other, each-by_cases}
+use Rattle.vme_core.proofs.ViewChanges.{bits-cons, bits-append, each-of_first_view, ShareInvariant-first}
+use Rattle.vme_core.proofs.SetBits.{set_bits-true}
+use Rattle.vme_core.proofs.SumsBelow.{sum_below-limit}
 use Rattle.vme_core.proofs.InvariantSteps.{equal_bits_preserve, seeing_preserves, draw_preserves, undrawn, unlisted}
 use Rattle.vme_core.proofs.InvariantSteps.{untaken, is_taken, claim_preserves, is_pending, file_preserves}
 use Rattle.vme_core.proofs.InvariantSteps.{take_preserves, give_preserves, split_preserves, join_preserves}
 use Rattle.vme_core.proofs.InvariantSteps.{view_has_no_duplicates, filed_and_taken_agree, list_length_bound}
-use Rattle.vme_core.proofs.InvariantSteps.{takes_length_bound, one_content, none_some}
+use Rattle.vme_core.proofs.InvariantSteps.{takes_length_bound, content-one, None-not_Some}
 use Rattle.vme_board.specs.Words.{bit_of, mask_of, Homes, IsEmpty, IsFilled, Reads, IsNumbered, Holds}
 use Rattle.vme_board.specs.Views.{SameBlocks}
 use Rattle.vme_board.specs.Postconditions.{SeatState, TableStep, IsAtBit, DrawPost, ClaimPost, FilePost, TakePost}
@@ -149,22 +149,23 @@ module _ (width : ℕ) (s : St) (h : Holds width s) (id : ℕ) (seat : SeatState
     sees_1 : (ns : List ℕ) → ((n : ℕ) → 0 < occurrences n ns → C n ≡ 1) → Reads K s.words s.homes
         (set s.views id (with_claimed seat.0 ns))
     sees_1 ns c = saw seat.0.found (ns ++ seat.0.claimed) seat.0.filed seat.0.taken found
-        (saw_both C ns seat.0.claimed c claims) filings takings
+        (bits-append C ns seat.0.claimed c claims) filings takings
 
     sees_2 : (ns : List ℕ) → ((n : ℕ) → 0 < occurrences n ns → F n ≡ 1) → Reads K s.words s.homes
         (set s.views id (with_filed seat.0 ns))
     sees_2 ns f = saw seat.0.found (ns ++ seat.0.claimed) (ns ++ seat.0.filed) seat.0.taken found
-        (saw_both C ns seat.0.claimed (λ n z. filed_claimed n (f n z)) claims) (saw_both F ns seat.0.filed f filings)
+        (bits-append C ns seat.0.claimed (λ n z. filed_claimed n (f n z)) claims)
+        (bits-append F ns seat.0.filed f filings)
         takings
 
     sees_3 : (ns : List ℕ) → ((n : ℕ) → 0 < occurrences n ns → T n ≡ 1) → Reads K s.words s.homes
         (set s.views id (with_taken seat.0 ns))
     sees_3 ns t = saw seat.0.found (ns ++ seat.0.claimed) (ns ++ seat.0.filed) (ns ++ seat.0.taken) found
-        (saw_both C ns seat.0.claimed (λ n z. filed_claimed n (taken_filed n (t n z))) claims)
-        (saw_both F ns seat.0.filed (λ n z. taken_filed n (t n z)) filings) (saw_both T ns seat.0.taken t takings)
+        (bits-append C ns seat.0.claimed (λ n z. filed_claimed n (taken_filed n (t n z))) claims)
+        (bits-append F ns seat.0.filed (λ n z. taken_filed n (t n z)) filings) (bits-append T ns seat.0.taken t takings)
 
     only_here : (c : ℕ → ℕ) (n m : ℕ) → c n ≡ 1 → 0 < occurrences m (n ∷ []) → c m ≡ 1
-    only_here c n m is = saw_one c n [] is (λ k z. absurd (omega (arith, z))) m
+    only_here c n m is = bits-cons c n [] is (λ k z. absurd (omega (arith, z))) m
 
     -- the view of the seat is w after it was set to w
     there : (w : View) → get_elem? (set s.views id w) id ≡ some w
@@ -207,7 +208,7 @@ module _ (width : ℕ) (s : St) (h : Holds width s) (id : ℕ) (seat : SeatState
           keeps,
           tt,
           stands 3 d (omega arith) near is (with_found seat.0 d) (saw (d ∷ seat.0.found) seat.0.claimed seat.0.filed
-              seat.0.taken (saw_one D d seat.0.found is found) claims filings takings),
+              seat.0.taken (bits-cons D d seat.0.found is found) claims filings takings),
           ((λ z. absurd (omega (arith, z))), λ _. refl),
         )
     draw_by has_share d small (suc (suc k)) is = absurd (omega (arith, is, bit_small 3 s.words d))
@@ -272,14 +273,15 @@ module _ (width : ℕ) (s : St) (h : Holds width s) (id : ℕ) (seat : SeatState
         let here : Option Block = Some b in let homes' : Homes = set s.homes n (some here) in
         let w : View = after_filing seat.0 n b in let vs' : List View = set s.views id w in
         let K' : Contents_of = update K n (Some b) in let F' : ℕ → ℕ = bit_of 1 ws' in
-        let numbered : IsNumbered K' = cases_at n (λ m. (x : Block) → update K n (Some b) m ≡ Some x → x.number ≡ m)
-        (λ x z. let same : b ≡ x = one_content (update K n (Some b) n) b x (update_here K n (Some b)) z in
-        subst (λ (y : Block). y.number ≡ n) same own) (λ m ne x z. h.1.2 m x (sym (update_else K n (Some b) m ne) ∙ z))
+        let numbered : IsNumbered K' = each-by_cases n (λ m. (x : Block) → update K n (Some b) m ≡ Some x → x.number
+        ≡ m)
+        (λ x z. let same : b ≡ x = content-one (update K n (Some b) n) b x (update-same K n (Some b)) z in
+        subst (λ (y : Block). y.number ≡ n) same own) (λ m ne x z. h.1.2 m x (sym (update-other K n (Some b) m ne) ∙ z))
         in
         let was = is_pending (length s.homes) D C F T K E H s.views r id seat.0 e n one in
         let rule : BoardInvariant (length s.homes) D C F' T K' (IsEmpty homes') (IsFilled homes') vs' = file_preserves
         (length s.homes) D C F T K E H s.views r id seat.0 e F' K' (IsEmpty homes') (IsFilled homes') n b one
-        (bit_here 1 s.words n near) (bit_else 1 s.words n near) (update_here K n (Some b)) (update_else K n (Some b))
+        (bit_here 1 s.words n near) (bit_else 1 s.words n near) (update-same K n (Some b)) (update-other K n (Some b))
         (λ m ne empty l. set_else s.homes n m (some here) ne
         ∙ empty (subst (λ (y : ℕ). m < y) (length-set s.homes n (some here)) l)) (λ m x ne full. set_else s.homes n m
         (some here) ne ∙ full) (λ m x ne full. sym (set_else s.homes n m (some here) ne) ∙ full)
@@ -301,7 +303,7 @@ module _ (width : ℕ) (s : St) (h : Holds width s) (id : ℕ) (seat : SeatState
         ) in
         let most = list_length_bound (length s.homes) D C F' T K' (IsEmpty homes') (IsFilled homes') vs' rule id w
         (there w) in
-        let least = sum_below_limit F' (length s.homes) (bit_small 1 ws') in (
+        let least = sum_below-limit F' (length s.homes) (bit_small 1 ws') in (
           w,
           gives,
           tt,
@@ -340,7 +342,7 @@ module _ (width : ℕ) (s : St) (h : Holds width s) (id : ℕ) (seat : SeatState
         (λ x full. none_full none x refl (sym (set_here s.homes n none low) ∙ full)) in
         let most = takes_length_bound (length s.homes) D C F T' K (IsEmpty homes') (IsFilled homes') vs' rule id w
         (there w) in
-        let least = sum_below_limit T' (length s.homes) (bit_small 2 ws') in (
+        let least = sum_below-limit T' (length s.homes) (bit_small 2 ws') in (
           w,
           takes n (Some b),
           full.2,
@@ -511,7 +513,7 @@ module _ (width : ℕ) (s : St) (h : Holds width s) (id : ℕ) (seat : SeatState
 shown_at : (k g i : ℕ) (ws : List ℕ) → i ≡ 4 * g + k → k < 4 → (m : ℕ) → 0 < occurrences m
     (set_bits (64 * (i / 4)) (bit_at (get_or ws i 0)) 64) → bit_of k ws m ≡ 1
 shown_at k g i ws is small m h =
-    let t = set_bits_true (64 * (i / 4)) (bit_at (get_or ws i 0)) 64 m h in let j : ℕ = t.0 in let l : j < 64 = t.1 in
+    let t = set_bits-true (64 * (i / 4)) (bit_at (get_or ws i 0)) 64 m h in let j : ℕ = t.0 in let l : j < 64 = t.1 in
     let at : m ≡ 64 * (i / 4) + j = t.2 in
     let a : 4 * (m / 64) + k ≡ i = omega (arith, is, small, at, l) in let b : m % 64 ≡ j = omega (arith, at, l) in
     ap (λ (y : ℕ). bit_at (get_or ws y 0) (m % 64)) a ∙ (ap (λ (y : ℕ). bit_at (get_or ws i 0) y) b ∙ t.3)
@@ -576,7 +578,7 @@ counts width slots id seat near s h wide e fits =
     (IsEmpty s.homes) (IsFilled s.homes) s.views q id seat.0 e in
     let b = takes_length_bound L (bit_of 3 s.words) (bit_of 0 s.words) (bit_of 1 s.words) (bit_of 2 s.words) (h.1.0)
     (IsEmpty s.homes) (IsFilled s.homes) s.views q id seat.0 e in
-    let x = sum_below_limit (bit_of 1 s.words) L (bit_small 1 s.words) in let y = sum_below_limit (bit_of 2 s.words) L
+    let x = sum_below-limit (bit_of 1 s.words) L (bit_small 1 s.words) in let y = sum_below-limit (bit_of 2 s.words) L
     (bit_small 2 s.words) in (
       seat.0,
       keeps,
@@ -666,10 +668,10 @@ opens width total ws is long = let blank : (k m : ℕ) → bit_of k ws m ≡ 0 =
           draws = record {
             bit = bit_small 3 ws;
             won_once = λ d. sym (blank 3 d);
-            found = from_fresh
+            found = each-of_first_view
                 (λ v. (d : ℕ) → 0 < occurrences d v.found → bit_of 3 ws d ≡ 1) (λ d h. absurd (omega arith));
           };
-          shares = shares_first;
+          shares = ShareInvariant-first;
           stages = record {
             bit = bit_small 0 ws;
             in_range = λ m h. absurd (omega (arith, h, blank 0 m));
@@ -677,11 +679,11 @@ opens width total ws is long = let blank : (k m : ℕ) → bit_of k ws m ≡ 0 =
             pending_once = λ m. omega (arith, blank 0 m, blank 1 m);
             filed_once = λ m. sym (blank 1 m);
             taken_once = λ m. sym (blank 2 m);
-            saw_claimed = from_fresh (λ v. (n : ℕ) → 0 < occurrences n v.claimed → bit_of 0 ws n ≡ 1)
+            saw_claimed = each-of_first_view (λ v. (n : ℕ) → 0 < occurrences n v.claimed → bit_of 0 ws n ≡ 1)
                 (λ d h. absurd (omega arith));
-            saw_filed = from_fresh (λ v. (n : ℕ) → 0 < occurrences n v.filed → bit_of 1 ws n ≡ 1)
+            saw_filed = each-of_first_view (λ v. (n : ℕ) → 0 < occurrences n v.filed → bit_of 1 ws n ≡ 1)
                 (λ d h. absurd (omega arith));
-            saw_taken = from_fresh (λ v. (n : ℕ) → 0 < occurrences n v.taken → bit_of 2 ws n ≡ 1)
+            saw_taken = each-of_first_view (λ v. (n : ℕ) → 0 < occurrences n v.taken → bit_of 2 ws n ≡ 1)
                 (λ d h. absurd (omega arith));
           };
           contents = record {
@@ -689,12 +691,13 @@ opens width total ws is long = let blank : (k m : ℕ) → bit_of k ws m ≡ 0 =
             unfiled_is_none = λ m _. refl;
             filed_is_stored = λ m z. absurd (omega (arith, z, blank 1 m));
             stored_is_filed = λ m b t. absurd (unfilled total m b t);
-            listed = from_fresh (λ v. (n : ℕ) (b : Block) → HasPair v.list n b → nothing n ≡ Some b)
+            listed = each-of_first_view (λ v. (n : ℕ) (b : Block) → HasPair v.list n b → nothing n ≡ Some b)
                 (λ n b h. absurd h);
-            took = from_fresh (λ v. (n : ℕ) (b : Block) → HasPair v.takes n b → nothing n ≡ Some b) (λ n b h. absurd h);
+            took = each-of_first_view (λ v. (n : ℕ) (b : Block) → HasPair v.takes n b → nothing n ≡ Some b)
+                (λ n b h. absurd h);
           };
         },
-        λ n b none. absurd (none_some b none),
+        λ n b none. absurd (None-not_Some b none),
       ),
     )
 

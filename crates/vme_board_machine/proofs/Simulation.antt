@@ -23,9 +23,9 @@ use Rattle.vme_core.specs.Machine.{Core, BoardEvent, split, join, Happens, IsRun
 use Rattle.vme_core.specs.Machine.{claimed_row, filed_row, taken_row, BenchProgress, idle, has_claimed, has_put}
 use Rattle.vme_core.specs.Machine.{has_taken, has_lifted, HasView, with_views, after_claim_step, after_file_step}
 use Rattle.vme_core.specs.Machine.{after_draw_step, after_take_step, after_look, start}
-use Rattle.vme_core.proofs.Sums.{update_here, update_else, cases_at, occurrences_here}
+use Rattle.vme_core.proofs.Sums.{update-same, update-other, each-by_cases, occurrences-cons_same}
 use Rattle.vme_core.proofs.InvariantSteps.{is_pending}
-use Rattle.vme_core.proofs.Runs.{keeps_event}
+use Rattle.vme_core.proofs.Runs.{Invariant-event}
 use Rattle.vme_board.specs.Words.{bit_of, mask_of, IsWideFor}
 use Rattle.vme_board.specs.Postconditions.{SeatState, ClaimPost, DrawPost, FilePost, TakePost, GivePost}
 use Rattle.vme_board.specs.Postconditions.{CountPost}
@@ -180,16 +180,16 @@ module _ (total draws : ℕ) (s : BoardState) (m : Core) (sh : ReadsAs total dra
   stays : (f : Stage → ℕ) (k : ℕ) (ws : List ℕ) (n : ℕ) (new : Stage) → f new ≡ f (m.stage n)
       → ((j : ℕ) → bit_of k ws j ≡ bit_of k W j) → ((j : ℕ) → f (m.stage j) ≡ bit_of k W j) → (j : ℕ)
       → f (update m.stage n new j) ≡ bit_of k ws j
-  stays f k ws n new same bits was = cases_at n (λ j. f (update m.stage n new j) ≡ bit_of k ws j)
-      (ap f (update_here m.stage n new) ∙ (same ∙ (was n ∙ sym (bits n))))
-      (λ j ne. ap f (update_else m.stage n new j ne) ∙ (was j ∙ sym (bits j)))
+  stays f k ws n new same bits was = each-by_cases n (λ j. f (update m.stage n new j) ≡ bit_of k ws j)
+      (ap f (update-same m.stage n new) ∙ (same ∙ (was n ∙ sym (bits n))))
+      (λ j ne. ap f (update-other m.stage n new j ne) ∙ (was j ∙ sym (bits j)))
 
   -- the bits of a row are those of the stages, after the stage of n changed and its bit was set
   turns : (f : Stage → ℕ) (k : ℕ) (n : ℕ) (new : Stage) → f new ≡ 1 → 4 * (n / 64) + k < length W
       → ((j : ℕ) → f (m.stage j) ≡ bit_of k W j) → (j : ℕ) → f (update m.stage n new j) ≡ bit_of k (marked k W n) j
-  turns f k n new one near was = cases_at n (λ j. f (update m.stage n new j) ≡ bit_of k (marked k W n) j)
-      (ap f (update_here m.stage n new) ∙ (one ∙ sym (bit_here k W n near)))
-      (λ j ne. ap f (update_else m.stage n new j ne) ∙ (was j ∙ sym (bit_else k W n near j ne)))
+  turns f k n new one near was = each-by_cases n (λ j. f (update m.stage n new j) ≡ bit_of k (marked k W n) j)
+      (ap f (update-same m.stage n new) ∙ (one ∙ sym (bit_here k W n near)))
+      (λ j ne. ap f (update-other m.stage n new j ne) ∙ (was j ∙ sym (bit_else k W n near j ne)))
 
   row : (k n : ℕ) → 4 * (n / 64) + k < length W → k < 4 → (k' : ℕ) → k' < 4 → k' ≢ k → (j : ℕ)
       → bit_of k' (marked k W n) j ≡ bit_of k' W j
@@ -235,12 +235,13 @@ module _ (total draws : ℕ) (s : BoardState) (m : Core) (sh : ReadsAs total dra
       (λ z. omega arith)) sh.filed)
       (stays taken_bit 2 (marked 0 W n) n Claimed (ap taken_bit (sym free)) (row 0 n near (omega arith) 2 (omega arith)
       (λ z. omega arith)) sh.taken)
-      (cases_at n (λ j. j < total → get_elem? (homes_after H [] st.act) j ≡ some (home_of (update m.home n away j)))
-      (λ l. out.out ∙ ap (λ (y : Slot). some (home_of y)) (sym (update_here m.home n away)))
+      (each-by_cases n (λ j. j < total → get_elem? (homes_after H [] st.act) j
+      ≡ some (home_of (update m.home n away j)))
+      (λ l. out.out ∙ ap (λ (y : Slot). some (home_of y)) (sym (update-same m.home n away)))
       (λ j ne l. out.others j ne ∙ (sh.homes j l ∙ ap (λ (y : Slot). some (home_of y))
-      (sym (update_else m.home n away j ne)))))
-      pt (subst (IsViewAt (after_claim v n)) (sym (update_here m.progress i (has_claimed n b)) ∙ pt i) (refl, tt))
-      (λ j ne. ap (λ (f : ℕ → BenchProgress). f j) pg ∙ update_else s.progress i (has_claimed n b) j ne)
+      (sym (update-other m.home n away j ne)))))
+      pt (subst (IsViewAt (after_claim v n)) (sym (update-same m.progress i (has_claimed n b)) ∙ pt i) (refl, tt))
+      (λ j ne. ap (λ (f : ℕ → BenchProgress). f j) pg ∙ update-other s.progress i (has_claimed n b) j ne)
   claim_shown t i n b v after low (e, p) st (suc zero) is pg =
       let near : 4 * (n / 64) + 0 < length W = near_number n 0 low (omega arith) in
       let now : after ≡ (with_claimed v (n ∷ []), []) = (st.post n (record { word = refl; mask = refl })).1
@@ -250,9 +251,9 @@ module _ (total draws : ℕ) (s : BoardState) (m : Core) (sh : ReadsAs total dra
       (with_claimed v (n ∷ [])) H st.table now (leaves_homes H st.act st.valid (ap (λ (y : SeatState). y.1) (sym now)
       ∙ st.slots)))
       (length-set W (4 * (n / 64) + 0) _) (all_again 0 n (omega arith) near (sym (sh.claimed n) ∙ is))
-      (cases_at i (λ j. t.progress j ≡ s.progress j) (ap (λ (f : ℕ → BenchProgress). f i) pg
-      ∙ (update_here s.progress i idle ∙ sym p)) (λ j ne. ap (λ (f : ℕ → BenchProgress). f j) pg
-      ∙ update_else s.progress i idle j ne)) refl refl
+      (each-by_cases i (λ j. t.progress j ≡ s.progress j) (ap (λ (f : ℕ → BenchProgress). f i) pg
+      ∙ (update-same s.progress i idle ∙ sym p)) (λ j ne. ap (λ (f : ℕ → BenchProgress). f j) pg
+      ∙ update-other s.progress i idle j ne)) refl refl
   claim_shown t i n b v after low at st (suc (suc x)) is pg = absurd (omega (arith, is, sh.claimed n, bit_small 0 W n))
 
   -- `ReadsAs` holds after a draw
@@ -269,8 +270,8 @@ module _ (total draws : ℕ) (s : BoardState) (m : Core) (sh : ReadsAs total dra
       (after_draw v d) H st.table now (leaves_homes H st.act st.valid (ap (λ (y : SeatState). y.1) (sym now)
       ∙ st.slots)))
       (length-set W (4 * (d / 64) + 3) _) refl
-      (cases_at d (λ j. update m.drawn d 1 j ≡ bit_of 3 (marked 3 W d) j) (update_here m.drawn d 1
-      ∙ sym (bit_here 3 W d near)) (λ j ne. update_else m.drawn d 1 j ne
+      (each-by_cases d (λ j. update m.drawn d 1 j ≡ bit_of 3 (marked 3 W d) j) (update-same m.drawn d 1
+      ∙ sym (bit_here 3 W d near)) (λ j ne. update-other m.drawn d 1 j ne
       ∙ (sh.drawn j ∙ sym (bit_else 3 W d near j ne))))
       (λ n. sh.claimed n ∙ sym (row 3 d near (omega arith) 0 (omega arith) (λ z. omega arith) n))
       (λ n. sh.filed n ∙ sym (row 3 d near (omega arith) 1 (omega arith) (λ z. omega arith) n))
@@ -383,14 +384,14 @@ module _ (total draws : ℕ) (s : BoardState) (m : Core) (sh : ReadsAs total dra
         (turns filed_bit 1 n Filed refl near sh.filed)
         (stays taken_bit 2 (marked 1 W n) n Filed (sym t0) (row 1 n near (omega arith) 2 (omega arith)
         (λ z. omega arith)) sh.taken)
-        (cases_at n (λ j. j < total → get_elem? (set H n (some (Some b))) j ≡ some
+        (each-by_cases n (λ j. j < total → get_elem? (set H n (some (Some b))) j ≡ some
         (home_of (update m.home n (filled b) j)))
         (λ l. set_here H n (some (Some b)) (omega (arith, low, size)) ∙ ap (λ (y : Slot). some (home_of y))
-        (sym (update_here m.home n (filled b))))
+        (sym (update-same m.home n (filled b))))
         (λ j ne l. set_else H n j (some (Some b)) ne ∙ (sh.homes j l ∙ ap (λ (y : Slot). some (home_of y))
-        (sym (update_else m.home n (filled b) j ne)))))
-        pt (subst (IsViewAt (after_filing v n b)) (sym (update_here m.progress i idle) ∙ pt i) (refl, tt))
-        (λ j ne. ap (λ (f : ℕ → BenchProgress). f j) pg ∙ update_else s.progress i idle j ne)
+        (sym (update-other m.home n (filled b) j ne)))))
+        pt (subst (IsViewAt (after_filing v n b)) (sym (update-same m.progress i idle) ∙ pt i) (refl, tt))
+        (λ j ne. ap (λ (f : ℕ → BenchProgress). f j) pg ∙ update-other s.progress i idle j ne)
 
     -- `ReadsAs` holds after a take
     take_shown : (t : BoardState) (i n : ℕ) (v : View) (after : SeatState) → n < total → IsAt s i v idle
@@ -428,13 +429,14 @@ module _ (total draws : ℕ) (s : BoardState) (m : Core) (sh : ReadsAs total dra
         (stays filed_bit 1 (marked 2 W n) n Taken (sym f1) (row 2 n near (omega arith) 1 (omega arith)
         (λ z. omega arith)) sh.filed)
         (turns taken_bit 2 n Taken refl near sh.taken)
-        (cases_at n (λ j. j < total → get_elem? (homes_after H [] st.act) j ≡ some (home_of (update m.home n away j)))
-        (λ l. took.out ∙ ap (λ (y : Slot). some (home_of y)) (sym (update_here m.home n away)))
+        (each-by_cases n (λ j. j < total → get_elem? (homes_after H [] st.act) j
+        ≡ some (home_of (update m.home n away j)))
+        (λ l. took.out ∙ ap (λ (y : Slot). some (home_of y)) (sym (update-same m.home n away)))
         (λ j ne l. took.others j ne ∙ (sh.homes j l ∙ ap (λ (y : Slot). some (home_of y))
-        (sym (update_else m.home n away j ne)))))
-        pt (subst (IsViewAt (after_take v n b)) (sym (update_here m.progress i (has_taken n b)) ∙ pt i)
-        (pending_none i v (e, p), let here = occurrences_here n (numbers v.takes) in omega (arith, here)))
-        (λ j ne. ap (λ (f : ℕ → BenchProgress). f j) pg' ∙ update_else s.progress i (has_taken n b) j ne))
+        (sym (update-other m.home n away j ne)))))
+        pt (subst (IsViewAt (after_take v n b)) (sym (update-same m.progress i (has_taken n b)) ∙ pt i)
+        (pending_none i v (e, p), let here = occurrences-cons_same n (numbers v.takes) in omega (arith, here)))
+        (λ j ne. ap (λ (f : ℕ → BenchProgress). f j) pg' ∙ update-other s.progress i (has_taken n b) j ne))
     take_shown t i n v after low (e, p) saw st pg (suc zero) c is has =
         let near : 4 * (n / 64) + 2 < length W = near_number n 2 low (omega arith) in
         let now : after ≡ (with_taken v (n ∷ []), []) = (st.post n (record { word = refl; mask = refl })).1
@@ -446,9 +448,9 @@ module _ (total draws : ℕ) (s : BoardState) (m : Core) (sh : ReadsAs total dra
         (with_taken v (n ∷ [])) H st.table now (leaves_homes H st.act st.valid (ap (λ (y : SeatState). y.1) (sym now)
         ∙ st.slots)))
         (length-set W (4 * (n / 64) + 2) _) (all_again 2 n (omega arith) near (sym (sh.taken n) ∙ is))
-        (cases_at i (λ j. t.progress j ≡ s.progress j) (ap (λ (f : ℕ → BenchProgress). f i) pg'
-        ∙ (update_here s.progress i idle ∙ sym p)) (λ j ne. ap (λ (f : ℕ → BenchProgress). f j) pg'
-        ∙ update_else s.progress i idle j ne)) refl refl
+        (each-by_cases i (λ j. t.progress j ≡ s.progress j) (ap (λ (f : ℕ → BenchProgress). f i) pg'
+        ∙ (update-same s.progress i idle ∙ sym p)) (λ j ne. ap (λ (f : ℕ → BenchProgress). f j) pg'
+        ∙ update-other s.progress i idle j ne)) refl refl
     take_shown t i n v after low at saw st pg (suc (suc x)) c is has = absurd
         (omega (arith, is, sh.taken n, bit_small 2 W n))
 
@@ -469,9 +471,9 @@ module _ (total draws : ℕ) (s : BoardState) (m : Core) (sh : ReadsAs total dra
     calls = λ j u f. dite (ℕ_discrete j i)
         (λ is. let same : v ≡ u = one_view v u (get_elem? V i) e (subst (λ (y : ℕ). get_elem? V y ≡ some u) is f) in
         subst (λ (y : ℕ). IsViewAt u (update s.progress i p y)) (sym is)
-        (subst (IsViewAt u) (sym (update_here s.progress i p)) (subst (λ (y : View). IsViewAt y p) same own)))
-        (λ ne. subst (IsViewAt u) (sym (update_else s.progress i p j ne)) (sh.calls j u f));
-    unmade = λ j far. let near = at_within V i v e in update_else s.progress i p j (λ q. omega (arith, far, near, q))
+        (subst (IsViewAt u) (sym (update-same s.progress i p)) (subst (λ (y : View). IsViewAt y p) same own)))
+        (λ ne. subst (IsViewAt u) (sym (update-other s.progress i p j ne)) (sh.calls j u f));
+    unmade = λ j far. let near = at_within V i v e in update-other s.progress i p j (λ q. omega (arith, far, near, q))
         ∙ sh.unmade j far;
   }
 
@@ -496,13 +498,13 @@ module _ (total draws : ℕ) (s : BoardState) (m : Core) (sh : ReadsAs total dra
       ∙ ap (λ (ws : List ℕ). let x : TableState = record { words = ws; homes = set H n (some out); views = set V i v }
       in x) (loaded W 0))
       refl (length-set H n (some out)) sh.drawn sh.claimed sh.filed sh.taken
-      (cases_at n (λ j. j < total → get_elem? (set H n (some out)) j ≡ some (home_of (update m.home n empty j)))
+      (each-by_cases n (λ j. j < total → get_elem? (set H n (some out)) j ≡ some (home_of (update m.home n empty j)))
       (λ l. set_here H n (some out) (omega (arith, l, size)) ∙ ap (λ (y : Slot). some (home_of y))
-      (sym (update_here m.home n empty)))
+      (sym (update-same m.home n empty)))
       (λ j ne l. set_else H n j (some out) ne ∙ (sh.homes j l ∙ ap (λ (y : Slot). some (home_of y))
-      (sym (update_else m.home n empty j ne)))))
-      pt (subst (IsViewAt v) (sym (update_here m.progress i idle) ∙ pt i) (one.0, tt))
-      (λ j ne. ap (λ (f : ℕ → BenchProgress). f j) pg ∙ update_else s.progress i idle j ne))
+      (sym (update-other m.home n empty j ne)))))
+      pt (subst (IsViewAt v) (sym (update-same m.progress i idle) ∙ pt i) (one.0, tt))
+      (λ j ne. ap (λ (f : ℕ → BenchProgress). f j) pg ∙ update-other s.progress i idle j ne))
 
   -- `ReadsAs` holds after the views change, and nothing else
   with_all : (vs : List View) → ((j : ℕ) (u : View) → get_elem? vs j ≡ some u → IsViewAt u (s.progress j))
@@ -674,5 +676,5 @@ pub simulates_run : (total draws : ℕ) (es : List BoardEvent) (s t : BoardState
     → (n : Core) × IsRun total draws m es n × ReadsAs total draws t n
 simulates_run total draws [] s t m r sh is = (m, refl, subst (λ (y : BoardState). ReadsAs total draws y m) (sym is) sh)
 simulates_run total draws (e ∷ es) s t m r sh (u, h, more) = let next = simulates total draws s m sh r u e h in
-    let later = simulates_run total draws es u t next.0 (keeps_event total m r draws e next.0 next.1) next.2 more in
+    let later = simulates_run total draws es u t next.0 (Invariant-event total m r draws e next.0 next.1) next.2 more in
     (later.0, (next.0, next.1, later.1), later.2)

@@ -13,7 +13,7 @@ use Rattle.vme_core.specs.Views.{first_view, empty_view, kept_view, split_view, 
 use Rattle.vme_core.specs.Views.{after_take, with_claimed, with_filed, with_taken}
 use Rattle.vme_core.specs.Machine.{claim, file, look, take, give, filed_row, BenchProgress}
 use Rattle.vme_core.specs.Machine.{idle, has_claimed, has_put, has_taken, has_lifted}
-use Rattle.vme_core.proofs.ViewChanges.{cons_none}
+use Rattle.vme_core.proofs.ViewChanges.{cons-not_empty}
 use Rattle.vme_board.specs.Words.{mask_of}
 use Rattle.vme_board.specs.Views.{SameBlocks}
 use Rattle.vme_board.specs.Postconditions.{SeatState, IsAtBit}
@@ -138,7 +138,7 @@ module _ (b c : Block) (own : b.number ≡ 0) where
     (claimer, (0, None) ∷ []),
     omega arith,
     (refl, refl),
-    cons_none,
+    cons-not_empty,
     record {
       act = takes 0 None;
       valid = refl;
@@ -158,7 +158,7 @@ module _ (b c : Block) (own : b.number ≡ 0) where
     (loser, []),
     omega arith,
     (refl, refl),
-    cons_none,
+    cons-not_empty,
     record {
       act = keeps;
       valid = tt;
@@ -214,7 +214,7 @@ module _ (b c : Block) (own : b.number ≡ 0) where
     (taker, (0, Some b) ∷ []),
     omega arith,
     (refl, refl),
-    cons_none,
+    cons-not_empty,
     omega arith,
     record {
       act = takes 0 (Some b);

@@ -12,13 +12,18 @@ use Rattle.vme_core.specs.BoardInvariant.{BoardInvariant}
 use Rattle.vme_core.specs.Shares.{IsWholeShare}
 use Rattle.std.specs.Prelude.{sum_by}
 use Rattle.vme_core.proofs.ShareSums.{sum_of_sole_owner}
-use Rattle.vme_core.proofs.Sums.{at_most_sum, occurrences_here, occurrences_else, occurrences-append, numbers-append}
-use Rattle.vme_core.proofs.Sums.{HasPair-append, cases_at}
-use Rattle.vme_core.proofs.ViewChanges.{draws_set, draws_append, draws_two, cons_none, shares_set, shares_split}
-use Rattle.vme_core.proofs.ViewChanges.{shares_two, Sighted, sighted, stages_set, stages_saw, stages_append, stages_two}
-use Rattle.vme_core.proofs.ViewChanges.{Holding, holding, contents_set, contents_saw, contents_append, contents_two}
-use Rattle.vme_core.proofs.ViewChanges.{saw_one, saw_both}
-use Rattle.vme_core.proofs.SumsBelow.{pigeonhole, length-numbers, none_else, sum_below_agree, length_sum_below}
+use Rattle.vme_core.proofs.Sums.{le-sum_by, occurrences-cons_same, occurrences-cons_other, occurrences-append}
+use Rattle.vme_core.proofs.Sums.{numbers-append}
+use Rattle.vme_core.proofs.Sums.{HasPair-append, each-by_cases}
+use Rattle.vme_core.proofs.ViewChanges.{DrawInvariant-set, DrawInvariant-append, DrawInvariant-join, cons-not_empty}
+use Rattle.vme_core.proofs.ViewChanges.{ShareInvariant-set, ShareInvariant-split}
+use Rattle.vme_core.proofs.ViewChanges.{ShareInvariant-join, Sighted, Sighted-each, StageInvariant-set}
+use Rattle.vme_core.proofs.ViewChanges.{StageInvariant-saw, StageInvariant-append, StageInvariant-join}
+use Rattle.vme_core.proofs.ViewChanges.{Holding, Holding-each, ContentInvariant-set, ContentInvariant-saw}
+use Rattle.vme_core.proofs.ViewChanges.{ContentInvariant-append, ContentInvariant-join}
+use Rattle.vme_core.proofs.ViewChanges.{bits-cons, bits-append}
+use Rattle.vme_core.proofs.SumsBelow.{missing-at_most_sum, length-numbers, occurrences-exact, sum_below-agree}
+use Rattle.vme_core.proofs.SumsBelow.{length-sum_below}
 
 -- the invariant depends only on the values of D, C, F and T at each number
 pub equal_bits_preserve : (limit : ℕ) (D D' C C' F F' T T' : ℕ → ℕ) (K : ℕ → Option Block) (E : ℕ → Type 0)
@@ -29,15 +34,17 @@ equal_bits_preserve limit D D' C C' F F' T T' K E H vs d c f t r =
     subst (λ (z : (ℕ → ℕ) × (ℕ → ℕ) × (ℕ → ℕ) × (ℕ → ℕ)). BoardInvariant limit z.0 z.1 z.2 z.3 K E H vs)
     (λ i. ((λ n. sym (d n) i), (λ n. sym (c n) i), (λ n. sym (f n) i), λ n. sym (t n) i)) r
 
-both_none : {A : Type 0} {xs ys : List A} → xs ≡ [] → ys ≡ [] → xs ++ ys ≡ []
-both_none a b i = a i ++ b i
+-- two empty lists, appended, are empty
+append-both_empty : {A : Type 0} {xs ys : List A} → xs ≡ [] → ys ≡ [] → xs ++ ys ≡ []
+append-both_empty a b i = a i ++ b i
 
 -- a number has one content
-pub one_content : (k : Option Block) (b c : Block) → k ≡ Some b → k ≡ Some c → b ≡ c
-one_content k b c p q = cc
+pub content-one : (k : Option Block) (b c : Block) → k ≡ Some b → k ≡ Some c → b ≡ c
+content-one k b c p q = cc
 
-pub none_some : (b : Block) → ◌≡◌ {A = Option Block} None (Some b) → ⊥
-none_some b e = cc
+-- there isn't both no content and a content
+pub None-not_Some : (b : Block) → ◌≡◌ {A = Option Block} None (Some b) → ⊥
+None-not_Some b e = cc
 
 -- D, C, F and T are the bits `drawn`, `claimed`, `filed` and `taken`, K is `content`, E is `IsEmpty`, H is `IsFilled`,
 -- and vs are the views of the benches
@@ -54,13 +61,13 @@ module _ (limit : ℕ) (D C F T : ℕ → ℕ) (K : ℕ → Option Block) (E : �
         shares = r.shares;
         stages = r.stages;
         contents = record {
-          free_is_empty = cases_at n (λ m. C m ≡ 0 → E' m) (λ z. absurd (omega (arith, z, t1, o, p)))
+          free_is_empty = each-by_cases n (λ m. C m ≡ 0 → E' m) (λ z. absurd (omega (arith, z, t1, o, p)))
               (λ m ne z. e_else m ne (r.contents.free_is_empty m z));
           unfiled_is_none = r.contents.unfiled_is_none;
-          filed_is_stored = cases_at n (λ m. F m ≡ 1 → T m ≡ 0 → (b : Block) × (K m ≡ Some b) × H' m b)
+          filed_is_stored = each-by_cases n (λ m. F m ≡ 1 → T m ≡ 0 → (b : Block) × (K m ≡ Some b) × H' m b)
               (λ _ z. absurd (omega (arith, z, t1))) (λ m ne a z. let g = r.contents.filed_is_stored m a z in
               (g.0, g.1, h_else m g.0 ne g.2));
-          stored_is_filed = cases_at n (λ m. (b : Block) → H' m b → (F m ≡ 1) × (T m ≡ 0) × (K m ≡ Some b))
+          stored_is_filed = each-by_cases n (λ m. (b : Block) → H' m b → (F m ≡ 1) × (T m ≡ 0) × (K m ≡ Some b))
               (λ b h. absurd (bare b h)) (λ m ne b h. r.contents.stored_is_filed m b (h_back m b ne h));
           listed = r.contents.listed;
           took = r.contents.took;
@@ -69,10 +76,10 @@ module _ (limit : ℕ) (D C F T : ℕ → ℕ) (K : ℕ → Option Block) (E : �
 
   module _ (i : ℕ) (v : View) (e : get_elem? vs i ≡ some v) where
     abbrev seen : Sighted C F T v
-    seen = sighted limit C F T vs r.stages i v e
+    seen = Sighted-each limit C F T vs r.stages i v e
 
     abbrev held : Holding K v
-    held = holding C F T K E H vs r.contents i v e
+    held = Holding-each C F T K E H vs r.contents i v e
 
     -- the invariant holds if the bench saw the draws fo and the numbers cl, fi and ta, whose bits are 1, and nothing
     -- else changed
@@ -83,12 +90,13 @@ module _ (limit : ℕ) (D C F T : ℕ → ℕ) (K : ℕ → Option Block) (E : �
     seeing_preserves fo cl fi ta a b c d = let w : View = record v { found = fo; claimed = cl; filed = fi; taken = ta }
         in
         record {
-          draws = draws_set D vs r.draws D i v w e r.draws.bit (λ d. le_refl _) (λ d. refl) a;
-          shares = shares_set vs r.shares i v w e refl (λ z. let h = r.shares.no_share_has_nothing i v e z in
+          draws = DrawInvariant-set D vs r.draws D i v w e r.draws.bit (λ d. le_refl _) (λ d. refl) a;
+          shares = ShareInvariant-set vs r.shares i v w e refl (λ z. let h = r.shares.no_share_has_nothing i v e z in
               record { list = h.list; takes = h.takes; draws = h.draws; pending = h.pending });
-          stages = stages_saw limit C F T vs r.stages i v w e (λ n. refl) (λ n. refl) (λ n. refl)
+          stages = StageInvariant-saw limit C F T vs r.stages i v w e (λ n. refl) (λ n. refl) (λ n. refl)
               (record { claimed = b; filed = c; taken = d });
-          contents = contents_saw C F T K E H vs r.contents i w (record { listed = held.listed; took = held.took });
+          contents = ContentInvariant-saw C F T K E H vs r.contents i w
+              (record { listed = held.listed; took = held.took });
         }
 
     -- winning the draw d keeps the invariant (`draw`)
@@ -96,29 +104,30 @@ module _ (limit : ℕ) (D C F T : ℕ → ℕ) (K : ℕ → Option Block) (E : �
         → BoardInvariant limit D' C F T K E H (set vs i (after_draw v d))
     draw_preserves has_share D' d d0 d1 d_else =
         let w : View = after_draw v d in
-        let bit : (m : ℕ) → D' m ≤ 1 = cases_at d (λ m. D' m ≤ 1) (omega (arith, d1))
-        (λ m ne. omega (arith, d_else m ne, r.draws.bit m)) in let more : (m : ℕ) → D m ≤ D' m = cases_at d
+        let bit : (m : ℕ) → D' m ≤ 1 = each-by_cases d (λ m. D' m ≤ 1) (omega (arith, d1))
+        (λ m ne. omega (arith, d_else m ne, r.draws.bit m)) in let more : (m : ℕ) → D m ≤ D' m = each-by_cases d
         (λ m. D m ≤ D' m) (omega (arith, d0)) (λ m ne. omega (arith, d_else m ne)) in record {
-          draws = draws_set D vs r.draws D' i v w e bit more
-              (cases_at d (λ m. occurrences m w.draws + D m ≡ occurrences m v.draws + D' m)
-              (omega (arith, d1, d0, occurrences_here d v.draws))
-              (λ m ne. omega (arith, d_else m ne, occurrences_else m d v.draws ne)))
-              (saw_one D' d v.found d1 (λ m h. omega (arith, r.draws.found i v e m h, more m, bit m)));
-          shares = shares_set vs r.shares i v w e refl (λ z. absurd (has_share z));
-          stages = stages_saw limit C F T vs r.stages i v w e (λ n. refl) (λ n. refl) (λ n. refl)
+          draws = DrawInvariant-set D vs r.draws D' i v w e bit more
+              (each-by_cases d (λ m. occurrences m w.draws + D m ≡ occurrences m v.draws + D' m)
+              (omega (arith, d1, d0, occurrences-cons_same d v.draws))
+              (λ m ne. omega (arith, d_else m ne, occurrences-cons_other m d v.draws ne)))
+              (bits-cons D' d v.found d1 (λ m h. omega (arith, r.draws.found i v e m h, more m, bit m)));
+          shares = ShareInvariant-set vs r.shares i v w e refl (λ z. absurd (has_share z));
+          stages = StageInvariant-saw limit C F T vs r.stages i v w e (λ n. refl) (λ n. refl) (λ n. refl)
               (record { claimed = seen.claimed; filed = seen.filed; taken = seen.taken });
-          contents = contents_saw C F T K E H vs r.contents i w (record { listed = held.listed; took = held.took });
+          contents = ContentInvariant-saw C F T K E H vs r.contents i w
+              (record { listed = held.listed; took = held.took });
         }
 
     -- the bench hasn't won a draw that isn't drawn
     pub undrawn : (d : ℕ) → D d ≡ 0 → occurrences d v.draws ≡ 0
-    undrawn d is = omega (arith, at_most_sum (λ (u : View). occurrences d u.draws) vs i v e, r.draws.won_once d, is)
+    undrawn d is = omega (arith, le-sum_by (λ (u : View). occurrences d u.draws) vs i v e, r.draws.won_once d, is)
 
     -- a number that isn't filed isn't in the bench's list, and one that isn't taken isn't in its takes
     pub unlisted : (n : ℕ) → F n ≡ 0 → occurrences n (numbers v.list) ≡ 0
     unlisted n is = omega (
       arith,
-      at_most_sum (λ (u : View). occurrences n (numbers u.list)) vs i v e,
+      le-sum_by (λ (u : View). occurrences n (numbers u.list)) vs i v e,
       r.stages.filed_once n,
       is,
     )
@@ -126,7 +135,7 @@ module _ (limit : ℕ) (D C F T : ℕ → ℕ) (K : ℕ → Option Block) (E : �
     pub untaken : (n : ℕ) → T n ≡ 0 → occurrences n (numbers v.takes) ≡ 0
     untaken n is = omega (
       arith,
-      at_most_sum (λ (u : View). occurrences n (numbers u.takes)) vs i v e,
+      le-sum_by (λ (u : View). occurrences n (numbers u.takes)) vs i v e,
       r.stages.taken_once n,
       is,
     )
@@ -135,7 +144,7 @@ module _ (limit : ℕ) (D C F T : ℕ → ℕ) (K : ℕ → Option Block) (E : �
     pub is_taken : (n : ℕ) → 0 < occurrences n (numbers v.takes) → T n ≡ 1
     is_taken n is = omega (
       arith,
-      at_most_sum (λ (u : View). occurrences n (numbers u.takes)) vs i v e,
+      le-sum_by (λ (u : View). occurrences n (numbers u.takes)) vs i v e,
       r.stages.taken_once n,
       r.stages.taken_is_filed n,
       r.stages.pending_once n,
@@ -152,41 +161,42 @@ module _ (limit : ℕ) (D C F T : ℕ → ℕ) (K : ℕ → Option Block) (E : �
     claim_preserves has_share C' E' H' n none low c0 c1 c_else e_else h_else h_back bare =
         let w : View = after_claim v n in let p0 = λ (m : ℕ). let g : occurrences m v.pending ≡ 0 = ap (occurrences m)
         none in g in let pend = r.stages.pending_once n in let f0 : F n ≡ 0 = omega (arith, c0, pend) in
-        let bit : (m : ℕ) → C' m ≤ 1 = cases_at n (λ m. C' m ≤ 1) (omega (arith, c1))
+        let bit : (m : ℕ) → C' m ≤ 1 = each-by_cases n (λ m. C' m ≤ 1) (omega (arith, c1))
         (λ m ne. omega (arith, c_else m ne, r.stages.bit m)) in
-        let more : (m : ℕ) → C m ≤ C' m = cases_at n (λ m. C m ≤ C' m) (omega (arith, c0))
+        let more : (m : ℕ) → C m ≤ C' m = each-by_cases n (λ m. C m ≤ C' m) (omega (arith, c0))
         (λ m ne. omega (arith, c_else m ne)) in record {
-          draws = draws_set D vs r.draws D i v w e r.draws.bit (λ d. le_refl _) (λ d. refl) (r.draws.found i v e);
-          shares = shares_set vs r.shares i v w e refl (λ z. absurd (has_share z));
-          stages = stages_set limit C F T vs r.stages C' F T i v w e bit
-              (cases_at n (λ m. 0 < C' m → m < limit) (λ _. low)
+          draws = DrawInvariant-set D vs r.draws D i v w e r.draws.bit (λ d. le_refl _) (λ d. refl)
+              (r.draws.found i v e);
+          shares = ShareInvariant-set vs r.shares i v w e refl (λ z. absurd (has_share z));
+          stages = StageInvariant-set limit C F T vs r.stages C' F T i v w e bit
+              (each-by_cases n (λ m. 0 < C' m → m < limit) (λ _. low)
               (λ m ne z. r.stages.in_range m (omega (arith, z, c_else m ne)))) r.stages.taken_is_filed more
               (λ m. le_refl _) (λ m. le_refl _)
-              (cases_at n (λ m. occurrences m w.pending + F m + C m ≡ occurrences m v.pending + F m + C' m)
-              (omega (arith, c0, c1, f0, occurrences_here n [], p0 n))
-              (λ m ne. omega (arith, c_else m ne, occurrences_else m n [] ne, p0 m)))
+              (each-by_cases n (λ m. occurrences m w.pending + F m + C m ≡ occurrences m v.pending + F m + C' m)
+              (omega (arith, c0, c1, f0, occurrences-cons_same n [], p0 n))
+              (λ m ne. omega (arith, c_else m ne, occurrences-cons_other m n [] ne, p0 m)))
               (λ m. refl) (λ m. refl)
               (record {
-                claimed = saw_one C' n v.claimed c1 (λ m h. omega (arith, seen.claimed m h, more m, bit m));
+                claimed = bits-cons C' n v.claimed c1 (λ m h. omega (arith, seen.claimed m h, more m, bit m));
                 filed = seen.filed;
                 taken = seen.taken;
               });
-          contents = contents_set C F T K E H vs r.contents C' F T K E' H' i w (record {
-            free_is_empty = cases_at n (λ m. C' m ≡ 0 → E' m) (λ z. absurd (omega (arith, z, c1)))
+          contents = ContentInvariant-set C F T K E H vs r.contents C' F T K E' H' i w (record {
+            free_is_empty = each-by_cases n (λ m. C' m ≡ 0 → E' m) (λ z. absurd (omega (arith, z, c1)))
                 (λ m ne z. e_else m ne (r.contents.free_is_empty m (sym (c_else m ne) ∙ z)));
             unfiled_is_none = r.contents.unfiled_is_none;
-            filed_is_stored = cases_at n (λ m. F m ≡ 1 → T m ≡ 0 → (b : Block) × (K m ≡ Some b) × H' m b)
+            filed_is_stored = each-by_cases n (λ m. F m ≡ 1 → T m ≡ 0 → (b : Block) × (K m ≡ Some b) × H' m b)
                 (λ a _. absurd (omega (arith, a, f0))) (λ m ne a z. let g = r.contents.filed_is_stored m a z in
                 (g.0, g.1, h_else m g.0 ne g.2));
-            stored_is_filed = cases_at n (λ m. (b : Block) → H' m b → (F m ≡ 1) × (T m ≡ 0) × (K m ≡ Some b))
+            stored_is_filed = each-by_cases n (λ m. (b : Block) → H' m b → (F m ≡ 1) × (T m ≡ 0) × (K m ≡ Some b))
                 (λ b h. absurd (bare b h)) (λ m ne b h. r.contents.stored_is_filed m b (h_back m b ne h));
           }) (λ _ _ h. h) (record { listed = held.listed; took = held.took });
         }
 
     -- a number that is pending with the bench is claimed and not filed
     pub is_pending : (n : ℕ) → v.pending ≡ n ∷ [] → (C n ≡ 1) × (F n ≡ 0)
-    is_pending n one = let p1 : occurrences n v.pending ≡ 1 = ap (occurrences n) one ∙ occurrences_here n [] in
-        let owned = at_most_sum (λ (u : View). occurrences n u.pending) vs i v e in
+    is_pending n one = let p1 : occurrences n v.pending ≡ 1 = ap (occurrences n) one ∙ occurrences-cons_same n [] in
+        let owned = le-sum_by (λ (u : View). occurrences n u.pending) vs i v e in
         let pend = r.stages.pending_once n in
         let small = r.stages.bit n in
         (omega (arith, p1, owned, pend, small), omega (arith, p1, owned, pend, small))
@@ -199,42 +209,43 @@ module _ (limit : ℕ) (D C F T : ℕ → ℕ) (K : ℕ → Option Block) (E : �
         → BoardInvariant limit D C F' T K' E' H' (set vs i (after_filing v n b))
     file_preserves F' K' E' H' n b one f1 f_else k1 k_else e_else h_else h_back here alone =
         let w : View = after_filing v n b in let was = is_pending n one in let c0 = was.0 in let f0 = was.1 in
-        let p1 : occurrences n v.pending ≡ 1 = ap (occurrences n) one ∙ occurrences_here n [] in
+        let p1 : occurrences n v.pending ≡ 1 = ap (occurrences n) one ∙ occurrences-cons_same n [] in
         let p_else = λ (m : ℕ) (ne : m ≢ n). let g : occurrences m v.pending ≡ 0 = ap (occurrences m) one
-        ∙ occurrences_else m n [] ne in g in
+        ∙ occurrences-cons_other m n [] ne in g in
         let t0 : T n ≡ 0 = omega (arith, f0, r.stages.taken_is_filed n) in
-        let more : (m : ℕ) → F m ≤ F' m = cases_at n (λ m. F m ≤ F' m) (omega (arith, f0))
+        let more : (m : ℕ) → F m ≤ F' m = each-by_cases n (λ m. F m ≤ F' m) (omega (arith, f0))
         (λ m ne. omega (arith, f_else m ne)) in
-        let stays : (m : ℕ) (x : Block) → K m ≡ Some x → K' m ≡ Some x = cases_at n
+        let stays : (m : ℕ) (x : Block) → K m ≡ Some x → K' m ≡ Some x = each-by_cases n
         (λ m. (x : Block) → K m ≡ Some x → K' m
-        ≡ Some x) (λ x h. absurd (none_some x (sym (r.contents.unfiled_is_none n f0) ∙ h))) (λ m ne x h. k_else m ne
+        ≡ Some x) (λ x h. absurd (None-not_Some x (sym (r.contents.unfiled_is_none n f0) ∙ h))) (λ m ne x h. k_else m ne
         ∙ h) in record {
-          draws = draws_set D vs r.draws D i v w e r.draws.bit (λ d. le_refl _) (λ d. refl) (r.draws.found i v e);
-          shares = shares_set vs r.shares i v w e refl
-              (λ z. absurd (cons_none (sym one ∙ (r.shares.no_share_has_nothing i v e z).pending)));
-          stages = stages_set limit C F T vs r.stages C F' T i v w e r.stages.bit r.stages.in_range
+          draws = DrawInvariant-set D vs r.draws D i v w e r.draws.bit (λ d. le_refl _) (λ d. refl)
+              (r.draws.found i v e);
+          shares = ShareInvariant-set vs r.shares i v w e refl
+              (λ z. absurd (cons-not_empty (sym one ∙ (r.shares.no_share_has_nothing i v e z).pending)));
+          stages = StageInvariant-set limit C F T vs r.stages C F' T i v w e r.stages.bit r.stages.in_range
               (λ m. omega (arith, r.stages.taken_is_filed m, more m)) (λ m. le_refl _) more (λ m. le_refl _)
-              (cases_at n (λ m. occurrences m w.pending + F' m + C m ≡ occurrences m v.pending + F m + C m)
+              (each-by_cases n (λ m. occurrences m w.pending + F' m + C m ≡ occurrences m v.pending + F m + C m)
               (omega (arith, f0, f1, p1)) (λ m ne. omega (arith, f_else m ne, p_else m ne)))
-              (cases_at n (λ m. occurrences m (numbers w.list) + F m ≡ occurrences m (numbers v.list) + F' m)
-              (omega (arith, f0, f1, occurrences_here n (numbers v.list)))
-              (λ m ne. omega (arith, f_else m ne, occurrences_else m n (numbers v.list) ne)))
+              (each-by_cases n (λ m. occurrences m (numbers w.list) + F m ≡ occurrences m (numbers v.list) + F' m)
+              (omega (arith, f0, f1, occurrences-cons_same n (numbers v.list)))
+              (λ m ne. omega (arith, f_else m ne, occurrences-cons_other m n (numbers v.list) ne)))
               (λ m. refl) (record {
-                claimed = saw_one C n v.claimed c0 seen.claimed;
-                filed = saw_one F' n v.filed f1
-                    (cases_at n (λ m. 0 < occurrences m v.filed → F' m ≡ 1) (λ _. f1) (λ m ne h. f_else m ne
+                claimed = bits-cons C n v.claimed c0 seen.claimed;
+                filed = bits-cons F' n v.filed f1
+                    (each-by_cases n (λ m. 0 < occurrences m v.filed → F' m ≡ 1) (λ _. f1) (λ m ne h. f_else m ne
                     ∙ seen.filed m h));
                 taken = seen.taken;
               });
-          contents = contents_set C F T K E H vs r.contents C F' T K' E' H' i w (record {
-            free_is_empty = cases_at n (λ m. C m ≡ 0 → E' m) (λ z. absurd (omega (arith, z, c0)))
+          contents = ContentInvariant-set C F T K E H vs r.contents C F' T K' E' H' i w (record {
+            free_is_empty = each-by_cases n (λ m. C m ≡ 0 → E' m) (λ z. absurd (omega (arith, z, c0)))
                 (λ m ne z. e_else m ne (r.contents.free_is_empty m z));
-            unfiled_is_none = cases_at n (λ m. F' m ≡ 0 → K' m ≡ None) (λ z. absurd (omega (arith, z, f1)))
+            unfiled_is_none = each-by_cases n (λ m. F' m ≡ 0 → K' m ≡ None) (λ z. absurd (omega (arith, z, f1)))
                 (λ m ne z. k_else m ne ∙ r.contents.unfiled_is_none m (sym (f_else m ne) ∙ z));
-            filed_is_stored = cases_at n (λ m. F' m ≡ 1 → T m ≡ 0 → (x : Block) × (K' m ≡ Some x) × H' m x)
+            filed_is_stored = each-by_cases n (λ m. F' m ≡ 1 → T m ≡ 0 → (x : Block) × (K' m ≡ Some x) × H' m x)
                 (λ _ _. (b, k1, here)) (λ m ne a z. let g = r.contents.filed_is_stored m (sym (f_else m ne) ∙ a) z in
                 (g.0, k_else m ne ∙ g.1, h_else m g.0 ne g.2));
-            stored_is_filed = cases_at n (λ m. (x : Block) → H' m x → (F' m ≡ 1) × (T m ≡ 0) × (K' m ≡ Some x))
+            stored_is_filed = each-by_cases n (λ m. (x : Block) → H' m x → (F' m ≡ 1) × (T m ≡ 0) × (K' m ≡ Some x))
                 (λ x h. (f1, t0, k1 ∙ ap (λ (y : Block). Some y) (sym (alone x h))))
                 (λ m ne x h. let g = r.contents.stored_is_filed m x (h_back m x ne h) in
                 (f_else m ne ∙ g.0, g.1, k_else m ne ∙ g.2));
@@ -253,31 +264,32 @@ module _ (limit : ℕ) (D C F T : ℕ → ℕ) (K : ℕ → Option Block) (E : �
     take_preserves has_share T' E' H' n b f1 t0 t1 t_else kb e_else h_else h_back bare =
         let w : View = after_take v n b in let c1 : C n ≡ 1 = omega (arith, f1, r.stages.pending_once n, r.stages.bit n)
         in
-        let more : (m : ℕ) → T m ≤ T' m = cases_at n (λ m. T m ≤ T' m) (omega (arith, t0))
+        let more : (m : ℕ) → T m ≤ T' m = each-by_cases n (λ m. T m ≤ T' m) (omega (arith, t0))
         (λ m ne. omega (arith, t_else m ne)) in record {
-          draws = draws_set D vs r.draws D i v w e r.draws.bit (λ d. le_refl _) (λ d. refl) (r.draws.found i v e);
-          shares = shares_set vs r.shares i v w e refl (λ z. absurd (has_share z));
-          stages = stages_set limit C F T vs r.stages C F T' i v w e r.stages.bit r.stages.in_range
-              (cases_at n (λ m. T' m ≤ F m) (omega (arith, f1, t1))
+          draws = DrawInvariant-set D vs r.draws D i v w e r.draws.bit (λ d. le_refl _) (λ d. refl)
+              (r.draws.found i v e);
+          shares = ShareInvariant-set vs r.shares i v w e refl (λ z. absurd (has_share z));
+          stages = StageInvariant-set limit C F T vs r.stages C F T' i v w e r.stages.bit r.stages.in_range
+              (each-by_cases n (λ m. T' m ≤ F m) (omega (arith, f1, t1))
               (λ m ne. omega (arith, t_else m ne, r.stages.taken_is_filed m))) (λ m. le_refl _) (λ m. le_refl _) more
               (λ m. refl) (λ m. refl)
-              (cases_at n (λ m. occurrences m (numbers w.takes) + T m ≡ occurrences m (numbers v.takes) + T' m)
-              (omega (arith, t0, t1, occurrences_here n (numbers v.takes)))
-              (λ m ne. omega (arith, t_else m ne, occurrences_else m n (numbers v.takes) ne)))
+              (each-by_cases n (λ m. occurrences m (numbers w.takes) + T m ≡ occurrences m (numbers v.takes) + T' m)
+              (omega (arith, t0, t1, occurrences-cons_same n (numbers v.takes)))
+              (λ m ne. omega (arith, t_else m ne, occurrences-cons_other m n (numbers v.takes) ne)))
               (record {
-                claimed = saw_one C n v.claimed c1 seen.claimed;
-                filed = saw_one F n v.filed f1 seen.filed;
-                taken = saw_one T' n v.taken t1 (cases_at n (λ m. 0 < occurrences m v.taken → T' m ≡ 1) (λ _. t1)
+                claimed = bits-cons C n v.claimed c1 seen.claimed;
+                filed = bits-cons F n v.filed f1 seen.filed;
+                taken = bits-cons T' n v.taken t1 (each-by_cases n (λ m. 0 < occurrences m v.taken → T' m ≡ 1) (λ _. t1)
                     (λ m ne h. t_else m ne ∙ seen.taken m h));
               });
-          contents = contents_set C F T K E H vs r.contents C F T' K E' H' i w (record {
-            free_is_empty = cases_at n (λ m. C m ≡ 0 → E' m) (λ z. absurd (omega (arith, z, c1)))
+          contents = ContentInvariant-set C F T K E H vs r.contents C F T' K E' H' i w (record {
+            free_is_empty = each-by_cases n (λ m. C m ≡ 0 → E' m) (λ z. absurd (omega (arith, z, c1)))
                 (λ m ne z. e_else m ne (r.contents.free_is_empty m z));
             unfiled_is_none = r.contents.unfiled_is_none;
-            filed_is_stored = cases_at n (λ m. F m ≡ 1 → T' m ≡ 0 → (x : Block) × (K m ≡ Some x) × H' m x)
+            filed_is_stored = each-by_cases n (λ m. F m ≡ 1 → T' m ≡ 0 → (x : Block) × (K m ≡ Some x) × H' m x)
                 (λ _ z. absurd (omega (arith, z, t1))) (λ m ne a z. let g = r.contents.filed_is_stored m a
                 (sym (t_else m ne) ∙ z) in (g.0, g.1, h_else m g.0 ne g.2));
-            stored_is_filed = cases_at n (λ m. (x : Block) → H' m x → (F m ≡ 1) × (T' m ≡ 0) × (K m ≡ Some x))
+            stored_is_filed = each-by_cases n (λ m. (x : Block) → H' m x → (F m ≡ 1) × (T' m ≡ 0) × (K m ≡ Some x))
                 (λ x h. absurd (bare x h)) (λ m ne x h. let g = r.contents.stored_is_filed m x (h_back m x ne h) in
                 (g.0, t_else m ne ∙ g.1, g.2));
           }) (λ _ _ h. h) (record {
@@ -289,40 +301,42 @@ module _ (limit : ℕ) (D C F T : ℕ → ℕ) (K : ℕ → Option Block) (E : �
 
     pub split_preserves : BoardInvariant limit D C F T K E H (set vs i (kept_view v) ++ split_view v ∷ [])
     split_preserves = let w : View = kept_view v in let ws : List View = set vs i w in record {
-      draws = draws_append D ws (draws_set D vs r.draws D i v w e r.draws.bit (λ d. le_refl _) (λ d. refl)
+      draws = DrawInvariant-append D ws (DrawInvariant-set D vs r.draws D i v w e r.draws.bit (λ d. le_refl _)
+          (λ d. refl)
           (r.draws.found i v e)) (split_view v) (λ _. refl) (r.draws.found i v e);
-      shares = shares_split vs r.shares i v e;
-      stages = stages_append limit C F T ws (stages_saw limit C F T vs r.stages i v w e (λ n. refl) (λ n. refl)
+      shares = ShareInvariant-split vs r.shares i v e;
+      stages = StageInvariant-append limit C F T ws (StageInvariant-saw limit C F T vs r.stages i v w e (λ n. refl)
+          (λ n. refl)
           (λ n. refl) (record { claimed = seen.claimed; filed = seen.filed; taken = seen.taken })) (split_view v)
           (λ _. refl) (λ _. refl) (λ _. refl) (record {
             claimed = seen.claimed;
             filed = seen.filed;
             taken = seen.taken;
           });
-      contents = contents_append C F T K E H ws (contents_saw C F T K E H vs r.contents i w
+      contents = ContentInvariant-append C F T K E H ws (ContentInvariant-saw C F T K E H vs r.contents i w
           (record { listed = held.listed; took = held.took })) (split_view v)
           (record { listed = λ _ _ h. absurd h; took = λ _ _ h. absurd h });
     }
 
     pub join_preserves : (j : ℕ) (w : View) → j ≢ i → get_elem? vs j ≡ some w → BoardInvariant limit D C F T K E H
         (set (set vs i (joint_view v w)) j empty_view)
-    join_preserves j w ne f = let theirs = sighted limit C F T vs r.stages j w f in
-        let has = holding C F T K E H vs r.contents j w f in record {
-          draws = draws_two D vs r.draws i j v w (joint_view v w) empty_view e ne f
+    join_preserves j w ne f = let theirs = Sighted-each limit C F T vs r.stages j w f in
+        let has = Holding-each C F T K E H vs r.contents j w f in record {
+          draws = DrawInvariant-join D vs r.draws i j v w (joint_view v w) empty_view e ne f
               (λ d. omega (arith, occurrences-append d v.draws w.draws))
-              (saw_both D v.found w.found (r.draws.found i v e)
+              (bits-append D v.found w.found (r.draws.found i v e)
               (r.draws.found j w f)) (λ _ h. absurd (omega arith));
-          shares = shares_two vs r.shares i j v w (joint_view v w) empty_view e ne f refl refl
+          shares = ShareInvariant-join vs r.shares i j v w (joint_view v w) empty_view e ne f refl refl
               (record { list = refl; takes = refl; draws = refl; pending = refl })
               (λ a b. let x = r.shares.no_share_has_nothing i v e a in let y = r.shares.no_share_has_nothing j w f b in
               record {
-                list = both_none x.list y.list;
-                takes = both_none x.takes y.takes;
-                draws = both_none x.draws
+                list = append-both_empty x.list y.list;
+                takes = append-both_empty x.takes y.takes;
+                draws = append-both_empty x.draws
                     y.draws;
-                pending = both_none x.pending y.pending;
+                pending = append-both_empty x.pending y.pending;
               });
-          stages = stages_two limit C F T vs r.stages i j v w (joint_view v w) empty_view e ne f
+          stages = StageInvariant-join limit C F T vs r.stages i j v w (joint_view v w) empty_view e ne f
               (λ n. omega (arith, occurrences-append n v.pending w.pending))
               (λ n. omega (
                 arith,
@@ -337,10 +351,10 @@ module _ (limit : ℕ) (D C F T : ℕ → ℕ) (K : ℕ → Option Block) (E : �
                     (numbers v.takes) (numbers w.takes),
               ))
               (record {
-                claimed = saw_both C v.claimed w.claimed seen.claimed theirs.claimed;
-                filed = saw_both F v.filed
+                claimed = bits-append C v.claimed w.claimed seen.claimed theirs.claimed;
+                filed = bits-append F v.filed
                     w.filed seen.filed theirs.filed;
-                taken = saw_both T v.taken w.taken seen.taken theirs.taken;
+                taken = bits-append T v.taken w.taken seen.taken theirs.taken;
               })
               (record {
                 claimed = λ _ h. absurd (omega arith);
@@ -348,7 +362,7 @@ module _ (limit : ℕ) (D C F T : ℕ → ℕ) (K : ℕ → Option Block) (E : �
                 taken = λ _ h. absurd
                     (omega arith);
               });
-          contents = contents_two C F T K E H vs r.contents i j (joint_view v w) empty_view
+          contents = ContentInvariant-join C F T K E H vs r.contents i j (joint_view v w) empty_view
               (record {
                 listed = λ n x h. ⊎_elim (held.listed n x) (has.listed n x) (HasPair-append v.list w.list n x h);
                 took = λ n x h. ⊎_elim (held.took n x) (has.took n x) (HasPair-append v.takes w.takes n x h);
@@ -362,20 +376,20 @@ module _ (limit : ℕ) (D C F T : ℕ → ℕ) (K : ℕ → Option Block) (E : �
     view_has_no_duplicates = (
       (λ d. omega (
         arith,
-        at_most_sum (λ (u : View). occurrences d u.draws) vs i v e,
+        le-sum_by (λ (u : View). occurrences d u.draws) vs i v e,
         r.draws.won_once d,
         r.draws.bit d,
       )),
       (λ n. omega (
         arith,
-        at_most_sum (λ (u : View). occurrences n (numbers u.list)) vs i v e,
+        le-sum_by (λ (u : View). occurrences n (numbers u.list)) vs i v e,
         r.stages.filed_once n,
         r.stages.pending_once n,
         r.stages.bit n,
       )),
       λ n. omega (
         arith,
-        at_most_sum (λ (u : View). occurrences n (numbers u.takes)) vs i v e,
+        le-sum_by (λ (u : View). occurrences n (numbers u.takes)) vs i v e,
         r.stages.taken_once n,
         r.stages.taken_is_filed n,
         r.stages.pending_once n,
@@ -385,7 +399,7 @@ module _ (limit : ℕ) (D C F T : ℕ → ℕ) (K : ℕ → Option Block) (E : �
 
     -- if the bench filed and took a number, it took the block that it filed
     pub filed_and_taken_agree : (n : ℕ) (b c : Block) → HasPair v.list n b → HasPair v.takes n c → b ≡ c
-    filed_and_taken_agree n b c h t = one_content (K n) b c (held.listed n b h) (held.took n c t)
+    filed_and_taken_agree n b c h t = content-one (K n) b c (held.listed n b h) (held.took n c t)
 
     -- a view lists at most as many numbers as are filed, and takes at most as many as are taken (`list_length_bound`,
     -- `takes_length_bound`, which also count the numbers that it saw filed or taken and doesn't have)
@@ -398,7 +412,7 @@ module _ (limit : ℕ) (D C F T : ℕ → ℕ) (K : ℕ → Option Block) (E : �
     listed_at_most_filed : (n : ℕ) → occurrences n (numbers v.list) ≤ F n
     listed_at_most_filed n = omega (
       arith,
-      at_most_sum (λ (u : View). occurrences n (numbers u.list)) vs i v e,
+      le-sum_by (λ (u : View). occurrences n (numbers u.list)) vs i v e,
       r.stages.filed_once
           n,
     )
@@ -406,31 +420,31 @@ module _ (limit : ℕ) (D C F T : ℕ → ℕ) (K : ℕ → Option Block) (E : �
     takes_at_most_taken : (n : ℕ) → occurrences n (numbers v.takes) ≤ T n
     takes_at_most_taken n = omega (
       arith,
-      at_most_sum (λ (u : View). occurrences n (numbers u.takes)) vs i v e,
+      le-sum_by (λ (u : View). occurrences n (numbers u.takes)) vs i v e,
       r.stages.taken_once n,
     )
 
     pub list_length_bound : sum_below (missing_at v.filed (numbers v.list)) limit + length v.list ≤ sum_below F limit
     list_length_bound = omega (
       arith,
-      pigeonhole F limit filed_in_range (numbers v.list) listed_at_most_filed v.filed seen.filed,
+      missing-at_most_sum F limit filed_in_range (numbers v.list) listed_at_most_filed v.filed seen.filed,
       length-numbers v.list,
     )
 
     pub takes_length_bound : sum_below (missing_at v.taken (numbers v.takes)) limit + length v.takes ≤ sum_below T limit
     takes_length_bound = omega (
       arith,
-      pigeonhole T limit taken_in_range (numbers v.takes) takes_at_most_taken v.taken seen.taken,
+      missing-at_most_sum T limit taken_in_range (numbers v.takes) takes_at_most_taken v.taken seen.taken,
       length-numbers v.takes,
     )
 
     -- if a view lists at least as many numbers as are filed, every filed number is in its list; the same for taken ones
     pub all_listed : sum_below F limit ≤ length v.list → (n : ℕ) → n < limit → F n ≡ occurrences n (numbers v.list)
-    all_listed full = none_else F limit (numbers v.list) filed_in_range listed_at_most_filed
+    all_listed full = occurrences-exact F limit (numbers v.list) filed_in_range listed_at_most_filed
         (omega (arith, full, length-numbers v.list))
 
     pub all_taken : sum_below T limit ≤ length v.takes → (n : ℕ) → n < limit → T n ≡ occurrences n (numbers v.takes)
-    all_taken full = none_else T limit (numbers v.takes) taken_in_range takes_at_most_taken
+    all_taken full = occurrences-exact T limit (numbers v.takes) taken_in_range takes_at_most_taken
         (omega (arith, full, length-numbers v.takes))
 
     -- the bench that has the whole share won each draw that was won, filed each number that was filed, and took each
@@ -462,11 +476,11 @@ module _ (limit : ℕ) (D C F T : ℕ → ℕ) (K : ℕ → Option Block) (E : �
       )
 
       pub whole_listed : sum_below F limit ≡ length v.list
-      whole_listed = sum_below_agree F (λ n. occurrences n (numbers v.list)) limit (λ n _. own_list n)
-          ∙ (sym (length_sum_below (numbers v.list) limit (λ n h. filed_in_range n (omega (arith, h, own_list n))))
+      whole_listed = sum_below-agree F (λ n. occurrences n (numbers v.list)) limit (λ n _. own_list n)
+          ∙ (sym (length-sum_below (numbers v.list) limit (λ n h. filed_in_range n (omega (arith, h, own_list n))))
           ∙ length-numbers v.list)
 
       pub whole_taken : sum_below T limit ≡ length v.takes
-      whole_taken = sum_below_agree T (λ n. occurrences n (numbers v.takes)) limit (λ n _. own_takes n)
-          ∙ (sym (length_sum_below (numbers v.takes) limit (λ n h. taken_in_range n (omega (arith, h, own_takes n))))
+      whole_taken = sum_below-agree T (λ n. occurrences n (numbers v.takes)) limit (λ n _. own_takes n)
+          ∙ (sym (length-sum_below (numbers v.takes) limit (λ n h. taken_in_range n (omega (arith, h, own_takes n))))
           ∙ length-numbers v.takes)

@@ -7,7 +7,7 @@ use native.Mathlib.Decide.{ℕ_discrete}
 use Rattle.vme_trace.specs.declared.block.Block.{Block}
 use Rattle.vme_core.specs.Counting.{occurrences, numbers, HasPair, lack, missing_count}
 use Rattle.vme_core.specs.declared.view.View.{View}
-use Rattle.vme_core.proofs.Sums.{occurs_of_pair, pair_of_occurs}
+use Rattle.vme_core.proofs.Sums.{occurrences-of_pair, HasPair-of_occurrences}
 use Rattle.vme_board.specs.Contents.{DidAll, HasBlock}
 use Rattle.vme_core.specs.Stages.{HasSeen}
 use Rattle.vme_core.specs.declared.stage.Stage.TheVariants.{Claimed}
@@ -82,7 +82,7 @@ module _ (total : ℕ) (ds : List Block) (v : View) (replies : List Reply) (answ
         arith,
         weigh-files_of ds n replies,
         w.filed n,
-        occurs_of_pair
+        occurrences-of_pair
             v.list n b h,
       )) in
       let k : ℕ = some.0 in let r : Reply = some.1 in let is =
@@ -223,7 +223,7 @@ module _ (total : ℕ) (ds : List Block) (v : View) (replies : List Reply) (c : 
   -- no block that was collected is left on the board
   pub HasBlock-apart : (n : ℕ) (b d : Block) → HasBlock c.book n b → HasBlock closed.contents.items n d → ⊥
   HasBlock-apart n b d at left =
-      let h = occurs_of_pair v.takes n b (k.collected.took n b at) in
+      let h = occurrences-of_pair v.takes n b (k.collected.took n b at) in
       Some-not_none d (same_Some (Some d) no_block (sym left ∙ k.closing.gone n h))
 
   module _ (others : closed.others ≡ 0) (taken : closed.taken ≡ 0) where
@@ -245,8 +245,9 @@ module _ (total : ℕ) (ds : List Block) (v : View) (replies : List Reply) (c : 
         let took = k.collected.took n b at in
         let low : n < total = let l = k.collected.long in let w = slice_get_within c.book n (Some b) at in
         omega (arith, l, w) in
-        let p = pair_of_occurs v.list n
-        (occurrences-seen_listed n low (k.collected.saw n (occurs_of_pair v.takes n b took))) in
+        let p = HasPair-of_occurrences v.list n
+        (occurrences-seen_listed n low
+        (k.collected.saw n (occurrences-of_pair v.takes n b took))) in
         subst (λ (x : Block). HasPair v.list n x) (k.same n p.0 b p.1 took) p.1
 
     -- the blocks that were collected and those left on the board are exactly those that the bench filed
@@ -256,7 +257,7 @@ module _ (total : ℕ) (ds : List Block) (v : View) (replies : List Reply) (c : 
       listed = λ n b h. dite (ℕ_discrete (occurrences n (numbers v.takes)) 0)
           (λ z. let at = k.closing.untaken taken n b h z in
           u.second n b (slice_get_within closed.contents.items n (Some b) at) at)
-          (λ ne. let p = pair_of_occurs v.takes n (omega (arith, ne)) in
+          (λ ne. let p = HasPair-of_occurrences v.takes n (omega (arith, ne)) in
           u.first n b (k.collected.kept n b (subst (λ (x : Block). HasPair v.takes n x) (sym (k.same n b p.0 h p.1))
           p.1)));
       only = λ n b at. ⊎_elim (λ x. HasPair-collected n b x) (λ x. k.closing.only others n b x.1) (u.only n b at);
@@ -271,9 +272,10 @@ module _ (total : ℕ) (ds : List Block) (v : View) (replies : List Reply) (c : 
         let near : n < total = omega (arith, low, long) in
         let b = there n near in
         let h = (IsClosed-union all u).only n b.0 b.1 in
-        let gone : 0 < occurrences n (numbers v.takes) + occurrences n v.taken = own n (occurs_of_pair v.list n b.0 h)
+        let gone : 0 < occurrences n (numbers v.takes) + occurrences n v.taken =
+        own n (occurrences-of_pair v.list n b.0 h)
         in
         let took : 0 < occurrences n (numbers v.takes) = dite (ℕ_discrete (occurrences n v.taken) 0)
         (λ z. omega (arith, gone, z)) (λ ne. occurrences-seen_taken n near (omega (arith, ne))) in
-        let p = pair_of_occurs v.takes n took in (p.0, k.collected.kept n p.0 p.1)) in
+        let p = HasPair-of_occurrences v.takes n took in (p.0, k.collected.kept n p.0 p.1)) in
         omega (arith, full, counted, long)

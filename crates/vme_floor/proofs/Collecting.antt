@@ -11,8 +11,8 @@ use Rattle.vme_core.specs.Stages.{rank, seen, SeesMore}
 use Rattle.vme_core.specs.Views.{joint_view}
 use Rattle.vme_core.specs.declared.stage.Stage.TheVariants as stage
 use Rattle.vme_core.specs.declared.view.View.{View}
-use Rattle.vme_core.proofs.StageRanks.{seen_taken, seen_less_than_filed}
-use Rattle.vme_core.proofs.Sums.{occurrences-append, occurrences_else, occurs_of_pair}
+use Rattle.vme_core.proofs.StageRanks.{seen-Taken, rank-seen_not_filed}
+use Rattle.vme_core.proofs.Sums.{occurrences-append, occurrences-cons_other, occurrences-of_pair}
 use Rattle.vme_board.specs.Contents.{HasBlock}
 use Rattle.vme_book.specs.Inserted.{stored, RefusesBlock}
 use Rattle.vme_book.specs.declared.book.InsertFault.{InsertFault}
@@ -157,7 +157,7 @@ module _ (total : ℕ) (v w : View) (c e : Collection) (m n : ℕ) (b : Block) (
   HasBlock-of_takes l d h = elim h [
     | inl x ↦ ap (slice_get e.book) (sym x.0) ∙ (book-here ∙ ap (λ (y : Block). Some (Some y)) x.1)
     | inr x ↦
-        let ne : l ≢ n = λ same. let o = occurs_of_pair v.takes l d x in
+        let ne : l ≢ n = λ same. let o = occurrences-of_pair v.takes l d x in
         let z = ap (λ (y : ℕ). occurrences y (numbers v.takes)) same in omega (arith, o, z, new) in
         book-elsewhere l ne ∙ k.kept l d x
   ]
@@ -166,7 +166,7 @@ module _ (total : ℕ) (v w : View) (c e : Collection) (m n : ℕ) (b : Block) (
   filed-of_takes : (l : ℕ) → 0 < occurrences l (n ∷ numbers v.takes) → 0 < occurrences l w.filed
   filed-of_takes l some = dite (ℕ_discrete l n)
       (λ same. subst (λ (y : ℕ). 0 < occurrences y w.filed) (sym same) filed)
-      (λ ne. let z = occurrences_else l n (numbers v.takes) ne in let s = k.saw l (omega (arith, z, some)) in
+      (λ ne. let z = occurrences-cons_other l n (numbers v.takes) ne in let s = k.saw l (omega (arith, z, some)) in
       let g = more l in omega (arith, s, g))
 
   -- `IsCollected` holds after one more block was taken and put into the book
@@ -189,7 +189,7 @@ RefusesBlock-never total v c m n insert_fault.Stranger k is low new why other = 
     absurd (omega (arith, l, why, is, low))
 RefusesBlock-never total v c m n insert_fault.Doubled k is low new why other =
     let near : m < length c.book = let l = k.long in omega (arith, l, is, low) in
-    let o = occurs_of_pair v.takes m why.0 (k.took m why.0 (slice_get-stored c.book m (Some why.0) near why.1)) in
+    let o = occurrences-of_pair v.takes m why.0 (k.took m why.0 (slice_get-stored c.book m (Some why.0) near why.1)) in
     let z = ap (λ (y : ℕ). occurrences y (numbers v.takes)) is in absurd (omega (arith, o, z, new))
 RefusesBlock-never total v c m n insert_fault.Memory k is low new why other = other refl
 
@@ -207,8 +207,8 @@ filed-of_seen v n is =
     let r : rank (seen v n) ≡ 2 = ap rank is in
     dite (ℕ_discrete (occurrences n v.filed) 0)
     (λ z. dite (ℕ_discrete (occurrences n v.taken) 0)
-    (λ y. let l = seen_less_than_filed v n z y in absurd (omega (arith, l, r)))
-    (λ ne. let t : rank (seen v n) ≡ 3 = ap rank (seen_taken v n (omega (arith, ne))) in absurd (omega (arith, t, r))))
+    (λ y. let l = rank-seen_not_filed v n z y in absurd (omega (arith, l, r)))
+    (λ ne. let t : rank (seen v n) ≡ 3 = ap rank (seen-Taken v n (omega (arith, ne))) in absurd (omega (arith, t, r))))
     (λ ne. omega (arith, ne))
 
 -- a number that is taken stays so

@@ -5,7 +5,7 @@ use Rattle.std.proofs.lemmas.Option.{none-some, same_Some}
 use mathlib.Core.Logic.{dite}
 use native.Mathlib.Decide.{ℕ_discrete}
 use Rattle.vme_core.specs.Counting.{occurrences}
-use Rattle.vme_core.proofs.Sums.{occurrences_else}
+use Rattle.vme_core.proofs.Sums.{occurrences-cons_other}
 use Rattle.vme_floor.specs.declared.answer.Answer.{Answer}
 use Rattle.vme_floor.specs.declared.answer.Reply.{Reply}
 use Rattle.vme_floor.specs.Works.{replied}
@@ -65,7 +65,7 @@ pub occurrences-no_reply : (replies : List Reply) (d : ℕ)
     ≡ Some t → t.delivery ≡ d → ⊥) → occurrences d (replied replies) ≡ 0
 occurrences-no_reply [] d none = refl
 occurrences-no_reply (t ∷ ts) d none =
-    occurrences_else d t.delivery (replied ts) (λ e. none 0 (omega arith) t refl (sym e))
+    occurrences-cons_other d t.delivery (replied ts) (λ e. none 0 (omega arith) t refl (sym e))
     ∙ occurrences-no_reply ts d (λ k l u at is. none (suc k) (omega (arith, l)) u at is)
 
 -- if the first i answers agree with the table, they do so after its item i is pushed

@@ -2,7 +2,7 @@
 use Rattle.std.proofs.Common.{◌≡◌, ℕ, zero, suc, ◌+◌, ◌*◌, ◌-◌, ◌^◌, ◌≤◌, List, [], ◌∷◌, ◌++◌, ap, arith, le_refl}
 use Rattle.std.proofs.Common.{pow-suc}
 use Rattle.vme_core.specs.Shares.{weight, FitsIn, IsWholeShare}
-use Rattle.vme_core.proofs.ShareSums.{fits-append, weight-append}
+use Rattle.vme_core.proofs.ShareSums.{FitsIn-append, weight-append}
 
 -- the shares of the workers 1 to t
 abbrev pub upto : ℕ → List ℕ
@@ -12,7 +12,7 @@ upto (suc t) = upto t ++ suc t ∷ []
 -- the shares of the workers 1 to t fit, if t is at most m
 FitsIn-upto : (m t : ℕ) → t ≤ m → FitsIn m (upto t)
 FitsIn-upto m zero low = tt
-FitsIn-upto m (suc t) low = fits-append m (upto t) (suc t ∷ []) (FitsIn-upto m t (omega (arith, low))) (low, tt)
+FitsIn-upto m (suc t) low = FitsIn-append m (upto t) (suc t ∷ []) (FitsIn-upto m t (omega (arith, low))) (low, tt)
 
 -- the shares of the workers 1 to t and what is left after t splits weigh the whole
 weight-upto : (m t : ℕ) → t ≤ m → weight m (upto t) + 2 ^ (m - t) ≡ 2 ^ m

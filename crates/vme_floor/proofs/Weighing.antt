@@ -7,7 +7,7 @@ use native.Mathlib.Decide.{ℕ_discrete}
 use Rattle.std.proofs.lemmas.Bool.Decides.{nat_tests}
 use Rattle.vme_trace.specs.declared.block.Block.{Block}
 use Rattle.vme_core.specs.Counting.{occurrences, numbers, HasPair}
-use Rattle.vme_core.proofs.Sums.{occurrences_here, occurs_of_pair}
+use Rattle.vme_core.proofs.Sums.{occurrences-cons_same, occurrences-of_pair}
 use Rattle.vme_floor.specs.Works.{number_at, filing, filings, replied}
 use Rattle.vme_floor.specs.declared.answer.Answer.{Answer}
 use Rattle.vme_floor.specs.declared.answer.Answer.TheVariants.{Filed, Stranger, TooLong, Malformed, Doubled, Memory}
@@ -85,7 +85,7 @@ filing-here m n e = let one : ℕ = 1 in let nil : ℕ = 0 in ap (λ b. cond b o
 -- a number occurs once more in a list with a pair of that number before it
 occurrences-first : (n m : ℕ) (b : Block) (xs : List (ℕ × Block)) → m ≡ n → occurrences n (numbers ((m, b) ∷ xs))
     ≡ 1 + occurrences n (numbers xs)
-occurrences-first n m b xs e = ap (λ (y : ℕ). occurrences n (y ∷ numbers xs)) e ∙ occurrences_here n (numbers xs)
+occurrences-first n m b xs e = ap (λ (y : ℕ). occurrences n (y ∷ numbers xs)) e ∙ occurrences-cons_same n (numbers xs)
 
 -- a number that occurs once in a list has one block there
 pub HasPair-one_block : (xs : List (ℕ × Block)) (n : ℕ) (b c : Block) → occurrences n (numbers xs) ≤ 1 → HasPair xs n b
@@ -93,7 +93,7 @@ pub HasPair-one_block : (xs : List (ℕ × Block)) (n : ℕ) (b c : Block) → o
 HasPair-one_block [] n b c o h k = absurd h
 HasPair-one_block (x ∷ xs) n b c o (inl e) (inl f) = sym e.1 ∙ f.1
 HasPair-one_block (x ∷ xs) n b c o (inl e) (inr k) = let z = occurrences-first n x.0 x.1 xs e.0 in
-    absurd (omega (arith, z, occurs_of_pair xs n c k, o))
+    absurd (omega (arith, z, occurrences-of_pair xs n c k, o))
 HasPair-one_block (x ∷ xs) n b c o (inr h) (inl f) = let z = occurrences-first n x.0 x.1 xs f.0 in
-    absurd (omega (arith, z, occurs_of_pair xs n b h, o))
+    absurd (omega (arith, z, occurrences-of_pair xs n b h, o))
 HasPair-one_block (x ∷ xs) n b c o (inr h) (inr k) = HasPair-one_block xs n b c (omega (arith, o)) h k

@@ -13,7 +13,7 @@ use Rattle.vme_core.specs.Views.{joint_view}
 use Rattle.vme_core.specs.declared.view.View.{View}
 use Rattle.vme_core.specs.Stages.{rank, seen, HasSeen, SeesMore}
 use Rattle.vme_core.specs.declared.stage.Stage.TheVariants.{Claimed}
-use Rattle.vme_core.proofs.StageRanks.{seen_grows}
+use Rattle.vme_core.proofs.StageRanks.{rank-seen_grows}
 use Rattle.vme_board.specs.Views.{AllFound}
 use Rattle.vme_core.proofs.Sums.{occurrences-append, numbers-append}
 use Rattle.vme_floor.specs.Answering.{first_refusal, IsRightAnswer}
@@ -91,7 +91,8 @@ IsSeenIf-more : (ds : List Block) (v w : View) → SeesMore v w → (rs : List R
     → Each (IsSeenIf ds w) rs
 IsSeenIf-more ds v w more = Each-map (IsSeenIf ds v) (IsSeenIf ds w)
     (λ r f is. let a : 1 ≤ rank (seen v (number_at ds r.delivery)) = f is in
-    let b = seen_grows v w (number_at ds r.delivery) more in let g : 1 ≤ rank (seen w (number_at ds r.delivery)) = omega
+    let b = rank-seen_grows v w (number_at ds r.delivery) more in let g : 1 ≤ rank (seen w (number_at ds r.delivery)) =
+    omega
     (arith, a, b) in g)
 
 -- after a join a bench has seen what the first had

@@ -1,5 +1,5 @@
 use Rattle.vme_core.specs.Machine.{start}
-use Rattle.vme_core.proofs.Runs.{keeps_run, starts}
+use Rattle.vme_core.proofs.Runs.{Invariant-run, Invariant-start}
 use Rattle.vme_board_machine.specs.Steps.{opened}
 use Rattle.vme_board_machine.proofs.Simulation.{begins, simulates, simulates_run}
 use Rattle.vme_board_machine.proofs.board_is_the_machine.Goals as goal
@@ -9,8 +9,8 @@ returns-clause-begins c = begins
 
 pub returns-clause-steps : goal.returns-clause-steps
 returns-clause-steps c total draws s m run shown t e step = simulates total draws s m shown
-    (keeps_run total draws run.0 start m (starts total) run.1) t e step
+    (Invariant-run total draws run.0 start m (Invariant-start total) run.1) t e step
 
 pub returns-clause-runs : goal.returns-clause-runs
 returns-clause-runs c total draws width wide fits es t run = simulates_run total draws es (opened width total) t start
-    (starts total) (begins total draws width wide fits) run
+    (Invariant-start total) (begins total draws width wide fits) run

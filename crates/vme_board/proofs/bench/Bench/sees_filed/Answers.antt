@@ -1,5 +1,5 @@
 use Rattle.std.proofs.Common.{◌/◌, ◌%◌, ◌∙◌, sym, arith}
-use Rattle.vme_core.proofs.StageRanks.{seen_less_than_filed}
+use Rattle.vme_core.proofs.StageRanks.{rank-seen_not_filed}
 use Rattle.vme_board.proofs.bench.Bench.sees_filed.Goals as goal
 use Rattle.vme_board.proofs.Bits.{word_within, bit_0}
 use Rattle.vme_board.proofs.Steps.{looks_filed}
@@ -33,7 +33,7 @@ returns-clause-never c = on_not_one c.bit.result _
     (λ ne. let never = filed_never c.args.board.now.table.shared.table_id.slots c.word_of.result c.args.number
     c.args.self.now.seat.me c.load-found.result c.load-found.new.seat.me c.load-found.ensures.2 c.word_of.ensures
     (bit_0 c.load-found.result (c.args.number % 64) c.bit.result c.bit.ensures ne) in
-    seen_less_than_filed c.args.self.now.seat.me.0 c.args.number never.0 never.1)
+    rank-seen_not_filed c.args.self.now.seat.me.0 c.args.number never.0 never.1)
 
 pub returns-clause-grows : goal.returns-clause-grows
 returns-clause-grows c = grows_filed c.args.self.now.seat.me c.load-found.new.seat.me _ c.load-found.ensures.2.0

@@ -1,6 +1,6 @@
 use Rattle.std.proofs.Common.{ℕ, ◌+◌, ◌*◌, ◌/◌, ◌%◌, ◌<◌, ◌∙◌, Some, sym, ap, arith, subst}
 use Rattle.vme_core.specs.Counting.{occurrences, numbers}
-use Rattle.vme_core.proofs.Sums.{occurrences_here}
+use Rattle.vme_core.proofs.Sums.{occurrences-cons_same}
 use Rattle.vme_board.specs.Words.{mask_of}
 use Rattle.vme_board.specs.Postconditions.{SeatState, TakePost}
 use Rattle.vme_board.proofs.bench.Bench.take.Goals as goal
@@ -47,7 +47,8 @@ load-requires c =
     let board = c.args.board.now in let seat = c.exchange-judged.new.seat in let low = c.requires.number in
     let some : 0 < board.table.shared.key = omega (arith, board.limits.0, board.numbers_fit.0) in
     let mine : 0 < occurrences n (numbers seat.me.0.takes) = subst (λ (m : SeatState). 0 < occurrences n
-    (numbers m.0.takes)) (sym put) (let here = occurrences_here n (numbers mid.0.takes) in omega (arith, here)) in (
+    (numbers m.0.takes)) (sym put)
+    (let here = occurrences-cons_same n (numbers mid.0.takes) in omega (arith, here)) in (
       c.exchange-judged.ensures.0 ∙ c.fetch_or-taken.ensures.0 ∙ c.sees_filed.ensures.board,
       omega (arith, board.sized.0, some),
       gives_allowed board.table.shared.key board.table.shared.table_id.slots seat.id

@@ -5,8 +5,8 @@ use Rattle.vme_trace.specs.declared.block.Block.{Block}
 use Rattle.vme_core.specs.Counting.{occurrences}
 use Rattle.vme_core.specs.Stages.{rank, seen, SeesMore}
 use Rattle.vme_core.specs.Views.{after_claim, after_filing}
-use Rattle.vme_core.proofs.Sums.{occurrences_here}
-use Rattle.vme_core.proofs.StageRanks.{seen_filed_or_more}
+use Rattle.vme_core.proofs.Sums.{occurrences-cons_same}
+use Rattle.vme_core.proofs.StageRanks.{rank-seen_filed}
 use Rattle.vme_board.specs.Words.{mask_of}
 use Rattle.vme_board.specs.Postconditions.{SeatState, ClaimPost, FilePost}
 use Rattle.vme_board.proofs.bench.Bench.try_claim.Goals as goal
@@ -170,9 +170,9 @@ returns-clause-sees_filed c =
     c.fetch_or.new.seat.me c.fetch_or-claimed.result c.fetch_or.result c.fetch_or-claimed.ensures.2 at_claim free
     c.args.self.now.no_slots exchange c.fetch_or.ensures.2 (at_equal slots 1 c.word_of-2.result c.mask_of-2.result
     c.block.result.now.number c.args.judged.number c.word_of-2.ensures c.mask_of-2.ensures own) in
-    let n : ℕ = c.args.judged.number in let here = occurrences_here n c.args.self.now.seat.me.0.filed in
+    let n : ℕ = c.args.judged.number in let here = occurrences-cons_same n c.args.self.now.seat.me.0.filed in
     subst (λ (m : SeatState). 2 ≤ rank (seen m.0 n)) (sym done.seat)
-    (seen_filed_or_more (after_filing (after_claim c.args.self.now.seat.me.0 n) n c.args.judged) n
+    (rank-seen_filed (after_filing (after_claim c.args.self.now.seat.me.0 n) n c.args.judged) n
     (omega (arith, here)))
 
 pub returns-clause-takes : goal.returns-clause-takes
