@@ -19,17 +19,19 @@ pub record IsFiled (slots n : ℕ) (b : Block) (before last : SeatState) : Type 
   pub same_blocks : SameBlocks last.0
 
 -- the seat's state after the claim succeeded and the block was put
-pub put_seat : (before won put : SeatState) (n : ℕ) (b : Block) → before.1 ≡ [] → won
+pub seat-after_put : (before won put : SeatState) (n : ℕ) (b : Block) → before.1 ≡ [] → won
     ≡ (after_claim before.0 n, (n, None) ∷ before.1) → put ≡ (won.0, (n, Some b) ∷ rest won.1) → put
     ≡ (after_claim before.0 n, (n, Some b) ∷ [])
-put_seat before won put n b none_out a e = e ∙ ap (λ (m : SeatState). let x : SeatState = (m.0, (n, Some b) ∷ rest m.1)
+seat-after_put before won put n b none_out a e = e ∙ ap (λ (m : SeatState). let x : SeatState =
+    (m.0, (n, Some b) ∷ rest m.1)
     in x) a ∙ ap (λ (cs : List (ℕ × Option Block)). let x : SeatState = (after_claim before.0 n, (n, Some b) ∷ cs) in
     x) none_out
 
 -- the word and the mask of n are those of j if n ≡ j
-pub at_equal : (slots k i m n j : ℕ) → i ≡ 4 * (n / 64) + k → m ≡ mask_of n → n ≡ j → IsAtBit (step slots i m 0 none) k
+pub IsAtBit-equal : (slots k i m n j : ℕ) → i ≡ 4 * (n / 64) + k → m ≡ mask_of n → n ≡ j
+    → IsAtBit (step slots i m 0 none) k
     j
-at_equal slots k i m n j is same e = record {
+IsAtBit-equal slots k i m n j is same e = record {
   word = is ∙ ap (λ (y : ℕ). 4 * (y / 64) + k) e;
   mask = same
       ∙ ap mask_of e;
@@ -39,16 +41,20 @@ module _ (slots n i m i' m' : ℕ) (b : Block) (before won put last : SeatState)
     (claim : ClaimPost (step slots i m 0 none) before found won) (at_claim : IsAtBit (step slots i m 0 none) 0 n)
     (free : bit_at found (n % 64) ≡ 0)
     (none_out : before.1 ≡ []) (exchange : put ≡ (won.0, (n, Some b) ∷ rest won.1)) where
-  pub after_put : put ≡ (after_claim before.0 n, (n, Some b) ∷ [])
-  after_put = put_seat before won put n b none_out ((claim n at_claim).0 free).1 exchange
+  -- after the claim and the exchange, the seat has claimed n and has its slot with the block
+  pub seat-after_exchange : put ≡ (after_claim before.0 n, (n, Some b) ∷ [])
+  seat-after_exchange = seat-after_put before won put n b none_out ((claim n at_claim).0 free).1 exchange
 
-  pub after_file : FilePost (step slots i' m' 0 none) put found' last → IsAtBit (step slots i' m' 0 none) 1 n
+  -- after the filing, the number n was claimed and filed
+  pub IsFiled-after_file : FilePost (step slots i' m' 0 none) put found' last → IsAtBit (step slots i' m' 0 none) 1 n
       → IsFiled slots n b before last
-  after_file file at_file = let told = file n at_file b (ap (λ (x : SeatState). x.1) after_put) in let few = told.2 in
+  IsFiled-after_file file at_file = let told = file n at_file b (ap (λ (x : SeatState). x.1) seat-after_exchange) in
+      let few = told.2 in
       record {
         new = ((claim n at_claim).0 free).0;
-        seat = told.1 ∙ ap (λ (x : SeatState). let y : SeatState = (after_filing x.0 n b, []) in y) after_put;
-        few = let same : length put.0.list ≡ length before.0.list = ap (λ (x : SeatState). length x.0.list) after_put in
+        seat = told.1 ∙ ap (λ (x : SeatState). let y : SeatState = (after_filing x.0 n b, []) in y) seat-after_exchange;
+        few = let same : length put.0.list ≡ length before.0.list =
+            ap (λ (x : SeatState). length x.0.list) seat-after_exchange in
             omega (arith, few, same);
         same_blocks = told.3;
       }
@@ -67,22 +73,25 @@ top [] = None
 top (x ∷ xs) = x.1
 
 -- the seat's state after the take succeeded
-pub won_seat : (before won : SeatState) (n : ℕ) (b : Block) → before.1 ≡ [] → won
+pub seat-after_take : (before won : SeatState) (n : ℕ) (b : Block) → before.1 ≡ [] → won
     ≡ (after_take before.0 n b, (n, Some b) ∷ before.1) → won ≡ (after_take before.0 n b, (n, Some b) ∷ [])
-won_seat before won n b none_out e = e ∙ ap (λ (cs : List (ℕ × Option Block)). let x : SeatState
+seat-after_take before won n b none_out e = e ∙ ap (λ (cs : List (ℕ × Option Block)). let x : SeatState
     = (after_take before.0 n b, (n, Some b) ∷ cs) in x) none_out
 
+-- after the take succeeded, the seat has the slot of n with its block
 pub has_slot : (before won : SeatState) (n : ℕ) (b : Block) → won ≡ (after_take before.0 n b, (n, Some b) ∷ []) → won.1
     ≡ (n, Some b) ∷ rest won.1
 has_slot before won n b e = subst (λ (cs : List (ℕ × Option Block)). cs ≡ (n, Some b) ∷ rest cs)
     (sym (ap (λ (m : SeatState). m.1) e)) refl
 
 -- the exchange returned the block b
-pub lifted : (before won : SeatState) (n : ℕ) (b : Block) (x : Option Block) → won
+pub block-lifted : (before won : SeatState) (n : ℕ) (b : Block) (x : Option Block) → won
     ≡ (after_take before.0 n b, (n, Some b) ∷ []) → won.1 ≡ (n, x) ∷ rest won.1 → x ≡ Some b
-lifted before won n b x e f = ap top (sym f ∙ ap (λ (m : SeatState). m.1) e)
+block-lifted before won n b x e f = ap top (sym f ∙ ap (λ (m : SeatState). m.1) e)
 
 -- the seat's state after the exchange: its slot is empty
-pub emptied_seat : (before won put : SeatState) (n : ℕ) (b : Block) → won ≡ (after_take before.0 n b, (n, Some b) ∷ [])
+pub seat-after_lift : (before won put : SeatState) (n : ℕ) (b : Block) → won
+    ≡ (after_take before.0 n b, (n, Some b) ∷ [])
     → put ≡ (won.0, (n, None) ∷ rest won.1) → put ≡ (after_take before.0 n b, (n, None) ∷ [])
-emptied_seat before won put n b e f = f ∙ ap (λ (m : SeatState). let x : SeatState = (m.0, (n, None) ∷ rest m.1) in x) e
+seat-after_lift before won put n b e f = f ∙ ap (λ (m : SeatState). let x : SeatState =
+    (m.0, (n, None) ∷ rest m.1) in x) e

@@ -29,7 +29,8 @@ use Rattle.vme_core.proofs.Runs.{Invariant-event}
 use Rattle.vme_board.specs.Words.{bit_of, mask_of, IsWideFor}
 use Rattle.vme_board.specs.Postconditions.{SeatState, ClaimPost, DrawPost, FilePost, TakePost, GivePost}
 use Rattle.vme_board.specs.Postconditions.{CountPost}
-use Rattle.vme_board.proofs.Bits.{bit_small, marked, bit_here, bit_row, bit_else, bit_again, word_within, no_bit}
+use Rattle.vme_board.proofs.Bits.{bit_of-at_most_one, marked, bit_of-marked, bit_of-other_row, bit_of-other_number}
+use Rattle.vme_board.proofs.Bits.{bit_of-marked_again, word_index-within, bit_of-zeros}
 use Rattle.vme_board_machine.specs.Steps.{BoardState, IsBoardRun, TableState, Sets, Loads, Takes, IsAt}
 use Rattle.vme_board_machine.specs.Steps.{opened, after_claiming, after_taking, number_of, LookPost}
 use Rattle.vme_board_machine.specs.ReadsAs.{ReadsAs, IsViewAt, home_of}
@@ -173,8 +174,8 @@ module _ (total draws : ℕ) (s : BoardState) (m : Core) (sh : ReadsAs total dra
   all_again : (k n : ℕ) → k < 4 → 4 * (n / 64) + k < length W → bit_of k W n ≡ 1 → (k' j : ℕ) → k' < 4
       → bit_of k' (marked k W n) j ≡ bit_of k' W j
   all_again k n small near is k' j small' = dite (ℕ_discrete k' k)
-      (λ e. subst (λ (y : ℕ). bit_of y (marked k W n) j ≡ bit_of y W j) (sym e) (bit_again k W n near is j))
-      (λ ne. bit_row k W n near k' small small' ne j)
+      (λ e. subst (λ (y : ℕ). bit_of y (marked k W n) j ≡ bit_of y W j) (sym e) (bit_of-marked_again k W n near is j))
+      (λ ne. bit_of-other_row k W n near k' small small' ne j)
 
   -- the bits of a row are those of the stages, after one stage changed
   stays : (f : Stage → ℕ) (k : ℕ) (ws : List ℕ) (n : ℕ) (new : Stage) → f new ≡ f (m.stage n)
@@ -188,18 +189,18 @@ module _ (total draws : ℕ) (s : BoardState) (m : Core) (sh : ReadsAs total dra
   turns : (f : Stage → ℕ) (k : ℕ) (n : ℕ) (new : Stage) → f new ≡ 1 → 4 * (n / 64) + k < length W
       → ((j : ℕ) → f (m.stage j) ≡ bit_of k W j) → (j : ℕ) → f (update m.stage n new j) ≡ bit_of k (marked k W n) j
   turns f k n new one near was = each-by_cases n (λ j. f (update m.stage n new j) ≡ bit_of k (marked k W n) j)
-      (ap f (update-same m.stage n new) ∙ (one ∙ sym (bit_here k W n near)))
-      (λ j ne. ap f (update-other m.stage n new j ne) ∙ (was j ∙ sym (bit_else k W n near j ne)))
+      (ap f (update-same m.stage n new) ∙ (one ∙ sym (bit_of-marked k W n near)))
+      (λ j ne. ap f (update-other m.stage n new j ne) ∙ (was j ∙ sym (bit_of-other_number k W n near j ne)))
 
   row : (k n : ℕ) → 4 * (n / 64) + k < length W → k < 4 → (k' : ℕ) → k' < 4 → k' ≢ k → (j : ℕ)
       → bit_of k' (marked k W n) j ≡ bit_of k' W j
-  row k n near small k' small' ne j = bit_row k W n near k' small small' ne j
+  row k n near small k' small' ne j = bit_of-other_row k W n near k' small small' ne j
 
   near_number : (n k : ℕ) → n < total → k < 4 → 4 * (n / 64) + k < length W
-  near_number n k low small = word_within (length W) total n k low sh.numbers_fit.0 sh.numbers_fit.1 small
+  near_number n k low small = word_index-within (length W) total n k low sh.numbers_fit.0 sh.numbers_fit.1 small
 
   near_draw : (d : ℕ) → d < draws → 4 * (d / 64) + 3 < length W
-  near_draw d low = word_within (length W) draws d 3 low sh.draws_fit.0 sh.draws_fit.1 (omega arith)
+  near_draw d low = word_index-within (length W) draws d 3 low sh.draws_fit.0 sh.draws_fit.1 (omega arith)
 
   -- the table after a step, by the slots hs after its act and by the seat's new view w
   at_view : (tb : TableState) (j x i : ℕ) (c c' : List (ℕ × Option Block)) (after : SeatState) (a : Act (Option Block))
@@ -254,7 +255,8 @@ module _ (total draws : ℕ) (s : BoardState) (m : Core) (sh : ReadsAs total dra
       (each-by_cases i (λ j. t.progress j ≡ s.progress j) (ap (λ (f : ℕ → BenchProgress). f i) pg
       ∙ (update-same s.progress i idle ∙ sym p)) (λ j ne. ap (λ (f : ℕ → BenchProgress). f j) pg
       ∙ update-other s.progress i idle j ne)) refl refl
-  claim_shown t i n b v after low at st (suc (suc x)) is pg = absurd (omega (arith, is, sh.claimed n, bit_small 0 W n))
+  claim_shown t i n b v after low at st (suc (suc x)) is pg =
+      absurd (omega (arith, is, sh.claimed n, bit_of-at_most_one 0 W n))
 
   -- `ReadsAs` holds after a draw
   draw_shown : (t : BoardState) (i d : ℕ) (v : View) (after : SeatState) → d < draws → IsAt s i v idle
@@ -271,8 +273,8 @@ module _ (total draws : ℕ) (s : BoardState) (m : Core) (sh : ReadsAs total dra
       ∙ st.slots)))
       (length-set W (4 * (d / 64) + 3) _) refl
       (each-by_cases d (λ j. update m.drawn d 1 j ≡ bit_of 3 (marked 3 W d) j) (update-same m.drawn d 1
-      ∙ sym (bit_here 3 W d near)) (λ j ne. update-other m.drawn d 1 j ne
-      ∙ (sh.drawn j ∙ sym (bit_else 3 W d near j ne))))
+      ∙ sym (bit_of-marked 3 W d near)) (λ j ne. update-other m.drawn d 1 j ne
+      ∙ (sh.drawn j ∙ sym (bit_of-other_number 3 W d near j ne))))
       (λ n. sh.claimed n ∙ sym (row 3 d near (omega arith) 0 (omega arith) (λ z. omega arith) n))
       (λ n. sh.filed n ∙ sym (row 3 d near (omega arith) 1 (omega arith) (λ z. omega arith) n))
       (λ n. sh.taken n ∙ sym (row 3 d near (omega arith) 2 (omega arith) (λ z. omega arith) n))
@@ -288,7 +290,8 @@ module _ (total draws : ℕ) (s : BoardState) (m : Core) (sh : ReadsAs total dra
       ∙ st.slots)))
       (length-set W (4 * (d / 64) + 3) _) (all_again 3 d (omega arith) near (sym (sh.drawn d) ∙ is))
       (λ j. ap (λ (f : ℕ → BenchProgress). f j) pg) refl refl
-  draw_shown t i d v after low at st (suc (suc x)) is pg = absurd (omega (arith, is, sh.drawn d, bit_small 3 W d))
+  draw_shown t i d v after low at st (suc (suc x)) is pg =
+      absurd (omega (arith, is, sh.drawn d, bit_of-at_most_one 3 W d))
 
   -- the numbers whose bit is 1 in a word are those of which the stages say so
   shown_alike : (f : Stage → ℕ) (k g : ℕ) → k < 4 → ((j : ℕ) → f (m.stage j) ≡ bit_of k W j)
@@ -452,7 +455,7 @@ module _ (total draws : ℕ) (s : BoardState) (m : Core) (sh : ReadsAs total dra
         ∙ (update-same s.progress i idle ∙ sym p)) (λ j ne. ap (λ (f : ℕ → BenchProgress). f j) pg'
         ∙ update-other s.progress i idle j ne)) refl refl
     take_shown t i n v after low at saw st pg (suc (suc x)) c is has = absurd
-        (omega (arith, is, sh.taken n, bit_small 2 W n))
+        (omega (arith, is, sh.taken n, bit_of-at_most_one 2 W n))
 
   -- `ReadsAs` holds after one bench continues in its call, and nothing else changes
   goes_on : (i : ℕ) (v : View) (p : BenchProgress) → get_elem? V i ≡ some v → IsViewAt v p → ReadsAs total draws
@@ -660,10 +663,10 @@ begins total draws width a b = record {
   slots = vacant_length total;
   numbers_fit = subst (λ (y : ℕ). IsWideFor y total) (sym (long_of width 0)) a;
   draws_fit = subst (λ (y : ℕ). IsWideFor y draws) (sym (long_of width 0)) b;
-  drawn = λ d. sym (no_bit 3 width d);
-  claimed = λ n. sym (no_bit 0 width n);
-  filed = λ n. sym (no_bit 1 width n);
-  taken = λ n. sym (no_bit 2 width n);
+  drawn = λ d. sym (bit_of-zeros 3 width d);
+  claimed = λ n. sym (bit_of-zeros 0 width n);
+  filed = λ n. sym (bit_of-zeros 1 width n);
+  taken = λ n. sym (bit_of-zeros 2 width n);
   homes = λ n low. vacant_at total n low;
   views = refl;
   progress = λ i. refl;

@@ -17,7 +17,7 @@ use Rattle.vme_core.proofs.ViewChanges.{cons-not_empty}
 use Rattle.vme_board.specs.Words.{mask_of}
 use Rattle.vme_board.specs.Views.{SameBlocks}
 use Rattle.vme_board.specs.Postconditions.{SeatState, IsAtBit}
-use Rattle.vme_board.proofs.Bits.{one_number}
+use Rattle.vme_board.proofs.Bits.{bit-one_number}
 use Rattle.vme_board_machine.specs.Steps.{BoardState, Takes}
 use Rattle.vme_board_machine.specs.Worked.{IsWorked}
 
@@ -33,7 +33,7 @@ not_whole (k, f, is) =
 
 -- what holds of the number 0 holds of each number that the step on the bit of 0 is at, which is 0
 named : (k n : ℕ) (F : ℕ → Type 0) → F 0 → IsAtBit (step 1 (4 * (0 / 64) + k) (mask_of 0) 0 none) k n → F n
-named k n F f at = subst F (one_number k 0 n at.word at.mask) f
+named k n F f at = subst F (bit-one_number k 0 n at.word at.mask) f
 
 block_in : Block → List (ℕ × Option Block) → Block
 block_in b [] = b

@@ -5,8 +5,8 @@ use native.Mathlib.Decide.{ℕ_discrete}
 use Rattle.std.specs.Mem.Slots.{slots_items, slots_filled}
 use Rattle.vme_core.specs.Counting.{sum_below}
 use Rattle.vme_board.specs.Words.{bit_of, kept}
-use Rattle.vme_board.proofs.Bits.{bit_small}
-use Rattle.vme_board.proofs.Endings.{pushed, bit_read, picked}
+use Rattle.vme_board.proofs.Bits.{bit_of-at_most_one}
+use Rattle.vme_board.proofs.Endings.{slice_get-pushed, bit_of-read, kept-picked}
 use lib.ListN.{get_elem?}
 use Rattle.vme_board.proofs.board.emptied.Goals as goal
 
@@ -24,12 +24,14 @@ loop-n-preserved c =
     ∙ (ap (λ (i : ℕ). get_elem? (slots_items c.take-found.new.self.words) i) (sym c.word_of-in-loop-n.ensures)
     ∙ c.word-in-loop-n.ensures) in
     let slot = ap (λ l. get_elem? l n) (sym inv.3) ∙ c.take-found.ensures.value in
-    let filed : c.bit-filed.result ≡ bit_of 1 ws n = bit_read 1 ws n c.word.result c.bit-filed.result first
-    c.bit-filed.ensures in let taken : c.bit-taken.result ≡ bit_of 2 ws n = bit_read 2 ws n c.word-in-loop-n.result
+    let filed : c.bit-filed.result ≡ bit_of 1 ws n = bit_of-read 1 ws n c.word.result c.bit-filed.result first
+    c.bit-filed.ensures in let taken : c.bit-taken.result ≡ bit_of 2 ws n = bit_of-read 2 ws n c.word-in-loop-n.result
     c.bit-taken.result second c.bit-taken.ensures in
-    let value = picked ws xs n c.bit-filed.result c.bit-taken.result c.take-found.result c.pick.result filed taken slot
+    let value = kept-picked ws xs n c.bit-filed.result c.bit-taken.result c.take-found.result c.pick.result filed taken
+    slot
     c.pick.ensures in
-    let next : n + 1 ≡ suc n = omega arith in let small_1 = bit_small 1 ws n in let small_2 = bit_small 2 ws n in
+    let next : n + 1 ≡ suc n = omega arith in let small_1 = bit_of-at_most_one 1 ws n in let small_2 =
+    bit_of-at_most_one 2 ws n in
     let f9 = inv.9 in let f10 = inv.10 in let f11 = inv.11 in let f12 = inv.12 in (
       ap length e ∙ omega (arith, long, l0),
       omega (arith, test),
@@ -46,7 +48,7 @@ loop-n-preserved c =
           (omega (arith, counts.1, l5, test)))) (λ ne. ap (λ f. get_or f k false) t.1
           ∙ (get_or-set_other (slots_filled c.loop-n.closed.slots) n k false false ne
           ∙ inv.7 k (omega (arith, a, ne))))),
-      pushed c.loop-n.contents.items c.push_reserved.new.self.items c.pick.result n
+      slice_get-pushed c.loop-n.contents.items c.push_reserved.new.self.items c.pick.result n
           (λ k. kept (bit_of 1 ws k) (bit_of 2 ws k) xs k) e l0 value inv.8,
       (let s : sum_below (bit_of 1 ws) (n + 1) ≡ bit_of 1 ws n + sum_below (bit_of 1 ws) n = ap
           (sum_below (bit_of 1 ws)) next in omega (arith, s, filed, f9)),

@@ -1,3 +1,5 @@
+-- The loop over numbers: each place below n has what is kept of its slot, the counts are those of the filed and of the
+-- taken numbers below n, and the slots from n on aren't emptied yet.
 use Rattle.std.proofs.Common.{◌-◌, ◌≡◌, ℕ, ◌<◌, ◌≤◌, length, Some, slice_get, vec_capacity, get_or, false}
 use Rattle.std.specs.Mem.Slots.{slots_items, slots_len, slots_filled}
 use Rattle.std.specs.Mem.Slots.Ownership.{Filled}

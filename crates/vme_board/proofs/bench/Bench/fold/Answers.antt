@@ -9,7 +9,7 @@ use Rattle.vme_board.specs.Postconditions.{SeatState}
 use Rattle.vme_board.specs.Views.{SameBlocks}
 use Rattle.vme_board.proofs.bench.Bench.fold.Goals as goal
 use Rattle.vme_board.proofs.bench.Bench.fold.Goals.{then-next-other_next, else-next-other_next}
-use Rattle.vme_board.proofs.Steps.{joins, counts}
+use Rattle.vme_board.proofs.Steps.{Joins-views, Allows-count}
 
 pub join_seat-requires : goal.join_seat-requires
 join_seat-requires c = let board = c.args.board.now in let other = c.args.other in (
@@ -22,7 +22,7 @@ join_seat-requires c = let board = c.args.board.now in let other = c.args.other 
     board.limits.0,
     board.numbers_fit.0,
   ),
-  joins board.table.shared.key c.args.self.seat.id other.seat.id c.args.self.seat.me.0
+  Joins-views board.table.shared.key c.args.self.seat.id other.seat.id c.args.self.seat.me.0
       other.seat.me.0,
 )
 
@@ -34,7 +34,7 @@ load-requires c = let board = c.args.board.now in let some : 0 < board.table.sha
 ) in (
   c.join_seat.ensures.0 ∙ c.requires.this,
   omega (arith, board.sized.0, some),
-  counts board.table.shared.key
+  Allows-count board.table.shared.key
       board.table.shared.table_id.slots c.join_seat.new.seat.id c.join_seat.new.seat.me some,
 )
 

@@ -1,31 +1,33 @@
 use Rattle.std.proofs.Common.{◌/◌, ◌%◌, ◌∙◌, sym, arith}
 use Rattle.vme_board.proofs.bench.Bench.sees_claimed.Goals as goal
-use Rattle.vme_board.proofs.Bits.{word_within, bit_0}
-use Rattle.vme_board.proofs.Steps.{looks_claimed}
-use Rattle.vme_board.proofs.Looks.{claimed_shown, claimed_absent, on_one, on_not_one, grows_claimed}
+use Rattle.vme_board.proofs.Bits.{word_index-within, bit_at-not_one}
+use Rattle.vme_board.proofs.Steps.{Allows-look_claimed}
+use Rattle.vme_board.proofs.Looks.{claimed_shown, claimed_absent, OnTrue-one, OnFalse-not_one, SeesMore-claimed}
 
 pub load-found-requires : goal.load-found-requires
 load-found-requires c =
     let board = c.args.board.now in let bench = c.args.self.now in let is = c.word_of.ensures in
-    let near = word_within board.table.shared.key board.total c.args.number 0 c.requires.number board.numbers_fit.0
+    let near = word_index-within board.table.shared.key board.total c.args.number 0 c.requires.number
+    board.numbers_fit.0
     board.numbers_fit.1 (omega arith) in (
       c.requires.bench,
       omega (arith, near, board.sized.0, is),
-      looks_claimed board.table.shared.key
+      Allows-look_claimed board.table.shared.key
           board.table.shared.table_id.slots bench.seat.id bench.seat.me c.word_of.result (c.args.number / 64) is
           (omega (arith, near, is)),
     )
 
 pub returns-clause-yes : goal.returns-clause-yes
-returns-clause-yes c = on_one c.bit.result _ (λ one. claimed_shown c.args.board.now.table.shared.table_id.slots
+returns-clause-yes c = OnTrue-one c.bit.result _ (λ one. claimed_shown c.args.board.now.table.shared.table_id.slots
     c.word_of.result c.args.number c.args.self.now.seat.me c.load-found.result c.load-found.new.seat.me
     c.load-found.ensures.2 c.word_of.ensures (sym c.bit.ensures ∙ one))
 
 pub returns-clause-no : goal.returns-clause-no
-returns-clause-no c = on_not_one c.bit.result _ (λ ne. claimed_absent c.args.board.now.table.shared.table_id.slots
+returns-clause-no c = OnFalse-not_one c.bit.result _ (λ ne. claimed_absent c.args.board.now.table.shared.table_id.slots
     c.word_of.result c.args.number c.args.self.now.seat.me c.load-found.result c.load-found.new.seat.me
-    c.load-found.ensures.2 c.word_of.ensures (bit_0 c.load-found.result (c.args.number % 64) c.bit.result c.bit.ensures
+    c.load-found.ensures.2 c.word_of.ensures (bit_at-not_one c.load-found.result (c.args.number % 64) c.bit.result
+    c.bit.ensures
     ne))
 
 pub returns-clause-grows : goal.returns-clause-grows
-returns-clause-grows c = grows_claimed c.args.self.now.seat.me c.load-found.new.seat.me _ c.load-found.ensures.2.0
+returns-clause-grows c = SeesMore-claimed c.args.self.now.seat.me c.load-found.new.seat.me _ c.load-found.ensures.2.0

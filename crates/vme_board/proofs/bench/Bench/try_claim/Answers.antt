@@ -10,10 +10,10 @@ use Rattle.vme_core.proofs.StageRanks.{rank-seen_filed}
 use Rattle.vme_board.specs.Words.{mask_of}
 use Rattle.vme_board.specs.Postconditions.{SeatState, ClaimPost, FilePost}
 use Rattle.vme_board.proofs.bench.Bench.try_claim.Goals as goal
-use Rattle.vme_board.proofs.Bits.{word_within, bit_0}
-use Rattle.vme_board.proofs.Steps.{at_word, claims_allowed, files_allowed}
-use Rattle.vme_board.proofs.Claims.{at_equal, after_put, after_file}
-use Rattle.vme_board.proofs.Looks.{grows_filing}
+use Rattle.vme_board.proofs.Bits.{word_index-within, bit_at-not_one}
+use Rattle.vme_board.proofs.Steps.{Allows-same_word, Allows-claim, Allows-file}
+use Rattle.vme_board.proofs.Claims.{IsAtBit-equal, seat-after_exchange, IsFiled-after_file}
+use Rattle.vme_board.proofs.Looks.{SeesMore-filing}
 
 pub fetch_or-claimed-requires : goal.fetch_or-claimed-requires
 fetch_or-claimed-requires c =
@@ -21,12 +21,13 @@ fetch_or-claimed-requires c =
     let slots = board.table.shared.table_id.slots in let n : ℕ = c.block.result.now.number in
     let low : n < board.total = subst (λ (b : Block). b.number < board.total) (sym c.block.ensures.block)
     c.requires.number in let is = c.word_of.ensures in
-    let near = word_within width board.total n 0 low board.numbers_fit.0 board.numbers_fit.1 (omega arith) in (
+    let near = word_index-within width board.total n 0 low board.numbers_fit.0 board.numbers_fit.1 (omega arith) in (
       c.requires.bench,
       omega (arith, near, board.sized.0, is),
-      at_word ClaimPost width slots bench.seat.id bench.seat.me c.word_of.result (4 * (n / 64) + 0) c.mask_of.result
+      Allows-same_word ClaimPost width slots bench.seat.id bench.seat.me c.word_of.result (4 * (n / 64) + 0)
+          c.mask_of.result
           (mask_of n) is c.mask_of.ensures
-          (claims_allowed width slots bench.seat.id bench.seat.me bench.shares n (omega (arith, low, board.sized.1))
+          (Allows-claim width slots bench.seat.id bench.seat.me bench.shares n (omega (arith, low, board.sized.1))
           near bench.not_pending),
     )
 
@@ -34,13 +35,15 @@ pub fetch_or-requires : goal.fetch_or-requires
 fetch_or-requires c =
     let board = c.args.board.now in let seat = c.exchange.new.seat in let width = board.table.shared.key in
     let n : ℕ = c.args.judged.number in let low : n < board.total = c.requires.number in
-    let near = word_within width board.total n 1 low board.numbers_fit.0 board.numbers_fit.1 (omega arith) in
+    let near = word_index-within width board.total n 1 low board.numbers_fit.0 board.numbers_fit.1 (omega arith) in
     let slots = c.args.board.now.table.shared.table_id.slots in let own : c.block.result.now.number
     ≡ c.args.judged.number = ap (λ (b : Block). b.number) c.block.ensures.block in
-    let at_claim = at_equal slots 0 c.word_of.result c.mask_of.result c.block.result.now.number c.args.judged.number
+    let at_claim = IsAtBit-equal slots 0 c.word_of.result c.mask_of.result c.block.result.now.number
+    c.args.judged.number
     c.word_of.ensures c.mask_of.ensures own in
     let free = subst (λ (y : ℕ). bit_at c.fetch_or-claimed.result (y % 64) ≡ 0) own
-    (bit_0 c.fetch_or-claimed.result (c.block.result.now.number % 64) c.bit.result c.bit.ensures c.if-bit-eq1.false)
+    (bit_at-not_one c.fetch_or-claimed.result (c.block.result.now.number % 64) c.bit.result c.bit.ensures
+    c.if-bit-eq1.false)
     in
     let exchange : c.exchange.new.seat.me
     ≡ (
@@ -50,16 +53,17 @@ fetch_or-requires c =
     ) = subst (λ (y : ℕ). c.exchange.new.seat.me
     ≡ (c.fetch_or-claimed.new.seat.me.0, (y, Some c.args.judged) ∷ rest c.fetch_or-claimed.new.seat.me.1)) own
     c.exchange.ensures.3 in
-    let put = after_put slots c.args.judged.number c.word_of.result c.mask_of.result c.word_of-2.result
+    let put = seat-after_exchange slots c.args.judged.number c.word_of.result c.mask_of.result c.word_of-2.result
     c.mask_of-2.result c.args.judged c.args.self.now.seat.me c.fetch_or-claimed.new.seat.me c.exchange.new.seat.me
     c.exchange.new.seat.me c.fetch_or-claimed.result 0 c.fetch_or-claimed.ensures.2 at_claim free
-    c.args.self.now.no_slots exchange in let at_file = at_equal slots 1 c.word_of-2.result c.mask_of-2.result
+    c.args.self.now.no_slots exchange in let at_file = IsAtBit-equal slots 1 c.word_of-2.result c.mask_of-2.result
     c.block.result.now.number n c.word_of-2.ensures c.mask_of-2.ensures own in let is = at_file.word in (
       c.exchange.ensures.0 ∙ c.fetch_or-claimed.ensures.0 ∙ c.requires.bench,
       omega (arith, near, board.sized.0, is),
-      at_word FilePost width slots seat.id seat.me c.word_of-2.result (4 * (n / 64) + 1) c.mask_of-2.result (mask_of n)
+      Allows-same_word FilePost width slots seat.id seat.me c.word_of-2.result (4 * (n / 64) + 1) c.mask_of-2.result
+          (mask_of n)
           is at_file.mask
-          (files_allowed width slots seat.id seat.me n c.args.judged refl (omega (arith, low, board.sized.1)) near
+          (Allows-file width slots seat.id seat.me n c.args.judged refl (omega (arith, low, board.sized.1)) near
           (ap (λ (m : SeatState). m.0.pending) put) (ap (λ (m : SeatState). m.1) put)),
     )
 
@@ -67,10 +71,12 @@ pub overflow_add-self : goal.overflow_add-self
 overflow_add-self c =
     let slots = c.args.board.now.table.shared.table_id.slots in let own : c.block.result.now.number
     ≡ c.args.judged.number = ap (λ (b : Block). b.number) c.block.ensures.block in
-    let at_claim = at_equal slots 0 c.word_of.result c.mask_of.result c.block.result.now.number c.args.judged.number
+    let at_claim = IsAtBit-equal slots 0 c.word_of.result c.mask_of.result c.block.result.now.number
+    c.args.judged.number
     c.word_of.ensures c.mask_of.ensures own in
     let free = subst (λ (y : ℕ). bit_at c.fetch_or-claimed.result (y % 64) ≡ 0) own
-    (bit_0 c.fetch_or-claimed.result (c.block.result.now.number % 64) c.bit.result c.bit.ensures c.if-bit-eq1.false)
+    (bit_at-not_one c.fetch_or-claimed.result (c.block.result.now.number % 64) c.bit.result c.bit.ensures
+    c.if-bit-eq1.false)
     in
     let exchange : c.exchange.new.seat.me
     ≡ (
@@ -80,10 +86,10 @@ overflow_add-self c =
     ) = subst (λ (y : ℕ). c.exchange.new.seat.me
     ≡ (c.fetch_or-claimed.new.seat.me.0, (y, Some c.args.judged) ∷ rest c.fetch_or-claimed.new.seat.me.1)) own
     c.exchange.ensures.3 in
-    let done = after_file slots c.args.judged.number c.word_of.result c.mask_of.result c.word_of-2.result
+    let done = IsFiled-after_file slots c.args.judged.number c.word_of.result c.mask_of.result c.word_of-2.result
     c.mask_of-2.result c.args.judged c.args.self.now.seat.me c.fetch_or-claimed.new.seat.me c.exchange.new.seat.me
     c.fetch_or.new.seat.me c.fetch_or-claimed.result c.fetch_or.result c.fetch_or-claimed.ensures.2 at_claim free
-    c.args.self.now.no_slots exchange c.fetch_or.ensures.2 (at_equal slots 1 c.word_of-2.result c.mask_of-2.result
+    c.args.self.now.no_slots exchange c.fetch_or.ensures.2 (IsAtBit-equal slots 1 c.word_of-2.result c.mask_of-2.result
     c.block.result.now.number c.args.judged.number c.word_of-2.ensures c.mask_of-2.ensures own) in
     let board = c.args.board.now in let had = c.args.self.now.counted in let few = done.few in
     omega (arith, few, had.0, board.sized.1, board.limits.1)
@@ -92,10 +98,12 @@ pub invariant_of-self-2 : goal.invariant_of-self-2
 invariant_of-self-2 c =
     let slots = c.args.board.now.table.shared.table_id.slots in let own : c.block.result.now.number
     ≡ c.args.judged.number = ap (λ (b : Block). b.number) c.block.ensures.block in
-    let at_claim = at_equal slots 0 c.word_of.result c.mask_of.result c.block.result.now.number c.args.judged.number
+    let at_claim = IsAtBit-equal slots 0 c.word_of.result c.mask_of.result c.block.result.now.number
+    c.args.judged.number
     c.word_of.ensures c.mask_of.ensures own in
     let free = subst (λ (y : ℕ). bit_at c.fetch_or-claimed.result (y % 64) ≡ 0) own
-    (bit_0 c.fetch_or-claimed.result (c.block.result.now.number % 64) c.bit.result c.bit.ensures c.if-bit-eq1.false)
+    (bit_at-not_one c.fetch_or-claimed.result (c.block.result.now.number % 64) c.bit.result c.bit.ensures
+    c.if-bit-eq1.false)
     in
     let exchange : c.exchange.new.seat.me
     ≡ (
@@ -105,10 +113,10 @@ invariant_of-self-2 c =
     ) = subst (λ (y : ℕ). c.exchange.new.seat.me
     ≡ (c.fetch_or-claimed.new.seat.me.0, (y, Some c.args.judged) ∷ rest c.fetch_or-claimed.new.seat.me.1)) own
     c.exchange.ensures.3 in
-    let done = after_file slots c.args.judged.number c.word_of.result c.mask_of.result c.word_of-2.result
+    let done = IsFiled-after_file slots c.args.judged.number c.word_of.result c.mask_of.result c.word_of-2.result
     c.mask_of-2.result c.args.judged c.args.self.now.seat.me c.fetch_or-claimed.new.seat.me c.exchange.new.seat.me
     c.fetch_or.new.seat.me c.fetch_or-claimed.result c.fetch_or.result c.fetch_or-claimed.ensures.2 at_claim free
-    c.args.self.now.no_slots exchange c.fetch_or.ensures.2 (at_equal slots 1 c.word_of-2.result c.mask_of-2.result
+    c.args.self.now.no_slots exchange c.fetch_or.ensures.2 (IsAtBit-equal slots 1 c.word_of-2.result c.mask_of-2.result
     c.block.result.now.number c.args.judged.number c.word_of-2.ensures c.mask_of-2.ensures own) in
     let had = c.args.self.now.counted in let last = done.seat in record {
       no_slots = ap (λ (m : SeatState). m.1) last;
@@ -128,10 +136,12 @@ pub returns-clause-list : goal.returns-clause-list
 returns-clause-list c =
     let slots = c.args.board.now.table.shared.table_id.slots in let own : c.block.result.now.number
     ≡ c.args.judged.number = ap (λ (b : Block). b.number) c.block.ensures.block in
-    let at_claim = at_equal slots 0 c.word_of.result c.mask_of.result c.block.result.now.number c.args.judged.number
+    let at_claim = IsAtBit-equal slots 0 c.word_of.result c.mask_of.result c.block.result.now.number
+    c.args.judged.number
     c.word_of.ensures c.mask_of.ensures own in
     let free = subst (λ (y : ℕ). bit_at c.fetch_or-claimed.result (y % 64) ≡ 0) own
-    (bit_0 c.fetch_or-claimed.result (c.block.result.now.number % 64) c.bit.result c.bit.ensures c.if-bit-eq1.false)
+    (bit_at-not_one c.fetch_or-claimed.result (c.block.result.now.number % 64) c.bit.result c.bit.ensures
+    c.if-bit-eq1.false)
     in
     let exchange : c.exchange.new.seat.me
     ≡ (
@@ -141,10 +151,10 @@ returns-clause-list c =
     ) = subst (λ (y : ℕ). c.exchange.new.seat.me
     ≡ (c.fetch_or-claimed.new.seat.me.0, (y, Some c.args.judged) ∷ rest c.fetch_or-claimed.new.seat.me.1)) own
     c.exchange.ensures.3 in
-    let done = after_file slots c.args.judged.number c.word_of.result c.mask_of.result c.word_of-2.result
+    let done = IsFiled-after_file slots c.args.judged.number c.word_of.result c.mask_of.result c.word_of-2.result
     c.mask_of-2.result c.args.judged c.args.self.now.seat.me c.fetch_or-claimed.new.seat.me c.exchange.new.seat.me
     c.fetch_or.new.seat.me c.fetch_or-claimed.result c.fetch_or.result c.fetch_or-claimed.ensures.2 at_claim free
-    c.args.self.now.no_slots exchange c.fetch_or.ensures.2 (at_equal slots 1 c.word_of-2.result c.mask_of-2.result
+    c.args.self.now.no_slots exchange c.fetch_or.ensures.2 (IsAtBit-equal slots 1 c.word_of-2.result c.mask_of-2.result
     c.block.result.now.number c.args.judged.number c.word_of-2.ensures c.mask_of-2.ensures own) in
     ap (λ (m : SeatState). m.0.list) done.seat
 
@@ -152,10 +162,12 @@ pub returns-clause-sees_filed : goal.returns-clause-sees_filed
 returns-clause-sees_filed c =
     let slots = c.args.board.now.table.shared.table_id.slots in let own : c.block.result.now.number
     ≡ c.args.judged.number = ap (λ (b : Block). b.number) c.block.ensures.block in
-    let at_claim = at_equal slots 0 c.word_of.result c.mask_of.result c.block.result.now.number c.args.judged.number
+    let at_claim = IsAtBit-equal slots 0 c.word_of.result c.mask_of.result c.block.result.now.number
+    c.args.judged.number
     c.word_of.ensures c.mask_of.ensures own in
     let free = subst (λ (y : ℕ). bit_at c.fetch_or-claimed.result (y % 64) ≡ 0) own
-    (bit_0 c.fetch_or-claimed.result (c.block.result.now.number % 64) c.bit.result c.bit.ensures c.if-bit-eq1.false)
+    (bit_at-not_one c.fetch_or-claimed.result (c.block.result.now.number % 64) c.bit.result c.bit.ensures
+    c.if-bit-eq1.false)
     in
     let exchange : c.exchange.new.seat.me
     ≡ (
@@ -165,10 +177,10 @@ returns-clause-sees_filed c =
     ) = subst (λ (y : ℕ). c.exchange.new.seat.me
     ≡ (c.fetch_or-claimed.new.seat.me.0, (y, Some c.args.judged) ∷ rest c.fetch_or-claimed.new.seat.me.1)) own
     c.exchange.ensures.3 in
-    let done = after_file slots c.args.judged.number c.word_of.result c.mask_of.result c.word_of-2.result
+    let done = IsFiled-after_file slots c.args.judged.number c.word_of.result c.mask_of.result c.word_of-2.result
     c.mask_of-2.result c.args.judged c.args.self.now.seat.me c.fetch_or-claimed.new.seat.me c.exchange.new.seat.me
     c.fetch_or.new.seat.me c.fetch_or-claimed.result c.fetch_or.result c.fetch_or-claimed.ensures.2 at_claim free
-    c.args.self.now.no_slots exchange c.fetch_or.ensures.2 (at_equal slots 1 c.word_of-2.result c.mask_of-2.result
+    c.args.self.now.no_slots exchange c.fetch_or.ensures.2 (IsAtBit-equal slots 1 c.word_of-2.result c.mask_of-2.result
     c.block.result.now.number c.args.judged.number c.word_of-2.ensures c.mask_of-2.ensures own) in
     let n : ℕ = c.args.judged.number in let here = occurrences-cons_same n c.args.self.now.seat.me.0.filed in
     subst (λ (m : SeatState). 2 ≤ rank (seen m.0 n)) (sym done.seat)
@@ -179,10 +191,12 @@ pub returns-clause-takes : goal.returns-clause-takes
 returns-clause-takes c =
     let slots = c.args.board.now.table.shared.table_id.slots in let own : c.block.result.now.number
     ≡ c.args.judged.number = ap (λ (b : Block). b.number) c.block.ensures.block in
-    let at_claim = at_equal slots 0 c.word_of.result c.mask_of.result c.block.result.now.number c.args.judged.number
+    let at_claim = IsAtBit-equal slots 0 c.word_of.result c.mask_of.result c.block.result.now.number
+    c.args.judged.number
     c.word_of.ensures c.mask_of.ensures own in
     let free = subst (λ (y : ℕ). bit_at c.fetch_or-claimed.result (y % 64) ≡ 0) own
-    (bit_0 c.fetch_or-claimed.result (c.block.result.now.number % 64) c.bit.result c.bit.ensures c.if-bit-eq1.false)
+    (bit_at-not_one c.fetch_or-claimed.result (c.block.result.now.number % 64) c.bit.result c.bit.ensures
+    c.if-bit-eq1.false)
     in
     let exchange : c.exchange.new.seat.me
     ≡ (
@@ -192,10 +206,10 @@ returns-clause-takes c =
     ) = subst (λ (y : ℕ). c.exchange.new.seat.me
     ≡ (c.fetch_or-claimed.new.seat.me.0, (y, Some c.args.judged) ∷ rest c.fetch_or-claimed.new.seat.me.1)) own
     c.exchange.ensures.3 in
-    let done = after_file slots c.args.judged.number c.word_of.result c.mask_of.result c.word_of-2.result
+    let done = IsFiled-after_file slots c.args.judged.number c.word_of.result c.mask_of.result c.word_of-2.result
     c.mask_of-2.result c.args.judged c.args.self.now.seat.me c.fetch_or-claimed.new.seat.me c.exchange.new.seat.me
     c.fetch_or.new.seat.me c.fetch_or-claimed.result c.fetch_or.result c.fetch_or-claimed.ensures.2 at_claim free
-    c.args.self.now.no_slots exchange c.fetch_or.ensures.2 (at_equal slots 1 c.word_of-2.result c.mask_of-2.result
+    c.args.self.now.no_slots exchange c.fetch_or.ensures.2 (IsAtBit-equal slots 1 c.word_of-2.result c.mask_of-2.result
     c.block.result.now.number c.args.judged.number c.word_of-2.ensures c.mask_of-2.ensures own) in
     ap (λ (m : SeatState). m.0.takes) done.seat
 
@@ -203,10 +217,12 @@ pub returns-clause-draws : goal.returns-clause-draws
 returns-clause-draws c =
     let slots = c.args.board.now.table.shared.table_id.slots in let own : c.block.result.now.number
     ≡ c.args.judged.number = ap (λ (b : Block). b.number) c.block.ensures.block in
-    let at_claim = at_equal slots 0 c.word_of.result c.mask_of.result c.block.result.now.number c.args.judged.number
+    let at_claim = IsAtBit-equal slots 0 c.word_of.result c.mask_of.result c.block.result.now.number
+    c.args.judged.number
     c.word_of.ensures c.mask_of.ensures own in
     let free = subst (λ (y : ℕ). bit_at c.fetch_or-claimed.result (y % 64) ≡ 0) own
-    (bit_0 c.fetch_or-claimed.result (c.block.result.now.number % 64) c.bit.result c.bit.ensures c.if-bit-eq1.false)
+    (bit_at-not_one c.fetch_or-claimed.result (c.block.result.now.number % 64) c.bit.result c.bit.ensures
+    c.if-bit-eq1.false)
     in
     let exchange : c.exchange.new.seat.me
     ≡ (
@@ -216,10 +232,10 @@ returns-clause-draws c =
     ) = subst (λ (y : ℕ). c.exchange.new.seat.me
     ≡ (c.fetch_or-claimed.new.seat.me.0, (y, Some c.args.judged) ∷ rest c.fetch_or-claimed.new.seat.me.1)) own
     c.exchange.ensures.3 in
-    let done = after_file slots c.args.judged.number c.word_of.result c.mask_of.result c.word_of-2.result
+    let done = IsFiled-after_file slots c.args.judged.number c.word_of.result c.mask_of.result c.word_of-2.result
     c.mask_of-2.result c.args.judged c.args.self.now.seat.me c.fetch_or-claimed.new.seat.me c.exchange.new.seat.me
     c.fetch_or.new.seat.me c.fetch_or-claimed.result c.fetch_or.result c.fetch_or-claimed.ensures.2 at_claim free
-    c.args.self.now.no_slots exchange c.fetch_or.ensures.2 (at_equal slots 1 c.word_of-2.result c.mask_of-2.result
+    c.args.self.now.no_slots exchange c.fetch_or.ensures.2 (IsAtBit-equal slots 1 c.word_of-2.result c.mask_of-2.result
     c.block.result.now.number c.args.judged.number c.word_of-2.ensures c.mask_of-2.ensures own) in
     record {
       draws = ap (λ (m : SeatState). m.0.draws) done.seat;
@@ -231,10 +247,12 @@ pub returns-clause-grows : goal.returns-clause-grows
 returns-clause-grows c =
     let slots = c.args.board.now.table.shared.table_id.slots in let own : c.block.result.now.number
     ≡ c.args.judged.number = ap (λ (b : Block). b.number) c.block.ensures.block in
-    let at_claim = at_equal slots 0 c.word_of.result c.mask_of.result c.block.result.now.number c.args.judged.number
+    let at_claim = IsAtBit-equal slots 0 c.word_of.result c.mask_of.result c.block.result.now.number
+    c.args.judged.number
     c.word_of.ensures c.mask_of.ensures own in
     let free = subst (λ (y : ℕ). bit_at c.fetch_or-claimed.result (y % 64) ≡ 0) own
-    (bit_0 c.fetch_or-claimed.result (c.block.result.now.number % 64) c.bit.result c.bit.ensures c.if-bit-eq1.false)
+    (bit_at-not_one c.fetch_or-claimed.result (c.block.result.now.number % 64) c.bit.result c.bit.ensures
+    c.if-bit-eq1.false)
     in
     let exchange : c.exchange.new.seat.me
     ≡ (
@@ -244,10 +262,10 @@ returns-clause-grows c =
     ) = subst (λ (y : ℕ). c.exchange.new.seat.me
     ≡ (c.fetch_or-claimed.new.seat.me.0, (y, Some c.args.judged) ∷ rest c.fetch_or-claimed.new.seat.me.1)) own
     c.exchange.ensures.3 in
-    let done = after_file slots c.args.judged.number c.word_of.result c.mask_of.result c.word_of-2.result
+    let done = IsFiled-after_file slots c.args.judged.number c.word_of.result c.mask_of.result c.word_of-2.result
     c.mask_of-2.result c.args.judged c.args.self.now.seat.me c.fetch_or-claimed.new.seat.me c.exchange.new.seat.me
     c.fetch_or.new.seat.me c.fetch_or-claimed.result c.fetch_or.result c.fetch_or-claimed.ensures.2 at_claim free
-    c.args.self.now.no_slots exchange c.fetch_or.ensures.2 (at_equal slots 1 c.word_of-2.result c.mask_of-2.result
+    c.args.self.now.no_slots exchange c.fetch_or.ensures.2 (IsAtBit-equal slots 1 c.word_of-2.result c.mask_of-2.result
     c.block.result.now.number c.args.judged.number c.word_of-2.ensures c.mask_of-2.ensures own) in
     subst (λ (m : SeatState). SeesMore c.args.self.now.seat.me.0 m.0) (sym done.seat)
-    (grows_filing c.args.self.now.seat.me.0 c.args.judged.number c.args.judged)
+    (SeesMore-filing c.args.self.now.seat.me.0 c.args.judged.number c.args.judged)
