@@ -34,90 +34,108 @@ use Rattle.vme_board.proofs.Bits.{bit_of-marked_again, word_index-within, bit_of
 use Rattle.vme_board_machine.specs.Steps.{BoardState, IsBoardRun, TableState, Sets, Loads, Takes, IsAt}
 use Rattle.vme_board_machine.specs.Steps.{opened, after_claiming, after_taking, number_of, LookPost}
 use Rattle.vme_board_machine.specs.ReadsAs.{ReadsAs, IsViewAt, home_of}
-use Rattle.vme_board_machine.proofs.Acts.{at_within, leaves_homes, gives_home, takes_home}
+use Rattle.vme_board_machine.proofs.Acts.{get_elem-within, homes_after-left, homes_after-given, TookHome-taken}
 
+-- the slots of a table, `none` where a slot is checked out
 abbrev Homes : Type 0
 Homes = List (maybe.Option (Option Block))
 
 -- a load doesn't change the words
-loaded : (l : List ℕ) (j : ℕ) → set l j (get_or l j 0) ≡ l
-loaded [] j = refl
-loaded (x ∷ xs) zero = refl
-loaded (x ∷ xs) (suc j) = ap (λ (l : List ℕ). x ∷ l) (loaded xs j)
+set-same_value : (l : List ℕ) (j : ℕ) → set l j (get_or l j 0) ≡ l
+set-same_value [] j = refl
+set-same_value (x ∷ xs) zero = refl
+set-same_value (x ∷ xs) (suc j) = ap (λ (l : List ℕ). x ∷ l) (set-same_value xs j)
 
-full_alike : (b c : Block) → some (some (Some b)) ≡ some (some (Some c)) → b ≡ c
-full_alike b c e = cc
+-- slots with a block that are equal have the same block
+filled-injective : (b c : Block) → some (some (Some b)) ≡ some (some (Some c)) → b ≡ c
+filled-injective b c e = cc
 
-one_view : (a b : View) (o : maybe.Option View) → o ≡ some a → o ≡ some b → a ≡ b
-one_view a b o e f = some-injective a b (sym e ∙ f)
+-- a bench has one view
+get_elem-one_view : (a b : View) (o : maybe.Option View) → o ≡ some a → o ≡ some b → a ≡ b
+get_elem-one_view a b o e f = some-injective a b (sym e ∙ f)
 
-one_free : (a : Stage) → claimed_bit a ≡ 0 → a ≡ Free
-one_free Free e = refl
-one_free Claimed e = absurd (omega (arith, e))
-one_free Filed e = absurd (omega (arith, e))
-one_free Taken e = absurd (omega (arith, e))
+-- a stage whose bit `claimed` is 0 is Free
+Free-by_bit : (a : Stage) → claimed_bit a ≡ 0 → a ≡ Free
+Free-by_bit Free e = refl
+Free-by_bit Claimed e = absurd (omega (arith, e))
+Free-by_bit Filed e = absurd (omega (arith, e))
+Free-by_bit Taken e = absurd (omega (arith, e))
 
-snoc_at : {A : Type 0} (l : List A) (a b : A) (j : ℕ) → get_elem? (l ++ a ∷ []) j ≡ some b → (get_elem? l j ≡ some b) ⊎
+-- an element after a was added is one of before, or a at the end
+get_elem-of_push : {A : Type 0} (l : List A) (a b : A) (j : ℕ) → get_elem? (l ++ a ∷ []) j ≡ some b
+    → (get_elem? l j ≡ some b) ⊎
     ((length l ≤ j) × (a ≡ b))
-snoc_at [] a b zero e = inr (omega arith, some-injective a b e)
-snoc_at [] a b (suc j) e = absurd (some-ne-none b (sym e))
-snoc_at (x ∷ xs) a b zero e = inl e
-snoc_at (x ∷ xs) a b (suc j) e = ⊎_elim (λ (q : get_elem? xs j ≡ some b). inl q) (λ (q : (length xs ≤ j) × (a ≡ b)).
-    let l = q.0 in inr (omega (arith, l), q.1)) (snoc_at xs a b j e)
+get_elem-of_push [] a b zero e = inr (omega arith, some-injective a b e)
+get_elem-of_push [] a b (suc j) e = absurd (some-ne-none b (sym e))
+get_elem-of_push (x ∷ xs) a b zero e = inl e
+get_elem-of_push (x ∷ xs) a b (suc j) e = ⊎_elim (λ (q : get_elem? xs j ≡ some b). inl q)
+    (λ (q : (length xs ≤ j) × (a ≡ b)).
+    let l = q.0 in inr (omega (arith, l), q.1)) (get_elem-of_push xs a b j e)
 
-set_bits_alike : (first : ℕ) (f g : ℕ → ℕ) (count : ℕ) → ((k : ℕ) → k < count → f k ≡ g k) → set_bits first f count
+-- equal bits have the same numbers whose bit is 1
+set_bits-same : (first : ℕ) (f g : ℕ → ℕ) (count : ℕ) → ((k : ℕ) → k < count → f k ≡ g k) → set_bits first f count
     ≡ set_bits first g count
-set_bits_alike first f g zero same = refl
-set_bits_alike first f g (suc k) same =
+set_bits-same first f g zero same = refl
+set_bits-same first f g (suc k) same =
     ap (λ (x : ℕ). cond (x == 1) ((first + k) ∷ set_bits first f k) (set_bits first f k)) (same k (omega arith))
     ∙ ap (λ (l : List ℕ). cond (g k == 1) ((first + k) ∷ l) l)
-    (set_bits_alike first f g k (λ j small. same j (omega (arith, small))))
+    (set_bits-same first f g k (λ j small. same j (omega (arith, small))))
 
-same_view : (w v : View) (p : BenchProgress) → w.pending ≡ v.pending → w.takes ≡ v.takes → IsViewAt v p → IsViewAt w p
-same_view w v idle a b (c, d) = (a ∙ c, tt)
-same_view w v (has_claimed n x) a b (c, d) = (a ∙ c, tt)
-same_view w v (has_put n x) a b (c, d) = (a ∙ c, tt)
-same_view w v (has_taken n x) a b (c, d) = (
+-- a view with the same pending number and takes may be that of a bench at the same point
+IsViewAt-same : (w v : View) (p : BenchProgress) → w.pending ≡ v.pending → w.takes ≡ v.takes → IsViewAt v p
+    → IsViewAt w p
+IsViewAt-same w v idle a b (c, d) = (a ∙ c, tt)
+IsViewAt-same w v (has_claimed n x) a b (c, d) = (a ∙ c, tt)
+IsViewAt-same w v (has_put n x) a b (c, d) = (a ∙ c, tt)
+IsViewAt-same w v (has_taken n x) a b (c, d) = (
   a ∙ c,
   subst (λ (l : List (ℕ × Block)). 0 < occurrences n (numbers l))
       (sym b) d,
 )
-same_view w v (has_lifted n x) a b (c, d) = (
+IsViewAt-same w v (has_lifted n x) a b (c, d) = (
   a ∙ c,
   subst (λ (l : List (ℕ × Block)). 0 < occurrences n (numbers l))
       (sym b) d,
 )
 
 module _ (total draws : ℕ) (s : BoardState) (m : Core) (sh : ReadsAs total draws s m) where
+  -- the words of the table
   abbrev W : List ℕ
   W = s.table.words
 
+  -- the slots of the table
   abbrev H : Homes
   H = s.table.homes
 
+  -- the views of the benches
   abbrev V : List View
   V = s.table.views
 
+  -- the event is one of the machine from m, and the state t corresponds to the one after it
   abbrev Goal : BoardEvent → BoardState → Type 0
   Goal e t = (n : Core) × Happens total draws m e n × ReadsAs total draws t n
 
-  has_view : (i : ℕ) (v : View) → get_elem? V i ≡ some v → HasView m i v
-  has_view i v e = subst (λ (vs : List View). get_elem? vs i ≡ some v) (sym sh.views) e
+  -- a bench has the same view in the machine's state
+  HasView-of_table : (i : ℕ) (v : View) → get_elem? V i ≡ some v → HasView m i v
+  HasView-of_table i v e = subst (λ (vs : List View). get_elem? vs i ≡ some v) (sym sh.views) e
 
-  is_at : (i : ℕ) (p : BenchProgress) → s.progress i ≡ p → m.progress i ≡ p
-  is_at i p e = sh.progress i ∙ e
+  -- a bench is at the same point in the machine's state
+  progress-of_table : (i : ℕ) (p : BenchProgress) → s.progress i ≡ p → m.progress i ≡ p
+  progress-of_table i p e = sh.progress i ∙ e
 
-  views_kept : (i : ℕ) (v w : View) (pg : ℕ → BenchProgress) → get_elem? V i ≡ some v → IsViewAt w (pg i)
+  -- after the view i became w, which may be that of the bench i, each view may be that of its bench, if no other bench
+  -- moved
+  IsViewAt-after_set : (i : ℕ) (v w : View) (pg : ℕ → BenchProgress) → get_elem? V i ≡ some v → IsViewAt w (pg i)
       → ((j : ℕ) → j ≢ i → pg j ≡ s.progress j)
       → (j : ℕ) (u : View) → get_elem? (set V i w) j ≡ some u → IsViewAt u (pg j)
-  views_kept i v w pg e own others j u f = ⊎_elim
+  IsViewAt-after_set i v w pg e own others j u f = ⊎_elim
       (λ (q : (j ≡ i) × (w ≡ u)). subst (λ (y : ℕ). IsViewAt u (pg y)) (sym q.0)
       (subst (λ (y : View). IsViewAt y (pg i)) q.1 own))
       (λ (q : (j ≢ i) × (get_elem? V j ≡ some u)). subst (IsViewAt u) (sym (others j q.0)) (sh.calls j u q.1))
       (at_set V i j w u f)
 
   -- `ReadsAs` holds after a step by which the view of the bench i becomes w, if the other fields do
-  build : (t : BoardState) (i : ℕ) (v w : View) (ws : List ℕ) (hs : Homes) (stage : ℕ → Stage)
+  ReadsAs-one_bench : (t : BoardState) (i : ℕ) (v w : View) (ws : List ℕ) (hs : Homes) (stage : ℕ → Stage)
       (content : ℕ → Option Block) (home : ℕ → Slot) (drawn : ℕ → ℕ) (pg : ℕ → BenchProgress)
       → get_elem? V i ≡ some v → t.table ≡ record { words = ws; homes = hs; views = set V i w } → length ws ≡ length W
       → length hs ≡ length H
@@ -134,7 +152,7 @@ module _ (total draws : ℕ) (s : BoardState) (m : Core) (sh : ReadsAs total dra
         views
             = set m.views i w;
       })
-  build t i v w ws hs stage content home drawn pg e is wide long ds cs fs ts homes same own others =
+  ReadsAs-one_bench t i v w ws hs stage content home drawn pg e is wide long ds cs fs ts homes same own others =
       let words : t.table.words ≡ ws = ap (λ (x : TableState). x.words) is in let at : t.table.homes
       ≡ hs = ap (λ (x : TableState). x.homes) is in let views : t.table.views
       ≡ set V i w = ap (λ (x : TableState). x.views) is in
@@ -149,92 +167,102 @@ module _ (total draws : ℕ) (s : BoardState) (m : Core) (sh : ReadsAs total dra
         homes = λ n low. subst (λ (y : Homes). get_elem? y n ≡ some (home_of (home n))) (sym at) (homes n low);
         views = ap (λ (vs : List View). set vs i w) sh.views ∙ sym views;
         progress = same;
-        calls = λ j u f. views_kept i v w t.progress e own others j u
+        calls = λ j u f. IsViewAt-after_set i v w t.progress e own others j u
             (subst (λ (vs : List View). get_elem? vs j ≡ some u) views f);
         unmade = λ j far. let longer : length t.table.views ≡ length V = ap length views ∙ length-set V i w in
-            let near = at_within V i v e in others j (λ q. omega (arith, far, longer, near, q))
+            let near = get_elem-within V i v e in others j (λ q. omega (arith, far, longer, near, q))
             ∙ sh.unmade j (omega (arith, far, longer));
       }
 
   -- `ReadsAs` holds after a step that changes one view, but not its pending number or its takes, and no bit, slot or
   -- progress
-  seen : (t : BoardState) (i : ℕ) (v w : View) (ws : List ℕ) → get_elem? V i ≡ some v → t.table
+  ReadsAs-saw_more : (t : BoardState) (i : ℕ) (v w : View) (ws : List ℕ) → get_elem? V i ≡ some v → t.table
       ≡ record { words = ws; homes = H; views = set V i w } → length ws ≡ length W
       → ((k n : ℕ) → k < 4 → bit_of k ws n ≡ bit_of k W n) → ((j : ℕ) → t.progress j ≡ s.progress j) → w.pending
       ≡ v.pending → w.takes ≡ v.takes
       → ReadsAs total draws t (with_views m (set m.views i w))
-  seen t i v w ws e is wide bits same a b = build t i v w ws H m.stage m.content m.home m.drawn m.progress e is wide
+  ReadsAs-saw_more t i v w ws e is wide bits same a b = ReadsAs-one_bench t i v w ws H m.stage m.content m.home m.drawn
+      m.progress e is wide
       refl
       (λ d. sh.drawn d ∙ sym (bits 3 d (omega arith))) (λ n. sh.claimed n ∙ sym (bits 0 n (omega arith)))
       (λ n. sh.filed n ∙ sym (bits 1 n (omega arith))) (λ n. sh.taken n ∙ sym (bits 2 n (omega arith)))
       sh.homes (λ j. sh.progress j ∙ sym (same j)) (subst (IsViewAt w) (sym (same i))
-      (same_view w v (s.progress i) a b (sh.calls i v e))) (λ j ne. same j)
+      (IsViewAt-same w v (s.progress i) a b (sh.calls i v e))) (λ j ne. same j)
 
   -- setting a bit that is 1 changes no bit of any row
-  all_again : (k n : ℕ) → k < 4 → 4 * (n / 64) + k < length W → bit_of k W n ≡ 1 → (k' j : ℕ) → k' < 4
+  bits-marked_again : (k n : ℕ) → k < 4 → 4 * (n / 64) + k < length W → bit_of k W n ≡ 1 → (k' j : ℕ) → k' < 4
       → bit_of k' (marked k W n) j ≡ bit_of k' W j
-  all_again k n small near is k' j small' = dite (ℕ_discrete k' k)
+  bits-marked_again k n small near is k' j small' = dite (ℕ_discrete k' k)
       (λ e. subst (λ (y : ℕ). bit_of y (marked k W n) j ≡ bit_of y W j) (sym e) (bit_of-marked_again k W n near is j))
       (λ ne. bit_of-other_row k W n near k' small small' ne j)
 
   -- the bits of a row are those of the stages, after one stage changed
-  stays : (f : Stage → ℕ) (k : ℕ) (ws : List ℕ) (n : ℕ) (new : Stage) → f new ≡ f (m.stage n)
+  bits-same_stage : (f : Stage → ℕ) (k : ℕ) (ws : List ℕ) (n : ℕ) (new : Stage) → f new ≡ f (m.stage n)
       → ((j : ℕ) → bit_of k ws j ≡ bit_of k W j) → ((j : ℕ) → f (m.stage j) ≡ bit_of k W j) → (j : ℕ)
       → f (update m.stage n new j) ≡ bit_of k ws j
-  stays f k ws n new same bits was = each-by_cases n (λ j. f (update m.stage n new j) ≡ bit_of k ws j)
+  bits-same_stage f k ws n new same bits was = each-by_cases n (λ j. f (update m.stage n new j) ≡ bit_of k ws j)
       (ap f (update-same m.stage n new) ∙ (same ∙ (was n ∙ sym (bits n))))
       (λ j ne. ap f (update-other m.stage n new j ne) ∙ (was j ∙ sym (bits j)))
 
   -- the bits of a row are those of the stages, after the stage of n changed and its bit was set
-  turns : (f : Stage → ℕ) (k : ℕ) (n : ℕ) (new : Stage) → f new ≡ 1 → 4 * (n / 64) + k < length W
+  bits-set_stage : (f : Stage → ℕ) (k : ℕ) (n : ℕ) (new : Stage) → f new ≡ 1 → 4 * (n / 64) + k < length W
       → ((j : ℕ) → f (m.stage j) ≡ bit_of k W j) → (j : ℕ) → f (update m.stage n new j) ≡ bit_of k (marked k W n) j
-  turns f k n new one near was = each-by_cases n (λ j. f (update m.stage n new j) ≡ bit_of k (marked k W n) j)
+  bits-set_stage f k n new one near was = each-by_cases n (λ j. f (update m.stage n new j) ≡ bit_of k (marked k W n) j)
       (ap f (update-same m.stage n new) ∙ (one ∙ sym (bit_of-marked k W n near)))
       (λ j ne. ap f (update-other m.stage n new j ne) ∙ (was j ∙ sym (bit_of-other_number k W n near j ne)))
 
+  -- the bits of another row don't change after the bit of n in the row k was set
   row : (k n : ℕ) → 4 * (n / 64) + k < length W → k < 4 → (k' : ℕ) → k' < 4 → k' ≢ k → (j : ℕ)
       → bit_of k' (marked k W n) j ≡ bit_of k' W j
   row k n near small k' small' ne j = bit_of-other_row k W n near k' small small' ne j
 
-  near_number : (n k : ℕ) → n < total → k < 4 → 4 * (n / 64) + k < length W
-  near_number n k low small = word_index-within (length W) total n k low sh.numbers_fit.0 sh.numbers_fit.1 small
+  -- the words have a bit in each row for each number
+  word_index-number : (n k : ℕ) → n < total → k < 4 → 4 * (n / 64) + k < length W
+  word_index-number n k low small = word_index-within (length W) total n k low sh.numbers_fit.0 sh.numbers_fit.1 small
 
-  near_draw : (d : ℕ) → d < draws → 4 * (d / 64) + 3 < length W
-  near_draw d low = word_index-within (length W) draws d 3 low sh.draws_fit.0 sh.draws_fit.1 (omega arith)
+  -- the words have a bit for each draw
+  word_index-draw : (d : ℕ) → d < draws → 4 * (d / 64) + 3 < length W
+  word_index-draw d low = word_index-within (length W) draws d 3 low sh.draws_fit.0 sh.draws_fit.1 (omega arith)
 
   -- the table after a step, by the slots hs after its act and by the seat's new view w
-  at_view : (tb : TableState) (j x i : ℕ) (c c' : List (ℕ × Option Block)) (after : SeatState) (a : Act (Option Block))
+  table-after_step : (tb : TableState) (j x i : ℕ) (c c' : List (ℕ × Option Block)) (after : SeatState)
+      (a : Act (Option Block))
       (w : View) (hs : Homes) → tb ≡ stepped s.table j x i c after.0 a → after ≡ (w, c') → homes_after H c a ≡ hs
       → tb ≡ record { words = set W j x; homes = hs; views = set V i w }
-  at_view tb j x i c c' after a w hs is told homes = is
+  table-after_step tb j x i c c' after a w hs is told homes = is
       ∙ (λ k. record { words = set W j x; homes = homes k; views = set V i (told k).0 })
 
-  pending_none : (i : ℕ) (v : View) → IsAt s i v idle → v.pending ≡ []
-  pending_none i v (e, p) = (subst (IsViewAt v) p (sh.calls i v e)).0
+  -- a bench in no call has no number pending
+  pending-idle : (i : ℕ) (v : View) → IsAt s i v idle → v.pending ≡ []
+  pending-idle i v (e, p) = (subst (IsViewAt v) p (sh.calls i v e)).0
 
   -- `ReadsAs` holds after a claim
-  claim_shown : (t : BoardState) (i n : ℕ) (b : Block) (v : View) (after : SeatState) → n < total → IsAt s i v idle
+  ReadsAs-claim : (t : BoardState) (i n : ℕ) (b : Block) (v : View) (after : SeatState) → n < total → IsAt s i v idle
       → Sets ClaimPost s i v idle 0 n after t.table → (x : ℕ) → claimed_bit (m.stage n) ≡ x
       → t.progress ≡ update s.progress i (after_claiming n b x) → ReadsAs total draws t (after_claim_step m i n b v x)
-  claim_shown t i n b v after low (e, p) st zero is pg =
-      let near : 4 * (n / 64) + 0 < length W = near_number n 0 low (omega arith) in
+  ReadsAs-claim t i n b v after low (e, p) st zero is pg =
+      let near : 4 * (n / 64) + 0 < length W = word_index-number n 0 low (omega arith) in
       let told = (st.post n (record { word = refl; mask = refl })).0 (sym (sh.claimed n) ∙ is) in
       let now : after ≡ (after_claim v n, (n, None) ∷ []) = told.1 in
-      let out = takes_home H st.act n None st.valid (ap (λ (y : SeatState). y.1) (sym now) ∙ st.slots) in
-      let free : m.stage n ≡ Free = one_free (m.stage n) is in
+      let out = TookHome-taken H st.act n None st.valid (ap (λ (y : SeatState). y.1) (sym now) ∙ st.slots) in
+      let free : m.stage n ≡ Free = Free-by_bit (m.stage n) is in
       let pt : (j : ℕ) → update m.progress i (has_claimed n b) j ≡ t.progress j = λ j. ap
       (λ (y : BenchProgress). cond (j == i) (has_claimed n b) y) (sh.progress j) ∙ ap (λ (f : ℕ → BenchProgress). f j)
       (sym pg) in
-      build t i v (after_claim v n) (marked 0 W n) (homes_after H [] st.act) (update m.stage n Claimed) m.content
+      ReadsAs-one_bench t i v (after_claim v n) (marked 0 W n) (homes_after H [] st.act)
+      (update m.stage n Claimed) m.content
       (update m.home n away) m.drawn (update m.progress i (has_claimed n b)) e
-      (at_view t.table (4 * (n / 64) + 0) (bit_or (get_or W (4 * (n / 64) + 0) 0) (mask_of n)) i [] ((n, None) ∷ [])
+      (table-after_step t.table (4 * (n / 64) + 0) (bit_or (get_or W (4 * (n / 64) + 0) 0) (mask_of n)) i []
+      ((n, None) ∷ [])
       after st.act (after_claim v n) (homes_after H [] st.act) st.table now refl)
       (length-set W (4 * (n / 64) + 0) _) out.long
       (λ d. sh.drawn d ∙ sym (row 0 n near (omega arith) 3 (omega arith) (λ z. omega arith) d))
-      (turns claimed_bit 0 n Claimed refl near sh.claimed)
-      (stays filed_bit 1 (marked 0 W n) n Claimed (ap filed_bit (sym free)) (row 0 n near (omega arith) 1 (omega arith)
+      (bits-set_stage claimed_bit 0 n Claimed refl near sh.claimed)
+      (bits-same_stage filed_bit 1 (marked 0 W n) n Claimed (ap filed_bit (sym free))
+      (row 0 n near (omega arith) 1 (omega arith)
       (λ z. omega arith)) sh.filed)
-      (stays taken_bit 2 (marked 0 W n) n Claimed (ap taken_bit (sym free)) (row 0 n near (omega arith) 2 (omega arith)
+      (bits-same_stage taken_bit 2 (marked 0 W n) n Claimed (ap taken_bit (sym free))
+      (row 0 n near (omega arith) 2 (omega arith)
       (λ z. omega arith)) sh.taken)
       (each-by_cases n (λ j. j < total → get_elem? (homes_after H [] st.act) j
       ≡ some (home_of (update m.home n away j)))
@@ -243,33 +271,37 @@ module _ (total draws : ℕ) (s : BoardState) (m : Core) (sh : ReadsAs total dra
       (sym (update-other m.home n away j ne)))))
       pt (subst (IsViewAt (after_claim v n)) (sym (update-same m.progress i (has_claimed n b)) ∙ pt i) (refl, tt))
       (λ j ne. ap (λ (f : ℕ → BenchProgress). f j) pg ∙ update-other s.progress i (has_claimed n b) j ne)
-  claim_shown t i n b v after low (e, p) st (suc zero) is pg =
-      let near : 4 * (n / 64) + 0 < length W = near_number n 0 low (omega arith) in
+  ReadsAs-claim t i n b v after low (e, p) st (suc zero) is pg =
+      let near : 4 * (n / 64) + 0 < length W = word_index-number n 0 low (omega arith) in
       let now : after ≡ (with_claimed v (n ∷ []), []) = (st.post n (record { word = refl; mask = refl })).1
       (sym (sh.claimed n) ∙ is) in
-      seen t i v (with_claimed v (n ∷ [])) (marked 0 W n) e
-      (at_view t.table (4 * (n / 64) + 0) (bit_or (get_or W (4 * (n / 64) + 0) 0) (mask_of n)) i [] [] after st.act
-      (with_claimed v (n ∷ [])) H st.table now (leaves_homes H st.act st.valid (ap (λ (y : SeatState). y.1) (sym now)
+      ReadsAs-saw_more t i v (with_claimed v (n ∷ [])) (marked 0 W n) e
+      (table-after_step t.table (4 * (n / 64) + 0) (bit_or (get_or W (4 * (n / 64) + 0) 0) (mask_of n)) i [] [] after
+      st.act
+      (with_claimed v (n ∷ [])) H st.table now (homes_after-left H st.act st.valid
+      (ap (λ (y : SeatState). y.1) (sym now)
       ∙ st.slots)))
-      (length-set W (4 * (n / 64) + 0) _) (all_again 0 n (omega arith) near (sym (sh.claimed n) ∙ is))
+      (length-set W (4 * (n / 64) + 0) _) (bits-marked_again 0 n (omega arith) near (sym (sh.claimed n) ∙ is))
       (each-by_cases i (λ j. t.progress j ≡ s.progress j) (ap (λ (f : ℕ → BenchProgress). f i) pg
       ∙ (update-same s.progress i idle ∙ sym p)) (λ j ne. ap (λ (f : ℕ → BenchProgress). f j) pg
       ∙ update-other s.progress i idle j ne)) refl refl
-  claim_shown t i n b v after low at st (suc (suc x)) is pg =
+  ReadsAs-claim t i n b v after low at st (suc (suc x)) is pg =
       absurd (omega (arith, is, sh.claimed n, bit_of-at_most_one 0 W n))
 
   -- `ReadsAs` holds after a draw
-  draw_shown : (t : BoardState) (i d : ℕ) (v : View) (after : SeatState) → d < draws → IsAt s i v idle
+  ReadsAs-draw : (t : BoardState) (i d : ℕ) (v : View) (after : SeatState) → d < draws → IsAt s i v idle
       → Sets DrawPost s i v idle 3 d after t.table → (x : ℕ) → m.drawn d ≡ x → t.progress ≡ s.progress
       → ReadsAs total draws t (after_draw_step m i d v x)
-  draw_shown t i d v after low (e, p) st zero is pg =
-      let near : 4 * (d / 64) + 3 < length W = near_draw d low in
+  ReadsAs-draw t i d v after low (e, p) st zero is pg =
+      let near : 4 * (d / 64) + 3 < length W = word_index-draw d low in
       let now : after ≡ (after_draw v d, []) = ((st.post d (record { word = refl; mask = refl })).0 (sym (sh.drawn d)
       ∙ is)).2 in
       let same : (j : ℕ) → t.progress j ≡ s.progress j = λ j. ap (λ (f : ℕ → BenchProgress). f j) pg in
-      build t i v (after_draw v d) (marked 3 W d) H m.stage m.content m.home (update m.drawn d 1) m.progress e
-      (at_view t.table (4 * (d / 64) + 3) (bit_or (get_or W (4 * (d / 64) + 3) 0) (mask_of d)) i [] [] after st.act
-      (after_draw v d) H st.table now (leaves_homes H st.act st.valid (ap (λ (y : SeatState). y.1) (sym now)
+      ReadsAs-one_bench t i v (after_draw v d) (marked 3 W d) H m.stage m.content m.home (update m.drawn d 1) m.progress
+      e
+      (table-after_step t.table (4 * (d / 64) + 3) (bit_or (get_or W (4 * (d / 64) + 3) 0) (mask_of d)) i [] [] after
+      st.act
+      (after_draw v d) H st.table now (homes_after-left H st.act st.valid (ap (λ (y : SeatState). y.1) (sym now)
       ∙ st.slots)))
       (length-set W (4 * (d / 64) + 3) _) refl
       (each-by_cases d (λ j. update m.drawn d 1 j ≡ bit_of 3 (marked 3 W d) j) (update-same m.drawn d 1
@@ -279,113 +311,118 @@ module _ (total draws : ℕ) (s : BoardState) (m : Core) (sh : ReadsAs total dra
       (λ n. sh.filed n ∙ sym (row 3 d near (omega arith) 1 (omega arith) (λ z. omega arith) n))
       (λ n. sh.taken n ∙ sym (row 3 d near (omega arith) 2 (omega arith) (λ z. omega arith) n))
       sh.homes (λ j. sh.progress j ∙ sym (same j)) (subst (IsViewAt (after_draw v d)) (sym (same i))
-      (same_view (after_draw v d) v (s.progress i) refl refl (sh.calls i v e))) (λ j ne. same j)
-  draw_shown t i d v after low (e, p) st (suc zero) is pg =
-      let near : 4 * (d / 64) + 3 < length W = near_draw d low in
+      (IsViewAt-same (after_draw v d) v (s.progress i) refl refl (sh.calls i v e))) (λ j ne. same j)
+  ReadsAs-draw t i d v after low (e, p) st (suc zero) is pg =
+      let near : 4 * (d / 64) + 3 < length W = word_index-draw d low in
       let now : after ≡ (with_found v d, []) = (st.post d (record { word = refl; mask = refl })).1 (sym (sh.drawn d)
       ∙ is) in
-      seen t i v (with_found v d) (marked 3 W d) e
-      (at_view t.table (4 * (d / 64) + 3) (bit_or (get_or W (4 * (d / 64) + 3) 0) (mask_of d)) i [] [] after st.act
-      (with_found v d) H st.table now (leaves_homes H st.act st.valid (ap (λ (y : SeatState). y.1) (sym now)
+      ReadsAs-saw_more t i v (with_found v d) (marked 3 W d) e
+      (table-after_step t.table (4 * (d / 64) + 3) (bit_or (get_or W (4 * (d / 64) + 3) 0) (mask_of d)) i [] [] after
+      st.act
+      (with_found v d) H st.table now (homes_after-left H st.act st.valid (ap (λ (y : SeatState). y.1) (sym now)
       ∙ st.slots)))
-      (length-set W (4 * (d / 64) + 3) _) (all_again 3 d (omega arith) near (sym (sh.drawn d) ∙ is))
+      (length-set W (4 * (d / 64) + 3) _) (bits-marked_again 3 d (omega arith) near (sym (sh.drawn d) ∙ is))
       (λ j. ap (λ (f : ℕ → BenchProgress). f j) pg) refl refl
-  draw_shown t i d v after low at st (suc (suc x)) is pg =
+  ReadsAs-draw t i d v after low at st (suc (suc x)) is pg =
       absurd (omega (arith, is, sh.drawn d, bit_of-at_most_one 3 W d))
 
   -- the numbers whose bit is 1 in a word are those of which the stages say so
-  shown_alike : (f : Stage → ℕ) (k g : ℕ) → k < 4 → ((j : ℕ) → f (m.stage j) ≡ bit_of k W j)
+  set_bits-word : (f : Stage → ℕ) (k g : ℕ) → k < 4 → ((j : ℕ) → f (m.stage j) ≡ bit_of k W j)
       → set_bits (64 * ((4 * g + k) / 4)) (bit_at (get_or W (4 * g + k) 0)) 64 ≡ set_bits (64 * g)
       (λ j. f (m.stage (64 * g + j))) 64
-  shown_alike f k g small was = let word : (4 * g + k) / 4 ≡ g = omega (arith, small) in
+  set_bits-word f k g small was = let word : (4 * g + k) / 4 ≡ g = omega (arith, small) in
       ap (λ (y : ℕ). set_bits (64 * y) (bit_at (get_or W (4 * g + k) 0)) 64) word
-      ∙ set_bits_alike (64 * g) (bit_at (get_or W (4 * g + k) 0)) (λ j. f (m.stage (64 * g + j))) 64 (λ j low.
+      ∙ set_bits-same (64 * g) (bit_at (get_or W (4 * g + k) 0)) (λ j. f (m.stage (64 * g + j))) 64 (λ j low.
       let at : (64 * g + j) / 64 ≡ g = omega (arith, low) in let place : (64 * g + j) % 64 ≡ j = omega (arith, low) in
       sym (was (64 * g + j) ∙ (ap (λ (y : ℕ). bit_at (get_or W (4 * y + k) 0) ((64 * g + j) % 64)) at
       ∙ ap (λ (y : ℕ). bit_at (get_or W (4 * g + k) 0) y) place)))
 
   -- `ReadsAs` holds after a load by which the bench has seen more
-  load_shown : (t : BoardState) (i j : ℕ) (v w : View) (after : SeatState) (a : Act (Option Block)) → IsAt s i v idle
+  ReadsAs-load : (t : BoardState) (i j : ℕ) (v w : View) (after : SeatState) (a : Act (Option Block)) → IsAt s i v idle
       → after ≡ (w, []) → homes_after H [] a ≡ H → t.table ≡ stepped s.table j (get_or W j 0) i [] after.0 a
       → t.progress ≡ s.progress → w.pending ≡ v.pending → w.takes ≡ v.takes → ReadsAs total draws t
       (with_views m (set m.views i w))
-  load_shown t i j v w after a (e, p) now homes is pg b c = seen t i v w W e
-      (at_view t.table j (get_or W j 0) i [] [] after a w H is now homes
+  ReadsAs-load t i j v w after a (e, p) now homes is pg b c = ReadsAs-saw_more t i v w W e
+      (table-after_step t.table j (get_or W j 0) i [] [] after a w H is now homes
       ∙ ap (λ (ws : List ℕ). let x : TableState = record { words = ws; homes = H; views = set V i w } in
-      x) (loaded W j))
+      x) (set-same_value W j))
       refl (λ k n small. refl) (λ k. ap (λ (f : ℕ → BenchProgress). f k) pg) b c
 
-  look_shown : (t : BoardState) (i : ℕ) (r : WordRow) (g : ℕ) (v : View) (after : SeatState) → IsAt s i v idle
+  -- `ReadsAs` holds after a bench looked at a word
+  ReadsAs-look : (t : BoardState) (i : ℕ) (r : WordRow) (g : ℕ) (v : View) (after : SeatState) → IsAt s i v idle
       → Loads (LookPost r) s i v idle (4 * g + number_of r) after t.table → t.progress ≡ s.progress
       → ReadsAs total draws t (with_views m (set m.views i (after_look m v r g)))
-  look_shown t i claimed_row g v after at st pg =
+  ReadsAs-look t i claimed_row g v after at st pg =
       let now : after ≡ (with_claimed v (set_bits (64 * ((4 * g + 0) / 4)) (bit_at (get_or W (4 * g + 0) 0)) 64), [])
       = st.post.0 in
       let same : after ≡ (after_look m v claimed_row g, []) = now
       ∙ ap (λ (l : List ℕ). let x : SeatState = (with_claimed v l, []) in
-      x) (shown_alike claimed_bit 0 g (omega arith) sh.claimed) in
-      load_shown t i (4 * g + 0) v (after_look m v claimed_row g) after st.act at same
-      (leaves_homes H st.act st.valid (ap (λ (y : SeatState). y.1) (sym now) ∙ st.slots)) st.table pg refl refl
-  look_shown t i filed_row g v after at st pg =
+      x) (set_bits-word claimed_bit 0 g (omega arith) sh.claimed) in
+      ReadsAs-load t i (4 * g + 0) v (after_look m v claimed_row g) after st.act at same
+      (homes_after-left H st.act st.valid (ap (λ (y : SeatState). y.1) (sym now) ∙ st.slots)) st.table pg refl refl
+  ReadsAs-look t i filed_row g v after at st pg =
       let now : after ≡ (with_filed v (set_bits (64 * ((4 * g + 1) / 4)) (bit_at (get_or W (4 * g + 1) 0)) 64), [])
       = st.post.0 in
       let same : after ≡ (after_look m v filed_row g, []) = now
-      ∙ ap (λ (l : List ℕ). let x : SeatState = (with_filed v l, []) in x) (shown_alike filed_bit 1 g (omega arith)
+      ∙ ap (λ (l : List ℕ). let x : SeatState = (with_filed v l, []) in x) (set_bits-word filed_bit 1 g (omega arith)
       sh.filed) in
-      load_shown t i (4 * g + 1) v (after_look m v filed_row g) after st.act at same
-      (leaves_homes H st.act st.valid (ap (λ (y : SeatState). y.1) (sym now) ∙ st.slots)) st.table pg refl refl
-  look_shown t i taken_row g v after at st pg =
+      ReadsAs-load t i (4 * g + 1) v (after_look m v filed_row g) after st.act at same
+      (homes_after-left H st.act st.valid (ap (λ (y : SeatState). y.1) (sym now) ∙ st.slots)) st.table pg refl refl
+  ReadsAs-look t i taken_row g v after at st pg =
       let now : after ≡ (with_taken v (set_bits (64 * ((4 * g + 2) / 4)) (bit_at (get_or W (4 * g + 2) 0)) 64), [])
       = st.post.0 in
       let same : after ≡ (after_look m v taken_row g, []) = now
-      ∙ ap (λ (l : List ℕ). let x : SeatState = (with_taken v l, []) in x) (shown_alike taken_bit 2 g (omega arith)
+      ∙ ap (λ (l : List ℕ). let x : SeatState = (with_taken v l, []) in x) (set_bits-word taken_bit 2 g (omega arith)
       sh.taken) in
-      load_shown t i (4 * g + 2) v (after_look m v taken_row g) after st.act at same
-      (leaves_homes H st.act st.valid (ap (λ (y : SeatState). y.1) (sym now) ∙ st.slots)) st.table pg refl refl
+      ReadsAs-load t i (4 * g + 2) v (after_look m v taken_row g) after st.act at same
+      (homes_after-left H st.act st.valid (ap (λ (y : SeatState). y.1) (sym now) ∙ st.slots)) st.table pg refl refl
 
-  count_shown : (t : BoardState) (i : ℕ) (v : View) (after : SeatState) → IsAt s i v idle → Loads CountPost s i v idle
+  -- `ReadsAs` holds after a load that changes nothing
+  ReadsAs-count : (t : BoardState) (i : ℕ) (v : View) (after : SeatState) → IsAt s i v idle → Loads CountPost s i v idle
       0 after t.table → t.progress ≡ s.progress → ReadsAs total draws t m
-  count_shown t i v after (e, p) st pg =
-      let now : after ≡ (v, []) = st.post.0 in let homes = leaves_homes H st.act st.valid
+  ReadsAs-count t i v after (e, p) st pg =
+      let now : after ≡ (v, []) = st.post.0 in let homes = homes_after-left H st.act st.valid
       (ap (λ (y : SeatState). y.1) (sym now) ∙ st.slots) in
       let got : (vs : List View) → vs ≡ m.views → ReadsAs total draws t (with_views m vs) → ReadsAs total draws t m
       = λ vs q z. subst (λ (y : List View). ReadsAs total draws t (with_views m y)) q z in
-      let words : set W 0 (get_or W 0 0) ≡ W = loaded W 0 in
-      got (set m.views i v) (set_again m.views i v (has_view i v e)) (seen t i v v W e
-      (at_view t.table 0 (get_or W 0 0) i [] [] after st.act v H st.table now homes
+      let words : set W 0 (get_or W 0 0) ≡ W = set-same_value W 0 in
+      got (set m.views i v) (set_again m.views i v (HasView-of_table i v e)) (ReadsAs-saw_more t i v v W e
+      (table-after_step t.table 0 (get_or W 0 0) i [] [] after st.act v H st.table now homes
       ∙ ap (λ (ws : List ℕ). let x : TableState = record { words = ws; homes = H; views = set V i v } in x) words)
       refl (λ k n small. refl) (λ k. ap (λ (f : ℕ → BenchProgress). f k) pg) refl refl)
 
   module _ (r : Invariant total m) where
     -- `ReadsAs` holds after a filing
-    file_shown : (t : BoardState) (i n : ℕ) (b : Block) (v : View) (after : SeatState) → IsAt s i v (has_put n b)
+    ReadsAs-file : (t : BoardState) (i n : ℕ) (b : Block) (v : View) (after : SeatState) → IsAt s i v (has_put n b)
         → Sets FilePost s i v (has_put n b) 1 n after t.table → t.progress ≡ update s.progress i idle
         → ReadsAs total draws t (after_file_step m i n b v)
-    file_shown t i n b v after (e, p) st pg =
+    ReadsAs-file t i n b v after (e, p) st pg =
         let one : v.pending ≡ n ∷ [] = (subst (IsViewAt v) p (sh.calls i v e)).0 in
         let was = is_pending total m.drawn (λ k. claimed_bit (m.stage k)) (λ k. filed_bit (m.stage k))
         (λ k. taken_bit (m.stage k)) m.content (λ k. m.home k ≡ empty) (λ k x. m.home k ≡ filled x) m.views r i v
-        (has_view i v e) n one in
+        (HasView-of_table i v e) n one in
         let c1 : claimed_bit (m.stage n) ≡ 1 = was.0 in let f0 : filed_bit (m.stage n) ≡ 0 = was.1 in
         let t0 : taken_bit (m.stage n) ≡ 0 = omega (arith, f0, r.stages.taken_is_filed n) in
         let low : n < total = r.stages.in_range n (omega (arith, c1)) in
-        let near : 4 * (n / 64) + 1 < length W = near_number n 1 low (omega arith) in
+        let near : 4 * (n / 64) + 1 < length W = word_index-number n 1 low (omega arith) in
         let now : after ≡ (after_filing v n b, []) = (st.post n (record { word = refl; mask = refl }) b refl).1 in
-        let homes : homes_after H ((n, Some b) ∷ []) st.act ≡ set H n (some (Some b)) = gives_home H st.act n (Some b)
+        let homes : homes_after H ((n, Some b) ∷ []) st.act ≡ set H n (some (Some b)) =
+        homes_after-given H st.act n (Some b)
         st.valid (ap (λ (y : SeatState). y.1) (sym now) ∙ st.slots) in
         let pt : (j : ℕ) → update m.progress i idle j ≡ t.progress j = λ j. ap (λ (y : BenchProgress). cond (j == i)
         idle y) (sh.progress j) ∙ ap (λ (f : ℕ → BenchProgress). f j) (sym pg) in
         let size : length H ≡ total = sh.slots in
-        build t i v (after_filing v n b) (marked 1 W n) (set H n (some (Some b))) (update m.stage n Filed)
+        ReadsAs-one_bench t i v (after_filing v n b) (marked 1 W n) (set H n (some (Some b))) (update m.stage n Filed)
         (update m.content n (Some b)) (update m.home n (filled b)) m.drawn (update m.progress i idle) e
-        (at_view t.table (4 * (n / 64) + 1) (bit_or (get_or W (4 * (n / 64) + 1) 0) (mask_of n)) i ((n, Some b) ∷ []) []
+        (table-after_step t.table (4 * (n / 64) + 1) (bit_or (get_or W (4 * (n / 64) + 1) 0) (mask_of n)) i
+        ((n, Some b) ∷ []) []
         after st.act (after_filing v n b) (set H n (some (Some b))) st.table now homes)
         (length-set W (4 * (n / 64) + 1) _) (length-set H n (some (Some b)))
         (λ d. sh.drawn d ∙ sym (row 1 n near (omega arith) 3 (omega arith) (λ z. omega arith) d))
-        (stays claimed_bit 0 (marked 1 W n) n Filed (sym c1) (row 1 n near (omega arith) 0 (omega arith)
+        (bits-same_stage claimed_bit 0 (marked 1 W n) n Filed (sym c1) (row 1 n near (omega arith) 0 (omega arith)
         (λ z. omega arith)) sh.claimed)
-        (turns filed_bit 1 n Filed refl near sh.filed)
-        (stays taken_bit 2 (marked 1 W n) n Filed (sym t0) (row 1 n near (omega arith) 2 (omega arith)
+        (bits-set_stage filed_bit 1 n Filed refl near sh.filed)
+        (bits-same_stage taken_bit 2 (marked 1 W n) n Filed (sym t0) (row 1 n near (omega arith) 2 (omega arith)
         (λ z. omega arith)) sh.taken)
         (each-by_cases n (λ j. j < total → get_elem? (set H n (some (Some b))) j ≡ some
         (home_of (update m.home n (filled b) j)))
@@ -397,21 +434,21 @@ module _ (total draws : ℕ) (s : BoardState) (m : Core) (sh : ReadsAs total dra
         (λ j ne. ap (λ (f : ℕ → BenchProgress). f j) pg ∙ update-other s.progress i idle j ne)
 
     -- `ReadsAs` holds after a take
-    take_shown : (t : BoardState) (i n : ℕ) (v : View) (after : SeatState) → n < total → IsAt s i v idle
+    ReadsAs-take : (t : BoardState) (i n : ℕ) (v : View) (after : SeatState) → n < total → IsAt s i v idle
         → 0 < occurrences n v.filed → Sets TakePost s i v idle 2 n after t.table → t.progress ≡ update s.progress i
         (after_taking n after.1)
         → (x : ℕ) (c : Option Block) → taken_bit (m.stage n) ≡ x → m.content n ≡ c → ReadsAs total draws t
         (after_take_step m i n v x c)
-    take_shown t i n v after low (e, p) saw st pg zero c is has =
-        let near : 4 * (n / 64) + 2 < length W = near_number n 2 low (omega arith) in
-        let f1 : filed_bit (m.stage n) ≡ 1 = r.stages.saw_filed i v (has_view i v e) n saw in
+    ReadsAs-take t i n v after low (e, p) saw st pg zero c is has =
+        let near : 4 * (n / 64) + 2 < length W = word_index-number n 2 low (omega arith) in
+        let f1 : filed_bit (m.stage n) ≡ 1 = r.stages.saw_filed i v (HasView-of_table i v e) n saw in
         let c1 : claimed_bit (m.stage n) ≡ 1 = omega (arith, f1, r.stages.pending_once n, r.stages.bit n) in
         let full = r.contents.filed_is_stored n f1 is in let b : Block = full.0 in
         let told = (st.post n (record { word = refl; mask = refl })).0 (sym (sh.taken n) ∙ is) in
         let b' : Block = told.0 in
         let found : after ≡ (after_take v n b', (n, Some b') ∷ []) = told.3 in
-        let took = takes_home H st.act n (Some b') st.valid (ap (λ (y : SeatState). y.1) (sym found) ∙ st.slots) in
-        let same : b' ≡ b = full_alike b' b (sym took.was ∙ (sh.homes n low ∙ ap (λ (y : Slot). some (home_of y))
+        let took = TookHome-taken H st.act n (Some b') st.valid (ap (λ (y : SeatState). y.1) (sym found) ∙ st.slots) in
+        let same : b' ≡ b = filled-injective b' b (sym took.was ∙ (sh.homes n low ∙ ap (λ (y : Slot). some (home_of y))
         full.2)) in
         let now : after ≡ (after_take v n b, (n, Some b) ∷ []) = found
         ∙ ap (λ (y : Block). let z : SeatState = (after_take v n y, (n, Some y) ∷ []) in z) same in
@@ -421,46 +458,51 @@ module _ (total draws : ℕ) (s : BoardState) (m : Core) (sh : ReadsAs total dra
         (λ (y : BenchProgress). cond (j == i) (has_taken n b) y) (sh.progress j) ∙ ap (λ (f : ℕ → BenchProgress). f j)
         (sym pg') in
         subst (λ (y : Option Block). ReadsAs total draws t (after_take_step m i n v 0 y)) (sym full.1 ∙ has) (
-        build t i v (after_take v n b) (marked 2 W n) (homes_after H [] st.act) (update m.stage n Taken) m.content
+        ReadsAs-one_bench t i v (after_take v n b) (marked 2 W n) (homes_after H [] st.act)
+        (update m.stage n Taken) m.content
         (update m.home n away) m.drawn (update m.progress i (has_taken n b)) e
-        (at_view t.table (4 * (n / 64) + 2) (bit_or (get_or W (4 * (n / 64) + 2) 0) (mask_of n)) i [] ((n, Some b) ∷ [])
+        (table-after_step t.table (4 * (n / 64) + 2) (bit_or (get_or W (4 * (n / 64) + 2) 0) (mask_of n)) i []
+        ((n, Some b) ∷ [])
         after st.act (after_take v n b) (homes_after H [] st.act) st.table now refl)
         (length-set W (4 * (n / 64) + 2) _) took.long
         (λ d. sh.drawn d ∙ sym (row 2 n near (omega arith) 3 (omega arith) (λ z. omega arith) d))
-        (stays claimed_bit 0 (marked 2 W n) n Taken (sym c1) (row 2 n near (omega arith) 0 (omega arith)
+        (bits-same_stage claimed_bit 0 (marked 2 W n) n Taken (sym c1) (row 2 n near (omega arith) 0 (omega arith)
         (λ z. omega arith)) sh.claimed)
-        (stays filed_bit 1 (marked 2 W n) n Taken (sym f1) (row 2 n near (omega arith) 1 (omega arith)
+        (bits-same_stage filed_bit 1 (marked 2 W n) n Taken (sym f1) (row 2 n near (omega arith) 1 (omega arith)
         (λ z. omega arith)) sh.filed)
-        (turns taken_bit 2 n Taken refl near sh.taken)
+        (bits-set_stage taken_bit 2 n Taken refl near sh.taken)
         (each-by_cases n (λ j. j < total → get_elem? (homes_after H [] st.act) j
         ≡ some (home_of (update m.home n away j)))
         (λ l. took.out ∙ ap (λ (y : Slot). some (home_of y)) (sym (update-same m.home n away)))
         (λ j ne l. took.others j ne ∙ (sh.homes j l ∙ ap (λ (y : Slot). some (home_of y))
         (sym (update-other m.home n away j ne)))))
         pt (subst (IsViewAt (after_take v n b)) (sym (update-same m.progress i (has_taken n b)) ∙ pt i)
-        (pending_none i v (e, p), let here = occurrences-cons_same n (numbers v.takes) in omega (arith, here)))
+        (pending-idle i v (e, p), let here = occurrences-cons_same n (numbers v.takes) in omega (arith, here)))
         (λ j ne. ap (λ (f : ℕ → BenchProgress). f j) pg' ∙ update-other s.progress i (has_taken n b) j ne))
-    take_shown t i n v after low (e, p) saw st pg (suc zero) c is has =
-        let near : 4 * (n / 64) + 2 < length W = near_number n 2 low (omega arith) in
+    ReadsAs-take t i n v after low (e, p) saw st pg (suc zero) c is has =
+        let near : 4 * (n / 64) + 2 < length W = word_index-number n 2 low (omega arith) in
         let now : after ≡ (with_taken v (n ∷ []), []) = (st.post n (record { word = refl; mask = refl })).1
         (sym (sh.taken n) ∙ is) in
         let pg' : t.progress ≡ update s.progress i idle = pg
         ∙ ap (λ (y : SeatState). update s.progress i (after_taking n y.1)) now in
-        seen t i v (with_taken v (n ∷ [])) (marked 2 W n) e
-        (at_view t.table (4 * (n / 64) + 2) (bit_or (get_or W (4 * (n / 64) + 2) 0) (mask_of n)) i [] [] after st.act
-        (with_taken v (n ∷ [])) H st.table now (leaves_homes H st.act st.valid (ap (λ (y : SeatState). y.1) (sym now)
+        ReadsAs-saw_more t i v (with_taken v (n ∷ [])) (marked 2 W n) e
+        (table-after_step t.table (4 * (n / 64) + 2) (bit_or (get_or W (4 * (n / 64) + 2) 0) (mask_of n)) i [] [] after
+        st.act
+        (with_taken v (n ∷ [])) H st.table now (homes_after-left H st.act st.valid
+        (ap (λ (y : SeatState). y.1) (sym now)
         ∙ st.slots)))
-        (length-set W (4 * (n / 64) + 2) _) (all_again 2 n (omega arith) near (sym (sh.taken n) ∙ is))
+        (length-set W (4 * (n / 64) + 2) _) (bits-marked_again 2 n (omega arith) near (sym (sh.taken n) ∙ is))
         (each-by_cases i (λ j. t.progress j ≡ s.progress j) (ap (λ (f : ℕ → BenchProgress). f i) pg'
         ∙ (update-same s.progress i idle ∙ sym p)) (λ j ne. ap (λ (f : ℕ → BenchProgress). f j) pg'
         ∙ update-other s.progress i idle j ne)) refl refl
-    take_shown t i n v after low at saw st pg (suc (suc x)) c is has = absurd
+    ReadsAs-take t i n v after low at saw st pg (suc (suc x)) c is has = absurd
         (omega (arith, is, sh.taken n, bit_of-at_most_one 2 W n))
 
   -- `ReadsAs` holds after one bench continues in its call, and nothing else changes
-  goes_on : (i : ℕ) (v : View) (p : BenchProgress) → get_elem? V i ≡ some v → IsViewAt v p → ReadsAs total draws
+  ReadsAs-continues : (i : ℕ) (v : View) (p : BenchProgress) → get_elem? V i ≡ some v → IsViewAt v p
+      → ReadsAs total draws
       (record s { progress = update s.progress i p }) (record m { progress = update m.progress i p })
-  goes_on i v p e own = record {
+  ReadsAs-continues i v p e own = record {
     slots = sh.slots;
     numbers_fit = sh.numbers_fit;
     draws_fit = sh.draws_fit;
@@ -472,21 +514,24 @@ module _ (total draws : ℕ) (s : BoardState) (m : Core) (sh : ReadsAs total dra
     views = sh.views;
     progress = λ j. ap (λ (y : BenchProgress). cond (j == i) p y) (sh.progress j);
     calls = λ j u f. dite (ℕ_discrete j i)
-        (λ is. let same : v ≡ u = one_view v u (get_elem? V i) e (subst (λ (y : ℕ). get_elem? V y ≡ some u) is f) in
+        (λ is. let same : v ≡ u = get_elem-one_view v u (get_elem? V i) e
+        (subst (λ (y : ℕ). get_elem? V y ≡ some u) is f) in
         subst (λ (y : ℕ). IsViewAt u (update s.progress i p y)) (sym is)
         (subst (IsViewAt u) (sym (update-same s.progress i p)) (subst (λ (y : View). IsViewAt y p) same own)))
         (λ ne. subst (IsViewAt u) (sym (update-other s.progress i p j ne)) (sh.calls j u f));
-    unmade = λ j far. let near = at_within V i v e in update-other s.progress i p j (λ q. omega (arith, far, near, q))
+    unmade = λ j far. let near = get_elem-within V i v e in update-other s.progress i p j
+        (λ q. omega (arith, far, near, q))
         ∙ sh.unmade j far;
   }
 
   -- `ReadsAs` holds after a slot is returned to the table
-  give_shown : (t : BoardState) (i n : ℕ) (b : Block) (v : View) (after : SeatState) → IsAt s i v (has_lifted n b)
+  ReadsAs-give : (t : BoardState) (i n : ℕ) (b : Block) (v : View) (after : SeatState) → IsAt s i v (has_lifted n b)
       → Loads GivePost s i v (has_lifted n b) 0 after t.table → t.progress ≡ update s.progress i idle
       → ReadsAs total draws t (record m { home = update m.home n empty; progress = update m.progress i idle })
-  give_shown t i n b v after (e, p) st pg =
+  ReadsAs-give t i n b v after (e, p) st pg =
       let now : after ≡ (v, []) = st.post in let out : Option Block = None in
-      let homes : homes_after H ((n, None) ∷ []) st.act ≡ set H n (some out) = gives_home H st.act n None st.valid
+      let homes : homes_after H ((n, None) ∷ []) st.act ≡ set H n (some out) =
+      homes_after-given H st.act n None st.valid
       (ap (λ (y : SeatState). y.1) (sym now) ∙ st.slots) in
       let pt : (j : ℕ) → update m.progress i idle j ≡ t.progress j = λ j. ap (λ (y : BenchProgress). cond (j == i) idle
       y) (sh.progress j) ∙ ap (λ (f : ℕ → BenchProgress). f j) (sym pg) in
@@ -494,12 +539,14 @@ module _ (total draws : ℕ) (s : BoardState) (m : Core) (sh : ReadsAs total dra
       let size : length H ≡ total = sh.slots in
       subst (λ (vs : List View). ReadsAs total draws t
       (record m { home = update m.home n empty; progress = update m.progress i idle; views = vs }))
-      (set_again m.views i v (has_view i v e)) (
-      build t i v v W (set H n (some out)) m.stage m.content (update m.home n empty) m.drawn (update m.progress i idle)
+      (set_again m.views i v (HasView-of_table i v e)) (
+      ReadsAs-one_bench t i v v W (set H n (some out)) m.stage m.content (update m.home n empty) m.drawn
+      (update m.progress i idle)
       e
-      (at_view t.table 0 (get_or W 0 0) i ((n, None) ∷ []) [] after st.act v (set H n (some out)) st.table now homes
+      (table-after_step t.table 0 (get_or W 0 0) i ((n, None) ∷ []) [] after st.act v (set H n (some out)) st.table now
+      homes
       ∙ ap (λ (ws : List ℕ). let x : TableState = record { words = ws; homes = set H n (some out); views = set V i v }
-      in x) (loaded W 0))
+      in x) (set-same_value W 0))
       refl (length-set H n (some out)) sh.drawn sh.claimed sh.filed sh.taken
       (each-by_cases n (λ j. j < total → get_elem? (set H n (some out)) j ≡ some (home_of (update m.home n empty j)))
       (λ l. set_here H n (some out) (omega (arith, l, size)) ∙ ap (λ (y : Slot). some (home_of y))
@@ -510,10 +557,10 @@ module _ (total draws : ℕ) (s : BoardState) (m : Core) (sh : ReadsAs total dra
       (λ j ne. ap (λ (f : ℕ → BenchProgress). f j) pg ∙ update-other s.progress i idle j ne))
 
   -- `ReadsAs` holds after the views change, and nothing else
-  with_all : (vs : List View) → ((j : ℕ) (u : View) → get_elem? vs j ≡ some u → IsViewAt u (s.progress j))
+  ReadsAs-views : (vs : List View) → ((j : ℕ) (u : View) → get_elem? vs j ≡ some u → IsViewAt u (s.progress j))
       → length V ≤ length vs
       → ReadsAs total draws (record s { table = record s.table { views = vs } }) (with_views m vs)
-  with_all vs calls longer = record {
+  ReadsAs-views vs calls longer = record {
     slots = sh.slots;
     numbers_fit = sh.numbers_fit;
     draws_fit = sh.draws_fit;
@@ -528,49 +575,58 @@ module _ (total draws : ℕ) (s : BoardState) (m : Core) (sh : ReadsAs total dra
     unmade = λ j far. sh.unmade j (omega (arith, far, longer));
   }
 
-  split_shown : (i : ℕ) (v : View) → IsAt s i v idle
+  -- a split is the machine's event
+  Goal-split : (i : ℕ) (v : View) → IsAt s i v idle
       → Goal (split i) (record s { table = record s.table { views = set V i (kept_view v) ++ split_view v ∷ [] } })
-  split_shown i v (e, p) =
+  Goal-split i v (e, p) =
       let long = length-set V i (kept_view v) in let longer = length-append (set V i (kept_view v))
       (split_view v ∷ []) in
       let own : IsViewAt v idle = subst (IsViewAt v) p (sh.calls i v e) in
-      let kept = views_kept i v (kept_view v) s.progress e (subst (IsViewAt (kept_view v)) (sym p) (own.0, tt))
+      let kept = IsViewAt-after_set i v (kept_view v) s.progress e (subst (IsViewAt (kept_view v)) (sym p) (own.0, tt))
       (λ j ne. refl) in
       let vs : List View = set V i (kept_view v) ++ split_view v ∷ [] in (
         with_views m vs,
-        (v, has_view i v e, own.0, λ k. with_views m (set (sym sh.views k) i (kept_view v) ++ split_view v ∷ [])),
-        with_all vs (λ j u f. ⊎_elim (λ (q : get_elem? (set V i (kept_view v)) j ≡ some u). kept j u q)
+        (
+          v,
+          HasView-of_table i v e,
+          own.0,
+          λ k. with_views m
+              (set (sym sh.views k) i (kept_view v) ++ split_view v ∷ []),
+        ),
+        ReadsAs-views vs (λ j u f. ⊎_elim (λ (q : get_elem? (set V i (kept_view v)) j ≡ some u). kept j u q)
             (λ (q : (length (set V i (kept_view v)) ≤ j) × (split_view v ≡ u)). let far = q.0 in
             let idles : s.progress j ≡ idle = sh.unmade j (omega (arith, far, long)) in
             subst (λ (y : View). IsViewAt y (s.progress j)) q.1 (subst (IsViewAt (split_view v)) (sym idles)
             (refl, tt)))
-            (snoc_at (set V i (kept_view v)) (split_view v) u j f))
+            (get_elem-of_push (set V i (kept_view v)) (split_view v) u j f))
             (omega (arith, long, longer)),
       )
 
-  join_shown : (i j : ℕ) (v w : View) → j ≢ i → IsAt s i v idle → IsAt s j w idle → Goal (join i j)
+  -- a join is the machine's event
+  Goal-join : (i j : ℕ) (v w : View) → j ≢ i → IsAt s i v idle → IsAt s j w idle → Goal (join i j)
       (record s { table = record s.table { views = set (set V i (joint_view v w)) j empty_view } })
-  join_shown i j v w ne (e, p) (f, q) =
+  Goal-join i j v w ne (e, p) (f, q) =
       let vs : List View = set (set V i (joint_view v w)) j empty_view in
       let mine : IsViewAt v idle = subst (IsViewAt v) p (sh.calls i v e) in
       let other : IsViewAt w idle = subst (IsViewAt w) q (sh.calls j w f) in
       let joint : IsViewAt (joint_view v w) (s.progress i) = subst (IsViewAt (joint_view v w)) (sym p)
       ((λ k. mine.0 k ++ other.0 k), tt) in
-      let once = views_kept i v (joint_view v w) s.progress e joint (λ k ne. refl) in
+      let once = IsViewAt-after_set i v (joint_view v w) s.progress e joint (λ k ne. refl) in
       let a = length-set V i (joint_view v w) in let b = length-set (set V i (joint_view v w)) j empty_view in (
         with_views m vs,
         (
           v,
           w,
           ne,
-          has_view i v e,
-          has_view j w f,
+          HasView-of_table i v e,
+          HasView-of_table j w f,
           mine.0,
           other.0,
           λ k. with_views m
               (set (set (sym sh.views k) i (joint_view v w)) j empty_view),
         ),
-        with_all vs (λ k u g. ⊎_elim (λ (z : (k ≡ j) × (empty_view ≡ u)). subst (λ (y : ℕ). IsViewAt u (s.progress y))
+        ReadsAs-views vs (λ k u g. ⊎_elim (λ (z : (k ≡ j) × (empty_view ≡ u)). subst
+            (λ (y : ℕ). IsViewAt u (s.progress y))
             (sym z.0) (subst (λ (y : View). IsViewAt y (s.progress j)) z.1 (subst (IsViewAt empty_view) (sym q)
             (refl, tt))))
             (λ (z : (k ≢ j) × (get_elem? (set V i (joint_view v w)) k ≡ some u)). once k u z.1)
@@ -578,106 +634,113 @@ module _ (total draws : ℕ) (s : BoardState) (m : Core) (sh : ReadsAs total dra
             (omega (arith, a, b)),
       )
 
-  pub simulates : Invariant total m → (t : BoardState) (e : BoardEvent) → Takes total draws s e t → Goal e t
-  simulates r t BoardEvent.make h = absurd h
-  simulates r t (BoardEvent.split i) (v, at, is) = subst (Goal (BoardEvent.split i)) (sym is) (split_shown i v at)
-  simulates r t (BoardEvent.join i j) (v, w, ne, at, bt, is) = subst (Goal (BoardEvent.join i j)) (sym is)
-      (join_shown i j v w ne at bt)
-  simulates r t (BoardEvent.claim i n b) (v, after, low, at, has_share, st, pg) = (
+  -- each step of a board is the machine's event, in a state with the invariant
+  pub Goal-event : Invariant total m → (t : BoardState) (e : BoardEvent) → Takes total draws s e t → Goal e t
+  Goal-event r t BoardEvent.make h = absurd h
+  Goal-event r t (BoardEvent.split i) (v, at, is) = subst (Goal (BoardEvent.split i)) (sym is) (Goal-split i v at)
+  Goal-event r t (BoardEvent.join i j) (v, w, ne, at, bt, is) = subst (Goal (BoardEvent.join i j)) (sym is)
+      (Goal-join i j v w ne at bt)
+  Goal-event r t (BoardEvent.claim i n b) (v, after, low, at, has_share, st, pg) = (
     after_claim_step m i n b v (claimed_bit (m.stage n)),
-    (v, low, has_view i v at.0, has_share, pending_none i v at, refl),
-    claim_shown t i n b v after low at st (claimed_bit (m.stage n)) refl
+    (v, low, HasView-of_table i v at.0, has_share, pending-idle i v at, refl),
+    ReadsAs-claim t i n b v after low at st (claimed_bit (m.stage n)) refl
         (pg ∙ ap (λ (x : ℕ). update s.progress i (after_claiming n b x)) (sym (sh.claimed n))),
   )
-  simulates r t (BoardEvent.put i n b) (v, at, is) = let own : IsViewAt v (has_claimed n b) = subst (IsViewAt v) at.1
+  Goal-event r t (BoardEvent.put i n b) (v, at, is) = let own : IsViewAt v (has_claimed n b) = subst (IsViewAt v) at.1
       (sh.calls i v at.0) in (
         record m { progress = update m.progress i (has_put n b) },
-        (v, has_view i v at.0, own.0, is_at i (has_claimed n b) at.1, refl),
+        (v, HasView-of_table i v at.0, own.0, progress-of_table i (has_claimed n b) at.1, refl),
         subst (λ (y : BoardState). ReadsAs total draws y (record m { progress = update m.progress i (has_put n b) }))
-            (sym is) (goes_on i v (has_put n b) at.0 (own.0, tt)),
+            (sym is) (ReadsAs-continues i v (has_put n b) at.0 (own.0, tt)),
       )
-  simulates r t (BoardEvent.file i n b) (v, after, at, st, pg) =
+  Goal-event r t (BoardEvent.file i n b) (v, after, at, st, pg) =
       let own : IsViewAt v (has_put n b) = subst (IsViewAt v) at.1 (sh.calls i v at.0) in (
         after_file_step m i n b v,
-        (v, has_view i v at.0, own.0, is_at i (has_put n b) at.1, refl),
-        file_shown r t i n b v after at st pg,
+        (v, HasView-of_table i v at.0, own.0, progress-of_table i (has_put n b) at.1, refl),
+        ReadsAs-file r t i n b v after at st pg,
       )
-  simulates r t (BoardEvent.look i row g) (v, after, at, st, pg) = (
+  Goal-event r t (BoardEvent.look i row g) (v, after, at, st, pg) = (
     with_views m (set m.views i (after_look m v row g)),
-    (v, has_view i v at.0, refl),
-    look_shown t i row g v after
+    (v, HasView-of_table i v at.0, refl),
+    ReadsAs-look t i row g v after
         at st pg,
   )
-  simulates r t (BoardEvent.draw i d) (v, after, low, at, has_share, st, pg) = (
+  Goal-event r t (BoardEvent.draw i d) (v, after, low, at, has_share, st, pg) = (
     after_draw_step m i d v (m.drawn d),
-    (v, low, has_view i v at.0, has_share, refl),
-    draw_shown t i d v after low at st
+    (v, low, HasView-of_table i v at.0, has_share, refl),
+    ReadsAs-draw t i d v after low at st
         (m.drawn d) refl pg,
   )
-  simulates r t (BoardEvent.take i n) (v, after, low, at, has_share, saw, st, pg) = (
+  Goal-event r t (BoardEvent.take i n) (v, after, low, at, has_share, saw, st, pg) = (
     after_take_step m i n v (taken_bit (m.stage n)) (m.content n),
-    (v, has_view i v at.0, has_share, saw, refl),
-    take_shown r t i n v after low at saw st pg (taken_bit (m.stage n)) (m.content n) refl refl,
+    (v, HasView-of_table i v at.0, has_share, saw, refl),
+    ReadsAs-take r t i n v after low at saw st pg (taken_bit (m.stage n)) (m.content n) refl refl,
   )
-  simulates r t (BoardEvent.lift i n) (v, b, at, is) = let own : IsViewAt v (has_taken n b) = subst (IsViewAt v) at.1
+  Goal-event r t (BoardEvent.lift i n) (v, b, at, is) = let own : IsViewAt v (has_taken n b) = subst (IsViewAt v) at.1
       (sh.calls i v at.0) in (
         record m { progress = update m.progress i (has_lifted n b) },
-        (v, b, has_view i v at.0, is_at i (has_taken n b) at.1, refl),
+        (v, b, HasView-of_table i v at.0, progress-of_table i (has_taken n b) at.1, refl),
         subst (λ (y : BoardState). ReadsAs total draws y (record m { progress = update m.progress i (has_lifted n b) }))
-            (sym is) (goes_on i v (has_lifted n b) at.0 own),
+            (sym is) (ReadsAs-continues i v (has_lifted n b) at.0 own),
       )
-  simulates r t (BoardEvent.give i n) (v, b, after, at, st, pg) =
+  Goal-event r t (BoardEvent.give i n) (v, b, after, at, st, pg) =
       let own : IsViewAt v (has_lifted n b) = subst (IsViewAt v) at.1 (sh.calls i v at.0) in (
         record m { home = update m.home n empty; progress = update m.progress i idle },
-        (v, b, has_view i v at.0, own.1, is_at i (has_lifted n b) at.1, refl),
-        give_shown t i n b v after at st pg,
+        (v, b, HasView-of_table i v at.0, own.1, progress-of_table i (has_lifted n b) at.1, refl),
+        ReadsAs-give t i n b v after at st pg,
       )
-  simulates r t (BoardEvent.load i) (v, after, at, st, pg) = (
+  Goal-event r t (BoardEvent.load i) (v, after, at, st, pg) = (
     m,
-    (v, has_view i v at.0, refl),
-    count_shown t i v after at st
+    (v, HasView-of_table i v at.0, refl),
+    ReadsAs-count t i v after at st
         pg,
   )
 
-view_of_one : (i : ℕ) (v : View) → get_elem? (first_view ∷ []) i ≡ some v → IsViewAt v idle
-view_of_one zero v e = subst (λ (y : View). IsViewAt y idle) (some-injective first_view v e) (refl, tt)
-view_of_one (suc i) v e = absurd (some-ne-none v (sym e))
+-- the view of the first bench may be that of a bench in no call
+IsViewAt-first : (i : ℕ) (v : View) → get_elem? (first_view ∷ []) i ≡ some v → IsViewAt v idle
+IsViewAt-first zero v e = subst (λ (y : View). IsViewAt y idle) (some-injective first_view v e) (refl, tt)
+IsViewAt-first (suc i) v e = absurd (some-ne-none v (sym e))
 
-long_of : {A : Type 0} (n : ℕ) (a : A) → length (replicate n a) ≡ n
-long_of zero a = refl
-long_of (suc n) a = ap suc (long_of n a)
+-- n copies are n
+length-replicate_any : {A : Type 0} (n : ℕ) (a : A) → length (replicate n a) ≡ n
+length-replicate_any zero a = refl
+length-replicate_any (suc n) a = ap suc (length-replicate_any n a)
 
-vacant_length : (n : ℕ) → length (map some (replicate n (let x : Option Block = None in x))) ≡ n
-vacant_length zero = refl
-vacant_length (suc n) = ap suc (vacant_length n)
+-- n empty slots are n
+length-vacant : (n : ℕ) → length (map some (replicate n (let x : Option Block = None in x))) ≡ n
+length-vacant zero = refl
+length-vacant (suc n) = ap suc (length-vacant n)
 
-vacant_at : (n i : ℕ) → i < n → get_elem? (map some (replicate n (let x : Option Block = None in x))) i
+-- each of n empty slots is in the table and empty
+get_elem-vacant : (n i : ℕ) → i < n → get_elem? (map some (replicate n (let x : Option Block = None in x))) i
     ≡ some (some None)
-vacant_at zero i l = absurd (omega arith)
-vacant_at (suc n) zero l = refl
-vacant_at (suc n) (suc i) l = vacant_at n i (omega arith)
+get_elem-vacant zero i l = absurd (omega arith)
+get_elem-vacant (suc n) zero l = refl
+get_elem-vacant (suc n) (suc i) l = get_elem-vacant n i (omega arith)
 
-pub begins : (total draws width : ℕ) → IsWideFor width total → IsWideFor width draws → ReadsAs total draws
+-- a new board corresponds to the machine's start
+pub ReadsAs-start : (total draws width : ℕ) → IsWideFor width total → IsWideFor width draws → ReadsAs total draws
     (opened width total) start
-begins total draws width a b = record {
-  slots = vacant_length total;
-  numbers_fit = subst (λ (y : ℕ). IsWideFor y total) (sym (long_of width 0)) a;
-  draws_fit = subst (λ (y : ℕ). IsWideFor y draws) (sym (long_of width 0)) b;
+ReadsAs-start total draws width a b = record {
+  slots = length-vacant total;
+  numbers_fit = subst (λ (y : ℕ). IsWideFor y total) (sym (length-replicate_any width 0)) a;
+  draws_fit = subst (λ (y : ℕ). IsWideFor y draws) (sym (length-replicate_any width 0)) b;
   drawn = λ d. sym (bit_of-zeros 3 width d);
   claimed = λ n. sym (bit_of-zeros 0 width n);
   filed = λ n. sym (bit_of-zeros 1 width n);
   taken = λ n. sym (bit_of-zeros 2 width n);
-  homes = λ n low. vacant_at total n low;
+  homes = λ n low. get_elem-vacant total n low;
   views = refl;
   progress = λ i. refl;
-  calls = view_of_one;
+  calls = IsViewAt-first;
   unmade = λ i far. refl;
 }
 
-pub simulates_run : (total draws : ℕ) (es : List BoardEvent) (s t : BoardState) (m : Core) → Invariant total m
+-- a run of a board is the machine's run of the same events
+pub RunsAs-run : (total draws : ℕ) (es : List BoardEvent) (s t : BoardState) (m : Core) → Invariant total m
     → ReadsAs total draws s m → IsBoardRun total draws s es t
     → (n : Core) × IsRun total draws m es n × ReadsAs total draws t n
-simulates_run total draws [] s t m r sh is = (m, refl, subst (λ (y : BoardState). ReadsAs total draws y m) (sym is) sh)
-simulates_run total draws (e ∷ es) s t m r sh (u, h, more) = let next = simulates total draws s m sh r u e h in
-    let later = simulates_run total draws es u t next.0 (Invariant-event total m r draws e next.0 next.1) next.2 more in
+RunsAs-run total draws [] s t m r sh is = (m, refl, subst (λ (y : BoardState). ReadsAs total draws y m) (sym is) sh)
+RunsAs-run total draws (e ∷ es) s t m r sh (u, h, more) = let next = Goal-event total draws s m sh r u e h in
+    let later = RunsAs-run total draws es u t next.0 (Invariant-event total m r draws e next.0 next.1) next.2 more in
     (later.0, (next.0, next.1, later.1), later.2)

@@ -1,3 +1,4 @@
+-- The loop over blocks: both benches are of the board.
 use Rattle.vme_board.specs.Benches.{IsOf}
 use Rattle.vme_board_tests.proofs.tests.deliver_in_turn.Given as goal
 

@@ -1,3 +1,4 @@
+-- The loop over numbers: the bench is one of the board's.
 use Rattle.vme_board.specs.Benches.{IsOf}
 use Rattle.vme_board_tests.proofs.thread_tests.deliver_range.Given as goal
 

@@ -1,3 +1,5 @@
+-- The loop that starts the threads, and the one that waits for them: the bench is one of the board's, and each thread's
+-- promise is about that board.
 use Rattle.std.proofs.Common.{◌≡◌, ℕ, ◌<◌, get_or, vec_items, vec_len}
 use Rattle.std.specs.Vec.Iter.{into_iter_items, into_iter_len}
 use Rattle.vme_board.specs.Benches.{IsOf}
