@@ -264,7 +264,7 @@ module _ (width id : ℕ) (v : View) (ws : List ℕ) (xs items : List (Option Bl
       (content-of_place n b low has) in
       subst (λ (y : Block). HasPair v.list n y) same pair.1)
 
-  -- a number is filed if its place has a block or it is taken, and only one of both is so
+  -- a number is filed exactly if its place has a block or it is taken, which is never both
   filled_at-plus_taken : (n : ℕ) → n < total → filled_at items n + T n ≡ F n
   filled_at-plus_taken n low = let o = r.stages.taken_is_filed n in let f = bit_of-at_most_one 1 ws n in
       dite (ℕ_discrete (F n) 0) (λ z. let e : filled_at items n ≡ 0 = ap filled_bit (place-no_block n low (inl z)) in

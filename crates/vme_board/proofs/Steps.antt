@@ -648,7 +648,7 @@ Allows-look_taken width slots id seat i g is near s h wide e fits = let ms : Lis
       ),
     )
 
--- the rule allows a load that changes nothing, and then the seat's list and takes are short enough
+-- the rule allows a load that changes nothing, and it satisfies `CountPost`
 pub Allows-count : (width slots id : ℕ) (seat : SeatState) → 0 < width → Allows (Holds width) slots id seat 0 (λ x. x)
     (CountPost (step slots 0 0 0 none) seat)
 Allows-count width slots id seat near s h wide e fits =

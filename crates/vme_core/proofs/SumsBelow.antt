@@ -11,7 +11,7 @@ pub sum_below-monotone : (f g : ℕ → ℕ) (limit : ℕ) → ((n : ℕ) → f 
 sum_below-monotone f g zero h = omega arith
 sum_below-monotone f g (suc n) h = omega (arith, sum_below-monotone f g n h, h n)
 
--- x occurs at no number below a limit up to x
+-- the numbers below a limit that is at most x occur 0 times in the list of x alone
 sum_below-past : (x limit : ℕ) → limit ≤ x → sum_below (λ n. occurrences n (x ∷ [])) limit ≡ 0
 sum_below-past x zero h = refl
 sum_below-past x (suc n) h = omega (
@@ -21,7 +21,7 @@ sum_below-past x (suc n) h = omega (
       (λ e. omega (arith, e)),
 )
 
--- x occurs once below a limit after x
+-- the numbers below a limit that is above x occur once, all together, in the list of x alone
 sum_below-one : (x limit : ℕ) → x < limit → sum_below (λ n. occurrences n (x ∷ [])) limit ≡ 1
 sum_below-one x zero h = absurd (omega arith)
 sum_below-one x (suc n) h = dite (ℕ_discrete x n)

@@ -53,7 +53,7 @@ module _ (p : ℕ → Bool) (first number count : ℕ) where
       both true e = e
       both false e = e
 
-  -- a number of which p doesn't hold is passed, and then the count is less than the length
+  -- a number of which p doesn't hold isn't counted, and the count stays below the length from then on
   pub AreCounted-one_passed : (next : ℕ) → next ≡ count → AreCounted p first number count → p number ≡ false
       → AreCounted p first
       (number + 1) next

@@ -1,5 +1,5 @@
--- The loop over draws: the bench is one of the board's, has won no draw, and sees at least what it saw; but for the
--- draws that it found won, nothing changes.
+-- The loop over draws: the bench is one of the board's, has won no further draw, and sees at least what it saw; but for
+-- the draws that it found won, nothing changes.
 use Rattle.std.proofs.Common.{◌-◌, ◌≡◌}
 use Rattle.vme_core.specs.Stages.{SeesMore}
 use Rattle.vme_board.specs.Benches.{IsOf, view_of}
