@@ -1,4 +1,4 @@
--- The bits of the rows, after one word was or-ed with a mask of one bit.
+-- After a word was or-ed with the mask of one bit, this bit is 1 and no other bit of any row has changed.
 use Rattle.std.proofs.Common.{◌≡◌, ℕ, zero, suc, ◌+◌, ◌*◌, ◌/◌, ◌%◌, ◌<◌, ◌≤◌, ◌≢◌, List, length, get_or, set, sym}
 use Rattle.std.proofs.Common.{refl, ap, ◌∙◌, subst, arith, bit_or, w64, get_or-set_other, get_or-set_same, replicate}
 use mathlib.Core.Logic.{dite}

@@ -1,4 +1,5 @@
--- The contents of a closed board, by the invariant of its last state.
+-- Which places of a closed board have a block, and how many: by the invariant of its last state, and by what the bench
+-- that closes it has filed and taken.
 use Rattle.std.proofs.Common.{◌≡◌, ℕ, zero, suc, ◌+◌, ◌*◌, ◌/◌, ◌%◌, ◌<◌, ◌≤◌, ◌==◌, ◌⊎◌, cond, Bool, true, false, List}
 use Rattle.std.proofs.Common.{[], ◌∷◌, ◌++◌, length, length-append, get_or, slice_get, sym, refl, ap, ◌∙◌, subst, arith}
 use Rattle.std.proofs.Common.{inl, inr, Option, Some, None}

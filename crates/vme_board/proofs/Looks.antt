@@ -1,4 +1,4 @@
--- What a load of a word shows of one number.
+-- What a load of a word shows of one number: whether the bench sees it claimed, filed or taken after it.
 use Rattle.std.proofs.Common.{◌≡◌, ℕ, ◌+◌, ◌*◌, ◌/◌, ◌%◌, ◌<◌, ◌≢◌, List, ◌++◌, ◌∙◌, Bool, true, false, sym, refl, ap}
 use Rattle.std.proofs.Common.{arith, subst, le_refl}
 use mathlib.Core.Logic.{dite}

@@ -1,4 +1,4 @@
--- Each event keeps the invariant.
+-- The invariant holds at the start, and each event keeps it, so each run does.
 use Rattle.std.proofs.Common.{◌≡◌, ℕ, zero, suc, ◌+◌, ◌*◌, ◌<◌, ◌≤◌, ◌≢◌, List, [], ◌∷◌, ◌++◌, set, sym, refl, ap, ◌∙◌}
 use Rattle.std.proofs.Common.{arith, subst, Option, Some, None}
 use mathlib.Core.Option.{some}

@@ -1,4 +1,4 @@
--- The numbers whose bit is 1 (`set_bits`).
+-- A number is among those of `set_bits` exactly if its bit is 1.
 use Rattle.std.proofs.Common.{◌≡◌, ◌==◌, ℕ, zero, suc, ◌+◌, ◌*◌, ◌<◌, Bool, true, false, cond, ◌∷◌, sym, refl, ap, ◌∙◌}
 use Rattle.std.proofs.Common.{subst, arith}
 use Rattle.std.proofs.lemmas.Bool.Decides.{nat_tests}

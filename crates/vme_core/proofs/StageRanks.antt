@@ -1,4 +1,5 @@
--- The rank of a stage, by its bits.
+-- The rank of a stage is the sum of its bits; a bench has seen a number at the latest stage at which it was seen, which
+-- never gets earlier.
 use Rattle.std.proofs.Common.{◌≡◌, ℕ, zero, suc, ◌+◌, ◌<◌, ◌≤◌, ◌⊎◌, ⊎_elim, inl, inr, max, refl, arith}
 use Rattle.std.proofs.Math.Nat.{le-max_left, le-max_right, max-le}
 use Rattle.vme_core.specs.Views.{joint_view}

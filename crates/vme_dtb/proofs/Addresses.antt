@@ -1,4 +1,5 @@
--- The address by its lines below a number, with one address line more.
+-- With one address line more, the address by its lines grows by the power of 2 of that line if it is high, and else
+-- stays.
 use Rattle.std.proofs.Common.{◌≡◌, ℕ, suc, ◌+◌, ◌*◌, ◌%◌, ◌^◌, ◌<◌, ◌≤◌, Bool, true, false, refl, sym, ◌∙◌, ap, arith}
 use Rattle.std.proofs.Common.{add-one}
 use Rattle.std.specs.Prelude.{nat_le}

@@ -1,4 +1,4 @@
--- Whether a strobe has risen since an answer line fell.
+-- Whether a strobe has risen since an answer line fell, from one instant to the next.
 use Rattle.std.proofs.Common.{◌≡◌, ℕ, suc, ◌+◌, ◌≤◌, Bool, true, false, ◌&&◌, ◌||◌, not, refl, ◌∙◌, ap, arith, add-one}
 use Rattle.std.proofs.Common.{Option, Some, None, cond}
 use Rattle.std.specs.Prelude.{unwrap_or}

@@ -1,4 +1,5 @@
--- The lines on which U2 and U3 are broken: those that are unknown when they have to be known.
+-- The least line on which U2 or U3 is broken is the least one that is unknown where it has to be known, by the levels
+-- before and after the step.
 use Rattle.std.proofs.Common.{◌≡◌, ℕ, suc, ◌<◌, ◌≤◌, Bool, true, false, ◌&&◌, not, refl, ◌∙◌, ap, arith, cond, lit<}
 use Rattle.std.proofs.Common.{lit≤}
 use Rattle.std.specs.Prelude.{None, Some, ◌==◌}

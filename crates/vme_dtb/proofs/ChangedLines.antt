@@ -1,4 +1,5 @@
--- A line has an edge at a step only if it is among the step's changes.
+-- A line has another level after a step exactly if it is among the step's changes, so a least line with an edge is a
+-- first changed line.
 use Rattle.std.proofs.Common.{◌≡◌, ℕ, ◌+◌, ◌<◌, Bool, true, false, ◌||◌, not, List, [], ◌∷◌, refl, sym, ◌∙◌, ap}
 use Rattle.std.proofs.Common.{arith, length, cond, subst}
 use Rattle.std.specs.Prelude.{Some, ◌==◌, nat_le, slice_set}

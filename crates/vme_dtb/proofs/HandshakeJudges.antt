@@ -1,4 +1,5 @@
--- The first broken rule of the handshake, and the marks, over one stretch and over whole recordings.
+-- The machine of the handshake finds the first broken rule and shows what the definitions say, over each stretch and so
+-- over whole recordings.
 use Rattle.std.proofs.Common.{◌≡◌, ℕ, suc, ◌+◌, ◌<◌, ◌≤◌, Bool, true, false, ◌&&◌, not, refl, sym, ◌∙◌, ap, arith}
 use Rattle.std.proofs.Common.{Option, Some, None, cond}
 use Rattle.std.specs.Prelude.{option_map, is_some, slice_get, nat_lt}

@@ -1,4 +1,5 @@
--- The rule S1: a line that a cycle needs changes before the first answer of the cycle.
+-- The least line that breaks S1, i.e. that a cycle needs and that changes before the first answer of the cycle, is that
+-- of the machine's fault.
 use Rattle.std.proofs.Common.{◌≡◌, ℕ, zero, suc, ◌+◌, ◌<◌, ◌≤◌, Bool, true, false, ◌&&◌, not, List, refl, sym, ◌∙◌, ap}
 use Rattle.std.proofs.Common.{arith, cond, inl, inr, ◌⊎◌, length, lit<, subst}
 use Rattle.std.specs.Prelude.{Option, None, Some, slice_get, unwrap_or, option_map}

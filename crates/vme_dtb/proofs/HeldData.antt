@@ -1,4 +1,5 @@
--- The rules U4 and S3: a data line of a write is unknown as a strobe falls, or changes while it is held.
+-- The least line that breaks U4 or S3, i.e. a data line of a write that is unknown as a strobe falls, or changes while
+-- it is held, is that of the machine's fault.
 use Rattle.std.proofs.Common.{◌≡◌, ℕ, suc, ◌+◌, ◌-◌, ◌<◌, ◌≤◌, Bool, true, false, ◌||◌, ◌&&◌, not, refl, sym, ◌∙◌, ap}
 use Rattle.std.proofs.Common.{arith, cond, inl, inr, ◌⊎◌}
 use Rattle.std.specs.Prelude.{Option, None, Some, List, nat_le, nat_lt}

@@ -1,4 +1,5 @@
--- The rule S2: WRITE* changes in a transfer before a strobe rises.
+-- The line that breaks S2, i.e. WRITE* where it changes in a transfer before a strobe rises, is that of the machine's
+-- fault.
 use Rattle.std.proofs.Common.{◌≡◌, ℕ, suc, ◌+◌, ◌<◌, ◌≤◌, Bool, true, false, ◌&&◌, refl, sym, ◌∙◌, arith}
 use Rattle.std.specs.Prelude.{◌==◌, List}
 use Rattle.std.proofs.lemmas.Bool.Decides.{nat_tests}

@@ -1,4 +1,4 @@
--- The lines that a cycle needs.
+-- Which lines a cycle needs: they are among those from IACK* to A31, and levels that agree on them need the same ones.
 use Rattle.std.proofs.Common.{◌≡◌, ℕ, ◌+◌, ◌<◌, ◌≤◌, Bool, true, false, ◌||◌, ◌&&◌, not, refl, ◌∙◌, ap, arith, lit≤}
 use Rattle.std.specs.Prelude.{◌==◌, nat_le, if◌then◌else◌}
 use Rattle.std.proofs.lemmas.Bool.Decides.{nat_tests}

@@ -1,4 +1,4 @@
--- Changes of lines that no transfer moves.
+-- In the search for the first shifted line, changes of lines other than data lines can be left out.
 use Rattle.std.proofs.Common.{◌≡◌, ℕ, ◌+◌, ◌<◌, ◌≤◌, false, List, ◌∷◌, length, get_or, drop, refl, ap, sym}
 use Rattle.std.proofs.Common.{◌∙◌, arith}
 use Rattle.std.proofs.lemmas.List.{drop_more}

@@ -1,4 +1,5 @@
--- What the phase of the transfer says of the transfer in which instant n + 1 is.
+-- The phase of the transfer at instant n says whether n + 1 is in a transfer that started before, without an answer or
+-- with one, or in one that is answered twice.
 use Rattle.std.proofs.Common.{◌≡◌, ℕ, suc, ◌+◌, ◌<◌, ◌≤◌, Bool, true, false, ◌||◌, ◌&&◌, not, refl, sym, ◌∙◌, ap, arith}
 use Rattle.std.proofs.Common.{inl, inr, ◌⊎◌, add-one}
 use Rattle.std.specs.Prelude.{nat_lt}

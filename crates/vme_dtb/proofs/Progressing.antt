@@ -1,4 +1,5 @@
--- What has happened in a transfer, by the tests on it.
+-- The state of a transfer, i.e. what has happened in it, and its phase say the same of answers and of writes, from one
+-- step to the next.
 use Rattle.std.proofs.Common.{◌≡◌, Bool, true, false, ◌||◌, ◌&&◌, not, refl, sym, ◌∙◌, cond}
 use Rattle.std.specs.Prelude.{Option, None, Some, ℕ}
 use Rattle.vme_trace.proofs.Ranges.{clash}

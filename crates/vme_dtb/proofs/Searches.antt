@@ -1,4 +1,4 @@
--- Searches of a range that gets longer by one number at its end.
+-- What a search of a range finds once the range is longer by one number at its end.
 use Rattle.std.proofs.Common.{◌≡◌, ℕ, zero, suc, ◌<◌, ◌≤◌, Bool, true, false, ◌&&◌, [], ◌∷◌, ◌++◌, refl, arith}
 use Rattle.std.proofs.Common.{Option, Some, cond, inl, inr, ◌⊎◌}
 use Rattle.std.specs.Prelude.{nat_le}

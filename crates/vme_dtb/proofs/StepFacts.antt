@@ -1,4 +1,5 @@
--- The edges of a step, and the line on which a rule is broken there.
+-- What the definitions say of instant n + 1 is what the levels before and after the step show, and the least line that
+-- breaks a rule on some lines is the first of them that has the edge.
 use Rattle.std.proofs.Common.{◌≡◌, ℕ, suc, ◌<◌, ◌≤◌, Bool, true, false, ◌&&◌, ◌||◌, not, refl, ◌∙◌, ap, arith, Option}
 use Rattle.std.proofs.Common.{Some, None, cond, lit<}
 use Rattle.std.specs.Prelude.{option_map, is_some, ◌==◌}

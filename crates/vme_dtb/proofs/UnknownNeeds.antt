@@ -1,4 +1,4 @@
--- The search for an unknown line that a cycle needs.
+-- The search for the least unknown line that a cycle needs: what is known after each line, and at its end.
 use Rattle.std.proofs.Common.{◌≡◌, ℕ, ◌+◌, ◌<◌, ◌≤◌, Bool, true, false, ◌&&◌, not, refl, ◌∙◌, arith, inl, inr, ◌⊎◌}
 use Rattle.std.specs.Prelude.{None, Some, nat_le}
 use Rattle.std.proofs.Math.Bool.{and-false}

@@ -1,4 +1,4 @@
--- Changes of lines that no cycle needs.
+-- In the search for the first needed line, changes of lines below 5, which no cycle needs, can be left out.
 use Rattle.std.proofs.Common.{◌≡◌, ℕ, zero, suc, ◌+◌, ◌<◌, Bool, true, false, ◌&&◌, ◌||◌, List, ◌∷◌, length, get_or}
 use Rattle.std.proofs.Common.{drop, refl, ap, sym, ◌∙◌, arith}
 use Rattle.std.proofs.lemmas.List.{drop_more}

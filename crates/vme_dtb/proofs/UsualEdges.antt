@@ -1,4 +1,4 @@
--- The edges of the usual kinds of steps.
+-- The edges of the usual kinds of steps: DTACK* alone falls or rises, AS* alone falls, or the strobes move.
 use Rattle.std.proofs.Common.{◌≡◌, ℕ, Bool, true, false, ◌&&◌, ◌||◌, not, refl, ◌∙◌, ap, Option, Some, None, cond}
 use Rattle.std.proofs.lemmas.Bool.{not_from_true}
 use Rattle.std.proofs.Math.Bool.{and-not_self}

@@ -1,4 +1,5 @@
--- What the usual kinds of steps give.
+-- What the machine of the handshake gives for the usual kinds of steps: DTACK* alone falls or rises, AS* alone falls,
+-- or the strobes move.
 use Rattle.std.proofs.Common.{◌≡◌, ℕ, Bool, true, false, ◌&&◌, ◌||◌, not, refl, sym, ◌∙◌, ap, Option, Some, None, cond}
 use Rattle.std.specs.Prelude.{is_some, option_map}
 use Rattle.std.specs.Option.{option_or}

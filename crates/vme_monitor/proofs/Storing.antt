@@ -1,4 +1,5 @@
--- How many marks (events of the bus with their instants) the lists of a table have.
+-- How many marks (events of the bus with their instants) a table stores: after a shift or a merge as many as before,
+-- and after two tables are put together as many as both.
 use Rattle.std.proofs.Common.{◌≡◌, ℕ, ◌+◌, List, [], ◌∷◌, ◌++◌, length, map, refl, ap, ◌∙◌, arith}
 use Rattle.std.specs.Prelude.{min}
 use Rattle.std.specs.List.{sum_by}

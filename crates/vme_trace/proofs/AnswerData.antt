@@ -1,4 +1,4 @@
--- The instant whose levels give the data of an answer.
+-- The data of an answer are those of the instant before it, or of its own instant if its transfer starts there.
 use Rattle.std.proofs.Common.{◌≡◌, ℕ, ◌+◌, ◌-◌, ◌<◌, ◌≤◌, Bool, true, false, ◌&&◌, ◌||◌, refl, ◌∙◌, ap, arith, inl}
 use Rattle.std.proofs.Common.{inr, ◌⊎◌}
 use Rattle.std.proofs.lemmas.Bool.{and_parts, not-true}

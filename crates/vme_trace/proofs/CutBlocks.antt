@@ -1,4 +1,5 @@
--- The levels that steps leave, and the blocks of a cut.
+-- The blocks of a cut, joined, are the steps of the recording, and each block begins with the levels that the steps
+-- before it leave.
 use Rattle.std.proofs.Common.{◌≡◌, ℕ, zero, suc, ◌+◌, ◌-◌, ◌*◌, ◌/◌, ◌%◌, ◌<◌, ◌≤◌, List, [], ◌∷◌, ◌++◌, refl, sym, ◌∙◌}
 use Rattle.std.proofs.Common.{ap, arith, inl, inr, ◌⊎◌, length, take, drop, map, min, max}
 use Rattle.std.specs.Prelude.{None, Some, slice_get}

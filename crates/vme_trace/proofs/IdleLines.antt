@@ -1,4 +1,4 @@
--- An idle bus, by the ranges of lines that a backplane has.
+-- A bus is idle just if each range of lines that its backplane has is idle (`idle_by_ranges`).
 use Rattle.std.proofs.Common.{◌≡◌, ℕ, ◌+◌, ◌*◌, ◌<◌, ◌≤◌, Bool, true, false, ◌&&◌, not, refl, ◌∙◌, arith, cond}
 use Rattle.std.specs.Prelude.{◌-◌}
 use Rattle.std.proofs.lemmas.Bool.Decides.{nat_tests}

@@ -1,4 +1,4 @@
--- Lines and rules differ in their names.
+-- Lines and rules differ in their names, so that each is found by its name.
 use Rattle.std.proofs.Common.{◌≡◌, ℕ, ◌<◌, ◌≤◌, Bool, true, false, not, List, [], ◌∷◌, map, refl, sym, ◌∙◌, ap, arith}
 use Rattle.std.proofs.Common.{inl, inr, ◌⊎◌, get_or, cond}
 use Rattle.std.specs.Prelude.{Option, None, Some, IfSome, ◌==◌, bytes_eq, decimal, find, nat_lt}
