@@ -7,13 +7,13 @@ use Rattle.vme_trace.specs.declared.level.Level.{Level}
 use Rattle.vme_trace.specs.declared.level.Level.TheVariants.{Low, High, Unknown}
 
 -- two levels have the same variant exactly if they are the same
-pub sameb-same_level : (a b : Level) → sameb the_type a b ≡ same_level a b
-sameb-same_level Low Low = refl
-sameb-same_level Low High = refl
-sameb-same_level Low Unknown = refl
-sameb-same_level High Low = refl
-sameb-same_level High High = refl
-sameb-same_level High Unknown = refl
-sameb-same_level Unknown Low = refl
-sameb-same_level Unknown High = refl
-sameb-same_level Unknown Unknown = refl
+pub sameb_is_same_level : (a b : Level) → sameb the_type a b ≡ same_level a b
+sameb_is_same_level Low Low = refl
+sameb_is_same_level Low High = refl
+sameb_is_same_level Low Unknown = refl
+sameb_is_same_level High Low = refl
+sameb_is_same_level High High = refl
+sameb_is_same_level High Unknown = refl
+sameb_is_same_level Unknown Low = refl
+sameb_is_same_level Unknown High = refl
+sameb_is_same_level Unknown Unknown = refl

@@ -5,10 +5,10 @@ use Rattle.vme_dtb.specs.declared.holding.TransferState.{TransferState}
 use Rattle.vme_dtb.specs.declared.holding.TransferState.TheVariants.{Fresh, RisenInRead, RisenInWrite, Answered, Over}
 
 -- a state to which nothing is added is the state
-pub passed-unchanged : (m : TransferState) (low : Bool) → passed (was_answered m || false) (has_risen m || false)
+pub passed_unchanged : (m : TransferState) (low : Bool) → passed (was_answered m || false) (has_risen m || false)
     (writes_of m low) ≡ m
-passed-unchanged Fresh low = refl
-passed-unchanged RisenInRead low = refl
-passed-unchanged RisenInWrite low = refl
-passed-unchanged Answered low = refl
-passed-unchanged Over low = refl
+passed_unchanged Fresh low = refl
+passed_unchanged RisenInRead low = refl
+passed_unchanged RisenInWrite low = refl
+passed_unchanged Answered low = refl
+passed_unchanged Over low = refl

@@ -105,9 +105,9 @@ unanswered-one_answer Closed h = absurd (cc)
 unanswered-one_answer Answered h = absurd (cc)
 
 -- a phase that is closed if h is the same when it is closed if h again
-pub cond-Closed_twice : (h : Bool) (p : TransferPhase) → cond h Closed (cond h Closed p) ≡ cond h Closed p
-cond-Closed_twice true p = refl
-cond-Closed_twice false p = refl
+pub cond_closed_twice : (h : Bool) (p : TransferPhase) → cond h Closed (cond h Closed p) ≡ cond h Closed p
+cond_closed_twice true p = refl
+cond_closed_twice false p = refl
 
 module _ (m : HandshakeMemory) (v w : Levels) where
   -- the phase of the transfer in which the step ends, before an answer counts

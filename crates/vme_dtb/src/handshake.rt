@@ -196,7 +196,7 @@ impl HandshakeMemory {
     /// The result of a step with any edges. Few steps get here.
     #[cold]
     #[inline(never)]
-    #[tactic(auto, using(crate::proofs::UsualNexts::cond-Closed_twice))]
+    #[tactic(auto, using(crate::proofs::UsualNexts::cond_closed_twice))]
     fn at_edges(self, before: &Lines, after: &Lines) -> Next<HandshakeMemory>
         ensures { result ≡ dtb_next self before.now after.now (edges_between before.now after.now) }
     {

@@ -58,7 +58,7 @@ impl Holding {
 
     /// What has happened in the transfer up to the end of a step: mostly no more than before.
     #[inline(always)]
-    #[tactic(auto, using(crate::proofs::UnchangedTransferState::passed-unchanged))]
+    #[tactic(auto, using(crate::proofs::UnchangedTransferState::passed_unchanged))]
     fn passed(self, before: &Lines, after: &Lines) -> TransferState
         ensures { result ≡ passed_in self before.now after.now }
     {

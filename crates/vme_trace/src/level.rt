@@ -37,7 +37,7 @@ impl Level {
     }
 
     /// Whether the two levels are the same. Their variants are compared, in one comparison.
-    #[tactic(auto, using(crate::proofs::SameLevel::sameb-same_level))]
+    #[tactic(auto, using(crate::proofs::SameLevel::sameb_is_same_level))]
     pub fn is_same(self, other: Level) -> bool
         ensures { result ≡ same_level self other }
     {
