@@ -3,7 +3,7 @@ use Rattle.std.proofs.Common.{◌≡◌, ◌≤◌, ℕ, List, [], ◌∷◌, �
 use Rattle.std.proofs.Common.{sym, ap, subst, ◌∙◌, append_assoc, append-nil, refl, take}
 use Rattle.std.proofs.Common.{◌+◌, ◌<◌, drop, get_or, take-append-drop}
 use Rattle.std.proofs.lemmas.List.{take_more}
-use Rattle.vme_summary.proofs.Sound.{sound_apart}
+use Rattle.vme_summary.proofs.Sound.{SoundParts-of_well_formed}
 use Rattle.std.proofs.lemmas.Grind.{flat_map-append}
 use Rattle.vme_trace.specs.Followed.{with_steps}
 use Rattle.vme_trace.specs.Streams.{Writing}
@@ -141,7 +141,7 @@ front-formed t steps n formed =
     let split : t.steps ++ steps ≡ (t.steps ++ take n steps) ++ drop n steps =
     ap (λ (x : List Step). t.steps ++ x) (sym (take-append-drop n steps))
     ∙ sym (append_assoc t.steps (take n steps) (drop n steps)) in
-    (sound_apart t.opening (t.steps ++ take n steps) (drop n steps)
+    (SoundParts-of_well_formed t.opening (t.steps ++ take n steps) (drop n steps)
     (subst (λ (x : List Step). malformed_step (record { opening = t.opening; steps = x }) ≡ None) split formed)).first
 
 -- one more step was given

@@ -35,7 +35,7 @@ use Rattle.vme_monitor.proofs.StretchLists.{judged_stretches-started, started_st
 use Rattle.vme_dtb.specs.Machine.{dtb_begin}
 use Rattle.vme_dtb.specs.declared.memory.HandshakeMemory.{HandshakeMemory}
 use Rattle.vme_summary.specs.Runs.{handshake_run, known_run}
-use Rattle.vme_summary.proofs.Sound.{sound_apart}
+use Rattle.vme_summary.proofs.Sound.{SoundParts-of_well_formed}
 use Rattle.vme_audit.specs.AskedRules.{asking_end, asks, asks_in, happens}
 use Rattle.vme_audit.specs.Parts.{Part, named_break, own_break, part_after, parts_from}
 use Rattle.vme_auditor.specs.Audited.{AuditReached, events_by, with_step, with_stretch}
@@ -394,7 +394,8 @@ module _ (finds : FindsFirst) (starts : KnowsStart) where
         let front = take b.instant x in
         let both : malformed_step (recorded o (front ++ drop b.instant x)) ≡ None =
         subst (λ (y : List Step). malformed_step (recorded o y) ≡ None) (sym (take-append-drop b.instant x)) ok in
-        let sound : malformed_step (recorded o front) ≡ None = (sound_apart o front (drop b.instant x) both).first in
+        let sound : malformed_step (recorded o front) ≡ None =
+        (SoundParts-of_well_formed o front (drop b.instant x) both).first in
         let judged : has_any_stretch (judged_stretches (recorded o front)) ≡ true =
         has_any_stretch-broken (recorded o front) b
         (finds (recorded o front) sound few ∙ first_break_from-cut x (memories_at o) o b e) in

@@ -11,7 +11,7 @@ use Rattle.vme_trace.specs.declared.verdict.Break.{Break}
 use Rattle.vme_monitor.specs.StepRuns.{seen_in}
 use Rattle.vme_monitor.specs.declared.view.StepView.{StepView}
 use Rattle.vme_audit.specs.Parts.{breaks}
-use Rattle.vme_summary.proofs.Sound.{sound_apart}
+use Rattle.vme_summary.proofs.Sound.{SoundParts-of_well_formed}
 use Rattle.vme_auditor.specs.Audited.{AuditReached, HasAudited, begun_at, reached_after, reached_at, stepped, with_step}
 use Rattle.vme_auditor.specs.Memories.{fault_at}
 use Rattle.vme_auditor.specs.declared.audit.Audit.{Audit}
@@ -110,7 +110,7 @@ module _ (o : Levels) (x : List Step) (s : Step) (n : ℕ) (v : StepView) (a : A
       ∙ ap (λ (r : AuditReached). r.returned) reached-next
       ∙ ap (λ (bs : List Break). bs ++ option_to_list (fault_at r.audit.memories r.levels (changed r.levels s.changes)
       s.changes (r.instant + 1) s.time))
-      (sym (breaks-returned finds (recorded o x) (sound_apart o x (s ∷ []) ok).first few))
+      (sym (breaks-returned finds (recorded o x) (SoundParts-of_well_formed o x (s ∷ []) ok).first few))
       ∙ ap (λ (e : Option Break). breaks (recorded o x) ++ option_to_list e)
       (sym (e ∙ fault_at-equal a r.audit u.before r.levels u.after (changed r.levels s.changes) cs s.changes later
       (r.instant + 1) k.audit_is levels-before levels-after own instant-next))

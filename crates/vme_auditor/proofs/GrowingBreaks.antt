@@ -15,7 +15,7 @@ use Rattle.vme_trace.specs.declared.verdict.Break.{Break}
 use Rattle.vme_monitor.specs.Run.{break_of_fault}
 use Rattle.vme_monitor.specs.declared.mark.Fault.{Fault}
 use Rattle.vme_audit.specs.Parts.{breaks}
-use Rattle.vme_summary.proofs.Sound.{sound_apart}
+use Rattle.vme_summary.proofs.Sound.{SoundParts-of_well_formed}
 use Rattle.vme_auditor.specs.Audited.{AuditReached, reached_after, reached_at, with_step}
 use Rattle.vme_auditor.specs.Growth.{StepBreaks}
 use Rattle.vme_auditor.specs.Memories.{first_fault_of}
@@ -92,5 +92,5 @@ module _ (finds : FindsFirst) where
             breaks-returned finds (with_steps t (s ∷ [])) ok few
             ∙ ap (λ (r : AuditReached). r.returned) more
             ∙ ap (λ (bs : List Break). bs ++ option_to_list (option_map (break_of_fault (r.instant + 1) s.time) fault))
-            (sym (breaks-returned finds t (sound_apart t.opening t.steps (s ∷ []) ok).first few));
+            (sym (breaks-returned finds t (SoundParts-of_well_formed t.opening t.steps (s ∷ []) ok).first few));
       }

@@ -18,7 +18,7 @@ use Rattle.vme_monitor.specs.declared.mark.Fault.{Fault}
 use Rattle.vme_audit.specs.Parts.{breaks, breaks_of, moved_by, named_break, own_break, part_after, parts}
 use Rattle.vme_audit.specs.Parts.{parts_from}
 use Rattle.vme_audit.specs.Parts.{rest_after}
-use Rattle.vme_summary.proofs.Sound.{sound_apart}
+use Rattle.vme_summary.proofs.Sound.{SoundParts-of_well_formed}
 use Rattle.vme_auditor.specs.Audited.{AuditReached, reached_after, reached_at, with_step}
 use Rattle.vme_auditor.specs.FirstBreak.{first_break_from}
 use Rattle.vme_auditor.specs.Memories.{fault_at, first_fault_of, memories_at, memories_next}
@@ -135,7 +135,7 @@ well_formed-rest_after t j ok =
     let whole : malformed_step (recorded t.opening (take j t.steps ++ drop j t.steps)) ≡ None =
     subst (λ (x : List Step). malformed_step (recorded t.opening x) ≡ None) (sym (take-append-drop j t.steps)) ok in
     subst (λ (v : Levels). malformed_step (recorded v (drop j t.steps)) ≡ None) (sym (levels_at-taken t j))
-    (sound_apart t.opening (take j t.steps) (drop j t.steps) whole).second
+    (SoundParts-of_well_formed t.opening (take j t.steps) (drop j t.steps) whole).second
 
 -- the monitors find the break that a verdict names
 abbrev pub FindsFirst : Type 0

@@ -21,7 +21,7 @@ use Rattle.vme_summary.specs.Progressed.{HasCome}
 use Rattle.vme_summary.specs.Stands.{SpanStandsFor, first_number}
 use Rattle.vme_summary.specs.declared.running_verdict.RunningVerdict.{RunningVerdict}
 use Rattle.vme_summary.specs.declared.span.Span.{Span}
-use Rattle.vme_summary.proofs.Chains.{not_empty, steps-append}
+use Rattle.vme_summary.proofs.Chains.{nil-without_neighbours, joined_steps-append}
 use Rattle.vme_summary.proofs.Progressing.{come_join, span_first}
 use Rattle.vme_book.specs.BookState.{AreAtOwnNumbers, AreJoinedTo, HaveSpans, IsBlockNumbered, IsEnd, IsJudgedPrefix}
 use Rattle.vme_book.specs.BookState.{IsStateAfter, Keeps, StandsForSome}
@@ -200,7 +200,7 @@ steps_fit inserted bs b m n placed e f p q =
     let more = one_more inserted bs b e f in
     let few = placed.few in
     let k = few_steps inserted (bs ++ b ∷ []) placed more (omega (arith, length-append bs (b ∷ []))) in
-    let whole = ap length (steps-append bs (b ∷ [])) ∙ length-append (joined_steps bs) (joined_steps (b ∷ [])) in
+    let whole = ap length (joined_steps-append bs (b ∷ [])) ∙ length-append (joined_steps bs) (joined_steps (b ∷ [])) in
     omega (arith, k, whole, p, q)
 
 -- the blocks from n + 1 on still have their spans where the span at n is replaced
@@ -296,7 +296,7 @@ keeps_nothing places start total some few blocks spans count span =
           there = refl;
           join = record {
             follow = λ before after a b e. absurd
-                (not_empty before after a b e);
+                (nil-without_neighbours before after a b e);
           };
         };
         count = refl;

@@ -14,7 +14,7 @@ use Rattle.vme_trace.specs.Levels.{Levels}
 use Rattle.vme_trace.specs.Trace.{Trace, changed}
 use Rattle.vme_trace.specs.WellFormed.{malformed_step}
 use Rattle.vme_trace.specs.declared.step.Step.{Step}
-use Rattle.vme_summary.proofs.Sound.{MayStand, sound_apart, sound_stands}
+use Rattle.vme_summary.proofs.Sound.{MayComeAfter, SoundParts-of_well_formed, MayComeAfter-of_well_formed}
 use Rattle.vme_skew.specs.Settled.{settled, settled_until}
 use Rattle.vme_skew.specs.Settling.{IsSettledSoFar, Settling, taken}
 use Rattle.vme_dump_input.specs.SettledReadings.{settled_so_far, settled_whole}
@@ -114,7 +114,7 @@ settled_to-reached first now later steps out outs time made is next grown =
 -- ---- steps in order
 
 -- steps that may follow one another are in order
-are_in_order-after : (reached now : ℕ) (v : Levels) (steps : List Step) → reached ≤ now → MayStand v (Some now) steps
+are_in_order-after : (reached now : ℕ) (v : Levels) (steps : List Step) → reached ≤ now → MayComeAfter v (Some now) steps
     → are_in_order reached steps ≡ true
 unfolding are_in_order
 are_in_order-after reached now v [] le m = refl
@@ -127,7 +127,7 @@ are_in_order-after reached now v (x ∷ xs) le m =
 
 -- steps that may follow one another, none earlier than the time that is reached, are in order
 are_in_order-first : (reached : ℕ) (v : Levels) (steps : List Step) → All (λ (step : Step). reached ≤ step.time) steps
-    → MayStand v None steps → are_in_order reached steps ≡ true
+    → MayComeAfter v None steps → are_in_order reached steps ≡ true
 unfolding are_in_order
 are_in_order-first reached v [] late m = refl
 are_in_order-first reached v (x ∷ xs) late m =
@@ -167,7 +167,8 @@ module _ (skew : ℕ) (s : Settling) (given t : Trace) (from : ℕ) (h : IsSettl
       (are_in_order-first s.reached _ steps
       (All-weaker (λ (step : Step). from ≤ step.time) (λ (step : Step). s.reached ≤ step.time)
       (λ step late. omega (arith, late, h.known)) steps go.follows)
-      (sound_stands _ steps (sound_apart given.opening given.steps steps go.formed).second))
+      (MayComeAfter-of_well_formed _ steps
+      (SoundParts-of_well_formed given.opening given.steps steps go.formed).second))
 
   -- what came out has the opening of the recording that was given
   opening-IsSettledTo : t.opening ≡ given.opening

@@ -22,7 +22,7 @@ use Rattle.vme_chains.specs.GrantMemory.{arbitration_place}
 use Rattle.vme_chains.specs.AcknowledgeRules.{acknowledge_memory_place}
 use Rattle.vme_summary.specs.Joins.{block_of, first_time, last_time}
 use Rattle.vme_summary.specs.Runs.{known_run, handshake_run, stability_run, grant_run, acknowledge_run}
-use Rattle.vme_summary.proofs.Sound.{sound_apart}
+use Rattle.vme_summary.proofs.Sound.{SoundParts-of_well_formed}
 use Rattle.vme_summary.proofs.Times.{first_time-append, last_time-append}
 use Rattle.vme_part_format.specs.Tables.{PartValue, SegmentValue, TableValue, segment_value}
 use Rattle.vme_part_format.specs.declared.segment.Segment.{Segment}
@@ -191,7 +191,7 @@ pub behind-sound : (o v : Levels) (x y : List Step) → v ≡ levels_after o x
     → malformed_step (record { opening = v; steps = y }) ≡ None
 behind-sound o v x y is sound =
     subst (λ (w : Levels). malformed_step (record { opening = w; steps = y }) ≡ None) (sym is)
-    (sound_apart o x y sound).second
+    (SoundParts-of_well_formed o x y sound).second
 
 -- ---- a dump's recording with more steps
 

@@ -13,8 +13,8 @@ use Rattle.vme_trace.specs.Trace.{Trace, levels_after}
 use Rattle.vme_trace.specs.WellFormed.{malformed_step}
 use Rattle.vme_trace.specs.declared.block.Block.{Block}
 use Rattle.vme_trace.proofs.CutBlocks.{levels_at-taken}
-use Rattle.vme_summary.proofs.Cuts.{cut_whole, parts_join}
-use Rattle.vme_summary.proofs.Sound.{sound_apart}
+use Rattle.vme_summary.proofs.Cuts.{joined_trace-blocks_of, BlocksJoin-blocks_from}
+use Rattle.vme_summary.proofs.Sound.{SoundParts-of_well_formed}
 use Rattle.vme_floor.specs.Answering.{first_refusal, malformed_refusal}
 use Rattle.vme_floor.specs.Cuts.{IsCutOf}
 use Rattle.vme_floor.specs.declared.answer.Answer.TheVariants as answer
@@ -54,11 +54,11 @@ module _ (t : Trace) (size : ℕ) where
     well_formed-block : (k : ℕ) → malformed_step (trace_of (block_at size t k)) ≡ None
     well_formed-block k =
         let m : ℕ = k * size in
-        let parts = sound_apart t.opening (take m t.steps) (drop m t.steps)
+        let parts = SoundParts-of_well_formed t.opening (take m t.steps) (drop m t.steps)
         (subst (λ xs. malformed_step (record { opening = t.opening; steps = xs }) ≡ None)
         (sym (take-append-drop m t.steps)) sound) in
         let left : Levels = levels_after t.opening (take m t.steps) in
-        let here = sound_apart left (take size (drop m t.steps)) (drop size (drop m t.steps))
+        let here = SoundParts-of_well_formed left (take size (drop m t.steps)) (drop size (drop m t.steps))
         (subst (λ xs. malformed_step (record { opening = left; steps = xs }) ≡ None)
         (sym (take-append-drop size (drop m t.steps))) parts.second) in
         subst (λ (v : Levels). malformed_step (record { opening = v; steps = take size (drop m t.steps) }) ≡ None)
@@ -88,6 +88,6 @@ module _ (t : Trace) (size : ℕ) where
       accepted =
           λ n b at. let there = slice_get-blocks n b at in subst (λ (x : Block). first_refusal (block_count size t) x
           ≡ None) (sym there.1) (first_refusal-block n there.0);
-      joins = parts_join t size sound 0 0 0 (block_count size t) refl;
-      joined = cut_whole t size some;
+      joins = BlocksJoin-blocks_from t size sound 0 0 0 (block_count size t) refl;
+      joined = joined_trace-blocks_of t size some;
     }

@@ -13,7 +13,7 @@ use Rattle.vme_bind.specs.Capture.{limited}
 use Rattle.vme_bind.specs.declared.fault.BindFaultKind.TheVariants.{TooManySteps}
 use Rattle.vme_file_part.specs.Growing.{FileMayGoOn}
 use Rattle.vme_file_part.specs.declared.file_so_far.FileSoFar.{FileSoFar}
-use Rattle.vme_summary.proofs.Sound.{sound_apart}
+use Rattle.vme_summary.proofs.Sound.{SoundParts-of_well_formed}
 use Rattle.vme_part_command.specs.FileChecks.{FileComesTo, IsFoundSoFar, IsPending, MayBeJudged}
 
 module _ (number : ℕ) (listing : Bool) (start : Option ℕ) (file : Option FileSoFar) (pending : List Step) where
@@ -74,7 +74,7 @@ module _ (number : ℕ) (listing : Bool) (start : Option ℕ) (file : Option Fil
       -- the first n pending steps may be judged
       pub some-may : MayBeJudged t → FileMayGoOn p.judged (take n pending)
       some-may may = record {
-        formed = (sound_apart p.judged.opening (p.judged.steps ++ take n pending) (drop n pending)
+        formed = (SoundParts-of_well_formed p.judged.opening (p.judged.steps ++ take n pending) (drop n pending)
             (ap malformed_step whole ∙ may.formed)).first;
         few = omega (
           arith,

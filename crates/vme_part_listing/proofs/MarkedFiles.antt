@@ -20,9 +20,9 @@ use Rattle.vme_summary.specs.Extents.{joined_extent}
 use Rattle.vme_summary.specs.Joins.{BlocksJoin, joined_trace}
 use Rattle.vme_summary.specs.Summaries.{first_break_of}
 use Rattle.vme_summary.specs.declared.extent.Extent.{Extent}
-use Rattle.vme_summary.proofs.Chains.{steps-append}
-use Rattle.vme_summary.proofs.Extents.{join_meets, left_by_steps}
-use Rattle.vme_summary.proofs.Whole.{joined_sound}
+use Rattle.vme_summary.proofs.Chains.{joined_steps-append}
+use Rattle.vme_summary.proofs.Extents.{Meets-from_join, levels_after-extent}
+use Rattle.vme_summary.proofs.Whole.{joined_trace-well_formed}
 use Rattle.vme_part_format.specs.Tables.{PartValue, SegmentValue, last_of, segment_value}
 use Rattle.vme_part_format.specs.declared.segment.Segment.{Segment}
 use Rattle.vme_part_format.specs.declared.wide.WideBreak.{WideBreak}
@@ -166,17 +166,17 @@ module _ (j : JudgedSegments) (w : Ways) (s : SegmentValue) (xs : List Segment) 
             let ys = files_of files t in
             let f = c.1.extent in
             let both = judged true f bs ys c.1.judged p (to.0 ∙ sym c.1.last) in
-            let meets = join_meets f (extent_of t) bs ys c.1.judged.extent p.extent both.extent.join in
+            let meets = Meets-from_join f (extent_of t) bs ys c.1.judged.extent p.extent both.extent.join in
             let opens : t.opening ≡ levels_after s.opening (joined_steps bs) =
             meets.opened
-            ∙ (sym (left_by_steps f bs c.1.judged.extent)
+            ∙ (sym (levels_after-extent f bs c.1.judged.extent)
             ∙ ap (λ (v : Levels). levels_after v (joined_steps bs)) (sym c.1.opened)) in
             let fits : length (joined_steps bs) + length (joined_steps ys) < 2 ^ 64 =
             omega (
               arith,
               small,
               both.counted,
-              ap (λ (z : List Step). length z) (steps-append bs ys),
+              ap (λ (z : List Step). length z) (joined_steps-append bs ys),
               length-append (joined_steps bs) (joined_steps ys),
             ) in
             let own = past s.opening t.opening (joined_steps bs) (joined_steps ys) opens c.1.judged.counted fits c.3
@@ -185,7 +185,7 @@ module _ (j : JudgedSegments) (w : Ways) (s : SegmentValue) (xs : List Segment) 
               come_on j r s.opening t true files n to.0 p judged c.1,
               to.1,
               subst (λ (z : List Block). HasMarks v s.opening (joined_steps z)) (files_more files n t to.0)
-                  (subst (HasMarks v s.opening) (sym (steps-append bs ys)) own),
+                  (subst (HasMarks v s.opening) (sym (joined_steps-append bs ys)) own),
             );
       }
 
@@ -213,7 +213,7 @@ marks_whole j w s xs i h law was files end are stand next t is few =
     let steps : joined_steps bs ≡ t.steps = steps_of_recording bs t is in
     let marks : HasMarks w s.opening (joined_steps bs)
     = subst (λ n. HasMarks w s.opening (joined_steps (take n files))) at c.3 in (
-      law t (joined_sound bs t judged.extent.join judged.extent.sound is) few
+      law t (joined_trace-well_formed bs t judged.extent.join judged.extent.sound is) few
           (subst (λ (v : Levels). HasMarks w v t.steps) opens (subst (HasMarks w s.opening) steps marks)),
       opens,
     )

@@ -22,8 +22,8 @@ use Rattle.vme_chains.specs.AcknowledgeRules.{acknowledge_memory_place}
 use Rattle.vme_summary.specs.Extents.{IsExtent}
 use Rattle.vme_summary.specs.Joins.{first_time, last_time}
 use Rattle.vme_summary.specs.Runs.{known_run, handshake_run, stability_run, grant_run, acknowledge_run}
-use Rattle.vme_summary.proofs.Extents.{one_joins, one_sound}
-use Rattle.vme_summary.proofs.Times.{last_or-got}
+use Rattle.vme_summary.proofs.Extents.{BlocksJoin-one, AreSound-one}
+use Rattle.vme_summary.proofs.Times.{last_or-slice_get}
 use Rattle.vme_part_format.specs.Tables.{SegmentValue, last_of, segment_value}
 use Rattle.vme_part_format.specs.declared.segment.Segment.{Segment}
 use Rattle.vme_part_format.specs.declared.segment.SegmentTimes.{SegmentTimes}
@@ -33,7 +33,7 @@ use Rattle.vme_parts.specs.Stands.{SegmentStandsFor, extent_of, first_with_step}
 
 -- the time of the step with the last index is the last time
 pub last_time_is : (xs : List Step) (x : Step) → slice_get xs (length xs - 1) ≡ Some x → Some x.time ≡ last_time xs
-last_time_is xs x e = ap (option_map (λ (s : Step). s.time)) (sym e ∙ sym (last_or-got xs))
+last_time_is xs x e = ap (option_map (λ (s : Step). s.time)) (sym e ∙ sym (last_or-slice_get xs))
 
 pub no_last_time : (xs : List Step) → slice_get xs 0 ≡ None → None ≡ last_time xs
 no_last_time [] e = refl
@@ -81,8 +81,8 @@ module _ (listing : Bool) (s : SegmentValue) (b : Block) (accepted : malformed_s
   one_extent =
       let last : last_of s.first s.order ≡ b.number = rw order (omega (arith, first)) in
       record {
-        join = one_joins b;
-        sound = one_sound b accepted;
+        join = BlocksJoin-one b;
+        sound = AreSound-one b accepted;
         first = ap Some (sym first);
         last = ap Some (sym last);
         opening = ap Some (sym opening);

@@ -4,7 +4,7 @@ use Rattle.vme_trace.specs.Levels.{Levels}
 use Rattle.vme_trace.specs.Trace.{changed}
 use Rattle.vme_trace.specs.WellFormed.{malformed_step}
 use Rattle.vme_trace.specs.declared.step.Step.{Step}
-use Rattle.vme_summary.proofs.Sound.{sound_apart}
+use Rattle.vme_summary.proofs.Sound.{SoundParts-of_well_formed}
 use Rattle.vme_parts.specs.Opened.{opening_of, opens, steps_of}
 
 pub opened_sound : (number : ℕ) (time : Option ℕ) (o : Levels) (x : List Step)
@@ -18,7 +18,7 @@ opened_sound number time o (s ∷ x) sound = by_case (opens number time s)
           opening = if b then changed o s.changes else o;
           steps = if b then x else s ∷ x;
         }) ≡ None
-    by_case true = (sound_apart o (s ∷ []) x sound).second
+    by_case true = (SoundParts-of_well_formed o (s ∷ []) x sound).second
     by_case false = sound
 
 pub opened_few : (number : ℕ) (time : Option ℕ) (x : List Step) → length (steps_of number time x) ≤ length x

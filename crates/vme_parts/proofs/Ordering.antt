@@ -12,7 +12,7 @@ use Rattle.std.proofs.lemmas.List.{drop-map, get_or-map, length-map, take_all}
 use Rattle.std.proofs.lemmas.List.Elements.{All-contains, All-drop, All-map, All-same, All-tail}
 use Rattle.std.proofs.lemmas.List.Sorted.{IsNonDecreasingBy-drop}
 use Rattle.std.proofs.lemmas.Option.{get_or_from_slice_get, slice_get-map, slice_get_within}
-use Rattle.vme_summary.proofs.Times.{last_or-append, last_or-got}
+use Rattle.vme_summary.proofs.Times.{last_or-append, last_or-slice_get}
 use Rattle.vme_part_format.specs.Tables.{SegmentValue, last_of, segment_value}
 use Rattle.vme_part_format.specs.declared.segment.Segment.{Segment}
 use Rattle.vme_parts.specs.Gathering.{Ascend, BeginsInLast, Gathered, IsSegment, Precedes, order_key}
@@ -41,14 +41,14 @@ precedes_itself s = inr (refl, omega arith)
 pub last_there : (xs : List Segment) (x : Segment) → slice_get xs (length xs - 1) ≡ Some x
     → last_or None (map segment_value xs) ≡ Some (segment_value x)
 last_there xs x e =
-    last_or-got (map segment_value xs)
+    last_or-slice_get (map segment_value xs)
     ∙ (ap (λ n. slice_get (map segment_value xs) (n - 1)) (length-map xs segment_value)
     ∙ (slice_get-map segment_value xs (length xs - 1) ∙ ap (option_map segment_value) e))
 
 -- if there is no item with the last index, there is no last segment
 pub none_there : (xs : List Segment) → slice_get xs (length xs - 1) ≡ None → last_or None (map segment_value xs) ≡ None
 none_there xs e =
-    last_or-got (map segment_value xs)
+    last_or-slice_get (map segment_value xs)
     ∙ (ap (λ n. slice_get (map segment_value xs) (n - 1)) (length-map xs segment_value)
     ∙ (slice_get-map segment_value xs (length xs - 1) ∙ ap (option_map segment_value) e))
 
@@ -57,7 +57,7 @@ last_pushed ss s = last_or-append None ss (s ∷ [])
 
 pub last_contained : (ss : List SegmentValue) (s : SegmentValue) → last_or None ss ≡ Some s → Contains ss s
 last_contained ss s e =
-    let at : slice_get ss (length ss - 1) ≡ Some s = sym (last_or-got ss) ∙ e in
+    let at : slice_get ss (length ss - 1) ≡ Some s = sym (last_or-slice_get ss) ∙ e in
     (length ss - 1, slice_get_within ss (length ss - 1) s at, get_or_from_slice_get ss (length ss - 1) s s at)
 
 pub last_is_segment : (xs : List Segment) (x : Segment) → slice_get xs (length xs - 1) ≡ Some x

@@ -9,7 +9,7 @@ use Rattle.vme_trace.specs.WellFormed.{malformed_step}
 use Rattle.vme_trace.specs.declared.step.Step.{Step}
 use Rattle.vme_monitor.specs.Outcome.{Outcome, composed_outcome, nothing_shown}
 use Rattle.vme_monitor.specs.Runs.{levels_after-append}
-use Rattle.vme_summary.proofs.Sound.{sound_apart}
+use Rattle.vme_summary.proofs.Sound.{SoundParts-of_well_formed}
 use Rattle.vme_part_format.specs.Tables.{TableValue}
 use Rattle.vme_part_tables.specs.Marked.{AreNeeded, if_needed, is_needed}
 use Rattle.vme_part_tables.specs.Runs.{AgreesWithRuns, IsComposition}
@@ -35,16 +35,16 @@ pub piece_sound : (o : Levels) (xs : List Step) (n k : ℕ)
 piece_sound o xs n k e =
     let whole = subst (λ (l : List Step). malformed_step (record { opening = o; steps = l }) ≡ None)
     (sym (take-append-drop n xs)) e in
-    let behind = (sound_apart o (take n xs) (drop n xs) whole).second in
+    let behind = (SoundParts-of_well_formed o (take n xs) (drop n xs) whole).second in
     let again =
     subst (λ (l : List Step). malformed_step (record { opening = levels_after o (take n xs); steps = l }) ≡ None)
     (sym (take-append-drop k (drop n xs))) behind in
-    (sound_apart (levels_after o (take n xs)) (take k (drop n xs)) (drop k (drop n xs)) again).first
+    (SoundParts-of_well_formed (levels_after o (take n xs)) (take k (drop n xs)) (drop k (drop n xs)) again).first
 
 -- the empty list of steps is well-formed
 pub none_sound : (o : Levels) (xs : List Step) → malformed_step (record { opening = o; steps = xs }) ≡ None
     → malformed_step (record { opening = o; steps = [] }) ≡ None
-none_sound o xs e = (sound_apart o [] xs e).first
+none_sound o xs e = (SoundParts-of_well_formed o [] xs e).first
 
 -- without steps there are no marks, so it doesn't matter which are needed
 pub none_needed : {P : Type 0} (place : P → ℕ) (count : ℕ) (t : TableValue) (needs : List Bool) (run : P → Outcome P)

@@ -11,8 +11,8 @@ use Rattle.vme_trace.specs.declared.step.Step.{Step}
 use Rattle.vme_summary.specs.Extents.{Meets, joined_extent}
 use Rattle.vme_summary.specs.Joins.{is_later_time}
 use Rattle.vme_summary.specs.declared.extent.Extent.{Extent}
-use Rattle.vme_summary.proofs.Chains.{steps-append}
-use Rattle.vme_summary.proofs.Extents.{extent_joined, left_by_steps}
+use Rattle.vme_summary.proofs.Chains.{joined_steps-append}
+use Rattle.vme_summary.proofs.Extents.{IsExtent-joined, levels_after-extent}
 use Rattle.vme_part_format.specs.Tables.{SegmentValue}
 use Rattle.vme_parts.specs.Joined.{joined_times}
 use Rattle.vme_parts.specs.Meeting.{FilesGoOn, ends_at, starts_at}
@@ -66,8 +66,8 @@ module _ (j : JudgedSegments) (s : SegmentValue) (goes_on : FilesGoOn j.left j.t
   pub too_many : (listing : Bool) (ys : List Block) → SegmentStandsFor listing s ys → 2 ^ 64 ≤ j.steps + s.steps
       → HaveTooManySteps (bs ++ ys)
   too_many listing ys p many = (
-    (extent_joined e (extent_of s) bs ys was.extent p.extent segment_meets).join,
-    rw (steps-append bs ys, length-append, ← was.counted, ← p.counted) many,
+    (IsExtent-joined e (extent_of s) bs ys was.extent p.extent segment_meets).join,
+    rw (joined_steps-append bs ys, length-append, ← was.counted, ← p.counted) many,
   )
 
 module _ (j r : JudgedSegments) (s : SegmentValue) (goes_on : FilesGoOn j.left j.times s.opening s.times) (left : r.left
@@ -80,18 +80,18 @@ module _ (j r : JudgedSegments) (s : SegmentValue) (goes_on : FilesGoOn j.left j
   past_segment listing e bs ys was p n =
       let meets = segment_meets j s goes_on e bs was n in
       let opens : s.opening ≡ levels_after e.opening (joined_steps bs)
-      = goes_on.opened ∙ (was.left ∙ sym (left_by_steps e bs was.extent)) in
+      = goes_on.opened ∙ (was.left ∙ sym (levels_after-extent e bs was.extent)) in
       let fits : length (joined_steps bs) + length (joined_steps ys) < 2 ^ 64
       = omega (arith, small, steps, was.counted, p.counted) in
       record {
-        extent = extent_joined e (extent_of s) bs ys was.extent p.extent meets;
+        extent = IsExtent-joined e (extent_of s) bs ys was.extent p.extent meets;
         left = left;
         starts =
             ap starts_at times
             ∙ (starts_of_both j.times s.times ∙ ap (λ (t : Option ℕ). option_or t (starts_at s.times)) was.starts);
         ends = ap ends_at times ∙ (ends_of_both j.times s.times ∙ ap (option_or (ends_at s.times)) was.ends);
-        counted = rw (steps-append bs ys, length-append, ← was.counted, ← p.counted) steps;
-        found = rw (steps-append bs ys)
+        counted = rw (joined_steps-append bs ys, length-append, ← was.counted, ← p.counted) steps;
+        found = rw (joined_steps-append bs ys)
             (past listing e.opening s.opening (joined_steps bs) (joined_steps ys) opens was.counted fits was.found
             (tells_all listing s ys p));
       }

@@ -17,8 +17,8 @@ use Rattle.vme_chains.specs.AcknowledgeRules.{acknowledge_memory_place}
 use Rattle.vme_summary.specs.Extents.{IsExtent, joined_extent}
 use Rattle.vme_summary.specs.Runs.{known_run, handshake_run, stability_run, grant_run, acknowledge_run}
 use Rattle.vme_summary.specs.declared.extent.Extent.{Extent}
-use Rattle.vme_summary.proofs.Chains.{steps-append}
-use Rattle.vme_summary.proofs.Extents.{extent_joined, left_by_steps}
+use Rattle.vme_summary.proofs.Chains.{joined_steps-append}
+use Rattle.vme_summary.proofs.Extents.{IsExtent-joined, levels_after-extent}
 use Rattle.vme_part_format.specs.Tables.{SegmentValue, last_of}
 use Rattle.vme_part_format.specs.declared.segment.SegmentTimes.{SegmentTimes}
 use Rattle.vme_parts.specs.Joined.{IsOfBoth, joined_times}
@@ -82,10 +82,10 @@ module _ (s t r : SegmentValue) (b : IsOfBoth s t r) where
   module _ (listing : Bool) (x y : List Block) (p : SegmentStandsFor listing s x) (q : SegmentStandsFor listing t y)
     where
       steps_of_both : joined_steps (x ++ y) ≡ joined_steps x ++ joined_steps y
-      steps_of_both = steps-append x y
+      steps_of_both = joined_steps-append x y
 
       opens : t.opening ≡ levels_after s.opening (joined_steps x)
-      opens = b.meets.opened ∙ sym (left_by_steps (extent_of s) x p.extent)
+      opens = b.meets.opened ∙ sym (levels_after-extent (extent_of s) x p.extent)
 
       fits : length (joined_steps x) + length (joined_steps y) < 2 ^ 64
       fits = omega (arith, b.counts, b.steps, p.counted, q.counted)
@@ -94,7 +94,7 @@ module _ (s t r : SegmentValue) (b : IsOfBoth s t r) where
       segment_stands_for_both =
           record {
             extent = subst (λ (e : Extent). IsExtent e (x ++ y)) (sym extent_of_both)
-                (extent_joined (extent_of s) (extent_of t) x y p.extent q.extent b.meets);
+                (IsExtent-joined (extent_of s) (extent_of t) x y p.extent q.extent b.meets);
             as_many =
                 length-append x y
                 ∙ omega (

@@ -13,10 +13,11 @@ use Rattle.vme_trace.proofs.ListLaws.{option_or-none}
 use Rattle.vme_summary.specs.Extents.{IsExtent}
 use Rattle.vme_summary.specs.Joins.{BlocksJoin, first_time, is_later_time, last_time, left_by}
 use Rattle.vme_summary.specs.declared.extent.Extent.{Extent}
-use Rattle.vme_summary.proofs.Chains.{GoOn, apart, chain_joins, chain_of, last_left, last_number, left_after}
-use Rattle.vme_summary.proofs.Chains.{number_after, steps-append, timed, united}
-use Rattle.vme_summary.proofs.Extents.{join_meets, one_joins, one_sound}
-use Rattle.vme_summary.proofs.Times.{last_time-append, later_none}
+use Rattle.vme_summary.proofs.Chains.{GoOn, GoOn-split, BlocksJoin-from_GoOn, GoOn-of_joined, left_after-last}
+use Rattle.vme_summary.proofs.Chains.{number_after-last, left_after}
+use Rattle.vme_summary.proofs.Chains.{number_after, joined_steps-append, GoOn-after_time, GoOn-append}
+use Rattle.vme_summary.proofs.Extents.{Meets-from_join, BlocksJoin-one, AreSound-one}
+use Rattle.vme_summary.proofs.Times.{last_time-append, is_later_time-none}
 use Rattle.vme_part_format.specs.Tables.{SegmentValue}
 use Rattle.vme_part_format.specs.declared.segment.SegmentTimes.{SegmentTimes}
 use Rattle.vme_parts.specs.Meeting.{IsEarlyFile, IsTornAt, ends_at, starts_at}
@@ -39,8 +40,8 @@ extent_alone b =
 alone : (b : Block) → malformed_step (trace_of b) ≡ None → IsExtent (extent_alone b) (b ∷ [])
 alone b sound =
     record {
-      join = one_joins b;
-      sound = one_sound b sound;
+      join = BlocksJoin-one b;
+      sound = AreSound-one b sound;
       first = refl;
       last = refl;
       opening = refl;
@@ -113,7 +114,7 @@ module _ (j : JudgedSegments) (s : SegmentValue) (listing : Bool) (e : Extent) (
         numbered = first ∙ sym at;
         before = subst BlocksJoin (sym (append-nil bs)) was.extent.join;
         there = λ joined.
-            let meets = join_meets e (extent_alone z) bs (z ∷ []) was.extent (alone z sound)
+            let meets = Meets-from_join e (extent_alone z) bs (z ∷ []) was.extent (alone z sound)
             (subst (λ (xs : List Block). BlocksJoin (xs ++ z ∷ [])) (append-nil bs) joined) in
             other (sym same ∙ (meets.opened ∙ sym was.left));
       }
@@ -124,18 +125,18 @@ module _ (j : JudgedSegments) (s : SegmentValue) (listing : Bool) (e : Extent) (
     -- the files before `one` join: `front` has no step that could be early
     still_joins : GoOn (number_after a.number rest) (left_after (left_by a) rest) None ys → BlocksJoin (bs ++ front)
     still_joins g =
-        let own = apart front (one ∷ back) (number_after a.number rest) (left_after (left_by a) rest) None
+        let own = GoOn-split front (one ∷ back) (number_after a.number rest) (left_after (left_by a) rest) None
         (subst (GoOn (number_after a.number rest) (left_after (left_by a) rest) None) parts g) in
         let t = option_or (last_time (joined_steps rest)) (last_time a.steps) in
-        let later : is_later_time t (first_time (joined_steps front)) ≡ true = rw still (later_none t) in
+        let later : is_later_time t (first_time (joined_steps front)) ≡ true = rw still (is_later_time-none t) in
         let j = subst BlocksJoin first was.extent.join in
         rw first
-        (chain_joins a (rest ++ front)
-        (united rest front a.number (left_by a) (last_time a.steps) (chain_of a rest j)
-        (timed front (number_after a.number rest) (left_after (left_by a) rest) t own.0 later)))
+        (BlocksJoin-from_GoOn a (rest ++ front)
+        (GoOn-append rest front a.number (left_by a) (last_time a.steps) (GoOn-of_joined a rest j)
+        (GoOn-after_time front (number_after a.number rest) (left_after (left_by a) rest) t own.0 later)))
 
     steps_before : joined_steps (rest ++ front) ≡ joined_steps rest
-    steps_before = steps-append rest front ∙ (ap (λ (x : List Step). joined_steps rest ++ x) still
+    steps_before = joined_steps-append rest front ∙ (ap (λ (x : List Step). joined_steps rest ++ x) still
         ∙ append-nil (joined_steps rest))
 
     time_before : option_or (last_time (joined_steps (rest ++ front))) (last_time a.steps) ≡ e.ends
@@ -149,8 +150,8 @@ module _ (j : JudgedSegments) (s : SegmentValue) (listing : Bool) (e : Extent) (
     early_torn last start ends starts early joined =
         let j : BlocksJoin (((a ∷ rest) ++ front) ++ one ∷ [])
         = subst (λ (x : List Block). BlocksJoin ((x ++ front) ++ one ∷ [])) first joined in
-        let g = apart (rest ++ front) (one ∷ []) a.number (left_by a) (last_time a.steps)
-        (chain_of a ((rest ++ front) ++ one ∷ []) j) in
+        let g = GoOn-split (rest ++ front) (one ∷ []) a.number (left_by a) (last_time a.steps)
+        (GoOn-of_joined a ((rest ++ front) ++ one ∷ []) j) in
         let t = option_or (last_time (joined_steps (rest ++ front))) (last_time a.steps) in
         let later : is_later_time (Some last) (Some start) ≡ true =
         subst (λ (u : Option ℕ). is_later_time u (Some start) ≡ true) (time_before ∙ ends)
@@ -162,8 +163,8 @@ module _ (j : JudgedSegments) (s : SegmentValue) (listing : Bool) (e : Extent) (
   goes_from a rest first same [] q = tt
   goes_from a rest first same (z ∷ zs) q =
       let was' : IsExtent e (a ∷ rest) = subst (IsExtent e) first was.extent in
-      let number : Some (number_after a.number rest) ≡ Some e.last = sym (last_number a rest) ∙ was'.last in
-      let left : Some (left_after (left_by a) rest) ≡ Some e.left = sym (last_left a rest) ∙ was'.left in
+      let number : Some (number_after a.number rest) ≡ Some e.last = sym (number_after-last a rest) ∙ was'.last in
+      let left : Some (left_after (left_by a) rest) ≡ Some e.left = sym (left_after-last a rest) ∙ was'.left in
       let own : Some z.number ≡ Some s.first = q.first in
       let opens : Some z.opening ≡ Some s.opening = q.opening in
       let last : number_after a.number rest ≡ e.last = cc in
@@ -173,7 +174,8 @@ module _ (j : JudgedSegments) (s : SegmentValue) (listing : Bool) (e : Extent) (
         begins ∙ (n ∙ ap (λ i. i + 1) (sym last)),
         opening ∙ (same ∙ (was.left ∙ sym lines)),
         refl,
-        subst (λ t. GoOn z.number (left_by z) t zs) (sym (option_or-none (last_time z.steps))) (chain_of z zs q.join),
+        subst (λ t. GoOn z.number (left_by z) t zs) (sym (option_or-none (last_time z.steps)))
+            (GoOn-of_joined z zs q.join),
       )
 
   torn_early : (a : Block) (rest : List Block) → bs ≡ a ∷ rest → s.opening ≡ j.left → IsEarlyFile j.times s.times k

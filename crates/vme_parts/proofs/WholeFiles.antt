@@ -13,7 +13,7 @@ use Rattle.vme_trace.proofs.ListLaws.{slice_get-here}
 use Rattle.vme_summary.specs.Extents.{joined_extent}
 use Rattle.vme_summary.specs.Joins.{BlocksJoin, joined_trace}
 use Rattle.vme_summary.specs.declared.extent.Extent.{Extent}
-use Rattle.vme_summary.proofs.Whole.{joined_sound}
+use Rattle.vme_summary.proofs.Whole.{joined_trace-well_formed}
 use Rattle.vme_part_format.specs.Tables.{SegmentValue, last_of}
 use Rattle.vme_parts.specs.Files.{AreFiles, files_of}
 use Rattle.vme_parts.specs.Progress.{FoundAll, HasJudgedFiles, HasStates, IsTornIn}
@@ -31,7 +31,7 @@ found_all j e (b ∷ bs) t was few is =
     let whole : record { opening = b.opening; steps = joined_steps (b ∷ bs) } ≡ t = cc in
     let here : FoundAll j.states (record { opening = b.opening; steps = joined_steps (b ∷ bs) }) =
     record {
-      sound = joined_sound (b ∷ bs) (record { opening = b.opening; steps = joined_steps (b ∷ bs) })
+      sound = joined_trace-well_formed (b ∷ bs) (record { opening = b.opening; steps = joined_steps (b ∷ bs) })
           was.extent.join was.extent.sound refl;
       few = subst (λ (v : Levels). v.slots ≤ 21) same few;
       found = subst (λ (v : Levels). HasStates j.states v (joined_steps (b ∷ bs))) same was.found;

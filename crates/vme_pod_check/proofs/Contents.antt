@@ -9,7 +9,7 @@ use Rattle.vme_trace.specs.WellFormed.{malformed_step}
 use Rattle.vme_trace.specs.Trace.{Trace}
 use Rattle.vme_trace.specs.declared.block.Block.{Block}
 use Rattle.vme_summary.specs.Joins.{BlocksJoin, joined_trace}
-use Rattle.vme_summary.proofs.Cuts.{cut_filled, cut_whole, parts_join}
+use Rattle.vme_summary.proofs.Cuts.{blocks_of-not_empty, joined_trace-blocks_of, BlocksJoin-blocks_from}
 use Rattle.vme_trace.specs.Verdict.{verdict_by, rules_in_force}
 use Rattle.vme_trace.specs.declared.verdict.Verdict.{Verdict}
 use Rattle.vme_floor.specs.Claims.{IsContent, IsFault, IsRecorded}
@@ -39,7 +39,7 @@ content_is blocks deliveries answers content total count of c = list-equal conte
     ap (λ (k : ℕ). slice_get blocks k) (sym (c.numbered n b at)) ∙ own)
 
 pub cut_joins : (t : Trace) (size : ℕ) → malformed_step t ≡ None → BlocksJoin (blocks_of size t)
-cut_joins t size sound = parts_join t size sound 0 0 0 (block_count size t) refl
+cut_joins t size sound = BlocksJoin-blocks_from t size sound 0 0 0 (block_count size t) refl
 
 numbered : (t : Trace) (size : ℕ) (k : ℕ) (d : Block) → k < block_count size t → get_or (blocks_of size t) k d
     ≡ block_at size t k
@@ -130,7 +130,7 @@ few_of n h = grind arith
 pub cut_count : (t : Trace) (size : ℕ) (blocks : List Block) → blocks ≡ blocks_of size t → block_count size t ≤ 4096
     → (1 ≤ length blocks) × (length blocks ≤ 4096)
 cut_count t size blocks is few =
-    let full : 0 < length (blocks_of size t) = cut_filled t size in
+    let full : 0 < length (blocks_of size t) = blocks_of-not_empty t size in
     let long : length (blocks_of size t) ≡ block_count size t = length-map-range_with_len (block_at size t) 0
     (block_count size t) in
     let same : length blocks ≡ length (blocks_of size t) = ap length is in
@@ -139,4 +139,4 @@ cut_count t size blocks is few =
 -- the recording of a cut is the one that is cut
 pub cut_recording : (t : Trace) (size : ℕ) (blocks : List Block) → blocks ≡ blocks_of size t → 0 < size
     → joined_trace blocks ≡ Some t
-cut_recording t size blocks is some = ap joined_trace is ∙ cut_whole t size some
+cut_recording t size blocks is some = ap joined_trace is ∙ joined_trace-blocks_of t size some

@@ -18,7 +18,7 @@ use Rattle.vme_trace.specs.declared.verdict.Break.{Break}
 use Rattle.vme_audit.specs.Allowances.{cut_at, faults, is_fault, stopped_at}
 use Rattle.vme_audit.specs.Parts.{breaks, cut_after}
 use Rattle.vme_audit.specs.declared.allowance.Allowance.{Allowance}
-use Rattle.vme_summary.proofs.Sound.{sound_apart}
+use Rattle.vme_summary.proofs.Sound.{SoundParts-of_well_formed}
 use Rattle.vme_auditor.specs.Growth.{StepBreaks}
 use Rattle.vme_step_auditor.specs.ReadBy.{BreaksGoOn, is_stopped, read_by}
 
@@ -62,7 +62,7 @@ with_steps-nothing t = ap (λ (x : List Step). record { opening = t.opening; ste
 -- a recording is well formed if it is with further steps
 pub well_formed-front : (t : Trace) (steps : List Step) → malformed_step (with_steps t steps) ≡ None → malformed_step t
     ≡ None
-well_formed-front t steps ok = (sound_apart t.opening t.steps steps ok).first
+well_formed-front t steps ok = (SoundParts-of_well_formed t.opening t.steps steps ok).first
 
 -- the breaks of a recording with further steps
 pub record GoesOn (t : Trace) (steps : List Step) : Type 0 where

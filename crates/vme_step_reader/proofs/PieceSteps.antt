@@ -22,7 +22,7 @@ use Rattle.vme_bind.specs.TextPieces.{TextReached}
 use Rattle.vme_bind.specs.TextReading.{StopsAs, TextReading, following, reading_ahead, reading_made}
 use Rattle.vme_bind.specs.TextReading.{reading_until_fault}
 use Rattle.vme_bind.proofs.TextReadingLemmas.{reached_before-no_tokens}
-use Rattle.vme_summary.proofs.Sound.{sound_apart}
+use Rattle.vme_summary.proofs.Sound.{SoundParts-of_well_formed}
 use Rattle.vme_step_reader.specs.StepReading.{StepReading, whole_reading}
 
 -- the recording `t` that was made before is only a prefix of the reading, and changes nothing else of it
@@ -185,7 +185,7 @@ malformed_step-given is_front r rest formed =
     let more : TextReading =
     reading_ahead (with_recording (record { opening = r.given.opening; steps = [] }) r.speculative) ts
     [] in
-    (sound_apart r.given.opening r.given.steps more.recorded.steps
+    (SoundParts-of_well_formed r.given.opening r.given.steps more.recorded.steps
     (sym (ap (λ (x : TextReading). malformed_step x.recorded) (is_front r.speculative r.given r.given.opening ts []))
     ∙ formed)).first
 

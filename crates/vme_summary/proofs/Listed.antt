@@ -20,7 +20,7 @@ use Rattle.vme_summary.specs.declared.monitor_states.MonitorStates.{MonitorState
 use Rattle.vme_summary.specs.declared.span.Span.{Span}
 use Rattle.vme_summary.specs.declared.summary.MonitorSummaries.{MonitorSummaries}
 use Rattle.vme_summary.proofs.MarkedListing.{marked_is_listed}
-use Rattle.vme_summary.proofs.Whole.{FindsFrom, found_all, span_of_all}
+use Rattle.vme_summary.proofs.Whole.{FindsFrom, HasFoundAll-of_FindsFrom, StandsForAll-of_span}
 
 listing_at : (t : Trace) (judged : Bool) (first_break : Option Break) (opening : Levels) (marks : List Mark) → judged
     ≡ has_any_stretch (judged_stretches t) → first_break ≡ first_break_of t → opening ≡ t.opening → marks ≡ all_marks t
@@ -39,7 +39,7 @@ pub listing_found : (s : MonitorSummaries) (o : Levels) (t : Trace) → StandsFo
     → (marks : List Mark) → ((t : Trace) → StandsForAll s o t → marks ≡ all_marks t) → listing_of t ≡ in_newest_version
     (listed o judged first_break marks)
 listing_found s o t all f finds judged started first_break first marks seen =
-    let found = found_all s o f t finds all in
+    let found = HasFoundAll-of_FindsFrom s o f t finds all in
     ap in_newest_version (listing_at t judged first_break o marks (started t found) (first t found) all.opens
     (seen t all))
 
@@ -56,11 +56,11 @@ module _ (s : Span) (few : s.extent.opening.slots ≤ 21) (listing : Listed) whe
   listing_joined is [] stands = let none : None ≡ Some s.extent.first = stands.extent.first in absurd (cc)
   listing_joined is (b ∷ bs) stands =
       let t : Trace = record { opening = b.opening; steps = joined_steps (b ∷ bs) } in
-      ap Some (sym (is t (span_of_all s few (b ∷ bs) t stands refl)))
+      ap Some (sym (is t (StandsForAll-of_span s few (b ∷ bs) t stands refl)))
 
   pub placed_joined : ((t : Trace) → StandsForAll s.summary s.extent.opening t → is_well_placed listing ≡ true)
       → StandsForBlocks s → is_well_placed listing ≡ true
   placed_joined placed ([], stands) = let none : None ≡ Some s.extent.first = stands.extent.first in absurd (cc)
   placed_joined placed (b ∷ bs, stands) =
       let t : Trace = record { opening = b.opening; steps = joined_steps (b ∷ bs) } in
-      placed t (span_of_all s few (b ∷ bs) t stands refl)
+      placed t (StandsForAll-of_span s few (b ∷ bs) t stands refl)

@@ -28,9 +28,9 @@ use Rattle.vme_summary.specs.declared.monitor_states.MonitorState.{MonitorState}
 use Rattle.vme_summary.specs.declared.chunk_summary.ChunkSummary.{ChunkSummary}
 use Rattle.vme_summary.specs.declared.verdict_state.VerdictState.{VerdictState}
 use Rattle.vme_summary.specs.declared.span.Span.{Span}
-use Rattle.vme_summary.proofs.Chains.{steps-append}
-use Rattle.vme_summary.proofs.Extents.{extent_joined, left_by_steps}
-use Rattle.vme_summary.proofs.Whole.{joined_sound}
+use Rattle.vme_summary.proofs.Chains.{joined_steps-append}
+use Rattle.vme_summary.proofs.Extents.{IsExtent-joined, levels_after-extent}
+use Rattle.vme_summary.proofs.Whole.{joined_trace-well_formed}
 
 -- the state of a monitor after further steps, from its memory (the state of its automaton) before them
 pub seen_after : {P : Type 0} (next : P → Levels → Levels → List Change → Next P) (begin : Levels → P)
@@ -64,14 +64,14 @@ pub come_after : (p : RunningVerdict) (s : Span) (e : Extent) (n : ℕ) (f : Mon
     (x ++ y)
 come_after p s e n f same count m found x y c q =
     let opens : s.extent.opening ≡ levels_after p.extent.opening (joined_steps x) = m.opened
-    ∙ sym (left_by_steps p.extent x c.extent) in
+    ∙ sym (levels_after-extent p.extent x c.extent) in
     let second : SummaryStandsFor s.summary (levels_after p.extent.opening (joined_steps x)) (joined_steps y) = subst
     (λ v. SummaryStandsFor s.summary v (joined_steps y)) opens q.summary in
     let whole = found p.extent.opening (joined_steps x) (joined_steps y) c.steps c.found (stands_finds_all second) in
-    let steps = steps-append x y in
+    let steps = joined_steps-append x y in
     let more : summary_steps s.summary ≡ length (joined_steps y) = q.summary.known.counted in
     record {
-      extent = subst (λ (k : Extent). IsExtent k (x ++ y)) (sym same) (extent_joined p.extent s.extent x y c.extent
+      extent = subst (λ (k : Extent). IsExtent k (x ++ y)) (sym same) (IsExtent-joined p.extent s.extent x y c.extent
           q.extent m);
       steps = count ∙ ap (λ k. k + summary_steps s.summary) c.steps ∙ ap (λ k. length (joined_steps x) + k) more
           ∙ sym (ap length steps ∙ length-append (joined_steps x) (joined_steps y));
@@ -89,7 +89,7 @@ past_recording p few v found (b ∷ bs) c =
     ap Some
     (found (record { opening = b.opening; steps = joined_steps (b ∷ bs) })
     (record {
-      sound = joined_sound (b ∷ bs) _ c.extent.join c.extent.sound refl;
+      sound = joined_trace-well_formed (b ∷ bs) _ c.extent.join c.extent.sound refl;
       few = subst (λ (v : Levels). v.slots ≤ 21) same few;
       found_there = subst (λ (v : Levels). HasFound p.found v (joined_steps (b ∷ bs))) same c.found;
     }))

@@ -4,7 +4,7 @@ use Rattle.vme_trace.specs.LineNumbers.{DS0}
 use Rattle.vme_trace.specs.Levels.{level_at}
 use Rattle.vme_trace.specs.Trace.{changed}
 use Rattle.vme_trace.specs.declared.level.Level.TheVariants.{High, Unknown}
-use Rattle.vme_summary.proofs.Chains.{chain_joins}
+use Rattle.vme_summary.proofs.Chains.{BlocksJoin-from_GoOn}
 use Rattle.vme_judging_eval.specs.WorkedBlocks.{after_empty, empty, first, next, on_other_lines, on_slots}
 use Rattle.vme_judging_eval.proofs.blocks_that_are_torn.Goals as goal
 
@@ -31,10 +31,10 @@ pub returns-clause-by_time : goal.returns-clause-by_time
 returns-clause-by_time c j = let later : false ≡ true = (j.follow [] [] first (next 10) refl).later in cc
 
 pub returns-clause-before_empty : goal.returns-clause-before_empty
-returns-clause-before_empty c = chain_joins first (empty ∷ []) (refl, refl, refl, tt)
+returns-clause-before_empty c = BlocksJoin-from_GoOn first (empty ∷ []) (refl, refl, refl, tt)
 
 pub returns-clause-after_empty : goal.returns-clause-after_empty
-returns-clause-after_empty c = chain_joins empty (after_empty 10 ∷ []) (refl, refl, refl, tt)
+returns-clause-after_empty c = BlocksJoin-from_GoOn empty (after_empty 10 ∷ []) (refl, refl, refl, tt)
 
 pub returns-clause-across_empty : goal.returns-clause-across_empty
 returns-clause-across_empty c j =

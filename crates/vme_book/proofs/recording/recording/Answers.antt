@@ -6,7 +6,7 @@ use Rattle.std.proofs.lemmas.Option.{none-some}
 use Rattle.vme_trace.specs.Blocks.{joined_steps}
 use Rattle.vme_trace.specs.declared.block.Block.{Block}
 use Rattle.vme_trace.specs.declared.step.Step.{Step}
-use Rattle.vme_summary.proofs.Whole.{joined_sound}
+use Rattle.vme_summary.proofs.Whole.{joined_trace-well_formed}
 use Rattle.vme_book.proofs.Prefixes.{all_there, as_many, few_steps, found_at, next_of, next_part, read_at, trace_is}
 use Rattle.vme_book.proofs.recording.recording.Goals as goal
 
@@ -90,7 +90,8 @@ from_well_formed-requires c =
     let steps : c.loop-place.steps.items ≡ joined_steps bs = last_part (into_iter_items c.loop-place.place-iterator)
     part.0 _ _ (c.loop-place.invariant.counted ∙ none) part.1 part.2 in
     let first = found_at items 0 c.index.result.now c.in-Some.first c.requires.some c.index.ensures c.in-Some.is in
-    joined_sound bs _ all.join c.requires.join.2 (trace_is items bs c.in-Some.first c.loop-place.steps.items all.all
+    joined_trace-well_formed bs _ all.join c.requires.join.2
+    (trace_is items bs c.in-Some.first c.loop-place.steps.items all.all
     first steps)
 
 pub unreachable-requires-in-None-from_well_formed : goal.unreachable-requires-in-None-from_well_formed

@@ -1,21 +1,22 @@
 -- The extents meet exactly if the blocks join.
 use Rattle.std.proofs.Common.{refl}
 use Rattle.std.proofs.Math.Logic.{∥∥₁_map}
-use Rattle.vme_summary.proofs.Extents.{meets_join, some_joined, spans_joined, test_meets, test_torn}
+use Rattle.vme_summary.proofs.Extents.{BlocksJoin-from_Meets, StandForBlocks-joined, StandFor-joined, Meets-by_test}
+use Rattle.vme_summary.proofs.Extents.{BlocksJoin-not_by_test}
 use Rattle.vme_summary.proofs.joining.append.Goals as goal
 
 pub returns-then-not-meets-clause-torn : goal.returns-then-not-meets-clause-torn
 returns-then-not-meets-clause-torn c =
     λ x y p q. (
-      λ e. test_torn c.args.first.extent c.args.second.extent c.meets.result x y c.meets.ensures
+      λ e. BlocksJoin-not_by_test c.args.first.extent c.args.second.extent c.meets.result x y c.meets.ensures
           c.if-not-meets.true p.extent q.extent,
       λ e. refl,
     )
 
 pub returns-in-Ok-clause-joined : goal.returns-in-Ok-clause-joined
 returns-in-Ok-clause-joined c =
-    spans_joined c.args.first c.args.second c.joined.result c.append_in.result c.joined.ensures
-    (test_meets c.args.first.extent c.args.second.extent c.meets.result c.meets.ensures c.if-not-meets.false)
+    StandFor-joined c.args.first c.args.second c.joined.result c.append_in.result c.joined.ensures
+    (Meets-by_test c.args.first.extent c.args.second.extent c.meets.result c.meets.ensures c.if-not-meets.false)
     (λ o x y p q. c.append_in.ensures.stands o x y ((c.make_room.ensures.stands o x).0 p) q)
 
 pub returns-in-Err-clause-torn : goal.returns-in-Err-clause-torn
@@ -24,8 +25,9 @@ returns-in-Err-clause-torn c =
       λ e. absurd (cc),
       λ torn.
           absurd
-          (torn (meets_join c.args.first.extent c.args.second.extent x y p.extent q.extent
-          (test_meets c.args.first.extent c.args.second.extent c.meets.result c.meets.ensures c.if-not-meets.false))),
+          (torn (BlocksJoin-from_Meets c.args.first.extent c.args.second.extent x y p.extent q.extent
+          (Meets-by_test c.args.first.extent c.args.second.extent c.meets.result c.meets.ensures
+          c.if-not-meets.false))),
     )
 
 pub returns-in-Err-clause-first : goal.returns-in-Err-clause-first
@@ -38,8 +40,8 @@ returns-in-Err-clause-first c =
 pub invariant_of-result : goal.invariant_of-result
 invariant_of-result c =
     record {
-      stands = some_joined c.args.first c.args.second c.joined.result c.append_in.result c.joined.ensures
-          (test_meets c.args.first.extent c.args.second.extent c.meets.result c.meets.ensures c.if-not-meets.false)
+      stands = StandForBlocks-joined c.args.first c.args.second c.joined.result c.append_in.result c.joined.ensures
+          (Meets-by_test c.args.first.extent c.args.second.extent c.meets.result c.meets.ensures c.if-not-meets.false)
           (λ o x y p q. c.append_in.ensures.stands o x y ((c.make_room.ensures.stands o x).0 p) q);
     }
 

@@ -1,12 +1,13 @@
 -- The extents meet exactly if the blocks join.
 use Rattle.std.proofs.Common.{refl}
-use Rattle.vme_summary.proofs.Extents.{meets_join, some_joined, spans_joined, test_meets, test_torn}
+use Rattle.vme_summary.proofs.Extents.{BlocksJoin-from_Meets, StandForBlocks-joined, StandFor-joined, Meets-by_test}
+use Rattle.vme_summary.proofs.Extents.{BlocksJoin-not_by_test}
 use Rattle.vme_summary.proofs.joining.join.Goals as goal
 
 pub returns-then-not-meets-clause-torn : goal.returns-then-not-meets-clause-torn
 returns-then-not-meets-clause-torn c =
     λ x y p q. (
-      λ e. test_torn c.args.first.now.extent c.args.second.now.extent c.meets.result x y c.meets.ensures
+      λ e. BlocksJoin-not_by_test c.args.first.now.extent c.args.second.now.extent c.meets.result x y c.meets.ensures
           c.if-not-meets.true p.extent q.extent,
       λ e. refl,
     )
@@ -17,15 +18,15 @@ returns-in_default-clause-torn c =
       λ e. absurd (cc),
       λ torn.
           absurd
-          (torn (meets_join c.args.first.now.extent c.args.second.now.extent x y p.extent q.extent
-          (test_meets c.args.first.now.extent c.args.second.now.extent c.meets.result c.meets.ensures
+          (torn (BlocksJoin-from_Meets c.args.first.now.extent c.args.second.now.extent x y p.extent q.extent
+          (Meets-by_test c.args.first.now.extent c.args.second.now.extent c.meets.result c.meets.ensures
           c.if-not-meets.false))),
     )
 
 pub returns-clause-joined : goal.returns-clause-joined
 returns-clause-joined c =
-    spans_joined c.args.first.now c.args.second.now c.joined.result c.in-Ok.summary c.joined.ensures
-    (test_meets c.args.first.now.extent c.args.second.now.extent c.meets.result c.meets.ensures c.if-not-meets.false)
+    StandFor-joined c.args.first.now c.args.second.now c.joined.result c.in-Ok.summary c.joined.ensures
+    (Meets-by_test c.args.first.now.extent c.args.second.now.extent c.meets.result c.meets.ensures c.if-not-meets.false)
     c.in-Ok.ensures.stands
 
 pub returns-clause-torn : goal.returns-clause-torn
@@ -34,16 +35,16 @@ returns-clause-torn c =
       λ e. absurd (cc),
       λ torn.
           absurd
-          (torn (meets_join c.args.first.now.extent c.args.second.now.extent x y p.extent q.extent
-          (test_meets c.args.first.now.extent c.args.second.now.extent c.meets.result c.meets.ensures
+          (torn (BlocksJoin-from_Meets c.args.first.now.extent c.args.second.now.extent x y p.extent q.extent
+          (Meets-by_test c.args.first.now.extent c.args.second.now.extent c.meets.result c.meets.ensures
           c.if-not-meets.false))),
     )
 
 pub invariant_of-result : goal.invariant_of-result
 invariant_of-result c =
     record {
-      stands = some_joined c.args.first.now c.args.second.now c.joined.result c.in-Ok.summary c.joined.ensures
-          (test_meets c.args.first.now.extent c.args.second.now.extent c.meets.result c.meets.ensures
+      stands = StandForBlocks-joined c.args.first.now c.args.second.now c.joined.result c.in-Ok.summary c.joined.ensures
+          (Meets-by_test c.args.first.now.extent c.args.second.now.extent c.meets.result c.meets.ensures
           c.if-not-meets.false)
           c.in-Ok.ensures.stands;
     }

@@ -1,7 +1,7 @@
 -- The span stands for the block.
 use Rattle.std.proofs.Common.{[], ◌∷◌}
 use Rattle.vme_trace.specs.declared.block.Block.{Block}
-use Rattle.vme_summary.proofs.Extents.{one_stands}
+use Rattle.vme_summary.proofs.Extents.{StandFor-one}
 use Rattle.vme_summary.proofs.judged.span_of_steps.Goals as goal
 
 pub invariant_of-result : goal.invariant_of-result
@@ -10,7 +10,7 @@ invariant_of-result c =
     record {
       stands = ∣ (
         block ∷ [],
-        one_stands c.around.result c.in_ok-summary.summary block c.around.ensures
+        StandFor-one c.around.result c.in_ok-summary.summary block c.around.ensures
             c.in_ok-summary.ensures.stands,
       ) ∣₁;
     }

@@ -1,12 +1,12 @@
 -- The first break determines the verdict if anything is judged.
 use Rattle.std.proofs.Common.{sym, ◌∙◌}
-use Rattle.vme_summary.proofs.Whole.{judged_verdict, waiting_verdict}
+use Rattle.vme_summary.proofs.Whole.{verdict_by-judged, verdict_by-unjudged}
 use Rattle.vme_summary.proofs.monitor_states.MonitorStates.verdict.Goals as goal
 
 pub returns-then-has_judged : goal.returns-then-has_judged
-returns-then-has_judged c = λ t all. judged_verdict t c.has_judged.result c.first_break.result
+returns-then-has_judged c = λ t all. verdict_by-judged t c.has_judged.result c.first_break.result
     (c.has_judged.ensures t all) (c.first_break.ensures t all) c.if-has_judged.true ∙ sym c.verdict_of.ensures
 
 pub returns-else-has_judged : goal.returns-else-has_judged
-returns-else-has_judged c = λ t all. waiting_verdict t c.has_judged.result (c.has_judged.ensures t all)
+returns-else-has_judged c = λ t all. verdict_by-unjudged t c.has_judged.result (c.has_judged.ensures t all)
     c.if-has_judged.false

@@ -1,13 +1,13 @@
 -- The extents meet exactly if the blocks join.
 use Rattle.std.proofs.Common.{◌+◌, ap, refl}
-use Rattle.vme_summary.proofs.Extents.{meets_join, test_meets, test_torn}
+use Rattle.vme_summary.proofs.Extents.{BlocksJoin-from_Meets, Meets-by_test, BlocksJoin-not_by_test}
 use Rattle.vme_summary.proofs.Progressing.{come_after}
 use Rattle.vme_summary.proofs.running_verdict.RunningVerdict.after.Goals as goal
 
 pub returns-then-not-meets-clause-torn : goal.returns-then-not-meets-clause-torn
 returns-then-not-meets-clause-torn c =
     λ x y p q. (
-      λ e. test_torn c.args.self.now.extent c.args.next.now.extent c.meets.result x y c.meets.ensures
+      λ e. BlocksJoin-not_by_test c.args.self.now.extent c.args.next.now.extent c.meets.result x y c.meets.ensures
           c.if-not-meets.true p.extent q.extent,
       λ e. refl,
     )
@@ -16,7 +16,7 @@ pub returns-clause-come : goal.returns-clause-come
 returns-clause-come c =
     come_after c.args.self.now c.args.next.now c.joined.result _ c.found_after.result c.joined.ensures
     (ap (λ k. c.args.self.now.steps + k) c.steps.ensures.value)
-    (test_meets c.args.self.now.extent c.args.next.now.extent c.meets.result c.meets.ensures c.if-not-meets.false)
+    (Meets-by_test c.args.self.now.extent c.args.next.now.extent c.meets.result c.meets.ensures c.if-not-meets.false)
     c.found_after.ensures
 
 pub returns-clause-torn : goal.returns-clause-torn
@@ -25,7 +25,7 @@ returns-clause-torn c =
       λ e. absurd (cc),
       λ torn.
           absurd
-          (torn (meets_join c.args.self.now.extent c.args.next.now.extent x y p.extent q.extent
-          (test_meets c.args.self.now.extent c.args.next.now.extent c.meets.result c.meets.ensures
+          (torn (BlocksJoin-from_Meets c.args.self.now.extent c.args.next.now.extent x y p.extent q.extent
+          (Meets-by_test c.args.self.now.extent c.args.next.now.extent c.meets.result c.meets.ensures
           c.if-not-meets.false))),
     )
