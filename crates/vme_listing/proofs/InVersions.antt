@@ -18,7 +18,7 @@ use Rattle.vme_listing.specs.declared.row.Row.TheVariants.{Start, Reset, OpenTen
 use Rattle.vme_listing.specs.declared.row.Row.TheVariants.{InterruptCycle, Transfer, PendingTransfer, Verdict}
 use Rattle.vme_listing.specs.declared.row.Version.{Version}
 use Rattle.vme_listing.specs.declared.row.Version.TheVariants.{One, Two, Three}
-use Rattle.vme_listing.proofs.Readings.{follows_parts, follows_from}
+use Rattle.vme_listing.proofs.Readings.{follows-parts, follows-from_parts}
 use Rattle.vme_listing.proofs.WellPlaced.{listing_placed}
 
 -- the version has resets, or the row isn't a reset
@@ -198,8 +198,8 @@ module _ (v : Version) where
   follows_in_version : (before : Option Row) (row : Row) → IsIncluded v row → follows Three before row ≡ true
       → follows v (option_map (row_in v) before) (row_in v row) ≡ true
   follows_in_version before row told h =
-      let parts = follows_parts Three before row h in
-      follows_from v (option_map (row_in v) before) (row_in v row) (row_in_version v row told parts.0)
+      let parts = follows-parts Three before row h in
+      follows-from_parts v (option_map (row_in v) before) (row_in v row) (row_in_version v row told parts.0)
       (may_follow_in_version before row ∙ parts.1) (ascends_in_version before row parts.2)
 
   ends_in_version : (before : Option Row) → ends_listing before ≡ true

@@ -36,165 +36,191 @@ use Rattle.vme_listing.specs.declared.row.Row.{Row}
 use Rattle.vme_listing.specs.declared.row.Row.TheVariants.{Start, Reset, OpenTenure, Tenure, AddressedCycle, FreeCycle}
 use Rattle.vme_listing.specs.declared.row.Row.TheVariants.{InterruptCycle, Transfer, PendingTransfer, Verdict}
 
-abbrev pub stays : ℕ → Bool
-stays b = not (b == 10)
+-- the byte is another one than a line feed
+abbrev pub is_no_line_feed : ℕ → Bool
+is_no_line_feed b = not (b == 10)
 
 -- no byte is a line feed
-abbrev pub is_inside : List ℕ → Bool
-is_inside text = list_all stays text
+abbrev pub has_no_line_feed : List ℕ → Bool
+has_no_line_feed text = list_all is_no_line_feed text
 
-glyphs-inside : (word : List ℕ) → are_glyphs word ≡ true → is_inside word ≡ true
-glyphs-inside [] h = refl
-glyphs-inside (byte ∷ word) h =
+-- a word of digits and letters has no line feed
+has_no_line_feed-glyphs : (word : List ℕ) → are_glyphs word ≡ true → has_no_line_feed word ≡ true
+has_no_line_feed-glyphs [] h = refl
+has_no_line_feed-glyphs (byte ∷ word) h =
     let p = and_parts (nat_le 48 byte) (are_glyphs word) h in
-    and_from (stays byte) (is_inside word) (ap not (ne_eqb byte 10 (λ e. omega (arith, leb-true 48 byte p.0))))
-    (glyphs-inside word p.1)
+    and_from (is_no_line_feed byte) (has_no_line_feed word)
+    (ap not (ne_eqb byte 10 (λ e. omega (arith, leb-true 48 byte p.0))))
+    (has_no_line_feed-glyphs word p.1)
 
-decimal-inside : (n : ℕ) → n < 2 ^ 32 → is_inside (decimal n) ≡ true
-decimal-inside n h = glyphs-inside (decimal n) (decimal-glyphs n (omega arith))
+-- the decimal text of a number below 2^32 has no line feed
+has_no_line_feed-decimal : (n : ℕ) → n < 2 ^ 32 → has_no_line_feed (decimal n) ≡ true
+has_no_line_feed-decimal n h = has_no_line_feed-glyphs (decimal n) (decimal-glyphs n (omega arith))
 
-number-inside : (n : ℕ) → is_number n ≡ true → is_inside (decimal n) ≡ true
-number-inside n h = decimal-inside n (ltb-true n (2 ^ 32) h)
+-- the decimal text of a number of a row has no line feed
+has_no_line_feed-number : (n : ℕ) → is_number n ≡ true → has_no_line_feed (decimal n) ≡ true
+has_no_line_feed-number n h = has_no_line_feed-decimal n (ltb-true n (2 ^ 32) h)
 
-edge-inside : (edge : Option ℕ) → is_edge edge ≡ true → is_inside (edge_text edge) ≡ true
-edge-inside None h = refl
-edge-inside (Some n) h = number-inside n h
+-- the text of the instant of an edge, or of its absence has no line feed
+has_no_line_feed-edge : (edge : Option ℕ) → is_edge edge ≡ true → has_no_line_feed (edge_text edge) ≡ true
+has_no_line_feed-edge None h = refl
+has_no_line_feed-edge (Some n) h = has_no_line_feed-number n h
 
-hexadecimal-inside : (k n : ℕ) → is_inside (hexadecimal k n) ≡ true
-hexadecimal-inside k n = glyphs-inside (hexadecimal k n) (hexadecimal-glyphs k n)
+-- a number in base 16 has no line feed
+has_no_line_feed-hexadecimal : (k n : ℕ) → has_no_line_feed (hexadecimal k n) ≡ true
+has_no_line_feed-hexadecimal k n = has_no_line_feed-glyphs (hexadecimal k n) (hexadecimal-glyphs k n)
 
-class-inside : (class : Class) → is_inside (class_text class) ≡ true
-class-inside class.S = refl
-class-inside class.K = refl
-class-inside class.I = refl
-class-inside class.F = refl
+-- the text of the class of a cycle has no line feed
+has_no_line_feed-class : (class : Class) → has_no_line_feed (class_text class) ≡ true
+has_no_line_feed-class class.S = refl
+has_no_line_feed-class class.K = refl
+has_no_line_feed-class class.I = refl
+has_no_line_feed-class class.F = refl
 
-direction-inside : (direction : Direction) → is_inside (direction_text direction) ≡ true
-direction-inside Read = refl
-direction-inside Write = refl
+-- the text of the direction of a transfer has no line feed
+has_no_line_feed-direction : (direction : Direction) → has_no_line_feed (direction_text direction) ≡ true
+has_no_line_feed-direction Read = refl
+has_no_line_feed-direction Write = refl
 
-answer-inside : (line : AnswerLine) → is_inside (answer_text line) ≡ true
-answer-inside Dtack = refl
-answer-inside Berr = refl
+-- the text of the line of an answer has no line feed
+has_no_line_feed-answer : (line : AnswerLine) → has_no_line_feed (answer_text line) ≡ true
+has_no_line_feed-answer Dtack = refl
+has_no_line_feed-answer Berr = refl
 
-data-inside : (lanes : Option Lanes) → is_inside (data_text lanes) ≡ true
-data-inside None = refl
-data-inside (Some a) = lanes-inside a
+-- the text of the data of a transfer has no line feed
+has_no_line_feed-data : (lanes : Option Lanes) → has_no_line_feed (data_text lanes) ≡ true
+has_no_line_feed-data None = refl
+has_no_line_feed-data (Some a) = lanes-inside a
 
-rule-inside : (rule : Rule) → is_inside (rule_name rule) ≡ true
-rule-inside rule = every-rule (λ r. is_inside (rule_name r)) refl rule
+-- the name of a rule has no line feed
+has_no_line_feed-rule : (rule : Rule) → has_no_line_feed (rule_name rule) ≡ true
+has_no_line_feed-rule rule = every-rule (λ r. has_no_line_feed (rule_name r)) refl rule
 
-all_lines : agree_below (λ l. is_inside (line_name l)) (λ l. true) line_count ≡ true
+-- the names of all lines of the bus, tried one by one, have none
+has_no_line_feed-line_names : agree_below (λ l. has_no_line_feed (line_name l)) (λ l. true) line_count ≡ true
 unfolding digits
-all_lines = refl
+has_no_line_feed-line_names = refl
 
-line-inside : (line : ℕ) → nat_lt line line_count ≡ true → is_inside (line_name line) ≡ true
-line-inside line h = agree_below_at (λ l. is_inside (line_name l)) (λ l. true) line_count line all_lines
+-- the name of a line of the bus has no line feed
+has_no_line_feed-line : (line : ℕ) → nat_lt line line_count ≡ true → has_no_line_feed (line_name line) ≡ true
+has_no_line_feed-line line h = agree_below_at (λ l. has_no_line_feed (line_name l)) (λ l. true) line_count line
+    has_no_line_feed-line_names
     (ltb-true line line_count h)
 
-break-inside : (rule : Rule) (instant line : ℕ) → is_number instant ≡ true → nat_lt line line_count ≡ true
-    → is_inside (break_text rule instant line) ≡ true
-break-inside rule instant line p q =
-    let r = rule-inside rule in
-    let n = number-inside instant p in
-    let l = line-inside line q in
+-- the text of a break has no line feed
+has_no_line_feed-break : (rule : Rule) (instant line : ℕ) → is_number instant ≡ true → nat_lt line line_count ≡ true
+    → has_no_line_feed (break_text rule instant line) ≡ true
+has_no_line_feed-break rule instant line p q =
+    let r = has_no_line_feed-rule rule in
+    let n = has_no_line_feed-number instant p in
+    let l = has_no_line_feed-line line q in
     simp (list_all-append, r, n, l)
 
-three : (a b c : Bool) → (a && b && c) ≡ true → (a ≡ true) × (b ≡ true) × (c ≡ true)
-three true true true h = (refl, refl, refl)
-three true true false h = absurd (cc)
-three true false c h = absurd (cc)
-three false b c h = absurd (cc)
+-- if a && b && c holds, each does
+and_parts-three : (a b c : Bool) → (a && b && c) ≡ true → (a ≡ true) × (b ≡ true) × (c ≡ true)
+and_parts-three true true true h = (refl, refl, refl)
+and_parts-three true true false h = absurd (cc)
+and_parts-three true false c h = absurd (cc)
+and_parts-three false b c h = absurd (cc)
 
-four : (a b c d : Bool) → (a && b && c && d) ≡ true → (a ≡ true) × (b ≡ true) × (c ≡ true) × (d ≡ true)
-four true true true true h = (refl, refl, refl, refl)
-four true true true false h = absurd (cc)
-four true true false d h = absurd (cc)
-four true false c d h = absurd (cc)
-four false b c d h = absurd (cc)
+-- if a && b && c && d holds, each does
+and_parts-four : (a b c d : Bool) → (a && b && c && d) ≡ true → (a ≡ true) × (b ≡ true) × (c ≡ true) × (d ≡ true)
+and_parts-four true true true true h = (refl, refl, refl, refl)
+and_parts-four true true true false h = absurd (cc)
+and_parts-four true true false d h = absurd (cc)
+and_parts-four true false c d h = absurd (cc)
+and_parts-four false b c d h = absurd (cc)
 
-five : (a b c d e : Bool) → (a && b && c && d && e) ≡ true → (a ≡ true) × (b ≡ true) × (c ≡ true) × (d ≡ true)
+-- if a && b && c && d && e holds, each does
+and_parts-five : (a b c d e : Bool) → (a && b && c && d && e) ≡ true → (a ≡ true) × (b ≡ true) × (c ≡ true) × (d ≡ true)
     × (e ≡ true)
-five true true true true true h = (refl, refl, refl, refl, refl)
-five true true true true false h = absurd (cc)
-five true true true false e h = absurd (cc)
-five true true false d e h = absurd (cc)
-five true false c d e h = absurd (cc)
-five false b c d e h = absurd (cc)
+and_parts-five true true true true true h = (refl, refl, refl, refl, refl)
+and_parts-five true true true true false h = absurd (cc)
+and_parts-five true true true false e h = absurd (cc)
+and_parts-five true true false d e h = absurd (cc)
+and_parts-five true false c d e h = absurd (cc)
+and_parts-five false b c d e h = absurd (cc)
 
-outcome-inside : (outcome : ListedVerdict) → is_allowed_outcome outcome ≡ true
-    → is_inside (row_text (Verdict outcome)) ≡ true
+-- the text of an allowed verdict has no line feed
+has_no_line_feed-outcome : (outcome : ListedVerdict) → is_allowed_outcome outcome ≡ true
+    → has_no_line_feed (row_text (Verdict outcome)) ≡ true
 unfolding row_text
-outcome-inside Conforming h = refl
-outcome-inside NeverIdle h = refl
-outcome-inside (Broken rule instant line) h = let p = three _ (is_number instant) (nat_lt line line_count) h in
-    break-inside rule instant line p.1 p.2
-outcome-inside (Unreadable rule instant line) h = let p = three _ (is_number instant) (nat_lt line line_count) h in
-    break-inside rule instant line p.1 p.2
+has_no_line_feed-outcome Conforming h = refl
+has_no_line_feed-outcome NeverIdle h = refl
+has_no_line_feed-outcome (Broken rule instant line) h = let p =
+    and_parts-three _ (is_number instant) (nat_lt line line_count) h in
+    has_no_line_feed-break rule instant line p.1 p.2
+has_no_line_feed-outcome (Unreadable rule instant line) h = let p =
+    and_parts-three _ (is_number instant) (nat_lt line line_count) h in
+    has_no_line_feed-break rule instant line p.1 p.2
 
-pub row-inside : (version : Version) (row : Row) → is_row version row ≡ true → is_inside (row_text row) ≡ true
+-- the text of a row that its form allows has no line feed
+pub has_no_line_feed-row : (version : Version) (row : Row) → is_row version row ≡ true → has_no_line_feed (row_text row)
+    ≡ true
 unfolding is_row row_text
-row-inside version (Start instant) h = number-inside instant h
-row-inside version (Reset instant) h = number-inside instant
+has_no_line_feed-row version (Start instant) h = has_no_line_feed-number instant h
+has_no_line_feed-row version (Reset instant) h = has_no_line_feed-number instant
     (and_parts (includes_resets version) (is_number instant) h).1
-row-inside version (OpenTenure start end) h =
+has_no_line_feed-row version (OpenTenure start end) h =
     let p = and_parts (is_number start) (is_edge end) h in
-    let s = number-inside start p.0 in
-    let e = edge-inside end p.1 in
+    let s = has_no_line_feed-number start p.0 in
+    let e = has_no_line_feed-edge end p.1 in
     simp (list_all-append, s, e)
-row-inside version (Tenure start level slot end) h =
-    let p = five (is_number start) (nat_lt level 4) (nat_le 1 slot) (nat_le slot 21) (is_edge end) h in
-    let s = number-inside start p.0 in
-    let l = decimal-inside level (omega (arith, ltb-true level 4 p.1)) in
-    let n = decimal-inside slot (omega (arith, leb-true slot 21 p.3)) in
-    let e = edge-inside end p.4 in
+has_no_line_feed-row version (Tenure start level slot end) h =
+    let p = and_parts-five (is_number start) (nat_lt level 4) (nat_le 1 slot) (nat_le slot 21) (is_edge end) h in
+    let s = has_no_line_feed-number start p.0 in
+    let l = has_no_line_feed-decimal level (omega (arith, ltb-true level 4 p.1)) in
+    let n = has_no_line_feed-decimal slot (omega (arith, leb-true slot 21 p.3)) in
+    let e = has_no_line_feed-edge end p.4 in
     simp (list_all-append, s, l, n, e)
-row-inside version (AddressedCycle start class modifier address end) h =
-    let p = four (is_number start) (has_class modifier class) (is_address modifier address) (is_edge end) h in
-    let s = number-inside start p.0 in
-    let k = class-inside class in
-    let m = hexadecimal-inside 2 modifier in
-    let a = hexadecimal-inside (address_digits modifier) address in
-    let e = edge-inside end p.3 in
+has_no_line_feed-row version (AddressedCycle start class modifier address end) h =
+    let p = and_parts-four (is_number start) (has_class modifier class) (is_address modifier address) (is_edge end) h in
+    let s = has_no_line_feed-number start p.0 in
+    let k = has_no_line_feed-class class in
+    let m = has_no_line_feed-hexadecimal 2 modifier in
+    let a = has_no_line_feed-hexadecimal (address_digits modifier) address in
+    let e = has_no_line_feed-edge end p.3 in
     simp (list_all-append, s, k, m, a, e)
-row-inside version (FreeCycle start modifier end) h =
-    let p = four (is_number start) (nat_lt modifier 64) (highest_address modifier == 0) (is_edge end) h in
-    let s = number-inside start p.0 in
-    let m = hexadecimal-inside 2 modifier in
-    let e = edge-inside end p.3 in
+has_no_line_feed-row version (FreeCycle start modifier end) h =
+    let p = and_parts-four (is_number start) (nat_lt modifier 64) (highest_address modifier == 0) (is_edge end) h in
+    let s = has_no_line_feed-number start p.0 in
+    let m = has_no_line_feed-hexadecimal 2 modifier in
+    let e = has_no_line_feed-edge end p.3 in
     simp (list_all-append, s, m, e)
-row-inside version (InterruptCycle start level end) h =
-    let p = three (is_number start) (nat_lt level 8) (is_edge end) h in
-    let s = number-inside start p.0 in
-    let l = decimal-inside level (omega (arith, ltb-true level 8 p.1)) in
-    let e = edge-inside end p.2 in
+has_no_line_feed-row version (InterruptCycle start level end) h =
+    let p = and_parts-three (is_number start) (nat_lt level 8) (is_edge end) h in
+    let s = has_no_line_feed-number start p.0 in
+    let l = has_no_line_feed-decimal level (omega (arith, ltb-true level 8 p.1)) in
+    let e = has_no_line_feed-edge end p.2 in
     simp (list_all-append, s, l, e)
-row-inside version (Transfer direction line start cycle answer close lanes) h =
-    let p = five (is_number start) (is_number cycle) (is_number answer) (is_edge close)
+has_no_line_feed-row version (Transfer direction line start cycle answer close lanes) h =
+    let p = and_parts-five (is_number start) (is_number cycle) (is_number answer) (is_edge close)
     (has_data version direction lanes) h in
-    let s = number-inside start p.0 in
-    let i = number-inside cycle p.1 in
-    let d = direction-inside direction in
-    let l = answer-inside line in
-    let a = number-inside answer p.2 in
-    let e = edge-inside close p.3 in
-    let w = data-inside lanes in
+    let s = has_no_line_feed-number start p.0 in
+    let i = has_no_line_feed-number cycle p.1 in
+    let d = has_no_line_feed-direction direction in
+    let l = has_no_line_feed-answer line in
+    let a = has_no_line_feed-number answer p.2 in
+    let e = has_no_line_feed-edge close p.3 in
+    let w = has_no_line_feed-data lanes in
     simp (list_all-append, s, i, d, l, a, e, w)
-row-inside version (PendingTransfer start direction) h =
-    let s = number-inside start h in
-    let d = direction-inside direction in
+has_no_line_feed-row version (PendingTransfer start direction) h =
+    let s = has_no_line_feed-number start h in
+    let d = has_no_line_feed-direction direction in
     simp (list_all-append, s, d)
-row-inside version (Verdict outcome) h = outcome-inside outcome h
+has_no_line_feed-row version (Verdict outcome) h = has_no_line_feed-outcome outcome h
 
-first_line : (line more : List ℕ) (end : ℕ) → is_inside line ≡ true → IsFirstByte (is_byte 10) (line ++ 10 ∷ more)
+-- the first line feed after a line that has none is at the length of the line
+first_line_feed-after_line : (line more : List ℕ) (end : ℕ) → has_no_line_feed line ≡ true
+    → IsFirstByte (is_byte 10) (line ++ 10 ∷ more)
     (Some end) → end ≡ length line
-first_line line more end inside f = by_order (cases_order end (length line))
+first_line_feed-after_line line more end inside f = by_order (cases_order end (length line))
   where
     within : end < length line → ⊥
     within h =
         let here : (get_or line end 0 == 10) ≡ true = ap (λ b. b == 10)
         (sym (get_or_append_left line (10 ∷ more) 0 end h)) ∙ f.1 in
-        true≢false (sym inside ∙ list_all_at stays line end 0 h (ap not here))
+        true≢false (sym inside ∙ list_all_at is_no_line_feed line end 0 h (ap not here))
 
     behind : length line < end → ⊥
     behind h = f.0.before (length line) (omega arith) h (eq-eqb _ _ (get_or-append_seam line 10 more 0))
@@ -205,13 +231,14 @@ first_line line more end inside f = by_order (cases_order end (length line))
     by_order (inr (inr h)) = absurd (behind h)
 
 -- where the line of a row is at the start of a text, the first line feed of the text ends it
-pub front_line : (version : Version) (text : List ℕ) (end : ℕ) (row : Row) (more : List ℕ) → IsFirstByte (is_byte 10)
+pub first_line_feed-after_row : (version : Version) (text : List ℕ) (end : ℕ) (row : Row) (more : List ℕ)
+    → IsFirstByte (is_byte 10)
     text (Some end) → is_row version row ≡ true → text ≡ line_of row ++ more → (row_text row ≡ take end text)
     × (drop (end + 1) text ≡ more)
-front_line version text end row more f h e =
+first_line_feed-after_row version text end row more f h e =
     let line = row_text row in
     let split : text ≡ line ++ 10 ∷ more = e ∙ append_assoc line (10 ∷ []) more in
-    let n : end ≡ length line = first_line line more end (row-inside version row h)
+    let n : end ≡ length line = first_line_feed-after_line line more end (has_no_line_feed-row version row h)
     (subst (λ t. IsFirstByte (is_byte 10) t (Some end)) split f) in
     let after : length (line ++ 10 ∷ []) ≡ end + 1 = omega (arith, length-append line (10 ∷ [])) in (
       sym (ap (take end) split ∙ take_at line (10 ∷ more) end (sym n)),

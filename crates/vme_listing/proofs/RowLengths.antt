@@ -31,62 +31,76 @@ use Rattle.vme_listing.specs.declared.row.Row.TheVariants.{InterruptCycle, Trans
 use Rattle.vme_listing.specs.declared.row.Version.{Version}
 use Rattle.vme_listing.proofs.FrontHexadecimals.{hexadecimal-length, lanes-length}
 
+-- the decimal text of a number below 2^32 has at most 10 bytes
 decimal-short : (n : ℕ) → n < 2 ^ 32 → length (decimal n) ≤ 10
 decimal-short n h = length-decimal-le 10 n (omega arith) (omega arith) (omega arith)
 
+-- the decimal text of a number of a row has at most 10 bytes
 number-short : (n : ℕ) → is_number n ≡ true → length (decimal n) ≤ 10
 number-short n h = decimal-short n (ltb-true n (2 ^ 32) h)
 
+-- the text of the instant of an edge, or of its absence, has at most 10 bytes
 edge-short : (edge : Option ℕ) → is_edge edge ≡ true → length (edge_text edge) ≤ 10
 edge-short None h = omega arith
 edge-short (Some n) h = number-short n h
 
+-- the text of the class of a cycle has at most 1 byte
 class-short : (class : Class) → length (class_text class) ≤ 1
 class-short class.S = omega arith
 class-short class.K = omega arith
 class-short class.I = omega arith
 class-short class.F = omega arith
 
+-- the text of the direction of a transfer has at most 5 bytes
 direction-short : (direction : Direction) → length (direction_text direction) ≤ 5
 direction-short Read = omega arith
 direction-short Write = omega arith
 
+-- the text of the line of an answer has at most 5 bytes
 answer-short : (line : AnswerLine) → length (answer_text line) ≤ 5
 answer-short Dtack = omega arith
 answer-short Berr = omega arith
 
+-- the text of the data of a transfer has at most 14 bytes
 data-short : (lanes : Option Lanes) → length (data_text lanes) ≤ 14
 data-short None = omega arith
 data-short (Some a) = omega (arith, lanes-length a, length-append {A = ℕ})
 
-digits_by : (extended standard short : Bool)
+-- an address of the width that these tests choose has at most 8 digits in base 16
+digits-at_most_8 : (extended standard short : Bool)
     → ((if extended then 31 else if standard then 23 else if short then 15 else 0) + 1) / 4 ≤ 8
-digits_by true standard short = omega arith
-digits_by false true short = omega arith
-digits_by false false true = omega arith
-digits_by false false false = omega arith
+digits-at_most_8 true standard short = omega arith
+digits-at_most_8 false true short = omega arith
+digits-at_most_8 false false true = omega arith
+digits-at_most_8 false false false = omega arith
 
-few_digits : (modifier : ℕ) → address_digits modifier ≤ 8
+-- an address has at most 8 digits in base 16, whatever its modifier code
+address_digits-at_most_8 : (modifier : ℕ) → address_digits modifier ≤ 8
 unfolding highest_address
-few_digits modifier = digits_by (is_extended modifier) (is_standard modifier) (is_short modifier)
+address_digits-at_most_8 modifier = digits-at_most_8 (is_extended modifier) (is_standard modifier) (is_short modifier)
 
+-- the name of a rule has 2 bytes
 rule-short : (rule : Rule) → length (rule_name rule) ≡ 2
 rule-short rule = eqb-true (length (rule_name rule)) 2 (every-rule (λ r. length (rule_name r) == 2) refl rule)
 
-all_lines : agree_below (λ l. nat_le (length (line_name l)) 16) (λ l. true) line_count ≡ true
+-- the names of all lines of the bus, tried one by one, have at most 16 bytes
+line_names-short : agree_below (λ l. nat_le (length (line_name l)) 16) (λ l. true) line_count ≡ true
 unfolding digits
-all_lines = refl
+line_names-short = refl
 
+-- the name of a line of the bus has at most 16 bytes
 line-short : (line : ℕ) → nat_lt line line_count ≡ true → length (line_name line) ≤ 16
 line-short line h = leb-true (length (line_name line)) 16
-    (agree_below_at (λ l. nat_le (length (line_name l)) 16) (λ l. true) line_count line all_lines
+    (agree_below_at (λ l. nat_le (length (line_name l)) 16) (λ l. true) line_count line line_names-short
     (ltb-true line line_count h))
 
+-- the text of a break has at most 30 bytes
 break-short : (rule : Rule) (instant line : ℕ) → is_number instant ≡ true → nat_lt line line_count ≡ true
     → length (break_text rule instant line) ≤ 30
 break-short rule instant line p q =
     simp length-append (omega (arith, rule-short rule, number-short instant p, line-short line q))
 
+-- the text of the row of an allowed verdict has at most 95 bytes
 outcome-short : (outcome : ListedVerdict) → is_allowed_outcome outcome ≡ true → length (row_text (Verdict outcome)) ≤ 95
 unfolding row_text
 outcome-short Conforming h = omega arith
@@ -100,6 +114,7 @@ outcome-short (Unreadable rule instant line) h =
     let short = break-short rule instant line (and_parts _ (is_number instant) parts.0).1 parts.1 in
     omega (arith, short, length-append (codes "verdict unreadable ") (break_text rule instant line))
 
+-- the text of a row that its form allows has at most 95 bytes
 row-short : (version : Version) (row : Row) → is_row version row ≡ true → length (row_text row) ≤ 95
 unfolding is_row row_text
 row-short version (Start instant) h = simp length-append (omega (arith, number-short instant h))
@@ -125,7 +140,7 @@ row-short version (AddressedCycle start class modifier address end) h =
     let k = class-short class in
     let m = hexadecimal-length 2 modifier in
     let n = hexadecimal-length (address_digits modifier) address in
-    simp length-append (omega (arith, s, k, m, n, few_digits modifier, edge-short end e.1))
+    simp length-append (omega (arith, s, k, m, n, address_digits-at_most_8 modifier, edge-short end e.1))
 row-short version (FreeCycle start modifier end) h =
     let e = and_parts _ (is_edge end) h in
     let free = and_parts (is_number start && nat_lt modifier 64) _ e.0 in

@@ -1,4 +1,4 @@
--- Each row is read from its own text.
+-- Each row that its form allows is read from its own text, piece by piece.
 use Rattle.std.proofs.Common.{◌≡◌, ◌==◌, ℕ, ◌^◌, ◌<◌, ◌≤◌, true, false, ◌&&◌, List, []}
 use Rattle.std.proofs.Common.{◌∷◌}
 use Rattle.std.proofs.Common.{◌++◌, drop, length, take, refl, sym, ap, ◌∙◌, arith, append_assoc, length-append}
@@ -49,101 +49,114 @@ use Rattle.vme_listing.proofs.Numerals.{number_of-hexadecimal}
 use Rattle.vme_listing.proofs.Pieces.{after_word-is, are_digits, decimal-digits, is_end, number_in-is, past_piece-is}
 use Rattle.vme_listing.proofs.Pieces.{piece-is}
 
+-- a number below 2^32 that has k digits in base 16 is read from these
 pub hexadecimal_in-is : (k n : ℕ) (more : List ℕ) → n < 16 ^ k → n < 2 ^ 32
     → hexadecimal_in k (hexadecimal k n ++ more) ≡ Some n
 unfolding hexadecimal_in
-hexadecimal_in-is k n more small below =
+hexadecimal_in-is k n more Piece-small below =
     rw (
       take_at (hexadecimal k n) more k (hexadecimal-length k n),
-      number_of-hexadecimal k n small below,
+      number_of-hexadecimal k n Piece-small below,
       bytes_eq-refl (hexadecimal k n),
     ) refl
 
+-- the data of a write, if its form allows it, is read from its text
 pub lanes_in-is : (a : Lanes) (more : List ℕ) → is_allowed_data a ≡ true → lanes_in (lanes_text a ++ more) ≡ Some a
 unfolding lanes_in
 lanes_in-is a more h =
     rw (take_at (lanes_text a) more 8 (lanes-length a), lanes-are a h, bytes_eq-refl (lanes_text a)) refl
 
--- ---- the pieces
+-- ---- the pieces of a row
 
 -- reading the line with `at` gives x, and `past` leaves `more`
 abbrev Piece : {A : Type 0} → (Rest → A) → (Rest → Rest) → List ℕ → A → List ℕ → Type 0
 Piece at past line x more = (at (Some line) ≡ x) × (past (Some line) ≡ Some more)
 
 module _ (n : ℕ) (more : List ℕ) (end : is_end more ≡ true) where
-  number : n < 2 ^ 32 → Piece number_at past_number (decimal n ++ more) n more
-  number below =
+  -- a number below 2^32 is read from its decimal text, if no digit follows
+  Piece-number : n < 2 ^ 32 → Piece number_at past_number (decimal n ++ more) n more
+  Piece-number below =
       let read = number_in-is n more below end in
       (piece-is number_in decimal 0 n more read, past_piece-is number_in decimal 0 n more read)
 
-  small : n < 256 → Piece small_at past_small (decimal n ++ more) n more
-  small below =
-      let read = number (omega arith) in
+  -- a number below 256 is read from its decimal text, if no digit follows
+  Piece-small : n < 256 → Piece small_at past_small (decimal n ++ more) n more
+  Piece-small below =
+      let read = Piece-number (omega arith) in
       let within = lt-ltb n 256 below in (
         ap (λ m. if nat_lt m 256 then m else 0) read.0 ∙ (rw within refl),
         ap (λ m. if nat_lt m 256 then past_number (Some (decimal n ++ more)) else None) read.0 ∙ (rw within read.1),
       )
 
-hyphen_not : (byte : ℕ) → is_ascii_digit byte ≡ true → (45 == byte) ≡ false
-hyphen_not byte h = grind (arith, nat_tests)
+-- a digit is no hyphen
+hyphen-no_digit : (byte : ℕ) → is_ascii_digit byte ≡ true → (45 == byte) ≡ false
+hyphen-no_digit byte h = grind (arith, nat_tests)
 
-no-hyphen : (ds more : List ℕ) → are_digits ds ≡ true → 0 < length ds → after_word (codes "-") (ds ++ more) ≡ None
-no-hyphen [] more h some = absurd (omega arith)
-no-hyphen (byte ∷ ds) more h some =
-    rw (hyphen_not byte (and_parts (is_ascii_digit byte) (are_digits ds) h).0) refl
+-- a text that begins with digits doesn't begin with a hyphen
+after_word-no_hyphen : (ds more : List ℕ) → are_digits ds ≡ true → 0 < length ds → after_word (codes "-") (ds ++ more)
+    ≡ None
+after_word-no_hyphen [] more h some = absurd (omega arith)
+after_word-no_hyphen (byte ∷ ds) more h some =
+    rw (hyphen-no_digit byte (and_parts (is_ascii_digit byte) (are_digits ds) h).0) refl
 
-edge : (more : List ℕ) → is_end more ≡ true → (end : Option ℕ) → is_edge end ≡ true
+-- the instant of an edge, or its absence, is read from its text, if no digit follows
+Piece-edge : (more : List ℕ) → is_end more ≡ true → (end : Option ℕ) → is_edge end ≡ true
     → Piece edge_at past_edge (edge_text end ++ more) end more
-edge more stop None h = (refl, refl)
-edge more stop (Some n) h =
+Piece-edge more stop None h = (refl, refl)
+Piece-edge more stop (Some n) h =
     let below = ltb-true n (2 ^ 32) h in
     let digits = decimal-digits n (omega (arith, below)) in
-    let none = no-hyphen (decimal n) more digits (decimal_nonempty n (omega (arith, below))) in
-    let read = number n more stop below in
+    let none = after_word-no_hyphen (decimal n) more digits (decimal_nonempty n (omega (arith, below))) in
+    let read = Piece-number n more stop below in
     let left : Rest = Some (decimal n ++ more) in (
       ap (λ (o : Rest). if is_some o then None else Some (number_at left)) none ∙ ap Some read.0,
       ap (λ (o : Rest). if is_some o then o else past_number left) none ∙ read.1,
     )
 
--- an end at the end of a line is read from its text, and nothing is left
-last-edge : (end : Option ℕ) → is_edge end ≡ true → Piece edge_at past_edge (edge_text end) end []
-last-edge end h =
+-- the instant of an edge, or its absence, is read from its text at the end of a line, and nothing is left
+Piece-last_edge : (end : Option ℕ) → is_edge end ≡ true → Piece edge_at past_edge (edge_text end) end []
+Piece-last_edge end h =
     let e = sym (append-nil (edge_text end)) in
-    let read = edge [] refl end h in
+    let read = Piece-edge [] refl end h in
     (ap (λ t. edge_at (Some t)) e ∙ read.0, ap (λ t. past_edge (Some t)) e ∙ read.1)
 
-address : (k n : ℕ) (more : List ℕ) → n < 16 ^ k → n < 2 ^ 32
+-- an address below 2^32 is read from its k digits in base 16
+Piece-address : (k n : ℕ) (more : List ℕ) → n < 16 ^ k → n < 2 ^ 32
     → Piece (λ left. hexadecimal_at left k) (λ left. past_hexadecimal left k) (hexadecimal k n ++ more) n more
-address k n more small below =
-    let read = hexadecimal_in-is k n more small below in (
+Piece-address k n more Piece-small below =
+    let read = hexadecimal_in-is k n more Piece-small below in (
       piece-is (hexadecimal_in k) (hexadecimal k) 0 n more read,
       past_piece-is (hexadecimal_in k) (hexadecimal k) 0 n more
           read,
     )
 
-modifier : (n : ℕ) (more : List ℕ) → n < 64 → Piece modifier_at past_modifier (hexadecimal 2 n ++ more) n more
-modifier n more below =
-    let read = address 2 n more (omega arith) (omega arith) in
+-- a modifier code is read from its two digits in base 16
+Piece-modifier : (n : ℕ) (more : List ℕ) → n < 64 → Piece modifier_at past_modifier (hexadecimal 2 n ++ more) n more
+Piece-modifier n more below =
+    let read = Piece-address 2 n more (omega arith) (omega arith) in
     let within = lt-ltb n 256 (omega arith) in (
       ap (λ m. if nat_lt m 256 then m else 0) read.0 ∙ (rw within refl),
       ap (λ m. if nat_lt m 256 then past_hexadecimal (Some (hexadecimal 2 n ++ more)) 2 else None) read.0
           ∙ (rw within read.1),
     )
 
-direction : (d : Direction) (more : List ℕ)
+-- the direction of a transfer is read from its text, after a space
+Piece-direction : (d : Direction) (more : List ℕ)
     → Piece direction_at past_direction (codes " " ++ (direction_text d ++ more)) d more
-direction Read more = (refl, refl)
-direction Write more = (refl, refl)
+Piece-direction Read more = (refl, refl)
+Piece-direction Write more = (refl, refl)
 
-answer_line : (a : AnswerLine) (more : List ℕ)
+-- the line of an answer is read from its text, between two spaces
+Piece-answer_line : (a : AnswerLine) (more : List ℕ)
     → Piece answer_at past_answer (codes " " ++ (answer_text a ++ (codes " " ++ more))) a more
-answer_line Dtack more = (refl, refl)
-answer_line Berr more = (refl, refl)
+Piece-answer_line Dtack more = (refl, refl)
+Piece-answer_line Berr more = (refl, refl)
 
-last-data : (version : Version) (d : Direction) (o : Option Lanes) → has_data version d o ≡ true
+-- the data that a transfer of this version and direction may have is read from its text at the end of a line
+Piece-last_data : (version : Version) (d : Direction) (o : Option Lanes) → has_data version d o ≡ true
     → Piece data_at past_data (data_text o) o []
-last-data version d None h = (refl, refl)
-last-data version d (Some a) h =
+Piece-last_data version d None h = (refl, refl)
+Piece-last_data version d (Some a) h =
     let is = (and_parts (includes_data version && is_write d) (is_allowed_data a) h).1 in
     let e = sym (append-nil (lanes_text a)) in
     let read = ap lanes_in e ∙ lanes_in-is a [] is in (
@@ -152,62 +165,74 @@ last-data version d (Some a) h =
           ∙ after_word-is (lanes_text a) [],
     )
 
--- ---- each kind
+-- ---- each kind of row
 
+-- the row is read from its own text
 abbrev IsRead : Row → Type 0
 IsRead row = row_in (row_text row) ≡ Some row
 
-below_32 : (n : ℕ) → is_number n ≡ true → n < 2 ^ 32
-below_32 n h = ltb-true n (2 ^ 32) h
+-- a number of a row is below 2^32
+is_number-below : (n : ℕ) → is_number n ≡ true → n < 2 ^ 32
+is_number-below n h = ltb-true n (2 ^ 32) h
 
-last-number : (n : ℕ) → is_number n ≡ true → Piece number_at past_number (decimal n) n []
-last-number n h =
+-- a number of a row is read from its text at the end of a line
+Piece-last_number : (n : ℕ) → is_number n ≡ true → Piece number_at past_number (decimal n) n []
+Piece-last_number n h =
     let e = sym (append-nil (decimal n)) in
-    let read = number n [] refl (below_32 n h) in
+    let read = Piece-number n [] refl (is_number-below n h) in
     (ap (λ t. number_at (Some t)) e ∙ read.0, ap (λ t. past_number (Some t)) e ∙ read.1)
 
-start-read : (n : ℕ) → is_number n ≡ true → IsRead (Start n)
+-- the row of a start of judging is read
+IsRead-start : (n : ℕ) → is_number n ≡ true → IsRead (Start n)
 unfolding row_in row_text
-start-read n h = let p = last-number n h in rw (p.0, p.1) refl
+IsRead-start n h = let p = Piece-last_number n h in rw (p.0, p.1) refl
 
-reset-read : (n : ℕ) → is_number n ≡ true → IsRead (Reset n)
+-- the row of a reset is read
+IsRead-reset : (n : ℕ) → is_number n ≡ true → IsRead (Reset n)
 unfolding row_in row_text
-reset-read n h = let p = last-number n h in rw (p.0, p.1) refl
+IsRead-reset n h = let p = Piece-last_number n h in rw (p.0, p.1) refl
 
--- a row by its pieces: each piece is read from what is left after the piece before
-pending-by : {start : ℕ} (l : List ℕ) (d : Direction) → Piece number_at past_number l start (codes " " ++
+-- the row of a transfer without an answer, by its pieces: each piece of a row is read from what is left after the piece
+-- before
+row_in-pending : {start : ℕ} (l : List ℕ) (d : Direction) → Piece number_at past_number l start (codes " " ++
     (direction_text d
     ++ codes " pending"))
     → row_in (codes "transfer " ++ l) ≡ Some (PendingTransfer start d)
 unfolding row_in transfer_at past_transfer
-pending-by l Read n = rw (n.0, n.1) refl
-pending-by l Write n = rw (n.0, n.1) refl
+row_in-pending l Read n = rw (n.0, n.1) refl
+row_in-pending l Write n = rw (n.0, n.1) refl
 
+-- rows that have a start and an end; l is what follows the first word
 module _ {start : ℕ} {end : Option ℕ} (l : List ℕ) where
-  open_tenure-by : (t : List ℕ) → Piece number_at past_number l start (codes " open end " ++ t)
+  -- the row of a tenure that is open where judging starts, by its pieces
+  row_in-open_tenure : (t : List ℕ) → Piece number_at past_number l start (codes " open end " ++ t)
       → Piece edge_at past_edge t end [] → row_in (codes "tenure " ++ l) ≡ Some (OpenTenure start end)
   unfolding row_in tenure_at past_tenure
-  open_tenure-by t n e = rw (n.0, n.1, e.0, e.1) refl
+  row_in-open_tenure t n e = rw (n.0, n.1, e.0, e.1) refl
 
-  tenure-by : {level slot : ℕ} (t u v : List ℕ) → Piece number_at past_number l start (codes " level " ++ t)
+  -- the row of a tenure, by its pieces
+  row_in-tenure : {level slot : ℕ} (t u v : List ℕ) → Piece number_at past_number l start (codes " level " ++ t)
       → Piece small_at past_small t level (codes " slot " ++ u) → Piece small_at past_small u slot (codes " end " ++ v)
       → Piece edge_at past_edge v end [] → row_in (codes "tenure " ++ l) ≡ Some (Tenure start level slot end)
   unfolding row_in tenure_at past_tenure
-  tenure-by t u v n m s e = rw (n.0, n.1, m.0, m.1, s.0, s.1, e.0, e.1) refl
+  row_in-tenure t u v n m s e = rw (n.0, n.1, m.0, m.1, s.0, s.1, e.0, e.1) refl
 
-  interrupt-by : {level : ℕ} (t u : List ℕ) → Piece number_at past_number l start (codes " I " ++ t)
+  -- the row of an interrupt acknowledge cycle, by its pieces
+  row_in-interrupt : {level : ℕ} (t u : List ℕ) → Piece number_at past_number l start (codes " I " ++ t)
       → Piece small_at past_small t level (codes " end " ++ u) → Piece edge_at past_edge u end []
       → row_in (codes "cycle " ++ l) ≡ Some (InterruptCycle start level end)
   unfolding row_in cycle_at past_cycle
-  interrupt-by t u n m e = rw (n.0, n.1, m.0, m.1, e.0, e.1) refl
+  row_in-interrupt t u n m e = rw (n.0, n.1, m.0, m.1, e.0, e.1) refl
 
-  free-by : {code : ℕ} (t u : List ℕ) → Piece number_at past_number l start (codes " F " ++ t)
+  -- the row of a cycle of the class F, by its pieces
+  row_in-free : {code : ℕ} (t u : List ℕ) → Piece number_at past_number l start (codes " F " ++ t)
       → Piece modifier_at past_modifier t code (codes " end " ++ u) → Piece edge_at past_edge u end []
       → row_in (codes "cycle " ++ l) ≡ Some (FreeCycle start code end)
   unfolding row_in cycle_at past_cycle
-  free-by t u n m e = rw (n.0, n.1, m.0, m.1, e.0, e.1) refl
+  row_in-free t u n m e = rw (n.0, n.1, m.0, m.1, e.0, e.1) refl
 
-  addressed-by : {code place : ℕ} (c : Class) (t u v : List ℕ) → has_class code c ≡ true
+  -- the row of a cycle with an address, by its pieces
+  row_in-addressed : {code place : ℕ} (c : Class) (t u v : List ℕ) → has_class code c ≡ true
       → Piece number_at past_number l start (codes " " ++ (class_text c ++ (codes " " ++ t)))
       → Piece modifier_at past_modifier t code (codes " " ++ u)
       → Piece (λ left. hexadecimal_at left (address_digits code)) (λ left. past_hexadecimal left
@@ -215,97 +240,110 @@ module _ {start : ℕ} {end : Option ℕ} (l : List ℕ) where
       place (codes " end " ++ v) → Piece edge_at past_edge v end []
       → row_in (codes "cycle " ++ l) ≡ Some (AddressedCycle start c code place end)
   unfolding row_in cycle_at past_cycle
-  addressed-by class.S t u v h n m a e = rw (n.0, n.1, m.0, m.1, a.0, a.1, e.0, e.1) refl
-  addressed-by class.K t u v h n m a e = rw (n.0, n.1, m.0, m.1, a.0, a.1, e.0, e.1) refl
-  addressed-by class.I t u v h n m a e = absurd (cc)
-  addressed-by class.F t u v h n m a e = absurd (cc)
+  row_in-addressed class.S t u v h n m a e = rw (n.0, n.1, m.0, m.1, a.0, a.1, e.0, e.1) refl
+  row_in-addressed class.K t u v h n m a e = rw (n.0, n.1, m.0, m.1, a.0, a.1, e.0, e.1) refl
+  row_in-addressed class.I t u v h n m a e = absurd (cc)
+  row_in-addressed class.F t u v h n m a e = absurd (cc)
 
-  transfer-by : {d : Direction} {line : AnswerLine} {cycle answer : ℕ} {lanes : Option Lanes} (t u v w x y : List ℕ)
+  -- the row of a transfer with an answer, by its pieces
+  row_in-transfer : {d : Direction} {line : AnswerLine} {cycle answer : ℕ} {lanes : Option Lanes} (t u v w x y : List ℕ)
       → Piece number_at past_number l start (codes " of " ++ t) → Piece number_at past_number t cycle u
       → Piece direction_at past_direction u d v → Piece answer_at past_answer v line w
       → Piece number_at past_number w answer (codes " close " ++ x) → Piece edge_at past_edge x end y
       → Piece data_at past_data y lanes []
       → row_in (codes "transfer " ++ l) ≡ Some (Transfer d line start cycle answer end lanes)
   unfolding row_in transfer_at past_transfer
-  transfer-by t u v w x y n m d a r e f =
+  row_in-transfer t u v w x y n m d a r e f =
       rw (n.0, n.1, m.0, m.1, d.0, d.1, a.0, a.1, r.0, r.1, e.0, e.1, f.0, f.1) refl
 
-open_tenure-read : (start : ℕ) (end : Option ℕ) → is_number start ≡ true → is_edge end ≡ true
+-- the row of a tenure that is open where judging starts is read
+IsRead-open_tenure : (start : ℕ) (end : Option ℕ) → is_number start ≡ true → is_edge end ≡ true
     → IsRead (OpenTenure start end)
 unfolding row_text
-open_tenure-read start end h e =
+IsRead-open_tenure start end h e =
     let t = edge_text end in
     let l = decimal start ++ (codes " open end " ++ t) in
     ap row_in (simp append_assoc)
-    ∙ open_tenure-by l t (number start (codes " open end " ++ t) refl (below_32 start h)) (last-edge end e)
+    ∙ row_in-open_tenure l t (Piece-number start (codes " open end " ++ t) refl (is_number-below start h))
+    (Piece-last_edge end e)
 
-tenure-read : (start level slot : ℕ) (end : Option ℕ) → is_number start ≡ true → level < 4 → slot ≤ 21
+-- the row of a tenure is read
+IsRead-tenure : (start level slot : ℕ) (end : Option ℕ) → is_number start ≡ true → level < 4 → slot ≤ 21
     → is_edge end ≡ true → IsRead (Tenure start level slot end)
 unfolding row_text
-tenure-read start level slot end h less most e =
+IsRead-tenure start level slot end h less most e =
     let v = edge_text end in
     let u = decimal slot ++ (codes " end " ++ v) in
     let t = decimal level ++ (codes " slot " ++ u) in
     let l = decimal start ++ (codes " level " ++ t) in
     ap row_in (simp append_assoc)
-    ∙ tenure-by l t u v (number start (codes " level " ++ t) refl (below_32 start h))
-    (small level (codes " slot " ++ u) refl (omega arith)) (small slot (codes " end " ++ v) refl (omega arith))
-    (last-edge end e)
+    ∙ row_in-tenure l t u v (Piece-number start (codes " level " ++ t) refl (is_number-below start h))
+    (Piece-small level (codes " slot " ++ u) refl (omega arith))
+    (Piece-small slot (codes " end " ++ v) refl (omega arith))
+    (Piece-last_edge end e)
 
-interrupt-read : (start level : ℕ) (end : Option ℕ) → is_number start ≡ true → level < 8 → is_edge end ≡ true
+-- the row of an interrupt acknowledge cycle is read
+IsRead-interrupt : (start level : ℕ) (end : Option ℕ) → is_number start ≡ true → level < 8 → is_edge end ≡ true
     → IsRead (InterruptCycle start level end)
 unfolding row_text
-interrupt-read start level end h less e =
+IsRead-interrupt start level end h less e =
     let u = edge_text end in
     let t = decimal level ++ (codes " end " ++ u) in
     let l = decimal start ++ (codes " I " ++ t) in
     ap row_in (simp append_assoc)
-    ∙ interrupt-by l t u (number start (codes " I " ++ t) refl (below_32 start h))
-    (small level (codes " end " ++ u) refl (omega arith)) (last-edge end e)
+    ∙ row_in-interrupt l t u (Piece-number start (codes " I " ++ t) refl (is_number-below start h))
+    (Piece-small level (codes " end " ++ u) refl (omega arith)) (Piece-last_edge end e)
 
-free-read : (start code : ℕ) (end : Option ℕ) → is_number start ≡ true → code < 64 → is_edge end ≡ true
+-- the row of a cycle of the class F is read
+IsRead-free : (start code : ℕ) (end : Option ℕ) → is_number start ≡ true → code < 64 → is_edge end ≡ true
     → IsRead (FreeCycle start code end)
 unfolding row_text
-free-read start code end h less e =
+IsRead-free start code end h less e =
     let u = edge_text end in
     let t = hexadecimal 2 code ++ (codes " end " ++ u) in
     let l = decimal start ++ (codes " F " ++ t) in
     ap row_in (simp append_assoc)
-    ∙ free-by l t u (number start (codes " F " ++ t) refl (below_32 start h)) (modifier code (codes " end " ++ u) less)
-    (last-edge end e)
+    ∙ row_in-free l t u (Piece-number start (codes " F " ++ t) refl (is_number-below start h))
+    (Piece-modifier code (codes " end " ++ u) less)
+    (Piece-last_edge end e)
 
-addressed-read : (start : ℕ) (c : Class) (code place : ℕ) (end : Option ℕ) → is_number start ≡ true
+-- the row of a cycle with an address is read
+IsRead-addressed : (start : ℕ) (c : Class) (code place : ℕ) (end : Option ℕ) → is_number start ≡ true
     → has_class code c ≡ true → HasDigits code place → is_edge end ≡ true
     → IsRead (AddressedCycle start c code place end)
 unfolding row_text
-addressed-read start c code place end h is a e =
+IsRead-addressed start c code place end h is a e =
     let v = edge_text end in
     let u = hexadecimal (address_digits code) place ++ (codes " end " ++ v) in
     let t = hexadecimal 2 code ++ (codes " " ++ u) in
     let s = codes " " ++ (class_text c ++ (codes " " ++ t)) in
     let l = decimal start ++ s in
     ap row_in (simp append_assoc)
-    ∙ addressed-by l c t u v is (number start s refl (below_32 start h)) (modifier code (codes " "
+    ∙ row_in-addressed l c t u v is (Piece-number start s refl (is_number-below start h))
+    (Piece-modifier code (codes " "
     ++ u) a.modifier_below)
-    (address (address_digits code) place (codes " end " ++ v) a.address_below a.by_32_bits) (last-edge end e)
+    (Piece-address (address_digits code) place (codes " end " ++ v) a.address_below a.by_32_bits)
+    (Piece-last_edge end e)
 
-pending-read : (start : ℕ) (d : Direction) → is_number start ≡ true → IsRead (PendingTransfer start d)
+-- the row of a transfer without an answer is read
+IsRead-pending : (start : ℕ) (d : Direction) → is_number start ≡ true → IsRead (PendingTransfer start d)
 unfolding row_text
-pending-read start d h =
+IsRead-pending start d h =
     let t = codes " " ++ (direction_text d ++ codes " pending") in
     let l = decimal start ++ t in
-    ap row_in (simp append_assoc) ∙ pending-by l d (number start t refl (below_32 start h))
+    ap row_in (simp append_assoc) ∙ row_in-pending l d (Piece-number start t refl (is_number-below start h))
 
 -- the text of data doesn't begin with a digit
-data-end : (lanes : Option Lanes) → is_end (data_text lanes) ≡ true
-data-end None = refl
-data-end (Some a) = refl
+is_end-data_text : (lanes : Option Lanes) → is_end (data_text lanes) ≡ true
+is_end-data_text None = refl
+is_end-data_text (Some a) = refl
 
-transfer-read : (version : Version) (d : Direction) (line : AnswerLine) (start cycle answer : ℕ) (close : Option ℕ)
+-- the row of a transfer with an answer is read
+IsRead-transfer : (version : Version) (d : Direction) (line : AnswerLine) (start cycle answer : ℕ) (close : Option ℕ)
     (lanes : Option Lanes) → is_number start ≡ true → is_number cycle ≡ true → is_number answer ≡ true
     → is_edge close ≡ true → has_data version d lanes ≡ true → IsRead (Transfer d line start cycle answer close lanes)
 unfolding row_text
-transfer-read version d line start cycle answer close lanes h c a e has =
+IsRead-transfer version d line start cycle answer close lanes h c a e has =
     let y = data_text lanes in
     let x = edge_text close ++ y in
     let w = decimal answer ++ (codes " close " ++ x) in
@@ -314,117 +352,130 @@ transfer-read version d line start cycle answer close lanes h c a e has =
     let t = decimal cycle ++ u in
     let l = decimal start ++ (codes " of " ++ t) in
     ap row_in (simp append_assoc)
-    ∙ transfer-by l t u v w x y (number start (codes " of " ++ t) refl (below_32 start h))
-    (number cycle u refl (below_32 cycle c)) (direction d v) (answer_line line w)
-    (number answer (codes " close " ++ x) refl (below_32 answer a)) (edge y (data-end lanes) close e)
-    (last-data version d lanes has)
+    ∙ row_in-transfer l t u v w x y (Piece-number start (codes " of " ++ t) refl (is_number-below start h))
+    (Piece-number cycle u refl (is_number-below cycle c)) (Piece-direction d v) (Piece-answer_line line w)
+    (Piece-number answer (codes " close " ++ x) refl (is_number-below answer a))
+    (Piece-edge y (is_end-data_text lanes) close e)
+    (Piece-last_data version d lanes has)
 
--- ---- a verdict
+-- ---- the row of a verdict
 
-rule_length : (r : Rule) → length (rule_name r) ≡ 2
-rule_length r = eqb-true (length (rule_name r)) 2 (every-rule (λ r. length (rule_name r) == 2) refl r)
+-- the name of a rule has 2 bytes
+length-rule_name : (r : Rule) → length (rule_name r) ≡ 2
+length-rule_name r = eqb-true (length (rule_name r)) 2 (every-rule (λ r. length (rule_name r) == 2) refl r)
 
-long : (front back : List ℕ) → length front ≡ 2 → nat_le 2 (length (front ++ back)) ≡ true
-long front back h =
+-- a text that begins with 2 bytes has at least 2
+length-front_and_back : (front back : List ℕ) → length front ≡ 2 → nat_le 2 (length (front ++ back)) ≡ true
+length-front_and_back front back h =
     let size : 2 ≤ length (front ++ back) = omega (arith, h, length-append front back) in
     grind (arith, nat_tests)
 
 module _ (kind : Rule → ℕ → ℕ → ListedVerdict) (r : Rule) (instant line : ℕ) where
-  break-read : instant < 2 ^ 32 → line < line_count
+  -- a break is read from its text: its rule, its instant and its line
+  break_in-text : instant < 2 ^ 32 → line < line_count
       → break_in kind
       (Some (rule_name r ++ (codes " " ++ (decimal instant ++ (codes " " ++ line_name line)))))
       ≡ Some (kind r instant line)
-  break-read below inside =
+  break_in-text below inside =
       let name = line_name line in
       let z = codes " " ++ name in
       let x = codes " " ++ (decimal instant ++ z) in
       let t = rule_name r ++ x in
-      let read = number instant z refl below in
+      let read = Piece-number instant z refl below in
       ap (λ b. if b then break_by kind (rule_named (take 2 t)) (Some (drop 2 t)) else None)
-      (long (rule_name r) x (rule_length r))
-      ∙ ap (λ n. break_by kind (rule_named n) (Some (drop 2 t))) (take_at (rule_name r) x 2 (rule_length r))
-      ∙ ap (λ l. break_by kind (rule_named (rule_name r)) (Some l)) (drop_at (rule_name r) x 2 (rule_length r))
+      (length-front_and_back (rule_name r) x (length-rule_name r))
+      ∙ ap (λ n. break_by kind (rule_named n) (Some (drop 2 t))) (take_at (rule_name r) x 2 (length-rule_name r))
+      ∙ ap (λ l. break_by kind (rule_named (rule_name r)) (Some l)) (drop_at (rule_name r) x 2 (length-rule_name r))
       ∙ ap (λ o. break_by kind o (Some x)) (rule_named-is r (rule_name r) refl)
       ∙ ap (λ n. named_break kind r n (line_in (past (codes " ") (past_number (Some (decimal instant ++ z)))))) read.0
       ∙ ap (λ p. named_break kind r instant (line_in (past (codes " ") p))) read.1
       ∙ ap (λ o. named_break kind r instant o) (line_named-is line name inside refl)
 
-verdict-line : (l : List ℕ) → row_in (codes "verdict " ++ l) ≡ verdict_by (outcome_in l)
+-- a row that begins with the word `verdict` is read as the verdict after it
+row_in-verdict : (l : List ℕ) → row_in (codes "verdict " ++ l) ≡ verdict_by (outcome_in l)
 unfolding row_in
-verdict-line l = refl
+row_in-verdict l = refl
 
-broken-text : (r : Rule) (instant line : ℕ) → row_text (Verdict (Broken r instant line))
+-- the text of the row of a verdict that a rule is broken
+row_text-broken : (r : Rule) (instant line : ℕ) → row_text (Verdict (Broken r instant line))
     ≡ codes "verdict " ++ (codes "broken " ++ (rule_name r ++ (codes " " ++ (decimal instant ++ (codes " "
     ++ line_name line)))))
 unfolding row_text
-broken-text r instant line = simp append_assoc
+row_text-broken r instant line = simp append_assoc
 
-unreadable-text : (r : Rule) (instant line : ℕ) → row_text (Verdict (Unreadable r instant line))
+-- the text of the row of a verdict that a recording is unreadable
+row_text-unreadable : (r : Rule) (instant line : ℕ) → row_text (Verdict (Unreadable r instant line))
     ≡ codes "verdict " ++ (codes "unreadable " ++ (rule_name r ++ (codes " " ++ (decimal instant ++ (codes " "
     ++ line_name line)))))
 unfolding row_text
-unreadable-text r instant line = simp append_assoc
+row_text-unreadable r instant line = simp append_assoc
 
-broken-outcome : (l : List ℕ) → outcome_in (codes "broken " ++ l) ≡ break_in Broken (Some l)
+-- a verdict that begins with the word `broken` is read as the break after it
+outcome_in-broken : (l : List ℕ) → outcome_in (codes "broken " ++ l) ≡ break_in Broken (Some l)
 unfolding outcome_in
-broken-outcome l = refl
+outcome_in-broken l = refl
 
-unreadable-outcome : (l : List ℕ) → outcome_in (codes "unreadable " ++ l) ≡ break_in Unreadable (Some l)
+-- a verdict that begins with the word `unreadable` is read as the break after it
+outcome_in-unreadable : (l : List ℕ) → outcome_in (codes "unreadable " ++ l) ≡ break_in Unreadable (Some l)
 unfolding outcome_in
-unreadable-outcome l = refl
+outcome_in-unreadable l = refl
 
-verdict-read : (outcome : ListedVerdict) → is_allowed_outcome outcome ≡ true → IsRead (Verdict outcome)
+-- the row of an allowed verdict is read
+IsRead-verdict : (outcome : ListedVerdict) → is_allowed_outcome outcome ≡ true → IsRead (Verdict outcome)
 unfolding row_in outcome_in row_text
-verdict-read Conforming h = refl
-verdict-read NeverIdle h = refl
-verdict-read (Broken r instant line) h =
+IsRead-verdict Conforming h = refl
+IsRead-verdict NeverIdle h = refl
+IsRead-verdict (Broken r instant line) h =
     let parts = and_parts _ (nat_lt line line_count) h in
-    let below = below_32 instant (and_parts _ (is_number instant) parts.0).1 in
+    let below = is_number-below instant (and_parts _ (is_number instant) parts.0).1 in
     let l = rule_name r ++ (codes " " ++ (decimal instant ++ (codes " " ++ line_name line))) in
-    ap row_in (broken-text r instant line) ∙ verdict-line (codes "broken " ++ l)
-    ∙ ap verdict_by (broken-outcome l ∙ break-read Broken r instant line below (ltb-true line line_count parts.1))
-verdict-read (Unreadable r instant line) h =
+    ap row_in (row_text-broken r instant line) ∙ row_in-verdict (codes "broken " ++ l)
+    ∙ ap verdict_by (outcome_in-broken l ∙ break_in-text Broken r instant line below (ltb-true line line_count parts.1))
+IsRead-verdict (Unreadable r instant line) h =
     let parts = and_parts _ (nat_lt line line_count) h in
-    let below = below_32 instant (and_parts _ (is_number instant) parts.0).1 in
+    let below = is_number-below instant (and_parts _ (is_number instant) parts.0).1 in
     let l = rule_name r ++ (codes " " ++ (decimal instant ++ (codes " " ++ line_name line))) in
-    ap row_in (unreadable-text r instant line) ∙ verdict-line (codes "unreadable " ++ l)
-    ∙ ap verdict_by (unreadable-outcome l ∙ break-read Unreadable r instant line below
+    ap row_in (row_text-unreadable r instant line) ∙ row_in-verdict (codes "unreadable " ++ l)
+    ∙ ap verdict_by (outcome_in-unreadable l ∙ break_in-text Unreadable r instant line below
     (ltb-true line line_count parts.1))
 
--- the row of a row's own text is that row
-pub row-read : (version : Version) (row : Row) → is_row version row ≡ true → row_in (row_text row) ≡ Some row
+-- a row that its form allows is read from its own text
+pub row_in-row_text : (version : Version) (row : Row) → is_row version row ≡ true → row_in (row_text row) ≡ Some row
 unfolding is_row
-row-read version (Start instant) h = start-read instant h
-row-read version (Reset instant) h = reset-read instant (and_parts (includes_resets version) (is_number instant) h).1
-row-read version (OpenTenure start end) h =
+row_in-row_text version (Start instant) h = IsRead-start instant h
+row_in-row_text version (Reset instant) h =
+    IsRead-reset instant (and_parts (includes_resets version) (is_number instant) h).1
+row_in-row_text version (OpenTenure start end) h =
     let p = and_parts (is_number start) (is_edge end) h in
-    open_tenure-read start end p.0 p.1
-row-read version (Tenure start level slot end) h =
+    IsRead-open_tenure start end p.0 p.1
+row_in-row_text version (Tenure start level slot end) h =
     let e = and_parts (is_number start && nat_lt level 4 && nat_le 1 slot && nat_le slot 21) (is_edge end) h in
     let most = and_parts (is_number start && nat_lt level 4 && nat_le 1 slot) (nat_le slot 21) e.0 in
     let least = and_parts (is_number start && nat_lt level 4) (nat_le 1 slot) most.0 in
     let p = and_parts (is_number start) (nat_lt level 4) least.0 in
-    tenure-read start level slot end p.0 (ltb-true level 4 p.1) (leb-true slot 21 most.1) e.1
-row-read version (AddressedCycle start c modifier address end) h =
-    let e = and_parts (is_number start && has_class modifier c && is_address modifier address) (is_edge end) h in
-    let a = and_parts (is_number start && has_class modifier c) (is_address modifier address) e.0 in
-    let p = and_parts (is_number start) (has_class modifier c) a.0 in
-    addressed-read start c modifier address end p.0 p.1 (address-digits modifier address a.1) e.1
-row-read version (FreeCycle start modifier end) h =
+    IsRead-tenure start level slot end p.0 (ltb-true level 4 p.1) (leb-true slot 21 most.1) e.1
+row_in-row_text version (AddressedCycle start c Piece-modifier Piece-address end) h =
+    let e = and_parts (is_number start && has_class Piece-modifier c && is_address Piece-modifier Piece-address)
+    (is_edge end) h in
+    let a = and_parts (is_number start && has_class Piece-modifier c) (is_address Piece-modifier Piece-address) e.0 in
+    let p = and_parts (is_number start) (has_class Piece-modifier c) a.0 in
+    IsRead-addressed start c Piece-modifier Piece-address end p.0 p.1 (address-digits Piece-modifier Piece-address a.1)
+    e.1
+row_in-row_text version (FreeCycle start Piece-modifier end) h =
     let e = and_parts _ (is_edge end) h in
-    let free = and_parts (is_number start && nat_lt modifier 64) _ e.0 in
-    let p = and_parts (is_number start) (nat_lt modifier 64) free.0 in
-    free-read start modifier end p.0 (ltb-true modifier 64 p.1) e.1
-row-read version (InterruptCycle start level end) h =
+    let free = and_parts (is_number start && nat_lt Piece-modifier 64) _ e.0 in
+    let p = and_parts (is_number start) (nat_lt Piece-modifier 64) free.0 in
+    IsRead-free start Piece-modifier end p.0 (ltb-true Piece-modifier 64 p.1) e.1
+row_in-row_text version (InterruptCycle start level end) h =
     let e = and_parts (is_number start && nat_lt level 8) (is_edge end) h in
     let p = and_parts (is_number start) (nat_lt level 8) e.0 in
-    interrupt-read start level end p.0 (ltb-true level 8 p.1) e.1
-row-read version (Transfer direction line start cycle answer close lanes) h =
+    IsRead-interrupt start level end p.0 (ltb-true level 8 p.1) e.1
+row_in-row_text version (Transfer Piece-direction line start cycle answer close lanes) h =
     let d = and_parts (is_number start && is_number cycle && is_number answer && is_edge close)
-    (has_data version direction lanes) h in
+    (has_data version Piece-direction lanes) h in
     let e = and_parts (is_number start && is_number cycle && is_number answer) (is_edge close) d.0 in
     let a = and_parts (is_number start && is_number cycle) (is_number answer) e.0 in
     let p = and_parts (is_number start) (is_number cycle) a.0 in
-    transfer-read version direction line start cycle answer close lanes p.0 p.1 a.1 e.1 d.1
-row-read version (PendingTransfer start direction) h = pending-read start direction h
-row-read version (Verdict outcome) h = verdict-read outcome h
+    IsRead-transfer version Piece-direction line start cycle answer close lanes p.0 p.1 a.1 e.1 d.1
+row_in-row_text version (PendingTransfer start Piece-direction) h = IsRead-pending start Piece-direction h
+row_in-row_text version (Verdict outcome) h = IsRead-verdict outcome h

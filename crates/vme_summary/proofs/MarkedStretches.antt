@@ -22,8 +22,10 @@ use Rattle.vme_monitor.specs.declared.mark.Mark.{Mark}
 use Rattle.vme_monitor.specs.KnownRules.{known_reset_marks}
 use Rattle.vme_summary.specs.AllShown.{all_over, all_shown}
 use Rattle.vme_summary.specs.MarkedRows.{first_instant, is_cycle_end, is_tenure_end, opening_marks, rows_of}
-use Rattle.vme_summary.proofs.InstantMarks.{all_put, all_put_is, after_cycle, after_open, after_tenure, after_transfer}
-use Rattle.vme_summary.proofs.InstantMarks.{asked_row, moved_row, open_row, rows_put, start_row, taken_row}
+use Rattle.vme_summary.proofs.InstantMarks.{all_put, all_put-kinds, after_cycle, after_open, after_tenure}
+use Rattle.vme_summary.proofs.InstantMarks.{after_transfer}
+use Rattle.vme_summary.proofs.InstantMarks.{cycle_row_at, transfer_row_at, open_row, rows_of-all_put, start_row}
+use Rattle.vme_summary.proofs.InstantMarks.{tenure_row_at}
 use Rattle.vme_summary.proofs.Forward.{marks_from}
 use Rattle.vme_summary.proofs.MarkedCuts.{on_early, until_alike}
 use Rattle.vme_summary.proofs.MarkedKinds.{no_cycle, no_tenure, no_transfer, shown_as_defined, shown_at, shown_unjudged}
@@ -42,13 +44,13 @@ pieces shown j = map (mark_at j) (kinds_of (shown j))
 module _ (shown : ℕ → StepMarks) (unreset : (j : ℕ) → (shown j).reset ≡ false) where
   put_more : (i : ℕ) (xs ys : List Mark) → all_put i (shown i) (xs ++ ys) ≡ all_put i (shown i) xs ++ ys
   put_more i xs ys =
-      sym (all_put_is i (shown i) (xs ++ ys) (unreset i))
+      sym (all_put-kinds i (shown i) (xs ++ ys) (unreset i))
       ∙ (sym (append_assoc (pieces shown i) xs ys)
-      ∙ ap (λ x. x ++ ys) (all_put_is i (shown i) xs (unreset i)))
+      ∙ ap (λ x. x ++ ys) (all_put-kinds i (shown i) xs (unreset i)))
 
   -- the marks of n + 1 instants are those of n instants, and then those of the last one
   from_last : (n i : ℕ) → marks_from shown i (suc n) ≡ marks_from shown i n ++ pieces shown (i + n)
-  from_last zero i = sym (all_put_is i (shown i) [] (unreset i))
+  from_last zero i = sym (all_put-kinds i (shown i) [] (unreset i))
       ∙ (append-nil (pieces shown i) ∙ ap (pieces shown) none)
     where
       none : i ≡ i + 0
@@ -100,7 +102,7 @@ module _ (t : Trace) (stretch : Stretch) where
   until_is : (n : ℕ) → suc n ≤ stretch.end → pieces (shown_at t stretch) 0
       ++ marks_until stretch (shown_at t stretch) (suc n)
       ≡ marks_from (shown_at t stretch) 0 (suc n)
-  until_is zero below = all_put_is 0 (shown_at t stretch 0) [] refl
+  until_is zero below = all_put-kinds 0 (shown_at t stretch 0) [] refl
   until_is (suc n) below =
       sym (append_assoc (pieces (shown_at t stretch) 0) (marks_until stretch (shown_at t stretch) (suc n))
       (marks_on stretch (shown_at t stretch) (suc n)))
@@ -156,15 +158,16 @@ module _ (t : Trace) (stretch : Stretch) where
         (first_instant is_tenure_end (after_open i (shown_at t stretch i) (later i n)))
 
     abbrev taken_part : ℕ → ℕ → List Row
-    taken_part i n = taken_row i (shown_at t stretch i).tenure
+    taken_part i n = tenure_row_at i (shown_at t stretch i).tenure
         (first_instant is_tenure_end (after_tenure i (shown_at t stretch i) (later i n)))
 
     abbrev asked_part : ℕ → ℕ → List Row
-    asked_part i n = asked_row i (shown_at t stretch i).cycle
+    asked_part i n = cycle_row_at i (shown_at t stretch i).cycle
         (first_instant is_cycle_end (after_cycle i (shown_at t stretch i) (later i n)))
 
     abbrev moved_part : Option ℕ → ℕ → ℕ → List Row
-    moved_part cycle i n = moved_row i (shown_at t stretch i).transfer cycle (after_transfer i (shown_at t stretch i)
+    moved_part cycle i n = transfer_row_at i (shown_at t stretch i).transfer cycle
+        (after_transfer i (shown_at t stretch i)
         (later i n))
 
     tenures_at : (i n : ℕ) → suc i + n ≡ end → open_part i n ++ taken_part i n ≡ tenure_rows t stretch end i
@@ -193,7 +196,7 @@ module _ (t : Trace) (stretch : Stretch) where
     instant_found : (i n : ℕ) → suc i + n ≡ end → rows_of (latest t stretch (suc i)) (later i n) ≡ rows_from (suc i) n
         → rows_of (latest t stretch i) (marks_from (shown_at t stretch) i (suc n)) ≡ rows_from i (suc n)
     instant_found i n whole after =
-        rows_put i (shown_at t stretch i) (later i n) (latest t stretch i)
+        rows_of-all_put i (shown_at t stretch i) (later i n) (latest t stretch i)
         ∙ (ap (λ c. start_row i (i == stretch.start)
         ++ (open_part i n ++ (taken_part i n ++ (asked_part i n ++ (moved_part c i n ++ rows_of c (later i n))))))
         (latest_more t stretch i)

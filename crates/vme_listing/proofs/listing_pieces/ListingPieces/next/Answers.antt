@@ -5,15 +5,17 @@ use Rattle.vme_listing.specs.Places.{may_follow}
 use Rattle.vme_listing.specs.Reading.{HasRead, IsTextOfListing, RowsSoFar, behind_rows, listed}
 use Rattle.vme_listing.specs.RowText.{line_of}
 use Rattle.vme_listing.proofs.KnownFronts.{front-known, front-on, rest-is}
-use Rattle.vme_listing.proofs.Readings.{bad-is, follows_from, follows_parts, has_read_more, unsorted-is}
-use Rattle.vme_listing.proofs.Readings.{whole-is}
+use Rattle.vme_listing.proofs.Readings.{IsFaultOfText-bad_row, follows-from_parts, follows-parts, HasRead-append}
+use Rattle.vme_listing.proofs.Readings.{IsFaultOfText-unsorted}
+use Rattle.vme_listing.proofs.Readings.{IsTextOfListing-by_last}
 use Rattle.vme_listing.proofs.listing_pieces.ListingPieces.next.Goals as goal
 
 pub returns-then-is_last-clause-whole : goal.returns-then-is_last-clause-whole
 returns-then-is_last-clause-whole c text future rows ends h e =
     let left = c.args.bytes.now ++ future in
     subst (λ (u : RowsSoFar). IsTextOfListing text (listed u.version rows)) c.self.view_is
-    (whole-is text rows _ (subst (λ (u : RowsSoFar). HasRead text rows (behind_rows u left)) (sym c.self.view_is) h)
+    (IsTextOfListing-by_last text rows _
+    (subst (λ (u : RowsSoFar). HasRead text rows (behind_rows u left)) (sym c.self.view_is) h)
     (sym c.is_last.ensures ∙ c.if-is_last.true))
 
 pub overflow_add-number : goal.overflow_add-number
@@ -22,7 +24,7 @@ overflow_add-number c = omega (arith, c.requires.countable, ap (λ (u : RowsSoFa
 pub returns-in_default-clause-fault : goal.returns-in_default-clause-fault
 returns-in_default-clause-fault c text future rows ends h =
     let bytes = c.args.bytes.now in
-    bad-is text rows _
+    IsFaultOfText-bad_row text rows _
     (subst (λ (u : RowsSoFar). HasRead text rows (behind_rows u (bytes ++ future))) (sym c.self.view_is) h)
     (sym c.is_last.ensures ∙ c.if-is_last.false) _ refl
     (λ row more is may front.
@@ -33,7 +35,7 @@ returns-in_default-clause-fault c text future rows ends h =
 pub returns-then-not-may_follow-clause-fault : goal.returns-then-not-may_follow-clause-fault
 returns-then-not-may_follow-clause-fault c text future rows ends h =
     let bytes = c.args.bytes.now in
-    bad-is text rows _
+    IsFaultOfText-bad_row text rows _
     (subst (λ (u : RowsSoFar). HasRead text rows (behind_rows u (bytes ++ future))) (sym c.self.view_is) h)
     (sym c.is_last.ensures ∙ c.if-is_last.false) _ refl
     (λ row more is may front.
@@ -46,7 +48,7 @@ pub returns-then-not-ascends-clause-fault : goal.returns-then-not-ascends-clause
 returns-then-not-ascends-clause-fault c text future rows ends h =
     let bytes = c.args.bytes.now in
     let version = c.self.inside.version in
-    unsorted-is text rows _
+    IsFaultOfText-unsorted text rows _
     (subst (λ (u : RowsSoFar). HasRead text rows (behind_rows u (bytes ++ future))) (sym c.self.view_is) h)
     (sym c.is_last.ensures ∙ c.if-is_last.false) _ c.in-Some.row (c.in-Some.more.now ++ future) refl
     c.in-Some.ensures.named.0 (sym c.if-not-may_follow.ensures) (sym c.if-not-ascends.ensures)
@@ -68,17 +70,17 @@ returns-clause-row c text future rows ends h =
     let more = c.in-Some.more.now in
     let is = c.in-Some.ensures.named.0 in
     let front = c.in-Some.ensures.named.1 in
-    let f = follows_from version c.self.inside.last c.in-Some.row is (sym c.if-not-may_follow.ensures)
+    let f = follows-from_parts version c.self.inside.last c.in-Some.row is (sym c.if-not-may_follow.ensures)
     (sym c.if-not-ascends.ensures) in
     subst (λ l. HasRead text (rows ++ c.in-Some.row ∷ [])
     (record { version = version; rest = l ++ future; last = Some c.in-Some.row; count = c.self.inside.count + 1 }))
     (sym (rest-is bytes (line_of c.in-Some.row) more front.0))
-    (has_read_more text rows _
+    (HasRead-append text rows _
     (subst (λ (u : RowsSoFar). HasRead text rows (behind_rows u (bytes ++ future))) (sym c.self.view_is) h)
     (sym c.is_last.ensures ∙ c.if-is_last.false) c.in-Some.row (more ++ future) f
     (front-on version c.args.is_rest bytes future ends c.requires.enough c.in-Some.row is more front)
     (λ other behind g e.
-    let other_is = (follows_parts _ _ other g).0 in
+    let other_is = (follows-parts _ _ other g).0 in
     let known = front-known version c.args.is_rest bytes future ends c.requires.enough other other_is behind e in
     let same = c.in-Some.ensures.found other known.0 other_is known.1 in
     (same.0, ap (λ l. l ++ future) same.1 ∙ known.2)))
