@@ -53,10 +53,10 @@ use Rattle.vme_listing.proofs.Pieces.{piece-is}
 pub hexadecimal_in-is : (k n : ℕ) (more : List ℕ) → n < 16 ^ k → n < 2 ^ 32
     → hexadecimal_in k (hexadecimal k n ++ more) ≡ Some n
 unfolding hexadecimal_in
-hexadecimal_in-is k n more Piece-small below =
+hexadecimal_in-is k n more in_digits below =
     rw (
       take_at (hexadecimal k n) more k (hexadecimal-length k n),
-      number_of-hexadecimal k n Piece-small below,
+      number_of-hexadecimal k n in_digits below,
       bytes_eq-refl (hexadecimal k n),
     ) refl
 
@@ -123,8 +123,8 @@ Piece-last_edge end h =
 -- an address below 2^32 is read from its k digits in base 16
 Piece-address : (k n : ℕ) (more : List ℕ) → n < 16 ^ k → n < 2 ^ 32
     → Piece (λ left. hexadecimal_at left k) (λ left. past_hexadecimal left k) (hexadecimal k n ++ more) n more
-Piece-address k n more Piece-small below =
-    let read = hexadecimal_in-is k n more Piece-small below in (
+Piece-address k n more in_digits below =
+    let read = hexadecimal_in-is k n more in_digits below in (
       piece-is (hexadecimal_in k) (hexadecimal k) 0 n more read,
       past_piece-is (hexadecimal_in k) (hexadecimal k) 0 n more
           read,
@@ -454,28 +454,28 @@ row_in-row_text version (Tenure start level slot end) h =
     let least = and_parts (is_number start && nat_lt level 4) (nat_le 1 slot) most.0 in
     let p = and_parts (is_number start) (nat_lt level 4) least.0 in
     IsRead-tenure start level slot end p.0 (ltb-true level 4 p.1) (leb-true slot 21 most.1) e.1
-row_in-row_text version (AddressedCycle start c Piece-modifier Piece-address end) h =
-    let e = and_parts (is_number start && has_class Piece-modifier c && is_address Piece-modifier Piece-address)
+row_in-row_text version (AddressedCycle start c modifier address end) h =
+    let e = and_parts (is_number start && has_class modifier c && is_address modifier address)
     (is_edge end) h in
-    let a = and_parts (is_number start && has_class Piece-modifier c) (is_address Piece-modifier Piece-address) e.0 in
-    let p = and_parts (is_number start) (has_class Piece-modifier c) a.0 in
-    IsRead-addressed start c Piece-modifier Piece-address end p.0 p.1 (address-digits Piece-modifier Piece-address a.1)
+    let a = and_parts (is_number start && has_class modifier c) (is_address modifier address) e.0 in
+    let p = and_parts (is_number start) (has_class modifier c) a.0 in
+    IsRead-addressed start c modifier address end p.0 p.1 (address-digits modifier address a.1)
     e.1
-row_in-row_text version (FreeCycle start Piece-modifier end) h =
+row_in-row_text version (FreeCycle start modifier end) h =
     let e = and_parts _ (is_edge end) h in
-    let free = and_parts (is_number start && nat_lt Piece-modifier 64) _ e.0 in
-    let p = and_parts (is_number start) (nat_lt Piece-modifier 64) free.0 in
-    IsRead-free start Piece-modifier end p.0 (ltb-true Piece-modifier 64 p.1) e.1
+    let free = and_parts (is_number start && nat_lt modifier 64) _ e.0 in
+    let p = and_parts (is_number start) (nat_lt modifier 64) free.0 in
+    IsRead-free start modifier end p.0 (ltb-true modifier 64 p.1) e.1
 row_in-row_text version (InterruptCycle start level end) h =
     let e = and_parts (is_number start && nat_lt level 8) (is_edge end) h in
     let p = and_parts (is_number start) (nat_lt level 8) e.0 in
     IsRead-interrupt start level end p.0 (ltb-true level 8 p.1) e.1
-row_in-row_text version (Transfer Piece-direction line start cycle answer close lanes) h =
+row_in-row_text version (Transfer direction line start cycle answer close lanes) h =
     let d = and_parts (is_number start && is_number cycle && is_number answer && is_edge close)
-    (has_data version Piece-direction lanes) h in
+    (has_data version direction lanes) h in
     let e = and_parts (is_number start && is_number cycle && is_number answer) (is_edge close) d.0 in
     let a = and_parts (is_number start && is_number cycle) (is_number answer) e.0 in
     let p = and_parts (is_number start) (is_number cycle) a.0 in
-    IsRead-transfer version Piece-direction line start cycle answer close lanes p.0 p.1 a.1 e.1 d.1
-row_in-row_text version (PendingTransfer start Piece-direction) h = IsRead-pending start Piece-direction h
+    IsRead-transfer version direction line start cycle answer close lanes p.0 p.1 a.1 e.1 d.1
+row_in-row_text version (PendingTransfer start direction) h = IsRead-pending start direction h
 row_in-row_text version (Verdict outcome) h = IsRead-verdict outcome h
