@@ -6,17 +6,20 @@ use Rattle.std.specs.Fmt.{digit_glyph}
 use Rattle.std.proofs.lemmas.Fmt.{decimal_step}
 use Rattle.vme_listing.specs.RowText.{hexadecimal}
 
-pub decimal_length : (n : ℕ) → 10 ≤ n → n < 2 ^ 64 → length (decimal n) ≡ length (decimal (n / 10)) + 1
-decimal_length n low high = omega (arith, ap length (decimal_step n low high), length-append {A = ℕ})
+-- a number of at least 10 has one digit more than the number without its last digit
+pub length-decimal : (n : ℕ) → 10 ≤ n → n < 2 ^ 64 → length (decimal n) ≡ length (decimal (n / 10)) + 1
+length-decimal n low high = omega (arith, ap length (decimal_step n low high), length-append {A = ℕ})
 
-pub hexadecimal_step : (k n : ℕ) → 0 < k → hexadecimal k n ≡ hexadecimal (k - 1) (n / 16) ++ digit_glyph true (n % 16)
+-- the k digits of n in base 16 are those of n / 16, one fewer, and then n % 16
+pub hexadecimal-last : (k n : ℕ) → 0 < k → hexadecimal k n ≡ hexadecimal (k - 1) (n / 16) ++ digit_glyph true (n % 16)
     ∷ []
 unfolding hexadecimal
-hexadecimal_step zero n h = absurd (omega arith)
-hexadecimal_step (suc k) n h = let e : k ≡ suc k - 1 = omega arith in
+hexadecimal-last zero n h = absurd (omega arith)
+hexadecimal-last (suc k) n h = let e : k ≡ suc k - 1 = omega arith in
     ap (λ m. hexadecimal m (n / 16) ++ digit_glyph true (n % 16) ∷ []) e
 
-pub hexadecimal_none : (k n : ℕ) → k ≤ 0 → hexadecimal k n ≡ []
+-- in no digits a number has no text
+pub hexadecimal-no_digits : (k n : ℕ) → k ≤ 0 → hexadecimal k n ≡ []
 unfolding hexadecimal
-hexadecimal_none zero n h = refl
-hexadecimal_none (suc k) n h = absurd (omega arith)
+hexadecimal-no_digits zero n h = refl
+hexadecimal-no_digits (suc k) n h = absurd (omega arith)

@@ -1,4 +1,4 @@
--- The number whose digits in base 16 a word is, and the data whose text a word is.
+-- The number whose digits in base 16 are at the start of a text, and the data whose text is there.
 use Rattle.std.proofs.Common.{◌≡◌, ℕ, zero, suc, ◌+◌, ◌*◌, ◌/◌, ◌%◌, ◌^◌, ◌<◌, ◌≤◌, true, false}
 use Rattle.std.proofs.Common.{List, [], ◌∷◌, ◌++◌, drop, get_or, length, take, refl, sym, ap, ◌∙◌, arith, length-append}
 use Rattle.std.specs.Prelude.{None, Some, bytes_eq, if◌then◌else◌}
@@ -16,9 +16,11 @@ use Rattle.vme_listing.specs.Words.{number_of}
 use Rattle.vme_listing.proofs.FrontDigits.{after_word-take, bytes_eq-differs, bytes_eq-refl}
 use Rattle.vme_listing.proofs.Numerals.{number_of-hexadecimal}
 
-glyph_hexadecimal : (digit : ℕ) → digit < 16 → is_hexadecimal (digit_glyph true digit) ≡ true
-glyph_hexadecimal digit small = grind (arith, nat_tests)
+-- the character of a digit is one of a number in base 16
+is_hexadecimal-digit_glyph : (digit : ℕ) → digit < 16 → is_hexadecimal (digit_glyph true digit) ≡ true
+is_hexadecimal-digit_glyph digit small = grind (arith, nat_tests)
 
+-- two words of digits in base 16 are such a word together
 are_hexadecimal-append : (front back : List ℕ) → are_hexadecimal front ≡ true → are_hexadecimal back ≡ true
     → are_hexadecimal (front ++ back) ≡ true
 are_hexadecimal-append [] back h k = k
@@ -26,57 +28,65 @@ are_hexadecimal-append (byte ∷ front) back h k =
     let parts = and_parts (is_hexadecimal byte) (are_hexadecimal front) h in
     and_from _ _ parts.0 (are_hexadecimal-append front back parts.1 k)
 
-hexadecimal-are : (k n : ℕ) → are_hexadecimal (hexadecimal k n) ≡ true
+-- a number in base 16 is a word of such digits
+are_hexadecimal-hexadecimal : (k n : ℕ) → are_hexadecimal (hexadecimal k n) ≡ true
 unfolding hexadecimal
-hexadecimal-are zero n = refl
-hexadecimal-are (suc k) n =
-    are_hexadecimal-append (hexadecimal k (n / 16)) (digit_glyph true (n % 16) ∷ []) (hexadecimal-are k (n / 16))
-    (and_from _ _ (glyph_hexadecimal (n % 16) (omega arith)) refl)
+are_hexadecimal-hexadecimal zero n = refl
+are_hexadecimal-hexadecimal (suc k) n =
+    are_hexadecimal-append (hexadecimal k (n / 16)) (digit_glyph true (n % 16) ∷ [])
+    (are_hexadecimal-hexadecimal k (n / 16))
+    (and_from _ _ (is_hexadecimal-digit_glyph (n % 16) (omega arith)) refl)
 
 -- a word with a byte that isn't a digit in base 16 isn't all such digits
-pub not-hexadecimal : (word : List ℕ) (i : ℕ) → i < length word → is_hexadecimal (get_or word i 0) ≡ false
+pub are_hexadecimal-not_at : (word : List ℕ) (i : ℕ) → i < length word → is_hexadecimal (get_or word i 0) ≡ false
     → are_hexadecimal word ≡ false
-not-hexadecimal [] i within e = absurd (omega arith)
-not-hexadecimal (byte ∷ word) zero within e = rw e refl
-not-hexadecimal (byte ∷ word) (suc i) within e =
-    and_right (is_hexadecimal byte) (are_hexadecimal word) (not-hexadecimal word i (omega arith) e)
+are_hexadecimal-not_at [] i within e = absurd (omega arith)
+are_hexadecimal-not_at (byte ∷ word) zero within e = rw e refl
+are_hexadecimal-not_at (byte ∷ word) (suc i) within e =
+    and_right (is_hexadecimal byte) (are_hexadecimal word) (are_hexadecimal-not_at word i (omega arith) e)
 
-pub hexadecimal-length : (k n : ℕ) → length (hexadecimal k n) ≡ k
+-- a number in k digits has k bytes
+pub length-hexadecimal : (k n : ℕ) → length (hexadecimal k n) ≡ k
 unfolding hexadecimal
-hexadecimal-length zero n = refl
-hexadecimal-length (suc k) n =
+length-hexadecimal zero n = refl
+length-hexadecimal (suc k) n =
     omega (
       arith,
-      hexadecimal-length k (n / 16),
+      length-hexadecimal k (n / 16),
       length-append (hexadecimal k (n / 16)) (digit_glyph true
           (n % 16) ∷ []),
     )
 
-hexadecimal-push : (i m number digit : ℕ) → m / 16 ≡ number → m % 16 ≡ digit
+-- the i + 1 digits of m are the i digits of m / 16, and then m % 16
+hexadecimal-last_digit : (i m number digit : ℕ) → m / 16 ≡ number → m % 16 ≡ digit
     → hexadecimal (i + 1) m ≡ hexadecimal i number ++ digit_glyph true digit ∷ []
 unfolding hexadecimal
-hexadecimal-push i m number digit front last =
+hexadecimal-last_digit i m number digit front last =
     let next : i + 1 ≡ suc i = omega arith in
     ap (λ k. hexadecimal k m) next ∙ ap (λ n. hexadecimal i n ++ digit_glyph true (m % 16) ∷ []) front
     ∙ ap (λ d. hexadecimal i number ++ digit_glyph true d ∷ []) last
 
 -- where the first i bytes of the word are the digits of `number`, the first i + 1 are those of `number * 16 + digit`
-pub hexadecimal-more : (word : List ℕ) (i number digit : ℕ) → i < length word → hexadecimal i number ≡ take i word
+pub hexadecimal-one_more_digit : (word : List ℕ) (i number digit : ℕ) → i < length word → hexadecimal i number
+    ≡ take i word
     → digit < 16 → digit_glyph true digit ≡ get_or word i 0
     → hexadecimal (i + 1) (number * 16 + digit) ≡ take (i + 1) word
-hexadecimal-more word i number digit within so_far small glyph =
-    hexadecimal-push i (number * 16 + digit) number digit (omega arith) (omega arith)
+hexadecimal-one_more_digit word i number digit within so_far small glyph =
+    hexadecimal-last_digit i (number * 16 + digit) number digit (omega arith) (omega arith)
     ∙ ap (λ b. hexadecimal i number ++ b ∷ []) glyph ∙ ap (λ l. l ++ get_or word i 0 ∷ []) so_far
     ∙ sym (take_at_read word i 0 within).1
 
-pub below-more : (i number digit : ℕ) → number < 16 ^ i → digit < 16 → number * 16 + digit < 16 ^ (i + 1)
-below-more i number digit below small =
+-- a number below 16 ^ i, with one digit more, is below 16 ^ (i + 1)
+pub pow_16-one_more_digit : (i number digit : ℕ) → number < 16 ^ i → digit < 16 → number * 16 + digit < 16 ^ (i + 1)
+pow_16-one_more_digit i number digit below small =
     let next : i + 1 ≡ suc i = omega arith in
     omega (arith, below, small, pow-suc 16 i, ap (λ k. 16 ^ k) next)
 
-pub below-most : (i most number : ℕ) → i ≤ most → number < 16 ^ i → number < 16 ^ most
-below-most i most number few below = omega (arith, below, pow-le-pow_right {n = 16} (omega arith) few)
+-- a number of at most i digits is one of at most `most` digits, if i is at most `most`
+pub pow_16-at_most : (i most number : ℕ) → i ≤ most → number < 16 ^ i → number < 16 ^ most
+pow_16-at_most i most number few below = omega (arith, below, pow-le-pow_right {n = 16} (omega arith) few)
 
+-- a text of fewer than k bytes doesn't begin with k digits
 pub hexadecimal_in-short : (k : ℕ) (text : List ℕ) → length text < k → hexadecimal_in k text ≡ None
 unfolding hexadecimal_in
 hexadecimal_in-short k text short =
@@ -84,48 +94,58 @@ hexadecimal_in-short k text short =
     (λ e. omega (
       arith,
       ap length e,
-      hexadecimal-length k (number_of 16 (take k text)),
+      length-hexadecimal k (number_of 16 (take k text)),
       ap length (take_all k text (omega arith)),
     ))) refl
 
+-- a text whose first k bytes aren't all digits doesn't begin with k digits
 pub hexadecimal_in-not : (k : ℕ) (text : List ℕ) → are_hexadecimal (take k text) ≡ false → hexadecimal_in k text ≡ None
 unfolding hexadecimal_in
 hexadecimal_in-not k text h =
     rw (bytes_eq-differs (hexadecimal k (number_of 16 (take k text))) (take k text)
-    (λ e. false≢true (sym h ∙ ap are_hexadecimal (sym e) ∙ hexadecimal-are k (number_of 16 (take k text))))) refl
+    (λ e. false≢true (sym h ∙ ap are_hexadecimal (sym e) ∙ are_hexadecimal-hexadecimal k (number_of 16 (take k text)))))
+    refl
 
+-- the first k bytes of the text, at most 8, are the digits of `number` in base 16
 module _ (k : ℕ) (text : List ℕ) (number : ℕ) (few : k ≤ 8) (within : k ≤ length text)
     (is : hexadecimal (length (take k text)) number ≡ take k text) (below : number < 16 ^ length (take k text)) where
-  size : length (take k text) ≡ k
-  size = length-take-le k text within
+  -- they are k bytes
+  length-take_digits : length (take k text) ≡ k
+  length-take_digits = length-take-le k text within
 
-  word-is : hexadecimal k number ≡ take k text
-  word-is = ap (λ n. hexadecimal n number) (sym size) ∙ is
+  -- they are the k digits of `number`
+  hexadecimal-take : hexadecimal k number ≡ take k text
+  hexadecimal-take = ap (λ n. hexadecimal n number) (sym length-take_digits) ∙ is
 
-  under : number < 16 ^ k
-  under = omega (arith, below, ap (λ n. 16 ^ n) size)
+  -- the number is below 16 ^ k
+  number-below_pow_16 : number < 16 ^ k
+  number-below_pow_16 = omega (arith, below, ap (λ n. 16 ^ n) length-take_digits)
 
-  by_32_bits : number < 16 ^ 8
-  by_32_bits = below-most k 8 number few under
+  -- the number is below 2^32, which is 16 ^ 8
+  number-below_32_bits : number < 16 ^ 8
+  number-below_32_bits = pow_16-at_most k 8 number few number-below_pow_16
 
+  -- the number is read at the start of the text
   pub hexadecimal_in-front : hexadecimal_in k text ≡ Some number
   unfolding hexadecimal_in
   hexadecimal_in-front =
       rw (
-        sym word-is,
-        number_of-hexadecimal k number under (omega (arith, by_32_bits)),
+        sym hexadecimal-take,
+        number_of-hexadecimal k number number-below_pow_16 (omega (arith, number-below_32_bits)),
         bytes_eq-refl
             (hexadecimal k number),
       ) refl
 
+  -- after the digits of the number the bytes after the first k follow
   pub after_word-hexadecimal : after_word (hexadecimal k number) text ≡ Some (drop k text)
-  after_word-hexadecimal = ap (λ w. after_word w text) word-is ∙ after_word-take k text
+  after_word-hexadecimal = ap (λ w. after_word w text) hexadecimal-take ∙ after_word-take k text
 
 -- the text of data has eight bytes
 pub lanes-length : (a : Lanes) → length (lanes_text a) ≡ 8
 unfolding lanes_text
 lanes-length a = refl
 
+-- a text of fewer than 8 bytes doesn't begin with the text of data
 pub lanes_in-short : (text : List ℕ) → length text < 8 → lanes_in text ≡ None
 unfolding lanes_in
 lanes_in-short text short =
@@ -133,17 +153,22 @@ lanes_in-short text short =
     (λ e. omega (arith, ap length e, lanes-length (lanes_of (take 8 text)), ap length (take_all 8 text (omega arith)))))
     refl
 
+-- a is the data that the first 8 bytes of the text give, whether they are a text of data or not
 module _ (text : List ℕ) (a : Lanes) (is : a ≡ lanes_of (take 8 text)) where
-  lanes_in-by : lanes_in text ≡ (if bytes_eq (lanes_text a) (take 8 text) then Some a else None)
+  -- a is read at the start of the text exactly if its own text is there
+  lanes_in-by_test : lanes_in text ≡ (if bytes_eq (lanes_text a) (take 8 text) then Some a else None)
   unfolding lanes_in
-  lanes_in-by = ap (λ b. if bytes_eq (lanes_text b) (take 8 text) then Some b else None) (sym is)
+  lanes_in-by_test = ap (λ b. if bytes_eq (lanes_text b) (take 8 text) then Some b else None) (sym is)
 
+  -- if the text of a is there, a is read
   pub lanes_in-front : bytes_eq (lanes_text a) (take 8 text) ≡ true → lanes_in text ≡ Some a
-  lanes_in-front h = lanes_in-by ∙ (rw h refl)
+  lanes_in-front h = lanes_in-by_test ∙ (rw h refl)
 
+  -- if another text is there, no data is read
   pub lanes_in-other : bytes_eq (lanes_text a) (take 8 text) ≡ false → lanes_in text ≡ None
-  lanes_in-other h = lanes_in-by ∙ (rw h refl)
+  lanes_in-other h = lanes_in-by_test ∙ (rw h refl)
 
+-- after the text of data at the start of a text the bytes after the first 8 follow
 pub after_word-lanes : (text : List ℕ) (a : Lanes) → bytes_eq (lanes_text a) (take 8 text) ≡ true
     → after_word (lanes_text a) text ≡ Some (drop 8 text)
 after_word-lanes text a h =

@@ -14,26 +14,32 @@ abbrev pub are_glyphs : List ℕ → Bool
 are_glyphs [] = true
 are_glyphs (byte ∷ word) = leb 48 byte && are_glyphs word
 
-glyphs-append : (front back : List ℕ) → are_glyphs front ≡ true → are_glyphs back ≡ true → are_glyphs (front ++ back)
+-- two words of digits and letters are such a word together
+are_glyphs-append : (front back : List ℕ) → are_glyphs front ≡ true → are_glyphs back ≡ true
+    → are_glyphs (front ++ back)
     ≡ true
-glyphs-append [] back h k = k
-glyphs-append (byte ∷ front) back h k =
+are_glyphs-append [] back h k = k
+are_glyphs-append (byte ∷ front) back h k =
     let parts = and_parts (leb 48 byte) (are_glyphs front) h in
-    and_from _ _ parts.0 (glyphs-append front back parts.1 k)
+    and_from _ _ parts.0 (are_glyphs-append front back parts.1 k)
 
-one_glyph : (byte : ℕ) → 48 ≤ byte → are_glyphs (byte ∷ []) ≡ true
-one_glyph byte h = grind (arith, nat_tests)
+-- a byte from the digit 0 on is such a word
+are_glyphs-one : (byte : ℕ) → 48 ≤ byte → are_glyphs (byte ∷ []) ≡ true
+are_glyphs-one byte h = grind (arith, nat_tests)
 
-pub decimal-glyphs : (n : ℕ) → n < 2 ^ 64 → are_glyphs (decimal n) ≡ true
-decimal-glyphs n below =
-    decimal_by_steps (λ n ds. are_glyphs ds ≡ true) (λ n small. one_glyph (48 + n) (omega arith))
-    (λ n ds low h. glyphs-append ds ((48 + n % 10) ∷ []) h (one_glyph (48 + n % 10) (omega arith))) n below
+-- a decimal text is a word of digits
+pub are_glyphs-decimal : (n : ℕ) → n < 2 ^ 64 → are_glyphs (decimal n) ≡ true
+are_glyphs-decimal n below =
+    decimal_by_steps (λ n ds. are_glyphs ds ≡ true) (λ n small. are_glyphs-one (48 + n) (omega arith))
+    (λ n ds low h. are_glyphs-append ds ((48 + n % 10) ∷ []) h (are_glyphs-one (48 + n % 10) (omega arith))) n below
 
-glyph_past : (digit : ℕ) → 48 ≤ digit_glyph true digit
-glyph_past digit = grind (arith, nat_tests)
+-- the character of a digit is 0 or comes after it in ASCII
+digit_glyph-at_least : (digit : ℕ) → 48 ≤ digit_glyph true digit
+digit_glyph-at_least digit = grind (arith, nat_tests)
 
-pub hexadecimal-glyphs : (k n : ℕ) → are_glyphs (hexadecimal k n) ≡ true
+-- a number in base 16 is a word of digits and letters
+pub are_glyphs-hexadecimal : (k n : ℕ) → are_glyphs (hexadecimal k n) ≡ true
 unfolding hexadecimal
-hexadecimal-glyphs zero n = refl
-hexadecimal-glyphs (suc k) n = glyphs-append (hexadecimal k (n / 16)) (digit_glyph true (n % 16) ∷ [])
-    (hexadecimal-glyphs k (n / 16)) (one_glyph (digit_glyph true (n % 16)) (glyph_past (n % 16)))
+are_glyphs-hexadecimal zero n = refl
+are_glyphs-hexadecimal (suc k) n = are_glyphs-append (hexadecimal k (n / 16)) (digit_glyph true (n % 16) ∷ [])
+    (are_glyphs-hexadecimal k (n / 16)) (are_glyphs-one (digit_glyph true (n % 16)) (digit_glyph-at_least (n % 16)))

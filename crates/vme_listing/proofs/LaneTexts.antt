@@ -14,8 +14,8 @@ use Rattle.vme_listing.specs.Places.{are_digits_from, is_allowed_data, is_allowe
 use Rattle.vme_listing.specs.RowText.{digit_text, digit_text_in, lanes_text}
 use Rattle.vme_listing.specs.Words.{digit_of, number_after, number_of, flag_of, flags_after, flags_of, moved_of}
 use Rattle.vme_listing.specs.Lines.{lanes_of}
-use Rattle.vme_listing.proofs.DigitTexts.{text_past, digit_of-text, flag_of-text, shown-text}
-use Rattle.vme_listing.proofs.Numerals.{last}
+use Rattle.vme_listing.proofs.DigitTexts.{digit_text-at_least, digit_of-text, flag_of-text, shown-text}
+use Rattle.vme_listing.proofs.Numerals.{mod_32_bits-last_digit}
 
 -- the data is one that its form allows, by parts: the numbers' bounds, and each digit with its bit
 record IsAllowedData (a : Lanes) : Type 0 where
@@ -64,7 +64,7 @@ number_step : (n front byte : ℕ) (word : List ℕ) → n < 2 ^ 32 → front �
 number_step n front byte word below e d =
     ap (λ x. number_after 16 x word)
     (ap (λ f. (f * 16 % 2 ^ 32 + digit_of byte) % 2 ^ 32) e ∙ ap (λ x. (n / 16 * 16 % 2 ^ 32 + x) % 2 ^ 32) d
-    ∙ last 16 (n / 16) (n % 16) n (omega arith) below)
+    ∙ mod_32_bits-last_digit 16 (n / 16) (n % 16) n (omega arith) below)
 
 number_read : (a : Lanes) → is_allowed_data a ≡ true → number_of 16 (lanes_text a) ≡ a.value
 unfolding number_of lanes_text
@@ -159,7 +159,7 @@ lanes-are a h = rw (moved_read a, number_read a h, flags_read a h) refl
 
 digit_stays : (moved : Bool) (digit flag : ℕ) → not (digit_text moved digit flag == 10) ≡ true
 digit_stays moved digit flag = ap not (ne_eqb (digit_text moved digit flag) 10
-    (λ e. omega (arith, text_past moved digit flag)))
+    (λ e. omega (arith, digit_text-at_least moved digit flag)))
 
 -- no byte of the text of data is a line feed
 pub lanes-inside : (a : Lanes) → list_all (λ b. not (b == 10)) (lanes_text a) ≡ true

@@ -19,7 +19,7 @@ use Rattle.vme_trace.specs.declared.class.Class.TheVariants as class
 use Rattle.vme_trace.specs.declared.rule.Rule.{Rule}
 use Rattle.vme_trace.specs.declared.data.Lanes.{Lanes}
 use Rattle.vme_trace.proofs.EveryRule.{every-rule}
-use Rattle.vme_listing.proofs.Glyphs.{are_glyphs, decimal-glyphs, hexadecimal-glyphs}
+use Rattle.vme_listing.proofs.Glyphs.{are_glyphs, are_glyphs-decimal, are_glyphs-hexadecimal}
 use Rattle.vme_listing.proofs.LaneTexts.{lanes-inside}
 use Rattle.vme_listing.specs.Listed.{includes_resets}
 use Rattle.vme_listing.specs.Places.{is_number, is_edge, has_class, is_address, is_allowed_outcome, has_data, is_row}
@@ -55,7 +55,7 @@ has_no_line_feed-glyphs (byte ∷ word) h =
 
 -- the decimal text of a number below 2^32 has no line feed
 has_no_line_feed-decimal : (n : ℕ) → n < 2 ^ 32 → has_no_line_feed (decimal n) ≡ true
-has_no_line_feed-decimal n h = has_no_line_feed-glyphs (decimal n) (decimal-glyphs n (omega arith))
+has_no_line_feed-decimal n h = has_no_line_feed-glyphs (decimal n) (are_glyphs-decimal n (omega arith))
 
 -- the decimal text of a number of a row has no line feed
 has_no_line_feed-number : (n : ℕ) → is_number n ≡ true → has_no_line_feed (decimal n) ≡ true
@@ -68,7 +68,7 @@ has_no_line_feed-edge (Some n) h = has_no_line_feed-number n h
 
 -- a number in base 16 has no line feed
 has_no_line_feed-hexadecimal : (k n : ℕ) → has_no_line_feed (hexadecimal k n) ≡ true
-has_no_line_feed-hexadecimal k n = has_no_line_feed-glyphs (hexadecimal k n) (hexadecimal-glyphs k n)
+has_no_line_feed-hexadecimal k n = has_no_line_feed-glyphs (hexadecimal k n) (are_glyphs-hexadecimal k n)
 
 -- the text of the class of a cycle has no line feed
 has_no_line_feed-class : (class : Class) → has_no_line_feed (class_text class) ≡ true

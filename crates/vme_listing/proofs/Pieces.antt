@@ -11,14 +11,16 @@ use Rattle.std.proofs.lemmas.Slice.Eq.{bytes_eq-Decides}
 use Rattle.vme_listing.specs.Lines.{Rest, after_word, digits_at, number_in, or_other, past, past_piece, past_read}
 use Rattle.vme_listing.specs.Lines.{piece}
 
+-- after a word at the start of a line the rest of the line follows
 pub after_word-is : (word more : List ℕ) → after_word word (word ++ more) ≡ Some more
 after_word-is [] more = refl
 after_word-is (byte ∷ word) more = rw (eq-eqb byte byte refl) (after_word-is word more)
 
-pub after_word-said : (word line more : List ℕ) → after_word word line ≡ Some more → line ≡ word ++ more
-after_word-said [] line more e = same_Some line more e
-after_word-said (byte ∷ word) [] more e = absurd (none-some more e)
-after_word-said (byte ∷ word) (first ∷ line) more e = by_test (after_word-said word line more) (byte == first) refl e
+-- if `more` follows a word in a line, the line is the word and then `more`
+pub after_word-text : (word line more : List ℕ) → after_word word line ≡ Some more → line ≡ word ++ more
+after_word-text [] line more e = same_Some line more e
+after_word-text (byte ∷ word) [] more e = absurd (none-some more e)
+after_word-text (byte ∷ word) (first ∷ line) more e = by_test (after_word-text word line more) (byte == first) refl e
   where
     by_test : (after_word word line ≡ Some more → line ≡ word ++ more) → (same : Bool) → (byte == first) ≡ same
         → (if same then after_word word line else None) ≡ Some more
@@ -26,28 +28,36 @@ after_word-said (byte ∷ word) (first ∷ line) more e = by_test (after_word-sa
     by_test said true s e = rw (sym (eqb-true byte first s)) (ap (λ l. byte ∷ l) (said e))
     by_test said false s e = absurd (none-some more e)
 
-pub past-said : (word : List ℕ) (left : Rest) (more : List ℕ) → past word left ≡ Some more → left ≡ Some (word ++ more)
-past-said word None more e = absurd (none-some more e)
-past-said word (Some line) more e = ap Some (after_word-said word line more e)
+-- if `more` is left after a word, what was left before is the word and then `more`
+pub past-text : (word : List ℕ) (left : Rest) (more : List ℕ) → past word left ≡ Some more → left ≡ Some (word ++ more)
+past-text word None more e = absurd (none-some more e)
+past-text word (Some line) more e = ap Some (after_word-text word line more e)
 
+-- `read` gives the piece at the start of a line, and `text` its text
 module _ {A : Type 0} (read : List ℕ → Option A) (text : A → List ℕ) (other : A) where
-  said-by : (line more : List ℕ) (o : Option A) → past_read read text o line ≡ Some more
+  -- if `more` is left after a piece that was read, the line is the text of the piece and then `more`
+  past_read-text : (line more : List ℕ) (o : Option A) → past_read read text o line ≡ Some more
       → Some line ≡ Some (text (or_other read other o) ++ more)
-  said-by line more None e = absurd (none-some more e)
-  said-by line more (Some x) e = ap Some (after_word-said (text x) line more e)
+  past_read-text line more None e = absurd (none-some more e)
+  past_read-text line more (Some x) e = ap Some (after_word-text (text x) line more e)
 
-  pub piece-said : (left : Rest) (more : List ℕ) → past_piece read text left ≡ Some more
+  -- if `more` is left after a piece, what was left before is the text of the piece and then `more`
+  pub past_piece-text : (left : Rest) (more : List ℕ) → past_piece read text left ≡ Some more
       → left ≡ Some (text (piece read other left) ++ more)
-  piece-said None more e = absurd (none-some more e)
-  piece-said (Some line) more e = said-by line more (read line) e
+  past_piece-text None more e = absurd (none-some more e)
+  past_piece-text (Some line) more e = past_read-text line more (read line) e
 
+  -- the piece x is read from its own text
   module _ (x : A) (more : List ℕ) (e : read (text x ++ more) ≡ Some x) where
+    -- the piece at the start of the line is x
     pub piece-is : piece read other (Some (text x ++ more)) ≡ x
     piece-is = ap (or_other read other) e
 
+    -- `more` is left after the piece x
     pub past_piece-is : past_piece read text (Some (text x ++ more)) ≡ Some more
     past_piece-is = ap (λ o. past_read read text o (text x ++ more)) e ∙ after_word-is (text x) more
 
+-- each byte is a digit
 abbrev pub are_digits : List ℕ → Bool
 are_digits [] = true
 are_digits (byte ∷ word) = is_ascii_digit byte && are_digits word
@@ -57,22 +67,26 @@ abbrev pub is_end : List ℕ → Bool
 is_end [] = true
 is_end (byte ∷ more) = not (is_ascii_digit byte)
 
-digits-append : (front back : List ℕ) → are_digits front ≡ true → are_digits back ≡ true
+-- two words of digits are such a word together
+are_digits-append : (front back : List ℕ) → are_digits front ≡ true → are_digits back ≡ true
     → are_digits (front ++ back) ≡ true
-digits-append [] back h k = k
-digits-append (byte ∷ front) back h k =
+are_digits-append [] back h k = k
+are_digits-append (byte ∷ front) back h k =
     let parts = and_parts (is_ascii_digit byte) (are_digits front) h in
-    and_from _ _ parts.0 (digits-append front back parts.1 k)
+    and_from _ _ parts.0 (are_digits-append front back parts.1 k)
 
-one_digit : (byte : ℕ) → 48 ≤ byte → byte ≤ 57 → are_digits (byte ∷ []) ≡ true
-one_digit byte h k = grind (arith, nat_tests)
+-- a byte from 48 to 57 is a word of one digit
+are_digits-one : (byte : ℕ) → 48 ≤ byte → byte ≤ 57 → are_digits (byte ∷ []) ≡ true
+are_digits-one byte h k = grind (arith, nat_tests)
 
-pub decimal-digits : (n : ℕ) → n < 2 ^ 64 → are_digits (decimal n) ≡ true
-decimal-digits n below =
-    decimal_by_steps (λ n ds. are_digits ds ≡ true) (λ n small. one_digit (48 + n) (omega arith) (omega arith))
-    (λ n ds low h. digits-append ds ((48 + n % 10) ∷ []) h (one_digit (48 + n % 10) (omega arith)
+-- a decimal text is a word of digits
+pub are_digits-decimal : (n : ℕ) → n < 2 ^ 64 → are_digits (decimal n) ≡ true
+are_digits-decimal n below =
+    decimal_by_steps (λ n ds. are_digits ds ≡ true) (λ n small. are_digits-one (48 + n) (omega arith) (omega arith))
+    (λ n ds low h. are_digits-append ds ((48 + n % 10) ∷ []) h (are_digits-one (48 + n % 10) (omega arith)
     (omega arith))) n below
 
+-- digits at the start of a text, at most `most`, are found, if no digit follows
 digits_at-is : (most : ℕ) (ds more : List ℕ) → are_digits ds ≡ true → length ds ≤ most → is_end more ≡ true
     → digits_at most (ds ++ more) ≡ ds
 digits_at-is zero [] more h few end = refl
@@ -83,11 +97,12 @@ digits_at-is (suc most) (byte ∷ ds) more h few end =
     let parts = and_parts (is_ascii_digit byte) (are_digits ds) h in
     rw parts.0 (ap (λ l. byte ∷ l) (digits_at-is most ds more parts.1 (omega arith) end))
 
+-- a number below 2^32 is read from its decimal text, if no digit follows
 pub number_in-is : (n : ℕ) (more : List ℕ) → n < 2 ^ 32 → is_end more ≡ true → number_in (decimal n ++ more) ≡ Some n
 unfolding number_in
 number_in-is n more below end =
     rw (
-      digits_at-is 10 (decimal n) more (decimal-digits n (omega arith))
+      digits_at-is 10 (decimal n) more (are_digits-decimal n (omega arith))
           (length-decimal-le 10 n (omega arith) (omega arith) (omega arith)) end,
       (decimal_is_IsNumeral n (omega arith)).1,
       lt-ltb n (2 ^ 32) below,
@@ -103,6 +118,7 @@ after_word-by (byte ∷ word) (first ∷ line) h =
     let parts = and_parts (first == byte) (bytes_eq (take (length word) line) word) h in
     rw (eq-eqb byte first (sym (eqb-true first byte parts.0))) (after_word-by word line parts.1)
 
+-- where the line doesn't begin with the word, nothing follows it
 pub after_word-not : (word line : List ℕ) → bytes_eq (take (length word) line) word ≡ false
     → after_word word line ≡ None
 after_word-not [] line h = absurd (false≢true (sym h))

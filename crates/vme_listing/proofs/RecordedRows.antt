@@ -27,8 +27,8 @@ use Rattle.vme_listing.specs.declared.row.Direction.TheVariants.{Read, Write}
 use Rattle.vme_listing.specs.declared.row.Version.TheVariants.{Three}
 use Rattle.vme_listing.specs.declared.row.Row.{Row}
 use Rattle.vme_listing.specs.declared.row.Row.TheVariants.{OpenTenure, PendingTransfer}
-use Rattle.vme_listing.proofs.RecordedLanes.{lanes_form}
-use Rattle.vme_listing.proofs.RowForms.{IsMiddle, cycle_form, edge, number, tenure_form}
+use Rattle.vme_listing.proofs.RecordedLanes.{is_allowed_data-lanes_at}
+use Rattle.vme_listing.proofs.RowForms.{IsMiddle, IsMiddle-cycle_row, is_edge-least, is_number-below, IsMiddle-tenure}
 
 -- the list has at most one row, and that is of instant i and of this kind: 2 is a tenure, 3 a cycle, 4 a transfer
 abbrev pub AtMostOne : ℕ → ℕ → List Row → Type 0
@@ -118,7 +118,7 @@ data_form : (t : Trace) (stretch : Stretch) (end i r : ℕ) → has_data Three (
     (data_of t stretch end i r) ≡ true
 unfolding data_at
 data_form t stretch end i r = has_data-by_direction (is_write t stretch i) (data_at t stretch r)
-    (lanes_form (levels_at t (if transfer_starts t stretch r then r else r - 1)))
+    (is_allowed_data-lanes_at (levels_at t (if transfer_starts t stretch r then r else r - 1)))
 
 module _ (t : Trace) (stretch : Stretch) (end : ℕ) (few : end ≤ 2 ^ 32) (i : ℕ) (listed : i < end) where
   -- at instant i at most one tenure has a row, if B4 isn't broken there
@@ -134,15 +134,16 @@ module _ (t : Trace) (stretch : Stretch) (end : ℕ) (few : end ≤ 2 ^ 32) (i :
       taken (Some level) (Some slot) l s unequal_past =
           let within = slot_within t i slot s in
           let other = eqb-false slot (t.opening.slots + 1) unequal_past in
-          tenure_form i level slot (least (rises t BBSY) (i + 1) end) (number i end listed few)
-          (level_within t i level l) within.0 (omega (arith, within.1, other)) (edge (rises t BBSY) (i + 1) end few)
+          IsMiddle-tenure i level slot (least (rises t BBSY) (i + 1) end) (is_number-below i end listed few)
+          (level_within t i level l) within.0 (omega (arith, within.1, other))
+          (is_edge-least (rises t BBSY) (i + 1) end few)
 
       by_tests : (opened starts : Bool) → tenure_starts t stretch i ≡ starts
           → AtMostOne i 2 (cond opened (OpenTenure i (least (rises t BBSY) (i + 1) end) ∷ [])
           (cond starts (tenure_row i (tenure_level t i) (tenure_slot t i) (least (rises t BBSY) (i + 1) end)) []))
       by_tests true starts e = record {
-        allowed = and_from _ _ (number i end listed few)
-            (edge (rises t BBSY) (i + 1) end few);
+        allowed = and_from _ _ (is_number-below i end listed few)
+            (is_edge-least (rises t BBSY) (i + 1) end few);
         place = refl;
         no_start = refl;
         no_reset = refl;
@@ -159,8 +160,9 @@ module _ (t : Trace) (stretch : Stretch) (end : ℕ) (few : end ≤ 2 ^ 32) (i :
       by_test : (starts : Bool) → cycle_starts t stretch i ≡ starts
           → AtMostOne i 3 (cond starts (cycle_row i (levels_at t i) (least (rises t AS) (i + 1) end)
           (class_of (levels_at t i)) ∷ []) [])
-      by_test true e = cycle_form i (levels_at t i) (least (rises t AS) (i + 1) end) (number i end listed few)
-          (edge (rises t AS) (i + 1) end few) (code_known t stretch i e unbroken)
+      by_test true e = IsMiddle-cycle_row i (levels_at t i) (least (rises t AS) (i + 1) end)
+          (is_number-below i end listed few)
+          (is_edge-least (rises t AS) (i + 1) end few) (code_known t stretch i e unbroken)
       by_test false e = tt
 
   -- at instant i at most one transfer has a row
@@ -169,7 +171,7 @@ module _ (t : Trace) (stretch : Stretch) (end : ℕ) (few : end ≤ 2 ^ 32) (i :
   transfer_one = by_test (transfer_starts t stretch i)
     where
       pending : IsMiddle i 4 (PendingTransfer i (direction_of t stretch end i))
-      pending = record { allowed = number i end listed few; place = refl; no_start = refl; no_reset = refl }
+      pending = record { allowed = is_number-below i end listed few; place = refl; no_start = refl; no_reset = refl }
 
       answered : (r : ℕ) → r < end → (cycle : Option ℕ) → cycle_of t stretch r ≡ cycle
           → IsMiddle i 4 (answered_row t stretch end i r cycle)
@@ -179,9 +181,9 @@ module _ (t : Trace) (stretch : Stretch) (end : ℕ) (few : end ≤ 2 ^ 32) (i :
           record {
             allowed =
                 and_from _ _
-                (and_from _ _ (and_from _ _ (and_from _ _ (number i end listed few)
-                (number cycle end (omega (arith, first)) few)) (number r end below few))
-                (edge (strobes_high t) (i + 1) end few)) (data_form t stretch end i r);
+                (and_from _ _ (and_from _ _ (and_from _ _ (is_number-below i end listed few)
+                (is_number-below cycle end (omega (arith, first)) few)) (is_number-below r end below few))
+                (is_edge-least (strobes_high t) (i + 1) end few)) (data_form t stretch end i r);
             place = refl;
             no_start = refl;
             no_reset = refl;

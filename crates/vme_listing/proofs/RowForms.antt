@@ -26,21 +26,22 @@ pub record IsMiddle (i kind : ℕ) (row : Row) : Type 0 where
   pub no_start : is_start row ≡ false
   pub no_reset : is_reset row ≡ false
 
-pub number : (n end : ℕ) → n < end → end ≤ 2 ^ 32 → is_number n ≡ true
-number n end below few = lt-ltb n (2 ^ 32) (omega arith)
+-- an instant before `end`, which is at most 2^32, is a number of a row
+pub is_number-below : (n end : ℕ) → n < end → end ≤ 2 ^ 32 → is_number n ≡ true
+is_number-below n end below few = lt-ltb n (2 ^ 32) (omega arith)
 
 -- an instant that was searched for before `end`, which is at most 2^32, is below 2^32
-pub edge : (p : ℕ → Bool) (first end : ℕ) → end ≤ 2 ^ 32 → is_edge (least p first end) ≡ true
-edge p first end few = found (least p first end) (λ n e. (least-found p first end n e).below)
+pub is_edge-least : (p : ℕ → Bool) (first end : ℕ) → end ≤ 2 ^ 32 → is_edge (least p first end) ≡ true
+is_edge-least p first end few = found (least p first end) (λ n e. (least-found p first end n e).below)
   where
     found : (o : Option ℕ) → ((n : ℕ) → o ≡ Some n → n < end) → is_edge o ≡ true
     found None h = refl
-    found (Some n) h = number n end (h n refl) few
+    found (Some n) h = is_number-below n end (h n refl) few
 
 -- an address is even
-even : (v : Levels) (n : ℕ) → (k : ℕ) × (address_to v n ≡ 2 * k)
-even v zero = (0, refl)
-even v (suc n) = grown (is_high (level_at v (A (suc n)))) (even v n)
+address_to-even : (v : Levels) (n : ℕ) → (k : ℕ) × (address_to v n ≡ 2 * k)
+address_to-even v zero = (0, refl)
+address_to-even v (suc n) = grown (is_high (level_at v (A (suc n)))) (address_to-even v n)
   where
     grown : (high : Bool) → ((k : ℕ) × (address_to v n ≡ 2 * k)) → (k : ℕ) × (address_to v n + cond high (2 ^ suc n) 0
         ≡ 2 * k)
@@ -48,49 +49,52 @@ even v (suc n) = grown (is_high (level_at v (A (suc n)))) (even v n)
     grown false h = (h.0, omega (arith, h.1))
 
 -- an address on lines 1 to n is below 2 to the power n + 1
-bounded : (v : Levels) (n : ℕ) → address_to v n < 2 ^ suc n
-bounded v zero = omega (arith, pow-succ' 2 0)
-bounded v (suc n) = grown (is_high (level_at v (A (suc n)))) (bounded v n)
+address_to-bound : (v : Levels) (n : ℕ) → address_to v n < 2 ^ suc n
+address_to-bound v zero = omega (arith, pow-succ' 2 0)
+address_to-bound v (suc n) = grown (is_high (level_at v (A (suc n)))) (address_to-bound v n)
   where
     grown : (high : Bool) → address_to v n < 2 ^ suc n → address_to v n + cond high (2 ^ suc n) 0 < 2 ^ suc (suc n)
     grown true h = omega (arith, h, pow-succ' 2 (suc n))
     grown false h = omega (arith, h, pow-succ' 2 (suc n))
 
-address_form : (v : Levels) (modifier : ℕ) → (highest_address modifier == 0) ≡ false → is_address modifier
+-- the address on the lines that a modifier code makes meaningful is one that the row may have
+is_address-address_to : (v : Levels) (modifier : ℕ) → (highest_address modifier == 0) ≡ false → is_address modifier
     (address_to v (highest_address modifier)) ≡ true
-address_form v modifier h =
+is_address-address_to v modifier h =
     let highest = highest_address modifier in
-    let e = even v highest in
+    let e = address_to-even v highest in
     let rest : address_to v highest % 2 ≡ 0 = remainder (address_to v highest) e.0 e.1 in
     and_from _ _ (and_from _ _ (ap not h) (lt-ltb (address_to v highest) (2 ^ (highest + 1)) (rw add-one
-    (bounded v highest))))
+    (address_to-bound v highest))))
     (ap (λ n. n == 0) rest)
   where
     remainder : (a k : ℕ) → a ≡ 2 * k → a % 2 ≡ 0
     remainder a k e = omega arith
 
 -- with the codes of block transfers, address lines are meaningful
-block_space : (modifier : ℕ) → is_block modifier ≡ true → (highest_address modifier == 0) ≡ false
+highest_address-of_block : (modifier : ℕ) → is_block modifier ≡ true → (highest_address modifier == 0) ≡ false
 unfolding highest_address
-block_space modifier h = grind (arith, nat_tests)
+highest_address-of_block modifier h = grind (arith, nat_tests)
 
-bit_within : (v : Levels) (n : ℕ) → modifier_bit v n ≤ 1
-bit_within v n = chosen (is_high_on v (AM n))
+-- a bit of the modifier code is at most its weight of 1
+modifier_bit-bound : (v : Levels) (n : ℕ) → modifier_bit v n ≤ 1
+modifier_bit-bound v n = chosen (is_high_on v (AM n))
   where
     chosen : (b : Bool) → cond b 1 0 ≤ 1
     chosen true = omega arith
     chosen false = omega arith
 
-modifier_within : (v : Levels) → modifier_of v < 64
+-- a modifier code is below 64
+modifier_of-bound : (v : Levels) → modifier_of v < 64
 unfolding modifier_of
-modifier_within v = omega (
+modifier_of-bound v = omega (
   arith,
-  bit_within v 0,
-  bit_within v 1,
-  bit_within v 2,
-  bit_within v 3,
-  bit_within v 4,
-  bit_within v 5,
+  modifier_bit-bound v 0,
+  modifier_bit-bound v 1,
+  modifier_bit-bound v 2,
+  modifier_bit-bound v 3,
+  modifier_bit-bound v 4,
+  modifier_bit-bound v 5,
 )
 
 -- what the class of a cycle implies for its code: `known`, whether its bits are known; `block`, whether it is of block
@@ -101,44 +105,48 @@ ClassImplies class.K known block free = block ≡ true
 ClassImplies class.I known block free = Unit {0}
 ClassImplies class.F known block free = (known ≡ false) ⊎ (free ≡ true)
 
-by_tests : (interrupt known block free : Bool)
+-- a class that is chosen by tests implies what these say
+ClassImplies-by_tests : (interrupt known block free : Bool)
     → ClassImplies (cond interrupt class.I (cond (not known) class.F (cond block class.K (cond free class.F class.S))))
     known block free
-by_tests true known block free = tt
-by_tests false false block free = inl refl
-by_tests false true true free = refl
-by_tests false true false true = inr refl
-by_tests false true false false = (refl, refl)
+ClassImplies-by_tests true known block free = tt
+ClassImplies-by_tests false false block free = inl refl
+ClassImplies-by_tests false true true free = refl
+ClassImplies-by_tests false true false true = inr refl
+ClassImplies-by_tests false true false false = (refl, refl)
 
-class_implies : (v : Levels) → ClassImplies (class_of v) (has_known_modifier v) (is_block (modifier_of v))
+-- the class of a cycle implies this for its code
+ClassImplies-class_of : (v : Levels) → ClassImplies (class_of v) (has_known_modifier v) (is_block (modifier_of v))
     (highest_address (modifier_of v) == 0)
 unfolding class_of
-class_implies v = by_tests (is_low (level_at v IACK)) (has_known_modifier v) (is_block (modifier_of v))
+ClassImplies-class_of v = ClassImplies-by_tests (is_low (level_at v IACK)) (has_known_modifier v)
+    (is_block (modifier_of v))
     (highest_address (modifier_of v) == 0)
 
 -- the row of a cycle is one that its form allows, if the code is known where the class is F
-pub cycle_form : (i : ℕ) (v : Levels) (e : Option ℕ) → is_number i ≡ true → is_edge e ≡ true
+pub IsMiddle-cycle_row : (i : ℕ) (v : Levels) (e : Option ℕ) → is_number i ≡ true → is_edge e ≡ true
     → (class_of v ≡ class.F → has_known_modifier v ≡ false → ⊥) → IsMiddle i 3 (cycle_row i v e (class_of v))
 unfolding is_row
-cycle_form i v e n ed known = by_class (class_of v) refl (class_implies v)
+IsMiddle-cycle_row i v e n ed known = by_class (class_of v) refl (ClassImplies-class_of v)
   where
     by_class : (c : Class) → class_of v ≡ c → ClassImplies c (has_known_modifier v) (is_block (modifier_of v))
         (highest_address (modifier_of v) == 0) → IsMiddle i 3 (cycle_row i v e c)
     by_class class.S is f = record {
-      allowed = and_from _ _ (and_from _ _ (and_from _ _ n (ap not f.0)) (address_form v (modifier_of v) f.1)) ed;
+      allowed = and_from _ _ (and_from _ _ (and_from _ _ n (ap not f.0)) (is_address-address_to v (modifier_of v) f.1))
+          ed;
       place = refl;
       no_start = refl;
       no_reset = refl;
     }
     by_class class.K is f = record {
-      allowed = and_from _ _ (and_from _ _ (and_from _ _ n f) (address_form v (modifier_of v)
-          (block_space (modifier_of v) f))) ed;
+      allowed = and_from _ _ (and_from _ _ (and_from _ _ n f) (is_address-address_to v (modifier_of v)
+          (highest_address-of_block (modifier_of v) f))) ed;
       place = refl;
       no_start = refl;
       no_reset = refl;
     }
     by_class class.I is f =
-        let level : address_to v 3 < 16 = bounded v 3 in
+        let level : address_to v 3 < 16 = address_to-bound v 3 in
         record {
           allowed = and_from _ _ (and_from _ _ n (lt-ltb (address_to v 3 / 2) 8 (omega arith))) ed;
           place = refl;
@@ -147,17 +155,19 @@ cycle_form i v e n ed known = by_class (class_of v) refl (class_implies v)
         }
     by_class class.F is (inl unknown) = absurd (known is unknown)
     by_class class.F is (inr free) = record {
-      allowed = and_from _ _ (and_from _ _ (and_from _ _ n (lt-ltb (modifier_of v) 64 (modifier_within v))) free) ed;
+      allowed = and_from _ _ (and_from _ _ (and_from _ _ n (lt-ltb (modifier_of v) 64 (modifier_of-bound v))) free) ed;
       place
           = refl;
       no_start = refl;
       no_reset = refl;
     }
 
-pub tenure_form : (i level slot : ℕ) (e : Option ℕ) → is_number i ≡ true → level < 4 → 1 ≤ slot → slot ≤ 21 → is_edge e
+-- the row of a tenure with a level below 4 and a slot from 1 to 21 is one that its form allows
+pub IsMiddle-tenure : (i level slot : ℕ) (e : Option ℕ) → is_number i ≡ true → level < 4 → 1 ≤ slot → slot ≤ 21
+    → is_edge e
     ≡ true → IsMiddle i 2 (Tenure i level slot e)
 unfolding is_row
-tenure_form i level slot e n below first last ed =
+IsMiddle-tenure i level slot e n below first last ed =
     record {
       allowed = and_from _ _ (and_from _ _ (and_from _ _ (and_from _ _ n (lt-ltb level 4 below))
           (le-leb 1 slot first)) (le-leb slot 21 last)) ed;

@@ -29,7 +29,7 @@ use Rattle.vme_listing.specs.declared.row.Row.{Row}
 use Rattle.vme_listing.specs.declared.row.Row.TheVariants.{Start, Reset, OpenTenure, Tenure, AddressedCycle, FreeCycle}
 use Rattle.vme_listing.specs.declared.row.Row.TheVariants.{InterruptCycle, Transfer, PendingTransfer, Verdict}
 use Rattle.vme_listing.specs.declared.row.Version.{Version}
-use Rattle.vme_listing.proofs.FrontHexadecimals.{hexadecimal-length, lanes-length}
+use Rattle.vme_listing.proofs.FrontHexadecimals.{length-hexadecimal, lanes-length}
 
 -- the decimal text of a number below 2^32 has at most 10 bytes
 decimal-short : (n : ℕ) → n < 2 ^ 32 → length (decimal n) ≤ 10
@@ -138,14 +138,14 @@ row-short version (AddressedCycle start class modifier address end) h =
     let p = and_parts (is_number start) (has_class modifier class) a.0 in
     let s = number-short start p.0 in
     let k = class-short class in
-    let m = hexadecimal-length 2 modifier in
-    let n = hexadecimal-length (address_digits modifier) address in
+    let m = length-hexadecimal 2 modifier in
+    let n = length-hexadecimal (address_digits modifier) address in
     simp length-append (omega (arith, s, k, m, n, address_digits-at_most_8 modifier, edge-short end e.1))
 row-short version (FreeCycle start modifier end) h =
     let e = and_parts _ (is_edge end) h in
     let free = and_parts (is_number start && nat_lt modifier 64) _ e.0 in
     let p = and_parts (is_number start) (nat_lt modifier 64) free.0 in
-    let m = hexadecimal-length 2 modifier in
+    let m = length-hexadecimal 2 modifier in
     simp length-append (omega (arith, number-short start p.0, m, edge-short end e.1))
 row-short version (InterruptCycle start level end) h =
     let e = and_parts (is_number start && nat_lt level 8) (is_edge end) h in

@@ -43,10 +43,11 @@ use Rattle.vme_listing.specs.Lines.{past_hexadecimal, past_modifier, past_number
 use Rattle.vme_listing.specs.Lines.{past_transfer, row_in, small_at, tenure_at, transfer_at, verdict_by}
 use Rattle.vme_listing.proofs.Addresses.{HasDigits, address-digits}
 use Rattle.vme_listing.proofs.FrontDigits.{bytes_eq-refl}
-use Rattle.vme_listing.proofs.FrontHexadecimals.{hexadecimal-length, lanes-length}
+use Rattle.vme_listing.proofs.FrontHexadecimals.{length-hexadecimal, lanes-length}
 use Rattle.vme_listing.proofs.LaneTexts.{lanes-are}
 use Rattle.vme_listing.proofs.Numerals.{number_of-hexadecimal}
-use Rattle.vme_listing.proofs.Pieces.{after_word-is, are_digits, decimal-digits, is_end, number_in-is, past_piece-is}
+use Rattle.vme_listing.proofs.Pieces.{after_word-is, are_digits, are_digits-decimal, is_end, number_in-is}
+use Rattle.vme_listing.proofs.Pieces.{past_piece-is}
 use Rattle.vme_listing.proofs.Pieces.{piece-is}
 
 -- a number below 2^32 that has k digits in base 16 is read from these
@@ -55,7 +56,7 @@ pub hexadecimal_in-is : (k n : ℕ) (more : List ℕ) → n < 16 ^ k → n < 2 ^
 unfolding hexadecimal_in
 hexadecimal_in-is k n more in_digits below =
     rw (
-      take_at (hexadecimal k n) more k (hexadecimal-length k n),
+      take_at (hexadecimal k n) more k (length-hexadecimal k n),
       number_of-hexadecimal k n in_digits below,
       bytes_eq-refl (hexadecimal k n),
     ) refl
@@ -105,7 +106,7 @@ Piece-edge : (more : List ℕ) → is_end more ≡ true → (end : Option ℕ) �
 Piece-edge more stop None h = (refl, refl)
 Piece-edge more stop (Some n) h =
     let below = ltb-true n (2 ^ 32) h in
-    let digits = decimal-digits n (omega (arith, below)) in
+    let digits = are_digits-decimal n (omega (arith, below)) in
     let none = after_word-no_hyphen (decimal n) more digits (decimal_nonempty n (omega (arith, below))) in
     let read = Piece-number n more stop below in
     let left : Rest = Some (decimal n ++ more) in (

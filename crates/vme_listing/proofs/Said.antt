@@ -1,4 +1,4 @@
--- The row that is read from a line has the line as its text.
+-- A row that is read from a line has the line as its text.
 use Rattle.std.proofs.Common.{◌≡◌, ℕ, Bool, true, false, List, [], ◌∷◌, ◌++◌, drop, length, take, append_assoc}
 use Rattle.std.proofs.Common.{refl, sym, ap}
 use Rattle.std.proofs.Common.{◌∙◌}
@@ -30,84 +30,96 @@ use Rattle.vme_listing.specs.Lines.{past_answer, past_class, past_cycle, past_da
 use Rattle.vme_listing.specs.Lines.{past_hexadecimal, past_lanes, past_modifier, past_number, past_small, past_tenure}
 use Rattle.vme_listing.specs.Lines.{past_transfer, row_in, slot_left, small_at, starts_with, tenure_at, transfer_at}
 use Rattle.vme_listing.specs.Lines.{verdict_by, verdict_in, whole}
-use Rattle.vme_listing.proofs.Pieces.{after_word-said, past-said, piece-said}
+use Rattle.vme_listing.proofs.Pieces.{after_word-text, past-text, past_piece-text}
 
+-- each piece of a row: if the line goes on after it, its text is there
 module _ (left : Rest) (more : List ℕ) where
-  number-said : past_number left ≡ Some more → left ≡ Some (decimal (number_at left) ++ more)
-  number-said e = piece-said number_in decimal 0 left more e
+  -- if `more` is left after a number, what was left is its text and then `more`
+  past_number-text : past_number left ≡ Some more → left ≡ Some (decimal (number_at left) ++ more)
+  past_number-text e = past_piece-text number_in decimal 0 left more e
 
-  small-said : past_small left ≡ Some more → left ≡ Some (decimal (small_at left) ++ more)
-  small-said e = by_test (nat_lt (number_at left) 256) e
+  -- if `more` is left after a number below 256, what was left is its text and then `more`
+  past_small-text : past_small left ≡ Some more → left ≡ Some (decimal (small_at left) ++ more)
+  past_small-text e = by_test (nat_lt (number_at left) 256) e
     where
       by_test : (b : Bool) → (if b then past_number left else None) ≡ Some more
           → left ≡ Some (decimal (if b then number_at left else 0) ++ more)
-      by_test true e = number-said e
+      by_test true e = past_number-text e
       by_test false e = absurd (none-some more e)
 
-  edge-said : past_edge left ≡ Some more → left ≡ Some (edge_text (edge_at left) ++ more)
-  edge-said e = by_test (starts_with (codes "-") left) e
+  -- if `more` is left after the instant of an edge, or its absence, what was left is its text and then `more`
+  past_edge-text : past_edge left ≡ Some more → left ≡ Some (edge_text (edge_at left) ++ more)
+  past_edge-text e = by_test (starts_with (codes "-") left) e
     where
       by_test : (b : Bool) → (if b then past (codes "-") left else past_number left) ≡ Some more
           → left ≡ Some (edge_text (if b then None else Some (number_at left)) ++ more)
-      by_test true e = past-said (codes "-") left more e
-      by_test false e = number-said e
+      by_test true e = past-text (codes "-") left more e
+      by_test false e = past_number-text e
 
-  hexadecimal-said : (digits : ℕ) → past_hexadecimal left digits ≡ Some more
+  -- if `more` is left after a number in base 16, what was left is its text and then `more`
+  past_hexadecimal-text : (digits : ℕ) → past_hexadecimal left digits ≡ Some more
       → left ≡ Some (hexadecimal digits (hexadecimal_at left digits) ++ more)
-  hexadecimal-said digits e = piece-said (hexadecimal_in digits) (hexadecimal digits) 0 left more e
+  past_hexadecimal-text digits e = past_piece-text (hexadecimal_in digits) (hexadecimal digits) 0 left more e
 
-  modifier-said : past_modifier left ≡ Some more → left ≡ Some (hexadecimal 2 (modifier_at left) ++ more)
-  modifier-said e = by_test (nat_lt (hexadecimal_at left 2) 256) e
+  -- if `more` is left after a modifier code, what was left is its text and then `more`
+  past_modifier-text : past_modifier left ≡ Some more → left ≡ Some (hexadecimal 2 (modifier_at left) ++ more)
+  past_modifier-text e = by_test (nat_lt (hexadecimal_at left 2) 256) e
     where
       by_test : (b : Bool) → (if b then past_hexadecimal left 2 else None) ≡ Some more
           → left ≡ Some (hexadecimal 2 (if b then hexadecimal_at left 2 else 0) ++ more)
-      by_test true e = hexadecimal-said 2 e
+      by_test true e = past_hexadecimal-text 2 e
       by_test false e = absurd (none-some more e)
 
-  direction-said : past_direction left ≡ Some more → left ≡ Some (codes " " ++ (direction_text (direction_at left)
+  -- if `more` is left after the direction of a transfer, after a space, what was left is its text and then `more`
+  past_direction-text : past_direction left ≡ Some more → left ≡ Some (codes " " ++ (direction_text (direction_at left)
       ++ more))
-  direction-said e = by_test (starts_with (codes " read") left) e
+  past_direction-text e = by_test (starts_with (codes " read") left) e
     where
       by_test : (b : Bool) → (if b then past (codes " read") left else past (codes " write") left) ≡ Some more
           → left ≡ Some (codes " " ++ (direction_text (if b then Read else Write) ++ more))
-      by_test true e = past-said (codes " read") left more e
-      by_test false e = past-said (codes " write") left more e
+      by_test true e = past-text (codes " read") left more e
+      by_test false e = past-text (codes " write") left more e
 
-  answer-said : past_answer left ≡ Some more
+  -- if `more` is left after the line of an answer, between two spaces, what was left is its text and then `more`
+  past_answer-text : past_answer left ≡ Some more
       → left ≡ Some (codes " " ++ (answer_text (answer_at left) ++ (codes " " ++ more)))
-  answer-said e = by_test (starts_with (codes " DTACK ") left) e
+  past_answer-text e = by_test (starts_with (codes " DTACK ") left) e
     where
       by_test : (b : Bool) → (if b then past (codes " DTACK ") left else past (codes " BERR ") left) ≡ Some more
           → left ≡ Some (codes " " ++ (answer_text (if b then Dtack else Berr) ++ (codes " " ++ more)))
-      by_test true e = past-said (codes " DTACK ") left more e
-      by_test false e = past-said (codes " BERR ") left more e
+      by_test true e = past-text (codes " DTACK ") left more e
+      by_test false e = past-text (codes " BERR ") left more e
 
-  class-said : past_class left ≡ Some more
+  -- if `more` is left after the class of a cycle, between two spaces, what was left is its text and then `more`
+  past_class-text : past_class left ≡ Some more
       → left ≡ Some (codes " " ++ (class_text (class_at left) ++ (codes " " ++ more)))
-  class-said e = by_test (starts_with (codes " S ") left) e
+  past_class-text e = by_test (starts_with (codes " S ") left) e
     where
       by_test : (b : Bool) → (if b then past (codes " S ") left else past (codes " K ") left) ≡ Some more
           → left ≡ Some (codes " " ++ (class_text (if b then class.S else class.K) ++ (codes " " ++ more)))
-      by_test true e = past-said (codes " S ") left more e
-      by_test false e = past-said (codes " K ") left more e
+      by_test true e = past-text (codes " S ") left more e
+      by_test false e = past-text (codes " K ") left more e
 
-  data-said : past_data left ≡ Some more → left ≡ Some (data_text (data_at left) ++ more)
-  data-said e = by_test (starts_with (codes " data ") left) e
+  -- if `more` is left after the data of a transfer, what was left is its text and then `more`
+  past_data-text : past_data left ≡ Some more → left ≡ Some (data_text (data_at left) ++ more)
+  past_data-text e = by_test (starts_with (codes " data ") left) e
     where
       by_test : (b : Bool) → (if b then past_lanes (past (codes " data ") left) else left) ≡ Some more
           → left ≡ Some (data_text (if b then Some (lanes_at (past (codes " data ") left)) else None) ++ more)
-      by_test true e = past-said (codes " data ") left _
-          (piece-said lanes_in lanes_text no_lanes (past (codes " data ") left) more e)
+      by_test true e = past-text (codes " data ") left _
+          (past_piece-text lanes_in lanes_text no_lanes (past (codes " data ") left) more e)
       by_test false e = e
 
 -- what follows the first word of a line is unique
-line-is : (left : Rest) (line said : List ℕ) → left ≡ Some line → left ≡ Some said → line ≡ said
-line-is left line said h e = same_Some line said (sym h ∙ e)
+line-unique : (left : Rest) (line said : List ℕ) → left ≡ Some line → left ≡ Some said → line ≡ said
+line-unique left line said h e = same_Some line said (sym h ∙ e)
 
+-- `line` is what follows the first word of a line, and is read whole
 module _ (left : Rest) (line : List ℕ) (h : left ≡ Some line) where
-  tenure-said : past_tenure left ≡ Some [] → codes "tenure " ++ line ≡ row_text (tenure_at left)
+  -- after the word `tenure` it is the rest of the text of the tenure that is read
+  row_text-tenure : past_tenure left ≡ Some [] → codes "tenure " ++ line ≡ row_text (tenure_at left)
   unfolding past_tenure tenure_at row_text
-  tenure-said e = by_test (starts_with (codes " open end ") (past_number left)) e
+  row_text-tenure e = by_test (starts_with (codes " open end ") (past_number left)) e
     where
       by_test : (b : Bool) → (if b then past_edge (open_left left) else past_edge (end_left left)) ≡ Some []
           → codes "tenure " ++ line ≡ row_text
@@ -115,45 +127,52 @@ module _ (left : Rest) (line : List ℕ) (h : left ≡ Some line) where
           else Tenure (number_at left) (small_at (level_left left)) (small_at (slot_left left)) (edge_at
           (end_left left)))
       by_test true e =
-          let e1 = past-said (codes " open end ") (past_number left) _ (edge-said (open_left left) [] e) in
-          rw (line-is left line _ h (number-said left _ e1)) (simp (append_assoc, append-nil))
+          let e1 = past-text (codes " open end ") (past_number left) _ (past_edge-text (open_left left) [] e) in
+          rw (line-unique left line _ h (past_number-text left _ e1)) (simp (append_assoc, append-nil))
       by_test false e =
-          let e1 = past-said (codes " end ") (past_small (slot_left left)) _ (edge-said (end_left left) [] e) in
-          let e2 = past-said (codes " slot ") (past_small (level_left left)) _ (small-said (slot_left left) _ e1) in
-          let e3 = past-said (codes " level ") (past_number left) _ (small-said (level_left left) _ e2) in
-          rw (line-is left line _ h (number-said left _ e3)) (simp (append_assoc, append-nil))
+          let e1 = past-text (codes " end ") (past_small (slot_left left)) _ (past_edge-text (end_left left) [] e) in
+          let e2 = past-text (codes " slot ") (past_small (level_left left)) _
+          (past_small-text (slot_left left) _ e1) in
+          let e3 = past-text (codes " level ") (past_number left) _ (past_small-text (level_left left) _ e2) in
+          rw (line-unique left line _ h (past_number-text left _ e3)) (simp (append_assoc, append-nil))
 
-  interrupt-said : past_edge (interrupt_end left) ≡ Some [] → codes "cycle " ++ line
+  -- after the word `cycle` it is the rest of the text of the interrupt acknowledge cycle that is read
+  row_text-interrupt : past_edge (interrupt_end left) ≡ Some [] → codes "cycle " ++ line
       ≡ row_text (InterruptCycle (number_at left) (small_at (interrupt_left left)) (edge_at (interrupt_end left)))
   unfolding row_text
-  interrupt-said e =
-      let e1 = past-said (codes " end ") (past_small (interrupt_left left)) _ (edge-said (interrupt_end left) [] e) in
-      let e2 = past-said (codes " I ") (past_number left) _ (small-said (interrupt_left left) _ e1) in
-      rw (line-is left line _ h (number-said left _ e2)) (simp (append_assoc, append-nil))
+  row_text-interrupt e =
+      let e1 = past-text (codes " end ") (past_small (interrupt_left left)) _
+      (past_edge-text (interrupt_end left) [] e) in
+      let e2 = past-text (codes " I ") (past_number left) _ (past_small-text (interrupt_left left) _ e1) in
+      rw (line-unique left line _ h (past_number-text left _ e2)) (simp (append_assoc, append-nil))
 
-  free-said : past_edge (free_end left) ≡ Some [] → codes "cycle " ++ line
+  -- after the word `cycle` it is the rest of the text of the cycle of the class F that is read
+  row_text-free : past_edge (free_end left) ≡ Some [] → codes "cycle " ++ line
       ≡ row_text (FreeCycle (number_at left) (modifier_at (free_left left)) (edge_at (free_end left)))
   unfolding row_text
-  free-said e =
-      let e1 = past-said (codes " end ") (past_modifier (free_left left)) _ (edge-said (free_end left) [] e) in
-      let e2 = past-said (codes " F ") (past_number left) _ (modifier-said (free_left left) _ e1) in
-      rw (line-is left line _ h (number-said left _ e2)) (simp (append_assoc, append-nil))
+  row_text-free e =
+      let e1 = past-text (codes " end ") (past_modifier (free_left left)) _ (past_edge-text (free_end left) [] e) in
+      let e2 = past-text (codes " F ") (past_number left) _ (past_modifier-text (free_left left) _ e1) in
+      rw (line-unique left line _ h (past_number-text left _ e2)) (simp (append_assoc, append-nil))
 
-  addressed-said : past_edge (cycle_end left) ≡ Some [] → codes "cycle " ++ line
+  -- after the word `cycle` it is the rest of the text of the cycle with an address that is read
+  row_text-addressed : past_edge (cycle_end left) ≡ Some [] → codes "cycle " ++ line
       ≡ row_text (AddressedCycle (number_at left) (class_at (past_number left)) (modifier_at (class_left left))
       (hexadecimal_at (address_left left) (digits_left left)) (edge_at (cycle_end left)))
   unfolding row_text
-  addressed-said e =
-      let e1 = past-said (codes " end ") (past_hexadecimal (address_left left) (digits_left left)) _
-      (edge-said (cycle_end left) [] e) in
-      let e2 = past-said (codes " ") (past_modifier (class_left left)) _
-      (hexadecimal-said (address_left left) _ (digits_left left) e1) in
-      let e3 = class-said (past_number left) _ (modifier-said (class_left left) _ e2) in
-      rw (line-is left line _ h (number-said left _ e3)) (simp (append_assoc, append-nil))
+  row_text-addressed e =
+      let e1 = past-text (codes " end ") (past_hexadecimal (address_left left) (digits_left left)) _
+      (past_edge-text (cycle_end left) [] e) in
+      let e2 = past-text (codes " ") (past_modifier (class_left left)) _
+      (past_hexadecimal-text (address_left left) _ (digits_left left) e1) in
+      let e3 = past_class-text (past_number left) _ (past_modifier-text (class_left left) _ e2) in
+      rw (line-unique left line _ h (past_number-text left _ e3)) (simp (append_assoc, append-nil))
 
-  cycle-said : past_cycle left ≡ Some [] → codes "cycle " ++ line ≡ row_text (cycle_at left)
+  -- after the word `cycle` it is the rest of the text of the cycle that is read
+  row_text-cycle : past_cycle left ≡ Some [] → codes "cycle " ++ line ≡ row_text (cycle_at left)
   unfolding past_cycle cycle_at
-  cycle-said e = by_test (starts_with (codes " I ") (past_number left)) (starts_with (codes " F ") (past_number left)) e
+  row_text-cycle e = by_test (starts_with (codes " I ") (past_number left))
+      (starts_with (codes " F ") (past_number left)) e
     where
       by_test : (b c : Bool) → (if b then past_edge (interrupt_end left) else if c then past_edge (free_end left)
           else past_edge (cycle_end left)) ≡ Some []
@@ -162,13 +181,14 @@ module _ (left : Rest) (line : List ℕ) (h : left ≡ Some line) where
           else if c then FreeCycle (number_at left) (modifier_at (free_left left)) (edge_at (free_end left))
           else AddressedCycle (number_at left) (class_at (past_number left)) (modifier_at (class_left left))
           (hexadecimal_at (address_left left) (digits_left left)) (edge_at (cycle_end left)))
-      by_test true c e = interrupt-said e
-      by_test false true e = free-said e
-      by_test false false e = addressed-said e
+      by_test true c e = row_text-interrupt e
+      by_test false true e = row_text-free e
+      by_test false false e = row_text-addressed e
 
-  transfer-said : past_transfer left ≡ Some [] → codes "transfer " ++ line ≡ row_text (transfer_at left)
+  -- after the word `transfer` it is the rest of the text of the transfer that is read
+  row_text-transfer : past_transfer left ≡ Some [] → codes "transfer " ++ line ≡ row_text (transfer_at left)
   unfolding past_transfer transfer_at row_text
-  transfer-said e = by_test (starts_with (codes " of ") (past_number left)) e
+  row_text-transfer e = by_test (starts_with (codes " of ") (past_number left)) e
     where
       by_test : (b : Bool) → (if b then past_data (past_edge (close_left left))
           else past (codes " pending") (past_direction (past_number left))) ≡ Some []
@@ -179,81 +199,88 @@ module _ (left : Rest) (line : List ℕ) (h : left ≡ Some line) where
           (data_at (past_edge (close_left left)))
           else PendingTransfer (number_at left) (direction_at (past_number left)))
       by_test true e =
-          let e1 = edge-said (close_left left) _ (data-said (past_edge (close_left left)) [] e) in
-          let e2 = past-said (codes " close ") (past_number (past_answer (answer_left left))) _ e1 in
-          let e3 = answer-said (answer_left left) _ (number-said (past_answer (answer_left left)) _ e2) in
-          let e4 = number-said (of_left left) _ (direction-said (past_number (of_left left)) _ e3) in
-          let e5 = past-said (codes " of ") (past_number left) _ e4 in
-          rw (line-is left line _ h (number-said left _ e5)) (simp (append_assoc, append-nil))
+          let e1 = past_edge-text (close_left left) _ (past_data-text (past_edge (close_left left)) [] e) in
+          let e2 = past-text (codes " close ") (past_number (past_answer (answer_left left))) _ e1 in
+          let e3 = past_answer-text (answer_left left) _ (past_number-text (past_answer (answer_left left)) _ e2) in
+          let e4 = past_number-text (of_left left) _ (past_direction-text (past_number (of_left left)) _ e3) in
+          let e5 = past-text (codes " of ") (past_number left) _ e4 in
+          rw (line-unique left line _ h (past_number-text left _ e5)) (simp (append_assoc, append-nil))
       by_test false e =
-          let e1 = direction-said (past_number left) _ (past-said (codes " pending") _ [] e) in
-          rw (line-is left line _ h (number-said left _ e1)) (simp (append_assoc, append-nil))
+          let e1 = past_direction-text (past_number left) _ (past-text (codes " pending") _ [] e) in
+          rw (line-unique left line _ h (past_number-text left _ e1)) (simp (append_assoc, append-nil))
 
--- a break after the word of its kind
+-- verdicts of one kind, broken or unreadable, whose text is the word of the kind and then the break
 module _ (kind : Rule → ℕ → ℕ → ListedVerdict) (word : List ℕ)
     (text : (r : Rule) (n l : ℕ) → verdict_text (kind r n l)
     ≡ codes "verdict " ++ (word ++ (rule_name r ++ (codes " " ++ (decimal n ++ (codes " " ++ line_name l)))))) where
-  named-said : (r : Rule) (n : ℕ) (o : Option ℕ) (name : List ℕ) (verdict : ListedVerdict) → o ≡ line_named name
+  -- the verdict with a break on the line of a name has the text of the rule, the instant and that name
+  verdict_text-named : (r : Rule) (n : ℕ) (o : Option ℕ) (name : List ℕ) (verdict : ListedVerdict) → o ≡ line_named name
       → named_break kind r n o ≡ Some verdict → verdict_text verdict
       ≡ codes "verdict " ++ (word ++ (rule_name r ++ (codes " " ++ (decimal n ++ (codes " " ++ name)))))
-  named-said r n None name verdict o e = absurd (none-some verdict e)
-  named-said r n (Some l) name verdict o e =
+  verdict_text-named r n None name verdict o e = absurd (none-some verdict e)
+  verdict_text-named r n (Some l) name verdict o e =
       ap verdict_text (sym (same_Some (kind r n l) verdict e)) ∙ text r n l
       ∙ ap (λ a. codes "verdict " ++ (word ++ (rule_name r ++ (codes " " ++ (decimal n ++ (codes " " ++ a))))))
       (line_named-found l name (sym o)).1
 
-  line-said : (r : Rule) (left last : Rest) (verdict : ListedVerdict)
+  -- if a verdict is read from what follows the name of a rule, that is the rest of its text
+  verdict_text-line : (r : Rule) (left last : Rest) (verdict : ListedVerdict)
       → past (codes " ") (past_number (past (codes " ") left)) ≡ last
       → named_break kind r (number_at (past (codes " ") left)) (line_in last) ≡ Some verdict
       → (name : List ℕ) × (left ≡ Some name)
       × (verdict_text verdict ≡ codes "verdict " ++ (word ++ (rule_name r ++ name)))
-  line-said r left None verdict s e = absurd (none-some verdict e)
-  line-said r left (Some name) verdict s e =
+  verdict_text-line r left None verdict s e = absurd (none-some verdict e)
+  verdict_text-line r left (Some name) verdict s e =
       let first = past (codes " ") left in
-      let e1 = past-said (codes " ") (past_number first) name s in
-      let e2 = past-said (codes " ") left _ (number-said first _ e1) in
-      (_, e2, named-said r (number_at first) (line_named name) name verdict refl e)
+      let e1 = past-text (codes " ") (past_number first) name s in
+      let e2 = past-text (codes " ") left _ (past_number-text first _ e1) in
+      (_, e2, verdict_text-named r (number_at first) (line_named name) name verdict refl e)
 
-  rule-said : (o : Option Rule) (line : List ℕ) (verdict : ListedVerdict) → o ≡ rule_named (take 2 line)
+  -- if a verdict is read from a line by the rule that its first two bytes name, the line is the rest of its text
+  verdict_text-rule : (o : Option Rule) (line : List ℕ) (verdict : ListedVerdict) → o ≡ rule_named (take 2 line)
       → break_by kind o (Some (drop 2 line)) ≡ Some verdict
       → verdict_text verdict ≡ codes "verdict " ++ (word ++ line)
-  rule-said None line verdict o e = absurd (none-some verdict e)
-  rule-said (Some r) line verdict o e =
-      let (name, left, said) = line-said r (Some (drop 2 line)) _ verdict refl e in
+  verdict_text-rule None line verdict o e = absurd (none-some verdict e)
+  verdict_text-rule (Some r) line verdict o e =
+      let (name, left, said) = verdict_text-line r (Some (drop 2 line)) _ verdict refl e in
       said ∙ ap (λ a. codes "verdict " ++ (word ++ a))
       (ap (λ a. a ++ name) (rule_named-found r (take 2 line) (sym o))
       ∙ ap (λ a. take 2 line ++ a) (sym (same_Some (drop 2 line) name left)) ∙ take-append-drop 2 line)
 
-  break-said : (left : Rest) (verdict : ListedVerdict) → break_in kind left ≡ Some verdict
+  -- if a verdict is read from what follows the word of its kind, that is the rest of its text
+  verdict_text-break : (left : Rest) (verdict : ListedVerdict) → break_in kind left ≡ Some verdict
       → (line : List ℕ) × (left ≡ Some line) × (verdict_text verdict ≡ codes "verdict " ++ (word ++ line))
-  break-said None verdict e = absurd (none-some verdict e)
-  break-said (Some line) verdict e = by_length (nat_le 2 (length line)) e
+  verdict_text-break None verdict e = absurd (none-some verdict e)
+  verdict_text-break (Some line) verdict e = by_length (nat_le 2 (length line)) e
     where
       by_length : (b : Bool)
           → (if b then break_by kind (rule_named (take 2 line)) (Some (drop 2 line)) else None) ≡ Some verdict
           → (l : List ℕ) × (Some line ≡ Some l) × (verdict_text verdict ≡ codes "verdict " ++ (word ++ l))
-      by_length true e = (line, refl, rule-said (rule_named (take 2 line)) line verdict refl e)
+      by_length true e = (line, refl, verdict_text-rule (rule_named (take 2 line)) line verdict refl e)
       by_length false e = absurd (none-some verdict e)
 
-broken_text : (r : Rule) (n l : ℕ) → verdict_text (Broken r n l)
+-- the text of a verdict that a rule is broken
+verdict_text-broken : (r : Rule) (n l : ℕ) → verdict_text (Broken r n l)
     ≡ codes "verdict " ++ (codes "broken " ++ (rule_name r ++ (codes " " ++ (decimal n ++ (codes " " ++ line_name l)))))
-broken_text r n l = simp append_assoc
+verdict_text-broken r n l = simp append_assoc
 
-unreadable_text : (r : Rule) (n l : ℕ) → verdict_text (Unreadable r n l)
+-- the text of a verdict that the recording is unreadable
+verdict_text-unreadable : (r : Rule) (n l : ℕ) → verdict_text (Unreadable r n l)
     ≡ codes "verdict " ++ (codes "unreadable " ++ (rule_name r ++ (codes " " ++ (decimal n ++ (codes " "
     ++ line_name l)))))
-unreadable_text r n l = simp append_assoc
+verdict_text-unreadable r n l = simp append_assoc
 
-outcome-said : (line : List ℕ) (verdict : ListedVerdict) → outcome_in line ≡ Some verdict → verdict_text verdict
+-- the verdict that is read after the word `verdict` has that line as its text
+verdict_text-outcome : (line : List ℕ) (verdict : ListedVerdict) → outcome_in line ≡ Some verdict → verdict_text verdict
     ≡ codes "verdict " ++ line
 unfolding outcome_in
-outcome-said line verdict e = by_tests (bytes_eq line (codes "conforming")) (bytes_eq line (codes "never-idle"))
+verdict_text-outcome line verdict e = by_tests (bytes_eq line (codes "conforming")) (bytes_eq line (codes "never-idle"))
     (starts_with (codes "broken ") (Some line)) refl refl e
   where
     said : (kind : Rule → ℕ → ℕ → ListedVerdict) (word : List ℕ)
         (b : (l : List ℕ) × (after_word word line ≡ Some l) × (verdict_text verdict ≡ codes "verdict " ++ (word ++ l)))
         → verdict_text verdict ≡ codes "verdict " ++ line
-    said kind word b = b.2 ∙ ap (λ l. codes "verdict " ++ l) (sym (after_word-said word line b.0 b.1))
+    said kind word b = b.2 ∙ ap (λ l. codes "verdict " ++ l) (sym (after_word-text word line b.0 b.1))
 
     by_tests : (a b c : Bool) → bytes_eq line (codes "conforming") ≡ a → bytes_eq line (codes "never-idle") ≡ b
         → (if a then Some Conforming else if b then Some NeverIdle
@@ -267,57 +294,65 @@ outcome-said line verdict e = by_tests (bytes_eq line (codes "conforming")) (byt
         ap verdict_text (sym (same_Some NeverIdle verdict e))
         ∙ ap (λ l. codes "verdict " ++ l) (sym (bytes_eq-same _ _ g))
     by_tests false false true f g e =
-        said Broken (codes "broken ") (break-said Broken (codes "broken ") broken_text _ verdict e)
+        said Broken (codes "broken ") (verdict_text-break Broken (codes "broken ") verdict_text-broken _ verdict e)
     by_tests false false false f g e =
-        said Unreadable (codes "unreadable ") (break-said Unreadable (codes "unreadable ") unreadable_text _ verdict e)
+        said Unreadable (codes "unreadable ")
+        (verdict_text-break Unreadable (codes "unreadable ") verdict_text-unreadable _ verdict e)
 
-whole-is : (row : Row) (left : Rest) (result : Row) → whole row left ≡ Some result → (left ≡ Some []) × (row ≡ result)
-whole-is row None result e = absurd (none-some result e)
-whole-is row (Some []) result e = (refl, same_Some row result e)
-whole-is row (Some (byte ∷ line)) result e = absurd (none-some result e)
+-- a row is read only where nothing is left of the line
+whole-at_end : (row : Row) (left : Rest) (result : Row) → whole row left ≡ Some result → (left ≡ Some [])
+    × (row ≡ result)
+whole-at_end row None result e = absurd (none-some result e)
+whole-at_end row (Some []) result e = (refl, same_Some row result e)
+whole-at_end row (Some (byte ∷ line)) result e = absurd (none-some result e)
 
 -- a row that is read after a first word has the whole line as its text
-first-said : (word line : List ℕ) (at : Rest → Row) (past : Rest → Rest) (row : Row)
+row_text-by_first_word : (word line : List ℕ) (at : Rest → Row) (past : Rest → Rest) (row : Row)
     → ((left : Rest) (l : List ℕ) → left ≡ Some l → past left ≡ Some [] → word ++ l ≡ row_text (at left))
     → starts_with word (Some line) ≡ true → whole (at (after_word word line)) (past (after_word word line)) ≡ Some row
     → row_text row ≡ line
-first-said word line at past row said b e = by_left (after_word word line) refl b e
+row_text-by_first_word word line at past row said b e = by_left (after_word word line) refl b e
   where
     by_left : (o : Rest) → after_word word line ≡ o → starts_with word (Some line) ≡ true
         → whole (at o) (past o) ≡ Some row → row_text row ≡ line
     by_left None s b e = absurd (cc)
     by_left (Some l) s b e =
-        let w = whole-is (at (Some l)) (past (Some l)) row e in
-        ap row_text (sym w.1) ∙ (sym (said (Some l) l refl w.0) ∙ sym (after_word-said word line l s))
+        let w = whole-at_end (at (Some l)) (past (Some l)) row e in
+        ap row_text (sym w.1) ∙ (sym (said (Some l) l refl w.0) ∙ sym (after_word-text word line l s))
 
-start-said : (left : Rest) (line : List ℕ) → left ≡ Some line → past_number left ≡ Some [] → codes "start " ++ line
+-- the row that is read after the word `start` has the line as its text
+row_text-start : (left : Rest) (line : List ℕ) → left ≡ Some line → past_number left ≡ Some [] → codes "start " ++ line
     ≡ row_text (Start (number_at left))
 unfolding row_text
-start-said left line h e = rw (line-is left line _ h (number-said left [] e)) (simp append-nil)
+row_text-start left line h e = rw (line-unique left line _ h (past_number-text left [] e)) (simp append-nil)
 
-reset-said : (left : Rest) (line : List ℕ) → left ≡ Some line → past_number left ≡ Some [] → codes "reset " ++ line
+-- the row that is read after the word `reset` has the line as its text
+row_text-reset : (left : Rest) (line : List ℕ) → left ≡ Some line → past_number left ≡ Some [] → codes "reset " ++ line
     ≡ row_text (Reset (number_at left))
 unfolding row_text
-reset-said left line h e = rw (line-is left line _ h (number-said left [] e)) (simp append-nil)
+row_text-reset left line h e = rw (line-unique left line _ h (past_number-text left [] e)) (simp append-nil)
 
-verdict-said : (line : List ℕ) (row : Row) → verdict_in (after_word (codes "verdict ") line) ≡ Some row → row_text row
+-- the row that is read after the word `verdict` has the line as its text
+row_text-verdict : (line : List ℕ) (row : Row) → verdict_in (after_word (codes "verdict ") line) ≡ Some row
+    → row_text row
     ≡ line
 unfolding row_text
-verdict-said line row e = by_left (after_word (codes "verdict ") line) refl e
+row_text-verdict line row e = by_left (after_word (codes "verdict ") line) refl e
   where
     by_outcome : (l : List ℕ) (o : Option ListedVerdict) → line ≡ codes "verdict " ++ l → outcome_in l ≡ o
         → verdict_by o ≡ Some row → row_text row ≡ line
     by_outcome l None s f e = absurd (none-some row e)
     by_outcome l (Some verdict) s f e =
-        ap row_text (sym (same_Some (Verdict verdict) row e)) ∙ outcome-said l verdict f ∙ sym s
+        ap row_text (sym (same_Some (Verdict verdict) row e)) ∙ verdict_text-outcome l verdict f ∙ sym s
 
     by_left : (o : Rest) → after_word (codes "verdict ") line ≡ o → verdict_in o ≡ Some row → row_text row ≡ line
     by_left None s e = absurd (none-some row e)
-    by_left (Some l) s e = by_outcome l (outcome_in l) (after_word-said (codes "verdict ") line l s) refl e
+    by_left (Some l) s e = by_outcome l (outcome_in l) (after_word-text (codes "verdict ") line l s) refl e
 
-pub row-said : (line : List ℕ) (row : Row) → row_in line ≡ Some row → row_text row ≡ line
+-- a row that is read from a line has the line as its text
+pub row_text-row_in : (line : List ℕ) (row : Row) → row_in line ≡ Some row → row_text row ≡ line
 unfolding row_in
-row-said line row e =
+row_text-row_in line row e =
     by_tests (starts_with (codes "transfer ") (Some line)) (starts_with (codes "cycle ") (Some line))
     (starts_with (codes "tenure ") (Some line)) (starts_with (codes "start ") (Some line))
     (starts_with (codes "reset ") (Some line)) refl refl refl refl refl e
@@ -341,13 +376,13 @@ row-said line row e =
         else verdict_in (after_word (codes "verdict ") line)) ≡ Some row
         → row_text row ≡ line
     by_tests true b c d f ta tb tc td tf e =
-        first-said (codes "transfer ") line transfer_at past_transfer row transfer-said ta e
+        row_text-by_first_word (codes "transfer ") line transfer_at past_transfer row row_text-transfer ta e
     by_tests false true c d f ta tb tc td tf e =
-        first-said (codes "cycle ") line cycle_at past_cycle row cycle-said tb e
+        row_text-by_first_word (codes "cycle ") line cycle_at past_cycle row row_text-cycle tb e
     by_tests false false true d f ta tb tc td tf e =
-        first-said (codes "tenure ") line tenure_at past_tenure row tenure-said tc e
+        row_text-by_first_word (codes "tenure ") line tenure_at past_tenure row row_text-tenure tc e
     by_tests false false false true f ta tb tc td tf e =
-        first-said (codes "start ") line (λ l. Start (number_at l)) past_number row start-said td e
+        row_text-by_first_word (codes "start ") line (λ l. Start (number_at l)) past_number row row_text-start td e
     by_tests false false false false true ta tb tc td tf e =
-        first-said (codes "reset ") line (λ l. Reset (number_at l)) past_number row reset-said tf e
-    by_tests false false false false false ta tb tc td tf e = verdict-said line row e
+        row_text-by_first_word (codes "reset ") line (λ l. Reset (number_at l)) past_number row row_text-reset tf e
+    by_tests false false false false false ta tb tc td tf e = row_text-verdict line row e

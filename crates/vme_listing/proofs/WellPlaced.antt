@@ -32,7 +32,7 @@ use Rattle.vme_listing.specs.declared.row.Row.TheVariants.{InterruptCycle, Trans
 use Rattle.vme_listing.proofs.FoundBreaks.{either, neither, least_break-judged, least_break-within, unbroken_always}
 use Rattle.vme_listing.proofs.FoundBreaks.{unbroken_before}
 use Rattle.vme_listing.proofs.RecordedRows.{AtMostOne, cycle_one, tenure_one, transfer_one}
-use Rattle.vme_listing.proofs.RowForms.{IsMiddle, number}
+use Rattle.vme_listing.proofs.RowForms.{IsMiddle, is_number-below}
 
 -- the row is of a start, a tenure, a cycle or a transfer, and a row at the place (i, kind) may follow it
 record Precedes (row : Row) (i kind : ℕ) : Type 0 where
@@ -276,7 +276,7 @@ module _ (t : Trace) (slots : t.opening.slots ≤ 21) (few : length t.steps < 2 
   outcome_form stretch stretches order None e = refl
   outcome_form stretch stretches order (Some b) e =
       let is = named stretch stretches b order e in
-      by_rule (is_unreadable b.rule) refl (number b.instant (last_instant t + 1) is.below (omega arith))
+      by_rule (is_unreadable b.rule) refl (is_number-below b.instant (last_instant t + 1) is.below (omega arith))
       (lt-ltb b.line line_count is.line)
     where
       by_rule : (r : Bool) → is_unreadable b.rule ≡ r → nat_lt b.instant (2 ^ 32) ≡ true → nat_lt b.line line_count
@@ -387,11 +387,12 @@ module _ (t : Trace) (slots : t.opening.slots ≤ 21) (few : length t.steps < 2 
     -- a reset may follow a row that precedes its place, and the start of a later stretch may follow the reset
     reset_follows : (row : Row) (i : ℕ) → i < limit → Precedes row i 0 → follows Three (Some row) (Reset i) ≡ true
     unfolding is_row
-    reset_follows row i below p = follows_on row (Reset i) i 0 p (number i limit below (omega arith)) refl refl
+    reset_follows row i below p = follows_on row (Reset i) i 0 p (is_number-below i limit below (omega arith)) refl refl
 
     start_follows : (i start : ℕ) → i < start → start < limit → follows Three (Some (Reset i)) (Start start) ≡ true
     unfolding follows is_row
-    start_follows i start after below = and_from _ _ (and_from _ _ (number start limit below (omega arith)) refl)
+    start_follows i start after below = and_from _ _
+        (and_from _ _ (is_number-below start limit below (omega arith)) refl)
         (higher i start after)
       where
         higher : (i j : ℕ) → i < j → (nat_lt i j || ((i == j) && nat_lt 0 1)) ≡ true
@@ -505,7 +506,8 @@ module _ (t : Trace) (slots : t.opening.slots ≤ 21) (few : length t.steps < 2 
       let is = outcome_form stretch stretches order found e in
       subst (λ rows. is_rest Three None rows ≡ true) (sym (rows_split limit form.most found is stretch stretches
       form.after))
-      (and_from _ _ (and_from _ _ (and_from _ _ (number stretch.start limit form.after (omega (arith, form.most))) refl)
+      (and_from _ _ (and_from _ _ (and_from _ _
+      (is_number-below stretch.start limit form.after (omega (arith, form.most))) refl)
       refl) (behind_start limit form.most found is stretch stretches order (unbroken stretch stretches order found e)
       form.after))
 

@@ -4,7 +4,7 @@ use Rattle.std.proofs.lemmas.Option.{none-some, same_Some}
 use Rattle.vme_listing.specs.Lines.{row_in}
 use Rattle.vme_listing.specs.Places.{is_row}
 use Rattle.vme_listing.proofs.RowsRead.{row_in-row_text}
-use Rattle.vme_listing.proofs.Said.{row-said}
+use Rattle.vme_listing.proofs.Said.{row_text-row_in}
 use Rattle.vme_listing.proofs.line.read_row.Goals as goal
 
 pub returns-in_err-row-clause-found : goal.returns-in_err-row-clause-found
@@ -13,7 +13,7 @@ returns-in_err-row-clause-found c = λ row h e. absurd
 
 pub returns-then-is_row-clause-named : goal.returns-then-is_row-clause-named
 returns-then-is_row-clause-named c =
-    (sym c.is_row.ensures ∙ c.if-is_row.true, row-said c.args.line.now c.in_ok-row.row (sym c.in_ok-row.ensures))
+    (sym c.is_row.ensures ∙ c.if-is_row.true, row_text-row_in c.args.line.now c.in_ok-row.row (sym c.in_ok-row.ensures))
 
 pub returns-then-is_row-clause-found : goal.returns-then-is_row-clause-found
 returns-then-is_row-clause-found c = λ row h e.

@@ -1,7 +1,7 @@
 use Rattle.std.proofs.Common.{◌++◌, take}
 use Rattle.std.proofs.KnownBytes.{Appends-trans}
 use Rattle.std.proofs.Common.{◌∙◌}
-use Rattle.vme_listing.proofs.Fronts.{moves_front}
+use Rattle.vme_listing.proofs.Fronts.{text-after_taking}
 use Rattle.vme_listing.proofs.write.put.Goals as goal
 
 pub loop-rest-preserved : goal.loop-rest-preserved
@@ -10,7 +10,7 @@ loop-rest-preserved g c =
     let rest = c.loop-rest.rest.now in
     let n = c.in-Ok.taken in (
       done ++ take n rest,
-      moves_front _ done rest n split,
+      text-after_taking _ done rest n split,
       Appends-trans _ _ _ _ _ appended c.in-Ok.ensures.bytes,
       c.in-Ok.ensures.failures ∙ same,
     )

@@ -2,7 +2,8 @@ use Rattle.std.proofs.Common.{◌≡◌, ◌+◌, ◌++◌, drop, sym, ap, ◌�
 use Rattle.std.specs.Prelude.{flat_map}
 use Rattle.vme_listing.specs.RowText.{line_of, text_of}
 use Rattle.vme_listing.specs.Written.{AppendsFront}
-use Rattle.vme_listing.proofs.Fronts.{on_ok, on_err, on_any_err, front_of, line_more, whole_of, lines_more, lines_none}
+use Rattle.vme_listing.proofs.Fronts.{OnOk-map, OnErr-map, OnErr-always, AppendsFront-of_text, Appends-line_held}
+use Rattle.vme_listing.proofs.Fronts.{Appends-whole_text, flat_map-drop_one_more, flat_map-drop_all}
 use Rattle.vme_listing.proofs.write.write_listing.Goals as goal
 
 pub loop-row-preserved : goal.loop-row-preserved
@@ -11,10 +12,11 @@ loop-row-preserved g c =
     let rows = c.rows-rows.result.now in
     let i = c.loop-row.row-index in
     let rest = flat_map line_of (drop (i + 1) rows) in
-    let more : flat_map line_of (drop i rows) ≡ line_of c.row-item.result ++ rest = lines_more line_of rows i
+    let more : flat_map line_of (drop i rows) ≡ line_of c.row-item.result ++ rest =
+    flat_map-drop_one_more line_of rows i
     c.row-item.result c.loop-row-test.true c.row-item.is in
     let (gone, left, went) =
-    line_more (g.W.Sink.writing c.args.sink.now).taken (g.W.Sink.writing c.loop-row.sink).taken
+    Appends-line_held (g.W.Sink.writing c.args.sink.now).taken (g.W.Sink.writing c.loop-row.sink).taken
     (g.W.Sink.writing c.make_room.new.sink).taken (text_of c.args.listing.now) done c.loop-row.piece
     c.make_room.new.held (line_of c.row-item.result) rest
     (split ∙ ap (λ l. done ++ (c.loop-row.piece ++ l)) more) appended c.in_ok-make_room.ensures.moves in (
@@ -29,8 +31,8 @@ pub returns-in_err-make_room-clause-front : goal.returns-in_err-make_room-clause
 returns-in_err-make_room-clause-front g c =
     let (done, split, appended, same) = c.loop-row.invariant in
     let rows = c.rows-rows.result.now in
-    on_any_err c.from_residual.result
-    (front_of (g.W.Sink.writing c.args.sink.now).taken (g.W.Sink.writing c.loop-row.sink).taken
+    OnErr-always c.from_residual.result
+    (AppendsFront-of_text (g.W.Sink.writing c.args.sink.now).taken (g.W.Sink.writing c.loop-row.sink).taken
     (g.W.Sink.writing c.make_room.new.sink).taken (text_of c.args.listing.now) done c.loop-row.piece
     (flat_map line_of (drop c.loop-row.row-index rows))
     split appended c.in_err-make_room.ensures.front)
@@ -39,11 +41,11 @@ pub returns-clause-whole : goal.returns-clause-whole
 returns-clause-whole g c =
     let (done, split, appended, same) = c.loop-row.invariant in
     let rows = c.rows-rows.result.now in
-    on_ok c.put.result
-    (whole_of (g.W.Sink.writing c.args.sink.now).taken (g.W.Sink.writing c.loop-row.sink).taken
+    OnOk-map c.put.result
+    (Appends-whole_text (g.W.Sink.writing c.args.sink.now).taken (g.W.Sink.writing c.loop-row.sink).taken
     (g.W.Sink.writing c.put.new.sink).taken (text_of c.args.listing.now) done c.loop-row.piece c.as_bytes.result.now
     (flat_map line_of (drop c.loop-row.row-index rows))
-    split (lines_none line_of rows c.loop-row.row-index (omega arith)) c.as_bytes.ensures appended)
+    split (flat_map-drop_all line_of rows c.loop-row.row-index (omega arith)) c.as_bytes.ensures appended)
     c.put.ensures.whole
 
 pub returns-clause-front : goal.returns-clause-front
@@ -52,9 +54,10 @@ returns-clause-front g c =
     let rows = c.rows-rows.result.now in
     let mid = (g.W.Sink.writing c.loop-row.sink).taken in
     let new = (g.W.Sink.writing c.put.new.sink).taken in
-    on_err c.put.result
+    OnErr-map c.put.result
     (λ (h : AppendsFront mid new c.as_bytes.result.now).
-    front_of (g.W.Sink.writing c.args.sink.now).taken mid new (text_of c.args.listing.now) done c.loop-row.piece
+    AppendsFront-of_text (g.W.Sink.writing c.args.sink.now).taken mid new (text_of c.args.listing.now) done
+    c.loop-row.piece
     (flat_map line_of (drop c.loop-row.row-index rows))
     split appended (subst (λ l. AppendsFront mid new l) c.as_bytes.ensures h))
     c.put.ensures.front

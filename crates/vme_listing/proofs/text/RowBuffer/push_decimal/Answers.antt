@@ -4,7 +4,7 @@ use Rattle.std.specs.Prelude.{decimal}
 use Rattle.std.proofs.lemmas.Fmt.{decimal_digit, decimal_step, decimal_nonempty, length-decimal-le}
 use Rattle.std.proofs.lemmas.Grind.{drop-set_at}
 use Rattle.std.proofs.lemmas.List.{append_assoc, append-nil, take_rest}
-use Rattle.vme_listing.proofs.Digits.{decimal_length}
+use Rattle.vme_listing.proofs.Digits.{length-decimal}
 use Rattle.vme_listing.proofs.text.RowBuffer.push_decimal.Goals as goal
 
 pub loop-rest-init : goal.loop-rest-init
@@ -25,7 +25,7 @@ pub loop-rest-preserved : goal.loop-rest-preserved
 loop-rest-preserved c =
     let l = c.loop-rest in
     let (enough, most, size, all) = l.invariant in
-    let longer = decimal_length l.rest (omega arith) (omega arith) in
+    let longer = length-decimal l.rest (omega arith) (omega arith) in
     let next : l.start - 1 + 1 ≡ l.start = omega (arith, enough, longer) in (
       omega (arith, enough, longer),
       omega arith,

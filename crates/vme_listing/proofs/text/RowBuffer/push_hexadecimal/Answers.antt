@@ -4,7 +4,7 @@ use Rattle.std.specs.Fmt.{digit_glyph}
 use Rattle.std.proofs.lemmas.Grind.{drop-set_at}
 use Rattle.std.proofs.lemmas.List.{append_assoc, append-nil, take_rest}
 use Rattle.vme_listing.specs.RowText.{hexadecimal}
-use Rattle.vme_listing.proofs.Digits.{hexadecimal_step, hexadecimal_none}
+use Rattle.vme_listing.proofs.Digits.{hexadecimal-last, hexadecimal-no_digits}
 use Rattle.vme_listing.proofs.text.RowBuffer.push_hexadecimal.Goals as goal
 
 pub loop-start-init : goal.loop-start-init
@@ -35,7 +35,7 @@ loop-start-preserved c =
           (l.start - 1) glyph refl (omega arith))
           ∙ ap (λ n. hexadecimal (l.start - first - 1) (l.rest / 16) ++ glyph ∷ drop n l.glyphs) next
           ∙ sym (append_assoc (hexadecimal (l.start - first - 1) (l.rest / 16)) (glyph ∷ []) (drop l.start l.glyphs))
-          ∙ ap (λ ds. ds ++ drop l.start l.glyphs) (sym (hexadecimal_step (l.start - first) l.rest (omega arith)))
+          ∙ ap (λ ds. ds ++ drop l.start l.glyphs) (sym (hexadecimal-last (l.start - first) l.rest (omega arith)))
           ∙ all,
     )
 
@@ -50,5 +50,5 @@ returns-clause-text c =
     (ap (λ n. take (n - first) (drop first l.glyphs)) (sym size)
     ∙ take_rest l.glyphs first
     ∙ ap (λ n. drop n l.glyphs) (sym end)
-    ∙ ap (λ ds. ds ++ drop l.start l.glyphs) (sym (hexadecimal_none (l.start - first) l.rest (omega arith)))
+    ∙ ap (λ ds. ds ++ drop l.start l.glyphs) (sym (hexadecimal-no_digits (l.start - first) l.rest (omega arith)))
     ∙ all)
