@@ -28,7 +28,7 @@ use Rattle.vme_listing.specs.Recorded.{rows_of_stretch, tenure_row, tenure_rows,
 use Rattle.vme_listing.specs.declared.row.ListedVerdict.TheVariants.{Broken, Unreadable}
 use Rattle.vme_listing.specs.declared.row.Row.{Row}
 use Rattle.vme_listing.specs.declared.row.Row.TheVariants.{Reset, OpenTenure, Verdict}
-use Rattle.vme_listing.proofs.FoundBreaks.{either, least_break-within}
+use Rattle.vme_listing.proofs.FoundBreaks.{option_or-some, least_break-within}
 use Rattle.vme_annotation.specs.Shown.{ShownChange, all_changes, ends, opening_changes, row_changes}
 use Rattle.vme_annotation.specs.declared.shown_variable.ShownVariable.{ShownVariable}
 
@@ -216,7 +216,7 @@ least_of-in_recording t [] b e = absurd (cc)
 least_of-in_recording t (stretch ∷ []) b e = let there = least_break-within t stretch all_rules b e in omega
     (arith, there.0)
 least_of-in_recording t (stretch ∷ next ∷ stretches) b e =
-    elim (either (least_break t stretch all_rules) (least_of all_rules t (next ∷ stretches)) b e) [
+    elim (option_or-some (least_break t stretch all_rules) (least_of all_rules t (next ∷ stretches)) b e) [
       | inl here ↦ let there = least_break-within t stretch all_rules b here in omega (arith, there.0)
       | inr later ↦ least_of-in_recording t (next ∷ stretches) b later.1
     ]

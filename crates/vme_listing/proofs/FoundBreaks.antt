@@ -18,24 +18,28 @@ use Rattle.vme_trace.specs.declared.verdict.Break.{Break}
 use Rattle.vme_trace.proofs.Ranges.{any-fails, least-found, least-none-any}
 
 -- the only rule that is broken at the end of a stretch is U1
-only_u1 : (r : Rule) → ends_stretch r ≡ true → r ≡ U1
-only_u1 U1 h = refl
-only_u1 r h = absurd (cc)
+ends_stretch-only_u1 : (r : Rule) → ends_stretch r ≡ true → r ≡ U1
+ends_stretch-only_u1 U1 h = refl
+ends_stretch-only_u1 r h = absurd (cc)
 
 -- j is after the start of the stretch, and at its end or before
 abbrev pub IsWithin : Stretch → ℕ → Type 0
 IsWithin stretch j = (stretch.start < j) × (j ≤ stretch.end)
 
-judged_there : (stretch : Stretch) (j : ℕ) → stretch.start < stretch.end → is_judged stretch j ≡ true
+-- a judged instant is within its stretch
+IsWithin-judged : (stretch : Stretch) (j : ℕ) → stretch.start < stretch.end → is_judged stretch j ≡ true
     → IsWithin stretch j
-judged_there stretch j whole h = (grind (arith, nat_tests), grind (arith, nat_tests))
+IsWithin-judged stretch j whole h = (grind (arith, nat_tests), grind (arith, nat_tests))
 
-at_end : (stretch : Stretch) (j : ℕ) (a b : Bool) → stretch.start < stretch.end → ((j == stretch.end) && a && b) ≡ true
+-- the end of a stretch is within it
+IsWithin-end : (stretch : Stretch) (j : ℕ) (a b : Bool) → stretch.start < stretch.end → ((j == stretch.end) && a && b)
+    ≡ true
     → IsWithin stretch j
-at_end stretch j a b whole h = let here : (j == stretch.end)
+IsWithin-end stretch j a b whole h = let here : (j == stretch.end)
     ≡ true = (and_parts (j == stretch.end) a (and_parts ((j == stretch.end) && a) b h).0).0 in
     (grind (arith, nat_tests), grind (arith, nat_tests))
 
+-- a rule is broken only within the stretch
 breaks-within : (t : Trace) (stretch : Stretch) (r : Rule) (j l : ℕ) → stretch.start < stretch.end
     → breaks t stretch r j l ≡ true
     → IsWithin stretch j
@@ -46,9 +50,9 @@ breaks-within t stretch r j l whole h =
     h in
     elim (or_cases (ends_stretch r) (is_judged stretch j) (and_parts (ends_stretch r || is_judged stretch j)
     (has_line t.opening.slots l) parts.0).0) [
-      | inl ends ↦ at_end stretch j (nat_le j (last_instant t)) (is_lost (levels_at t j) l) whole
-          (subst (λ (q : Rule). is_broken t stretch q j l ≡ true) (only_u1 r ends) parts.1)
-      | inr judged ↦ judged_there stretch j whole judged
+      | inl ends ↦ IsWithin-end stretch j (nat_le j (last_instant t)) (is_lost (levels_at t j) l) whole
+          (subst (λ (q : Rule). is_broken t stretch q j l ≡ true) (ends_stretch-only_u1 r ends) parts.1)
+      | inr judged ↦ IsWithin-judged stretch j whole judged
     ]
 
 -- the break b is at instant j, on one of the lines
@@ -57,15 +61,19 @@ record IsAt (stretch : Stretch) (b : Break) (j : ℕ) : Type 0 where
   line : b.line < line_count
   within : stretch.start < stretch.end → IsWithin stretch b.instant
 
-pub either : (o p : Option Break) (b : Break) → option_or o p ≡ Some b → (o ≡ Some b) ⊎ ((o ≡ None) × (p ≡ Some b))
-either None p b e = inr (refl, e)
-either (Some a) p b e = inl e
+-- a value of one option or else the other is that of the first, or that of the second where the first has none
+pub option_or-some : (o p : Option Break) (b : Break) → option_or o p ≡ Some b → (o ≡ Some b)
+    ⊎ ((o ≡ None) × (p ≡ Some b))
+option_or-some None p b e = inr (refl, e)
+option_or-some (Some a) p b e = inl e
 
-pub neither : (o p : Option Break) → option_or o p ≡ None → (o ≡ None) × (p ≡ None)
-neither None p e = (refl, e)
-neither (Some a) p e = absurd (cc)
+-- if neither of two options is there, both aren't
+pub option_or-both_none : (o p : Option Break) → option_or o p ≡ None → (o ≡ None) × (p ≡ None)
+option_or-both_none None p e = (refl, e)
+option_or-both_none (Some a) p e = absurd (cc)
 
 module _ (t : Trace) (stretch : Stretch) where
+  -- the break of a rule at instant j, if there is one, is there, on one of the lines
   rule_break-at : (r : Rule) (j : ℕ) (b : Break) → rule_break t stretch j r ≡ Some b → IsAt stretch b j
   unfolding rule_break
   rule_break-at r j b e = named (least (breaks t stretch r j) 0 line_count) refl e
@@ -84,11 +92,12 @@ module _ (t : Trace) (stretch : Stretch) where
                 (breaks-within t stretch r j l whole is.holds);
           }
 
+  -- the first break of the rules at instant j, if there is one, is there, on one of the lines
   break_at-at : (rules : List Rule) (j : ℕ) (b : Break) → break_at t stretch rules j ≡ Some b → IsAt stretch b j
   unfolding break_at
   break_at-at [] j b e = absurd (cc)
   break_at-at (r ∷ rs) j b e =
-      elim (either (rule_break t stretch j r) (break_at t stretch rs j) b e) [
+      elim (option_or-some (rule_break t stretch j r) (break_at t stretch rs j) b e) [
         | inl here ↦ rule_break-at r j b here
         | inr later ↦ break_at-at rs j b later.1
       ]
@@ -97,20 +106,21 @@ module _ (t : Trace) (stretch : Stretch) where
   break_at-none : (front back : List Rule) (r : Rule) (j : ℕ) → break_at t stretch (front ++ r ∷ back) j ≡ None
       → rule_break t stretch j r ≡ None
   unfolding break_at
-  break_at-none [] back r j e = (neither (rule_break t stretch j r) (break_at t stretch back j) e).0
+  break_at-none [] back r j e = (option_or-both_none (rule_break t stretch j r) (break_at t stretch back j) e).0
   break_at-none (q ∷ front) back r j e = break_at-none front back r j
-      (neither (rule_break t stretch j q) (break_at t stretch (front ++ r ∷ back) j) e).1
+      (option_or-both_none (rule_break t stretch j q) (break_at t stretch (front ++ r ∷ back) j) e).1
 
-  before-none : (rules : List Rule) (n i : ℕ) → break_before t stretch rules n ≡ None → i < n
+  -- where there is no break before instant n, there is none at an instant i below n
+  break_before-none : (rules : List Rule) (n i : ℕ) → break_before t stretch rules n ≡ None → i < n
       → break_at t stretch rules i
       ≡ None
   unfolding break_before
-  before-none rules zero i e below = absurd (omega arith)
-  before-none rules (suc n) i e below =
-      let both = neither (break_before t stretch rules n) (break_at t stretch rules n) e in
+  break_before-none rules zero i e below = absurd (omega arith)
+  break_before-none rules (suc n) i e below =
+      let both = option_or-both_none (break_before t stretch rules n) (break_at t stretch rules n) e in
       elim (last_or_before n i below) [
         | inl same ↦ subst (λ k. break_at t stretch rules k ≡ None) (sym same) both.1
-        | inr before ↦ before-none rules n i both.0 before
+        | inr before ↦ break_before-none rules n i both.0 before
       ]
     where
       last_or_before : (n i : ℕ) → i < suc n → (i ≡ n) ⊎ (i < n)
@@ -123,13 +133,15 @@ module _ (t : Trace) (stretch : Stretch) where
     within : stretch.start < stretch.end → IsWithin stretch b.instant
     none : (i : ℕ) → i < b.instant → break_at t stretch rules i ≡ None
 
-  before-found : (rules : List Rule) (n : ℕ) (b : Break) → break_before t stretch rules n ≡ Some b → IsFirst rules n b
+  -- a break that is found before instant n is the first one
+  break_before-first : (rules : List Rule) (n : ℕ) (b : Break) → break_before t stretch rules n ≡ Some b
+      → IsFirst rules n b
   unfolding break_before
-  before-found rules zero b e = absurd (cc)
-  before-found rules (suc n) b e =
-      elim (either (break_before t stretch rules n) (break_at t stretch rules n) b e) [
+  break_before-first rules zero b e = absurd (cc)
+  break_before-first rules (suc n) b e =
+      elim (option_or-some (break_before t stretch rules n) (break_at t stretch rules n) b e) [
         | inl early ↦
-            let first = before-found rules n b early in
+            let first = break_before-first rules n b early in
             record { below = omega arith; line = first.line; within = first.within; none = first.none }
         | inr late ↦
             let here = break_at-at rules n b late.1 in
@@ -137,7 +149,7 @@ module _ (t : Trace) (stretch : Stretch) where
               below = omega arith;
               line = here.line;
               within = here.within;
-              none = λ i before. before-none rules n
+              none = λ i before. break_before-none rules n
                   i late.0 (omega arith);
             }
       ]
@@ -146,19 +158,21 @@ module _ (t : Trace) (stretch : Stretch) where
   pub least_break-within : (rules : List Rule) (b : Break) → least_break t stretch rules ≡ Some b
       → (b.instant < last_instant t + 1) × (b.line < line_count)
   unfolding least_break
-  least_break-within rules b e = let first = before-found rules (last_instant t + 1) b e in (first.below, first.line)
+  least_break-within rules b e = let first =
+      break_before-first rules (last_instant t + 1) b e in (first.below, first.line)
 
   -- the least break is at an instant after the start of the stretch, and not after its end
   pub least_break-judged : (rules : List Rule) (b : Break) → stretch.start < stretch.end → least_break t stretch rules
       ≡ Some b
       → IsWithin stretch b.instant
   unfolding least_break
-  least_break-judged rules b whole e = (before-found rules (last_instant t + 1) b e).within whole
+  least_break-judged rules b whole e = (break_before-first rules (last_instant t + 1) b e).within whole
 
-  unbroken_at : (front back : List Rule) (r : Rule) (j l : ℕ) → break_at t stretch (front ++ r ∷ back) j ≡ None
+  -- where no rule of the list is broken at instant j, the rule r of the list is broken on no line there
+  breaks-not_at : (front back : List Rule) (r : Rule) (j l : ℕ) → break_at t stretch (front ++ r ∷ back) j ≡ None
       → l < line_count → breaks t stretch r j l ≡ false
   unfolding rule_break
-  unbroken_at front back r j l e there =
+  breaks-not_at front back r j l e there =
       any-fails (breaks t stretch r j) 0 line_count l (least-none-any (breaks t stretch r j) 0 line_count
       (no_line (least (breaks t stretch r j) 0 line_count) (break_at-none front back r j e))) (omega arith) there
     where
@@ -168,15 +182,16 @@ module _ (t : Trace) (stretch : Stretch) where
       no_line (Some k) h = absurd (cc)
 
   -- before the least break no rule is broken on any line
-  pub unbroken_before : (front back : List Rule) (r : Rule) (b : Break) (j l : ℕ) → least_break t stretch
+  pub breaks-not_before : (front back : List Rule) (r : Rule) (b : Break) (j l : ℕ) → least_break t stretch
       (front ++ r ∷ back) ≡ Some b → j < b.instant → l < line_count → breaks t stretch r j l ≡ false
   unfolding least_break
-  unbroken_before front back r b j l e before there =
-      unbroken_at front back r j l ((before-found (front ++ r ∷ back) (last_instant t + 1) b e).none j before) there
+  breaks-not_before front back r b j l e before there =
+      breaks-not_at front back r j l ((break_before-first (front ++ r ∷ back) (last_instant t + 1) b e).none j before)
+      there
 
   -- where there is no least break, no rule of the list is broken at any instant
-  pub unbroken_always : (front back : List Rule) (r : Rule) (j l : ℕ) → least_break t stretch (front ++ r ∷ back) ≡ None
+  pub breaks-never : (front back : List Rule) (r : Rule) (j l : ℕ) → least_break t stretch (front ++ r ∷ back) ≡ None
       → j < last_instant t + 1 → l < line_count → breaks t stretch r j l ≡ false
   unfolding least_break
-  unbroken_always front back r j l e before there =
-      unbroken_at front back r j l (before-none (front ++ r ∷ back) (last_instant t + 1) j e before) there
+  breaks-never front back r j l e before there =
+      breaks-not_at front back r j l (break_before-none (front ++ r ∷ back) (last_instant t + 1) j e before) there

@@ -30,9 +30,10 @@ record IsAllowedData (a : Lanes) : Type 0 where
   d6 : is_allowed_digit_in a 6 ≡ true
   d7 : is_allowed_digit_in a 7 ≡ true
 
-digits : (a : Lanes) → is_allowed_data a ≡ true → IsAllowedData a
+-- data that its form allows is so by parts
+IsAllowedData-of_test : (a : Lanes) → is_allowed_data a ≡ true → IsAllowedData a
 unfolding is_allowed_data
-digits a h =
+IsAllowedData-of_test a h =
     let high = and_parts (nat_lt a.value (2 ^ 32) && nat_lt a.unknown 256 && are_digits_from a 0) (are_digits_from a 4)
     h in
     let low = and_parts (nat_lt a.value (2 ^ 32) && nat_lt a.unknown 256) (are_digits_from a 0) high.0 in
@@ -59,17 +60,18 @@ digits a h =
     }
 
 -- the step of `number_after` from the digits before the last digit of n to n
-number_step : (n front byte : ℕ) (word : List ℕ) → n < 2 ^ 32 → front ≡ n / 16 → digit_of byte ≡ n % 16
+number_after-step : (n front byte : ℕ) (word : List ℕ) → n < 2 ^ 32 → front ≡ n / 16 → digit_of byte ≡ n % 16
     → number_after 16 front (byte ∷ word) ≡ number_after 16 n word
-number_step n front byte word below e d =
+number_after-step n front byte word below e d =
     ap (λ x. number_after 16 x word)
     (ap (λ f. (f * 16 % 2 ^ 32 + digit_of byte) % 2 ^ 32) e ∙ ap (λ x. (n / 16 * 16 % 2 ^ 32 + x) % 2 ^ 32) d
     ∙ mod_32_bits-last_digit 16 (n / 16) (n % 16) n (omega arith) below)
 
-number_read : (a : Lanes) → is_allowed_data a ≡ true → number_of 16 (lanes_text a) ≡ a.value
+-- the number of the text of data is the value of the data
+number_of-lanes_text : (a : Lanes) → is_allowed_data a ≡ true → number_of 16 (lanes_text a) ≡ a.value
 unfolding number_of lanes_text
-number_read a h =
-    let are = digits a h in
+number_of-lanes_text a h =
+    let are = IsAllowedData-of_test a h in
     let below : a.value < 4294967296 = are.value in
     let v = a.value in
     let w1 : List ℕ = digit_text_in a 0 ∷ [] in
@@ -79,36 +81,38 @@ number_read a h =
     let w5 : List ℕ = digit_text_in a 4 ∷ w4 in
     let w6 : List ℕ = digit_text_in a 5 ∷ w5 in
     let w7 : List ℕ = digit_text_in a 6 ∷ w6 in
-    number_step (v / 268435456) 0 (digit_text_in a 7) w7 (omega arith) (omega arith)
+    number_after-step (v / 268435456) 0 (digit_text_in a 7) w7 (omega arith) (omega arith)
     (digit_of-text (is_moved_in a 7) (digit_in a 7) (flag_in a 7) (omega arith) (omega arith) are.d7)
-    ∙ number_step (v / 16777216) (v / 268435456) (digit_text_in a 6) w6 (omega arith) (omega arith)
+    ∙ number_after-step (v / 16777216) (v / 268435456) (digit_text_in a 6) w6 (omega arith) (omega arith)
     (digit_of-text (is_moved_in a 6) (digit_in a 6) (flag_in a 6) (omega arith) (omega arith) are.d6)
-    ∙ number_step (v / 1048576) (v / 16777216) (digit_text_in a 5) w5 (omega arith) (omega arith)
+    ∙ number_after-step (v / 1048576) (v / 16777216) (digit_text_in a 5) w5 (omega arith) (omega arith)
     (digit_of-text (is_moved_in a 5) (digit_in a 5) (flag_in a 5) (omega arith) (omega arith) are.d5)
-    ∙ number_step (v / 65536) (v / 1048576) (digit_text_in a 4) w4 (omega arith) (omega arith)
+    ∙ number_after-step (v / 65536) (v / 1048576) (digit_text_in a 4) w4 (omega arith) (omega arith)
     (digit_of-text (is_moved_in a 4) (digit_in a 4) (flag_in a 4) (omega arith) (omega arith) are.d4)
-    ∙ number_step (v / 4096) (v / 65536) (digit_text_in a 3) w3 (omega arith) (omega arith)
+    ∙ number_after-step (v / 4096) (v / 65536) (digit_text_in a 3) w3 (omega arith) (omega arith)
     (digit_of-text (is_moved_in a 3) (digit_in a 3) (flag_in a 3) (omega arith) (omega arith) are.d3)
-    ∙ number_step (v / 256) (v / 4096) (digit_text_in a 2) w2 (omega arith) (omega arith)
+    ∙ number_after-step (v / 256) (v / 4096) (digit_text_in a 2) w2 (omega arith) (omega arith)
     (digit_of-text (is_moved_in a 2) (digit_in a 2) (flag_in a 2) (omega arith) (omega arith) are.d2)
-    ∙ number_step (v / 16) (v / 256) (digit_text_in a 1) w1 (omega arith) (omega arith)
+    ∙ number_after-step (v / 16) (v / 256) (digit_text_in a 1) w1 (omega arith) (omega arith)
     (digit_of-text (is_moved_in a 1) (digit_in a 1) (flag_in a 1) (omega arith) (omega arith) are.d1)
-    ∙ number_step v (v / 16) (digit_text_in a 0) [] (omega arith) (omega arith)
+    ∙ number_after-step v (v / 16) (digit_text_in a 0) [] (omega arith) (omega arith)
     (digit_of-text (is_moved_in a 0) (digit_in a 0) (flag_in a 0) (omega arith) (omega arith) are.d0 ∙ omega arith)
 
 -- the step of `flags_after` from the bits before the last bit of n to n
-flags_step : (n front byte : ℕ) (word : List ℕ) → n < 256 → front ≡ n / 2 → flag_of byte ≡ n % 2 → flags_after front
+flags_after-step : (n front byte : ℕ) (word : List ℕ) → n < 256 → front ≡ n / 2 → flag_of byte ≡ n % 2
+    → flags_after front
     (byte ∷ word) ≡ flags_after n word
-flags_step n front byte word below e f =
+flags_after-step n front byte word below e f =
     let small : n / 2 * 2 < 256 = omega arith in
     ap (λ x. flags_after x word)
     (ap (λ x. x * 2 % 256 + flag_of byte) e ∙ ap (λ x. n / 2 * 2 % 256 + x) f ∙ ap (λ x. x + n % 2) (mod-eq_of_lt small)
     ∙ omega arith)
 
-flags_read : (a : Lanes) → is_allowed_data a ≡ true → flags_of (lanes_text a) ≡ a.unknown
+-- the bits of the text of data are its unknown digits
+flags_of-lanes_text : (a : Lanes) → is_allowed_data a ≡ true → flags_of (lanes_text a) ≡ a.unknown
 unfolding flags_of lanes_text
-flags_read a h =
-    let are = digits a h in
+flags_of-lanes_text a h =
+    let are = IsAllowedData-of_test a h in
     let below : a.unknown < 256 = are.unknown in
     let u = a.unknown in
     let w1 : List ℕ = digit_text_in a 0 ∷ [] in
@@ -118,26 +122,27 @@ flags_read a h =
     let w5 : List ℕ = digit_text_in a 4 ∷ w4 in
     let w6 : List ℕ = digit_text_in a 5 ∷ w5 in
     let w7 : List ℕ = digit_text_in a 6 ∷ w6 in
-    flags_step (u / 128) 0 (digit_text_in a 7) w7 (omega arith) (omega arith)
+    flags_after-step (u / 128) 0 (digit_text_in a 7) w7 (omega arith) (omega arith)
     (flag_of-text (is_moved_in a 7) (digit_in a 7) (flag_in a 7) (omega arith) (omega arith) are.d7)
-    ∙ flags_step (u / 64) (u / 128) (digit_text_in a 6) w6 (omega arith) (omega arith)
+    ∙ flags_after-step (u / 64) (u / 128) (digit_text_in a 6) w6 (omega arith) (omega arith)
     (flag_of-text (is_moved_in a 6) (digit_in a 6) (flag_in a 6) (omega arith) (omega arith) are.d6)
-    ∙ flags_step (u / 32) (u / 64) (digit_text_in a 5) w5 (omega arith) (omega arith)
+    ∙ flags_after-step (u / 32) (u / 64) (digit_text_in a 5) w5 (omega arith) (omega arith)
     (flag_of-text (is_moved_in a 5) (digit_in a 5) (flag_in a 5) (omega arith) (omega arith) are.d5)
-    ∙ flags_step (u / 16) (u / 32) (digit_text_in a 4) w4 (omega arith) (omega arith)
+    ∙ flags_after-step (u / 16) (u / 32) (digit_text_in a 4) w4 (omega arith) (omega arith)
     (flag_of-text (is_moved_in a 4) (digit_in a 4) (flag_in a 4) (omega arith) (omega arith) are.d4)
-    ∙ flags_step (u / 8) (u / 16) (digit_text_in a 3) w3 (omega arith) (omega arith)
+    ∙ flags_after-step (u / 8) (u / 16) (digit_text_in a 3) w3 (omega arith) (omega arith)
     (flag_of-text (is_moved_in a 3) (digit_in a 3) (flag_in a 3) (omega arith) (omega arith) are.d3)
-    ∙ flags_step (u / 4) (u / 8) (digit_text_in a 2) w2 (omega arith) (omega arith)
+    ∙ flags_after-step (u / 4) (u / 8) (digit_text_in a 2) w2 (omega arith) (omega arith)
     (flag_of-text (is_moved_in a 2) (digit_in a 2) (flag_in a 2) (omega arith) (omega arith) are.d2)
-    ∙ flags_step (u / 2) (u / 4) (digit_text_in a 1) w1 (omega arith) (omega arith)
+    ∙ flags_after-step (u / 2) (u / 4) (digit_text_in a 1) w1 (omega arith) (omega arith)
     (flag_of-text (is_moved_in a 1) (digit_in a 1) (flag_in a 1) (omega arith) (omega arith) are.d1)
-    ∙ flags_step u (u / 2) (digit_text_in a 0) [] (omega arith) (omega arith)
+    ∙ flags_after-step u (u / 2) (digit_text_in a 0) [] (omega arith) (omega arith)
     (flag_of-text (is_moved_in a 0) (digit_in a 0) (flag_in a 0) (omega arith) (omega arith) are.d0 ∙ omega arith)
 
-moved_read : (a : Lanes) → moved_of (lanes_text a) ≡ a.moved
+-- the bytes that the text of data shows as moved are those that are
+moved_of-lanes_text : (a : Lanes) → moved_of (lanes_text a) ≡ a.moved
 unfolding moved_of lanes_text
-moved_read a =
+moved_of-lanes_text a =
     rw (
       shown-text (is_moved_in a 7) (digit_in a 7) (flag_in a 7),
       shown-text (is_moved_in a 2) (digit_in a 2)
@@ -154,22 +159,23 @@ moved_read a =
     by_bytes LongWord = refl
 
 -- the data that is read from its own text is the data
-pub lanes-are : (a : Lanes) → is_allowed_data a ≡ true → lanes_of (lanes_text a) ≡ a
-lanes-are a h = rw (moved_read a, number_read a h, flags_read a h) refl
+pub lanes_of-lanes_text : (a : Lanes) → is_allowed_data a ≡ true → lanes_of (lanes_text a) ≡ a
+lanes_of-lanes_text a h = rw (moved_of-lanes_text a, number_of-lanes_text a h, flags_of-lanes_text a h) refl
 
-digit_stays : (moved : Bool) (digit flag : ℕ) → not (digit_text moved digit flag == 10) ≡ true
-digit_stays moved digit flag = ap not (ne_eqb (digit_text moved digit flag) 10
+-- the text of a digit is no line feed
+digit_text-no_line_feed : (moved : Bool) (digit flag : ℕ) → not (digit_text moved digit flag == 10) ≡ true
+digit_text-no_line_feed moved digit flag = ap not (ne_eqb (digit_text moved digit flag) 10
     (λ e. omega (arith, digit_text-at_least moved digit flag)))
 
 -- no byte of the text of data is a line feed
-pub lanes-inside : (a : Lanes) → list_all (λ b. not (b == 10)) (lanes_text a) ≡ true
+pub lanes_text-no_line_feed : (a : Lanes) → list_all (λ b. not (b == 10)) (lanes_text a) ≡ true
 unfolding lanes_text
-lanes-inside a =
-    and_from _ _ (digit_stays (is_moved_in a 7) (digit_in a 7) (flag_in a 7))
-    (and_from _ _ (digit_stays (is_moved_in a 6) (digit_in a 6) (flag_in a 6))
-    (and_from _ _ (digit_stays (is_moved_in a 5) (digit_in a 5) (flag_in a 5))
-    (and_from _ _ (digit_stays (is_moved_in a 4) (digit_in a 4) (flag_in a 4))
-    (and_from _ _ (digit_stays (is_moved_in a 3) (digit_in a 3) (flag_in a 3))
-    (and_from _ _ (digit_stays (is_moved_in a 2) (digit_in a 2) (flag_in a 2))
-    (and_from _ _ (digit_stays (is_moved_in a 1) (digit_in a 1) (flag_in a 1))
-    (and_from _ _ (digit_stays (is_moved_in a 0) (digit_in a 0) (flag_in a 0)) refl)))))))
+lanes_text-no_line_feed a =
+    and_from _ _ (digit_text-no_line_feed (is_moved_in a 7) (digit_in a 7) (flag_in a 7))
+    (and_from _ _ (digit_text-no_line_feed (is_moved_in a 6) (digit_in a 6) (flag_in a 6))
+    (and_from _ _ (digit_text-no_line_feed (is_moved_in a 5) (digit_in a 5) (flag_in a 5))
+    (and_from _ _ (digit_text-no_line_feed (is_moved_in a 4) (digit_in a 4) (flag_in a 4))
+    (and_from _ _ (digit_text-no_line_feed (is_moved_in a 3) (digit_in a 3) (flag_in a 3))
+    (and_from _ _ (digit_text-no_line_feed (is_moved_in a 2) (digit_in a 2) (flag_in a 2))
+    (and_from _ _ (digit_text-no_line_feed (is_moved_in a 1) (digit_in a 1) (flag_in a 1))
+    (and_from _ _ (digit_text-no_line_feed (is_moved_in a 0) (digit_in a 0) (flag_in a 0)) refl)))))))

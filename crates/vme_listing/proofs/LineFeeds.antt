@@ -20,7 +20,7 @@ use Rattle.vme_trace.specs.declared.rule.Rule.{Rule}
 use Rattle.vme_trace.specs.declared.data.Lanes.{Lanes}
 use Rattle.vme_trace.proofs.EveryRule.{every-rule}
 use Rattle.vme_listing.proofs.Glyphs.{are_glyphs, are_glyphs-decimal, are_glyphs-hexadecimal}
-use Rattle.vme_listing.proofs.LaneTexts.{lanes-inside}
+use Rattle.vme_listing.proofs.LaneTexts.{lanes_text-no_line_feed}
 use Rattle.vme_listing.specs.Listed.{includes_resets}
 use Rattle.vme_listing.specs.Places.{is_number, is_edge, has_class, is_address, is_allowed_outcome, has_data, is_row}
 use Rattle.vme_listing.specs.RowText.{edge_text, hexadecimal, address_digits, class_text, direction_text, answer_text}
@@ -90,7 +90,7 @@ has_no_line_feed-answer Berr = refl
 -- the text of the data of a transfer has no line feed
 has_no_line_feed-data : (lanes : Option Lanes) → has_no_line_feed (data_text lanes) ≡ true
 has_no_line_feed-data None = refl
-has_no_line_feed-data (Some a) = lanes-inside a
+has_no_line_feed-data (Some a) = lanes_text-no_line_feed a
 
 -- the name of a rule has no line feed
 has_no_line_feed-rule : (rule : Rule) → has_no_line_feed (rule_name rule) ≡ true

@@ -41,10 +41,10 @@ use Rattle.vme_listing.specs.Lines.{past}
 use Rattle.vme_listing.specs.Lines.{past_answer, past_cycle, past_data, past_direction, past_edge}
 use Rattle.vme_listing.specs.Lines.{past_hexadecimal, past_modifier, past_number, past_read, past_small, past_tenure}
 use Rattle.vme_listing.specs.Lines.{past_transfer, row_in, small_at, tenure_at, transfer_at, verdict_by}
-use Rattle.vme_listing.proofs.Addresses.{HasDigits, address-digits}
+use Rattle.vme_listing.proofs.Addresses.{HasDigits, HasDigits-of_address}
 use Rattle.vme_listing.proofs.FrontDigits.{bytes_eq-refl}
 use Rattle.vme_listing.proofs.FrontHexadecimals.{length-hexadecimal, lanes-length}
-use Rattle.vme_listing.proofs.LaneTexts.{lanes-are}
+use Rattle.vme_listing.proofs.LaneTexts.{lanes_of-lanes_text}
 use Rattle.vme_listing.proofs.Numerals.{number_of-hexadecimal}
 use Rattle.vme_listing.proofs.Pieces.{after_word-is, are_digits, are_digits-decimal, is_end, number_in-is}
 use Rattle.vme_listing.proofs.Pieces.{past_piece-is}
@@ -65,7 +65,7 @@ hexadecimal_in-is k n more in_digits below =
 pub lanes_in-is : (a : Lanes) (more : List ℕ) → is_allowed_data a ≡ true → lanes_in (lanes_text a ++ more) ≡ Some a
 unfolding lanes_in
 lanes_in-is a more h =
-    rw (take_at (lanes_text a) more 8 (lanes-length a), lanes-are a h, bytes_eq-refl (lanes_text a)) refl
+    rw (take_at (lanes_text a) more 8 (lanes-length a), lanes_of-lanes_text a h, bytes_eq-refl (lanes_text a)) refl
 
 -- ---- the pieces of a row
 
@@ -460,7 +460,7 @@ row_in-row_text version (AddressedCycle start c modifier address end) h =
     (is_edge end) h in
     let a = and_parts (is_number start && has_class modifier c) (is_address modifier address) e.0 in
     let p = and_parts (is_number start) (has_class modifier c) a.0 in
-    IsRead-addressed start c modifier address end p.0 p.1 (address-digits modifier address a.1)
+    IsRead-addressed start c modifier address end p.0 p.1 (HasDigits-of_address modifier address a.1)
     e.1
 row_in-row_text version (FreeCycle start modifier end) h =
     let e = and_parts _ (is_edge end) h in

@@ -4,7 +4,7 @@ use Rattle.std.proofs.lemmas.Bool.{true≢false}
 use Rattle.vme_listing.specs.Places.{may_follow}
 use Rattle.vme_listing.specs.Reading.{HasRead, IsTextOfListing, RowsSoFar, behind_rows, listed}
 use Rattle.vme_listing.specs.RowText.{line_of}
-use Rattle.vme_listing.proofs.KnownFronts.{front-known, front-on, rest-is}
+use Rattle.vme_listing.proofs.KnownFronts.{IsFront-known, IsFront-with_future, drop-by_length}
 use Rattle.vme_listing.proofs.Readings.{IsFaultOfText-bad_row, follows-from_parts, follows-parts, HasRead-append}
 use Rattle.vme_listing.proofs.Readings.{IsFaultOfText-unsorted}
 use Rattle.vme_listing.proofs.Readings.{IsTextOfListing-by_last}
@@ -28,7 +28,7 @@ returns-in_default-clause-fault c text future rows ends h =
     (subst (λ (u : RowsSoFar). HasRead text rows (behind_rows u (bytes ++ future))) (sym c.self.view_is) h)
     (sym c.is_last.ensures ∙ c.if-is_last.false) _ refl
     (λ row more is may front.
-    let known = front-known c.self.inside.version c.args.is_rest bytes future ends c.requires.enough row is more front
+    let known = IsFront-known c.self.inside.version c.args.is_rest bytes future ends c.requires.enough row is more front
     in
     c.in_default.ensures.found row known.0 is known.1)
 
@@ -39,7 +39,7 @@ returns-then-not-may_follow-clause-fault c text future rows ends h =
     (subst (λ (u : RowsSoFar). HasRead text rows (behind_rows u (bytes ++ future))) (sym c.self.view_is) h)
     (sym c.is_last.ensures ∙ c.if-is_last.false) _ refl
     (λ row more is may front.
-    let known = front-known c.self.inside.version c.args.is_rest bytes future ends c.requires.enough row is more front
+    let known = IsFront-known c.self.inside.version c.args.is_rest bytes future ends c.requires.enough row is more front
     in
     let same = c.in-Some.ensures.found row known.0 is known.1 in
     true≢false (sym may ∙ ap (λ r. may_follow c.self.inside.last r) (sym same.0) ∙ sym c.if-not-may_follow.ensures))
@@ -52,10 +52,11 @@ returns-then-not-ascends-clause-fault c text future rows ends h =
     (subst (λ (u : RowsSoFar). HasRead text rows (behind_rows u (bytes ++ future))) (sym c.self.view_is) h)
     (sym c.is_last.ensures ∙ c.if-is_last.false) _ c.in-Some.row (c.in-Some.more.now ++ future) refl
     c.in-Some.ensures.named.0 (sym c.if-not-may_follow.ensures) (sym c.if-not-ascends.ensures)
-    (front-on version c.args.is_rest bytes future ends c.requires.enough c.in-Some.row c.in-Some.ensures.named.0
+    (IsFront-with_future version c.args.is_rest bytes future ends c.requires.enough c.in-Some.row
+    c.in-Some.ensures.named.0
     c.in-Some.more.now c.in-Some.ensures.named.1)
     (λ other behind is front.
-    let known = front-known version c.args.is_rest bytes future ends c.requires.enough other is behind front in
+    let known = IsFront-known version c.args.is_rest bytes future ends c.requires.enough other is behind front in
     (c.in-Some.ensures.found other known.0 is known.1).0)
 
 pub overflow_sub-count : goal.overflow_sub-count
@@ -74,14 +75,14 @@ returns-clause-row c text future rows ends h =
     (sym c.if-not-ascends.ensures) in
     subst (λ l. HasRead text (rows ++ c.in-Some.row ∷ [])
     (record { version = version; rest = l ++ future; last = Some c.in-Some.row; count = c.self.inside.count + 1 }))
-    (sym (rest-is bytes (line_of c.in-Some.row) more front.0))
+    (sym (drop-by_length bytes (line_of c.in-Some.row) more front.0))
     (HasRead-append text rows _
     (subst (λ (u : RowsSoFar). HasRead text rows (behind_rows u (bytes ++ future))) (sym c.self.view_is) h)
     (sym c.is_last.ensures ∙ c.if-is_last.false) c.in-Some.row (more ++ future) f
-    (front-on version c.args.is_rest bytes future ends c.requires.enough c.in-Some.row is more front)
+    (IsFront-with_future version c.args.is_rest bytes future ends c.requires.enough c.in-Some.row is more front)
     (λ other behind g e.
     let other_is = (follows-parts _ _ other g).0 in
-    let known = front-known version c.args.is_rest bytes future ends c.requires.enough other other_is behind e in
+    let known = IsFront-known version c.args.is_rest bytes future ends c.requires.enough other other_is behind e in
     let same = c.in-Some.ensures.found other known.0 other_is known.1 in
     (same.0, ap (λ l. l ++ future) same.1 ∙ known.2)))
 

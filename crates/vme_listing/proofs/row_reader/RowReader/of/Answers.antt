@@ -1,7 +1,7 @@
 use Rattle.std.proofs.Common.{[], ◌++◌, append-nil, drop, refl, subst}
 use Rattle.vme_listing.specs.Reading.{HasNoListing, HasRead, IsFirstFault, behind_rows}
 use Rattle.vme_listing.specs.declared.fault.ListFault.TheVariants.{BadHeader}
-use Rattle.vme_listing.proofs.KnownFronts.{left_whole}
+use Rattle.vme_listing.proofs.KnownFronts.{HasRead-after_taking}
 use Rattle.vme_listing.proofs.row_reader.RowReader.of.Goals as goal
 
 pub returns-in_err-pieces-clause-fault : goal.returns-in_err-pieces-clause-fault
@@ -18,6 +18,6 @@ returns-clause-read c =
     let text = c.args.text.now in
     let pieces = c.in_ok-pieces.pieces in
     let count = c.in_ok-pieces.count in
-    left_whole text [] pieces text count
+    HasRead-after_taking text [] pieces text count
     (subst (λ l. HasRead l [] (behind_rows pieces (drop count text ++ []))) (append-nil text)
     (c.in_ok-pieces.ensures.read []))
