@@ -22,7 +22,7 @@ use Rattle.vme_summary.proofs.MarkedListing.{marked_is_listed}
 use Rattle.vme_part_format.specs.Tables.{TableValue}
 use Rattle.vme_part_tables.specs.Runs.{AgreesWithRun, AgreesWithRuns, mark_of}
 use Rattle.vme_part_tables.specs.Ways.{WideOutcome, later_mark, outcome_in}
-use Rattle.vme_part_tables.proofs.Joining.{marks_of_both}
+use Rattle.vme_part_tables.proofs.Joining.{ShowsMarks-followed_by}
 use Rattle.vme_part_listing.specs.Marks.{HasWay}
 use Rattle.vme_parts.specs.Progress.{HasJudgedFiles}
 use Rattle.vme_parts.specs.declared.judged_segments.JudgedSegments.{JudgedSegments}
@@ -41,7 +41,8 @@ past_way {P} run law begin place count t w r o v x y steps memory marks opens co
     let p = (run (begin o) o x).leaving in
     let a : WideOutcome = record { leaving = w.memory; first_break = None; marks = w.marks.items } in
     let b : AgreesWithRun true place (outcome_in t w.memory) (run p v y) = rw was.leaving (agrees.agrees p) in
-    let both = marks_of_both (length x) (length y) fits place true a (outcome_in t w.memory) (run (begin o) o x)
+    let both = ShowsMarks-followed_by (length x) (length y) fits place true a (outcome_in t w.memory)
+    (run (begin o) o x)
     (run p v y) was.marks b.marks (law.within p v y) in
     let whole : run (begin o) o (x ++ y) ≡ composed_outcome (length x) (run (begin o) o x) (run p v y) =
     rw opens (law.joined (begin o) o x y) in

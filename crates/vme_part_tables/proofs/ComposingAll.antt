@@ -7,9 +7,11 @@ use Rattle.vme_part_tables.specs.Runs.{IsComposition}
 use Rattle.vme_part_tables.proofs.Composing.{composed_count, composed_memories, outcome_in-composed}
 use Rattle.vme_part_tables.proofs.Fitting.{composed_fits}
 
-pub both_pruned : (a b : TableValue) (steps : ℕ) → CanCompose a b → (u : TableValue) → IsPruned (table_on a b steps) u
+-- if two tables can be composed, a table that is their composition pruned has the outcomes of both, one after the other
+pub IsComposition-pruned : (a b : TableValue) (steps : ℕ) → CanCompose a b → (u : TableValue)
+    → IsPruned (table_on a b steps) u
     → IsComposition steps a b u
-both_pruned a b steps c u p =
+IsComposition-pruned a b steps c u p =
     record {
       counted = p.counted ∙ composed_memories a b steps c;
       few = omega (arith, p.few, composed_count a b steps c);

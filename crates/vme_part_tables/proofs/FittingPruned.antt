@@ -13,29 +13,32 @@ use Rattle.vme_part_format.specs.declared.table.TableEntry.{TableEntry}
 use Rattle.vme_part_tables.specs.Ways.{HasWays, NodesGoOn}
 use Rattle.vme_part_tables.specs.Pruned.{KeepsWays, entry_kept, nodes_kept, table_kept}
 use Rattle.vme_part_tables.proofs.Fitting.{at_two}
-use Rattle.vme_part_tables.proofs.Pruning.{pruned_memories, pruned_ways}
+use Rattle.vme_part_tables.proofs.Pruning.{length-entries_table_kept, HasWays-table_kept}
 
-kept_nodes_fit : (m count steps : ℕ) (bs : List Bool) (ns : List NodeValue) → FitNodes count steps ns
+-- if nodes can be written, those of them that are kept can
+FitNodes-nodes_kept : (m count steps : ℕ) (bs : List Bool) (ns : List NodeValue) → FitNodes count steps ns
     → NodesGoOn count (nodes_kept m bs ns) → FitNodes count steps (nodes_kept m bs ns)
-kept_nodes_fit m count steps [] ns f w = tt
-kept_nodes_fit m count steps (b ∷ bs) [] f w = tt
-kept_nodes_fit m count steps (true ∷ bs) (n ∷ ns) f w = (
+FitNodes-nodes_kept m count steps [] ns f w = tt
+FitNodes-nodes_kept m count steps (b ∷ bs) [] f w = tt
+FitNodes-nodes_kept m count steps (true ∷ bs) (n ∷ ns) f w = (
   record { next = w.0; first_break = f.0.first_break; some = f.0.some; marks = f.0.marks },
-  kept_nodes_fit m count steps bs ns f.1 w.1,
+  FitNodes-nodes_kept m count steps bs ns f.1 w.1,
 )
-kept_nodes_fit m count steps (false ∷ bs) (n ∷ ns) f w = kept_nodes_fit m count steps bs ns f.1 w
+FitNodes-nodes_kept m count steps (false ∷ bs) (n ∷ ns) f w = FitNodes-nodes_kept m count steps bs ns f.1 w
 
-listed_kept : (listing : Bool) (m : ℕ) (bs : List Bool) (ns : List NodeValue) → HasNodes listing ns
+-- where no marks are listed, a table has no nodes, and so none is kept
+HasNodes-nodes_kept : (listing : Bool) (m : ℕ) (bs : List Bool) (ns : List NodeValue) → HasNodes listing ns
     → HasNodes listing (nodes_kept m bs ns)
-listed_kept true m bs ns h = tt
-listed_kept false m bs ns h = ap (nodes_kept m bs) h ∙ none bs
+HasNodes-nodes_kept true m bs ns h = tt
+HasNodes-nodes_kept false m bs ns h = ap (nodes_kept m bs) h ∙ none bs
   where
     none : (bs : List Bool) → nodes_kept m bs [] ≡ []
     none [] = refl
     none (b ∷ bs) = refl
 
-stays_kept : (m : ℕ) (keeps : List Bool) → 2 < m → entry_kept m keeps stays ≡ stays
-stays_kept m keeps h = rw (lt-ltb 2 m h) refl
+-- with more than two memories, the entry `stays` is the same among the kept nodes
+entry_kept-stays : (m : ℕ) (keeps : List Bool) → 2 < m → entry_kept m keeps stays ≡ stays
+entry_kept-stays m keeps h = rw (lt-ltb 2 m h) refl
 
 module _ (listing : Bool) (count steps : ℕ) (t : TableValue) (keeps : List Bool)
     (c : KeepsWays (length t.entries) keeps t.entries t.nodes) (h : HasWays t) (f : FitsTable listing count steps t)
@@ -50,12 +53,13 @@ module _ (listing : Bool) (count steps : ℕ) (t : TableValue) (keeps : List Boo
         let within = slice_get_within t.entries 2 stays there in
         ap (map on) f.ended.3
         ∙ (map-append on f.ended.0 (stays ∷ f.ended.1)
-        ∙ ap (λ e. map on f.ended.0 ++ e ∷ map on f.ended.1) (stays_kept (length t.entries) keeps within))
+        ∙ ap (λ e. map on f.ended.0 ++ e ∷ map on f.ended.1) (entry_kept-stays (length t.entries) keeps within))
 
-    pub pruned_fits : FitsTable listing count steps (table_kept keeps t)
-    pruned_fits =
-        let ways = pruned_ways t keeps c h in
-        let memories : length (table_kept keeps t).entries ≡ count = pruned_memories t keeps c ∙ f.as_many in
+    -- the pruned table can be written, if t can
+    pub FitsTable-table_kept : FitsTable listing count steps (table_kept keeps t)
+    FitsTable-table_kept =
+        let ways = HasWays-table_kept t keeps c h in
+        let memories : length (table_kept keeps t).entries ≡ count = length-entries_table_kept t keeps c ∙ f.as_many in
         record {
           as_many = memories;
           ended = (map on f.ended.0, map on f.ended.1, length-map f.ended.0 on ∙ f.ended.2, ended_kept);
@@ -65,8 +69,8 @@ module _ (listing : Bool) (count steps : ℕ) (t : TableValue) (keeps : List Boo
                 All-map (λ (e : TableEntry). IfSome e.first_break (FitsBreak steps)) on t.entries
                 (λ k d i. (f.entries k d i).first_break) k d i;
           };
-          nodes = kept_nodes_fit (length t.entries) count steps keeps t.nodes f.nodes
+          nodes = FitNodes-nodes_kept (length t.entries) count steps keeps t.nodes f.nodes
               (subst (λ m. NodesGoOn m (table_kept keeps t).nodes) memories ways.nodes);
           few = rw (← memories) ways.few;
-          listed = listed_kept listing (length t.entries) keeps t.nodes f.listed;
+          listed = HasNodes-nodes_kept listing (length t.entries) keeps t.nodes f.listed;
         }

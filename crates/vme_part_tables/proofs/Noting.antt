@@ -13,9 +13,9 @@ use Rattle.vme_part_tables.specs.Ways.{HasWays, WideOutcome, ended_in, entry_out
 use Rattle.vme_part_tables.proofs.Composing.{run_from_leaving}
 
 -- a run of a table ends in one of its memories
-pub leaves_one : (t : TableValue) (k : ℕ) → HasWays t → k < length t.entries
+pub outcome_in-leaving_bound : (t : TableValue) (k : ℕ) → HasWays t → k < length t.entries
     → (outcome_in t k).leaving < length t.entries
-leaves_one t k p h =
+outcome_in-leaving_bound t k p h =
     let d : TableEntry = record { next = 0; first_break = None } in
     let e : TableEntry = get_or t.entries k d in
     let at : outcome_in t k ≡ entry_outcome t e =
@@ -24,12 +24,12 @@ leaves_one t k p h =
     subst (λ (w : WideOutcome). w.leaving < length t.entries) (sym at) left
 
 -- the loop invariant holds after the memory in which the run from n ends is marked
-pub noted_more : (t : TableValue) (old new : List Bool) (n : ℕ)
+pub marked_leaving-one_more : (t : TableValue) (old new : List Bool) (n : ℕ)
     → ((k : ℕ) → get_or old k false ≡ true → get_or new k false ≡ true)
     → get_or new (outcome_in t n).leaving false ≡ true
     → ((k : ℕ) → k < n → get_or old (outcome_in t k).leaving false ≡ true)
     → (k : ℕ) → k < n + 1 → get_or new (outcome_in t k).leaving false ≡ true
-noted_more t old new n more here before k h = by_place (cases_lt k n)
+marked_leaving-one_more t old new n more here before k h = by_place (cases_lt k n)
   where
     by_place : ((k < n) ⊎ (n ≤ k)) → get_or new (outcome_in t k).leaving false ≡ true
     by_place (inl i) = more (outcome_in t k).leaving (before k i)
@@ -38,15 +38,16 @@ noted_more t old new n more here before k h = by_place (cases_lt k n)
         subst (λ j. get_or new (outcome_in t j).leaving false ≡ true) same here
 
 -- a memory that is marked is needed
-pub is_noted : (needs : List Bool) (k : ℕ) → get_or needs k false ≡ true → is_needed needs k ≡ true
-is_noted [] k e = absurd (cc)
-is_noted (b ∷ bs) zero e = e
-is_noted (b ∷ bs) (suc k) e = is_noted bs k e
+pub is_needed-of_marked : (needs : List Bool) (k : ℕ) → get_or needs k false ≡ true → is_needed needs k ≡ true
+is_needed-of_marked [] k e = absurd (cc)
+is_needed-of_marked (b ∷ bs) zero e = e
+is_needed-of_marked (b ∷ bs) (suc k) e = is_needed-of_marked bs k e
 
 -- if the marks are needed, `if_needed` is the whole run
-pub whole_needed : {P : Type 0} (b : Bool) (o : Outcome P) → b ≡ true → if_needed b o ≡ o
-whole_needed b o e = rw e refl
+pub if_needed-whole : {P : Type 0} (b : Bool) (o : Outcome P) → b ≡ true → if_needed b o ≡ o
+if_needed-whole b o e = rw e refl
 
-pub needed_within : {P : Type 0} (n : ℕ) (b : Bool) (o : Outcome P) → IsWithin n o → IsWithin n (if_needed b o)
-needed_within n true o h = h
-needed_within n false o h = (h.0, tt)
+-- if a run is within n steps, it is without its marks
+pub IsWithin-if_needed : {P : Type 0} (n : ℕ) (b : Bool) (o : Outcome P) → IsWithin n o → IsWithin n (if_needed b o)
+IsWithin-if_needed n true o h = h
+IsWithin-if_needed n false o h = (h.0, tt)

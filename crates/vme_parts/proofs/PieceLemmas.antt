@@ -13,8 +13,8 @@ use Rattle.vme_summary.proofs.Sound.{SoundParts-of_well_formed}
 use Rattle.vme_part_format.specs.Tables.{TableValue}
 use Rattle.vme_part_tables.specs.Marked.{AreNeeded, if_needed, is_needed}
 use Rattle.vme_part_tables.specs.Runs.{AgreesWithRuns, IsComposition}
-use Rattle.vme_part_tables.proofs.Joining.{tables_tell_both}
-use Rattle.vme_part_tables.proofs.Noting.{needed_within, whole_needed}
+use Rattle.vme_part_tables.proofs.Joining.{AgreesWithRuns-composition}
+use Rattle.vme_part_tables.proofs.Noting.{IsWithin-if_needed, if_needed-whole}
 use Rattle.vme_parts.proofs.Bare.{tells_same}
 use Rattle.vme_parts.proofs.Runs.{IsRun}
 
@@ -68,9 +68,9 @@ pub needed_of_both : {P : Type 0} (run : P → Levels → List Step → Outcome 
     → AgreesWithRuns true count place b (λ p. if_needed (is_needed needs (place p)) (run p v y))
     → AgreesWithRuns true count place c (λ p. run p o (x ++ y))
 needed_of_both {P} run law place count needs o v x y a b c placed e fits s needed p q =
-    tables_tell_both (length x) (length y) fits place true count a b c (λ k. run k o x)
+    AgreesWithRuns-composition (length x) (length y) fits place true count a b c (λ k. run k o x)
     (λ k. if_needed (is_needed needs (place k)) (run k v y)) (λ k. run k o (x ++ y)) s p q
-    (λ k. needed_within (length y) (is_needed needs (place k)) (run k v y) (law.within k v y)) whole
+    (λ k. IsWithin-if_needed (length y) (is_needed needs (place k)) (run k v y) (law.within k v y)) whole
   where
     whole : (k : P) → run k o (x ++ y) ≡ composed_outcome (length x) (run k o x)
         (if_needed (is_needed needs (place (run k o x).leaving)) (run (run k o x).leaving v y))
@@ -83,4 +83,4 @@ needed_of_both {P} run law place count needs o v x y a b c placed e fits s neede
         = rw e (law.joined k o x y) in
         goes
         ∙ ap (composed_outcome (length x) (run k o x))
-        (sym (whole_needed (is_needed needs (place left)) (run left v y) there))
+        (sym (if_needed-whole (is_needed needs (place left)) (run left v y) there))

@@ -19,7 +19,7 @@ use Rattle.vme_chains.specs.AcknowledgeRules.{acknowledge_start_marks, acknowled
 use Rattle.vme_summary.specs.Runs.{known_run, handshake_run, stability_run, grant_run, acknowledge_run}
 use Rattle.vme_part_format.specs.Tables.{TableValue}
 use Rattle.vme_part_tables.specs.Runs.{AgreesWithRuns, IsComposition}
-use Rattle.vme_part_tables.proofs.Joining.{tables_tell_both}
+use Rattle.vme_part_tables.proofs.Joining.{AgreesWithRuns-composition}
 
 -- the run over x and then y is the run over x, followed by that over y from the memory in which the first ends; the
 -- instants of a run over x are from 1 to the number of steps
@@ -69,6 +69,6 @@ pub tables_of_both : {P : Type 0} (run : P → Levels → List Step → Outcome 
     → AgreesWithRuns listing count place a (λ p. run p o x) → AgreesWithRuns listing count place b (λ p. run p v y)
     → AgreesWithRuns listing count place c (λ p. run p o (x ++ y))
 tables_of_both run law place listing count o v x y a b c e fits s p q =
-    tables_tell_both (length x) (length y) fits place listing count a b c (λ k. run k o x) (λ k. run k v y)
+    AgreesWithRuns-composition (length x) (length y) fits place listing count a b c (λ k. run k o x) (λ k. run k v y)
     (λ k. run k o (x ++ y)) s p q (λ k. law.within k v y)
     (λ k. rw e (law.joined k o x y))

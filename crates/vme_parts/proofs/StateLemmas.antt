@@ -13,7 +13,7 @@ use Rattle.vme_part_format.specs.declared.table.TableEntry.{TableEntry}
 use Rattle.vme_part_tables.specs.Runs.{AgreesWithRun, AgreesWithRuns}
 use Rattle.vme_part_tables.specs.Ways.{WideOutcome, ended_in, entry_outcome, followed_by, later_break, outcome_in}
 use Rattle.vme_part_tables.proofs.Composing.{run_from_leaving}
-use Rattle.vme_part_tables.proofs.Joining.{tells_both}
+use Rattle.vme_part_tables.proofs.Joining.{AgreesWithRun-followed_by}
 use Rattle.vme_parts.specs.Buddies.{IsTableOf}
 use Rattle.vme_parts.specs.Progress.{HasState, way_of}
 use Rattle.vme_parts.specs.declared.state.State.{State}
@@ -53,7 +53,8 @@ past_state {P} run law begin place listing count t s r o v x y steps memory firs
     let a = was in
     let b : AgreesWithRun false place (bare (outcome_in t s.memory)) (run p v y) =
     tells_bare listing place (outcome_in t s.memory) (run p v y) (rw a.leaving (agrees.agrees p)) in
-    let both = tells_both (length x) (length y) fits place false (way_of s) (bare (outcome_in t s.memory))
+    let both = AgreesWithRun-followed_by (length x) (length y) fits place false (way_of s)
+    (bare (outcome_in t s.memory))
     (run (begin o) o x) (run p v y) a b (law.within p v y) in
     let way : way_of r ≡ followed_by (length x) (way_of s) (bare (outcome_in t s.memory)) =
     rw (memory, first_break, counted) refl in

@@ -4,7 +4,7 @@ use Rattle.vme_monitor.proofs.Stepped.{drop-set_next}
 use Rattle.vme_part_format.specs.Tables.{node_value}
 use Rattle.vme_part_tables.specs.Composed.{node_on, nodes_on}
 use Rattle.vme_part_tables.proofs.Composing.{length-nodes_on}
-use Rattle.vme_part_tables.proofs.Stepping.{stepped_rest_by}
+use Rattle.vme_part_tables.proofs.Stepping.{take-map_rest_set}
 use Rattle.vme_part_tables.proofs.compose.connect_nodes.Goals as goal
 
 pub loop-node-preserved : goal.loop-node-preserved
@@ -13,7 +13,8 @@ loop-node-preserved c =
     let j = c.loop-node.between - 1 in
     record {
       between = omega arith;
-      done = stepped_rest_by node_value g c.loop-node.nodes c.args.nodes.now c.loop-node.node-index j c.node-item.result
+      done = take-map_rest_set node_value g c.loop-node.nodes c.args.nodes.now c.loop-node.node-index j
+          c.node-item.result
           c.connect_node.new.node (search rules) (search rules) (search rules) (omega arith)
           (c.connect_node.ensures ∙ ap (λ n. g j (node_value n)) (sym c.node-item.is)) c.loop-node.invariant.done
           c.loop-node.invariant.rest;

@@ -1,13 +1,13 @@
 use Rattle.std.proofs.Common.{◌∙◌, map}
 use Rattle.vme_part_format.specs.Tables.{node_value, table_value}
-use Rattle.vme_part_tables.proofs.MarkedLemmas.{marked_tells}
+use Rattle.vme_part_tables.proofs.MarkedLemmas.{AgreesWithRuns-of_onward}
 use Rattle.vme_part_tables.proofs.marked.marked_table.Goals as goal
 
 pub returns : goal.returns
 returns g c =
     let say = rw c.COUNT.ensures at c.in_ok-onward.ensures.says in
     let told = rw (c.COUNT-2.ensures, c.as_slice.ensures.value) at c.in_ok-table.ensures.says in
-    marked_tells g.M.Finite.place_of g.M.Finite.nth_of g.M.Finite.COUNT
+    AgreesWithRuns-of_onward g.M.Finite.place_of g.M.Finite.nth_of g.M.Finite.COUNT
     (map node_value c.memory_ways.new.made.nodes.items) c.in_ok-onward.onward.items
     c.args.needs.now (g.M.Monitor.outcome c.args.summary.now) (table_value c.in_ok-table.table) g.met.M.Finite.placed
     g.met.M.Finite.found say told (c.in_ok-table.ensures.counted ∙ c.COUNT-2.ensures) c.in_ok-table.ensures.ways

@@ -1,7 +1,7 @@
 use Rattle.std.proofs.Common.{◌≡◌, ◌<◌, None, ap, subst, ◌∙◌, arith, map, rules}
 use Rattle.vme_part_format.specs.Tables.{node_value}
 use Rattle.vme_part_tables.specs.Marked.{AddsBefore, if_needed, is_needed, made_outcome, marks_if, onward_outcome}
-use Rattle.vme_part_tables.proofs.MarkedLemmas.{made_step, memory_step, row_tells}
+use Rattle.vme_part_tables.proofs.MarkedLemmas.{AreMade-push, AgreeBelow-one_more, AgreesWithRun-of_outcome}
 use Rattle.vme_part_tables.proofs.marked.memory_ways.Goals as goal
 
 pub loop-place-preserved : goal.loop-place-preserved
@@ -36,15 +36,16 @@ loop-place-preserved g c =
       memories = c.in_ok-way.ensures.memories ∙ same;
       count = omega (arith, c.in_ok-way.ensures.one, c.loop-place.invariant.count);
       made = made;
-      ways = made_step m c.loop-place.made.nodes.items c.through.new.self.nodes.items
+      ways = AreMade-push m c.loop-place.made.nodes.items c.through.new.self.nodes.items
           c.loop-place.onward.items c.push.new.self.items c.in_ok-way.way c.in_ok-push.ensures.items
           c.loop-place.invariant.ways c.in_ok-way.ensures.more way;
       as_many = search rules;
-      says = memory_step place m c.loop-place.made.nodes.items c.through.new.self.nodes.items
+      says = AgreeBelow-one_more place m c.loop-place.made.nodes.items c.through.new.self.nodes.items
           c.loop-place.onward.items c.push.new.self.items c.in_ok-way.way
           (λ k. if_needed (is_needed c.args.needs.now k) (g.M.Monitor.outcome c.args.summary.now (nth k)))
           c.loop-place.place c.in_ok-push.ensures.items
           (search rules) c.loop-place.invariant.ways kept
-          (row_tells place m old run.leaving run.first_break run.marks (onward_outcome m new c.in_ok-way.way) low says)
+          (AgreesWithRun-of_outcome place m old run.leaving run.first_break run.marks
+          (onward_outcome m new c.in_ok-way.way) low says)
           c.loop-place.invariant.says;
     }

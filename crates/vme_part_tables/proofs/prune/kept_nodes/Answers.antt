@@ -1,10 +1,11 @@
 use Rattle.std.proofs.Common.{ap, arith, vec_len}
-use Rattle.vme_part_tables.proofs.Keeping.{last_dropped, last_kept, last_keeps, popped_left}
+use Rattle.vme_part_tables.proofs.Keeping.{nodes_kept-last_dropped, IsKept-last_next, nodes_kept-last_kept, take-popped}
 use Rattle.vme_part_tables.proofs.prune.kept_nodes.Goals as goal
 
 pub next_kept-next-requires-clause-kept : goal.next_kept-next-requires-clause-kept
 next_kept-next-requires-clause-kept c =
-    last_kept c.args.memories c.args.keeps.now c.args.nodes.items c.loop-node.nodes.items (vec_len c.loop-node.nodes)
+    IsKept-last_next c.args.memories c.args.keeps.now c.args.nodes.items c.loop-node.nodes.items
+    (vec_len c.loop-node.nodes)
     (vec_len c.pop.new.self) c.len-place.result c.in-Some.node c.loop-node.invariant.left c.loop-node.invariant.few
     c.in-Some.ensures.cases c.len-place.ensures
     (c.in-Some.ensures.value c.in-Some.node (omega (arith, c.in-Some.ensures.cases))) c.requires.as_many
@@ -14,9 +15,9 @@ pub loop-node-preserved-in-Continue-1 : goal.loop-node-preserved-in-Continue-1
 loop-node-preserved-in-Continue-1 c =
     record {
       few = omega (arith, c.loop-node.invariant.few, c.in-Some.ensures.cases);
-      left = popped_left c.args.nodes.items c.loop-node.nodes.items c.pop.new.self.items (vec_len c.loop-node.nodes)
+      left = take-popped c.args.nodes.items c.loop-node.nodes.items c.pop.new.self.items (vec_len c.loop-node.nodes)
           (vec_len c.pop.new.self) c.loop-node.invariant.left c.in-Some.ensures.rest c.in-Some.ensures.cases;
-      kept = last_keeps c.args.memories c.args.keeps.now c.args.nodes.items c.loop-node.nodes.items
+      kept = nodes_kept-last_kept c.args.memories c.args.keeps.now c.args.nodes.items c.loop-node.nodes.items
           (vec_len c.loop-node.nodes) (vec_len c.pop.new.self) c.len-place.result c.in-Some.node
           c.loop-node.invariant.left c.loop-node.invariant.few c.in-Some.ensures.cases c.len-place.ensures
           (c.in-Some.ensures.value c.in-Some.node (omega (arith, c.in-Some.ensures.cases))) c.requires.as_many
@@ -35,9 +36,9 @@ pub loop-node-preserved : goal.loop-node-preserved
 loop-node-preserved c =
     record {
       few = omega (arith, c.loop-node.invariant.few, c.in-Some.ensures.cases);
-      left = popped_left c.args.nodes.items c.loop-node.nodes.items c.pop.new.self.items (vec_len c.loop-node.nodes)
+      left = take-popped c.args.nodes.items c.loop-node.nodes.items c.pop.new.self.items (vec_len c.loop-node.nodes)
           (vec_len c.pop.new.self) c.loop-node.invariant.left c.in-Some.ensures.rest c.in-Some.ensures.cases;
-      kept = last_dropped c.args.memories c.args.keeps.now c.args.nodes.items c.loop-node.nodes.items
+      kept = nodes_kept-last_dropped c.args.memories c.args.keeps.now c.args.nodes.items c.loop-node.nodes.items
           (vec_len c.loop-node.nodes) (vec_len c.pop.new.self) c.len-place.result c.in-Some.node
           c.loop-node.invariant.left c.loop-node.invariant.few c.in-Some.ensures.cases c.len-place.ensures
           (c.in-Some.ensures.value c.in-Some.node (omega (arith, c.in-Some.ensures.cases))) c.requires.as_many

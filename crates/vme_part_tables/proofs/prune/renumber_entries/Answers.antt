@@ -2,13 +2,13 @@ use Rattle.std.proofs.Common.{rules, ap, sym, subst, ◌∙◌}
 use Rattle.vme_monitor.proofs.Stepped.{drop-set_next}
 use Rattle.vme_part_format.specs.declared.table.TableEntry.{TableEntry}
 use Rattle.vme_part_tables.specs.Pruned.{IsKept, entry_kept}
-use Rattle.vme_part_tables.proofs.Stepping.{same_at, stepped_one}
+use Rattle.vme_part_tables.proofs.Stepping.{get_or-same_from, take-map_one_more}
 use Rattle.vme_part_tables.proofs.prune.renumber_entries.Goals as goal
 
 pub renumber_entry-requires-clause-kept : goal.renumber_entry-requires-clause-kept
 renumber_entry-requires-clause-kept c =
     subst (λ (e : TableEntry). IsKept c.args.memories c.args.keeps.now e.next)
-    (same_at c.loop-entry.entries c.args.entries.now c.loop-entry.entry-index c.entry-item.result
+    (get_or-same_from c.loop-entry.entries c.args.entries.now c.loop-entry.entry-index c.entry-item.result
     c.loop-entry.invariant.rest)
     (c.requires.kept c.loop-entry.entry-index c.entry-item.result (search rules))
 
@@ -16,7 +16,7 @@ pub loop-entry-preserved : goal.loop-entry-preserved
 loop-entry-preserved c =
     let g = entry_kept c.args.memories c.args.keeps.now in
     record {
-      done = stepped_one g c.loop-entry.entries c.args.entries.now c.loop-entry.entry-index c.entry-item.result
+      done = take-map_one_more g c.loop-entry.entries c.args.entries.now c.loop-entry.entry-index c.entry-item.result
           c.renumber_entry.new.entry (search rules) (search rules) (search rules)
           (c.renumber_entry.ensures ∙ ap g (sym c.entry-item.is)) c.loop-entry.invariant.done
           c.loop-entry.invariant.rest;

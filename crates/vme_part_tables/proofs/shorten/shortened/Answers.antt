@@ -4,7 +4,7 @@ use Rattle.vme_part_format.specs.Tables.{node_value, table_value}
 use Rattle.vme_part_format.specs.declared.table.TableNode.{TableNode}
 use Rattle.vme_part_tables.specs.Pruned.{IsPruned}
 use Rattle.vme_part_tables.specs.Shortened.{SayTheSame}
-use Rattle.vme_part_tables.proofs.Shortening.{pruned_by_nodes}
+use Rattle.vme_part_tables.proofs.Shortening.{IsPruned-with_others}
 use Rattle.vme_part_tables.proofs.shorten.shortened.Goals as goal
 
 pub returns : goal.returns
@@ -22,4 +22,4 @@ returns c =
     subst (λ (ns : List TableNode). IsPruned t (record {
       entries = c.args.table.entries.items;
       nodes = map node_value ns;
-    })) (sym whole) (pruned_by_nodes t (map node_value ys) c.requires same)
+    })) (sym whole) (IsPruned-with_others t (map node_value ys) c.requires same)

@@ -3,14 +3,15 @@ use Rattle.std.specs.Option.{option_or}
 use Rattle.std.proofs.lemmas.Result.{on_ok_weaker}
 use Rattle.vme_part_format.specs.declared.table.TableNode.{TableNode}
 use Rattle.vme_part_tables.specs.Shortened.{next_past}
-use Rattle.vme_part_tables.proofs.Shortening.{behind_fits, says_the_same}
+use Rattle.vme_part_tables.proofs.Shortening.{later_node-next_bound, SayTheSame-set}
 use Rattle.vme_part_tables.proofs.shorten.take_in.Goals as goal
 
 pub next_past-next-requires : goal.next_past-next-requires
 next_past-next-requires c =
     subst (λ (x : TableNode). c.args.memories ≤ x.next → x.next + (c.args.between + 1) < 2 ^ 32)
     c.index-nodes-place.is
-    (λ past. behind_fits c.args.memories c.args.nodes.now c.args.place c.args.between c.requires.may c.requires.go_on
+    (λ past. later_node-next_bound c.args.memories c.args.nodes.now c.args.place c.args.between c.requires.may
+    c.requires.go_on
     c.index-nodes-place.result c.index-nodes-place.is c.requires.few past)
 
 pub returns : goal.returns
@@ -20,7 +21,7 @@ returns c =
     let n = get_or xs c.args.place c.index-nodes-place-2.result in
     let j = get_or xs k c.index-nodes-place.result in
     on_ok_weaker c.lengthen.result
-    (λ made. says_the_same c.args.memories xs c.args.place c.args.between c.requires.may c.requires.go_on n j
+    (λ made. SayTheSame-set c.args.memories xs c.args.place c.args.between c.requires.may c.requires.go_on n j
     c.lengthen.new.node _ (ap (get_or xs c.args.place) c.index-nodes-place-2.is)
     (ap (get_or xs k) c.index-nodes-place.is) refl
     (made
