@@ -19,7 +19,7 @@ use Rattle.vme_stream.specs.declared.refusal.Refusal.{Refusal}
 use Rattle.vme_stream.specs.declared.refusal.Refusal.TheVariants.{BadBinding, Memory}
 use Rattle.vme_part_format.specs.Tables.{SegmentValue, part_value}
 use Rattle.vme_part_format.specs.declared.part.Part.{Part}
-use Rattle.vme_part_format.proofs.SizeLaws.{part_is_small}
+use Rattle.vme_part_format.proofs.SizeLaws.{IsSmall-compact_part}
 use Rattle.vme_parts.specs.Files.{IsPartOfFile}
 use Rattle.vme_file_part.specs.FileOf.{file_of}
 use Rattle.vme_step_reader.specs.StepReading.{StepReading, whole_reading}
@@ -93,7 +93,7 @@ module _ (o : PartOptions) where
             backplane = finds.1.backplane_is ∙ same;
             listing = finds.1.listing_is;
             fits = finds.1.fits;
-            small = part_is_small (part_value part) finds.1.fits finds.1.compact
+            small = IsSmall-compact_part (part_value part) finds.1.fits finds.1.compact
                 (omega (arith, ap (λ (ss : List SegmentValue). length ss) finds.1.stands.1));
             stands = subst (λ (b : Block). IsPartOfFile o.listing b (part_value part))
                 (same_file o.number start (start_of contents) given starts) finds.1.stands;

@@ -12,7 +12,7 @@ use Rattle.vme_part_format.specs.declared.fault.FieldError.{FieldError}
 use Rattle.vme_part_format.specs.declared.fault.FieldError.TheVariants as field
 use Rattle.vme_part_format.specs.Reading.{◌>>=◌, Fails, SetsFour, SetsLevel, after_items, byte_at, coded_level}
 use Rattle.vme_part_format.specs.Reading.{fault_at, four, levels_at, packed_at, unpacked, with_levels}
-use Rattle.vme_part_format.proofs.LevelFacts.{four_is, four_takes}
+use Rattle.vme_part_format.proofs.LevelFacts.{four-of_levels, four-ok}
 
 -- if the last of four levels isn't there, the four aren't
 four_none : (oa ob oc od : Option Level) (a b c : Level) → oa ≡ Some a → ob ≡ Some b → oc ≡ Some c → od ≡ None
@@ -38,7 +38,7 @@ four_set true v0 v1 v2 v3 v4 l byte p0 p1 p2 p3 =
     p2.2 ∙ ap (λ (v : Levels). set_level v (l + 2) p2.0) second
     ∙ ap (λ (k : ℕ). set_level (set_level (set_level v0 l p0.0) (l + 1) p1.0) k p2.0) (omega arith) in (
       p0.0 ∷ p1.0 ∷ p2.0 ∷ p3.0 ∷ [],
-      four_is _ _ _ _ p0.0 p1.0 p2.0 p3.0 p0.1 b-is c-is d-is,
+      four-of_levels _ _ _ _ p0.0 p1.0 p2.0 p3.0 p0.1 b-is c-is d-is,
       p3.2 ∙ ap (λ (v : Levels). set_level v (l + 3) p3.0) third
           ∙ ap (λ (k : ℕ). set_level (set_level (set_level (set_level v0 l p0.0) (l + 1) p1.0) (l + 1 + 1) p2.0) k p3.0)
           (omega arith),
@@ -90,7 +90,7 @@ pub AreFour-with_levels : (v w : Levels) (place byte : ℕ) (ls : List Level) �
 unfolding unpacked
 AreFour-with_levels v w place byte ls lt many read new =
     let l = 4 * place in
-    let f = four_takes (coded_level v.slots l (byte % 4)) (coded_level v.slots (l + 1) (byte / 4 % 4))
+    let f = four-ok (coded_level v.slots l (byte % 4)) (coded_level v.slots (l + 1) (byte / 4 % 4))
     (coded_level v.slots (l + 2) (byte / 16 % 4)) (coded_level v.slots (l + 3) (byte / 64)) ls read in
     let made : w ≡ with_levels v l (f.a ∷ f.b ∷ f.c ∷ f.d ∷ []) = new ∙ ap (with_levels v l) (sym f.all) in
     let x1 = set v.levels l f.a in

@@ -1,4 +1,5 @@
--- A part that is read is the one that was written, and what was written is read again.
+-- A part that is read is the one whose bytes these are, and the bytes of a part that fits its bounds are read as that
+-- part. The bytes of two parts don't differ in one byte alone.
 use Rattle.std.proofs.Common.{◌≡◌, ℕ, ◌+◌, ◌-◌, ◌^◌, ◌<◌, ◌≤◌, Bool, true, false, cond, eqb}
 use Rattle.std.proofs.Common.{not}
 use Rattle.std.proofs.Common.{List, [], ◌∷◌, ◌++◌, length, take, drop, None, Result, Ok, Err}
@@ -20,39 +21,42 @@ use Rattle.vme_part_format.specs.Reading.{body_at, fault_at, flag_at, has_its_su
 use Rattle.vme_part_format.specs.Reading.{segments_at, summed_part, with_place, written_sum}
 use Rattle.vme_part_format.specs.Sums.{DifferInOne, sum_of, sum_start}
 use Rattle.vme_part_format.specs.Tables.{PartValue}
-use Rattle.vme_part_format.proofs.FieldLaws.{IsBytes, IsBytes-drop, IsBytes-take, Takes, Takes-then, bind_ok}
-use Rattle.vme_part_format.proofs.FieldLaws.{flag_again}
-use Rattle.vme_part_format.proofs.FieldLaws.{flag_takes, guard_in, number_again, number_takes, wide32, wide64}
-use Rattle.vme_part_format.proofs.SegmentLaws.{segments_again, segments_take}
-use Rattle.vme_part_format.proofs.SumLaws.{changed_apart, fold_low}
+use Rattle.vme_part_format.proofs.FieldLaws.{IsBytes, IsBytes-drop, IsBytes-take, Takes, Takes-append, bind_ok}
+use Rattle.vme_part_format.proofs.FieldLaws.{flag_at-of_bytes}
+use Rattle.vme_part_format.proofs.FieldLaws.{flag_at-ok, cond-ok_then_err, number_at-of_bytes, number_at-ok, wide32}
+use Rattle.vme_part_format.proofs.FieldLaws.{wide64}
+use Rattle.vme_part_format.proofs.SegmentLaws.{segments_at-of_bytes, segments_at-ok}
+use Rattle.vme_part_format.proofs.SumLaws.{with_sum-differ_in_more, fold_summed-below}
 
-are_no_bytes : (xs : List ℕ) → length xs ≡ 0 → xs ≡ []
-are_no_bytes [] e = refl
-are_no_bytes (x ∷ xs) e = absurd (omega (arith, e))
+-- a list of the length 0 is empty
+length_zero-no_bytes : (xs : List ℕ) → length xs ≡ 0 → xs ≡ []
+length_zero-no_bytes [] e = refl
+length_zero-no_bytes (x ∷ xs) e = absurd (omega (arith, e))
 
-pub body_takes : (bytes : List ℕ) (p : PartValue) → IsBytes bytes → body_at bytes ≡ Ok p
+-- the body that is read is that of a part within its bounds, whose bytes these are
+pub body_at-ok : (bytes : List ℕ) (p : PartValue) → IsBytes bytes → body_at bytes ≡ Ok p
     → (bytes ≡ body_bytes p) × FitsPart p
 unfolding body_at body_bytes
-body_takes bytes p fits e =
+body_at-ok bytes p fits e =
     let a = bind_ok (number_at w64 bytes) _ p e in
     let b = bind_ok (flag_at a.0.1) _ p a.2 in
     let c = bind_ok (number_at w32 b.0.1) _ p b.2 in
     let d = bind_ok (segments_at b.0.0 None c.0.0 c.0.1) _ p c.2 in
     let whole = read_whole a.0.0 b.0.0 d.0.0 in
-    let g = guard_in (eqb (length d.0.1) 0) (fault_at fault.Trailing d.0.1) whole p d.2 in
-    let t0 = number_takes w64 (2 ^ 64) wide64 bytes a.0.0 a.0.1 fits a.1 in
-    let t1 = flag_takes a.0.1 b.0 t0.0.rest_fits b.1 in
-    let t2 = number_takes w32 (2 ^ 32) wide32 b.0.1 c.0.0 c.0.1 t1.rest_fits c.1 in
-    let t3 = segments_take b.0.0 None c.0.0 c.0.1 d.0 t2.0.rest_fits d.1 in
+    let g = cond-ok_then_err (eqb (length d.0.1) 0) (fault_at fault.Trailing d.0.1) whole p d.2 in
+    let t0 = number_at-ok w64 (2 ^ 64) wide64 bytes a.0.0 a.0.1 fits a.1 in
+    let t1 = flag_at-ok a.0.1 b.0 t0.0.rest_fits b.1 in
+    let t2 = number_at-ok w32 (2 ^ 32) wide32 b.0.1 c.0.0 c.0.1 t1.rest_fits c.1 in
+    let t3 = segments_at-ok b.0.0 None c.0.0 c.0.1 d.0 t2.0.rest_fits d.1 in
     let text = flat_map (segment_bytes b.0.0) d.0.0 in
     let many : Takes b.0.1 (to_le_bytes w32 (length d.0.0)) c.0.1 =
     subst (λ (n : ℕ). Takes b.0.1 (to_le_bytes w32 n) c.0.1) (sym t3.2) t2.0 in
-    let t23 = Takes-then b.0.1 (to_le_bytes w32 (length d.0.0)) c.0.1 text d.0.1 many t3.0 in
-    let t13 = Takes-then a.0.1 (flag b.0.0 ∷ []) b.0.1 (to_le_bytes w32 (length d.0.0) ++ text) d.0.1 t1 t23 in
-    let t03 = Takes-then bytes (to_le_bytes w64 a.0.0) a.0.1 (flag b.0.0 ∷ (to_le_bytes w32 (length d.0.0) ++ text))
+    let t23 = Takes-append b.0.1 (to_le_bytes w32 (length d.0.0)) c.0.1 text d.0.1 many t3.0 in
+    let t13 = Takes-append a.0.1 (flag b.0.0 ∷ []) b.0.1 (to_le_bytes w32 (length d.0.0) ++ text) d.0.1 t1 t23 in
+    let t03 = Takes-append bytes (to_le_bytes w64 a.0.0) a.0.1 (flag b.0.0 ∷ (to_le_bytes w32 (length d.0.0) ++ text))
     d.0.1
     t0.0 t13 in
-    let end : d.0.1 ≡ [] = are_no_bytes d.0.1 (eqb-true (length d.0.1) 0 g.0) in
+    let end : d.0.1 ≡ [] = length_zero-no_bytes d.0.1 (eqb-true (length d.0.1) 0 g.0) in
     let front = flag b.0.0 ∷ to_le_bytes w32 (length d.0.0) in
     let grouped : to_le_bytes w64 a.0.0 ++ (front ++ text) ≡ body_bytes whole =
     sym (append_assoc (to_le_bytes w64 a.0.0) front text) in
@@ -62,84 +66,93 @@ body_takes bytes p fits e =
     subst (λ (q : PartValue). (bytes ≡ body_bytes q) × FitsPart q) g.1
     (all, record { backplane = t0.1; few = omega (arith, t2.1, t3.2); segments = t3.1 })
 
-pub body_again : (p : PartValue) → FitsPart p → body_at (body_bytes p) ≡ Ok p
+-- the bytes of the body of a part within its bounds are read as that part
+pub body_at-of_bytes : (p : PartValue) → FitsPart p → body_at (body_bytes p) ≡ Ok p
 unfolding body_at body_bytes
-body_again p fits =
+body_at-of_bytes p fits =
     let text = flat_map (segment_bytes p.listing) p.segments in
     let many = to_le_bytes w32 (length p.segments) in
     let segments : segments_at p.listing None (length p.segments) text ≡ Ok (p.segments, []) =
     ap (segments_at p.listing None (length p.segments)) (sym (append-nil text))
-    ∙ segments_again p.listing None p.segments [] fits.segments in
+    ∙ segments_at-of_bytes p.listing None p.segments [] fits.segments in
     ap body_at (append_assoc (to_le_bytes w64 p.backplane) (flag p.listing ∷ many) text)
     ∙ rw (
-      number_again w64 (2 ^ 64) wide64 p.backplane (flag p.listing ∷ (many ++ text)) fits.backplane,
-      flag_again p.listing (many ++ text),
-      number_again w32 (2 ^ 32) wide32 (length p.segments) text fits.few,
+      number_at-of_bytes w64 (2 ^ 64) wide64 p.backplane (flag p.listing ∷ (many ++ text)) fits.backplane,
+      flag_at-of_bytes p.listing (many ++ text),
+      number_at-of_bytes w32 (2 ^ 32) wide32 (length p.segments) text fits.few,
       segments,
     ) refl
 
 -- ---- name, version and sum
 
 -- if a test that refuses on `false` succeeds, b is `true`, and the rest succeeds
-guard_not : {A E : Type 0} (b : Bool) (f : E) (others : Result A E) (y : A) → cond (not b) (Err f) others ≡ Ok y
+cond-err_unless : {A E : Type 0} (b : Bool) (f : E) (others : Result A E) (y : A) → cond (not b) (Err f) others ≡ Ok y
     → (b ≡ true) × (others ≡ Ok y)
-guard_not true f others y e = (refl, e)
-guard_not false f others y e = absurd cc
+cond-err_unless true f others y e = (refl, e)
+cond-err_unless false f others y e = absurd cc
 
+-- a body that was read without a fault
 abbrev done : {A : Type 0} → A → Result A FieldFault
 done x = Ok x
 
+-- a part that was read without a fault
 abbrev found : {A : Type 0} → A → Result A PartFault
 found x = Ok x
 
-value_is : {A : Type 0} (x y : A) → found x ≡ found y → x ≡ y
-value_is x y e = cc
+-- parts that are equal as results are equal
+found-injective : {A : Type 0} (x y : A) → found x ≡ found y → x ≡ y
+found-injective x y e = cc
 
+-- if a result is there with a place for its fault, it is there without
 with_place_ok : {A : Type 0} (end : ℕ) (r : Result A FieldFault) (y : A) → with_place end r ≡ Ok y → r ≡ Ok y
-with_place_ok end (Ok x) y e = ap done (value_is x y e)
+with_place_ok end (Ok x) y e = ap done (found-injective x y e)
 with_place_ok end (Err f) y e = absurd cc
 
-same_bytes : (xs ys : List ℕ) → bytes_eq xs ys ≡ true → xs ≡ ys
-same_bytes xs ys e = (bytes_eq-Decides xs ys).0 e
+-- bytes that the test finds equal are equal
+bytes_eq-same : (xs ys : List ℕ) → bytes_eq xs ys ≡ true → xs ≡ ys
+bytes_eq-same xs ys e = (bytes_eq-Decides xs ys).0 e
 
-first_eight : (bytes : List ℕ) (n : ℕ) → 8 ≤ n → take 8 (take n bytes) ≡ take 8 bytes
-first_eight bytes n long = take-take 8 n bytes long
+-- the first 8 of at least 8 bytes that are taken are the first 8
+take-eight : (bytes : List ℕ) (n : ℕ) → 8 ≤ n → take 8 (take n bytes) ≡ take 8 bytes
+take-eight bytes n long = take-take 8 n bytes long
 
-eight_of : (bytes : List ℕ) → take 7 bytes ≡ name_bytes → take 1 (drop 7 bytes) ≡ version_byte ∷ []
+-- if the first 7 bytes are the name, and the next is the version, the first 8 are both
+take-name_and_version : (bytes : List ℕ) → take 7 bytes ≡ name_bytes → take 1 (drop 7 bytes) ≡ version_byte ∷ []
     → take 8 bytes ≡ name_bytes ++ version_byte ∷ []
-eight_of bytes name version =
+take-name_and_version bytes name version =
     sym (take-append-drop 7 (take 8 bytes))
     ∙ ap (λ (t : List ℕ). t ++ drop 7 (take 8 bytes)) (take-take 7 8 bytes (omega arith) ∙ name)
     ∙ ap (λ (t : List ℕ). name_bytes ++ t) (drop-take 7 1 bytes ∙ version)
 
 -- the bytes before the sum are the name, the version and the body
-front_is : (bytes : List ℕ) (n : ℕ) → 8 ≤ n → n ≤ length bytes → take 7 bytes ≡ name_bytes
+take-before_sum : (bytes : List ℕ) (n : ℕ) → 8 ≤ n → n ≤ length bytes → take 7 bytes ≡ name_bytes
     → take 1 (drop 7 bytes) ≡ version_byte ∷ []
     → take n bytes ≡ name_bytes ++ version_byte ∷ drop 8 (take n bytes)
-front_is bytes n long within name version =
+take-before_sum bytes n long within name version =
     let parts : take 8 (take n bytes) ++ drop 8 (take n bytes) ≡ take n bytes = take-append-drop 8 (take n bytes) in
-    let front : take 8 (take n bytes) ≡ take 8 bytes = first_eight bytes n long in
-    let halves : take 8 bytes ≡ name_bytes ++ version_byte ∷ [] = eight_of bytes name version in
+    let front : take 8 (take n bytes) ≡ take 8 bytes = take-eight bytes n long in
+    let halves : take 8 bytes ≡ name_bytes ++ version_byte ∷ [] = take-name_and_version bytes name version in
     sym parts ∙ ap (λ (t : List ℕ). t ++ drop 8 (take n bytes)) (front ∙ halves)
 
-pub part_takes : (bytes : List ℕ) (p : PartValue) → IsBytes bytes → part_at bytes ≡ Ok p
+-- the part that is read is within its bounds, and these are its bytes
+pub part_at-ok : (bytes : List ℕ) (p : PartValue) → IsBytes bytes → part_at bytes ≡ Ok p
     → FitsPart p × (bytes ≡ part_bytes p)
 unfolding part_at part_bytes
-part_takes bytes p fits e =
-    let a = guard_not (bytes_eq name_bytes (take 7 bytes)) _ _ p e in
-    let b = guard_not (bytes_eq (version_byte ∷ []) (take 1 (drop 7 bytes))) _ _ p a.1 in
-    let c = guard_not (has_its_sum bytes) _ _ p b.1 in
+part_at-ok bytes p fits e =
+    let a = cond-err_unless (bytes_eq name_bytes (take 7 bytes)) _ _ p e in
+    let b = cond-err_unless (bytes_eq (version_byte ∷ []) (take 1 (drop 7 bytes))) _ _ p a.1 in
+    let c = cond-err_unless (has_its_sum bytes) _ _ p b.1 in
     let n = length bytes - 8 in
     let front = take n bytes in
     let read = with_place_ok n (body_at (drop 8 front)) p c.1 in
     let s = and_parts (nat_le 16 (length bytes)) (eqb (sum_of (summed_part bytes)) (written_sum bytes)) c.0 in
     let long : 16 ≤ length bytes = leb-true 16 (length bytes) s.0 in
     let sum-is : sum_of front ≡ from_le_bytes w64 (drop n bytes) = eqb-true _ _ s.1 in
-    let body = body_takes (drop 8 front) p (IsBytes-drop 8 front (IsBytes-take n bytes fits)) read in
-    let name = sym (same_bytes name_bytes (take 7 bytes) a.0) in
-    let version = sym (same_bytes (version_byte ∷ []) (take 1 (drop 7 bytes)) b.0) in
+    let body = body_at-ok (drop 8 front) p (IsBytes-drop 8 front (IsBytes-take n bytes fits)) read in
+    let name = sym (bytes_eq-same name_bytes (take 7 bytes) a.0) in
+    let version = sym (bytes_eq-same (version_byte ∷ []) (take 1 (drop 7 bytes)) b.0) in
     let front-is : front ≡ summed_bytes p =
-    front_is bytes n (omega arith) (omega arith) name version
+    take-before_sum bytes n (omega arith) (omega arith) name version
     ∙ ap (λ (t : List ℕ). name_bytes ++ version_byte ∷ t) body.0 in
     let many : length (drop n bytes) ≡ 8 = omega (arith, length-drop n bytes) in
     let back : to_le_bytes w64 (from_le_bytes w64 (drop n bytes)) ≡ drop n bytes =
@@ -151,9 +164,10 @@ part_takes bytes p fits e =
           ∙ ap (λ (t : List ℕ). summed_bytes p ++ t) sum,
     )
 
-pub part_again : (p : PartValue) → FitsPart p → part_at (part_bytes p) ≡ Ok p
+-- the bytes of a part within its bounds are read as that part
+pub part_at-of_bytes : (p : PartValue) → FitsPart p → part_at (part_bytes p) ≡ Ok p
 unfolding part_at part_bytes
-part_again p fits =
+part_at-of_bytes p fits =
     let front = summed_bytes p in
     let sum = to_le_bytes w64 (sum_of front) in
     let bytes = front ++ sum in
@@ -163,20 +177,20 @@ part_again p fits =
     ap (λ (k : ℕ). take k bytes) n-is ∙ take_at front sum (length front) refl in
     let backs : drop (length bytes - 8) bytes ≡ sum =
     ap (λ (k : ℕ). drop k bytes) n-is ∙ drop_at front sum (length front) refl in
-    let low : sum_of front < 2 ^ 64 = fold_low front sum_start (omega arith) in
+    let low : sum_of front < 2 ^ 64 = fold_summed-below front sum_start (omega arith) in
     let right : sum_of (summed_part bytes) ≡ written_sum bytes =
     ap sum_of fronts ∙ sym (ap (from_le_bytes w64) backs ∙ from_le_bytes-to_le_bytes_8 (sum_of front) low) in
     let has : has_its_sum bytes ≡ true =
     and_from (nat_le 16 (length bytes)) (eqb (sum_of (summed_part bytes)) (written_sum bytes))
     (le-leb 16 (length bytes) (omega (arith, many))) (eq-eqb _ _ right) in
     let body : body_at (drop 8 (summed_part bytes)) ≡ Ok p =
-    ap (λ (t : List ℕ). body_at (drop 8 t)) fronts ∙ body_again p fits in
+    ap (λ (t : List ℕ). body_at (drop 8 t)) fronts ∙ body_at-of_bytes p fits in
     rw (has, body) refl
 
 -- the encodings of two parts don't differ in one byte alone
-pub part_apart : (bytes : List ℕ) (q p : PartValue) → IsBytes bytes → bytes ≡ part_bytes q
+pub part_bytes-differ_in_more : (bytes : List ℕ) (q p : PartValue) → IsBytes bytes → bytes ≡ part_bytes q
     → DifferInOne bytes (part_bytes p) → ⊥
 unfolding part_bytes
-part_apart bytes q p fits e d =
-    changed_apart (summed_bytes q) (summed_bytes p) (subst (λ (xs : List ℕ). IsBytes xs) e fits)
+part_bytes-differ_in_more bytes q p fits e d =
+    with_sum-differ_in_more (summed_bytes q) (summed_bytes p) (subst (λ (xs : List ℕ). IsBytes xs) e fits)
     (subst (λ (xs : List ℕ). DifferInOne xs (part_bytes p)) e d)

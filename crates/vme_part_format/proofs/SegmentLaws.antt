@@ -1,4 +1,5 @@
--- Segments that are read are those that were written, and what was written is read again.
+-- A segment of a part that is read is the one whose bytes stand there (`..-ok`), and the bytes of a segment that fits
+-- its bounds are read as that segment (`..-of_bytes`).
 use Rattle.std.proofs.Common.{◌≡◌, ℕ, zero, suc, ◌%◌, ◌^◌, ◌<◌, ◌≤◌, Bool, true, false, cond, eqb}
 use Rattle.std.proofs.Common.{◌&&◌, List, [], ◌∷◌, ◌++◌, length, Option, Some, None, Result, Ok, Err, refl, sym, ap}
 use Rattle.std.proofs.Common.{subst}
@@ -20,103 +21,117 @@ use Rattle.vme_part_format.specs.Reading.{may_begin, number_at, numbers_at, read
 use Rattle.vme_part_format.specs.Reading.{slots_at}
 use Rattle.vme_part_format.specs.Reading.{step_times_at, table_at, times_at}
 use Rattle.vme_part_format.specs.Tables.{SegmentValue, TableValue, last_of}
-use Rattle.vme_part_format.proofs.FieldLaws.{IsBytes, Takes, Takes-then, bind_ok, byte_takes, flag_takes}
-use Rattle.vme_part_format.proofs.FieldLaws.{guard_in, number_again, number_takes, ok_is, some_is, wide64}
-use Rattle.vme_part_format.proofs.LevelFacts.{LevelsRead, levels_again, levels_takes}
-use Rattle.vme_part_format.proofs.TableLaws.{TableTaken, table_again, table_takes}
+use Rattle.vme_part_format.proofs.FieldLaws.{IsBytes, Takes, Takes-append, bind_ok, byte_at-ok, flag_at-ok}
+use Rattle.vme_part_format.proofs.FieldLaws.{cond-ok_then_err, number_at-of_bytes, number_at-ok, Ok-injective}
+use Rattle.vme_part_format.proofs.FieldLaws.{Some-injective, wide64}
+use Rattle.vme_part_format.proofs.LevelFacts.{LevelsRead, levels_at-of_bytes, levels_at-ok}
+use Rattle.vme_part_format.proofs.TableLaws.{TableTaken, table_at-of_bytes, table_at-ok}
 
 -- ---- the number of the first file, and the order
 
+-- the number of the first file and the order were read from `bytes`, and come after the segments before
 abbrev NumbersTaken : Option ℕ → List ℕ → (ℕ × ℕ) × List ℕ → Type 0
 NumbersTaken before bytes x =
     Takes bytes (to_le_bytes w64 x.0.0 ++ (x.0.1 ∷ [])) x.1 × FitsNumbers x.0.0 x.0.1
     × (is_after before x.0.0 ≡ true)
 
-numbers_fit : (first order : ℕ) → are_numbers first order ≡ true → FitsNumbers first order
-numbers_fit first order e =
+-- a first file and an order that pass the test are within their bounds
+FitsNumbers-of_test : (first order : ℕ) → are_numbers first order ≡ true → FitsNumbers first order
+FitsNumbers-of_test first order e =
     let p = and_parts (nat_lt first (2 ^ 63) && nat_lt order 63) (eqb (first % 2 ^ order) 0) e in
     let q = and_parts (nat_lt first (2 ^ 63)) (nat_lt order 63) p.0 in
     record { low = ltb-true _ _ q.0; few = ltb-true _ _ q.1; aligned = eqb-true _ _ p.1 }
 
-are_fit : (first order : ℕ) → FitsNumbers first order → are_numbers first order ≡ true
-are_fit first order f =
+-- a first file and an order within their bounds pass the test
+are_numbers-of_fits : (first order : ℕ) → FitsNumbers first order → are_numbers first order ≡ true
+are_numbers-of_fits first order f =
     and_from (nat_lt first (2 ^ 63) && nat_lt order 63) (eqb (first % 2 ^ order) 0)
     (and_from (nat_lt first (2 ^ 63)) (nat_lt order 63) (lt-ltb _ _ f.low) (lt-ltb _ _ f.few))
     (eq-eqb _ _ f.aligned)
 
-is_after_true : (before : Option ℕ) (s : SegmentValue) → IsAfter before s → is_after before s.first ≡ true
-is_after_true None s h = refl
-is_after_true (Some last) s h = lt-ltb last s.first h
+-- a segment that begins after those before it passes the test for this
+is_after-of_IsAfter : (before : Option ℕ) (s : SegmentValue) → IsAfter before s → is_after before s.first ≡ true
+is_after-of_IsAfter None s h = refl
+is_after-of_IsAfter (Some last) s h = lt-ltb last s.first h
 
-is_after_holds : (before : Option ℕ) (s : SegmentValue) → is_after before s.first ≡ true → IsAfter before s
-is_after_holds None s h = tt
-is_after_holds (Some last) s h = ltb-true last s.first h
+-- a segment that passes the test begins after those before it
+IsAfter-of_test : (before : Option ℕ) (s : SegmentValue) → is_after before s.first ≡ true → IsAfter before s
+IsAfter-of_test None s h = tt
+IsAfter-of_test (Some last) s h = ltb-true last s.first h
 
-numbers_take : (before : Option ℕ) (bytes : List ℕ) (x : (ℕ × ℕ) × List ℕ) → IsBytes bytes
+-- the first file and the order that are read are within their bounds, and their bytes stand there
+numbers_at-ok : (before : Option ℕ) (bytes : List ℕ) (x : (ℕ × ℕ) × List ℕ) → IsBytes bytes
     → numbers_at before bytes ≡ Ok x → NumbersTaken before bytes x
 unfolding numbers_at
-numbers_take before bytes x fits e =
+numbers_at-ok before bytes x fits e =
     let bad = fault_at fault.BadNumber bytes in
     let a = bind_ok (number_at w64 bytes) (λ first. byte_at first.1 >>= λ order.
     cond (may_begin before first.0 order.0) (Ok ((first.0, order.0), order.1)) (Err bad)) x e in
     let b = bind_ok (byte_at a.0.1) (λ order.
     cond (may_begin before a.0.0 order.0) (Ok ((a.0.0, order.0), order.1)) (Err bad)) x a.2 in
-    let g = guard_in (may_begin before a.0.0 b.0.0) bad ((a.0.0, b.0.0), b.0.1) x b.2 in
+    let g = cond-ok_then_err (may_begin before a.0.0 b.0.0) bad ((a.0.0, b.0.0), b.0.1) x b.2 in
     let p = and_parts (are_numbers a.0.0 b.0.0) (is_after before a.0.0) g.0 in
-    let t0 = number_takes w64 (2 ^ 64) wide64 bytes a.0.0 a.0.1 fits a.1 in
-    let t1 = byte_takes a.0.1 b.0 t0.0.rest_fits b.1 in
+    let t0 = number_at-ok w64 (2 ^ 64) wide64 bytes a.0.0 a.0.1 fits a.1 in
+    let t1 = byte_at-ok a.0.1 b.0 t0.0.rest_fits b.1 in
     subst (λ (y : (ℕ × ℕ) × List ℕ). NumbersTaken before bytes y) g.1 (
-      Takes-then bytes (to_le_bytes w64 a.0.0) a.0.1 (b.0.0 ∷ []) b.0.1 t0.0 t1.0,
-      numbers_fit a.0.0 b.0.0 p.0,
+      Takes-append bytes (to_le_bytes w64 a.0.0) a.0.1 (b.0.0 ∷ []) b.0.1 t0.0 t1.0,
+      FitsNumbers-of_test a.0.0 b.0.0 p.0,
       p.1,
     )
 
-numbers_again : (before : Option ℕ) (first order : ℕ) (rest : List ℕ) → FitsNumbers first order
+-- the bytes of a first file and an order within their bounds are read as these
+numbers_at-of_bytes : (before : Option ℕ) (first order : ℕ) (rest : List ℕ) → FitsNumbers first order
     → is_after before first ≡ true
     → numbers_at before (to_le_bytes w64 first ++ (order ∷ rest)) ≡ Ok ((first, order), rest)
 unfolding numbers_at
-numbers_again before first order rest fits behind =
+numbers_at-of_bytes before first order rest fits behind =
     let may : may_begin before first order ≡ true =
-    and_from (are_numbers first order) (is_after before first) (are_fit first order fits) behind in
-    rw (number_again w64 (2 ^ 64) wide64 first (order ∷ rest) (omega (arith, fits.low)), may) refl
+    and_from (are_numbers first order) (is_after before first) (are_numbers-of_fits first order fits) behind in
+    rw (number_at-of_bytes w64 (2 ^ 64) wide64 first (order ∷ rest) (omega (arith, fits.low)), may) refl
 
 -- ---- slots
 
-slots_take : (bytes : List ℕ) (x : ℕ × List ℕ) → IsBytes bytes → slots_at bytes ≡ Ok x
+-- the number of slots that is read is from 1 to 21, and its byte stands there
+slots_at-ok : (bytes : List ℕ) (x : ℕ × List ℕ) → IsBytes bytes → slots_at bytes ≡ Ok x
     → Takes bytes (x.0 ∷ []) x.1 × (1 ≤ x.0) × (x.0 ≤ 21)
 unfolding slots_at
-slots_take bytes x fits e =
+slots_at-ok bytes x fits e =
     let bad = fault_at fault.BadLevels bytes in
     let a = bind_ok (byte_at bytes) (λ slots. cond (nat_le 1 slots.0 && nat_le slots.0 21) (Ok slots) (Err bad)) x e in
-    let g = guard_in (nat_le 1 a.0.0 && nat_le a.0.0 21) bad a.0 x a.2 in
+    let g = cond-ok_then_err (nat_le 1 a.0.0 && nat_le a.0.0 21) bad a.0 x a.2 in
     let p = and_parts (nat_le 1 a.0.0) (nat_le a.0.0 21) g.0 in
-    let t = byte_takes bytes a.0 fits a.1 in
+    let t = byte_at-ok bytes a.0 fits a.1 in
     subst (λ (y : ℕ × List ℕ). Takes bytes (y.0 ∷ []) y.1 × (1 ≤ y.0) × (y.0 ≤ 21)) g.1
     (t.0, leb-true _ _ p.0, leb-true _ _ p.1)
 
-slots_again : (n : ℕ) (rest : List ℕ) → 1 ≤ n → n ≤ 21 → slots_at (n ∷ rest) ≡ Ok (n, rest)
+-- the byte of a number of slots from 1 to 21 is read as that number
+slots_at-of_bytes : (n : ℕ) (rest : List ℕ) → 1 ≤ n → n ≤ 21 → slots_at (n ∷ rest) ≡ Ok (n, rest)
 unfolding slots_at
-slots_again n rest some few = rw (le-leb 1 n some, le-leb n 21 few) refl
+slots_at-of_bytes n rest some few = rw (le-leb 1 n some, le-leb n 21 few) refl
 
 -- ---- times
 
+-- the times of a segment, or their absence, were read from `bytes`, and are within their bounds
 abbrev TimesTaken : ℕ → ℕ → ℕ → List ℕ → Option SegmentTimes × List ℕ → Type 0
 TimesTaken first order steps bytes x = Takes bytes (times_bytes x.0) x.1 × FitsTimes first order steps x.0
 
+-- the times, if they are `there`, were read from what follows their flag
 abbrev TimesRead : Bool → List ℕ → Option SegmentTimes × List ℕ → Type 0
 TimesRead there bytes x =
     (text : List ℕ) × (flag there ∷ text ≡ times_bytes x.0) × Takes bytes text x.1
     × ((t : SegmentTimes) → x.0 ≡ Some t → t.last < 2 ^ 64)
 
-times_is : (a b : SegmentTimes) → Some a ≡ Some b → a ≡ b
-times_is a b e = some_is a b e
+-- times that are equal as options are equal
+times-injective : (a b : SegmentTimes) → Some a ≡ Some b → a ≡ b
+times-injective a b e = Some-injective a b e
 
-step_times_take : (there : Bool) (bytes : List ℕ) (x : Option SegmentTimes × List ℕ) → IsBytes bytes
+-- the times that are read after their flag stand there
+step_times_at-ok : (there : Bool) (bytes : List ℕ) (x : Option SegmentTimes × List ℕ) → IsBytes bytes
     → step_times_at there bytes ≡ Ok x → TimesRead there bytes x
-step_times_take false bytes x fits e =
-    subst (λ (y : Option SegmentTimes × List ℕ). TimesRead false bytes y) (ok_is (None, bytes) x e)
+step_times_at-ok false bytes x fits e =
+    subst (λ (y : Option SegmentTimes × List ℕ). TimesRead false bytes y) (Ok-injective (None, bytes) x e)
     ([], refl, record { parts = refl; rest_fits = fits }, λ t h. absurd cc)
-step_times_take true bytes x fits e =
+step_times_at-ok true bytes x fits e =
     let a = bind_ok (number_at w64 bytes) (λ number. number_at w64 number.1 >>= λ first. number_at w64 first.1 >>= λ
     last.
     Ok (Some (record { number = number.0; first = first.0; last = last.0 }), last.1)) x e in
@@ -124,72 +139,79 @@ step_times_take true bytes x fits e =
     Ok (Some (record { number = a.0.0; first = first.0; last = last.0 }), last.1)) x a.2 in
     let c = bind_ok (number_at w64 b.0.1) (λ last.
     Ok (Some (record { number = a.0.0; first = b.0.0; last = last.0 }), last.1)) x b.2 in
-    let t0 = number_takes w64 (2 ^ 64) wide64 bytes a.0.0 a.0.1 fits a.1 in
-    let t1 = number_takes w64 (2 ^ 64) wide64 a.0.1 b.0.0 b.0.1 t0.0.rest_fits b.1 in
-    let t2 = number_takes w64 (2 ^ 64) wide64 b.0.1 c.0.0 c.0.1 t1.0.rest_fits c.1 in
-    let t12 = Takes-then a.0.1 (to_le_bytes w64 b.0.0) b.0.1 (to_le_bytes w64 c.0.0) c.0.1 t1.0 t2.0 in
-    let t02 = Takes-then bytes (to_le_bytes w64 a.0.0) a.0.1 (to_le_bytes w64 b.0.0 ++ to_le_bytes w64 c.0.0) c.0.1 t0.0
+    let t0 = number_at-ok w64 (2 ^ 64) wide64 bytes a.0.0 a.0.1 fits a.1 in
+    let t1 = number_at-ok w64 (2 ^ 64) wide64 a.0.1 b.0.0 b.0.1 t0.0.rest_fits b.1 in
+    let t2 = number_at-ok w64 (2 ^ 64) wide64 b.0.1 c.0.0 c.0.1 t1.0.rest_fits c.1 in
+    let t12 = Takes-append a.0.1 (to_le_bytes w64 b.0.0) b.0.1 (to_le_bytes w64 c.0.0) c.0.1 t1.0 t2.0 in
+    let t02 = Takes-append bytes (to_le_bytes w64 a.0.0) a.0.1 (to_le_bytes w64 b.0.0 ++ to_le_bytes w64 c.0.0) c.0.1
+    t0.0
     t12 in
     let times : SegmentTimes = record { number = a.0.0; first = b.0.0; last = c.0.0 } in
     let made : Option SegmentTimes × List ℕ = (Some times, c.0.1) in
-    subst (λ (y : Option SegmentTimes × List ℕ). TimesRead true bytes y) (ok_is made x c.2) (
+    subst (λ (y : Option SegmentTimes × List ℕ). TimesRead true bytes y) (Ok-injective made x c.2) (
       to_le_bytes w64 a.0.0 ++ (to_le_bytes w64 b.0.0 ++ to_le_bytes w64 c.0.0),
       refl,
       t02,
-      λ t h. subst (λ (s : SegmentTimes). s.last < 2 ^ 64) (times_is times t h) t2.1,
+      λ t h. subst (λ (s : SegmentTimes). s.last < 2 ^ 64) (times-injective times t h) t2.1,
     )
 
-times_fit : (first order steps : ℕ) (times : Option SegmentTimes) → ((t : SegmentTimes) → times ≡ Some t
+-- times that pass the test, of which the last is below 2^64, are within their bounds
+FitsTimes-of_test : (first order steps : ℕ) (times : Option SegmentTimes) → ((t : SegmentTimes) → times ≡ Some t
     → t.last < 2 ^ 64)
     → are_times first order steps times ≡ true → FitsTimes first order steps times
-times_fit first order steps None low e = eqb-true steps 0 e
-times_fit first order steps (Some t) low e =
+FitsTimes-of_test first order steps None low e = eqb-true steps 0 e
+FitsTimes-of_test first order steps (Some t) low e =
     let p = and_parts (nat_lt 0 steps && nat_le first t.number && nat_le t.number (last_of first order))
     (nat_le t.first t.last) e in
     let q = and_parts (nat_lt 0 steps && nat_le first t.number) (nat_le t.number (last_of first order)) p.0 in
     let r = and_parts (nat_lt 0 steps) (nat_le first t.number) q.0 in
     (ltb-true _ _ r.0, leb-true _ _ r.1, leb-true _ _ q.1, leb-true _ _ p.1, low t refl)
 
-are_fit_times : (first order steps : ℕ) (times : Option SegmentTimes) → FitsTimes first order steps times
+-- times within their bounds pass the test
+are_times-of_fits : (first order steps : ℕ) (times : Option SegmentTimes) → FitsTimes first order steps times
     → are_times first order steps times ≡ true
-are_fit_times first order steps None fits = eq-eqb steps 0 fits
-are_fit_times first order steps (Some t) fits =
+are_times-of_fits first order steps None fits = eq-eqb steps 0 fits
+are_times-of_fits first order steps (Some t) fits =
     and_from (nat_lt 0 steps && nat_le first t.number && nat_le t.number (last_of first order)) (nat_le t.first t.last)
     (and_from (nat_lt 0 steps && nat_le first t.number) (nat_le t.number (last_of first order))
     (and_from (nat_lt 0 steps) (nat_le first t.number) (lt-ltb _ _ fits.0) (le-leb _ _ fits.1)) (le-leb _ _ fits.2))
     (le-leb _ _ fits.3)
 
-times_take : (first order steps : ℕ) (bytes : List ℕ) (x : Option SegmentTimes × List ℕ) → IsBytes bytes
+-- the times that are read, or their absence, are within their bounds, and their bytes stand there
+times_at-ok : (first order steps : ℕ) (bytes : List ℕ) (x : Option SegmentTimes × List ℕ) → IsBytes bytes
     → times_at first order steps bytes ≡ Ok x → TimesTaken first order steps bytes x
 unfolding times_at
-times_take first order steps bytes x fits e =
+times_at-ok first order steps bytes x fits e =
     let bad = fault_at fault.BadSteps bytes in
     let a = bind_ok (flag_at bytes) (λ there. step_times_at there.0 there.1 >>= λ times.
     cond (are_times first order steps times.0) (Ok times) (Err bad)) x e in
     let b = bind_ok (step_times_at a.0.0 a.0.1) (λ times.
     cond (are_times first order steps times.0) (Ok times) (Err bad)) x a.2 in
-    let g = guard_in (are_times first order steps b.0.0) bad b.0 x b.2 in
-    let t0 = flag_takes bytes a.0 fits a.1 in
-    let t1 = step_times_take a.0.0 a.0.1 b.0 t0.rest_fits b.1 in
-    let took = Takes-then bytes (flag a.0.0 ∷ []) a.0.1 t1.0 b.0.1 t0 t1.2 in
+    let g = cond-ok_then_err (are_times first order steps b.0.0) bad b.0 x b.2 in
+    let t0 = flag_at-ok bytes a.0 fits a.1 in
+    let t1 = step_times_at-ok a.0.0 a.0.1 b.0 t0.rest_fits b.1 in
+    let took = Takes-append bytes (flag a.0.0 ∷ []) a.0.1 t1.0 b.0.1 t0 t1.2 in
     subst (λ (y : Option SegmentTimes × List ℕ). TimesTaken first order steps bytes y) g.1 (
       subst (λ (t : List ℕ). Takes bytes t b.0.1) t1.1 took,
-      times_fit first order steps b.0.0 t1.3 g.0,
+      FitsTimes-of_test first order steps b.0.0 t1.3 g.0,
     )
 
-pow_low : (order : ℕ) → order < 63 → 2 ^ order < 2 ^ 63
-pow_low order few = pow-lt few
+-- a power of 2 with an exponent below 63 is below 2^63
+pow_2-below : (order : ℕ) → order < 63 → 2 ^ order < 2 ^ 63
+pow_2-below order few = pow-lt few
 
-number_low : (first order steps : ℕ) (t : SegmentTimes) → first < 2 ^ 63 → order < 63
+-- the number of a file of a segment is below 2^64
+times-number_below : (first order steps : ℕ) (t : SegmentTimes) → first < 2 ^ 63 → order < 63
     → FitsTimes first order steps (Some t) → t.number < 2 ^ 64
-number_low first order steps t low few fits = omega (arith, fits.2, pow_low order few)
+times-number_below first order steps t low few fits = omega (arith, fits.2, pow_2-below order few)
 
-times_again : (first order steps : ℕ) (times : Option SegmentTimes) (rest : List ℕ) → first < 2 ^ 63 → order < 63
+-- the bytes of times within their bounds, or of their absence, are read as these
+times_at-of_bytes : (first order steps : ℕ) (times : Option SegmentTimes) (rest : List ℕ) → first < 2 ^ 63 → order < 63
     → FitsTimes first order steps times
     → times_at first order steps (times_bytes times ++ rest) ≡ Ok (times, rest)
 unfolding times_at flag_at
-times_again first order steps None rest low few fits = rw (are_fit_times first order steps None fits) refl
-times_again first order steps (Some t) rest low few fits =
+times_at-of_bytes first order steps None rest low few fits = rw (are_times-of_fits first order steps None fits) refl
+times_at-of_bytes first order steps (Some t) rest low few fits =
     let a = to_le_bytes w64 t.number in
     let b = to_le_bytes w64 t.first in
     let c = to_le_bytes w64 t.last in
@@ -197,10 +219,11 @@ times_again first order steps (Some t) rest low few fits =
     append_assoc a (b ++ c) rest ∙ ap (λ (u : List ℕ). a ++ u) (append_assoc b c rest) in
     ap (λ (u : List ℕ). times_at first order steps (1 ∷ u)) regrouped
     ∙ rw (
-      number_again w64 (2 ^ 64) wide64 t.number (b ++ (c ++ rest)) (number_low first order steps t low few fits),
-      number_again w64 (2 ^ 64) wide64 t.first (c ++ rest) (omega (arith, fits.3, fits.4)),
-      number_again w64 (2 ^ 64) wide64 t.last rest fits.4,
-      are_fit_times first order steps (Some t) fits,
+      number_at-of_bytes w64 (2 ^ 64) wide64 t.number (b ++ (c ++ rest))
+          (times-number_below first order steps t low few fits),
+      number_at-of_bytes w64 (2 ^ 64) wide64 t.first (c ++ rest) (omega (arith, fits.3, fits.4)),
+      number_at-of_bytes w64 (2 ^ 64) wide64 t.last rest fits.4,
+      are_times-of_fits first order steps (Some t) fits,
     ) refl
 
 -- ---- a segment
@@ -226,49 +249,55 @@ record TablesTaken (listing : Bool) (steps : ℕ) (bytes : List ℕ) (a b c d e 
   grant : TableTaken listing 35 steps c.1 d
   acknowledge : TableTaken listing 11 steps d.1 e
 
-tables_text : (listing : Bool) (steps : ℕ) (bytes : List ℕ) (a b c d e : TableValue × List ℕ)
+-- the bytes of the five tables that were read stand there
+TablesTaken-bytes : (listing : Bool) (steps : ℕ) (bytes : List ℕ) (a b c d e : TableValue × List ℕ)
     → TablesTaken listing steps bytes a b c d e
     → Takes bytes (table_bytes listing a.0 ++ (table_bytes listing b.0 ++ (table_bytes listing c.0
     ++ (table_bytes listing d.0 ++ table_bytes listing e.0)))) e.1
-tables_text listing steps bytes a b c d e t =
+TablesTaken-bytes listing steps bytes a b c d e t =
     let text = table_bytes listing in
-    Takes-then bytes (text a.0) a.1 (text b.0 ++ (text c.0 ++ (text d.0 ++ text e.0))) e.1 t.known.0
-    (Takes-then a.1 (text b.0) b.1 (text c.0 ++ (text d.0 ++ text e.0)) e.1 t.handshake.0
-    (Takes-then b.1 (text c.0) c.1 (text d.0 ++ text e.0) e.1 t.stability.0
-    (Takes-then c.1 (text d.0) d.1 (text e.0) e.1 t.grant.0 t.acknowledge.0)))
+    Takes-append bytes (text a.0) a.1 (text b.0 ++ (text c.0 ++ (text d.0 ++ text e.0))) e.1 t.known.0
+    (Takes-append a.1 (text b.0) b.1 (text c.0 ++ (text d.0 ++ text e.0)) e.1 t.handshake.0
+    (Takes-append b.1 (text c.0) c.1 (text d.0 ++ text e.0) e.1 t.stability.0
+    (Takes-append c.1 (text d.0) d.1 (text e.0) e.1 t.grant.0 t.acknowledge.0)))
 
 -- a segment that was read
 abbrev pub SegmentTaken : Bool → Option ℕ → List ℕ → SegmentValue × List ℕ → Type 0
 SegmentTaken listing before bytes x =
     Takes bytes (segment_bytes listing x.0) x.1 × FitsSegment listing x.0 × IsAfter before x.0
 
-segment_shape : (a st lo ll ti tb : List ℕ) (o s : ℕ)
+-- the bytes of the fields of a segment may be grouped in two ways
+append-segment_fields : (a st lo ll ti tb : List ℕ) (o s : ℕ)
     → (a ++ (o ∷ [])) ++ (st ++ (s ∷ (lo ++ (ll ++ (ti ++ tb)))))
     ≡ (a ++ (o ∷ st)) ++ ((s ∷ (lo ++ ll)) ++ (ti ++ tb))
-segment_shape a st lo ll ti tb o s = simp append_assoc
+append-segment_fields a st lo ll ti tb o s = simp append_assoc
 
-segment_taken : (listing : Bool) (before : Option ℕ) (bytes : List ℕ) (n : (ℕ × ℕ) × List ℕ) (st sl : ℕ × List ℕ)
+-- if the fields before the tables, and the tables, were read one after the other, the segment was read
+SegmentTaken-of_fields : (listing : Bool) (before : Option ℕ) (bytes : List ℕ) (n : (ℕ × ℕ) × List ℕ)
+    (st sl : ℕ × List ℕ)
     (op le : Levels × List ℕ) (ti : Option SegmentTimes × List ℕ) (a b c d f : TableValue × List ℕ)
     → HeadTaken before bytes n st sl op le ti → TablesTaken listing st.0 ti.1 a b c d f
     → SegmentTaken listing before bytes (read_segment n.0 st.0 op.0 le.0 ti.0 a.0 b.0 c.0 d.0 f.0, f.1)
 unfolding segment_bytes
-segment_taken listing before bytes n st sl op le ti a b c d f h t =
+SegmentTaken-of_fields listing before bytes n st sl op le ti a b c d f h t =
     let s = read_segment n.0 st.0 op.0 le.0 ti.0 a.0 b.0 c.0 d.0 f.0 in
     let tables = tables_bytes listing s in
     let slots-are : Takes st.1 (op.0.slots ∷ []) sl.1 =
     subst (λ (k : ℕ). Takes st.1 (k ∷ []) sl.1) (sym h.opened.slots-is) h.slots-are in
     let timed = times_bytes ti.0 ++ tables in
-    let t8 = Takes-then le.1 (times_bytes ti.0) ti.1 tables f.1 h.times-are.0 (tables_text listing st.0 ti.1 a b c d f
+    let t8 = Takes-append le.1 (times_bytes ti.0) ti.1 tables f.1 h.times-are.0
+    (TablesTaken-bytes listing st.0 ti.1 a b c d f
     t) in
-    let t7 = Takes-then op.1 (levels_bytes le.0) le.1 timed f.1 h.was-left.taken t8 in
-    let t6 = Takes-then sl.1 (levels_bytes op.0) op.1 (levels_bytes le.0 ++ timed) f.1 h.opened.taken t7 in
+    let t7 = Takes-append op.1 (levels_bytes le.0) le.1 timed f.1 h.was-left.taken t8 in
+    let t6 = Takes-append sl.1 (levels_bytes op.0) op.1 (levels_bytes le.0 ++ timed) f.1 h.opened.taken t7 in
     let leveled = levels_bytes op.0 ++ (levels_bytes le.0 ++ timed) in
-    let t5 = Takes-then st.1 (op.0.slots ∷ []) sl.1 leveled f.1 slots-are t6 in
-    let t4 = Takes-then n.1 (to_le_bytes w64 st.0) st.1 (op.0.slots ∷ leveled) f.1 h.steps-are t5 in
+    let t5 = Takes-append st.1 (op.0.slots ∷ []) sl.1 leveled f.1 slots-are t6 in
+    let t4 = Takes-append n.1 (to_le_bytes w64 st.0) st.1 (op.0.slots ∷ leveled) f.1 h.steps-are t5 in
     let stepped = to_le_bytes w64 st.0 ++ (op.0.slots ∷ leveled) in
-    let t3 = Takes-then bytes (to_le_bytes w64 n.0.0 ++ (n.0.1 ∷ [])) n.1 stepped f.1 h.numbers-are.0 t4 in
+    let t3 = Takes-append bytes (to_le_bytes w64 n.0.0 ++ (n.0.1 ∷ [])) n.1 stepped f.1 h.numbers-are.0 t4 in
     let text : (to_le_bytes w64 n.0.0 ++ (n.0.1 ∷ [])) ++ stepped ≡ segment_bytes listing s =
-    segment_shape (to_le_bytes w64 n.0.0) (to_le_bytes w64 st.0) (levels_bytes op.0) (levels_bytes le.0) (times_bytes
+    append-segment_fields (to_le_bytes w64 n.0.0) (to_le_bytes w64 st.0) (levels_bytes op.0) (levels_bytes le.0)
+    (times_bytes
     ti.0)
     tables n.0.1 op.0.slots in
     let in_range : (v : Levels) → v.slots ≡ sl.0 → (1 ≤ v.slots) × (v.slots ≤ 21) =
@@ -287,7 +316,7 @@ segment_taken listing before bytes n st sl op le ti a b c d f h t =
         grant = t.grant.1;
         acknowledge = t.acknowledge.1;
       },
-      is_after_holds before s h.numbers-are.2,
+      IsAfter-of_test before s h.numbers-are.2,
     )
 
 -- each monitor has at least 3 memories
@@ -306,6 +335,7 @@ least_35 = omega arith
 least_11 : 3 ≤ 11
 least_11 = omega arith
 
+-- a segment that was read without a fault
 abbrev done_with : {A : Type 0} → A → Result A FieldFault
 done_with x = Ok x
 
@@ -317,6 +347,7 @@ record Head : Type 0 where
   left : Levels
   times : Option SegmentTimes
 
+-- the segment of these fields and five tables
 abbrev with_tables : Head → TableValue → TableValue → TableValue → TableValue → TableValue → SegmentValue
 with_tables h a b c d f = read_segment h.numbers h.steps h.opening h.left h.times a b c d f
 
@@ -350,22 +381,24 @@ record IsTables (listing : Bool) (h : Head) (bytes : List ℕ) (x : SegmentValue
   is : (with_tables h a.0 b.0 c.0 d.0 f.0, f.1) ≡ x
 
 -- if reading a table and the rest gives x, then reading the table succeeds, and the rest gives x
-next_table : (listing : Bool) (memories steps : ℕ) (bytes : List ℕ)
+table_at-then : (listing : Bool) (memories steps : ℕ) (bytes : List ℕ)
     (k : TableValue × List ℕ → Result (SegmentValue × List ℕ) FieldFault) (x : SegmentValue × List ℕ) → 3 ≤ memories
     → steps < 2 ^ 64 → IsBytes bytes → (table_at listing memories steps bytes >>= k) ≡ Ok x
     → (t : TableValue × List ℕ) × TableTaken listing memories steps bytes t × (k t ≡ Ok x)
-next_table listing memories steps bytes k x some low fits e =
+table_at-then listing memories steps bytes k x some low fits e =
     let t = bind_ok (table_at listing memories steps bytes) k x e in
-    (t.0, table_takes listing memories steps bytes t.0 some low fits t.1, t.2)
+    (t.0, table_at-ok listing memories steps bytes t.0 some low fits t.1, t.2)
 
-take_acknowledge : (listing : Bool) (h : Head) (bytes : List ℕ) (a b c d : TableValue × List ℕ) (x : SegmentValue
+-- if the first four tables were read, and the last table is, five tables are
+IsTables-from_acknowledge : (listing : Bool) (h : Head) (bytes : List ℕ) (a b c d : TableValue × List ℕ)
+    (x : SegmentValue
     × List ℕ)
     → h.steps < 2 ^ 64 → TableTaken listing 4 h.steps bytes a → TableTaken listing 147 h.steps a.1 b
     → TableTaken listing 13 h.steps b.1 c → TableTaken listing 35 h.steps c.1 d
     → at_acknowledge listing h a.0 b.0 c.0 d.0 d.1 ≡ Ok x → IsTables listing h bytes x
-take_acknowledge listing h bytes a b c d x low ta tb tc td e =
+IsTables-from_acknowledge listing h bytes a b c d x low ta tb tc td e =
     let k = λ (f : TableValue × List ℕ). done_with (with_tables h a.0 b.0 c.0 d.0 f.0, f.1) in
-    let t = next_table listing 11 h.steps d.1 k x least_11 low td.0.rest_fits e in
+    let t = table_at-then listing 11 h.steps d.1 k x least_11 low td.0.rest_fits e in
     record {
       a = a;
       b = b;
@@ -373,39 +406,46 @@ take_acknowledge listing h bytes a b c d x low ta tb tc td e =
       d = d;
       f = t.0;
       taken = record { known = ta; handshake = tb; stability = tc; grant = td; acknowledge = t.1 };
-      is = ok_is (with_tables h a.0 b.0 c.0 d.0 t.0.0, t.0.1) x t.2;
+      is = Ok-injective (with_tables h a.0 b.0 c.0 d.0 t.0.0, t.0.1) x t.2;
     }
 
-take_grant : (listing : Bool) (h : Head) (bytes : List ℕ) (a b c : TableValue × List ℕ) (x : SegmentValue × List ℕ)
+-- if the first three tables were read, and the rest is, five tables are
+IsTables-from_grant : (listing : Bool) (h : Head) (bytes : List ℕ) (a b c : TableValue × List ℕ)
+    (x : SegmentValue × List ℕ)
     → h.steps < 2 ^ 64 → TableTaken listing 4 h.steps bytes a → TableTaken listing 147 h.steps a.1 b
     → TableTaken listing 13 h.steps b.1 c → at_grant listing h a.0 b.0 c.0 c.1 ≡ Ok x → IsTables listing h bytes x
-take_grant listing h bytes a b c x low ta tb tc e =
+IsTables-from_grant listing h bytes a b c x low ta tb tc e =
     let k = λ (d : TableValue × List ℕ). at_acknowledge listing h a.0 b.0 c.0 d.0 d.1 in
-    let t = next_table listing 35 h.steps c.1 k x least_35 low tc.0.rest_fits e in
-    take_acknowledge listing h bytes a b c t.0 x low ta tb tc t.1 t.2
+    let t = table_at-then listing 35 h.steps c.1 k x least_35 low tc.0.rest_fits e in
+    IsTables-from_acknowledge listing h bytes a b c t.0 x low ta tb tc t.1 t.2
 
-take_stability : (listing : Bool) (h : Head) (bytes : List ℕ) (a b : TableValue × List ℕ) (x : SegmentValue × List ℕ)
+-- if the first two tables were read, and the rest is, five tables are
+IsTables-from_stability : (listing : Bool) (h : Head) (bytes : List ℕ) (a b : TableValue × List ℕ)
+    (x : SegmentValue × List ℕ)
     → h.steps < 2 ^ 64 → TableTaken listing 4 h.steps bytes a → TableTaken listing 147 h.steps a.1 b
     → at_stability listing h a.0 b.0 b.1 ≡ Ok x → IsTables listing h bytes x
-take_stability listing h bytes a b x low ta tb e =
+IsTables-from_stability listing h bytes a b x low ta tb e =
     let k = λ (c : TableValue × List ℕ). at_grant listing h a.0 b.0 c.0 c.1 in
-    let t = next_table listing 13 h.steps b.1 k x least_13 low tb.0.rest_fits e in
-    take_grant listing h bytes a b t.0 x low ta tb t.1 t.2
+    let t = table_at-then listing 13 h.steps b.1 k x least_13 low tb.0.rest_fits e in
+    IsTables-from_grant listing h bytes a b t.0 x low ta tb t.1 t.2
 
-take_handshake : (listing : Bool) (h : Head) (bytes : List ℕ) (a : TableValue × List ℕ) (x : SegmentValue × List ℕ)
+-- if the first table was read, and the rest is, five tables are
+IsTables-from_handshake : (listing : Bool) (h : Head) (bytes : List ℕ) (a : TableValue × List ℕ)
+    (x : SegmentValue × List ℕ)
     → h.steps < 2 ^ 64 → TableTaken listing 4 h.steps bytes a → at_handshake listing h a.0 a.1 ≡ Ok x
     → IsTables listing h bytes x
-take_handshake listing h bytes a x low ta e =
+IsTables-from_handshake listing h bytes a x low ta e =
     let k = λ (b : TableValue × List ℕ). at_stability listing h a.0 b.0 b.1 in
-    let t = next_table listing 147 h.steps a.1 k x least_147 low ta.0.rest_fits e in
-    take_stability listing h bytes a t.0 x low ta t.1 t.2
+    let t = table_at-then listing 147 h.steps a.1 k x least_147 low ta.0.rest_fits e in
+    IsTables-from_stability listing h bytes a t.0 x low ta t.1 t.2
 
-take_tables : (listing : Bool) (h : Head) (bytes : List ℕ) (x : SegmentValue × List ℕ) → h.steps < 2 ^ 64
+-- if the rest of a segment from the tables on is read, five tables are
+IsTables-from_known : (listing : Bool) (h : Head) (bytes : List ℕ) (x : SegmentValue × List ℕ) → h.steps < 2 ^ 64
     → IsBytes bytes → at_known listing h bytes ≡ Ok x → IsTables listing h bytes x
-take_tables listing h bytes x low fits e =
+IsTables-from_known listing h bytes x low fits e =
     let k = λ (a : TableValue × List ℕ). at_handshake listing h a.0 a.1 in
-    let t = next_table listing 4 h.steps bytes k x least_4 low fits e in
-    take_handshake listing h bytes t.0 x low t.1 t.2
+    let t = table_at-then listing 4 h.steps bytes k x least_4 low fits e in
+    IsTables-from_handshake listing h bytes t.0 x low t.1 t.2
 
 -- reads the rest of a segment from one of the fields before the tables on
 abbrev at_times : Bool → ℕ × ℕ → ℕ → Levels → Levels → List ℕ → Result (SegmentValue × List ℕ) FieldFault
@@ -435,17 +475,19 @@ record FrontTaken (before : Option ℕ) (bytes : List ℕ) (n : (ℕ × ℕ) × 
   most : sl.0 ≤ 21
 
 module _ (listing : Bool) (before : Option ℕ) (bytes : List ℕ) (x : SegmentValue × List ℕ) where
-  take_times : (n : (ℕ × ℕ) × List ℕ) (st sl : ℕ × List ℕ) (op le : Levels × List ℕ) → FrontTaken before bytes n st sl
+  -- if the rest of a segment is read from its times on, the segment is read
+  SegmentTaken-from_times : (n : (ℕ × ℕ) × List ℕ) (st sl : ℕ × List ℕ) (op le : Levels × List ℕ)
+      → FrontTaken before bytes n st sl
       → LevelsRead sl.0 sl.1 op → LevelsRead sl.0 op.1 le → at_times listing n.0 st.0 op.0 le.0 le.1 ≡ Ok x
       → SegmentTaken listing before bytes x
-  take_times n st sl op le h opened was e =
+  SegmentTaken-from_times n st sl op le h opened was e =
       let k = λ (ti : Option SegmentTimes × List ℕ).
       at_known listing (record { numbers = n.0; steps = st.0; opening = op.0; left = le.0; times = ti.0 }) ti.1 in
       let ti = bind_ok (times_at n.0.0 n.0.1 st.0 le.1) k x e in
-      let t = times_take n.0.0 n.0.1 st.0 le.1 ti.0 was.taken.rest_fits ti.1 in
+      let t = times_at-ok n.0.0 n.0.1 st.0 le.1 ti.0 was.taken.rest_fits ti.1 in
       let head : Head =
       record { numbers = n.0; steps = st.0; opening = op.0; left = le.0; times = ti.0.0 } in
-      let tables = take_tables listing head ti.0.1 x h.few t.0.rest_fits ti.2 in
+      let tables = IsTables-from_known listing head ti.0.1 x h.few t.0.rest_fits ti.2 in
       let all : HeadTaken before bytes n st sl op le ti.0 =
       record {
         numbers-are = h.numbers-are;
@@ -459,63 +501,71 @@ module _ (listing : Bool) (before : Option ℕ) (bytes : List ℕ) (x : SegmentV
         times-are = t;
       } in
       subst (λ (y : SegmentValue × List ℕ). SegmentTaken listing before bytes y) tables.is
-      (segment_taken listing before bytes n st sl op le ti.0 tables.a tables.b tables.c tables.d tables.f all
+      (SegmentTaken-of_fields listing before bytes n st sl op le ti.0 tables.a tables.b tables.c tables.d tables.f all
       tables.taken)
 
-  take_left : (n : (ℕ × ℕ) × List ℕ) (st sl : ℕ × List ℕ) (op : Levels × List ℕ) → FrontTaken before bytes n st sl
+  -- if the rest of a segment is read from the levels that it leaves on, the segment is read
+  SegmentTaken-from_left : (n : (ℕ × ℕ) × List ℕ) (st sl : ℕ × List ℕ) (op : Levels × List ℕ)
+      → FrontTaken before bytes n st sl
       → LevelsRead sl.0 sl.1 op → at_left listing n.0 st.0 sl.0 op.0 op.1 ≡ Ok x → SegmentTaken listing before bytes x
-  take_left n st sl op h opened e =
+  SegmentTaken-from_left n st sl op h opened e =
       let k = λ (le : Levels × List ℕ). at_times listing n.0 st.0 op.0 le.0 le.1 in
       let le = bind_ok (levels_at sl.0 op.1) k x e in
-      take_times n st sl op le.0 h opened (levels_takes sl.0 op.1 le.0 opened.taken.rest_fits le.1) le.2
+      SegmentTaken-from_times n st sl op le.0 h opened (levels_at-ok sl.0 op.1 le.0 opened.taken.rest_fits le.1) le.2
 
-  take_opening : (n : (ℕ × ℕ) × List ℕ) (st sl : ℕ × List ℕ) → FrontTaken before bytes n st sl
+  -- if the rest of a segment is read from its opening on, the segment is read
+  SegmentTaken-from_opening : (n : (ℕ × ℕ) × List ℕ) (st sl : ℕ × List ℕ) → FrontTaken before bytes n st sl
       → at_opening listing n.0 st.0 sl.0 sl.1 ≡ Ok x → SegmentTaken listing before bytes x
-  take_opening n st sl h e =
+  SegmentTaken-from_opening n st sl h e =
       let k = λ (op : Levels × List ℕ). at_left listing n.0 st.0 sl.0 op.0 op.1 in
       let op = bind_ok (levels_at sl.0 sl.1) k x e in
-      take_left n st sl op.0 h (levels_takes sl.0 sl.1 op.0 h.slots-are.rest_fits op.1) op.2
+      SegmentTaken-from_left n st sl op.0 h (levels_at-ok sl.0 sl.1 op.0 h.slots-are.rest_fits op.1) op.2
 
-  take_slots : (n : (ℕ × ℕ) × List ℕ) (st : ℕ × List ℕ) → NumbersTaken before bytes n
+  -- if the rest of a segment is read from its slots on, the segment is read
+  SegmentTaken-from_slots : (n : (ℕ × ℕ) × List ℕ) (st : ℕ × List ℕ) → NumbersTaken before bytes n
       → Takes n.1 (to_le_bytes w64 st.0) st.1 → st.0 < 2 ^ 64 → at_slots listing n.0 st.0 st.1 ≡ Ok x
       → SegmentTaken listing before bytes x
-  take_slots n st numbers steps few e =
+  SegmentTaken-from_slots n st numbers steps few e =
       let k = λ (sl : ℕ × List ℕ). at_opening listing n.0 st.0 sl.0 sl.1 in
       let sl = bind_ok (slots_at st.1) k x e in
-      let t = slots_take st.1 sl.0 steps.rest_fits sl.1 in
+      let t = slots_at-ok st.1 sl.0 steps.rest_fits sl.1 in
       let front : FrontTaken before bytes n st sl.0 =
       record { numbers-are = numbers; steps-are = steps; few = few; slots-are = t.0; one = t.1; most = t.2 } in
-      take_opening n st sl.0 front sl.2
+      SegmentTaken-from_opening n st sl.0 front sl.2
 
-  take_steps : (n : (ℕ × ℕ) × List ℕ) → NumbersTaken before bytes n → at_steps listing n.0 n.1 ≡ Ok x
+  -- if the rest of a segment is read from the number of its steps on, the segment is read
+  SegmentTaken-from_steps : (n : (ℕ × ℕ) × List ℕ) → NumbersTaken before bytes n → at_steps listing n.0 n.1 ≡ Ok x
       → SegmentTaken listing before bytes x
-  take_steps n numbers e =
+  SegmentTaken-from_steps n numbers e =
       let k = λ (st : ℕ × List ℕ). at_slots listing n.0 st.0 st.1 in
       let st = bind_ok (number_at w64 n.1) k x e in
-      let t = number_takes w64 (2 ^ 64) wide64 n.1 st.0.0 st.0.1 numbers.0.rest_fits st.1 in
-      take_slots n st.0 numbers t.0 t.1 st.2
+      let t = number_at-ok w64 (2 ^ 64) wide64 n.1 st.0.0 st.0.1 numbers.0.rest_fits st.1 in
+      SegmentTaken-from_slots n st.0 numbers t.0 t.1 st.2
 
-  pub segment_takes : IsBytes bytes → segment_at listing before bytes ≡ Ok x → SegmentTaken listing before bytes x
+  -- the segment that is read is within its bounds, and its bytes stand there
+  pub segment_at-ok : IsBytes bytes → segment_at listing before bytes ≡ Ok x → SegmentTaken listing before bytes x
   unfolding segment_at
-  segment_takes fits e =
+  segment_at-ok fits e =
       let k = λ (n : (ℕ × ℕ) × List ℕ). at_steps listing n.0 n.1 in
       let n = bind_ok (numbers_at before bytes) k x e in
-      take_steps n.0 (numbers_take before bytes n.0 fits n.1) n.2
+      SegmentTaken-from_steps n.0 (numbers_at-ok before bytes n.0 fits n.1) n.2
 
 -- the bytes of a segment and `rest` after them, regrouped to the right
-segment_text : (listing : Bool) (s : SegmentValue) (rest : List ℕ)
+segment_bytes-regrouped : (listing : Bool) (s : SegmentValue) (rest : List ℕ)
     → segment_bytes listing s ++ rest
     ≡ to_le_bytes w64 s.first ++ (s.order ∷ (to_le_bytes w64 s.steps ++ (s.opening.slots ∷ (levels_bytes s.opening
     ++ (levels_bytes s.left ++ (times_bytes s.times ++ (table_bytes listing s.known ++ (table_bytes listing s.handshake
     ++ (table_bytes listing s.stability ++ (table_bytes listing s.grant
     ++ (table_bytes listing s.acknowledge ++ rest)))))))))))
 unfolding segment_bytes
-segment_text listing s rest = simp append_assoc
+segment_bytes-regrouped listing s rest = simp append_assoc
 
-pub segment_again : (listing : Bool) (before : Option ℕ) (s : SegmentValue) (rest : List ℕ) → FitsSegment listing s
+-- the bytes of a segment within its bounds, which is after those before it, are read as that segment
+pub segment_at-of_bytes : (listing : Bool) (before : Option ℕ) (s : SegmentValue) (rest : List ℕ)
+    → FitsSegment listing s
     → IsAfter before s → segment_at listing before (segment_bytes listing s ++ rest) ≡ Ok (s, rest)
 unfolding segment_at
-segment_again listing before s rest fits behind =
+segment_at-of_bytes listing before s rest fits behind =
     let b = table_bytes listing in
     let r1 = b s.acknowledge ++ rest in
     let r2 = b s.grant ++ r1 in
@@ -527,56 +577,59 @@ segment_again listing before s rest fits behind =
     let r8 = levels_bytes s.opening ++ r7 in
     let r9 = to_le_bytes w64 s.steps ++ (s.opening.slots ∷ r8) in
     let left : levels_at s.opening.slots r7 ≡ Ok (s.left, r6) =
-    ap (λ (k : ℕ). levels_at k r7) (sym fits.slots) ∙ levels_again s.left r6 fits.left.seen in
-    ap (segment_at listing before) (segment_text listing s rest)
+    ap (λ (k : ℕ). levels_at k r7) (sym fits.slots) ∙ levels_at-of_bytes s.left r6 fits.left.seen in
+    ap (segment_at listing before) (segment_bytes-regrouped listing s rest)
     ∙ rw (
-      numbers_again before s.first s.order r9 fits.numbers (is_after_true before s behind),
-      number_again w64 (2 ^ 64) wide64 s.steps (s.opening.slots ∷ r8) fits.steps,
-      slots_again s.opening.slots r8 fits.opening.slots.0 fits.opening.slots.1,
-      levels_again s.opening r7 fits.opening.seen,
+      numbers_at-of_bytes before s.first s.order r9 fits.numbers (is_after-of_IsAfter before s behind),
+      number_at-of_bytes w64 (2 ^ 64) wide64 s.steps (s.opening.slots ∷ r8) fits.steps,
+      slots_at-of_bytes s.opening.slots r8 fits.opening.slots.0 fits.opening.slots.1,
+      levels_at-of_bytes s.opening r7 fits.opening.seen,
       left,
-      times_again s.first s.order s.steps s.times r5 fits.numbers.low fits.numbers.few fits.times,
-      table_again listing 4 s.steps s.known r4 (omega arith) fits.known,
-      table_again listing 147 s.steps s.handshake r3 (omega arith) fits.handshake,
-      table_again listing 13 s.steps s.stability r2 (omega arith) fits.stability,
-      table_again listing 35 s.steps s.grant r1 (omega arith) fits.grant,
-      table_again listing 11 s.steps s.acknowledge rest (omega arith) fits.acknowledge,
+      times_at-of_bytes s.first s.order s.steps s.times r5 fits.numbers.low fits.numbers.few fits.times,
+      table_at-of_bytes listing 4 s.steps s.known r4 (omega arith) fits.known,
+      table_at-of_bytes listing 147 s.steps s.handshake r3 (omega arith) fits.handshake,
+      table_at-of_bytes listing 13 s.steps s.stability r2 (omega arith) fits.stability,
+      table_at-of_bytes listing 35 s.steps s.grant r1 (omega arith) fits.grant,
+      table_at-of_bytes listing 11 s.steps s.acknowledge rest (omega arith) fits.acknowledge,
     ) refl
 
 -- ---- segments
 
+-- n segments within their bounds were read from `bytes`
 abbrev pub SegmentsTaken : Bool → Option ℕ → ℕ → List ℕ → List SegmentValue × List ℕ → Type 0
 SegmentsTaken listing before n bytes x =
     Takes bytes (flat_map (segment_bytes listing) x.0) x.1 × FitSegments listing before x.0 × (length x.0 ≡ n)
 
-pub segments_take : (listing : Bool) (before : Option ℕ) (n : ℕ) (bytes : List ℕ) (x : List SegmentValue × List ℕ)
+-- the n segments that are read are within their bounds, and their bytes stand there
+pub segments_at-ok : (listing : Bool) (before : Option ℕ) (n : ℕ) (bytes : List ℕ) (x : List SegmentValue × List ℕ)
     → IsBytes bytes → segments_at listing before n bytes ≡ Ok x → SegmentsTaken listing before n bytes x
 unfolding segments_at
-segments_take listing before zero bytes x fits e =
-    subst (λ (y : List SegmentValue × List ℕ). SegmentsTaken listing before 0 bytes y) (ok_is ([], bytes) x e)
+segments_at-ok listing before zero bytes x fits e =
+    subst (λ (y : List SegmentValue × List ℕ). SegmentsTaken listing before 0 bytes y) (Ok-injective ([], bytes) x e)
     (record { parts = refl; rest_fits = fits }, tt, refl)
-segments_take listing before (suc n) bytes x fits e =
+segments_at-ok listing before (suc n) bytes x fits e =
     let a = bind_ok (segment_at listing before bytes) _ x e in
     let last = Some (last_of a.0.0.first a.0.0.order) in
     let b = bind_ok (segments_at listing last n a.0.1) _ x a.2 in
-    let t0 = segment_takes listing before bytes a.0 fits a.1 in
-    let t1 = segments_take listing last n a.0.1 b.0 t0.0.rest_fits b.1 in
+    let t0 = segment_at-ok listing before bytes a.0 fits a.1 in
+    let t1 = segments_at-ok listing last n a.0.1 b.0 t0.0.rest_fits b.1 in
     subst (λ (y : List SegmentValue × List ℕ). SegmentsTaken listing before (suc n) bytes y)
-    (ok_is (a.0.0 ∷ b.0.0, b.0.1) x b.2) (
-      Takes-then bytes (segment_bytes listing a.0.0) a.0.1 (flat_map (segment_bytes listing) b.0.0) b.0.1 t0.0 t1.0,
+    (Ok-injective (a.0.0 ∷ b.0.0, b.0.1) x b.2) (
+      Takes-append bytes (segment_bytes listing a.0.0) a.0.1 (flat_map (segment_bytes listing) b.0.0) b.0.1 t0.0 t1.0,
       (t0.1, t0.2, t1.1),
       ap suc t1.2,
     )
 
-pub segments_again : (listing : Bool) (before : Option ℕ) (ss : List SegmentValue) (rest : List ℕ)
+-- the bytes of segments within their bounds are read as these segments
+pub segments_at-of_bytes : (listing : Bool) (before : Option ℕ) (ss : List SegmentValue) (rest : List ℕ)
     → FitSegments listing before ss
     → segments_at listing before (length ss) (flat_map (segment_bytes listing) ss ++ rest) ≡ Ok (ss, rest)
 unfolding segments_at
-segments_again listing before [] rest fits = refl
-segments_again listing before (s ∷ ss) rest fits =
+segments_at-of_bytes listing before [] rest fits = refl
+segments_at-of_bytes listing before (s ∷ ss) rest fits =
     let others = flat_map (segment_bytes listing) ss in
     ap (segments_at listing before (suc (length ss))) (append_assoc (segment_bytes listing s) others rest)
     ∙ rw (
-      segment_again listing before s (others ++ rest) fits.0 fits.1,
-      segments_again listing (Some (last_of s.first s.order)) ss rest fits.2,
+      segment_at-of_bytes listing before s (others ++ rest) fits.0 fits.1,
+      segments_at-of_bytes listing (Some (last_of s.first s.order)) ss rest fits.2,
     ) refl

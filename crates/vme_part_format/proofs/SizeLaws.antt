@@ -1,4 +1,4 @@
--- How many bytes a part has.
+-- How many bytes a part has at most, by the numbers of its segments, nodes and marks.
 use Rattle.std.proofs.Common.{◌≡◌, ℕ, zero, suc, ◌+◌, ◌-◌, ◌*◌, ◌≤◌, Bool, true, false, List, [], ◌∷◌, ◌++◌, length}
 use Rattle.std.proofs.Common.{Option, ◌==◌}
 use Rattle.std.proofs.Common.{Some, None, refl, ap, sym, subst, ◌∙◌, arith, length-append}
@@ -27,24 +27,27 @@ use Rattle.vme_part_format.specs.Sums.{sum_of}
 use Rattle.vme_part_format.specs.Tables.{NodeValue, PartValue, SegmentValue, TableValue, last_of}
 use Rattle.vme_part_format.proofs.TableLaws.{written-is}
 
-first_break_size : (o : Option WideBreak) → length (first_break_bytes o) ≤ 18
-first_break_size None = omega arith
-first_break_size (Some b) = omega (arith, length-append (to_le_bytes w64 b.instant) (to_le_bytes w64 b.time))
+-- a first break, or its absence, has at most 18 bytes
+length-first_break_bytes : (o : Option WideBreak) → length (first_break_bytes o) ≤ 18
+length-first_break_bytes None = omega arith
+length-first_break_bytes (Some b) = omega (arith, length-append (to_le_bytes w64 b.instant) (to_le_bytes w64 b.time))
 
-entries_size : (es : List TableEntry) → length (flat_map (entry_bytes false) es) ≤ 19 * length es
-entries_size [] = omega arith
-entries_size (e ∷ es) =
+-- the entries of a part without marks have at most 19 bytes each
+length-entries_without_marks : (es : List TableEntry) → length (flat_map (entry_bytes false) es) ≤ 19 * length es
+length-entries_without_marks [] = omega arith
+length-entries_without_marks (e ∷ es) =
     omega (
       arith,
-      first_break_size e.first_break,
-      entries_size es,
+      length-first_break_bytes e.first_break,
+      length-entries_without_marks es,
       length-append (first_break_bytes e.first_break) (flat_map (entry_bytes false) es),
     )
 
-pub table_size : (memories steps : ℕ) (t : TableValue) → 3 ≤ memories → FitsTable false memories steps t
+-- a table of a part without marks has at most 19 bytes for each memory but one
+pub length-table_without_marks : (memories steps : ℕ) (t : TableValue) → 3 ≤ memories → FitsTable false memories steps t
     → length (table_bytes false t) ≤ 19 * (memories - 1)
 unfolding table_bytes
-table_size memories steps t some fits =
+length-table_without_marks memories steps t some fits =
     let front = fits.ended.0 in
     let back = fits.ended.1 in
     let text = flat_map (entry_bytes false) in
@@ -55,7 +58,7 @@ table_size memories steps t some fits =
     let few : length (text (written t.entries)) ≤ 19 * (memories - 1) =
     omega (
       arith,
-      entries_size (written t.entries),
+      length-entries_without_marks (written t.entries),
       ap (λ (es : List TableEntry). length es) es-are,
       length-append front back,
       many,
@@ -65,30 +68,34 @@ table_size memories steps t some fits =
     ap (λ (ns : List NodeValue). length (flat_map node_bytes ns)) fits.listed in
     omega (arith, length-append (text (written t.entries)) (flat_map node_bytes t.nodes), few, none)
 
-packed_size : (n : ℕ) (ls : List Level) → length ls ≡ 4 * n → length (packed ls) ≡ n
-packed_size zero [] e = refl
-packed_size zero (a ∷ ls) e = absurd (omega (arith, e))
-packed_size (suc n) [] e = absurd (omega (arith, e))
-packed_size (suc n) (a ∷ []) e = absurd (omega (arith, e))
-packed_size (suc n) (a ∷ b ∷ []) e = absurd (omega (arith, e))
-packed_size (suc n) (a ∷ b ∷ c ∷ []) e = absurd (omega (arith, e))
-packed_size (suc n) (a ∷ b ∷ c ∷ d ∷ ls) e = ap suc (packed_size n ls (omega (arith, e)))
+-- the levels of 4 n lines have n bytes
+length-packed : (n : ℕ) (ls : List Level) → length ls ≡ 4 * n → length (packed ls) ≡ n
+length-packed zero [] e = refl
+length-packed zero (a ∷ ls) e = absurd (omega (arith, e))
+length-packed (suc n) [] e = absurd (omega (arith, e))
+length-packed (suc n) (a ∷ []) e = absurd (omega (arith, e))
+length-packed (suc n) (a ∷ b ∷ []) e = absurd (omega (arith, e))
+length-packed (suc n) (a ∷ b ∷ c ∷ []) e = absurd (omega (arith, e))
+length-packed (suc n) (a ∷ b ∷ c ∷ d ∷ ls) e = ap suc (length-packed n ls (omega (arith, e)))
 
-levels_size : (v : Levels) → length (levels_bytes v) ≡ 48
+-- the levels of all lines have 48 bytes
+length-levels_bytes : (v : Levels) → length (levels_bytes v) ≡ 48
 unfolding levels_bytes
-levels_size v = packed_size 48 (seen_levels v) (length-map-range_with_len (seen_level v) 0 line_count)
+length-levels_bytes v = length-packed 48 (seen_levels v) (length-map-range_with_len (seen_level v) 0 line_count)
 
-times_size : (o : Option SegmentTimes) → length (times_bytes o) ≤ 25
-times_size None = omega arith
-times_size (Some t) =
+-- the times of a segment, or their absence, have at most 25 bytes
+length-times_bytes : (o : Option SegmentTimes) → length (times_bytes o) ≤ 25
+length-times_bytes None = omega arith
+length-times_bytes (Some t) =
     omega (
       arith,
       length-append (to_le_bytes w64 t.number) (to_le_bytes w64 t.first ++ to_le_bytes w64 t.last),
       length-append (to_le_bytes w64 t.first) (to_le_bytes w64 t.last),
     )
 
-tables_size : (s : SegmentValue) → FitsSegment false s → length (tables_bytes false s) ≤ 3895
-tables_size s fits =
+-- the tables of a segment of a part without marks have at most 3,895 bytes
+length-tables_without_marks : (s : SegmentValue) → FitsSegment false s → length (tables_bytes false s) ≤ 3895
+length-tables_without_marks s fits =
     let a = table_bytes false s.known in
     let b = table_bytes false s.handshake in
     let c = table_bytes false s.stability in
@@ -100,16 +107,17 @@ tables_size s fits =
       length-append b (c ++ (d ++ e)),
       length-append c (d ++ e),
       length-append d e,
-      table_size 4 s.steps s.known (omega arith) fits.known,
-      table_size 147 s.steps s.handshake (omega arith) fits.handshake,
-      table_size 13 s.steps s.stability (omega arith) fits.stability,
-      table_size 35 s.steps s.grant (omega arith) fits.grant,
-      table_size 11 s.steps s.acknowledge (omega arith) fits.acknowledge,
+      length-table_without_marks 4 s.steps s.known (omega arith) fits.known,
+      length-table_without_marks 147 s.steps s.handshake (omega arith) fits.handshake,
+      length-table_without_marks 13 s.steps s.stability (omega arith) fits.stability,
+      length-table_without_marks 35 s.steps s.grant (omega arith) fits.grant,
+      length-table_without_marks 11 s.steps s.acknowledge (omega arith) fits.acknowledge,
     )
 
-pub segment_size : (s : SegmentValue) → FitsSegment false s → length (segment_bytes false s) ≤ 4034
+-- a segment of a part without marks has at most 4,034 bytes
+pub length-segment_without_marks : (s : SegmentValue) → FitsSegment false s → length (segment_bytes false s) ≤ 4034
 unfolding segment_bytes
-segment_size s fits =
+length-segment_without_marks s fits =
     let ti = times_bytes s.times in
     let tb = tables_bytes false s in
     let head : length (head_bytes s) ≡ 17 =
@@ -118,8 +126,8 @@ segment_size s fits =
     omega (
       arith,
       length-append (levels_bytes s.opening) (levels_bytes s.left),
-      levels_size s.opening,
-      levels_size
+      length-levels_bytes s.opening,
+      length-levels_bytes
           s.left,
     )
     in
@@ -130,33 +138,36 @@ segment_size s fits =
       length-append ti tb,
       head,
       lines,
-      times_size s.times,
-      tables_size s fits,
+      length-times_bytes s.times,
+      length-tables_without_marks s fits,
     )
 
-segments_size : (before : Option ℕ) (ss : List SegmentValue) → FitSegments false before ss
+-- segments of a part without marks have at most 4,034 bytes each
+length-segments_without_marks : (before : Option ℕ) (ss : List SegmentValue) → FitSegments false before ss
     → length (flat_map (segment_bytes false) ss) ≤ 4034 * length ss
-segments_size before [] fits = omega arith
-segments_size before (s ∷ ss) fits =
+length-segments_without_marks before [] fits = omega arith
+length-segments_without_marks before (s ∷ ss) fits =
     omega (
       arith,
       length-append (segment_bytes false s) (flat_map (segment_bytes false) ss),
-      segment_size s fits.0,
-      segments_size (Some (last_of s.first s.order)) ss fits.2,
+      length-segment_without_marks s fits.0,
+      length-segments_without_marks (Some (last_of s.first s.order)) ss fits.2,
     )
 
-segments_of : (listing : Bool) (ss : List SegmentValue) → listing ≡ false → FitSegments listing None ss
+-- the same where `listing` is false
+length-segments_not_listing : (listing : Bool) (ss : List SegmentValue) → listing ≡ false → FitSegments listing None ss
     → length (flat_map (segment_bytes listing) ss) ≤ 4034 * length ss
-segments_of true ss e fits = absurd cc
-segments_of false ss e fits = segments_size None ss fits
+length-segments_not_listing true ss e fits = absurd cc
+length-segments_not_listing false ss e fits = length-segments_without_marks None ss fits
 
--- a part without marks
-pub part_size : (p : PartValue) → FitsPart p → p.listing ≡ false
+-- a part without marks has at most 29 bytes, and 4,034 for each segment
+pub length-part_without_marks : (p : PartValue) → FitsPart p → p.listing ≡ false
     → length (part_bytes p) ≤ 29 + 4034 * length p.segments
 unfolding part_bytes body_bytes
-part_size p fits without =
+length-part_without_marks p fits without =
     let text = flat_map (segment_bytes p.listing) p.segments in
-    let few : length text ≤ 4034 * length p.segments = segments_of p.listing p.segments without fits.segments in
+    let few : length text ≤ 4034 * length p.segments =
+    length-segments_not_listing p.listing p.segments without fits.segments in
     let front : length (front_bytes p) ≡ 13 = refl in
     omega (
       arith,
@@ -168,54 +179,59 @@ part_size p fits without =
 
 -- ---- marks
 
-if_size : (b : Bool) (xs ys : List ℕ) (k : ℕ) → length xs ≤ k → length ys ≤ k → length (if b then xs else ys) ≤ k
-if_size true xs ys k h g = h
-if_size false xs ys k h g = g
+-- if two lists have at most k bytes, either of them has
+length-if : (b : Bool) (xs ys : List ℕ) (k : ℕ) → length xs ≤ k → length ys ≤ k → length (if b then xs else ys) ≤ k
+length-if true xs ys k h g = h
+length-if false xs ys k h g = g
 
-width_size : (code n : ℕ) → length (bytes_of_width code n) ≤ 8
-width_size code n =
-    if_size (code == 0) [] _ 8 (omega arith)
-    (if_size (code == 1) (n ∷ []) _ 8 (omega arith)
-    (if_size (code == 2) (to_le_bytes w16 n) _ 8 (omega arith)
-    (if_size (code == 3) (to_le_bytes w32 n) (to_le_bytes w64 n) 8 (omega arith) (omega arith))))
+-- a number in a width has at most 8 bytes
+length-bytes_of_width : (code n : ℕ) → length (bytes_of_width code n) ≤ 8
+length-bytes_of_width code n =
+    length-if (code == 0) [] _ 8 (omega arith)
+    (length-if (code == 1) (n ∷ []) _ 8 (omega arith)
+    (length-if (code == 2) (to_le_bytes w16 n) _ 8 (omega arith)
+    (length-if (code == 3) (to_le_bytes w32 n) (to_le_bytes w64 n) 8 (omega arith) (omega arith))))
 
-kind_size : (k : MarkKind) → length (kind_bytes k) ≤ 6
-kind_size kind.Reset = omega arith
-kind_size kind.Start = omega arith
-kind_size kind.Open = omega arith
-kind_size (kind.Tenure level slot) = omega arith
-kind_size kind.TenureEnd = omega arith
-kind_size (kind.Cycle c am address) = omega arith
-kind_size kind.CycleEnd = omega arith
-kind_size (kind.Transfer write) = omega arith
-kind_size (kind.Answer line) = omega arith
-kind_size (kind.WriteAnswer line moved unknown value) = omega arith
-kind_size kind.Close = omega arith
+-- a kind of mark has at most 6 bytes after its code
+length-kind_bytes : (k : MarkKind) → length (kind_bytes k) ≤ 6
+length-kind_bytes kind.Reset = omega arith
+length-kind_bytes kind.Start = omega arith
+length-kind_bytes kind.Open = omega arith
+length-kind_bytes (kind.Tenure level slot) = omega arith
+length-kind_bytes kind.TenureEnd = omega arith
+length-kind_bytes (kind.Cycle c am address) = omega arith
+length-kind_bytes kind.CycleEnd = omega arith
+length-kind_bytes (kind.Transfer write) = omega arith
+length-kind_bytes (kind.Answer line) = omega arith
+length-kind_bytes (kind.WriteAnswer line moved unknown value) = omega arith
+length-kind_bytes kind.Close = omega arith
 
 -- a mark has at most 15 bytes
-pub mark_size : (n : ℕ) (k : MarkKind) → length (spaced_bytes n k) ≤ 15
+pub length-spaced_bytes : (n : ℕ) (k : MarkKind) → length (spaced_bytes n k) ≤ 15
 unfolding spaced_bytes
-mark_size n k =
+length-spaced_bytes n k =
     omega (
       arith,
       length-append (bytes_of_width (width_code n) n) (kind_bytes k),
-      width_size (width_code n) n,
-      kind_size k,
+      length-bytes_of_width (width_code n) n,
+      length-kind_bytes k,
     )
 
-marks_size : (before : ℕ) (ms : List WideMark) → length (marks_bytes before ms) ≤ 15 * length ms
-marks_size before [] = omega arith
-marks_size before (m ∷ ms) =
+-- marks have at most 15 bytes each
+length-marks_bytes : (before : ℕ) (ms : List WideMark) → length (marks_bytes before ms) ≤ 15 * length ms
+length-marks_bytes before [] = omega arith
+length-marks_bytes before (m ∷ ms) =
     omega (
       arith,
       length-append (mark_bytes before m) (marks_bytes m.instant ms),
-      mark_size (m.instant - before) m.kind,
-      marks_size m.instant ms,
+      length-spaced_bytes (m.instant - before) m.kind,
+      length-marks_bytes m.instant ms,
     )
 
-node_size : (n : NodeValue) → length (node_bytes n) ≤ 26 + 15 * length n.marks
+-- a node has at most 26 bytes, and 15 for each mark
+length-node_bytes : (n : NodeValue) → length (node_bytes n) ≤ 26 + 15 * length n.marks
 unfolding node_bytes
-node_size n =
+length-node_bytes n =
     let count = to_le_bytes w32 (length n.marks) in
     let marks = marks_bytes 0 n.marks in
     omega (
@@ -223,35 +239,38 @@ node_size n =
       length-append (to_le_bytes w32 n.next) (first_break_bytes n.first_break ++ (count ++ marks)),
       length-append (first_break_bytes n.first_break) (count ++ marks),
       length-append count marks,
-      first_break_size n.first_break,
-      marks_size 0 n.marks,
+      length-first_break_bytes n.first_break,
+      length-marks_bytes 0 n.marks,
     )
 
-nodes_size : (ns : List NodeValue) → length (flat_map node_bytes ns) ≤ 26 * length ns + 15 * marks_in_nodes ns
-nodes_size [] = omega arith
-nodes_size (n ∷ ns) =
+-- nodes have at most 26 bytes each, and 15 for each mark
+length-nodes_bytes : (ns : List NodeValue) → length (flat_map node_bytes ns) ≤ 26 * length ns + 15 * marks_in_nodes ns
+length-nodes_bytes [] = omega arith
+length-nodes_bytes (n ∷ ns) =
     omega (
       arith,
       length-append (node_bytes n) (flat_map node_bytes ns),
-      node_size n,
-      nodes_size ns,
+      length-node_bytes n,
+      length-nodes_bytes ns,
     )
 
-marked_entries_size : (es : List TableEntry) → length (flat_map (entry_bytes true) es) ≤ 22 * length es
-marked_entries_size [] = omega arith
-marked_entries_size (e ∷ es) =
+-- the entries of a part with marks have at most 22 bytes each
+length-entries_with_marks : (es : List TableEntry) → length (flat_map (entry_bytes true) es) ≤ 22 * length es
+length-entries_with_marks [] = omega arith
+length-entries_with_marks (e ∷ es) =
     omega (
       arith,
-      first_break_size e.first_break,
-      marked_entries_size es,
+      length-first_break_bytes e.first_break,
+      length-entries_with_marks es,
       length-append (to_le_bytes w32 e.next) (first_break_bytes e.first_break),
       length-append (entry_bytes true e) (flat_map (entry_bytes true) es),
     )
 
-marked_table_size : (memories steps : ℕ) (t : TableValue) → 3 ≤ memories → FitsTable true memories steps t
+-- a table of a part with marks has at most 4 bytes, 22 for each memory but one, 26 for each node and 15 for each mark
+length-table_with_marks : (memories steps : ℕ) (t : TableValue) → 3 ≤ memories → FitsTable true memories steps t
     → length (table_bytes true t) ≤ 4 + 22 * (memories - 1) + 26 * length t.nodes + 15 * marks_in_nodes t.nodes
 unfolding table_bytes
-marked_table_size memories steps t some fits =
+length-table_with_marks memories steps t some fits =
     let front = fits.ended.0 in
     let back = fits.ended.1 in
     let text = flat_map (entry_bytes true) (written t.entries) in
@@ -263,7 +282,7 @@ marked_table_size memories steps t some fits =
     let few : length text ≤ 22 * (memories - 1) =
     omega (
       arith,
-      marked_entries_size (written t.entries),
+      length-entries_with_marks (written t.entries),
       ap (λ (es : List TableEntry). length es) es-are,
       length-append front back,
       many,
@@ -274,12 +293,13 @@ marked_table_size memories steps t some fits =
       length-append (to_le_bytes w32 (length t.nodes)) (text ++ nodes),
       length-append text nodes,
       few,
-      nodes_size t.nodes,
+      length-nodes_bytes t.nodes,
     )
 
-marked_tables_size : (s : SegmentValue) → FitsSegment true s
+-- the tables of a segment of a part with marks have at most 4,530 bytes, 26 for each node and 15 for each mark
+length-tables_with_marks : (s : SegmentValue) → FitsSegment true s
     → length (tables_bytes true s) ≤ 4530 + 26 * nodes_in_segment s + 15 * marks_in_segment s
-marked_tables_size s fits =
+length-tables_with_marks s fits =
     let a = table_bytes true s.known in
     let b = table_bytes true s.handshake in
     let c = table_bytes true s.stability in
@@ -291,18 +311,18 @@ marked_tables_size s fits =
       length-append b (c ++ (d ++ e)),
       length-append c (d ++ e),
       length-append d e,
-      marked_table_size 4 s.steps s.known (omega arith) fits.known,
-      marked_table_size 147 s.steps s.handshake (omega arith) fits.handshake,
-      marked_table_size 13 s.steps s.stability (omega arith) fits.stability,
-      marked_table_size 35 s.steps s.grant (omega arith) fits.grant,
-      marked_table_size 11 s.steps s.acknowledge (omega arith) fits.acknowledge,
+      length-table_with_marks 4 s.steps s.known (omega arith) fits.known,
+      length-table_with_marks 147 s.steps s.handshake (omega arith) fits.handshake,
+      length-table_with_marks 13 s.steps s.stability (omega arith) fits.stability,
+      length-table_with_marks 35 s.steps s.grant (omega arith) fits.grant,
+      length-table_with_marks 11 s.steps s.acknowledge (omega arith) fits.acknowledge,
     )
 
 -- a segment has at most 139 bytes before its tables
-before_tables : (listing : Bool) (s : SegmentValue)
+length-before_tables : (listing : Bool) (s : SegmentValue)
     → length (segment_bytes listing s) ≤ 139 + length (tables_bytes listing s)
 unfolding segment_bytes
-before_tables listing s =
+length-before_tables listing s =
     let ti = times_bytes s.times in
     let tb = tables_bytes listing s in
     let head : length (head_bytes s) ≡ 17 =
@@ -311,8 +331,8 @@ before_tables listing s =
     omega (
       arith,
       length-append (levels_bytes s.opening) (levels_bytes s.left),
-      levels_size s.opening,
-      levels_size s.left,
+      length-levels_bytes s.opening,
+      length-levels_bytes s.left,
     ) in
     omega (
       arith,
@@ -321,47 +341,51 @@ before_tables listing s =
       length-append ti tb,
       head,
       lines,
-      times_size s.times,
+      length-times_bytes s.times,
     )
 
-marked_segments_size : (before : Option ℕ) (ss : List SegmentValue) → FitSegments true before ss
+-- segments of a part with marks have at most 4,669 bytes each, 26 for each node and 15 for each mark
+length-segments_with_marks : (before : Option ℕ) (ss : List SegmentValue) → FitSegments true before ss
     → length (flat_map (segment_bytes true) ss)
     ≤ 4669 * length ss + 26 * nodes_in_segments ss + 15 * marks_in_segments ss
-marked_segments_size before [] fits = omega arith
-marked_segments_size before (s ∷ ss) fits =
+length-segments_with_marks before [] fits = omega arith
+length-segments_with_marks before (s ∷ ss) fits =
     omega (
       arith,
       length-append (segment_bytes true s) (flat_map (segment_bytes true) ss),
-      before_tables true s,
-      marked_tables_size s fits.0,
-      marked_segments_size (Some (last_of s.first s.order)) ss fits.2,
+      length-before_tables true s,
+      length-tables_with_marks s fits.0,
+      length-segments_with_marks (Some (last_of s.first s.order)) ss fits.2,
     )
 
-marked_segments_of : (listing : Bool) (ss : List SegmentValue) → listing ≡ true → FitSegments listing None ss
+-- the same where `listing` is true
+length-segments_listing : (listing : Bool) (ss : List SegmentValue) → listing ≡ true → FitSegments listing None ss
     → length (flat_map (segment_bytes listing) ss)
     ≤ 4669 * length ss + 26 * nodes_in_segments ss + 15 * marks_in_segments ss
-marked_segments_of false ss e fits = absurd cc
-marked_segments_of true ss e fits = marked_segments_size None ss fits
+length-segments_listing false ss e fits = absurd cc
+length-segments_listing true ss e fits = length-segments_with_marks None ss fits
 
--- a part with marks
-pub marked_part_size : (p : PartValue) → FitsPart p → p.listing ≡ true
+-- a part with marks has at most 29 bytes, 4,669 for each segment, 26 for each node and 15 for each mark
+pub length-part_with_marks : (p : PartValue) → FitsPart p → p.listing ≡ true
     → length (part_bytes p) ≤ 29 + 4669 * length p.segments + 26 * nodes_in p + 15 * marks_in p
 unfolding part_bytes body_bytes
-marked_part_size p fits marked =
+length-part_with_marks p fits marked =
     let text = flat_map (segment_bytes p.listing) p.segments in
     let front : length (front_bytes p) ≡ 13 = refl in
     omega (
       arith,
       length-append (summed_bytes p) (to_le_bytes w64 (sum_of (summed_bytes p))),
       length-append (front_bytes p) text,
-      marked_segments_of p.listing p.segments marked fits.segments,
+      length-segments_listing p.listing p.segments marked fits.segments,
       front,
     )
 
 -- ---- a part of one file
 
-few_nodes : (listing : Bool) (s : SegmentValue) → FitsSegment listing s → IsCompact s → nodes_in_segment s ≤ 420
-few_nodes listing s f c =
+-- a compact segment has at most 420 nodes
+nodes_in_segment-compact : (listing : Bool) (s : SegmentValue) → FitsSegment listing s → IsCompact s
+    → nodes_in_segment s ≤ 420
+nodes_in_segment-compact listing s f c =
     omega (
       arith,
       c.known,
@@ -377,37 +401,38 @@ few_nodes listing s f c =
     )
 
 -- compact segments together have at most 420 nodes a segment
-nodes_are_few : (listing : Bool) (before : Option ℕ) (ss : List SegmentValue) → FitSegments listing before ss
+nodes_in_segments-compact : (listing : Bool) (before : Option ℕ) (ss : List SegmentValue)
+    → FitSegments listing before ss
     → All IsCompact ss → nodes_in_segments ss ≤ 420 * length ss
-nodes_are_few listing before [] f c = omega arith
-nodes_are_few listing before (s ∷ ss) f c =
+nodes_in_segments-compact listing before [] f c = omega arith
+nodes_in_segments-compact listing before (s ∷ ss) f c =
     omega (
       arith,
-      few_nodes listing s f.0 (All-head IsCompact s ss c),
-      nodes_are_few listing (Some (last_of s.first s.order)) ss f.2 (All-tail IsCompact s ss c),
+      nodes_in_segment-compact listing s f.0 (All-head IsCompact s ss c),
+      nodes_in_segments-compact listing (Some (last_of s.first s.order)) ss f.2 (All-tail IsCompact s ss c),
     )
 
--- a part with marks, whose tables are compact
-pub compact_part_size : (p : PartValue) → FitsPart p → IsCompactPart p → p.listing ≡ true
+-- a compact part with marks has at most 29 bytes, 15,589 for each segment and 15 for each mark
+pub length-compact_part : (p : PartValue) → FitsPart p → IsCompactPart p → p.listing ≡ true
     → length (part_bytes p) ≤ 29 + 15589 * length p.segments + 15 * marks_in p
-compact_part_size p fits compact marked =
+length-compact_part p fits compact marked =
     omega (
       arith,
-      marked_part_size p fits marked,
-      nodes_are_few p.listing None p.segments fits.segments compact,
+      length-part_with_marks p fits marked,
+      nodes_in_segments-compact p.listing None p.segments fits.segments compact,
     )
 
 -- a compact part of at most one segment is small
-pub part_is_small : (p : PartValue) → FitsPart p → IsCompactPart p → length p.segments ≤ 1 → IsSmall p
-part_is_small p fits compact one = by_marks p.listing refl
+pub IsSmall-compact_part : (p : PartValue) → FitsPart p → IsCompactPart p → length p.segments ≤ 1 → IsSmall p
+IsSmall-compact_part p fits compact one = by_marks p.listing refl
   where
     by_marks : (b : Bool) → p.listing ≡ b
         → length (part_bytes p) ≤ (if p.listing then 16384 + 16 * marks_in p else 4096)
     by_marks true e =
-        let few = compact_part_size p fits compact e in
+        let few = length-compact_part p fits compact e in
         subst (λ b. length (part_bytes p) ≤ (if b then 16384 + 16 * marks_in p else 4096)) (sym e)
         (omega (arith, few, one))
     by_marks false e =
-        let few = part_size p fits e in
+        let few = length-part_without_marks p fits e in
         subst (λ b. length (part_bytes p) ≤ (if b then 16384 + 16 * marks_in p else 4096)) (sym e)
         (omega (arith, few, one))

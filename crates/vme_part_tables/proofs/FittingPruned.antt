@@ -26,7 +26,7 @@ FitNodes-nodes_kept m count steps (true ∷ bs) (n ∷ ns) f w = (
 )
 FitNodes-nodes_kept m count steps (false ∷ bs) (n ∷ ns) f w = FitNodes-nodes_kept m count steps bs ns f.1 w
 
--- where no marks are listed, a table has no nodes, and so none is kept
+-- if a table has no nodes in a part without marks, none of them is kept there
 HasNodes-nodes_kept : (listing : Bool) (m : ℕ) (bs : List Bool) (ns : List NodeValue) → HasNodes listing ns
     → HasNodes listing (nodes_kept m bs ns)
 HasNodes-nodes_kept true m bs ns h = tt

@@ -402,7 +402,7 @@ module _ (t : TableValue) (ms : List NodeValue) (h : HasWays t) (s : SayTheSame 
   abbrev with_others : TableValue
   with_others = record { entries = t.entries; nodes = ms }
 
-  -- where no marks are listed, t has no nodes, and so it has none
+  -- it has no nodes in a part without marks, if t has none there
   HasNodes-with_others : (listing : Bool) → HasNodes listing t.nodes → HasNodes listing ms
   HasNodes-with_others true f = tt
   HasNodes-with_others false f = nil_from_length ms (s.as_many ∙ ap (λ (ns : List NodeValue). length ns) f)

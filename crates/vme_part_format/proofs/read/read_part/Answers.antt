@@ -9,12 +9,12 @@ use Rattle.vme_part_format.specs.Reading.{IsPartReading, part_at}
 use Rattle.vme_part_format.specs.Sums.{DifferInOne}
 use Rattle.vme_part_format.specs.Tables.{PartValue, part_value}
 use Rattle.vme_part_format.proofs.FieldLaws.{IsBytes}
-use Rattle.vme_part_format.proofs.PartLaws.{part_again, part_apart, part_takes}
+use Rattle.vme_part_format.proofs.PartLaws.{part_at-of_bytes, part_bytes-differ_in_more, part_at-ok}
 use Rattle.vme_part_format.proofs.read.read_part.Goals as goal
 
 found_part : (bytes : List ℕ) (r : Result Part ReadError) → IsBytes bytes → IsPartReading part_value r (part_at bytes)
     → IfOk r (λ p. FitsPart (part_value p) × (bytes ≡ part_bytes (part_value p)))
-found_part bytes (Ok p) fits e = part_takes bytes (part_value p) fits e
+found_part bytes (Ok p) fits e = part_at-ok bytes (part_value p) fits e
 found_part bytes (Err f) fits e = tt
 
 pub returns-clause-found : goal.returns-clause-found
@@ -24,12 +24,12 @@ returns-clause-found c =
 pub returns-clause-only : goal.returns-clause-only
 returns-clause-only c = λ p fits e.
     subst (λ (read : Result PartValue PartFault). IsPartReading part_value c.read_checked.result read)
-    (ap part_at e ∙ part_again p fits) c.read_checked.ensures
+    (ap part_at e ∙ part_at-of_bytes p fits) c.read_checked.ensures
 
 changed : (bytes : List ℕ) (r : Result Part ReadError) → IsBytes bytes → IsPartReading part_value r (part_at bytes)
     → (p : PartValue) → DifferInOne bytes (part_bytes p) → IsErr r
 changed bytes (Ok q) fits e p d =
-    absurd (part_apart bytes (part_value q) p fits (part_takes bytes (part_value q) fits e).1 d)
+    absurd (part_bytes-differ_in_more bytes (part_value q) p fits (part_at-ok bytes (part_value q) fits e).1 d)
 changed bytes (Err f) fits e p d = refl
 
 pub returns-clause-changed : goal.returns-clause-changed

@@ -2,7 +2,7 @@ use Rattle.std.proofs.Common.{ap, length, arith}
 use Rattle.std.proofs.lemmas.List.{length-map}
 use Rattle.std.proofs.lemmas.Result.{IfOk-weaker}
 use Rattle.vme_part_format.specs.Tables.{part_value, segment_value}
-use Rattle.vme_part_format.proofs.SizeLaws.{marked_part_size, part_is_small, part_size}
+use Rattle.vme_part_format.proofs.SizeLaws.{length-part_with_marks, IsSmall-compact_part, length-part_without_marks}
 use Rattle.vme_part_format.proofs.write.write_part.Goals as goal
 
 pub returns-clause-few : goal.returns-clause-few
@@ -12,7 +12,7 @@ returns-clause-few c = λ without.
     (λ out e. omega (
       arith,
       ap length e,
-      part_size (part_value p) c.requires without,
+      length-part_without_marks (part_value p) c.requires without,
       length-map p.segments.items segment_value,
       p.segments.ok.0,
     )) c.write_whole.ensures
@@ -24,7 +24,7 @@ returns-clause-marked c = λ marked.
     (λ out e. omega (
       arith,
       ap length e,
-      marked_part_size (part_value p) c.requires marked,
+      length-part_with_marks (part_value p) c.requires marked,
       length-map p.segments.items segment_value,
       p.segments.ok.0,
     )) c.write_whole.ensures
@@ -36,6 +36,6 @@ returns-clause-small c = λ compact one.
     (λ out e. omega (
       arith,
       ap length e,
-      part_is_small (part_value p) c.requires compact
+      IsSmall-compact_part (part_value p) c.requires compact
           (omega (arith, one, length-map p.segments.items segment_value, p.segments.ok.0)),
     )) c.write_whole.ensures
