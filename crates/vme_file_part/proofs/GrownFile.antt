@@ -1,4 +1,4 @@
--- The segment of a file that is given more steps.
+-- The segment of one file of a recording, when more steps of the file are given, stands for the file with these steps.
 use Rattle.std.proofs.Common.{◌≡◌, ℕ, zero, suc, ◌+◌, ◌<◌, ◌≤◌, ◌^◌, Bool, true, false, List, [], ◌∷◌, ◌++◌, length}
 use Rattle.std.proofs.Common.{Option, None, Some, refl, sym, ap, subst, ◌∙◌, arith, append-nil, length-append, map}
 use Rattle.std.proofs.lemmas.List.{length-map}
@@ -42,31 +42,40 @@ use Rattle.vme_parts.proofs.Standing.{ends_of_both, numbers_of_both, starts_of_b
 
 -- ---- what a segment of one file has
 
+-- the segment s stands for the file whose steps are those of the block b
 module _ (listing : Bool) (s : SegmentValue) (b : Block) (a : StandsForFile listing s b) where
-  own : joined_steps (b ∷ []) ≡ b.steps
-  own = append-nil b.steps
+  -- the steps of the list of one block are those of the block
+  joined_steps-one : joined_steps (b ∷ []) ≡ b.steps
+  joined_steps-one = append-nil b.steps
 
-  pub file-opening : s.opening ≡ b.opening
-  file-opening = let same : Some b.opening ≡ Some s.opening = a.stands.extent.opening in cc
+  -- the segment has the opening of the block
+  pub opening-of_file : s.opening ≡ b.opening
+  opening-of_file = let same : Some b.opening ≡ Some s.opening = a.stands.extent.opening in cc
 
-  pub file-left : s.left ≡ levels_after b.opening b.steps
-  file-left = let same : Some (levels_after b.opening b.steps) ≡ Some s.left = a.stands.extent.left in cc
+  -- the segment leaves the levels that the steps of the block leave
+  pub left-of_file : s.left ≡ levels_after b.opening b.steps
+  left-of_file = let same : Some (levels_after b.opening b.steps) ≡ Some s.left = a.stands.extent.left in cc
 
-  pub file-steps : s.steps ≡ length b.steps
-  file-steps = a.stands.counted ∙ ap (λ (l : List Step). length l) own
+  -- the segment has as many steps as the block
+  pub steps-of_file : s.steps ≡ length b.steps
+  steps-of_file = a.stands.counted ∙ ap (λ (l : List Step). length l) joined_steps-one
 
-  file_starts : starts_at s.times ≡ first_time b.steps
-  file_starts = a.stands.extent.starts ∙ ap first_time own
+  -- the segment starts at the time of the first step, if there is one
+  starts_at-of_file : starts_at s.times ≡ first_time b.steps
+  starts_at-of_file = a.stands.extent.starts ∙ ap first_time joined_steps-one
 
-  file_ends : ends_at s.times ≡ last_time b.steps
-  file_ends = a.stands.extent.ends ∙ ap last_time own
+  -- the segment ends at the time of the last step, if there is one
+  ends_at-of_file : ends_at s.times ≡ last_time b.steps
+  ends_at-of_file = a.stands.extent.ends ∙ ap last_time joined_steps-one
 
-  file_numbers : option_map (λ (t : SegmentTimes). t.number) s.times
+  -- the number in the times of the segment, if it has steps, is that of the block
+  number-of_file : option_map (λ (t : SegmentTimes). t.number) s.times
       ≡ option_map (λ (x : Step). b.number) (slice_get b.steps 0)
-  file_numbers = a.stands.numbered ∙ sym (first_is b.number b refl)
+  number-of_file = a.stands.numbered ∙ sym (first_is b.number b refl)
 
-  pub file-tables : HasTables s
-  file-tables = record {
+  -- the segment has the tables that a segment has
+  pub HasTables-of_file : HasTables s
+  HasTables-of_file = record {
     known = record { ways = a.stands.known.ways; counted = a.stands.known.counted };
     handshake = record { ways = a.stands.handshake.ways; counted = a.stands.handshake.counted };
     stability = record { ways = a.stands.stability.ways; counted = a.stands.stability.counted };
@@ -74,172 +83,204 @@ module _ (listing : Bool) (s : SegmentValue) (b : Block) (a : StandsForFile list
     acknowledge = record { ways = a.stands.acknowledge.ways; counted = a.stands.acknowledge.counted };
   }
 
-  moved : {P : Type 0} (run : P → Levels → List Step → Outcome P) (place : P → ℕ) (n : ℕ) (u : TableValue)
+  -- a table that agrees with the runs of the segment agrees with those of the block
+  AgreesWithRuns-of_file : {P : Type 0} (run : P → Levels → List Step → Outcome P) (place : P → ℕ) (n : ℕ)
+      (u : TableValue)
       → AgreesWithRuns listing n place u (λ p. run p s.opening (joined_steps (b ∷ [])))
       → AgreesWithRuns listing n place u (λ p. run p b.opening b.steps)
-  moved run place n u h =
-      subst (λ (x : List Step). AgreesWithRuns listing n place u (λ p. run p b.opening x)) own
-      (subst (λ (o : Levels). AgreesWithRuns listing n place u (λ p. run p o (joined_steps (b ∷ [])))) file-opening h)
+  AgreesWithRuns-of_file run place n u h =
+      subst (λ (x : List Step). AgreesWithRuns listing n place u (λ p. run p b.opening x)) joined_steps-one
+      (subst (λ (o : Levels). AgreesWithRuns listing n place u (λ p. run p o (joined_steps (b ∷ [])))) opening-of_file
+      h)
 
-  file_known : AgreesWithRuns listing 4 (phase_place nil_place) s.known (λ p. known_run p b.opening b.steps)
-  file_known = moved known_run (phase_place nil_place) 4 s.known a.stands.known
+  -- the table of the known levels agrees with the runs of the block
+  AgreesWithRuns-known : AgreesWithRuns listing 4 (phase_place nil_place) s.known (λ p. known_run p b.opening b.steps)
+  AgreesWithRuns-known = AgreesWithRuns-of_file known_run (phase_place nil_place) 4 s.known a.stands.known
 
-  file_handshake : AgreesWithRuns listing 147 (phase_place memory_place) s.handshake
+  -- the table of the handshake agrees with the runs of the block
+  AgreesWithRuns-handshake : AgreesWithRuns listing 147 (phase_place memory_place) s.handshake
       (λ p. handshake_run p b.opening b.steps)
-  file_handshake = moved handshake_run (phase_place memory_place) 147 s.handshake a.stands.handshake
+  AgreesWithRuns-handshake = AgreesWithRuns-of_file handshake_run (phase_place memory_place) 147 s.handshake
+      a.stands.handshake
 
-  file_stability : AgreesWithRuns listing 13 (phase_place holding_place) s.stability
+  -- the table of the held lines agrees with the runs of the block
+  AgreesWithRuns-stability : AgreesWithRuns listing 13 (phase_place holding_place) s.stability
       (λ p. stability_run p b.opening b.steps)
-  file_stability = moved stability_run (phase_place holding_place) 13 s.stability a.stands.stability
+  AgreesWithRuns-stability = AgreesWithRuns-of_file stability_run (phase_place holding_place) 13 s.stability
+      a.stands.stability
 
-  file_grant : AgreesWithRuns listing 35 (phase_place arbitration_place) s.grant (λ p. grant_run p b.opening b.steps)
-  file_grant = moved grant_run (phase_place arbitration_place) 35 s.grant a.stands.grant
+  -- the table of the grants agrees with the runs of the block
+  AgreesWithRuns-grant : AgreesWithRuns listing 35 (phase_place arbitration_place) s.grant
+      (λ p. grant_run p b.opening b.steps)
+  AgreesWithRuns-grant = AgreesWithRuns-of_file grant_run (phase_place arbitration_place) 35 s.grant a.stands.grant
 
-  file_acknowledge : AgreesWithRuns listing 11 (phase_place acknowledge_memory_place) s.acknowledge
+  -- the table of the interrupt acknowledge agrees with the runs of the block
+  AgreesWithRuns-acknowledge : AgreesWithRuns listing 11 (phase_place acknowledge_memory_place) s.acknowledge
       (λ p. acknowledge_run p b.opening b.steps)
-  file_acknowledge = moved acknowledge_run (phase_place acknowledge_memory_place) 11 s.acknowledge a.stands.acknowledge
+  AgreesWithRuns-acknowledge = AgreesWithRuns-of_file acknowledge_run (phase_place acknowledge_memory_place) 11
+      s.acknowledge a.stands.acknowledge
 
 -- ---- more of its steps
 
-heads : (n : ℕ) (x y : List Step) → option_map (λ (k : Step). n) (slice_get (x ++ y) 0)
+-- n if two lists together have a first step, which is that of the first list, or else of the second
+option_map-first_of_both : (n : ℕ) (x y : List Step) → option_map (λ (k : Step). n) (slice_get (x ++ y) 0)
     ≡ option_or (option_map (λ (k : Step). n) (slice_get x 0)) (option_map (λ (k : Step). n) (slice_get y 0))
-heads n [] y = refl
-heads n (k ∷ x) y = refl
+option_map-first_of_both n [] y = refl
+option_map-first_of_both n (k ∷ x) y = refl
 
 module _ (listing : Bool) (s t r : SegmentValue) (number : ℕ) (o : Levels) (x y : List Step)
     (a : StandsForFile listing s (block_of number o x))
     (b : StandsForFile listing t (block_of number (levels_after o x) y)) (e : IsExtended s t r)
     (sound : malformed_step (record { opening = o; steps = x ++ y }) ≡ None)
     (few : length x + length y ≤ 268435456) where
+  -- the file with the steps x
   abbrev before : Block
   before = block_of number o x
 
-  abbrev behind : Block
-  behind = block_of number (levels_after o x) y
+  -- the steps y after x, as a block of the same number
+  abbrev more_steps : Block
+  more_steps = block_of number (levels_after o x) y
 
-  fits : length x + length y < 2 ^ 64
-  fits = omega (arith, few)
+  -- the steps of both are fewer than 2^64
+  length-fits_64_bits : length x + length y < 2 ^ 64
+  length-fits_64_bits = omega (arith, few)
 
-  steps_first : s.steps ≡ length x
-  steps_first = file-steps listing s before a
+  -- the first segment has as many steps as x
+  length-first_steps : s.steps ≡ length x
+  length-first_steps = steps-of_file listing s before a
 
-  first_is_number : r.first ≡ number
-  first_is_number = e.first ∙ a.first
+  -- the joined segment begins with the number of the file
+  first-is_number : r.first ≡ number
+  first-is_number = e.first ∙ a.first
 
-  starts : starts_at r.times ≡ first_time (x ++ y)
-  starts =
+  -- the joined segment starts at the first time of x and y
+  starts_at-grown : starts_at r.times ≡ first_time (x ++ y)
+  starts_at-grown =
       ap starts_at e.times ∙ starts_of_both s.times t.times
-      ∙ ap (λ (u : Option ℕ). option_or u (starts_at t.times)) (file_starts listing s before a)
-      ∙ ap (λ (u : Option ℕ). option_or (first_time x) u) (file_starts listing t behind b)
+      ∙ ap (λ (u : Option ℕ). option_or u (starts_at t.times)) (starts_at-of_file listing s before a)
+      ∙ ap (λ (u : Option ℕ). option_or (first_time x) u) (starts_at-of_file listing t more_steps b)
       ∙ sym (first_time-append x y)
 
-  ends : ends_at r.times ≡ last_time (x ++ y)
-  ends =
+  -- the joined segment ends at the last time of x and y
+  ends_at-grown : ends_at r.times ≡ last_time (x ++ y)
+  ends_at-grown =
       ap ends_at e.times ∙ ends_of_both s.times t.times
-      ∙ ap (λ (u : Option ℕ). option_or u (ends_at s.times)) (file_ends listing t behind b)
-      ∙ ap (λ (u : Option ℕ). option_or (last_time y) u) (file_ends listing s before a)
+      ∙ ap (λ (u : Option ℕ). option_or u (ends_at s.times)) (ends_at-of_file listing t more_steps b)
+      ∙ ap (λ (u : Option ℕ). option_or (last_time y) u) (ends_at-of_file listing s before a)
       ∙ sym (last_time-append x y)
 
+  -- the number of the file, if there are steps
   abbrev number_at : List Step → Option ℕ
   number_at l = option_map (λ (k : Step). number) (slice_get l 0)
 
+  -- the number in the times of a segment, if it has any
   abbrev number_in : Option SegmentTimes → Option ℕ
   number_in times = option_map (λ (k : SegmentTimes). k.number) times
 
-  numbers : number_in r.times ≡ number_at (x ++ y)
-  numbers =
+  -- the joined segment has the number of the file in its times, if there are steps
+  number_in-grown : number_in r.times ≡ number_at (x ++ y)
+  number_in-grown =
       ap number_in e.times ∙ numbers_of_both s.times t.times
-      ∙ ap (λ (u : Option ℕ). option_or u (number_in t.times)) (file_numbers listing s before a)
-      ∙ ap (λ (u : Option ℕ). option_or (number_at x) u) (file_numbers listing t behind b)
-      ∙ sym (heads number x y)
+      ∙ ap (λ (u : Option ℕ). option_or u (number_in t.times)) (number-of_file listing s before a)
+      ∙ ap (λ (u : Option ℕ). option_or (number_at x) u) (number-of_file listing t more_steps b)
+      ∙ sym (option_map-first_of_both number x y)
 
-  left : r.left ≡ levels_after o (x ++ y)
-  left = e.left ∙ file-left listing t behind b ∙ sym (levels_after-append x y o)
+  -- the joined segment leaves the levels that x and y leave
+  left-grown : r.left ≡ levels_after o (x ++ y)
+  left-grown = e.left ∙ left-of_file listing t more_steps b ∙ sym (levels_after-append x y o)
 
-  pub file-grown : StandsForFile listing r (block_of number o (x ++ y))
-  file-grown = record {
-    first = first_is_number;
+  -- the joined segment stands for the file with the steps x and y
+  pub StandsForFile-grown : StandsForFile listing r (block_of number o (x ++ y))
+  StandsForFile-grown = record {
+    first = first-is_number;
     order = e.order ∙ a.order;
-    stands = file_stands listing r (block_of number o (x ++ y)) sound first_is_number (e.order ∙ a.order)
-        (omega (arith, e.steps, steps_first, file-steps listing t behind b, length-append x y))
-        (e.opening ∙ file-opening listing s before a) left starts ends
-        (numbers ∙ ap (λ (n : ℕ). option_map (λ (k : Step). n) (slice_get (x ++ y) 0)) (sym first_is_number))
+    stands = file_stands listing r (block_of number o (x ++ y)) sound first-is_number (e.order ∙ a.order)
+        (omega (arith, e.steps, length-first_steps, steps-of_file listing t more_steps b, length-append x y))
+        (e.opening ∙ opening-of_file listing s before a) left-grown starts_at-grown ends_at-grown
+        (number_in-grown ∙ ap (λ (n : ℕ). option_map (λ (k : Step). n) (slice_get (x ++ y) 0)) (sym first-is_number))
         (tables_of_both known_run known_is_run (phase_place nil_place) listing 4 o (levels_after o x) x y s.known
-        t.known r.known refl fits (subst (λ (n : ℕ). IsComposition n s.known t.known r.known) steps_first e.known)
-        (file_known listing s before a) (file_known listing t behind b))
+        t.known r.known refl length-fits_64_bits
+        (subst (λ (n : ℕ). IsComposition n s.known t.known r.known) length-first_steps e.known)
+        (AgreesWithRuns-known listing s before a) (AgreesWithRuns-known listing t more_steps b))
         (tables_of_both handshake_run handshake_is_run (phase_place memory_place) listing 147 o (levels_after o x) x y
-        s.handshake t.handshake r.handshake refl fits
-        (subst (λ (n : ℕ). IsComposition n s.handshake t.handshake r.handshake) steps_first e.handshake)
-        (file_handshake listing s before a) (file_handshake listing t behind b))
+        s.handshake t.handshake r.handshake refl length-fits_64_bits
+        (subst (λ (n : ℕ). IsComposition n s.handshake t.handshake r.handshake) length-first_steps e.handshake)
+        (AgreesWithRuns-handshake listing s before a) (AgreesWithRuns-handshake listing t more_steps b))
         (tables_of_both stability_run stability_is_run (phase_place holding_place) listing 13 o (levels_after o x) x y
-        s.stability t.stability r.stability refl fits
-        (subst (λ (n : ℕ). IsComposition n s.stability t.stability r.stability) steps_first e.stability)
-        (file_stability listing s before a) (file_stability listing t behind b))
+        s.stability t.stability r.stability refl length-fits_64_bits
+        (subst (λ (n : ℕ). IsComposition n s.stability t.stability r.stability) length-first_steps e.stability)
+        (AgreesWithRuns-stability listing s before a) (AgreesWithRuns-stability listing t more_steps b))
         (tables_of_both grant_run grant_is_run (phase_place arbitration_place) listing 35 o (levels_after o x) x y
-        s.grant t.grant r.grant refl fits
-        (subst (λ (n : ℕ). IsComposition n s.grant t.grant r.grant) steps_first e.grant)
-        (file_grant listing s before a) (file_grant listing t behind b))
+        s.grant t.grant r.grant refl length-fits_64_bits
+        (subst (λ (n : ℕ). IsComposition n s.grant t.grant r.grant) length-first_steps e.grant)
+        (AgreesWithRuns-grant listing s before a) (AgreesWithRuns-grant listing t more_steps b))
         (tables_of_both acknowledge_run acknowledge_is_run (phase_place acknowledge_memory_place) listing 11 o
-        (levels_after o x) x y s.acknowledge t.acknowledge r.acknowledge refl fits
-        (subst (λ (n : ℕ). IsComposition n s.acknowledge t.acknowledge r.acknowledge) steps_first e.acknowledge)
-        (file_acknowledge listing s before a) (file_acknowledge listing t behind b));
+        (levels_after o x) x y s.acknowledge t.acknowledge r.acknowledge refl length-fits_64_bits
+        (subst (λ (n : ℕ). IsComposition n s.acknowledge t.acknowledge r.acknowledge) length-first_steps e.acknowledge)
+        (AgreesWithRuns-acknowledge listing s before a) (AgreesWithRuns-acknowledge listing t more_steps b));
   }
 
 -- if the steps x and then y are well-formed, so are the steps y from the levels after x
-pub behind-sound : (o v : Levels) (x y : List Step) → v ≡ levels_after o x
+pub malformed_step-rest : (o v : Levels) (x y : List Step) → v ≡ levels_after o x
     → malformed_step (record { opening = o; steps = x ++ y }) ≡ None
     → malformed_step (record { opening = v; steps = y }) ≡ None
-behind-sound o v x y is sound =
+malformed_step-rest o v x y is sound =
     subst (λ (w : Levels). malformed_step (record { opening = w; steps = y }) ≡ None) (sym is)
     (SoundParts-of_well_formed o x y sound).second
 
 -- ---- a dump's recording with more steps
 
 -- the opening of the file depends on the first step alone
-pub opening-stays : (number : ℕ) (start : Option ℕ) (o : Levels) (x y : List Step) → 0 < length x
+pub opening_of-append : (number : ℕ) (start : Option ℕ) (o : Levels) (x y : List Step) → 0 < length x
     → opening_of number start o (x ++ y) ≡ opening_of number start o x
-opening-stays number start o [] y some = absurd (omega arith)
-opening-stays number start o (k ∷ x) y some = refl
+opening_of-append number start o [] y some = absurd (omega arith)
+opening_of-append number start o (k ∷ x) y some = refl
 
-pub steps-go_on : (number : ℕ) (start : Option ℕ) (x y : List Step) → 0 < length x
+-- after a first step, more steps are added to those of the file as they are
+pub steps_of-append : (number : ℕ) (start : Option ℕ) (x y : List Step) → 0 < length x
     → steps_of number start (x ++ y) ≡ steps_of number start x ++ y
-steps-go_on number start [] y some = absurd (omega arith)
-steps-go_on number start (k ∷ x) y some = by_case (opens number start k)
+steps_of-append number start [] y some = absurd (omega arith)
+steps_of-append number start (k ∷ x) y some = by_case (opens number start k)
   where
     by_case : (c : Bool) → (if c then x ++ y else k ∷ (x ++ y)) ≡ (if c then x else k ∷ x) ++ y
     by_case true = refl
     by_case false = refl
 
 module _ (number : ℕ) (start : Option ℕ) (t : Trace) (y : List Step) (some : 0 < length t.steps) where
+  -- the opening of the file
   abbrev o : Levels
   o = opening_of number start t.opening t.steps
 
+  -- the steps of the file
   abbrev x : List Step
   x = steps_of number start t.steps
 
-  pub file-goes_on : file_of number start (with_steps t y) ≡ block_of number o (x ++ y)
-  file-goes_on =
+  -- the file with more steps has the same opening, and the steps of both
+  pub file_of-append : file_of number start (with_steps t y) ≡ block_of number o (x ++ y)
+  file_of-append =
       ap (λ (v : Levels). block_of number v (steps_of number start (t.steps ++ y)))
-      (opening-stays number start t.opening t.steps y some)
-      ∙ ap (λ (l : List Step). block_of number o l) (steps-go_on number start t.steps y some)
+      (opening_of-append number start t.opening t.steps y some)
+      ∙ ap (λ (l : List Step). block_of number o l) (steps_of-append number start t.steps y some)
 
-  pub file-may-go_on : FileMayGoOn t y → FileMayGoOn (record { opening = o; steps = x }) y
-  file-may-go_on may = record {
+  -- if the recording may go on with the steps y, so may the file
+  pub FileMayGoOn-append : FileMayGoOn t y → FileMayGoOn (record { opening = o; steps = x }) y
+  FileMayGoOn-append may = record {
     formed = subst (λ (b : Block). malformed_step (record { opening = b.opening; steps = b.steps }) ≡ None)
-        file-goes_on (opened_sound number start t.opening (t.steps ++ y) may.formed);
+        file_of-append (opened_sound number start t.opening (t.steps ++ y) may.formed);
     few = omega (arith, may.few, opened_few number start t.steps);
   }
 
 -- a recording with no more steps is the same
-pub no-more : (t : Trace) → with_steps t [] ≡ t
-no-more t = ap (λ (l : List Step). record t { steps = l }) (append-nil t.steps)
+pub with_steps-none : (t : Trace) → with_steps t [] ≡ t
+with_steps-none t = ap (λ (l : List Step). record t { steps = l }) (append-nil t.steps)
 
 -- ---- the only segment of a part
 
-pub only-one : (old new : List Segment) (x : Segment) → old ≡ new ++ x ∷ [] → length (map segment_value old) ≡ 1
+-- a list of segments of the length 1, of which x was taken from the end, is that of x
+pub map-only_segment : (old new : List Segment) (x : Segment) → old ≡ new ++ x ∷ [] → length (map segment_value old) ≡ 1
     → map segment_value old ≡ segment_value x ∷ []
-only-one old [] x is one = ap (map segment_value) is
-only-one old (y ∷ ys) x is one =
+map-only_segment old [] x is one = ap (map segment_value) is
+map-only_segment old (y ∷ ys) x is one =
     absurd (omega (
       arith,
       one,
@@ -249,17 +290,19 @@ only-one old (y ∷ ys) x is one =
     ))
 
 -- a segment of one file has the order 0
-order_of_one : (order : ℕ) → 1 ≡ 2 ^ order → order ≡ 0
-order_of_one zero e = refl
-order_of_one (suc k) e = absurd (omega (arith, e, pow-add 2 k 1, pow_pos k, ap (λ (n : ℕ). 2 ^ n) (next k)))
+order-zero : (order : ℕ) → 1 ≡ 2 ^ order → order ≡ 0
+order-zero zero e = refl
+order-zero (suc k) e = absurd (omega (arith, e, pow-add 2 k 1, pow_pos k, ap (λ (n : ℕ). 2 ^ n) (next k)))
   where
     next : (k : ℕ) → suc k ≡ k + 1
     next k = omega arith
 
-pub only-stands : (listing : Bool) (b : Block) (p : PartValue) (s : SegmentValue) → IsPartOfFile listing b p
+-- the only segment of a part of one file stands for that file
+pub StandsForFile-only_segment : (listing : Bool) (b : Block) (p : PartValue) (s : SegmentValue)
+    → IsPartOfFile listing b p
     → p.segments ≡ s ∷ [] → StandsForFile listing s b
-only-stands listing b p s (own, one, first, stands) is =
+StandsForFile-only_segment listing b p s (own, one, first, stands) is =
     let both : own ∷ [] ≡ s ∷ [] = sym one ∙ is in
     let same : own ≡ s = cc in
     subst (λ (u : SegmentValue). StandsForFile listing u b) same
-    (record { first = first; order = order_of_one own.order stands.as_many; stands = stands })
+    (record { first = first; order = order-zero own.order stands.as_many; stands = stands })

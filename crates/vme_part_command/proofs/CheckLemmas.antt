@@ -1,4 +1,5 @@
--- Steps that are counted and judged.
+-- The steps of one file are counted and judged as they are read: what is pending, and what holds when all have been
+-- judged.
 use Rattle.std.proofs.Common.{◌≡◌, ℕ, ◌+◌, ◌≤◌, ◌<◌, Bool, true, false, List, ◌++◌, length, Option, refl, arith}
 use Rattle.std.proofs.Common.{length-append, append_assoc, ap, sym, subst, ◌∙◌, take, drop, take-append-drop}
 use Rattle.std.specs.Prelude.{Ok, Err, nat_lt}
@@ -18,33 +19,39 @@ use Rattle.vme_part_command.specs.FileChecks.{FileComesTo, IsFoundSoFar, IsPendi
 
 module _ (number : ℕ) (listing : Bool) (start : Option ℕ) (file : Option FileSoFar) (pending : List Step) where
   -- if t has too many steps, or the count with `steps` is over the limit, t with `steps` has too many
-  pub many-came : (t : Trace) (count : ℕ) (flag : Bool) (steps : List Step)
+  pub too_many-with_steps : (t : Trace) (count : ℕ) (flag : Bool) (steps : List Step)
       → FileComesTo number listing start file pending count flag t
       → (flag ≡ false → capture_limit < count + length steps) → capture_limit < length (t.steps ++ steps)
-  many-came t count true steps comes many = omega (arith, comes, length-append t.steps steps)
-  many-came t count false steps comes many = omega (arith, comes.0, many refl, length-append t.steps steps)
+  too_many-with_steps t count true steps comes many = omega (arith, comes, length-append t.steps steps)
+  too_many-with_steps t count false steps comes many = omega (arith, comes.0, many refl, length-append t.steps steps)
 
-  pub not-many : (t : Trace) (count : ℕ) (flag : Bool) → FileComesTo number listing start file pending count flag t
+  -- if t doesn't have too many steps, they are counted, at most as many as the limit, and some are pending
+  pub FileComesTo-few : (t : Trace) (count : ℕ) (flag : Bool)
+      → FileComesTo number listing start file pending count flag t
       → flag ≡ false
       → (count ≡ length t.steps) × (count ≤ capture_limit) × IsPending number listing start file pending t
-  not-many t count true comes e = absurd (cc)
-  not-many t count false comes e = comes
+  FileComesTo-few t count true comes e = absurd (cc)
+  FileComesTo-few t count false comes e = comes
 
-  pub comes-many : (t : Trace) (count : ℕ) (flag : Bool) → flag ≡ true → capture_limit < length t.steps
+  -- a recording with too many steps is one of which this is known
+  pub FileComesTo-of_many : (t : Trace) (count : ℕ) (flag : Bool) → flag ≡ true → capture_limit < length t.steps
       → FileComesTo number listing start file pending count flag t
-  comes-many t count true e many = many
-  comes-many t count false e many = absurd (cc)
+  FileComesTo-of_many t count true e many = many
+  FileComesTo-of_many t count false e many = absurd (cc)
 
-  pub comes-few : (t : Trace) (count : ℕ) (flag : Bool) → flag ≡ false → count ≡ length t.steps
+  -- a recording whose steps are counted, at most as many as the limit, and partly pending, is one of which this is
+  -- known
+  pub FileComesTo-of_few : (t : Trace) (count : ℕ) (flag : Bool) → flag ≡ false → count ≡ length t.steps
       → count ≤ capture_limit → IsPending number listing start file pending t
       → FileComesTo number listing start file pending count flag t
-  comes-few t count true e same few found = absurd (cc)
-  comes-few t count false e same few found = (same, few, found)
+  FileComesTo-of_few t count true e same few found = absurd (cc)
+  FileComesTo-of_few t count false e same few found = (same, few, found)
 
   module _ (t : Trace) (p : IsPending number listing start file pending t) where
     -- `IsPending` holds with `steps` added to the pending steps
-    pub pending-more : (steps : List Step) → IsPending number listing start file (pending ++ steps) (with_steps t steps)
-    pending-more steps = record {
+    pub IsPending-append : (steps : List Step)
+        → IsPending number listing start file (pending ++ steps) (with_steps t steps)
+    IsPending-append steps = record {
       judged = p.judged;
       all = ap (λ (l : List Step). record p.judged { steps = l }) (sym (append_assoc p.judged.steps pending steps))
           ∙ ap (λ (u : Trace). with_steps u steps) p.all;
@@ -52,8 +59,8 @@ module _ (number : ℕ) (listing : Bool) (start : Option ℕ) (file : Option Fil
     }
 
     -- all pending steps may be judged
-    pub all-may : MayBeJudged t → FileMayGoOn p.judged pending
-    all-may may = record {
+    pub FileMayGoOn-all_pending : MayBeJudged t → FileMayGoOn p.judged pending
+    FileMayGoOn-all_pending may = record {
       formed = ap malformed_step p.all ∙ may.formed;
       few = omega (
         arith,
@@ -64,71 +71,77 @@ module _ (number : ℕ) (listing : Bool) (start : Option ℕ) (file : Option Fil
     }
 
     module _ (n : ℕ) where
-      whole : with_steps (with_steps p.judged (take n pending)) (drop n pending) ≡ t
-      whole =
+      -- the steps that were judged, the first n pending ones and the others are those of t
+      with_steps-judged_and_pending : with_steps (with_steps p.judged (take n pending)) (drop n pending) ≡ t
+      with_steps-judged_and_pending =
           ap (λ (l : List Step). record p.judged { steps = l })
           (append_assoc p.judged.steps (take n pending) (drop n pending)
           ∙ ap (λ (l : List Step). p.judged.steps ++ l) (take-append-drop n pending))
           ∙ p.all
 
       -- the first n pending steps may be judged
-      pub some-may : MayBeJudged t → FileMayGoOn p.judged (take n pending)
-      some-may may = record {
+      pub FileMayGoOn-first_pending : MayBeJudged t → FileMayGoOn p.judged (take n pending)
+      FileMayGoOn-first_pending may = record {
         formed = (SoundParts-of_well_formed p.judged.opening (p.judged.steps ++ take n pending) (drop n pending)
-            (ap malformed_step whole ∙ may.formed)).first;
+            (ap malformed_step with_steps-judged_and_pending ∙ may.formed)).first;
         few = omega (
           arith,
           may.few,
-          ap (λ (u : Trace). length u.steps) whole,
+          ap (λ (u : Trace). length u.steps) with_steps-judged_and_pending,
           length-append (p.judged.steps ++ take n pending) (drop n pending),
           length-append p.judged.steps (take n pending),
         );
       }
 
       -- after judging the first n pending steps, the others are pending
-      pub pending-less : (next : Option FileSoFar)
+      pub IsPending-after_judging : (next : Option FileSoFar)
           → IsFoundSoFar number listing start next (with_steps p.judged (take n pending))
           → IsPending number listing start next (drop n pending) t
-      pending-less next found = record {
+      IsPending-after_judging next found = record {
         judged = with_steps p.judged (take n pending);
-        all = whole;
+        all = with_steps-judged_and_pending;
         found = found;
       }
 
 -- ---- the limit of a recording
 
-below_limit : (n : ℕ) → n ≤ capture_limit → nat_lt capture_limit n ≡ false
-below_limit n few = grind (arith, nat_tests)
+-- a number of at most `capture_limit` passes the test
+capture_limit-not_below : (n : ℕ) → n ≤ capture_limit → nat_lt capture_limit n ≡ false
+capture_limit-not_below n few = grind (arith, nat_tests)
 
-past_limit : (n : ℕ) → capture_limit < n → nat_lt capture_limit n ≡ true
-past_limit n many = grind (arith, nat_tests)
+-- a number above `capture_limit` fails the test
+capture_limit-below : (n : ℕ) → capture_limit < n → nat_lt capture_limit n ≡ true
+capture_limit-below n many = grind (arith, nat_tests)
 
-pub limited-fits : (t : Trace) → length t.steps ≤ capture_limit → limited t ≡ Ok t
-limited-fits t few = rw (below_limit (length t.steps) few) refl
+-- a recording of at most `capture_limit` steps isn't refused
+pub limited-few_steps : (t : Trace) → length t.steps ≤ capture_limit → limited t ≡ Ok t
+limited-few_steps t few = rw (capture_limit-not_below (length t.steps) few) refl
 
-pub limited-long : (t : Trace) → capture_limit < length t.steps
+-- a recording of more than `capture_limit` steps is refused
+pub limited-many_steps : (t : Trace) → capture_limit < length t.steps
     → limited t ≡ Err (record { line = 0; kind = TooManySteps })
-limited-long t many = rw (past_limit (length t.steps) many) refl
+limited-many_steps t many = rw (capture_limit-below (length t.steps) many) refl
 
 -- a well-formed recording with at most `capture_limit` steps may be judged
-pub may-judge : (t : Trace) (steps : List Step) (count next : ℕ) → count ≡ length t.steps
+pub MayBeJudged-counted : (t : Trace) (steps : List Step) (count next : ℕ) → count ≡ length t.steps
     → next ≡ count + length steps → next ≤ capture_limit → malformed_step (with_steps t steps) ≡ None
     → MayBeJudged (with_steps t steps)
-may-judge t steps count next same more few formed =
+MayBeJudged-counted t steps count next same more few formed =
     record { formed = formed; few = omega (arith, same, more, few, length-append t.steps steps) }
 
 -- after judging all pending steps, `next` is the file with all steps of t
-pub found-all : (number : ℕ) (listing : Bool) (start : Option ℕ) (file next : Option FileSoFar) (pending : List Step)
+pub IsFoundSoFar-all : (number : ℕ) (listing : Bool) (start : Option ℕ) (file next : Option FileSoFar)
+    (pending : List Step)
     (t : Trace) (p : IsPending number listing start file pending t)
     → IsFoundSoFar number listing start next (with_steps p.judged pending)
     → IsFoundSoFar number listing start next t
-found-all number listing start file next pending t p found =
+IsFoundSoFar-all number listing start file next pending t p found =
     subst (IsFoundSoFar number listing start next) p.all found
 
 -- counting steps doesn't change which are judged
-pub pending-same : (number : ℕ) (listing : Bool) (start : Option ℕ) (file next : Option FileSoFar) (p q : Vec Step)
+pub IsPending-same : (number : ℕ) (listing : Bool) (start : Option ℕ) (file next : Option FileSoFar) (p q : Vec Step)
     (t : Trace) → next ≡ file → q ≡ p → IsPending number listing start file p.items t
     → IsPending number listing start next q.items t
-pending-same number listing start file next p q t is left h =
+IsPending-same number listing start file next p q t is left h =
     subst (λ (f : Option FileSoFar). IsPending number listing start f q.items t) (sym is)
     (subst (λ (v : Vec Step). IsPending number listing start file v.items t) (sym left) h)

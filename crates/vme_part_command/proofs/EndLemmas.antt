@@ -1,4 +1,4 @@
--- How the commands end, by their results.
+-- How the commands for parts end, by their results.
 use Rattle.std.proofs.Common.{◌≡◌, ℕ, List, [], Option, Ok, Err, refl, inl, inr, take, length, subst}
 use Rattle.std.specs.Io.KnownBytes.{Appends}
 use Rattle.std.proofs.KnownBytes.{Appends-nil}
@@ -23,70 +23,80 @@ use Rattle.vme_part_command.specs.declared.no_part.NoPart.TheVariants as no_part
 use Rattle.vme_part_command.specs.declared.part.PartOptions.{PartOptions}
 
 -- if a front of `text` was written, it is the first n bytes for some n
-pub front_taken : (old new : Option (List ℕ)) (text : List ℕ) → AppendsFront old new text → (n : ℕ) × Appends old new
+pub AppendsFront-take : (old new : Option (List ℕ)) (text : List ℕ) → AppendsFront old new text → (n : ℕ)
+    × Appends old new
     (take n text)
-front_taken old new text took =
+AppendsFront-take old new text took =
     let (front, rest, split, appended) = took in
     (length front, subst (λ (bytes : List ℕ). Appends old new bytes) (take-done text front rest split) appended)
 
 -- a command that refuses something ends with it: nothing is written to standard output
-pub complaint_ends : (error : List ℕ) (s : ℕ) (out : Writing) (err : Writing × Writing) (status : ℕ)
+pub Ends-complaint : (error : List ℕ) (s : ℕ) (out : Writing) (err : Writing × Writing) (status : ℕ)
     → Complains (record { out = []; error = error; status = s }) err status
     → Ends (record { out = []; error = error; status = s }) (out, out) err status
-complaint_ends error s out err status told =
+Ends-complaint error s out err status told =
     inl (record { out_is = (Appends-nil _, refl); err_is = told.err_is; status_is = told.status_is })
 
 -- if the line was written, or a write of it failed, and the status is 3, `Complains` holds of the refusal
-pub refused : (text : List ℕ) (err : Writing × Writing) (status : ℕ) → TriesToWrite err.0 err.1 (line_of text)
+pub Complains-refusing : (text : List ℕ) (err : Writing × Writing) (status : ℕ)
+    → TriesToWrite err.0 err.1 (line_of text)
     → status ≡ 3 → Complains (refusing text) err status
-refused text err status told is = record { err_is = told; status_is = is }
+Complains-refusing text err status told is = record { err_is = told; status_is = is }
 
-pub refused_ends : (text : List ℕ) (out : Writing) (err : Writing × Writing) (status : ℕ)
+-- if the line of a refusal was written, or a write of it failed, and the status is 3, the command ends with the refusal
+pub Ends-refusing : (text : List ℕ) (out : Writing) (err : Writing × Writing) (status : ℕ)
     → TriesToWrite err.0 err.1 (line_of text) → status ≡ 3 → Ends (refusing text) (out, out) err status
-refused_ends text out err status told is = complaint_ends _ _ out err status (refused text err status told is)
+Ends-refusing text out err status told is =
+    Ends-complaint _ _ out err status (Complains-refusing text err status told is)
 
 -- ---- results from parts
 
 module _ {X : Type 0} (IsFound : X → Type 0) (answer : X → CommandAnswer) (names : List (List ℕ))
     (inputs : List Reading × List Reading) (err : Writing × Writing) (status : ℕ) where
-  pub ends_found : (x : X) (out : Writing × Writing) → IsFound x → Ends (answer x) out err status
+  -- if the command ends with the answer for what was found, it does what it should with the parts
+  pub DoesOfParts-found : (x : X) (out : Writing × Writing) → IsFound x → Ends (answer x) out err status
       → DoesOfParts IsFound answer names inputs out err status
-  ends_found x out is ends = (Ok x, is, ends)
+  DoesOfParts-found x out is ends = (Ok x, is, ends)
 
-  pub ends_written : (x : X) (out : Writing × Writing) → IsFound x → EndsUnlessMemory (answer x) out err status
+  -- the same, if the command may also have ended for want of memory
+  pub DoesOfParts-written : (x : X) (out : Writing × Writing) → IsFound x → EndsUnlessMemory (answer x) out err status
       → DoesOfParts IsFound answer names inputs out err status
-  ends_written x out is (inl ends) = (Ok x, is, ends)
-  ends_written x out is (inr ends) = (Err none.Memory, tt, ends)
+  DoesOfParts-written x out is (inl ends) = (Ok x, is, ends)
+  DoesOfParts-written x out is (inr ends) = (Err none.Memory, tt, ends)
 
-  pub ends_unjoined : (why : NoJoin) (out : Writing) → IsNoJoin inputs.0 inputs.1 why
+  -- if the parts can't be joined, and the command complains of this, it does what it should
+  pub DoesOfParts-not_joined : (why : NoJoin) (out : Writing) → IsNoJoin inputs.0 inputs.1 why
       → ComplainsUnlessMemory (no_join_answer names why) err status
       → DoesOfParts IsFound answer names inputs (out, out) err status
-  ends_unjoined why out is (inl told) = (Err why, is, complaint_ends _ _ out err status told)
-  ends_unjoined why out is (inr told) = (Err none.Memory, tt, complaint_ends _ _ out err status told)
+  DoesOfParts-not_joined why out is (inl told) = (Err why, is, Ends-complaint _ _ out err status told)
+  DoesOfParts-not_joined why out is (inr told) = (Err none.Memory, tt, Ends-complaint _ _ out err status told)
 
 -- if the command ends with the listing from one part of all inputs, it lists the recording
-pub ends_listed : (names : List (List ℕ)) (inputs : List Reading × List Reading) (files : Option ℕ) (p : PartValue)
+pub ListsRecording-of_parts : (names : List (List ℕ)) (inputs : List Reading × List Reading) (files : Option ℕ)
+    (p : PartValue)
     (out err : Writing × Writing) (status : ℕ) → IsJoinOf inputs.0 inputs.1 p → ListsPart p files out err status
     → ListsRecording names inputs files out err status
-ends_listed names inputs files p out err status join (inl told) =
+ListsRecording-of_parts names inputs files p out err status join (inl told) =
     (Ok told.0, record { part = p; join = join; lists = told.1 }, told.2)
-ends_listed names inputs files p out err status join (inr told) = (Err none.Memory, tt, told)
+ListsRecording-of_parts names inputs files p out err status join (inr told) = (Err none.Memory, tt, told)
 
 -- ---- results from a dump
 
 module _ (o : PartOptions) (binding dump : Reading × Reading) (err : Writing × Writing) (status : ℕ)
     (b d : Option (List ℕ)) (binding_reading : IsReading binding.0 binding.1 b)
     (dump_reading : IsReading dump.0 dump.1 d) where
-  pub ends_part : (p : PartValue) (out : Writing × Writing)
+  -- if the command ends with the part of the dump, it does what it should
+  pub WritesPart-found : (p : PartValue) (out : Writing × Writing)
       → FindsPart (λ (q : PartValue). q) o (dump_recording (binding_read b) (dump_read d)) (Ok p)
       → EndsUnlessMemory (written_part p) out err status
       → WritesPart o binding dump out err status
-  ends_part p out is (inl ends) = (b, d, Ok p, binding_reading, dump_reading, is, ends)
-  ends_part p out is (inr ends) = (b, d, Err (no_part.Refused Memory), binding_reading, dump_reading, tt, ends)
+  WritesPart-found p out is (inl ends) = (b, d, Ok p, binding_reading, dump_reading, is, ends)
+  WritesPart-found p out is (inr ends) = (b, d, Err (no_part.Refused Memory), binding_reading, dump_reading, tt, ends)
 
-  pub ends_no_part : (why : NoPart) (out : Writing)
+  -- if there is no part, and the command complains of the reason, it does what it should
+  pub WritesPart-none : (why : NoPart) (out : Writing)
       → FindsPart (λ (q : PartValue). q) o (dump_recording (binding_read b) (dump_read d)) (Err why)
       → Complains (no_part_answer why) err status
       → WritesPart o binding dump (out, out) err status
-  ends_no_part why out is told =
-      (b, d, Err why, binding_reading, dump_reading, is, complaint_ends _ _ out err status told)
+  WritesPart-none why out is told =
+      (b, d, Err why, binding_reading, dump_reading, is, Ends-complaint _ _ out err status told)

@@ -1,4 +1,4 @@
--- The results for a dump that is a file.
+-- The results for a dump that is one file of a recording: why there is no part, or which part there is.
 use Rattle.std.proofs.Common.{◌≡◌, ℕ, zero, suc, List, [], ◌∷◌, length, Option, None, Some, refl, sym}
 use Rattle.std.proofs.Common.{ap}
 use Rattle.std.proofs.Common.{subst, ◌∙◌, arith}
@@ -38,57 +38,63 @@ use Rattle.vme_part_command.specs.declared.part.PartOptions.{PartOptions}
 
 module _ (o : PartOptions) where
   -- if the binding is refused, so is the part
-  pub no-binding : (binding : Result BoundLines Refusal) (dump : Result Contents Refusal) (refusal : Refusal)
+  pub FindsPart-binding_refused : (binding : Result BoundLines Refusal) (dump : Result Contents Refusal)
+      (refusal : Refusal)
       → AnswerGives (λ (b : BoundLines). b) (Err refusal) binding
       → FindsPart part_value o (dump_recording binding dump) (Err (none.Refused refusal))
-  no-binding binding dump Memory refused = tt
-  no-binding binding dump refusal refused =
+  FindsPart-binding_refused binding dump Memory refused = tt
+  FindsPart-binding_refused binding dump refusal refused =
       ap (λ (b : Result BoundLines Refusal). dump_recording b dump) refused
 
   -- if the dump is refused, so is the part
-  pub dump-refused : (bound : BoundLines) (old now : Reading) (refusal : Refusal) → IsDumpRefused old now refusal
+  pub FindsOfDump-dump_refused : (bound : BoundLines) (old now : Reading) (refusal : Refusal)
+      → IsDumpRefused old now refusal
       → FindsOfDump o bound old now (Err (none.Refused refusal))
-  dump-refused bound old now Memory refused = (refused.0, refused.1, tt)
-  dump-refused bound old now refusal refused =
+  FindsOfDump-dump_refused bound old now Memory refused = (refused.0, refused.1, tt)
+  FindsOfDump-dump_refused bound old now refusal refused =
       (refused.0, refused.1, ap (λ (d : Result Contents Refusal). dump_recording (Ok bound) d) refused.2)
 
+  -- the recording that was captured of the dump, with its first time, or the refusal of the binding
   abbrev recorded : Contents → Result Trace BindFault → Result DumpRecording Refusal
   recorded contents captured = or_bad_binding captured >>= λ t. Ok
       (record { start = start_of contents; recording = t })
 
   module _ (bound : BoundLines) (old now : Reading) (contents : Contents) (read : IsReadDump old now contents) where
-    is_recorded : (captured : Result Trace BindFault) → capture_of bound contents ≡ captured
+    -- the recording of the dump is the one that was captured
+    dump_recording-captured : (captured : Result Trace BindFault) → capture_of bound contents ≡ captured
         → dump_recording (Ok bound) (dump_read (Some read.text)) ≡ recorded contents captured
-    is_recorded captured is =
+    dump_recording-captured captured is =
         ap (λ (d : Result Contents Refusal). dump_recording (Ok bound) d) read.is ∙ ap (recorded contents) is
 
     -- if the binding can't be used on the dump, this is the reason that there is no part
-    pub unusable-part : (fault : BindFault) → capture_of bound contents ≡ Err fault
+    pub FindsOfDump-bad_binding : (fault : BindFault) → capture_of bound contents ≡ Err fault
         → FindsOfDump o bound old now (Err (none.Refused (BadBinding fault)))
-    unusable-part fault is = (Some read.text, read.reading, is_recorded (Err fault) is)
+    FindsOfDump-bad_binding fault is = (Some read.text, read.reading, dump_recording-captured (Err fault) is)
 
     -- within the limit there is a recording
     module _ (given : Trace) (captured : capture_of bound contents ≡ limited given) where
-      whole_is : limited given ≡ Ok given → dump_recording (Ok bound) (dump_read (Some read.text))
+      -- a recording within the limit is that of the dump
+      dump_recording-limited : limited given ≡ Ok given → dump_recording (Ok bound) (dump_read (Some read.text))
           ≡ Ok (record { start = start_of contents; recording = given })
-      whole_is fits = is_recorded (Ok given) (captured ∙ fits)
+      dump_recording-limited fits = dump_recording-captured (Ok given) (captured ∙ fits)
 
-      refused_by : (l : Result Trace BindFault) (refusal : Refusal) → or_bad_binding l ≡ Err refusal
+      -- a recording that is refused is refused of the dump
+      recorded-refused : (l : Result Trace BindFault) (refusal : Refusal) → or_bad_binding l ≡ Err refusal
           → recorded contents l ≡ Err refusal
-      refused_by (Ok t) refusal is = absurd (cc)
-      refused_by (Err fault) refusal is =
+      recorded-refused (Ok t) refusal is = absurd (cc)
+      recorded-refused (Err fault) refusal is =
           let same : BadBinding fault ≡ refusal = cc in ap (λ (r : Refusal). Err r) same
 
       -- the result for all steps is the result for the dump, whose first time is `start`
-      pub found-part : (start : Option ℕ) → ((o.number ≡ 0 → ⊥) → start_of contents ≡ start) → (backplane : ℕ)
+      pub FindsOfDump-found : (start : Option ℕ) → ((o.number ≡ 0 → ⊥) → start_of contents ≡ start) → (backplane : ℕ)
           → backplane ≡ backplane_of given.opening → (found : Result Part NoPart)
           → FindsOfSteps o.number o.listing start backplane given found → FindsOfDump o bound old now found
-      found-part start starts backplane same (Ok part) finds = (
+      FindsOfDump-found start starts backplane same (Ok part) finds = (
         Some read.text,
         read.reading,
         (
           record { start = start_of contents; recording = given },
-          whole_is finds.0,
+          dump_recording-limited finds.0,
           record {
             backplane = finds.1.backplane_is ∙ same;
             listing = finds.1.listing_is;
@@ -112,26 +118,34 @@ module _ (o : PartOptions) where
               by_steps v (s ∷ x) = refl
           same_file (suc n) start own t starts =
               ap (λ (s : Option ℕ). file_of (suc n) s t) (sym (starts (λ e. absurd (omega (arith, e)))))
-      found-part start starts backplane same (Err (none.Refused Memory)) finds = (Some read.text, read.reading, tt)
-      found-part start starts backplane same (Err (none.Refused refusal)) finds = (
+      FindsOfDump-found start starts backplane same (Err (none.Refused Memory)) finds =
+          (Some read.text, read.reading, tt)
+      FindsOfDump-found start starts backplane same (Err (none.Refused refusal)) finds = (
         Some read.text,
         read.reading,
-        is_recorded (limited given) captured ∙ refused_by (limited given) refusal finds,
+        dump_recording-captured (limited given) captured ∙ recorded-refused (limited given) refusal finds,
       )
-      found-part start starts backplane same (Err none.TooManyMarks) fits =
-          (Some read.text, read.reading, (record { start = start_of contents; recording = given }, whole_is fits))
-      found-part start starts backplane same (Err none.OutOfRange) fits =
-          (Some read.text, read.reading, (record { start = start_of contents; recording = given }, whole_is fits))
+      FindsOfDump-found start starts backplane same (Err none.TooManyMarks) fits = (
+        Some read.text,
+        read.reading,
+        (record { start = start_of contents; recording = given }, dump_recording-limited fits),
+      )
+      FindsOfDump-found start starts backplane same (Err none.OutOfRange) fits = (
+        Some read.text,
+        read.reading,
+        (record { start = start_of contents; recording = given }, dump_recording-limited fits),
+      )
 
   -- the result for all steps that the reader gave is the result for the dump
-  pub finds-of-dump : (bound : BoundLines) (start : Option ℕ) (old now : Reading) (bytes : List ℕ) (r : StepReading)
+  pub FindsOfDump-of_steps : (bound : BoundLines) (start : Option ℕ) (old now : Reading) (bytes : List ℕ)
+      (r : StepReading)
       → IsAtFileEnd bound o.number start old now bytes r → (given : Trace)
       → (whole_reading r bytes).recorded ≡ given → (whole_reading r bytes).fault ≡ None → (backplane : ℕ)
       → backplane ≡ backplane_of given.opening → (found : Result Part NoPart)
       → FindsOfSteps o.number o.listing start backplane given found → FindsOfDump o bound old now found
-  finds-of-dump bound start old now bytes r end given recorded_is faultless backplane same found finds =
+  FindsOfDump-of_steps bound start old now bytes r end given recorded_is faultless backplane same found finds =
       let (contents, dump, is) = (Agrees-text bound end.text).whole (whole_reading r bytes) end.body faultless in
-      found-part bound old now contents
+      FindsOfDump-found bound old now contents
       (record { text = end.text; reading = end.all.0; is = dump_read-short end.text end.all.1 (Ok contents) dump })
       given
       (capture_of-limited bound contents given (is ∙ ap (λ (t : Trace). Ok t) recorded_is)) start

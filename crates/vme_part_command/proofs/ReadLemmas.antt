@@ -1,4 +1,4 @@
--- Parts read from inputs, one after the other.
+-- Parts are read from inputs, one after the other: what holds when some of the inputs have been read.
 use Rattle.std.proofs.Common.{◌≡◌, ◌≢◌, ◌⊎◌, ℕ, zero, suc, ◌+◌, ◌<◌, ◌≤◌, List, [], ◌∷◌, ◌++◌, drop, length, map}
 use Rattle.std.proofs.Common.{length-append, slice_get, get_or, set, Some, sym, refl}
 use Rattle.std.proofs.Common.{ap, ◌∙◌, subst, arith, inl, inr, None}
@@ -18,35 +18,42 @@ use Rattle.vme_part_command.specs.declared.inputs.PartInputFault.{PartInputFault
 -- ---- the items of lists by their indices
 
 module _ {A : Type 0} where
-  get_here : (xs : List A) (i : ℕ) (x : A) → i < length xs → slice_get (set xs i x) i ≡ Some x
-  get_here [] i x h = absurd (omega arith)
-  get_here (y ∷ ys) zero x h = refl
-  get_here (y ∷ ys) (suc i) x h = get_here ys i x (omega arith)
+  -- the item that is set to x is x
+  slice_get-set_same : (xs : List A) (i : ℕ) (x : A) → i < length xs → slice_get (set xs i x) i ≡ Some x
+  slice_get-set_same [] i x h = absurd (omega arith)
+  slice_get-set_same (y ∷ ys) zero x h = refl
+  slice_get-set_same (y ∷ ys) (suc i) x h = slice_get-set_same ys i x (omega arith)
 
-  get_else : (xs : List A) (i k : ℕ) (x : A) → k ≢ i → slice_get (set xs i x) k ≡ slice_get xs k
-  get_else [] i k x ne = refl
-  get_else (y ∷ ys) zero zero x ne = absurd (ne refl)
-  get_else (y ∷ ys) zero (suc k) x ne = refl
-  get_else (y ∷ ys) (suc i) zero x ne = refl
-  get_else (y ∷ ys) (suc i) (suc k) x ne = get_else ys i k x (λ e. ne (ap suc e))
+  -- an item other than the one that is set stays as it was
+  slice_get-set_other : (xs : List A) (i k : ℕ) (x : A) → k ≢ i → slice_get (set xs i x) k ≡ slice_get xs k
+  slice_get-set_other [] i k x ne = refl
+  slice_get-set_other (y ∷ ys) zero zero x ne = absurd (ne refl)
+  slice_get-set_other (y ∷ ys) zero (suc k) x ne = refl
+  slice_get-set_other (y ∷ ys) (suc i) zero x ne = refl
+  slice_get-set_other (y ∷ ys) (suc i) (suc k) x ne = slice_get-set_other ys i k x (λ e. ne (ap suc e))
 
-  get_snoc : (xs : List A) (x y : A) (k : ℕ) → slice_get (xs ++ x ∷ []) k ≡ Some y → (slice_get xs k ≡ Some y) ⊎
+  -- an item of a list with one more is an item of the list, or the new one
+  slice_get-append_one : (xs : List A) (x y : A) (k : ℕ) → slice_get (xs ++ x ∷ []) k ≡ Some y
+      → (slice_get xs k ≡ Some y) ⊎
       ((k ≡ length xs) × (x ≡ y))
-  get_snoc [] x y zero e = inr (refl, same_Some x y e)
-  get_snoc [] x y (suc k) e = absurd (none-some y e)
-  get_snoc (z ∷ zs) x y zero e = inl e
-  get_snoc (z ∷ zs) x y (suc k) e = ⊎_elim (λ a. inl a) (λ a. inr (ap suc a.0, a.1)) (get_snoc zs x y k e)
+  slice_get-append_one [] x y zero e = inr (refl, same_Some x y e)
+  slice_get-append_one [] x y (suc k) e = absurd (none-some y e)
+  slice_get-append_one (z ∷ zs) x y zero e = inl e
+  slice_get-append_one (z ∷ zs) x y (suc k) e =
+      ⊎_elim (λ a. inl a) (λ a. inr (ap suc a.0, a.1)) (slice_get-append_one zs x y k e)
 
-  head_of_drop : (ys : List A) (j : ℕ) → slice_get (drop j ys) 0 ≡ slice_get ys j
-  head_of_drop [] zero = refl
-  head_of_drop [] (suc j) = refl
-  head_of_drop (y ∷ ys) zero = refl
-  head_of_drop (y ∷ ys) (suc j) = head_of_drop ys j
+  -- the first item of a list without its first j is the item j
+  slice_get-drop : (ys : List A) (j : ℕ) → slice_get (drop j ys) 0 ≡ slice_get ys j
+  slice_get-drop [] zero = refl
+  slice_get-drop [] (suc j) = refl
+  slice_get-drop (y ∷ ys) zero = refl
+  slice_get-drop (y ∷ ys) (suc j) = slice_get-drop ys j
 
 -- ---- the parts read so far
 
-pub read_none : (old new : List Reading) → HaveRead old new 0 []
-read_none old new = record {
+-- at the start no input has been read
+pub HaveRead-none : (old new : List Reading) → HaveRead old new 0 []
+HaveRead-none old new = record {
   within = omega arith;
   many = refl;
   fit = λ k d low. absurd (omega arith);
@@ -57,109 +64,120 @@ module _ {A : Type 0} (f : A → Reading) (xs ys : List A) (i : ℕ) (x y : A) (
     (within : i < length ys)
     (same : length ys ≡ length xs) (is : x ≡ get_or ys i x) (rest : drop i ys ≡ drop i xs)
     (before : HaveRead (map f xs) (map f ys) i ps) where
-  was : slice_get (map f xs) i ≡ Some (f x)
-  was =
+  -- before it is read, the input i is as x says
+  reading-before : slice_get (map f xs) i ≡ Some (f x)
+  reading-before =
       slice_get-map f xs i
-      ∙ ap (option_map f) (sym (head_of_drop xs i) ∙ ap (λ (l : List A). slice_get l 0) (sym rest)
-      ∙ head_of_drop ys i ∙ slice_get_read ys (length ys) i x refl within is)
+      ∙ ap (option_map f) (sym (slice_get-drop xs i) ∙ ap (λ (l : List A). slice_get l 0) (sym rest)
+      ∙ slice_get-drop ys i ∙ slice_get_read ys (length ys) i x refl within is)
 
-  becomes : slice_get (map f (set ys i y)) i ≡ Some (f y)
-  becomes = slice_get-map f (set ys i y) i ∙ ap (option_map f) (get_here ys i y within)
+  -- after it is read, the input i is as y says
+  reading-after : slice_get (map f (set ys i y)) i ≡ Some (f y)
+  reading-after = slice_get-map f (set ys i y) i ∙ ap (option_map f) (slice_get-set_same ys i y within)
 
-  kept : (k : ℕ) → k ≢ i → slice_get (map f ys) k ≡ slice_get (map f (set ys i y)) k
-  kept k ne =
-      slice_get-map f ys k ∙ ap (option_map f) (sym (get_else ys i k y ne)) ∙ sym (slice_get-map f (set ys i y) k)
+  -- reading the input i doesn't change another one
+  reading-others : (k : ℕ) → k ≢ i → slice_get (map f ys) k ≡ slice_get (map f (set ys i y)) k
+  reading-others k ne =
+      slice_get-map f ys k ∙ ap (option_map f) (sym (slice_get-set_other ys i k y ne))
+      ∙ sym (slice_get-map f (set ys i y) k)
 
   -- reading the input i doesn't change those before it
-  earlier : HaveRead (map f xs) (map f (set ys i y)) i ps
-  earlier = record {
+  HaveRead-others : HaveRead (map f xs) (map f (set ys i y)) i ps
+  HaveRead-others = record {
     within = before.within;
     many = before.many;
     fit = before.fit;
     read = λ k a b q at_a at_b at_q.
         let short : k < i = subst (λ (n : ℕ). k < n) before.many (slice_get_within ps k q at_q) in
         let ne : k ≢ i = λ (e : k ≡ i). omega arith in
-        before.read k a b q at_a (kept k ne ∙ at_b) at_q;
+        before.read k a b q at_a (reading-others k ne ∙ at_b) at_q;
   }
 
   -- if the input i has a fault, `HasFaultAt` holds at i
-  read_fault : (fault : PartInputFault) → IsFaulty (f (get_or ys i x)) (f y) fault
+  HasFaultAt-input : (fault : PartInputFault) → IsFaulty (f (get_or ys i x)) (f y) fault
       → HasFaultAt (map f xs) (map f (set ys i y)) i fault
-  read_fault fault faulty = record {
+  HasFaultAt-input fault faulty = record {
     parts = ps;
-    before = earlier;
+    before = HaveRead-others;
     was = f x;
     becomes = f y;
-    there = was;
-    left = becomes;
+    there = reading-before;
+    left = reading-after;
     is = subst (λ (z : A). IsFaulty (f z) (f y) fault) (sym is) faulty;
   }
 
-  pub read_fault_at : (place : ℕ) (fault : PartInputFault) → place ≡ length ps → IsFaulty (f (get_or ys i x)) (f y)
+  -- if as many parts were read as the place says, the fault of the next input is at this place
+  pub HasFaultAt-place : (place : ℕ) (fault : PartInputFault) → place ≡ length ps → IsFaulty (f (get_or ys i x)) (f y)
       fault
       → HasFaultAt (map f xs) (map f (set ys i y)) place fault
-  read_fault_at place fault e faulty =
+  HasFaultAt-place place fault e faulty =
       subst (λ (n : ℕ). HasFaultAt (map f xs) (map f (set ys i y)) n fault) (sym (e ∙ before.many))
-      (read_fault fault faulty)
+      (HasFaultAt-input fault faulty)
 
+  -- the input i has the bytes of the part p
   module _ (p : PartValue) (fits : FitsPart p) (reads : IsReading (f (get_or ys i x)) (f y) (Some (part_bytes p))) where
-    of_this : (a b : Reading) (q : PartValue) → slice_get (map f xs) i ≡ Some a
+    -- the input i was read as the bytes of its part
+    IsReading-this : (a b : Reading) (q : PartValue) → slice_get (map f xs) i ≡ Some a
         → slice_get (map f (set ys i y)) i ≡ Some b → p ≡ q → IsReading a b (Some (part_bytes q))
-    of_this a b q at_a at_b e =
-        let a_is : f x ≡ a = same_Some (f x) a (sym was ∙ at_a) in
-        let b_is : f y ≡ b = same_Some (f y) b (sym becomes ∙ at_b) in
+    IsReading-this a b q at_a at_b e =
+        let a_is : f x ≡ a = same_Some (f x) a (sym reading-before ∙ at_a) in
+        let b_is : f y ≡ b = same_Some (f y) b (sym reading-after ∙ at_b) in
         subst (λ (r : PartValue). IsReading a b (Some (part_bytes r))) e
         (subst (λ (r : Reading). IsReading a r (Some (part_bytes p))) b_is
         (subst (λ (r : Reading). IsReading r (f y) (Some (part_bytes p))) a_is
         (subst (λ (z : A). IsReading (f z) (f y) (Some (part_bytes p))) (sym is) reads)))
 
-    of_each : (k : ℕ) (a b : Reading) (q : PartValue) → slice_get (map f xs) k ≡ Some a
+    -- each of the first i + 1 inputs was read as the bytes of its part
+    IsReading-each : (k : ℕ) (a b : Reading) (q : PartValue) → slice_get (map f xs) k ≡ Some a
         → slice_get (map f (set ys i y)) k ≡ Some b → (slice_get ps k ≡ Some q) ⊎ ((k ≡ length ps) × (p ≡ q))
         → IsReading a b (Some (part_bytes q))
-    of_each k a b q at_a at_b (inl at_q) = earlier.read k a b q at_a at_b at_q
-    of_each k a b q at_a at_b (inr last) =
+    IsReading-each k a b q at_a at_b (inl at_q) = HaveRead-others.read k a b q at_a at_b at_q
+    IsReading-each k a b q at_a at_b (inr last) =
         let e : k ≡ i = last.0 ∙ before.many in
-        of_this a b q (subst (λ (n : ℕ). slice_get (map f xs) n ≡ Some a) e at_a)
+        IsReading-this a b q (subst (λ (n : ℕ). slice_get (map f xs) n ≡ Some a) e at_a)
         (subst (λ (n : ℕ). slice_get (map f (set ys i y)) n ≡ Some b) e at_b) last.1
 
     -- the input i is a part, and the first i + 1 inputs are
-    pub read_more : HaveRead (map f xs) (map f (set ys i y)) (i + 1) (ps ++ p ∷ [])
-    read_more = record {
+    pub HaveRead-one_more : HaveRead (map f xs) (map f (set ys i y)) (i + 1) (ps ++ p ∷ [])
+    HaveRead-one_more = record {
       within = subst (λ (n : ℕ). i + 1 ≤ n) (same ∙ sym (length-map xs f)) (omega arith);
       many = length-append ps (p ∷ []) ∙ ap (λ (n : ℕ). n + 1) before.many;
       fit = All-push FitsPart ps p before.fit fits;
-      read = λ k a b q at_a at_b at_q. of_each k a b q at_a at_b (get_snoc ps p q k at_q);
+      read = λ k a b q at_a at_b at_q. IsReading-each k a b q at_a at_b (slice_get-append_one ps p q k at_q);
     }
 
 -- if n isn't below the number of inputs, all are parts
-pub read_each : {A : Type 0} (f : A → Reading) (xs ys : List A) (n : ℕ) (ps : List PartValue) → length xs ≤ n
+pub ReadParts-all : {A : Type 0} (f : A → Reading) (xs ys : List A) (n : ℕ) (ps : List PartValue) → length xs ≤ n
     → HaveRead (map f xs) (map f ys) n ps → ReadParts (map f xs) (map f ys) ps
-read_each f xs ys n ps all have =
+ReadParts-all f xs ys n ps all have =
     let within : n ≤ length xs = subst (λ (m : ℕ). n ≤ m) (length-map xs f) have.within in
     let same : n ≡ length xs = omega arith in
     record { many = have.many ∙ (same ∙ sym (length-map xs f)); fit = have.fit; read = have.read }
 
 -- if P holds of each item of `map f xs`, it holds of f x for each x in xs
-pub all_seen : {A B : Type 0} (P : B → Type 0) (f : A → B) (xs : List A) → All P (map f xs) → All (λ x. P (f x)) xs
-all_seen P f xs h k d low =
+pub All-map : {A B : Type 0} (P : B → Type 0) (f : A → B) (xs : List A) → All P (map f xs) → All (λ x. P (f x)) xs
+All-map P f xs h k d low =
     subst P (get_or-map f xs k d (f d) low) (h k (f d) (subst (λ (n : ℕ). k < n) (sym (length-map xs f)) low))
 
 -- changing the item i doesn't change the names, if its name stays
-pub same_names : {A B : Type 0} (g : A → B) (ys : List A) (i : ℕ) (x y : A) → i < length ys → g y ≡ g (get_or ys i x)
+pub map-set_same_name : {A B : Type 0} (g : A → B) (ys : List A) (i : ℕ) (x y : A) → i < length ys → g y
+    ≡ g (get_or ys i x)
     → map g (set ys i y) ≡ map g ys
-same_names g [] i x y within same = refl
-same_names g (z ∷ zs) zero x y within same = ap (λ n. n ∷ map g zs) same
-same_names g (z ∷ zs) (suc i) x y within same = ap (λ l. g z ∷ l) (same_names g zs i x y (omega arith) same)
+map-set_same_name g [] i x y within same = refl
+map-set_same_name g (z ∷ zs) zero x y within same = ap (λ n. n ∷ map g zs) same
+map-set_same_name g (z ∷ zs) (suc i) x y within same =
+    ap (λ l. g z ∷ l) (map-set_same_name g zs i x y (omega arith) same)
 
 -- the name of the item i is the item i of the names
-pub name_there : {A : Type 0} (g : A → List ℕ) (xs : List A) (i : ℕ) (x : A) → slice_get xs i ≡ Some x
+pub get_or-name : {A : Type 0} (g : A → List ℕ) (xs : List A) (i : ℕ) (x : A) → slice_get xs i ≡ Some x
     → g x ≡ get_or (map g xs) i []
-name_there g [] i x there = absurd (none-some x there)
-name_there g (y ∷ ys) zero x there = ap g (sym (same_Some y x there))
-name_there g (y ∷ ys) (suc i) x there = name_there g ys i x there
+get_or-name g [] i x there = absurd (none-some x there)
+get_or-name g (y ∷ ys) zero x there = ap g (sym (same_Some y x there))
+get_or-name g (y ∷ ys) (suc i) x there = get_or-name g ys i x there
 
-pub no_name_there : {A : Type 0} (g : A → List ℕ) (xs : List A) (i : ℕ) → slice_get xs i ≡ None
+-- where there is no item i, there is no name i
+pub get_or-no_name : {A : Type 0} (g : A → List ℕ) (xs : List A) (i : ℕ) → slice_get xs i ≡ None
     → [] ≡ get_or (map g xs) i []
-no_name_there g [] i none = refl
-no_name_there g (y ∷ ys) zero none = absurd (none-some y (sym none))
-no_name_there g (y ∷ ys) (suc i) none = no_name_there g ys i none
+get_or-no_name g [] i none = refl
+get_or-no_name g (y ∷ ys) zero none = absurd (none-some y (sym none))
+get_or-no_name g (y ∷ ys) (suc i) none = get_or-no_name g ys i none

@@ -1,4 +1,4 @@
--- Markup has only visible characters, spaces and line feeds.
+-- Markup is visible text: it has only visible characters, spaces and line feeds.
 use Rattle.std.proofs.Common.{◌≡◌, ◌∙◌, ◌++◌, ◌==◌, ◌∷◌, Bool, List, [], ℕ, codes, false, flat_map, if◌then◌else◌}
 use Rattle.std.proofs.Common.{refl, subst, sym, true}
 use Rattle.std.proofs.lemmas.Bool.{and_from, eqb-true}
@@ -16,12 +16,14 @@ use Rattle.vme_picture.specs.declared.markup.Attribute.TheVariants as attribute
 use Rattle.vme_picture.specs.declared.markup.Tag.{Tag}
 use Rattle.vme_picture.specs.declared.markup.Tag.TheVariants as tag
 
-visible_append : (xs ys : List ℕ) → IsVisible xs → IsVisible ys → IsVisible (xs ++ ys)
-visible_append xs ys first second =
+-- two visible texts are visible together
+IsVisible-append : (xs ys : List ℕ) → IsVisible xs → IsVisible ys → IsVisible (xs ++ ys)
+IsVisible-append xs ys first second =
     list_all-append is_visible xs ys ∙ and_from (list_all is_visible xs) (list_all is_visible ys) first second
 
-shown : (b : ℕ) → IsVisible (hex_escaped_byte b)
-shown b = by_test (b == 10) refl
+-- a byte that is escaped by its number is visible
+IsVisible-hex_escaped_byte : (b : ℕ) → IsVisible (hex_escaped_byte b)
+IsVisible-hex_escaped_byte b = by_test (b == 10) refl
   where
     by_test : (t : Bool) → (b == 10) ≡ t → IsVisible (hex_escaped_byte b)
     by_test true e = subst (λ (n : ℕ). IsVisible (hex_escaped_byte n)) (sym (eqb-true b 10 e)) refl
@@ -30,8 +32,9 @@ shown b = by_test (b == 10) refl
         (λ (t : Bool). IsVisible ((if t then b ∷ [] else hex_escaped_byte b) ++ [])) e (text_is_visible (b ∷ [])) in
         subst IsVisible (append-nil (hex_escaped_byte b)) in_text
 
-escaped_one : (b : ℕ) → IsVisible (escaped_byte b)
-escaped_one b = by_tests (b == 38) (b == 60) (b == 62) (b == 34)
+-- a byte that is escaped, or stays as it is, is visible
+IsVisible-escaped_byte : (b : ℕ) → IsVisible (escaped_byte b)
+IsVisible-escaped_byte b = by_tests (b == 38) (b == 60) (b == 62) (b == 34)
   where
     by_tests : (t u v w : Bool)
         → IsVisible
@@ -44,93 +47,104 @@ escaped_one b = by_tests (b == 38) (b == 60) (b == 62) (b == 34)
     by_tests false true v w = refl
     by_tests false false true w = refl
     by_tests false false false true = refl
-    by_tests false false false false = shown b
+    by_tests false false false false = IsVisible-hex_escaped_byte b
 
-escaped_all : (bs : List ℕ) → IsVisible (escaped bs)
-escaped_all [] = refl
-escaped_all (b ∷ bs) = visible_append (escaped_byte b) (escaped bs) (escaped_one b) (escaped_all bs)
+-- escaped bytes are visible
+IsVisible-escaped : (bs : List ℕ) → IsVisible (escaped bs)
+IsVisible-escaped [] = refl
+IsVisible-escaped (b ∷ bs) = IsVisible-append (escaped_byte b) (escaped bs) (IsVisible-escaped_byte b)
+    (IsVisible-escaped bs)
 
-visible_tag : (name : Tag) → IsVisible (tag_name name)
-visible_tag tag.Svg = refl
-visible_tag tag.Title = refl
-visible_tag tag.Defs = refl
-visible_tag tag.Pattern = refl
-visible_tag tag.Path = refl
-visible_tag tag.Rect = refl
-visible_tag tag.Text = refl
+-- the name of a tag is visible
+IsVisible-tag_name : (name : Tag) → IsVisible (tag_name name)
+IsVisible-tag_name tag.Svg = refl
+IsVisible-tag_name tag.Title = refl
+IsVisible-tag_name tag.Defs = refl
+IsVisible-tag_name tag.Pattern = refl
+IsVisible-tag_name tag.Path = refl
+IsVisible-tag_name tag.Rect = refl
+IsVisible-tag_name tag.Text = refl
 
-visible_name : (name : Attribute) → IsVisible (attribute_name name)
-visible_name attribute.Xmlns = refl
-visible_name attribute.Id = refl
-visible_name attribute.X = refl
-visible_name attribute.Y = refl
-visible_name attribute.Width = refl
-visible_name attribute.Height = refl
-visible_name attribute.ViewBox = refl
-visible_name attribute.PatternUnits = refl
-visible_name attribute.FontFamily = refl
-visible_name attribute.FontSize = refl
-visible_name attribute.FontWeight = refl
-visible_name attribute.TextAnchor = refl
-visible_name attribute.D = refl
-visible_name attribute.Fill = refl
-visible_name attribute.Stroke = refl
-visible_name attribute.StrokeWidth = refl
-visible_name attribute.StrokeDasharray = refl
+-- the name of an attribute is visible
+IsVisible-attribute_name : (name : Attribute) → IsVisible (attribute_name name)
+IsVisible-attribute_name attribute.Xmlns = refl
+IsVisible-attribute_name attribute.Id = refl
+IsVisible-attribute_name attribute.X = refl
+IsVisible-attribute_name attribute.Y = refl
+IsVisible-attribute_name attribute.Width = refl
+IsVisible-attribute_name attribute.Height = refl
+IsVisible-attribute_name attribute.ViewBox = refl
+IsVisible-attribute_name attribute.PatternUnits = refl
+IsVisible-attribute_name attribute.FontFamily = refl
+IsVisible-attribute_name attribute.FontSize = refl
+IsVisible-attribute_name attribute.FontWeight = refl
+IsVisible-attribute_name attribute.TextAnchor = refl
+IsVisible-attribute_name attribute.D = refl
+IsVisible-attribute_name attribute.Fill = refl
+IsVisible-attribute_name attribute.Stroke = refl
+IsVisible-attribute_name attribute.StrokeWidth = refl
+IsVisible-attribute_name attribute.StrokeDasharray = refl
 
-visible_attribute : (name : Attribute) (value : List ℕ) → IsVisible (attribute_text (name, value))
-visible_attribute name value =
+-- the text of an attribute is visible
+IsVisible-attribute_text : (name : Attribute) (value : List ℕ) → IsVisible (attribute_text (name, value))
+IsVisible-attribute_text name value =
     let named : List ℕ = codes " " ++ attribute_name name in
     let opened : List ℕ = named ++ 61 ∷ 34 ∷ [] in
-    let of_named : IsVisible named = visible_append (codes " ") (attribute_name name) refl (visible_name name) in
-    let of_opened : IsVisible opened = visible_append named (61 ∷ 34 ∷ []) of_named refl in
+    let of_named : IsVisible named = IsVisible-append (codes " ") (attribute_name name) refl
+    (IsVisible-attribute_name name) in
+    let of_opened : IsVisible opened = IsVisible-append named (61 ∷ 34 ∷ []) of_named refl in
     let of_value : IsVisible (opened ++ escaped value) =
-    visible_append opened (escaped value) of_opened (escaped_all value) in
-    visible_append (opened ++ escaped value) (34 ∷ []) of_value refl
+    IsVisible-append opened (escaped value) of_opened (IsVisible-escaped value) in
+    IsVisible-append (opened ++ escaped value) (34 ∷ []) of_value refl
 
-visible_attributes : (list : List (Attribute × List ℕ)) → IsVisible (flat_map attribute_text list)
-visible_attributes [] = refl
-visible_attributes ((name, value) ∷ rest) =
-    visible_append (attribute_text (name, value)) (flat_map attribute_text rest) (visible_attribute name value)
-    (visible_attributes rest)
+-- the texts of attributes are visible
+IsVisible-attributes : (list : List (Attribute × List ℕ)) → IsVisible (flat_map attribute_text list)
+IsVisible-attributes [] = refl
+IsVisible-attributes ((name, value) ∷ rest) =
+    IsVisible-append (attribute_text (name, value)) (flat_map attribute_text rest) (IsVisible-attribute_text name value)
+    (IsVisible-attributes rest)
 
-visible_element : (name : Tag) (attributes inner : List ℕ) → IsVisible attributes → IsVisible inner
+-- the text of an element is visible, if those of its attributes and of what is inside are
+IsVisible-element_text : (name : Tag) (attributes inner : List ℕ) → IsVisible attributes → IsVisible inner
     → IsVisible (element_text name attributes inner)
-visible_element name attributes inner a i =
+IsVisible-element_text name attributes inner a i =
     let begun : List ℕ = codes "<" ++ tag_name name in
     let opened : List ℕ = begun ++ attributes ++ codes ">" in
     let filled : List ℕ = opened ++ inner in
     let ended : List ℕ = filled ++ codes "</" in
-    let of_begun : IsVisible begun = visible_append (codes "<") (tag_name name) refl (visible_tag name) in
-    let of_attributes : IsVisible (begun ++ attributes) = visible_append begun attributes of_begun a in
-    let of_opened : IsVisible opened = visible_append (begun ++ attributes) (codes ">") of_attributes refl in
-    let of_filled : IsVisible filled = visible_append opened inner of_opened i in
-    let of_ended : IsVisible ended = visible_append filled (codes "</") of_filled refl in
+    let of_begun : IsVisible begun = IsVisible-append (codes "<") (tag_name name) refl (IsVisible-tag_name name) in
+    let of_attributes : IsVisible (begun ++ attributes) = IsVisible-append begun attributes of_begun a in
+    let of_opened : IsVisible opened = IsVisible-append (begun ++ attributes) (codes ">") of_attributes refl in
+    let of_filled : IsVisible filled = IsVisible-append opened inner of_opened i in
+    let of_ended : IsVisible ended = IsVisible-append filled (codes "</") of_filled refl in
     let of_name : IsVisible (ended ++ tag_name name) =
-    visible_append ended (tag_name name) of_ended (visible_tag name) in
-    visible_append (ended ++ tag_name name) (codes ">") of_name refl
+    IsVisible-append ended (tag_name name) of_ended (IsVisible-tag_name name) in
+    IsVisible-append (ended ++ tag_name name) (codes ">") of_name refl
 
-visible_tree : (m : MarkupTree) → IsVisible (markup_text m)
+-- the text of a tree of markup is visible
+IsVisible-markup_text : (m : MarkupTree) → IsVisible (markup_text m)
 unfolding markup_text
-visible_tree nothing = refl
-visible_tree (characters bytes rest) =
-    visible_append (escaped bytes) (markup_text rest) (escaped_all bytes) (visible_tree rest)
-visible_tree (end_of_line rest) = visible_append (10 ∷ []) (markup_text rest) refl (visible_tree rest)
-visible_tree (element name attributes inner rest) =
+IsVisible-markup_text nothing = refl
+IsVisible-markup_text (characters bytes rest) =
+    IsVisible-append (escaped bytes) (markup_text rest) (IsVisible-escaped bytes) (IsVisible-markup_text rest)
+IsVisible-markup_text (end_of_line rest) =
+    IsVisible-append (10 ∷ []) (markup_text rest) refl (IsVisible-markup_text rest)
+IsVisible-markup_text (element name attributes inner rest) =
     let written : List ℕ = flat_map attribute_text attributes in
-    visible_append (element_text name written (markup_text inner)) (markup_text rest)
-    (visible_element name written (markup_text inner) (visible_attributes attributes) (visible_tree inner))
-    (visible_tree rest)
+    IsVisible-append (element_text name written (markup_text inner)) (markup_text rest)
+    (IsVisible-element_text name written (markup_text inner) (IsVisible-attributes attributes)
+    (IsVisible-markup_text inner))
+    (IsVisible-markup_text rest)
 
 -- a picture has only visible characters, spaces and line feeds
-pub picture_is_visible : (attributes inner : List ℕ) → AreAttributes attributes → IsMarkup inner
+pub IsVisible-picture : (attributes inner : List ℕ) → AreAttributes attributes → IsMarkup inner
     → IsVisible (picture_first_line ++ element_text tag.Svg attributes inner ++ 10 ∷ [])
-picture_is_visible attributes inner a i =
-    let of_attributes : IsVisible attributes = subst IsVisible (sym a.1) (visible_attributes a.0) in
-    let of_inner : IsVisible inner = subst IsVisible (sym i.1) (visible_tree i.0) in
-    let of_element : IsVisible (element_text tag.Svg attributes inner) = visible_element tag.Svg attributes inner
+IsVisible-picture attributes inner a i =
+    let of_attributes : IsVisible attributes = subst IsVisible (sym a.1) (IsVisible-attributes a.0) in
+    let of_inner : IsVisible inner = subst IsVisible (sym i.1) (IsVisible-markup_text i.0) in
+    let of_element : IsVisible (element_text tag.Svg attributes inner) = IsVisible-element_text tag.Svg attributes inner
     of_attributes of_inner in
     let marked : List ℕ = picture_first_line ++ element_text tag.Svg attributes inner in
     let of_marked : IsVisible marked =
-    visible_append picture_first_line (element_text tag.Svg attributes inner) refl of_element in
-    visible_append marked (10 ∷ []) of_marked refl
+    IsVisible-append picture_first_line (element_text tag.Svg attributes inner) refl of_element in
+    IsVisible-append marked (10 ∷ []) of_marked refl

@@ -130,7 +130,7 @@ impl Model for Attributes {
 
 impl Attributes {
     /// No attributes.
-    #[tactic(auto, using(crate::proofs::MarkupLemmas::no_attributes))]
+    #[tactic(auto, using(crate::proofs::MarkupLemmas::AreAttributes-empty))]
     pub fn new(alloc: Global) -> Attributes
         ensures { result ≡ [] }
     {
@@ -205,7 +205,7 @@ impl Model for Markup {
 
 impl Markup {
     /// Empty markup.
-    #[tactic(auto, using(crate::proofs::MarkupLemmas::no_markup))]
+    #[tactic(auto, using(crate::proofs::MarkupLemmas::IsMarkup-empty))]
     pub fn new(alloc: Global) -> Markup
         ensures { result ≡ [] }
     {

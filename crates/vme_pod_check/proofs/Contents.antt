@@ -1,4 +1,5 @@
--- A run joins the recording whose blocks are delivered.
+-- A run on deliveries of the blocks of a recording joins that recording, and reports the verdict on it or a fault that
+-- may come.
 use Rattle.std.proofs.Common.{◌≡◌, ℕ, zero, suc, ◌*◌, ◌<◌, ◌≤◌, List, [], ◌∷◌, length, slice_get, get_or, Some, None}
 use Rattle.std.proofs.Common.{Result, Ok, Err, sym, refl, ap, ◌∙◌, subst, arith}
 use Rattle.std.specs.Prelude.{All, IfErr, IfOk}
@@ -25,111 +26,126 @@ use Rattle.vme_pod_check.specs.declared.unjudged.Unjudged.{Unjudged}
 use Rattle.vme_pod_check.specs.declared.unjudged.Unjudged.TheVariants.{NoWorker}
 
 -- what holds of all items holds of the item with the index k
-all_at : (P : Block → Type 0) (xs : List Block) (k : ℕ) (x : Block) → All P xs → slice_get xs k ≡ Some x → P x
-all_at P [] k x all at = absurd (none-some x at)
-all_at P (y ∷ ys) zero x all at = subst P (same_Some y x at) (all zero y (omega arith))
-all_at P (y ∷ ys) (suc k) x all at = all_at P ys k x (λ j d l. all (suc j) d (omega (arith, l))) at
+All-at : (P : Block → Type 0) (xs : List Block) (k : ℕ) (x : Block) → All P xs → slice_get xs k ≡ Some x → P x
+All-at P [] k x all at = absurd (none-some x at)
+All-at P (y ∷ ys) zero x all at = subst P (same_Some y x at) (all zero y (omega arith))
+All-at P (y ∷ ys) (suc k) x all at = All-at P ys k x (λ j d l. all (suc j) d (omega (arith, l))) at
 
 -- the content of deliveries of some blocks is those blocks
-pub content_is : (blocks deliveries : List Block) (answers : List Answer) (content : List Block) (total : ℕ) → total
+pub IsContent-unique : (blocks deliveries : List Block) (answers : List Answer) (content : List Block) (total : ℕ)
+    → total
     ≡ length blocks → AreTakenFrom blocks deliveries → IsContent total deliveries answers content → content ≡ blocks
-content_is blocks deliveries answers content total count of c = list-equal content blocks (c.count ∙ count) (λ n b at.
-    let f = c.filed n b at in let own : slice_get blocks b.number ≡ Some b = all_at
+IsContent-unique blocks deliveries answers content total count of c =
+    list-equal content blocks (c.count ∙ count) (λ n b at.
+    let f = c.filed n b at in let own : slice_get blocks b.number ≡ Some b = All-at
     (λ (x : Block). slice_get blocks x.number ≡ Some x) deliveries f.0 b of f.1.1 in
     ap (λ (k : ℕ). slice_get blocks k) (sym (c.numbered n b at)) ∙ own)
 
-pub cut_joins : (t : Trace) (size : ℕ) → malformed_step t ≡ None → BlocksJoin (blocks_of size t)
-cut_joins t size sound = BlocksJoin-blocks_from t size sound 0 0 0 (block_count size t) refl
+-- the blocks of a cut of a well-formed recording join
+pub BlocksJoin-blocks_of : (t : Trace) (size : ℕ) → malformed_step t ≡ None → BlocksJoin (blocks_of size t)
+BlocksJoin-blocks_of t size sound = BlocksJoin-blocks_from t size sound 0 0 0 (block_count size t) refl
 
-numbered : (t : Trace) (size : ℕ) (k : ℕ) (d : Block) → k < block_count size t → get_or (blocks_of size t) k d
+-- the block with the index k of a cut is the block k
+blocks_of-at : (t : Trace) (size : ℕ) (k : ℕ) (d : Block) → k < block_count size t → get_or (blocks_of size t) k d
     ≡ block_at size t k
-numbered t size k d low = get_or-map-range_with_len (block_at size t) 0 (block_count size t) k k d low (omega arith)
+blocks_of-at t size k d low = get_or-map-range_with_len (block_at size t) 0 (block_count size t) k k d low (omega arith)
 
 -- the index of each block of a cut is its number
-pub cut_numbered : (t : Trace) (size : ℕ) → AreTakenFrom (blocks_of size t) (blocks_of size t)
-cut_numbered t size k d low =
+pub AreTakenFrom-blocks_of : (t : Trace) (size : ℕ) → AreTakenFrom (blocks_of size t) (blocks_of size t)
+AreTakenFrom-blocks_of t size k d low =
     let long : length (blocks_of size t) ≡ block_count size t = length-map-range_with_len (block_at size t) 0
     (block_count size t) in
-    let is = numbered t size k d (omega (arith, low, long)) in
+    let is = blocks_of-at t size k d (omega (arith, low, long)) in
     let at : slice_get (blocks_of size t) k ≡ Some (block_at size t k) = slice_get-get_or (blocks_of size t) k d low
     ∙ ap (λ (b : Block). Some b) is in
     subst (λ (b : Block). slice_get (blocks_of size t) b.number ≡ Some b) (sym is) at
 
 -- the recording that the content of deliveries makes is the one that their blocks make
-capture_is : (blocks : List Block) (t made : Trace) (content : List Block) → content ≡ blocks → joined_trace blocks
+joined_trace-unique : (blocks : List Block) (t made : Trace) (content : List Block) → content ≡ blocks
+    → joined_trace blocks
     ≡ Some t → joined_trace content ≡ Some made → made ≡ t
-capture_is blocks t made content is joined content_joined = same_Some made t (sym content_joined
+joined_trace-unique blocks t made content is joined content_joined = same_Some made t (sym content_joined
     ∙ (ap joined_trace is ∙ joined))
 
 -- a report on deliveries of blocks that join has the verdict on their recording
-pub report_verdict : (blocks deliveries : List Block) (total : ℕ) (outcome : Result Report RunFault) (t : Trace) → total
+pub verdict-of_report : (blocks deliveries : List Block) (total : ℕ) (outcome : Result Report RunFault) (t : Trace)
+    → total
     ≡ length blocks → AreTakenFrom blocks deliveries → joined_trace blocks ≡ Some t
     → IfOk outcome (λ r. IsRecorded total deliveries r.answers r.capture r.span)
     → IfOk outcome (λ r. r.verdict ≡ verdict_by rules_in_force r.capture)
     → IfOk outcome (λ r. r.verdict ≡ verdict_by rules_in_force t)
-report_verdict blocks deliveries total (Ok r) t count of joined recorded verdict =
-    let content = content_is blocks deliveries r.answers recorded.blocks total count of recorded.content in
-    let same : r.capture ≡ t = capture_is blocks t r.capture recorded.blocks content joined recorded.capture_is in
+verdict-of_report blocks deliveries total (Ok r) t count of joined recorded verdict =
+    let content = IsContent-unique blocks deliveries r.answers recorded.blocks total count of recorded.content in
+    let same : r.capture ≡ t = joined_trace-unique blocks t r.capture recorded.blocks content joined
+    recorded.capture_is in
     verdict ∙ ap (λ (x : Trace). verdict_by rules_in_force x) same
-report_verdict blocks deliveries total (Err f) t count of joined recorded verdict = tt
+verdict-of_report blocks deliveries total (Err f) t count of joined recorded verdict = tt
 
-too_long : (blocks deliveries total : ℕ) → total ≡ blocks → total ≤ 4096 → deliveries ≤ 2 * blocks → 65536 < deliveries
+-- at most 4,096 blocks have at most 65,536 deliveries, if these are at most twice as many
+deliveries-at_most : (blocks deliveries total : ℕ) → total ≡ blocks → total ≤ 4096 → deliveries ≤ 2 * blocks
+    → 65536 < deliveries
     → ⊥
-too_long blocks deliveries total is few short many = omega arith
+deliveries-at_most blocks deliveries total is few short many = omega arith
 
 -- a fault of a run on deliveries of blocks that join, with numbers in range, satisfies `MayCome`
-may_come : (blocks deliveries : List Block) (total workers : ℕ) (f : RunFault) → total ≡ length blocks → 0 < total
+MayCome-of_fault : (blocks deliveries : List Block) (total workers : ℕ) (f : RunFault) → total ≡ length blocks
+    → 0 < total
     → total ≤ 4096 → 0 < workers → workers ≤ 64
     → BlocksJoin blocks → AreDeliveries blocks deliveries → IsFault total deliveries workers f → MayCome f
-may_come blocks ds total w fault.BadTotal is positive few some most join d r =
+MayCome-of_fault blocks ds total w fault.BadTotal is positive few some most join d r =
     in_range-not_out total 4096 positive few r
-may_come blocks ds total w fault.BadDraws is positive few some most join d r = too_long (length blocks) (length ds)
+MayCome-of_fault blocks ds total w fault.BadDraws is positive few some most join d r =
+    deliveries-at_most (length blocks) (length ds)
     total is few d.count r.2
-may_come blocks ds total w fault.BadWorkers is positive few some most join d r = in_range-not_out w 64 some most r.3
-may_come blocks ds total w fault.Memory is positive few some most join d r = tt
-may_come blocks ds total w fault.NoWorker is positive few some most join d r = tt
-may_come blocks ds total w fault.Stray is positive few some most join d r = r
-may_come blocks ds total w (fault.Missing n answers) is positive few some most join d r = tt
-may_come blocks ds total w (fault.Torn n answers) is positive few some most join d r =
+MayCome-of_fault blocks ds total w fault.BadWorkers is positive few some most join d r = in_range-not_out w 64 some most r.3
+MayCome-of_fault blocks ds total w fault.Memory is positive few some most join d r = tt
+MayCome-of_fault blocks ds total w fault.NoWorker is positive few some most join d r = tt
+MayCome-of_fault blocks ds total w fault.Stray is positive few some most join d r = r
+MayCome-of_fault blocks ds total w (fault.Missing n answers) is positive few some most join d r = tt
+MayCome-of_fault blocks ds total w (fault.Torn n answers) is positive few some most join d r =
     let torn = r.1 in
     IsLeastTornBlock-never torn.blocks n
-    (subst BlocksJoin (sym (content_is blocks ds answers torn.blocks total is d.of torn.content)) join) torn.torn
+    (subst BlocksJoin (sym (IsContent-unique blocks ds answers torn.blocks total is d.of torn.content)) join) torn.torn
 
-pub outcome_may_come : (blocks deliveries : List Block) (total workers : ℕ) (outcome : Result Report RunFault) → total
+-- a fault with which a run on deliveries of blocks that join ends, with numbers in range, satisfies `MayCome`
+pub MayCome-of_outcome : (blocks deliveries : List Block) (total workers : ℕ) (outcome : Result Report RunFault) → total
     ≡ length blocks → 0 < total → total ≤ 4096 → 0 < workers → workers ≤ 64
     → BlocksJoin blocks → AreDeliveries blocks deliveries → IfErr outcome (λ f. IsFault total deliveries workers f)
     → IfErr outcome MayCome
-outcome_may_come blocks ds total w (Ok r) is positive few some most join d refusals = tt
-outcome_may_come blocks ds total w (Err f) is positive few some most join d refusals = may_come blocks ds total w f is
+MayCome-of_outcome blocks ds total w (Ok r) is positive few some most join d refusals = tt
+MayCome-of_outcome blocks ds total w (Err f) is positive few some most join d refusals =
+    MayCome-of_fault blocks ds total w f is
     positive few some most join d refusals
 
 -- with one worker, no thread fails to start
-pub outcome_alone : (deliveries : List Block) (total workers : ℕ) (outcome : Result Report RunFault)
+pub NeedsThreads-of_outcome : (deliveries : List Block) (total workers : ℕ) (outcome : Result Report RunFault)
     (judged : Result Verdict Unjudged) → IfErr outcome (λ f. IsFault total deliveries workers f)
     → IfErr judged (λ unjudged. unjudged ≡ NoWorker → outcome ≡ Err fault.NoWorker) → NeedsThreads workers judged
-outcome_alone ds total w outcome (Ok v) refusals alone = tt
-outcome_alone ds total w outcome (Err unjudged) refusals alone = λ is.
+NeedsThreads-of_outcome ds total w outcome (Ok v) refusals alone = tt
+NeedsThreads-of_outcome ds total w outcome (Err unjudged) refusals alone = λ is.
     (subst (λ (o : Result Report RunFault). IfErr o (λ f. IsFault total ds w f)) (alone is) refusals).1
 
 -- a fault that satisfies `MayCome` is `NoWorker`, `Memory` or `Missing`
-pub none_left : (f : RunFault) → MayCome f → (f ≡ fault.NoWorker → ⊥) → (f ≡ fault.Memory → ⊥)
+pub MayCome-three_faults : (f : RunFault) → MayCome f → (f ≡ fault.NoWorker → ⊥) → (f ≡ fault.Memory → ⊥)
     → ((n : ℕ) (answers : List Answer) → f ≡ fault.Missing n answers → ⊥) → ⊥
-none_left fault.BadTotal may worker memory missing = may
-none_left fault.BadDraws may worker memory missing = may
-none_left fault.BadWorkers may worker memory missing = may
-none_left fault.Memory may worker memory missing = memory refl
-none_left fault.NoWorker may worker memory missing = worker refl
-none_left fault.Stray may worker memory missing = may
-none_left (fault.Missing n answers) may worker memory missing = missing n answers refl
-none_left (fault.Torn n answers) may worker memory missing = may
+MayCome-three_faults fault.BadTotal may worker memory missing = may
+MayCome-three_faults fault.BadDraws may worker memory missing = may
+MayCome-three_faults fault.BadWorkers may worker memory missing = may
+MayCome-three_faults fault.Memory may worker memory missing = memory refl
+MayCome-three_faults fault.NoWorker may worker memory missing = worker refl
+MayCome-three_faults fault.Stray may worker memory missing = may
+MayCome-three_faults (fault.Missing n answers) may worker memory missing = missing n answers refl
+MayCome-three_faults (fault.Torn n answers) may worker memory missing = may
 
-pub few_of : (n : ℕ) → (4096 < n → ⊥) → n ≤ 4096
-few_of n h = grind arith
+-- a number that isn't above 4,096 is at most 4,096
+pub not_above-at_most : (n : ℕ) → (4096 < n → ⊥) → n ≤ 4096
+not_above-at_most n h = grind arith
 
 -- a cut that isn't refused for too many blocks has 1 to 4,096 blocks
-pub cut_count : (t : Trace) (size : ℕ) (blocks : List Block) → blocks ≡ blocks_of size t → block_count size t ≤ 4096
+pub length-blocks_of : (t : Trace) (size : ℕ) (blocks : List Block) → blocks ≡ blocks_of size t
+    → block_count size t ≤ 4096
     → (1 ≤ length blocks) × (length blocks ≤ 4096)
-cut_count t size blocks is few =
+length-blocks_of t size blocks is few =
     let full : 0 < length (blocks_of size t) = blocks_of-not_empty t size in
     let long : length (blocks_of size t) ≡ block_count size t = length-map-range_with_len (block_at size t) 0
     (block_count size t) in
@@ -137,6 +153,6 @@ cut_count t size blocks is few =
     (omega (arith, full, same), omega (arith, long, same, few))
 
 -- the recording of a cut is the one that is cut
-pub cut_recording : (t : Trace) (size : ℕ) (blocks : List Block) → blocks ≡ blocks_of size t → 0 < size
+pub joined_trace-of_cut : (t : Trace) (size : ℕ) (blocks : List Block) → blocks ≡ blocks_of size t → 0 < size
     → joined_trace blocks ≡ Some t
-cut_recording t size blocks is some = ap joined_trace is ∙ joined_trace-blocks_of t size some
+joined_trace-of_cut t size blocks is some = ap joined_trace is ∙ joined_trace-blocks_of t size some

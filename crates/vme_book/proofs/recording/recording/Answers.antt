@@ -7,7 +7,8 @@ use Rattle.vme_trace.specs.Blocks.{joined_steps}
 use Rattle.vme_trace.specs.declared.block.Block.{Block}
 use Rattle.vme_trace.specs.declared.step.Step.{Step}
 use Rattle.vme_summary.proofs.Whole.{joined_trace-well_formed}
-use Rattle.vme_book.proofs.Prefixes.{all_there, as_many, few_steps, found_at, next_of, next_part, read_at, trace_is}
+use Rattle.vme_book.proofs.Prefixes.{prefix-of_all, length-places, length-joined_steps_bound, get_or-of_read}
+use Rattle.vme_book.proofs.Prefixes.{prefix-value_at, recording-next_block, read-of_get_or, joined_trace-of_all}
 use Rattle.vme_book.proofs.recording.recording.Goals as goal
 
 no_length : {A : Type 0} (xs : List A) → length xs ≡ 0 → xs ≡ []
@@ -30,9 +31,10 @@ unreachable-requires c =
     let items = c.args.blocks.items in
     let bs = c.requires.join.0 in
     let all = c.requires.join.1 in
-    let long = as_many items bs all.all in
-    let first = next_of items bs 0 (all_there items bs all.all) (omega arith) in
-    none-some first.0 (sym c.in-None.is ∙ read_at items 0 c.index.result.now first.0 (omega arith) c.index.ensures
+    let long = length-places items bs all.all in
+    let first = prefix-value_at items bs 0 (prefix-of_all items bs all.all) (omega arith) in
+    none-some first.0 (sym c.in-None.is ∙ read-of_get_or items 0 c.index.result.now first.0 (omega arith)
+    c.index.ensures
     first.1)
 
 pub unreachable-requires-in_default : goal.unreachable-requires-in_default
@@ -49,7 +51,7 @@ unreachable-requires-in_default-append c =
     let steps = c.loop-place.steps.items in
     let own = c.into_inner-own.result.items in
     let part = c.loop-place.invariant.parts bs all.all in
-    let next = next_part _ _ c.in-Some-place.place c.in-Some-place-2.block steps (steps ++ own) own _
+    let next = recording-next_block _ _ c.in-Some-place.place c.in-Some-place-2.block steps (steps ++ own) own _
     c.in-Some-place.ensures.steps.0 c.in-Some-place-2.is c.into_inner-own.ensures refl part.0 part.1 part.2 in
     let whole = ap length next.2 ∙ refl in
     let both = length-append (steps ++ own) (joined_steps next.0) in
@@ -74,7 +76,8 @@ loop-place-preserved c =
       counted = omega arith;
       parts = λ bs e.
           let part = inv.parts bs e in
-          next_part _ _ c.in-Some-place.place c.in-Some-place-2.block c.loop-place.steps.items c.append.new.self.items
+          recording-next_block _ _ c.in-Some-place.place c.in-Some-place-2.block c.loop-place.steps.items
+          c.append.new.self.items
           c.into_inner-own.result.items _ steps.0 c.in-Some-place-2.is c.into_inner-own.ensures c.in-Ok.ensures.items
           part.0 part.1 part.2;
       room = omega arith;
@@ -89,9 +92,10 @@ from_well_formed-requires c =
     let none = c.in-None-place.ensures.steps.0 in
     let steps : c.loop-place.steps.items ≡ joined_steps bs = last_part (into_iter_items c.loop-place.place-iterator)
     part.0 _ _ (c.loop-place.invariant.counted ∙ none) part.1 part.2 in
-    let first = found_at items 0 c.index.result.now c.in-Some.first c.requires.some c.index.ensures c.in-Some.is in
+    let first = get_or-of_read items 0 c.index.result.now c.in-Some.first c.requires.some c.index.ensures
+    c.in-Some.is in
     joined_trace-well_formed bs _ all.join c.requires.join.2
-    (trace_is items bs c.in-Some.first c.loop-place.steps.items all.all
+    (joined_trace-of_all items bs c.in-Some.first c.loop-place.steps.items all.all
     first steps)
 
 pub unreachable-requires-in-None-from_well_formed : goal.unreachable-requires-in-None-from_well_formed
@@ -103,7 +107,7 @@ unreachable-requires-in-None-from_well_formed c =
     let none = c.in-None-place.ensures.steps.0 in
     let steps : c.loop-place.steps.items ≡ joined_steps bs = last_part (into_iter_items c.loop-place.place-iterator)
     part.0 _ _ (c.loop-place.invariant.counted ∙ none) part.1 part.2 in
-    let long = as_many items bs all.all in
+    let long = length-places items bs all.all in
     let few = c.requires.placed.few in
     c.in-None-from_well_formed.ensures (subst (λ (l : List Step). length l ≤ 268435456) (sym steps)
-    (few_steps items bs c.requires.placed (all_there items bs all.all) (omega arith)))
+    (length-joined_steps_bound items bs c.requires.placed (prefix-of_all items bs all.all) (omega arith)))

@@ -1,7 +1,8 @@
 -- The steps are judged after those so far, or they are the first.
 use Rattle.std.proofs.lemmas.Result.{IfOk-weaker}
 use Rattle.vme_parts.specs.Opened.{opening_of, steps_of}
-use Rattle.vme_file_part.proofs.SoFar.{found-first, found-more, may-begin, may-so-far, stands-so-far}
+use Rattle.vme_file_part.proofs.SoFar.{IsFoundOfFile-first_steps, IsFoundOfFile-with_steps, FileMayGoOn-first_steps}
+use Rattle.vme_file_part.proofs.SoFar.{FileMayGoOn-so_far, StandsForFile-so_far}
 use Rattle.vme_file_part.proofs.file_so_far.segment_with.Goals as goal
 
 pub with_more-requires : goal.with_more-requires
@@ -12,8 +13,8 @@ with_more-requires c =
     let start = c.args.start in (
       opening_of number start t.opening t.steps,
       steps_of number start t.steps,
-      stands-so-far number listing start c.args.opening.now c.args.segment t h c.in-Some.segment c.in-Some.is,
-      may-so-far number listing start c.args.opening.now c.args.segment t h c.in-Some.segment c.in-Some.is
+      StandsForFile-so_far number listing start c.args.opening.now c.args.segment t h c.in-Some.segment c.in-Some.is,
+      FileMayGoOn-so_far number listing start c.args.opening.now c.args.segment t h c.in-Some.segment c.in-Some.is
           c.args.steps.now may,
     )
 
@@ -25,19 +26,21 @@ returns-in-Some c t h may =
     let opening = c.args.opening.now in
     let y = c.args.steps.now in
     IfOk-weaker c.with_more.result _ _
-    (λ s stands. found-more number listing start opening c.args.segment t h c.in-Some.segment c.in-Some.is y s stands)
+    (λ s stands. IsFoundOfFile-with_steps number listing start opening c.args.segment t h c.in-Some.segment c.in-Some.is
+    y s stands)
     (c.with_more.ensures (opening_of number start t.opening t.steps) (steps_of number start t.steps)
-    (stands-so-far number listing start opening c.args.segment t h c.in-Some.segment c.in-Some.is)
-    (may-so-far number listing start opening c.args.segment t h c.in-Some.segment c.in-Some.is y may))
+    (StandsForFile-so_far number listing start opening c.args.segment t h c.in-Some.segment c.in-Some.is)
+    (FileMayGoOn-so_far number listing start opening c.args.segment t h c.in-Some.segment c.in-Some.is y may))
 
 pub begun-requires : goal.begun-requires
 begun-requires c =
     let (t, h, may) = c.requires.found in
-    may-begin c.args.number c.args.listing c.args.start c.args.opening.now c.args.segment t h c.in-None.is
+    FileMayGoOn-first_steps c.args.number c.args.listing c.args.start c.args.opening.now c.args.segment t h c.in-None.is
     c.args.steps.now may
 
 pub returns-in-None : goal.returns-in-None
 returns-in-None c t h may =
     IfOk-weaker c.begun.result _ _
-    (λ s stands. found-first c.args.number c.args.listing c.args.start c.args.opening.now c.args.segment t h
+    (λ s stands. IsFoundOfFile-first_steps c.args.number c.args.listing c.args.start c.args.opening.now c.args.segment t
+    h
     c.in-None.is c.args.steps.now s c.requires.some stands) c.begun.ensures

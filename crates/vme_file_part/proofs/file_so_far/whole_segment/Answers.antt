@@ -6,12 +6,12 @@ use Rattle.vme_trace.specs.declared.step.Step.{Step}
 use Rattle.vme_summary.specs.Joins.{block_of}
 use Rattle.vme_part_format.specs.Tables.{segment_value}
 use Rattle.vme_file_part.specs.Growing.{StandsForFile}
-use Rattle.vme_file_part.proofs.SoFar.{empty-sound, empty-stands, stands-so-far}
+use Rattle.vme_file_part.proofs.SoFar.{malformed_step-without_steps, StandsForFile-without_steps, StandsForFile-so_far}
 use Rattle.vme_file_part.proofs.file_so_far.whole_segment.Goals as goal
 
 pub returns-in-Some : goal.returns-in-Some
 returns-in-Some c start t h sound =
-    stands-so-far c.args.number c.args.listing start c.args.opening.now c.args.segment t h c.in-Some.segment
+    StandsForFile-so_far c.args.number c.args.listing start c.args.opening.now c.args.segment t h c.in-Some.segment
     c.in-Some.is
 
 pub segment_of-requires-clause-accepted : goal.segment_of-requires-clause-accepted
@@ -19,13 +19,14 @@ segment_of-requires-clause-accepted c =
     let (start, t, h, sound) = c.requires in
     ap (λ (l : List Step). malformed_step (record { opening = c.args.opening.now; steps = l }))
     (c.as_slice.ensures.value ∙ c.new-none.ensures.items)
-    ∙ empty-sound c.args.number c.args.listing start c.args.opening.now c.args.segment t h c.in-None.is sound
+    ∙ malformed_step-without_steps c.args.number c.args.listing start c.args.opening.now c.args.segment t h c.in-None.is
+    sound
 
 pub returns-in-None : goal.returns-in-None
 returns-in-None c start t h sound =
     let opening = c.args.opening.now in
     IfOk-weaker c.segment_of.result _ _
-    (λ s stands. empty-stands c.args.number c.args.listing start opening c.args.segment t h c.in-None.is
+    (λ s stands. StandsForFile-without_steps c.args.number c.args.listing start opening c.args.segment t h c.in-None.is
     (segment_value s)
     (subst (λ (l : List Step). StandsForFile c.args.listing (segment_value s) (block_of c.args.number opening l))
     (c.as_slice.ensures.value ∙ c.new-none.ensures.items) stands)) c.segment_of.ensures

@@ -5,14 +5,15 @@ use Rattle.vme_trace.specs.Levels.{Levels}
 use Rattle.vme_summary.specs.Joins.{block_of}
 use Rattle.vme_part_format.specs.Tables.{segment_value}
 use Rattle.vme_file_part.specs.Growing.{StandsForFile}
-use Rattle.vme_file_part.proofs.GrownFile.{behind-sound, file-grown, file-left, file-steps, file-tables}
+use Rattle.vme_file_part.proofs.GrownFile.{malformed_step-rest, StandsForFile-grown, left-of_file, steps-of_file}
+use Rattle.vme_file_part.proofs.GrownFile.{HasTables-of_file}
 use Rattle.vme_file_part.proofs.file_so_far.with_more.Goals as goal
 
 pub segment_of-requires-clause-accepted : goal.segment_of-requires-clause-accepted
 segment_of-requires-clause-accepted c =
     let (o, x, a, may) = c.requires in
-    behind-sound o c.args.segment.left x c.args.steps.now
-    (file-left c.args.listing (segment_value c.args.segment) (block_of c.args.number o x) a) may.formed
+    malformed_step-rest o c.args.segment.left x c.args.steps.now
+    (left-of_file c.args.listing (segment_value c.args.segment) (block_of c.args.number o x) a) may.formed
 
 pub segment_of-requires-clause-few : goal.segment_of-requires-clause-few
 segment_of-requires-clause-few c =
@@ -21,11 +22,11 @@ segment_of-requires-clause-few c =
 pub extended-requires-clause-first : goal.extended-requires-clause-first
 extended-requires-clause-first c =
     let (o, x, a, may) = c.requires in
-    file-tables c.args.listing (segment_value c.args.segment) (block_of c.args.number o x) a
+    HasTables-of_file c.args.listing (segment_value c.args.segment) (block_of c.args.number o x) a
 
 pub extended-requires-clause-second : goal.extended-requires-clause-second
 extended-requires-clause-second c =
-    file-tables c.args.listing (segment_value c.in_ok-more.more)
+    HasTables-of_file c.args.listing (segment_value c.in_ok-more.more)
     (block_of c.args.number c.args.segment.left c.args.steps.now) c.in_ok-more.ensures
 
 pub extended-requires-clause-steps : goal.extended-requires-clause-steps
@@ -34,8 +35,8 @@ extended-requires-clause-steps c =
     omega (
       arith,
       may.few,
-      file-steps c.args.listing (segment_value c.args.segment) (block_of c.args.number o x) a,
-      file-steps c.args.listing (segment_value c.in_ok-more.more)
+      steps-of_file c.args.listing (segment_value c.args.segment) (block_of c.args.number o x) a,
+      steps-of_file c.args.listing (segment_value c.in_ok-more.more)
           (block_of c.args.number c.args.segment.left c.args.steps.now) c.in_ok-more.ensures,
     )
 
@@ -44,8 +45,8 @@ returns c o x a may =
     let s = segment_value c.args.segment in
     let t = segment_value c.in_ok-more.more in
     let y = c.args.steps.now in
-    let left = file-left c.args.listing s (block_of c.args.number o x) a in
+    let left = left-of_file c.args.listing s (block_of c.args.number o x) a in
     IfOk-weaker c.extended.result _ _
-    (λ r e. file-grown c.args.listing s t (segment_value r) c.args.number o x y a
+    (λ r e. StandsForFile-grown c.args.listing s t (segment_value r) c.args.number o x y a
     (subst (λ (v : Levels). StandsForFile c.args.listing t (block_of c.args.number v y)) left c.in_ok-more.ensures) e
     may.formed may.few) c.extended.ensures

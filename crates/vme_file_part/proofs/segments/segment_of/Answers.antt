@@ -1,7 +1,7 @@
 use Rattle.std.proofs.Common.{List, ap, length}
 use Rattle.vme_summary.specs.Joins.{block_of}
 use Rattle.vme_part_format.specs.Tables.{SegmentValue, part_value, segment_value}
-use Rattle.vme_file_part.proofs.GrownFile.{only-stands}
+use Rattle.vme_file_part.proofs.GrownFile.{StandsForFile-only_segment}
 use Rattle.vme_file_part.proofs.segments.segment_of.Goals as goal
 
 pub only_segment-requires : goal.only_segment-requires
@@ -9,6 +9,6 @@ only_segment-requires c = ap (λ (l : List SegmentValue). length l) c.in_ok-part
 
 pub returns : goal.returns
 returns c =
-    only-stands c.args.listing (block_of c.args.number c.args.opening.now c.args.steps.now)
+    StandsForFile-only_segment c.args.listing (block_of c.args.number c.args.opening.now c.args.steps.now)
     (part_value c.in_ok-part.part) (segment_value c.only_segment.result) c.in_ok-part.ensures.stands
     c.only_segment.ensures

@@ -3,7 +3,7 @@ use Rattle.vme_trace.specs.Followed.{with_steps}
 use Rattle.vme_step_reader.specs.StepReading.{whole_reading}
 use Rattle.vme_dump_input.proofs.BodyLemmas.{HasFault-StopsAs}
 use Rattle.vme_dump_input.proofs.DumpRefusals.{IsDumpRefused-fault}
-use Rattle.vme_part_command.proofs.FoundLemmas.{dump-refused, finds-of-dump}
+use Rattle.vme_part_command.proofs.FoundLemmas.{FindsOfDump-dump_refused, FindsOfDump-of_steps}
 use Rattle.vme_part_command.proofs.file_body.judge_last.Goals as goal
 
 pub finish-requires-in-Ok : goal.finish-requires-in-Ok
@@ -14,7 +14,7 @@ finish-requires-in-Ok c =
 pub returns-in-Ok : goal.returns-in-Ok
 returns-in-Ok c binding options start old now h end same =
     let r = c.args.reader in
-    finds-of-dump options binding start old now c.args.bytes.now r end (with_steps r.given c.in-Ok.steps.items)
+    FindsOfDump-of_steps options binding start old now c.args.bytes.now r end (with_steps r.given c.in-Ok.steps.items)
     c.in-Ok.ensures.recorded c.in-Ok.ensures.whole c.args.backplane same c.finish-in-Ok.result
     (c.finish-in-Ok.ensures options.number options.listing start r.given h.taken c.in-Ok.ensures.formed)
 
@@ -22,7 +22,7 @@ pub returns-in-Err : goal.returns-in-Err
 returns-in-Err c binding options start old now h end same =
     let stopped = c.in-Err.stopped in
     let r = c.args.reader in
-    dump-refused options binding old now c.of_dump.result
+    FindsOfDump-dump_refused options binding old now c.of_dump.result
     (rw (c.of_dump.ensures, c.fault_of.ensures) (IsDumpRefused-fault old now end.text end.all stopped.fault.line
     stopped.fault.kind
     (HasFault-StopsAs binding end.text (whole_reading r c.args.bytes.now) stopped.fault.line stopped.fault.kind

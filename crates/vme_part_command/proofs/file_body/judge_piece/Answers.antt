@@ -12,7 +12,7 @@ use Rattle.vme_dump_input.proofs.BodyLemmas.{HasFaultBefore-StopsAs, IsSound-nex
 use Rattle.vme_dump_input.proofs.BufferedLemmas.{IsReading-some}
 use Rattle.vme_part_command.specs.FileChecks.{HasTakenSteps}
 use Rattle.vme_part_command.specs.FileReadings.{IsAtFile}
-use Rattle.vme_part_command.proofs.FileLemmas.{body_at, file-taken}
+use Rattle.vme_part_command.proofs.FileLemmas.{IsAtBody-of_file, IsAtFile-piece_taken}
 use Rattle.vme_part_command.proofs.file_body.judge_piece.Goals as goal
 
 pub take-requires-in-Ok : goal.take-requires-in-Ok
@@ -31,7 +31,7 @@ returns-in-Ok-take-clause-reads c binding number start old now at =
     c.bytes.ensures.held made.taken in
     let within = subst (λ (l : List ℕ). n ≤ length l) c.bytes.ensures.held made.within in
     subst (λ (i : InputSoFar). IsAtFile binding number start old now i next) (sym c.take_first.ensures)
-    (file-taken binding number start old now c.args.input.now r at next n within taken)
+    (IsAtFile-piece_taken binding number start old now c.args.input.now r at next n within taken)
 
 pub returns-in-Ok-take-clause-judges : goal.returns-in-Ok-take-clause-judges
 returns-in-Ok-take-clause-judges c number listing start h =
@@ -60,7 +60,7 @@ returns-in-Err-clause-reads c binding number start old now at =
       at.done,
       at.read,
       HasFaultBefore-StopsAs binding old now c.args.input.now r
-          (body_at binding number start old now c.args.input.now r at)
+          (IsAtBody-of_file binding number start old now c.args.input.now r at)
           stopped.fault.line stopped.fault.kind (with_steps r.given stopped.steps.items) stopped.time stops,
     )
 

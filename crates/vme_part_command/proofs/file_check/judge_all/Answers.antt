@@ -5,7 +5,7 @@ use Rattle.vme_trace.specs.Followed.{with_steps}
 use Rattle.vme_trace.specs.declared.step.Step.{Step}
 use Rattle.vme_file_part.specs.Growing.{FileMayGoOn}
 use Rattle.vme_part_command.specs.FileChecks.{IsPending}
-use Rattle.vme_part_command.proofs.CheckLemmas.{all-may, found-all, pending-more}
+use Rattle.vme_part_command.proofs.CheckLemmas.{FileMayGoOn-all_pending, IsFoundSoFar-all, IsPending-append}
 use Rattle.vme_part_command.proofs.file_check.judge_all.Goals as goal
 
 pub judge_batches-requires : goal.judge_batches-requires
@@ -18,7 +18,7 @@ judge_batches-requires c =
       with_steps t steps,
       subst (λ (l : List Step). IsPending number listing start c.args.file l (with_steps t steps))
           (sym c.in_ok-append.ensures.items)
-          (pending-more number listing start c.args.file c.args.pending.items t h steps),
+          (IsPending-append number listing start c.args.file c.args.pending.items t h steps),
       may,
     )
 
@@ -29,14 +29,15 @@ judge_more-requires c =
     let made = c.in_ok-file.ensures number listing start (with_steps t steps)
     (subst (λ (l : List Step). IsPending number listing start c.args.file l (with_steps t steps))
     (sym c.in_ok-append.ensures.items)
-    (pending-more number listing start c.args.file c.args.pending.items t h steps)) may in (
+    (IsPending-append number listing start c.args.file c.args.pending.items t h steps)) may in (
       number,
       listing,
       start,
       made.judged,
       made.found,
       subst (FileMayGoOn made.judged) (sym c.as_slice.ensures.value)
-          (all-may number listing start c.in_ok-file.file c.in_ok-file.rest.items (with_steps t steps) made may),
+          (FileMayGoOn-all_pending number listing start c.in_ok-file.file c.in_ok-file.rest.items (with_steps t steps)
+          made may),
     )
 
 pub returns : goal.returns
@@ -45,10 +46,12 @@ returns c number listing start t h may =
     let made = c.in_ok-file.ensures number listing start (with_steps t steps)
     (subst (λ (l : List Step). IsPending number listing start c.args.file l (with_steps t steps))
     (sym c.in_ok-append.ensures.items)
-    (pending-more number listing start c.args.file c.args.pending.items t h steps)) may in
+    (IsPending-append number listing start c.args.file c.args.pending.items t h steps)) may in
     IfOk-weaker c.judge_more.result _ _
-    (λ file found. found-all number listing start c.in_ok-file.file file c.in_ok-file.rest.items (with_steps t steps)
+    (λ file found. IsFoundSoFar-all number listing start c.in_ok-file.file file c.in_ok-file.rest.items
+    (with_steps t steps)
     made (rw (sym c.as_slice.ensures.value) found))
     (c.judge_more.ensures number listing start made.judged made.found
     (subst (FileMayGoOn made.judged) (sym c.as_slice.ensures.value)
-    (all-may number listing start c.in_ok-file.file c.in_ok-file.rest.items (with_steps t steps) made may)))
+    (FileMayGoOn-all_pending number listing start c.in_ok-file.file c.in_ok-file.rest.items (with_steps t steps) made
+    may)))

@@ -4,7 +4,7 @@ use Rattle.vme_trace.specs.Followed.{with_steps}
 use Rattle.vme_trace.specs.declared.step.Step.{Step}
 use Rattle.vme_file_part.specs.Growing.{FileMayGoOn}
 use Rattle.vme_part_command.specs.FileChecks.{IsFoundSoFar, IsPending}
-use Rattle.vme_part_command.proofs.CheckLemmas.{pending-less, some-may}
+use Rattle.vme_part_command.proofs.CheckLemmas.{IsPending-after_judging, FileMayGoOn-first_pending}
 use Rattle.vme_part_command.proofs.file_check.judge_batches.Goals as goal
 
 pub loop-alloc-init : goal.loop-alloc-init
@@ -20,7 +20,7 @@ judge_more-requires c =
       h.judged,
       h.found,
       subst (FileMayGoOn h.judged) (sym (c.as_slice.ensures.value ∙ c.in_ok-rest.ensures.items))
-          (some-may number listing start c.loop-alloc.file c.loop-alloc.pending.items t h 16384 may),
+          (FileMayGoOn-first_pending number listing start c.loop-alloc.file c.loop-alloc.pending.items t h 16384 may),
     )
 
 pub loop-alloc-preserved : goal.loop-alloc-preserved
@@ -29,9 +29,10 @@ loop-alloc-preserved c = record {
       let h = c.loop-alloc.invariant.pending number listing start t first may in
       let batch = c.as_slice.ensures.value ∙ c.in_ok-rest.ensures.items in
       subst (λ (l : List Step). IsPending number listing start c.in_ok-file.file l t) (sym c.in_ok-rest.ensures.tail)
-      (pending-less number listing start c.loop-alloc.file c.loop-alloc.pending.items t h 16384 c.in_ok-file.file
+      (IsPending-after_judging number listing start c.loop-alloc.file c.loop-alloc.pending.items t h 16384
+      c.in_ok-file.file
       (subst (λ (l : List Step). IsFoundSoFar number listing start c.in_ok-file.file (with_steps h.judged l)) batch
       (c.in_ok-file.ensures number listing start h.judged h.found
       (subst (FileMayGoOn h.judged) (sym batch)
-      (some-may number listing start c.loop-alloc.file c.loop-alloc.pending.items t h 16384 may)))));
+      (FileMayGoOn-first_pending number listing start c.loop-alloc.file c.loop-alloc.pending.items t h 16384 may)))));
 }

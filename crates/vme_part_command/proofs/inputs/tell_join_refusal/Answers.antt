@@ -5,7 +5,7 @@ use Rattle.vme_parts.specs.declared.join_refusal.JoinRefusal.{JoinRefusal}
 use Rattle.vme_part_command.specs.PartAnswers.{ComplainsUnlessMemory, no_join_answer}
 use Rattle.vme_part_command.specs.Lines.{part_text, refusing_text}
 use Rattle.vme_part_command.specs.declared.inputs.NoJoin.TheVariants as none
-use Rattle.vme_part_command.proofs.EndLemmas.{refused}
+use Rattle.vme_part_command.proofs.EndLemmas.{Complains-refusing}
 use Rattle.vme_part_command.proofs.inputs.tell_join_refusal.Goals as goal
 
 pub returns-in-Memory : goal.returns-in-Memory
@@ -38,7 +38,7 @@ returns-in-Differs g c =
     let told = c.refuse in
     let err : Writing × Writing = (g.E.Sink.writing c.args.err.now, g.E.Sink.writing told.new.err) in
     subst (λ (w : JoinRefusal). ComplainsUnlessMemory (no_join_answer names (none.Refused w c.args.has_marks)) err
-    told.result) (sym c.in-Differs.is) (inl (refused (part_text c.in-Differs.number
+    told.result) (sym c.in-Differs.is) (inl (Complains-refusing (part_text c.in-Differs.number
     (codes " differs")) err told.result (rw c.part_line.ensures at told.ensures.told) told.ensures.status))
 
 pub returns-in-TooManySteps : goal.returns-in-TooManySteps
@@ -47,7 +47,8 @@ returns-in-TooManySteps g c =
     let told = c.refuse-in-TooManySteps in
     let err : Writing × Writing = (g.E.Sink.writing c.args.err.now, g.E.Sink.writing told.new.err) in
     subst (λ (w : JoinRefusal). ComplainsUnlessMemory (no_join_answer names (none.Refused w c.args.has_marks)) err
-    told.result) (sym c.in-TooManySteps.is) (inl (refused (refusing_text (codes "too many steps")) err told.result
+    told.result) (sym c.in-TooManySteps.is)
+    (inl (Complains-refusing (refusing_text (codes "too many steps")) err told.result
     (rw c.refusing_line.ensures at told.ensures.told) told.ensures.status))
 
 pub returns-in-TooManyNodes : goal.returns-in-TooManyNodes
@@ -56,7 +57,8 @@ returns-in-TooManyNodes g c =
     let told = c.refuse-in-TooManyNodes in
     let err : Writing × Writing = (g.E.Sink.writing c.args.err.now, g.E.Sink.writing told.new.err) in
     subst (λ (w : JoinRefusal). ComplainsUnlessMemory (no_join_answer names (none.Refused w c.args.has_marks)) err
-    told.result) (sym c.in-TooManyNodes.is) (inl (refused (refusing_text (codes "too many marks")) err told.result
+    told.result) (sym c.in-TooManyNodes.is)
+    (inl (Complains-refusing (refusing_text (codes "too many marks")) err told.result
     (rw c.refusing_line-in-TooManyNodes.ensures at told.ensures.told) told.ensures.status))
 
 pub returns-in-TooManySegments : goal.returns-in-TooManySegments
@@ -65,5 +67,6 @@ returns-in-TooManySegments g c =
     let told = c.refuse-in-TooManySegments in
     let err : Writing × Writing = (g.E.Sink.writing c.args.err.now, g.E.Sink.writing told.new.err) in
     subst (λ (w : JoinRefusal). ComplainsUnlessMemory (no_join_answer names (none.Refused w c.args.has_marks)) err
-    told.result) (sym c.in-TooManySegments.is) (inl (refused (refusing_text (codes "too many parts")) err told.result
+    told.result) (sym c.in-TooManySegments.is)
+    (inl (Complains-refusing (refusing_text (codes "too many parts")) err told.result
     (rw c.refusing_line-in-TooManySegments.ensures at told.ensures.told) told.ensures.status))

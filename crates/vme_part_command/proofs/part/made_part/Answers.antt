@@ -1,6 +1,6 @@
 use Rattle.vme_stream.specs.Answers.{binding_read, dump_read}
 use Rattle.vme_stream.proofs.InputLemmas.{IsReading-unread}
-use Rattle.vme_part_command.proofs.FoundLemmas.{no-binding}
+use Rattle.vme_part_command.proofs.FoundLemmas.{FindsPart-binding_refused}
 use Rattle.vme_part_command.proofs.part.made_part.Goals as goal
 
 pub returns-in-Ok : goal.returns-in-Ok
@@ -17,5 +17,5 @@ returns-in-Err g c =
       dump.0,
       binding_reading,
       dump.1,
-      no-binding c.args.options (binding_read b) (dump_read dump.0) c.in-Err.refusal refused,
+      FindsPart-binding_refused c.args.options (binding_read b) (dump_read dump.0) c.in-Err.refusal refused,
     )

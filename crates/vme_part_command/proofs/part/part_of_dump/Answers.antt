@@ -3,7 +3,7 @@ use Rattle.vme_stream.proofs.InputLemmas.{IsReading-unread}
 use Rattle.vme_stream.specs.Inputs.{longest_input}
 use Rattle.vme_dump_input.specs.BufferedInputs.{InputSoFar, IsReadTo}
 use Rattle.vme_dump_input.proofs.BufferedLemmas.{IsReadTo-not_read}
-use Rattle.vme_part_command.proofs.FoundLemmas.{dump-refused}
+use Rattle.vme_part_command.proofs.FoundLemmas.{FindsOfDump-dump_refused}
 use Rattle.vme_part_command.proofs.part.part_of_dump.Goals as goal
 
 pub returns-in_default : goal.returns-in_default
@@ -28,5 +28,5 @@ returns g c =
     (IsReadTo-not_read old longest_input 65536
     (record { some = omega arith; few = omega arith; small = omega arith })) in
     let limit = ap (λ (i : InputSoFar). i.limit) c.in-Ok.ensures in
-    dump-refused c.args.options c.args.bound.now old (g.D.Source.reading c.read_definitions.new.dump)
+    FindsOfDump-dump_refused c.args.options c.args.bound.now old (g.D.Source.reading c.read_definitions.new.dump)
     c.in-Err.refusal (c.in-Err.ensures.read old first limit)

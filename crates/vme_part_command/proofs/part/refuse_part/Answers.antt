@@ -5,7 +5,7 @@ use Rattle.vme_part_command.specs.PartAnswers.{Complains}
 use Rattle.vme_part_command.specs.Lines.{refusing_text}
 use Rattle.vme_part_command.specs.Written.{no_part_answer}
 use Rattle.vme_part_command.specs.declared.no_part.NoPart.{NoPart}
-use Rattle.vme_part_command.proofs.EndLemmas.{refused}
+use Rattle.vme_part_command.proofs.EndLemmas.{Complains-refusing}
 use Rattle.vme_part_command.proofs.part.refuse_part.Goals as goal
 
 pub returns-in-Refused : goal.returns-in-Refused
@@ -18,13 +18,13 @@ pub returns-in-TooManyMarks : goal.returns-in-TooManyMarks
 returns-in-TooManyMarks g c =
     let err : Writing × Writing = (g.E.Sink.writing c.args.err.now, g.E.Sink.writing c.refuse.new.err) in
     subst (λ (w : NoPart). Complains (no_part_answer w) err c.refuse.result) (sym c.in-TooManyMarks.is)
-    (refused (refusing_text (codes "too many marks")) err c.refuse.result
+    (Complains-refusing (refusing_text (codes "too many marks")) err c.refuse.result
     (rw c.refusing_line.ensures at c.refuse.ensures.told) c.refuse.ensures.status)
 
 pub returns-in-OutOfRange : goal.returns-in-OutOfRange
 returns-in-OutOfRange g c =
     let err : Writing × Writing = (g.E.Sink.writing c.args.err.now, g.E.Sink.writing c.refuse-in-OutOfRange.new.err) in
     subst (λ (w : NoPart). Complains (no_part_answer w) err c.refuse-in-OutOfRange.result) (sym c.in-OutOfRange.is)
-    (refused (refusing_text (codes "out of the range of parts")) err c.refuse-in-OutOfRange.result
+    (Complains-refusing (refusing_text (codes "out of the range of parts")) err c.refuse-in-OutOfRange.result
     (rw c.refusing_line-in-OutOfRange.ensures at c.refuse-in-OutOfRange.ensures.told)
     c.refuse-in-OutOfRange.ensures.status)

@@ -1,6 +1,6 @@
 use Rattle.vme_trace.specs.Streams.{Reading, Writing}
 use Rattle.vme_part_format.specs.Tables.{part_value}
-use Rattle.vme_part_command.proofs.EndLemmas.{ends_no_part, ends_part}
+use Rattle.vme_part_command.proofs.EndLemmas.{WritesPart-none, WritesPart-found}
 use Rattle.vme_part_command.proofs.part.write_part_of.Goals as goal
 
 pub returns-in-Ok : goal.returns-in-Ok
@@ -15,7 +15,7 @@ returns-in-Ok g c =
     let dump : Reading × Reading = (g.D.Source.reading c.args.dump.now, g.D.Source.reading c.made_part.new.dump) in
     let err : Writing × Writing = (g.E.Sink.writing c.args.err.now, g.E.Sink.writing c.put_part.new.err) in
     record {
-      answer = ends_part c.args.options binding dump err c.put_part.result b d binding_reading dump_reading
+      answer = WritesPart-found c.args.options binding dump err c.put_part.result b d binding_reading dump_reading
           (part_value c.in-Ok.part) (g.O.Sink.writing c.args.out.now, g.O.Sink.writing c.put_part.new.out) is
           c.put_part.ensures;
     }
@@ -32,7 +32,7 @@ returns-in-Err g c =
     let dump : Reading × Reading = (g.D.Source.reading c.args.dump.now, g.D.Source.reading c.made_part.new.dump) in
     let err : Writing × Writing = (g.E.Sink.writing c.args.err.now, g.E.Sink.writing c.refuse_part.new.err) in
     record {
-      answer = ends_no_part c.args.options binding dump err c.refuse_part.result b d binding_reading dump_reading
+      answer = WritesPart-none c.args.options binding dump err c.refuse_part.result b d binding_reading dump_reading
           c.in-Err.why
           (g.O.Sink.writing c.args.out.now) is c.refuse_part.ensures;
     }

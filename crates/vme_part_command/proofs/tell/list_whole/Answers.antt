@@ -2,7 +2,7 @@ use Rattle.std.proofs.Common.{List, ℕ, map}
 use Rattle.vme_trace.specs.Streams.{Reading, Writing}
 use Rattle.vme_part_format.specs.Tables.{part_value}
 use Rattle.vme_part_command.specs.PartAnswers.{IsListedOf, listed_answer}
-use Rattle.vme_part_command.proofs.EndLemmas.{ends_listed, ends_unjoined}
+use Rattle.vme_part_command.proofs.EndLemmas.{ListsRecording-of_parts, DoesOfParts-not_joined}
 use Rattle.vme_part_command.proofs.tell.list_whole.Goals as goal
 
 pub returns-in-Ok : goal.returns-in-Ok
@@ -12,7 +12,7 @@ returns-in-Ok g c =
     let names : List (List ℕ) = map (λ i. i.name.now) c.args.inputs.now in
     let err : Writing × Writing = (g.E.Sink.writing c.args.err.now, g.E.Sink.writing c.list_part.new.err) in
     record {
-      answer = ends_listed names (old, new) c.args.files (part_value c.in-Ok.part)
+      answer = ListsRecording-of_parts names (old, new) c.args.files (part_value c.in-Ok.part)
           (g.O.Sink.writing c.args.out.now, g.O.Sink.writing c.list_part.new.out) err c.list_part.result
           c.in-Ok.ensures.joined c.list_part.ensures;
     }
@@ -24,7 +24,7 @@ returns-in-Err g c =
     let names : List (List ℕ) = map (λ i. i.name.now) c.args.inputs.now in
     let err : Writing × Writing = (g.E.Sink.writing c.args.err.now, g.E.Sink.writing c.refuse_joined.new.err) in
     record {
-      answer = ends_unjoined (IsListedOf (old, new) c.args.files) listed_answer names (old, new) err
+      answer = DoesOfParts-not_joined (IsListedOf (old, new) c.args.files) listed_answer names (old, new) err
           c.refuse_joined.result c.in-Err.why (g.O.Sink.writing c.args.out.now) c.in-Err.ensures.unjoined
           (rw c.joined.ensures.names at c.refuse_joined.ensures);
     }

@@ -5,7 +5,7 @@ use Rattle.vme_stream.specs.Ends.{Ends}
 use Rattle.vme_part_listing.specs.declared.answers.ListingAnswer.{ListingAnswer}
 use Rattle.vme_part_command.specs.PartAnswers.{listed_answer}
 use Rattle.vme_part_command.specs.Lines.{refusing_text, told_text}
-use Rattle.vme_part_command.proofs.EndLemmas.{refused_ends}
+use Rattle.vme_part_command.proofs.EndLemmas.{Ends-refusing}
 use Rattle.vme_part_command.proofs.tell.put_listed.Goals as goal
 
 pub returns-in-Refused : goal.returns-in-Refused
@@ -14,7 +14,7 @@ returns-in-Refused g c =
     let out : Writing = g.O.Sink.writing c.args.out.now in
     let err : Writing × Writing = (g.E.Sink.writing c.args.err.now, g.E.Sink.writing said.new.err) in
     subst (λ (w : ListingAnswer). Ends (listed_answer w) (out, out) err said.result) (sym c.in-Refused.is)
-    (refused_ends (told_text c.in-Refused.told) out err said.result (rw c.told_line.ensures at said.ensures.told)
+    (Ends-refusing (told_text c.in-Refused.told) out err said.result (rw c.told_line.ensures at said.ensures.told)
     said.ensures.status)
 
 pub returns-in-Unmarked : goal.returns-in-Unmarked
@@ -23,7 +23,7 @@ returns-in-Unmarked g c =
     let out : Writing = g.O.Sink.writing c.args.out.now in
     let err : Writing × Writing = (g.E.Sink.writing c.args.err.now, g.E.Sink.writing said.new.err) in
     subst (λ (w : ListingAnswer). Ends (listed_answer w) (out, out) err said.result) (sym c.in-Unmarked.is)
-    (refused_ends (refusing_text (codes "parts without marks")) out err said.result
+    (Ends-refusing (refusing_text (codes "parts without marks")) out err said.result
     (rw c.refusing_line.ensures at said.ensures.told) said.ensures.status)
 
 pub returns-in-TooLong : goal.returns-in-TooLong
@@ -32,5 +32,5 @@ returns-in-TooLong g c =
     let out : Writing = g.O.Sink.writing c.args.out.now in
     let err : Writing × Writing = (g.E.Sink.writing c.args.err.now, g.E.Sink.writing said.new.err) in
     subst (λ (w : ListingAnswer). Ends (listed_answer w) (out, out) err said.result) (sym c.in-TooLong.is)
-    (refused_ends (refusing_text (codes "too many steps")) out err said.result
+    (Ends-refusing (refusing_text (codes "too many steps")) out err said.result
     (rw c.refusing_line-in-TooLong.ensures at said.ensures.told) said.ensures.status)

@@ -1,6 +1,6 @@
 use Rattle.std.proofs.Common.{refl, inl, inr}
 use Rattle.std.proofs.KnownBytes.{Appends-nil}
-use Rattle.vme_part_command.proofs.EndLemmas.{front_taken}
+use Rattle.vme_part_command.proofs.EndLemmas.{AppendsFront-take}
 use Rattle.vme_part_command.proofs.tell.put_listing.Goals as goal
 
 pub returns-in-Ok : goal.returns-in-Ok
@@ -12,7 +12,7 @@ returns-in-Ok g c = inl (record {
 
 pub returns-in-Err : goal.returns-in-Err
 returns-in-Err g c = inr (record {
-  out_is = (front_taken _ _ _ c.in-Err.ensures.front, c.in-Err.ensures.failures);
+  out_is = (AppendsFront-take _ _ _ c.in-Err.ensures.front, c.in-Err.ensures.failures);
   err_is = rw c.cannot_write_line.ensures at c.complain.ensures;
   status_is = refl;
 })

@@ -2,7 +2,7 @@ use Rattle.std.proofs.Common.{sym, ap, ◌∙◌, ◌-◌, List, length}
 use Rattle.std.specs.Prelude.{Option, slice_get}
 use Rattle.std.specs.Option.{option_copied}
 use Rattle.vme_listing.specs.declared.row.Row.{Row}
-use Rattle.vme_part_command.proofs.StatusLemmas.{last_of, status_of_last}
+use Rattle.vme_part_command.proofs.StatusLemmas.{last_or-slice_get, status_of_last}
 use Rattle.vme_part_command.proofs.tell.status_of.Goals as goal
 
 abbrev last_in : List Row → Option Row
@@ -11,5 +11,5 @@ last_in rows = slice_get rows (length rows - 1)
 pub returns-in-Some : goal.returns-in-Some
 returns-in-Some c =
     c.status_of_row.ensures
-    ∙ ap status_of_last (sym (last_of c.args.listing.now.rows ∙ ap last_in (sym c.rows.ensures)
+    ∙ ap status_of_last (sym (last_or-slice_get c.args.listing.now.rows ∙ ap last_in (sym c.rows.ensures)
     ∙ sym c.last.ensures.value ∙ ap option_copied c.in-Some.is))

@@ -5,7 +5,7 @@ use Rattle.vme_stream.specs.Ends.{Ends}
 use Rattle.vme_parts.specs.declared.answers.RecordingAnswer.{RecordingAnswer}
 use Rattle.vme_part_command.specs.PartAnswers.{told_answer}
 use Rattle.vme_part_command.specs.Lines.{part_text, refusing_text}
-use Rattle.vme_part_command.proofs.EndLemmas.{refused_ends}
+use Rattle.vme_part_command.proofs.EndLemmas.{Ends-refusing}
 use Rattle.vme_part_command.proofs.tell.tell.Goals as goal
 
 pub returns-in-Beyond : goal.returns-in-Beyond
@@ -14,7 +14,7 @@ returns-in-Beyond g c =
     let out : Writing = g.O.Sink.writing c.args.out.now in
     let err : Writing × Writing = (g.E.Sink.writing c.args.err.now, g.E.Sink.writing said.new.err) in
     subst (λ (w : RecordingAnswer). Ends (told_answer w) (out, out) err said.result) (sym c.in-Beyond.is)
-    (refused_ends (part_text c.in-Beyond.number (codes " beyond the files")) out err said.result
+    (Ends-refusing (part_text c.in-Beyond.number (codes " beyond the files")) out err said.result
     (rw c.part_line.ensures at said.ensures.told) said.ensures.status)
 
 pub returns-in-Missing : goal.returns-in-Missing
@@ -23,7 +23,7 @@ returns-in-Missing g c =
     let out : Writing = g.O.Sink.writing c.args.out.now in
     let err : Writing × Writing = (g.E.Sink.writing c.args.err.now, g.E.Sink.writing said.new.err) in
     subst (λ (w : RecordingAnswer). Ends (told_answer w) (out, out) err said.result) (sym c.in-Missing.is)
-    (refused_ends (part_text c.in-Missing.number (codes " missing")) out err said.result
+    (Ends-refusing (part_text c.in-Missing.number (codes " missing")) out err said.result
     (rw c.part_line-in-Missing.ensures at said.ensures.told) said.ensures.status)
 
 pub returns-in-Torn : goal.returns-in-Torn
@@ -32,7 +32,7 @@ returns-in-Torn g c =
     let out : Writing = g.O.Sink.writing c.args.out.now in
     let err : Writing × Writing = (g.E.Sink.writing c.args.err.now, g.E.Sink.writing said.new.err) in
     subst (λ (w : RecordingAnswer). Ends (told_answer w) (out, out) err said.result) (sym c.in-Torn.is)
-    (refused_ends (part_text c.in-Torn.number (codes " torn")) out err said.result
+    (Ends-refusing (part_text c.in-Torn.number (codes " torn")) out err said.result
     (rw c.part_line-in-Torn.ensures at said.ensures.told) said.ensures.status)
 
 pub returns-in-TooManySteps : goal.returns-in-TooManySteps
@@ -41,5 +41,5 @@ returns-in-TooManySteps g c =
     let out : Writing = g.O.Sink.writing c.args.out.now in
     let err : Writing × Writing = (g.E.Sink.writing c.args.err.now, g.E.Sink.writing said.new.err) in
     subst (λ (w : RecordingAnswer). Ends (told_answer w) (out, out) err said.result) (sym c.in-TooManySteps.is)
-    (refused_ends (refusing_text (codes "too many steps")) out err said.result
+    (Ends-refusing (refusing_text (codes "too many steps")) out err said.result
     (rw c.refusing_line.ensures at said.ensures.told) said.ensures.status)

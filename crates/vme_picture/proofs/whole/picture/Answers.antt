@@ -1,5 +1,5 @@
 use Rattle.std.proofs.Common.{rules, ◌≡◌, ◌++◌, ◌∷◌, [], List, ℕ, subst, sym}
-use Rattle.vme_picture.proofs.VisibleMarkup.{picture_is_visible}
+use Rattle.vme_picture.proofs.VisibleMarkup.{IsVisible-picture}
 use Rattle.vme_picture.specs.Markup.{element_text}
 use Rattle.vme_picture.specs.Pictures.{picture_first_line}
 use Rattle.vme_picture.specs.declared.markup.Tag.TheVariants.{Svg}
@@ -12,5 +12,5 @@ returns-clause-visible c =
     let inner : List ℕ = c.as_bytes-2.result.now in
     let is : c.push-3.new.self ≡ picture_first_line ++ element_text Svg attributes inner ++ 10 ∷ [] = search rules in
     subst IsVisible (sym is)
-    (picture_is_visible attributes inner (rw c.as_bytes.ensures.bytes c.as_bytes.ensures.written)
+    (IsVisible-picture attributes inner (rw c.as_bytes.ensures.bytes c.as_bytes.ensures.written)
     (rw c.as_bytes-2.ensures.bytes c.as_bytes-2.ensures.nested))

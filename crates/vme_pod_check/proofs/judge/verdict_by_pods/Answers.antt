@@ -1,26 +1,29 @@
 use Rattle.vme_trace.specs.Blocks.{block_count}
-use Rattle.vme_pod_check.proofs.Contents.{cut_count, cut_joins, cut_numbered, cut_recording, few_of}
-use Rattle.vme_pod_check.proofs.CheckLemmas.{told_few}
+use Rattle.vme_pod_check.proofs.Contents.{length-blocks_of, BlocksJoin-blocks_of, AreTakenFrom-blocks_of}
+use Rattle.vme_pod_check.proofs.Contents.{joined_trace-of_cut, not_above-at_most}
+use Rattle.vme_pod_check.proofs.CheckLemmas.{Finds-few_blocks}
 use Rattle.vme_pod_check.proofs.judge.verdict_by_pods.Goals as goal
 
 pub verdict_on_blocks-requires-clause-numbered : goal.verdict_on_blocks-requires-clause-numbered
 verdict_on_blocks-requires-clause-numbered g c = λ lifetimes alive. rw c.in-Ok.ensures.blocks
-    (cut_numbered c.args.capture.now c.args.plan.block)
+    (AreTakenFrom-blocks_of c.args.capture.now c.args.plan.block)
 
 pub verdict_on_blocks-requires-clause-join : goal.verdict_on_blocks-requires-clause-join
 verdict_on_blocks-requires-clause-join g c = λ lifetimes alive. rw c.in-Ok.ensures.blocks
-    (cut_joins c.args.capture.now c.args.plan.block c.steps.ensures.sound.well_formed)
+    (BlocksJoin-blocks_of c.args.capture.now c.args.plan.block c.steps.ensures.sound.well_formed)
 
 pub verdict_on_blocks-requires-clause-count : goal.verdict_on_blocks-requires-clause-count
 verdict_on_blocks-requires-clause-count g c = λ lifetimes alive.
-    cut_count c.args.capture.now c.args.plan.block _ c.in-Ok.ensures.blocks
-    (few_of (block_count c.args.plan.block c.args.capture.now) (λ many. let refused = c.in-Ok.ensures.too_many.1
+    length-blocks_of c.args.capture.now c.args.plan.block _ c.in-Ok.ensures.blocks
+    (not_above-at_most (block_count c.args.plan.block c.args.capture.now)
+    (λ many. let refused = c.in-Ok.ensures.too_many.1
     (c.requires.block.0, c.requires.block.1, many) in cc))
 
 pub returns-in-Ok-clause-exact : goal.returns-in-Ok-clause-exact
 returns-in-Ok-clause-exact g c =
-    told_few c.args.plan.block c.args.capture.now _
-    (few_of (block_count c.args.plan.block c.args.capture.now) (λ many. let refused = c.in-Ok.ensures.too_many.1
+    Finds-few_blocks c.args.plan.block c.args.capture.now _
+    (not_above-at_most (block_count c.args.plan.block c.args.capture.now)
+    (λ many. let refused = c.in-Ok.ensures.too_many.1
     (c.requires.block.0, c.requires.block.1, many) in cc))
-    (c.verdict_on_blocks.ensures.exact c.args.capture.now (cut_recording c.args.capture.now c.args.plan.block _
+    (c.verdict_on_blocks.ensures.exact c.args.capture.now (joined_trace-of_cut c.args.capture.now c.args.plan.block _
     c.in-Ok.ensures.blocks c.requires.block.0))

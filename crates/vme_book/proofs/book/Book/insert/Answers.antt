@@ -5,15 +5,16 @@ use Rattle.vme_trace.specs.declared.block.Block.{Block}
 use Rattle.vme_summary.specs.Stands.{SpanStandsFor}
 use Rattle.vme_book.specs.Inserted.{stored}
 use Rattle.vme_book.specs.BookState.{IsJudgedPrefix}
-use Rattle.vme_book.proofs.Prefixes.{found_at, free_at, keeps_after, none_of, ready_after, some_of, spans_later}
+use Rattle.vme_book.proofs.Prefixes.{get_or-of_read, get_or-of_none, Keeps-after_judging, is_some-none}
+use Rattle.vme_book.proofs.Prefixes.{IsReady-inserted, is_some-value, HaveSpans-later}
 use Rattle.vme_book.proofs.book.Book.insert.Goals as goal
 
 pub returns-then-is_some-clause-why : goal.returns-then-is_some-clause-why
 returns-then-is_some-clause-why c =
     let blocks = c.self.inside.places.blocks.items in
-    let b = some_of c.index.result.now (sym c.if-is_some.ensures) in
+    let b = is_some-value c.index.result.now (sym c.if-is_some.ensures) in
     let number = c.block.result.now.number in
-    let there : stored blocks number ≡ Some b.0 = found_at blocks number c.index.result.now b.0 (omega arith)
+    let there : stored blocks number ≡ Some b.0 = get_or-of_read blocks number c.index.result.now b.0 (omega arith)
     c.index.ensures b.1 in (
       b.0,
       sym (ap (λ (v : Block). stored c.args.self.now v.number) c.block.ensures.block)
@@ -27,14 +28,14 @@ judge_from-progress-requires-clause-placed c =
     let kept = c.self.invariant.2 in
     let joined = c.join_up_to.ensures.joined in
     let below : number < length blocks = omega arith in
-    let free = free_at blocks number c.index.result.now below c.index.ensures
-    (none_of c.index.result.now (sym c.if-is_some.ensures)) in
+    let free = get_or-of_none blocks number c.index.result.now below c.index.ensures
+    (is_some-none c.index.result.now (sym c.if-is_some.ensures)) in
     let parts = c.into_parts-block.ensures in
     let named = ap (λ (v : Block). v.number) (parts.block ∙ sym c.block.ensures.block) in
     let short = parts.short in
     let b = c.into_parts-block.result.0 in
     let s = c.into_parts-block.result.1 in
-    let ready = ready_after c.self.inside.places c.self.inside.progress c.self.inside.reached c.self.inside.joined
+    let ready = IsReady-inserted c.self.inside.places c.self.inside.progress c.self.inside.reached c.self.inside.joined
     c.join_up_to.new.self c.self.invariant.0 c.self.invariant.1 joined.0 c.join_up_to.new.places.blocks
     c.join_up_to.new.places.spans.items number b s kept
     c.join_up_to.ensures.blocks c.join_up_to.ensures.waiting joined.1 c.join_up_to.ensures.within below free named
@@ -49,20 +50,20 @@ judge_from-progress-requires-clause-waiting c =
     let kept = c.self.invariant.2 in
     let joined = c.join_up_to.ensures.joined in
     let below : number < length blocks = omega arith in
-    let free = free_at blocks number c.index.result.now below c.index.ensures
-    (none_of c.index.result.now (sym c.if-is_some.ensures)) in
+    let free = get_or-of_none blocks number c.index.result.now below c.index.ensures
+    (is_some-none c.index.result.now (sym c.if-is_some.ensures)) in
     let parts = c.into_parts-block.ensures in
     let named = ap (λ (v : Block). v.number) (parts.block ∙ sym c.block.ensures.block) in
     let short = parts.short in
     let b = c.into_parts-block.result.0 in
     let s = c.into_parts-block.result.1 in
-    let ready = ready_after c.self.inside.places c.self.inside.progress c.self.inside.reached c.self.inside.joined
+    let ready = IsReady-inserted c.self.inside.places c.self.inside.progress c.self.inside.reached c.self.inside.joined
     c.join_up_to.new.self c.self.invariant.0 c.self.invariant.1 joined.0 c.join_up_to.new.places.blocks
     c.join_up_to.new.places.spans.items number b s kept
     c.join_up_to.ensures.blocks c.join_up_to.ensures.waiting joined.1 c.join_up_to.ensures.within below free named
     (subst (λ (v : Block). length v.steps ≤ 65536) (sym parts.block) short) (subst (λ v. SpanStandsFor s (v ∷ []))
     (sym parts.block) parts.span) in
-    spans_later _ _ c.join_up_to.new.self.count c.self.inside.reached ready.waiting ready.within
+    HaveSpans-later _ _ c.join_up_to.new.self.count c.self.inside.reached ready.waiting ready.within
 
 pub judge_from-progress-requires-clause-past : goal.judge_from-progress-requires-clause-past
 judge_from-progress-requires-clause-past c =
@@ -71,14 +72,14 @@ judge_from-progress-requires-clause-past c =
     let kept = c.self.invariant.2 in
     let joined = c.join_up_to.ensures.joined in
     let below : number < length blocks = omega arith in
-    let free = free_at blocks number c.index.result.now below c.index.ensures
-    (none_of c.index.result.now (sym c.if-is_some.ensures)) in
+    let free = get_or-of_none blocks number c.index.result.now below c.index.ensures
+    (is_some-none c.index.result.now (sym c.if-is_some.ensures)) in
     let parts = c.into_parts-block.ensures in
     let named = ap (λ (v : Block). v.number) (parts.block ∙ sym c.block.ensures.block) in
     let short = parts.short in
     let b = c.into_parts-block.result.0 in
     let s = c.into_parts-block.result.1 in
-    let ready = ready_after c.self.inside.places c.self.inside.progress c.self.inside.reached c.self.inside.joined
+    let ready = IsReady-inserted c.self.inside.places c.self.inside.progress c.self.inside.reached c.self.inside.joined
     c.join_up_to.new.self c.self.invariant.0 c.self.invariant.1 joined.0 c.join_up_to.new.places.blocks
     c.join_up_to.new.places.spans.items number b s kept
     c.join_up_to.ensures.blocks c.join_up_to.ensures.waiting joined.1 c.join_up_to.ensures.within below free named
@@ -96,14 +97,14 @@ invariant_of-self-2 c =
     let kept = c.self.invariant.2 in
     let joined = c.join_up_to.ensures.joined in
     let below : number < length blocks = omega arith in
-    let free = free_at blocks number c.index.result.now below c.index.ensures
-    (none_of c.index.result.now (sym c.if-is_some.ensures)) in
+    let free = get_or-of_none blocks number c.index.result.now below c.index.ensures
+    (is_some-none c.index.result.now (sym c.if-is_some.ensures)) in
     let parts = c.into_parts-block.ensures in
     let named = ap (λ (v : Block). v.number) (parts.block ∙ sym c.block.ensures.block) in
     let short = parts.short in
     let b = c.into_parts-block.result.0 in
     let s = c.into_parts-block.result.1 in
-    let ready = ready_after c.self.inside.places c.self.inside.progress c.self.inside.reached c.self.inside.joined
+    let ready = IsReady-inserted c.self.inside.places c.self.inside.progress c.self.inside.reached c.self.inside.joined
     c.join_up_to.new.self c.self.invariant.0 c.self.invariant.1 joined.0 c.join_up_to.new.places.blocks
     c.join_up_to.new.places.spans.items number b s kept
     c.join_up_to.ensures.blocks c.join_up_to.ensures.waiting joined.1 c.join_up_to.ensures.within below free named
@@ -112,7 +113,7 @@ invariant_of-self-2 c =
     let past = c.judge_from-progress.ensures.past in (
       past.0,
       joined.0,
-      keeps_after _ c.self.inside.progress c.judge_from-progress.result.0 c.self.inside.reached
+      Keeps-after_judging _ c.self.inside.progress c.judge_from-progress.result.0 c.self.inside.reached
           c.judge_from-progress.result.1 c.join_up_to.new.self c.self.invariant.0 past.0 joined.0 ready
           c.judge_from-progress.ensures.within past.1 past.2,
     )

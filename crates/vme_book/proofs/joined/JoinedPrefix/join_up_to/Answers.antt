@@ -6,8 +6,10 @@ use Rattle.vme_summary.specs.declared.span.Span.{Span}
 use Rattle.vme_summary.proofs.Progressing.{span_steps}
 use Rattle.vme_book.specs.Inserted.{stored}
 use Rattle.vme_book.specs.BookState.{HaveSpans, StandsForSome}
-use Rattle.vme_book.proofs.Prefixes.{joined_after, next_of, no_span, one_more, own_span, found_at, put_back}
-use Rattle.vme_book.proofs.Prefixes.{shorter_joins, spans_after, steps_fit, within_places}
+use Rattle.vme_book.proofs.Prefixes.{AreJoinedTo-one_more, prefix-value_at, stored-has_span, prefix-append}
+use Rattle.vme_book.proofs.Prefixes.{SpanStandsFor-stored, get_or-of_read, HaveSpans-after_putting_back}
+use Rattle.vme_book.proofs.Prefixes.{BlocksJoin-shorter_prefix, HaveSpans-after_replacing, length-one_more_block_bound}
+use Rattle.vme_book.proofs.Prefixes.{length-above_stored}
 use Rattle.vme_book.proofs.joined.JoinedPrefix.join_up_to.Goals as goal
 
 pub unreachable-requires : goal.unreachable-requires
@@ -19,8 +21,8 @@ unreachable-requires c =
     let at = inv.at in
     let prefix = c.requires.prefix in
     let long = prefix.2 in
-    let b = next_of blocks prefix.0 n prefix.1.there (omega arith) in
-    no_span blocks spans c.loop-number.self.count n b.0 c.index_mut.result.now inv.waiting (omega arith) b.1
+    let b = prefix-value_at blocks prefix.0 n prefix.1.there (omega arith) in
+    stored-has_span blocks spans c.loop-number.self.count n b.0 c.index_mut.result.now inv.waiting (omega arith) b.1
     c.index_mut.ensures.value (sym c.take.ensures.value ∙ c.in_default.is)
 
 pub push-requires-clause-few : goal.push-requires-clause-few
@@ -32,15 +34,16 @@ push-requires-clause-few c =
     let at = inv.at in
     let prefix = c.requires.prefix in
     let long = prefix.2 in
-    let b = next_of blocks prefix.0 n prefix.1.there (omega arith) in
-    let stands = own_span blocks spans c.loop-number.self.count n b.0 c.index_mut.result.now c.in-Some.span inv.waiting
+    let b = prefix-value_at blocks prefix.0 n prefix.1.there (omega arith) in
+    let stands = SpanStandsFor-stored blocks spans c.loop-number.self.count n b.0 c.index_mut.result.now c.in-Some.span
+    inv.waiting
     (omega arith) b.1 c.index_mut.ensures.value (sym c.take.ensures.value ∙ c.in-Some.is) in
     let xs = inv.joined.0 in
     let joined = inv.joined.1 in
     let there : stored blocks (length xs) ≡ Some b.0 = ap (λ (k : ℕ). stored blocks k) (joined.count ∙ at) ∙ b.1 in
     λ t e.
     let before : SpanStandsFor t xs = subst (λ (o : Option Span). StandsForSome o xs) e joined.stands in
-    steps_fit blocks xs b.0 _ _ c.requires.placed joined.there there (span_steps t xs before)
+    length-one_more_block_bound blocks xs b.0 _ _ c.requires.placed joined.there there (span_steps t xs before)
     (span_steps c.in-Some.span (b.0 ∷ []) stands)
 
 pub push-requires-clause-joins : goal.push-requires-clause-joins
@@ -52,19 +55,20 @@ push-requires-clause-joins c =
     let at = inv.at in
     let prefix = c.requires.prefix in
     let long = prefix.2 in
-    let b = next_of blocks prefix.0 n prefix.1.there (omega arith) in
-    let stands = own_span blocks spans c.loop-number.self.count n b.0 c.index_mut.result.now c.in-Some.span inv.waiting
+    let b = prefix-value_at blocks prefix.0 n prefix.1.there (omega arith) in
+    let stands = SpanStandsFor-stored blocks spans c.loop-number.self.count n b.0 c.index_mut.result.now c.in-Some.span
+    inv.waiting
     (omega arith) b.1 c.index_mut.ensures.value (sym c.take.ensures.value ∙ c.in-Some.is) in
     let xs = inv.joined.0 in
     let joined = inv.joined.1 in
     let there : stored blocks (length xs) ≡ Some b.0 = ap (λ (k : ℕ). stored blocks k) (joined.count ∙ at) ∙ b.1 in
-    let more = one_more blocks xs b.0 joined.there there in
+    let more = prefix-append blocks xs b.0 joined.there there in
     let count = joined.count in (
       xs,
       b.0,
       joined.stands,
       stands,
-      shorter_joins blocks (xs ++ b.0 ∷ []) prefix.0 more prefix.1
+      BlocksJoin-shorter_prefix blocks (xs ++ b.0 ∷ []) prefix.0 more prefix.1
           (omega (arith, length-append xs (b.0 ∷ []))),
     )
 
@@ -77,16 +81,17 @@ returns-in-Err-clause-waiting c =
     let at = inv.at in
     let prefix = c.requires.prefix in
     let long = prefix.2 in
-    let b = next_of blocks prefix.0 n prefix.1.there (omega arith) in
+    let b = prefix-value_at blocks prefix.0 n prefix.1.there (omega arith) in
     let own = inv.waiting.each n b.0 (omega arith) b.1 in
     let many = inv.waiting.as_many in
-    let below = within_places blocks n b.0 b.1 in
+    let below = length-above_stored blocks n b.0 b.1 in
     let back : c.in-Err.span ≡ c.in-Some.span = c.in-Err.ensures.handed_back in
-    let there = found_at spans n c.index_mut.result.now c.in-Err.span (omega arith) c.index_mut.ensures.value
+    let there = get_or-of_read spans n c.index_mut.result.now c.in-Err.span (omega arith) c.index_mut.ensures.value
     (sym c.take.ensures.value ∙ c.in-Some.is ∙ sym (ap Some back)) in
     let kept : c.push.new.self.count ≡ c.loop-number.self.count = c.in-Err.ensures.same in
     subst (λ (k : ℕ). HaveSpans blocks (set (set spans n c.take.new.self) n (Some c.in-Err.span)) k) (sym kept)
-    (put_back blocks spans n c.loop-number.self.count c.take.new.self c.in-Err.span inv.waiting there)
+    (HaveSpans-after_putting_back blocks spans n c.loop-number.self.count c.take.new.self c.in-Err.span inv.waiting
+    there)
 
 pub loop-number-preserved : goal.loop-number-preserved
 loop-number-preserved c =
@@ -97,8 +102,9 @@ loop-number-preserved c =
     let at = inv.at in
     let prefix = c.requires.prefix in
     let long = prefix.2 in
-    let b = next_of blocks prefix.0 n prefix.1.there (omega arith) in
-    let stands = own_span blocks spans c.loop-number.self.count n b.0 c.index_mut.result.now c.in-Some.span inv.waiting
+    let b = prefix-value_at blocks prefix.0 n prefix.1.there (omega arith) in
+    let stands = SpanStandsFor-stored blocks spans c.loop-number.self.count n b.0 c.index_mut.result.now c.in-Some.span
+    inv.waiting
     (omega arith) b.1 c.index_mut.ensures.value (sym c.take.ensures.value ∙ c.in-Some.is) in
     let xs = inv.joined.0 in
     let joined = inv.joined.1 in
@@ -109,10 +115,11 @@ loop-number-preserved c =
     record {
       at = next;
       blocks = inv.blocks;
-      waiting = spans_after blocks spans n c.push.new.self.count c.take.new.self waiting next;
+      waiting = HaveSpans-after_replacing blocks spans n c.push.new.self.count c.take.new.self waiting next;
       joined = (
         xs ++ b.0 ∷ [],
-        joined_after blocks c.loop-number.self c.push.new.self xs b.0 joined (ap (λ (k : ℕ). stored blocks k) at ∙ b.1)
+        AreJoinedTo-one_more blocks c.loop-number.self c.push.new.self xs b.0 joined
+            (ap (λ (k : ℕ). stored blocks k) at ∙ b.1)
             more (c.in_default-push.ensures.pushed xs b.0 joined.stands stands),
       );
     }

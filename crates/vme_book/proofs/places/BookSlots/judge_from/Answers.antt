@@ -9,7 +9,8 @@ use Rattle.vme_summary.specs.declared.running_verdict.RunningVerdict.{RunningVer
 use Rattle.vme_summary.proofs.Progressing.{come_steps, span_steps}
 use Rattle.vme_book.specs.Inserted.{stored}
 use Rattle.vme_book.specs.BookState.{IsStateAfter}
-use Rattle.vme_book.proofs.Prefixes.{found_at, own_span, past_one_more, read_at, some_of, steps_fit}
+use Rattle.vme_book.proofs.Prefixes.{get_or-of_read, SpanStandsFor-stored, IsJudgedPrefix-one_more, read-of_get_or}
+use Rattle.vme_book.proofs.Prefixes.{is_some-value, length-one_more_block_bound}
 use Rattle.vme_book.proofs.places.BookSlots.judge_from.Goals.{in-None, in-Some-progress}
 use Rattle.vme_book.proofs.places.BookSlots.judge_from.Goals as goal
 
@@ -19,11 +20,12 @@ unreachable-requires c =
     let spans = c.args.self.now.spans.items in
     let n = c.loop-number.number in
     let long = c.requires.waiting.as_many in
-    let b = some_of c.index.result.now c.if-is_none.ensures in
-    let there : stored blocks n ≡ Some b.0 = found_at blocks n c.index.result.now b.0 (omega arith) c.index.ensures
+    let b = is_some-value c.index.result.now c.if-is_none.ensures in
+    let there : stored blocks n ≡ Some b.0 =
+    get_or-of_read blocks n c.index.result.now b.0 (omega arith) c.index.ensures
     b.1 in
     let s = c.requires.waiting.each n b.0 (omega arith) there in
-    c.in_default.not-Some s.0 (read_at spans n c.index-in-loop-number.result.now s.0 (omega arith)
+    c.in_default.not-Some s.0 (read-of_get_or spans n c.index-in-loop-number.result.now s.0 (omega arith)
     c.index-in-loop-number.ensures s.1)
 
 pub after-next-requires : goal.after-next-requires
@@ -32,15 +34,17 @@ after-next-requires c =
     let spans = c.args.self.now.spans.items in
     let n = c.loop-number.number in
     let long = c.requires.waiting.as_many in
-    let b = some_of c.index.result.now c.if-is_none.ensures in
-    let there : stored blocks n ≡ Some b.0 = found_at blocks n c.index.result.now b.0 (omega arith) c.index.ensures
+    let b = is_some-value c.index.result.now c.if-is_none.ensures in
+    let there : stored blocks n ≡ Some b.0 =
+    get_or-of_read blocks n c.index.result.now b.0 (omega arith) c.index.ensures
     b.1 in
-    let stands = own_span blocks spans c.args.from n b.0 c.index-in-loop-number.result.now c.in-Some.span
+    let stands = SpanStandsFor-stored blocks spans c.args.from n b.0 c.index-in-loop-number.result.now c.in-Some.span
     c.requires.waiting (omega arith) there c.index-in-loop-number.ensures c.in-Some.is in
     let bs = c.loop-number.invariant.0 in
     let past = c.loop-number.invariant.1 in
     let come : HasCome c.in-Some-progress.before bs = subst (λ p. IsStateAfter p bs) c.in-Some-progress.is past.come in
-    steps_fit blocks bs b.0 _ _ c.requires.placed past.prefix.there (ap (λ (k : ℕ). stored blocks k) past.count ∙ there)
+    length-one_more_block_bound blocks bs b.0 _ _ c.requires.placed past.prefix.there
+    (ap (λ (k : ℕ). stored blocks k) past.count ∙ there)
     (come_steps _ bs come) (span_steps c.in-Some.span (b.0 ∷ []) stands)
 
 pub loop-number-preserved : goal.loop-number-preserved
@@ -49,14 +53,15 @@ loop-number-preserved c =
     let spans = c.args.self.now.spans.items in
     let n = c.loop-number.number in
     let long = c.requires.waiting.as_many in
-    let b = some_of c.index.result.now c.if-is_none.ensures in
-    let there : stored blocks n ≡ Some b.0 = found_at blocks n c.index.result.now b.0 (omega arith) c.index.ensures
+    let b = is_some-value c.index.result.now c.if-is_none.ensures in
+    let there : stored blocks n ≡ Some b.0 =
+    get_or-of_read blocks n c.index.result.now b.0 (omega arith) c.index.ensures
     b.1 in
-    let stands = own_span blocks spans c.args.from n b.0 c.index-in-loop-number.result.now c.in-Some.span
+    let stands = SpanStandsFor-stored blocks spans c.args.from n b.0 c.index-in-loop-number.result.now c.in-Some.span
     c.requires.waiting (omega arith) there c.index-in-loop-number.ensures c.in-Some.is in
     let bs = c.loop-number.invariant.0 in
     let past = c.loop-number.invariant.1 in
-    let p = some_of c.match-progress.next c.if-is_none-2.ensures in
+    let p = is_some-value c.match-progress.next c.if-is_none-2.ensures in
     let come : HasCome p.0 (bs ++ b.0 ∷ []) = elim c.match-progress.branch [
       | in-None w ↦
           let none : bs ≡ [] = subst (λ q. IsStateAfter q bs) w.in-None.is past.come in
@@ -75,4 +80,4 @@ loop-number-preserved c =
           further bs (b.0 ∷ []) before stands
     ] in
     let at : stored blocks (length bs) ≡ Some b.0 = ap (λ (k : ℕ). stored blocks k) past.count ∙ there in
-    (bs ++ b.0 ∷ [], past_one_more blocks c.match-progress.next p.0 n bs b.0 past at p.1 come)
+    (bs ++ b.0 ∷ [], IsJudgedPrefix-one_more blocks c.match-progress.next p.0 n bs b.0 past at p.1 come)

@@ -1,11 +1,11 @@
 -- The steps are judged, if there are any.
-use Rattle.vme_file_part.proofs.SoFar.{found-by-it, its-found}
+use Rattle.vme_file_part.proofs.SoFar.{IsFoundOfFile-file, IsFoundIn-file}
 use Rattle.vme_file_part.proofs.file_so_far.FileSoFar.go_on.Goals as goal
 
 pub segment_with-requires-clause-found : goal.segment_with-requires-clause-found
 segment_with-requires-clause-found c =
     let (number, listing, start, t, h, may) = c.requires in
-    (t, its-found number listing start c.args.self t h, may)
+    (t, IsFoundIn-file number listing start c.args.self t h, may)
 
 pub returns : goal.returns
 returns c number listing start t h may = record {
@@ -14,7 +14,7 @@ returns c number listing start t h may = record {
   start_is = h.start_is;
   found = record {
     opened = h.found.opened;
-    found = found-by-it number listing start c.args.self t h c.in_ok-segment.segment _
-        (c.in_ok-segment.ensures t (its-found number listing start c.args.self t h) may);
+    found = IsFoundOfFile-file number listing start c.args.self t h c.in_ok-segment.segment _
+        (c.in_ok-segment.ensures t (IsFoundIn-file number listing start c.args.self t h) may);
   };
 }

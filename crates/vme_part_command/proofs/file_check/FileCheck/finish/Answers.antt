@@ -4,8 +4,9 @@ use Rattle.vme_stream.specs.Answers.{or_bad_binding}
 use Rattle.vme_trace.specs.Followed.{with_steps}
 use Rattle.vme_file_part.specs.declared.file_so_far.FileSoFar.{FileSoFar}
 use Rattle.vme_part_command.specs.FileChecks.{IsFoundSoFar}
-use Rattle.vme_part_command.proofs.CheckLemmas.{limited-fits, limited-long, many-came, may-judge, not-many}
-use Rattle.vme_part_command.proofs.CheckLemmas.{pending-same}
+use Rattle.vme_part_command.proofs.CheckLemmas.{limited-few_steps, limited-many_steps, too_many-with_steps}
+use Rattle.vme_part_command.proofs.CheckLemmas.{MayBeJudged-counted, FileComesTo-few}
+use Rattle.vme_part_command.proofs.CheckLemmas.{IsPending-same}
 use Rattle.vme_part_command.proofs.file_check.FileCheck.finish.Goals as goal
 
 pub returns-then-not-counts : goal.returns-then-not-counts
@@ -13,8 +14,8 @@ returns-then-not-counts c number listing start t h formed =
     let old = c.args.self in
     let steps = c.args.steps.items in
     let counts = c.counts.ensures in
-    ap or_bad_binding (limited-long (with_steps t steps)
-    (many-came number listing start old.file old.pending.items t old.count old.is_too_long steps h
+    ap or_bad_binding (limited-many_steps (with_steps t steps)
+    (too_many-with_steps number listing start old.file old.pending.items t old.count old.is_too_long steps h
     (λ short. omega (arith, counts.many c.if-not-counts.true short, c.len.ensures))))
 
 pub judge_all-requires : goal.judge_all-requires
@@ -25,16 +26,17 @@ judge_all-requires c =
     let counts = c.counts.ensures in
     let some = c.if-not-counts.false in
     let new = c.counts.new.self in
-    let (same, few, was) = not-many number listing start old.file old.pending.items t old.count old.is_too_long h
+    let (same, few, was) = FileComesTo-few number listing start old.file old.pending.items t old.count old.is_too_long h
     (counts.few some).2 in
-    let pending = pending-same number listing start old.file new.file old.pending new.pending t counts.left.0
+    let pending = IsPending-same number listing start old.file new.file old.pending new.pending t counts.left.0
     counts.left.1 was in (
       number,
       listing,
       start,
       t,
       pending,
-      may-judge t steps old.count c.counts.new.self.count same (omega (arith, (counts.few some).0, c.len.ensures))
+      MayBeJudged-counted t steps old.count c.counts.new.self.count same
+          (omega (arith, (counts.few some).0, c.len.ensures))
           (counts.within some few) formed,
     )
 
@@ -46,9 +48,9 @@ part_in-requires c =
     let counts = c.counts.ensures in
     let some = c.if-not-counts.false in
     let new = c.counts.new.self in
-    let (same, few, was) = not-many number listing start old.file old.pending.items t old.count old.is_too_long h
+    let (same, few, was) = FileComesTo-few number listing start old.file old.pending.items t old.count old.is_too_long h
     (counts.few some).2 in
-    let pending = pending-same number listing start old.file new.file old.pending new.pending t counts.left.0
+    let pending = IsPending-same number listing start old.file new.file old.pending new.pending t counts.left.0
     counts.left.1 was in (
       number,
       listing,
@@ -57,7 +59,8 @@ part_in-requires c =
       subst (λ (f : Option FileSoFar). IsFoundSoFar number listing start f (with_steps t steps))
           c.in-Ok-Some.field-0-is
           (c.in-Ok-Some.ensures number listing start t pending
-          (may-judge t steps old.count c.counts.new.self.count same (omega (arith, (counts.few some).0, c.len.ensures))
+          (MayBeJudged-counted t steps old.count c.counts.new.self.count same
+          (omega (arith, (counts.few some).0, c.len.ensures))
           (counts.within some few) formed)),
       formed,
     )
@@ -69,15 +72,15 @@ returns-in-Ok-Some c number listing start t h formed =
     let counts = c.counts.ensures in
     let some = c.if-not-counts.false in
     let new = c.counts.new.self in
-    let (same, few, was) = not-many number listing start old.file old.pending.items t old.count old.is_too_long h
+    let (same, few, was) = FileComesTo-few number listing start old.file old.pending.items t old.count old.is_too_long h
     (counts.few some).2 in
-    let pending = pending-same number listing start old.file new.file old.pending new.pending t counts.left.0
+    let pending = IsPending-same number listing start old.file new.file old.pending new.pending t counts.left.0
     counts.left.1 was in
-    let may = may-judge t steps old.count c.counts.new.self.count same
+    let may = MayBeJudged-counted t steps old.count c.counts.new.self.count same
     (omega (arith, (counts.few some).0, c.len.ensures)) (counts.within some few) formed in
     c.part_in.ensures number listing start (with_steps t steps)
     (subst (λ (f : Option FileSoFar). IsFoundSoFar number listing start f (with_steps t steps)) c.in-Ok-Some.field-0-is
-    (c.in-Ok-Some.ensures number listing start t pending may)) formed (limited-fits (with_steps t steps) may.few)
+    (c.in-Ok-Some.ensures number listing start t pending may)) formed (limited-few_steps (with_steps t steps) may.few)
 
 pub returns-in-Ok-None : goal.returns-in-Ok-None
 returns-in-Ok-None c number listing start t h formed =
@@ -86,9 +89,9 @@ returns-in-Ok-None c number listing start t h formed =
     let counts = c.counts.ensures in
     let some = c.if-not-counts.false in
     let new = c.counts.new.self in
-    let (same, few, was) = not-many number listing start old.file old.pending.items t old.count old.is_too_long h
+    let (same, few, was) = FileComesTo-few number listing start old.file old.pending.items t old.count old.is_too_long h
     (counts.few some).2 in
-    let pending = pending-same number listing start old.file new.file old.pending new.pending t counts.left.0
+    let pending = IsPending-same number listing start old.file new.file old.pending new.pending t counts.left.0
     counts.left.1 was in
-    limited-fits (with_steps t steps) (may-judge t steps old.count c.counts.new.self.count same
+    limited-few_steps (with_steps t steps) (MayBeJudged-counted t steps old.count c.counts.new.self.count same
     (omega (arith, (counts.few some).0, c.len.ensures)) (counts.within some few) formed).few
