@@ -31,7 +31,7 @@ use Rattle.vme_monitor.specs.Whole.{has_any_stretch}
 use Rattle.vme_monitor.specs.declared.mark.Mark.{Mark}
 use Rattle.vme_summary.specs.AllShown.{all_marks, all_over}
 use Rattle.vme_summary.specs.MarkedRows.{marks_listed, opening_marks, rows_of}
-use Rattle.vme_summary.proofs.MarkedListing.{marked_is_listed}
+use Rattle.vme_summary.proofs.MarkedListing.{listed-recorded_rows}
 use Rattle.vme_auditor.specs.JoinedMarks.{joined_marks, kinds_shown}
 use Rattle.vme_auditor.specs.Memories.{fault_at, memories_at, memories_next}
 use Rattle.vme_auditor.specs.declared.memories.Memories.{Memories}
@@ -178,14 +178,14 @@ module _ (finds : FindsFirst) (shows : ShowsMarks) (t : Trace) (ok : malformed_s
   rows-with_verdict true e = (
     outcome_of first,
     sym (ap (λ (c : Bool). cond c (rows_of None marks ++ row.Verdict (outcome_of first) ∷ [])
-        (row.Verdict listed_as.NeverIdle ∷ [])) e) ∙ marked_is_listed t,
+        (row.Verdict listed_as.NeverIdle ∷ [])) e) ∙ listed-recorded_rows t,
   )
   rows-with_verdict false e = (
     listed_as.NeverIdle,
     ap (λ (ms : List Mark). rows_of None ms ++ row.Verdict listed_as.NeverIdle ∷ [])
         (marks-none t e first)
         ∙ (sym (ap (λ (c : Bool). cond c (rows_of None marks ++ row.Verdict (outcome_of first) ∷ [])
-        (row.Verdict listed_as.NeverIdle ∷ [])) e) ∙ marked_is_listed t),
+        (row.Verdict listed_as.NeverIdle ∷ [])) e) ∙ listed-recorded_rows t),
   )
 
   -- a verdict is of no kind that is counted

@@ -31,7 +31,7 @@ use Rattle.vme_summary.specs.AllShown.{all_marks, all_over}
 use Rattle.vme_summary.specs.MarkedRows.{first_instant, is_close, is_cycle_end, is_tenure_end, listed}
 use Rattle.vme_summary.specs.MarkedRows.{marked_cycle, marked_direction, marks_before, marks_listed, opening_marks}
 use Rattle.vme_summary.specs.MarkedRows.{rows_of as marked_rows}
-use Rattle.vme_summary.proofs.MarkedListing.{marked_is_listed}
+use Rattle.vme_summary.proofs.MarkedListing.{listed-recorded_rows}
 use Rattle.vme_audit.specs.Counted.{counts_of_rows, rows_of}
 use Rattle.vme_audit.specs.Covered.{hanging}
 use Rattle.vme_audit.specs.Parts.{named_break}
@@ -164,7 +164,7 @@ CountAlike-part shows start t ok few first_break e =
     CountAlike-equal (rows_of (record { start = start; trace = t }))
     (filter is_no_verdict (listed t.opening (has_any_stretch (judged_stretches t)) first_break (all_marks t)))
     (marked_rows None (marks_listed first_break (joined_marks (memories_at t.opening) t.opening t.steps)))
-    (ap (filter is_no_verdict) (sym (marked_is_listed t)
+    (ap (filter is_no_verdict) (sym (listed-recorded_rows t)
     ∙ ap (λ (first_break : Option Break). listed t.opening (has_any_stretch (judged_stretches t)) first_break
     (all_marks t))
     least)) (subst (λ (ms : List Mark). CountAlike

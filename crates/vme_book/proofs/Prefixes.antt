@@ -23,7 +23,7 @@ use Rattle.vme_summary.specs.Stands.{SpanStandsFor, first_number}
 use Rattle.vme_summary.specs.declared.running_verdict.RunningVerdict.{RunningVerdict}
 use Rattle.vme_summary.specs.declared.span.Span.{Span}
 use Rattle.vme_summary.proofs.Chains.{nil-without_neighbours, joined_steps-append}
-use Rattle.vme_summary.proofs.Progressing.{come_join, span_first}
+use Rattle.vme_summary.proofs.Progressing.{BlocksJoin-of_HasCome, first_number-of_span}
 use Rattle.vme_book.specs.BookState.{AreAtOwnNumbers, AreJoinedTo, HaveSpans, IsBlockNumbered, IsEnd, IsJudgedPrefix}
 use Rattle.vme_book.specs.BookState.{IsStateAfter, Keeps, StandsForSome}
 use Rattle.vme_book.specs.declared.joined.JoinedPrefix.{JoinedPrefix}
@@ -271,7 +271,7 @@ IsJudgedPrefix-one_more inserted progress p n bs b past there e come =
     record {
       prefix = record {
         there = prefix-append inserted bs b past.prefix.there there;
-        join = come_join p (bs ++ b ∷ []) come;
+        join = BlocksJoin-of_HasCome p (bs ++ b ∷ []) come;
       };
       count = length-append bs (b ∷ []) ∙ ap (λ (k : ℕ). k + 1) past.count;
       come = subst (λ (q : Option RunningVerdict). IsStateAfter q (bs ++ b ∷ [])) (sym e) come;
@@ -510,7 +510,7 @@ pub first_number-zero : (inserted : List (Option Block)) (s : Span) (bs : List B
 first_number-zero inserted s [] placed e some stands = let none = ap length e in absurd (omega arith)
 first_number-zero inserted s (b ∷ bs) placed e some stands =
     let here : stored inserted 0 ≡ Some b = ap (λ (l : List (Option Block)). get_or l 0 None) e in
-    span_first s b bs stands ∙ (placed.each 0 b here).number
+    first_number-of_span s b bs stands ∙ (placed.each 0 b here).number
 
 -- the opening of the first block and the steps of all blocks are the recording of all blocks
 pub joined_trace-of_all : (items : List (Option Block)) (bs : List Block) (first : Block) (steps : List Step) → items

@@ -18,7 +18,7 @@ use Rattle.vme_summary.specs.AllShown.{all_marks}
 use Rattle.vme_summary.specs.Joins.{joined_trace}
 use Rattle.vme_summary.specs.MarkedRows.{listed}
 use Rattle.vme_summary.specs.Summaries.{first_break_of}
-use Rattle.vme_summary.proofs.MarkedListing.{marked_is_listed}
+use Rattle.vme_summary.proofs.MarkedListing.{listed-recorded_rows}
 use Rattle.vme_part_format.specs.Tables.{TableValue}
 use Rattle.vme_part_tables.specs.Runs.{AgreesWithRun, AgreesWithRuns, mark_of}
 use Rattle.vme_part_tables.specs.Ways.{WideOutcome, later_mark, outcome_in}
@@ -69,6 +69,6 @@ pub listed_so : (t : Trace) (judged : Bool) (first_break : Option Break) (o : Le
     → judged ≡ has_any_stretch (judged_stretches t) → first_break ≡ first_break_of t → o ≡ t.opening → ms ≡ all_marks t
     → l ≡ in_newest_version (listed o judged first_break ms) → listing_of t ≡ l
 listed_so t judged first_break o ms l started first opens seen is =
-    let whole = marked_is_listed t in
+    let whole = listed-recorded_rows t in
     let rows : recorded_rows t ≡ listed o judged first_break ms = cc in
     ap in_newest_version rows ∙ sym is

@@ -20,7 +20,7 @@ use Rattle.vme_summary.specs.Progressed.{HasMonitorState}
 use Rattle.vme_summary.specs.declared.monitor_states.MonitorState.{MonitorState}
 
 -- if a is the state of a monitor before a step, and b is a advanced by it, b is the state after the step
-pub state_after_step : {P : Type 0} (next : P → Levels → Levels → List Change → Next P) (begin : Levels
+pub HasMonitorState-one_step : {P : Type 0} (next : P → Levels → Levels → List Change → Next P) (begin : Levels
     → P) (a b : MonitorState P)
     (o : Levels) (x : List Step) (s : Step) (before after : Levels) (n : ℕ) → before ≡ levels_after o x
     → after ≡ changed before s.changes → n ≡ length x + 1
@@ -28,7 +28,7 @@ pub state_after_step : {P : Type 0} (next : P → Levels → Levels → List Cha
     → b.first_break ≡ earlier a.first_break
     (option_map (break_of_fault n s.time) (next a.memory before after s.changes).fault)
     → HasMonitorState (run_of next) begin a o x → HasMonitorState (run_of next) begin b o (x ++ s ∷ [])
-state_after_step {P} next begin a b o x s before after n here there count m e seen =
+HasMonitorState-one_step {P} next begin a b o x s before after n here there count m e seen =
     let so_far = run_of next (begin o) o x in
     let whole = run_more next x s (begin o) o before after here there in
     let later = λ (k : ℕ) (f : Option Fault). option_map (break_of_fault k s.time) f in
@@ -45,5 +45,5 @@ state_after_step {P} next begin a b o x s before after n here there count m e se
     }
 
 -- the levels after a step are those before it, changed
-pub view_after : (v : StepView) (cs : List Change) → v ≡ seen_in v.before cs → v.after ≡ changed v.before cs
-view_after v cs e = ap (λ (w : StepView). w.after) e
+pub seen_in-after : (v : StepView) (cs : List Change) → v ≡ seen_in v.before cs → v.after ≡ changed v.before cs
+seen_in-after v cs e = ap (λ (w : StepView). w.after) e

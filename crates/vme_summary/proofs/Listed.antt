@@ -1,4 +1,5 @@
--- The listing of a recording that a summary stands for.
+-- The listing of the recording that a summary stands for is made from what the monitors find and from the marks (events
+-- of the bus with their instants).
 use Rattle.std.proofs.Common.{◌≡◌, ◌<◌, ◌≤◌, ◌^◌, Bool, true, List, [], ◌∷◌, length, refl, sym, ap, arith, Option, None}
 use Rattle.std.proofs.Common.{Some}
 use Rattle.vme_trace.specs.Levels.{Levels}
@@ -19,48 +20,54 @@ use Rattle.vme_summary.specs.Summaries.{StandsForAll, first_break_of, summary_st
 use Rattle.vme_summary.specs.declared.monitor_states.MonitorStates.{MonitorStates}
 use Rattle.vme_summary.specs.declared.span.Span.{Span}
 use Rattle.vme_summary.specs.declared.summary.MonitorSummaries.{MonitorSummaries}
-use Rattle.vme_summary.proofs.MarkedListing.{marked_is_listed}
+use Rattle.vme_summary.proofs.MarkedListing.{listed-recorded_rows}
 use Rattle.vme_summary.proofs.Whole.{FindsFrom, HasFoundAll-of_FindsFrom, StandsForAll-of_span}
 
-listing_at : (t : Trace) (judged : Bool) (first_break : Option Break) (opening : Levels) (marks : List Mark) → judged
+-- the rows of a recording are those made from whether it is judged, its first break, its opening and its marks
+recorded_rows-listed : (t : Trace) (judged : Bool) (first_break : Option Break) (opening : Levels) (marks : List Mark)
+    → judged
     ≡ has_any_stretch (judged_stretches t) → first_break ≡ first_break_of t → opening ≡ t.opening → marks ≡ all_marks t
     → recorded_rows t
     ≡ listed opening judged first_break marks
-listing_at t judged first_break opening marks started first opens seen =
-    let whole = marked_is_listed t in
+recorded_rows-listed t judged first_break opening marks started first opens seen =
+    let whole = listed-recorded_rows t in
     cc
 
 -- the listing is made from what the monitors find from the opening on, and from the marks (events of the bus with their
 -- instants)
-pub listing_found : (s : MonitorSummaries) (o : Levels) (t : Trace) → StandsForAll s o t
+pub listing_of-found : (s : MonitorSummaries) (o : Levels) (t : Trace) → StandsForAll s o t
     → (f : MonitorStates) → FindsFrom s o f
     → (judged : Bool) → ((t : Trace) → HasFoundAll f t → judged ≡ has_any_stretch (judged_stretches t))
     → (first_break : Option Break) → ((t : Trace) → HasFoundAll f t → first_break ≡ first_break_of t)
     → (marks : List Mark) → ((t : Trace) → StandsForAll s o t → marks ≡ all_marks t) → listing_of t ≡ in_newest_version
     (listed o judged first_break marks)
-listing_found s o t all f finds judged started first_break first marks seen =
+listing_of-found s o t all f finds judged started first_break first marks seen =
     let found = HasFoundAll-of_FindsFrom s o f t finds all in
-    ap in_newest_version (listing_at t judged first_break o marks (started t found) (first t found) all.opens
+    ap in_newest_version (recorded_rows-listed t judged first_break o marks (started t found) (first t found) all.opens
     (seen t all))
 
 -- if the listings of all recordings of at most 21 slots and less than 2^32 steps are well placed, so is this one
-pub placed_found : (s : MonitorSummaries) (o : Levels) (t : Trace) → StandsForAll s o t → summary_steps s < 2 ^ 32
+pub is_well_placed-of_summary : (s : MonitorSummaries) (o : Levels) (t : Trace) → StandsForAll s o t
+    → summary_steps s < 2 ^ 32
     → ((t : Trace) → t.opening.slots ≤ 21 → length t.steps < 2 ^ 32 → is_well_placed (listing_of t) ≡ true)
     → is_well_placed (listing_of t) ≡ true
-placed_found s o t all counted law = law t all.few (omega (arith, all.stands.known.counted, counted))
+is_well_placed-of_summary s o t all counted law = law t all.few (omega (arith, all.stands.known.counted, counted))
 
 module _ (s : Span) (few : s.extent.opening.slots ≤ 21) (listing : Listed) where
   -- a listing of each recording that a span's summary stands for is the listing of the recording that its blocks make
-  pub listing_joined : ((t : Trace) → StandsForAll s.summary s.extent.opening t → listing ≡ listing_of t)
+  pub IsListingOf-of_summary : ((t : Trace) → StandsForAll s.summary s.extent.opening t → listing ≡ listing_of t)
       → IsListingOf s listing
-  listing_joined is [] stands = let none : None ≡ Some s.extent.first = stands.extent.first in absurd (cc)
-  listing_joined is (b ∷ bs) stands =
+  IsListingOf-of_summary is [] stands = let none : None ≡ Some s.extent.first = stands.extent.first in absurd (cc)
+  IsListingOf-of_summary is (b ∷ bs) stands =
       let t : Trace = record { opening = b.opening; steps = joined_steps (b ∷ bs) } in
       ap Some (sym (is t (StandsForAll-of_span s few (b ∷ bs) t stands refl)))
 
-  pub placed_joined : ((t : Trace) → StandsForAll s.summary s.extent.opening t → is_well_placed listing ≡ true)
+  -- if a listing is well placed for each recording that a span's summary stands for, it is, if the span stands for
+  -- blocks
+  pub is_well_placed-of_span : ((t : Trace) → StandsForAll s.summary s.extent.opening t → is_well_placed listing ≡ true)
       → StandsForBlocks s → is_well_placed listing ≡ true
-  placed_joined placed ([], stands) = let none : None ≡ Some s.extent.first = stands.extent.first in absurd (cc)
-  placed_joined placed (b ∷ bs, stands) =
+  is_well_placed-of_span placed ([], stands) = let none : None ≡ Some s.extent.first =
+      stands.extent.first in absurd (cc)
+  is_well_placed-of_span placed (b ∷ bs, stands) =
       let t : Trace = record { opening = b.opening; steps = joined_steps (b ∷ bs) } in
       placed t (StandsForAll-of_span s few (b ∷ bs) t stands refl)

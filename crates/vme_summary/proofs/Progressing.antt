@@ -33,13 +33,13 @@ use Rattle.vme_summary.proofs.Extents.{IsExtent-joined, levels_after-extent}
 use Rattle.vme_summary.proofs.Whole.{joined_trace-well_formed}
 
 -- the state of a monitor after further steps, from its memory (the state of its automaton) before them
-pub seen_after : {P : Type 0} (next : P → Levels → Levels → List Change → Next P) (begin : Levels → P)
+pub HasMonitorState-append : {P : Type 0} (next : P → Levels → Levels → List Change → Next P) (begin : Levels → P)
     (says : P → Outcome P) (count n : ℕ) (a b : MonitorState P) (o : Levels) (x y : List Step)
     → b.memory ≡ (says a.memory).leaving → b.first_break ≡ earlier a.first_break
     (option_map (shifted_break n) (says a.memory).first_break) → n ≡ length x
     → HasMonitorState (run_of next) begin a o x → FindsFor (run_of next) says count (levels_after o x) y
     → HasMonitorState (run_of next) begin b o (x ++ y)
-seen_after {P} next begin says count n a b o x y m e long seen finds =
+HasMonitorState-append {P} next begin says count n a b o x y m e long seen finds =
     let after = levels_after o x in
     let so_far = run_of next (begin o) o x in
     let rest = run_of next so_far.leaving after y in
@@ -57,12 +57,15 @@ seen_after {P} next begin says count n a b o x y m e long seen finds =
           ∙ sym (ap (λ (r : Outcome P). r.first_break) whole);
     }
 
-pub come_after : (p : RunningVerdict) (s : Span) (e : Extent) (n : ℕ) (f : MonitorStates) → e ≡ joined_extent p.extent
+-- if two extents meet, the joined extent, the number of all steps, and what is found after both are the state of
+-- judging after the blocks of both
+pub HasCome-append : (p : RunningVerdict) (s : Span) (e : Extent) (n : ℕ) (f : MonitorStates) → e
+    ≡ joined_extent p.extent
     s.extent → n ≡ p.steps + summary_steps s.summary → Meets p.extent s.extent
     → FoundAfter p.found p.steps s.summary f
     → (x y : List Block) → HasCome p x → SpanStandsFor s y → HasCome (record { extent = e; steps = n; found = f })
     (x ++ y)
-come_after p s e n f same count m found x y c q =
+HasCome-append p s e n f same count m found x y c q =
     let opens : s.extent.opening ≡ levels_after p.extent.opening (joined_steps x) = m.opened
     ∙ sym (levels_after-extent p.extent x c.extent) in
     let second : SummaryStandsFor s.summary (levels_after p.extent.opening (joined_steps x)) (joined_steps y) = subst
@@ -79,11 +82,13 @@ come_after p s e n f same count m found x y c q =
           (subst (λ (steps : List Step). HasFound f p.extent.opening steps) (sym steps) whole);
     }
 
-pub past_recording : (p : RunningVerdict) → p.extent.opening.slots ≤ 21 → (v : Verdict)
+-- a verdict that follows from what is found of any recording is that of the recording of the judged blocks, with at
+-- most 21 slots
+pub verdict-of_HasCome : (p : RunningVerdict) → p.extent.opening.slots ≤ 21 → (v : Verdict)
     → ((t : Trace) → HasFoundAll p.found t → verdict_by rules_in_force t ≡ v) → (blocks : List Block) → HasCome p blocks
     → recorded (verdict_by rules_in_force) blocks ≡ Some v
-past_recording p few v found [] c = let none : None ≡ Some p.extent.first = c.extent.first in absurd (cc)
-past_recording p few v found (b ∷ bs) c =
+verdict-of_HasCome p few v found [] c = let none : None ≡ Some p.extent.first = c.extent.first in absurd (cc)
+verdict-of_HasCome p few v found (b ∷ bs) c =
     let opens : Some b.opening ≡ Some p.extent.opening = c.extent.opening in
     let same : p.extent.opening ≡ b.opening = cc in
     ap Some
@@ -95,27 +100,30 @@ past_recording p few v found (b ∷ bs) c =
     }))
 
 -- how many steps the judged blocks have
-pub come_steps : (p : RunningVerdict) (blocks : List Block) → HasCome p blocks → judged_steps p
+pub judged_steps-of_HasCome : (p : RunningVerdict) (blocks : List Block) → HasCome p blocks → judged_steps p
     ≡ length (joined_steps blocks)
-come_steps p blocks c = c.steps
+judged_steps-of_HasCome p blocks c = c.steps
 
-pub span_steps : (s : Span) (blocks : List Block) → SpanStandsFor s blocks → step_count s ≡ length (joined_steps blocks)
-span_steps s blocks p = p.summary.known.counted
+-- a span covers as many steps as its blocks have
+pub step_count-of_span : (s : Span) (blocks : List Block) → SpanStandsFor s blocks → step_count s
+    ≡ length (joined_steps blocks)
+step_count-of_span s blocks p = p.summary.known.counted
 
 -- a span starts at the number of its first block
-pub span_first : (s : Span) (b : Block) (bs : List Block) → SpanStandsFor s (b ∷ bs) → first_number s ≡ b.number
-span_first s b bs p = let first : Some b.number ≡ Some s.extent.first = p.extent.first in cc
+pub first_number-of_span : (s : Span) (b : Block) (bs : List Block) → SpanStandsFor s (b ∷ bs) → first_number s
+    ≡ b.number
+first_number-of_span s b bs p = let first : Some b.number ≡ Some s.extent.first = p.extent.first in cc
 
 -- blocks that have been judged join
-pub come_join : (p : RunningVerdict) (blocks : List Block) → HasCome p blocks → BlocksJoin blocks
-come_join p blocks c = c.extent.join
+pub BlocksJoin-of_HasCome : (p : RunningVerdict) (blocks : List Block) → HasCome p blocks → BlocksJoin blocks
+BlocksJoin-of_HasCome p blocks c = c.extent.join
 
 -- the state of judging after further steps, by their summary
-pub judged_after_chunk : (j : VerdictState) (m : ChunkSummary) (n : ℕ) (f : MonitorStates) → n ≡ j.steps + summary_steps
+pub HasJudged-append : (j : VerdictState) (m : ChunkSummary) (n : ℕ) (f : MonitorStates) → n ≡ j.steps + summary_steps
     m.summary → FoundAfter j.found j.steps m.summary f
     → (o : Levels) (x y : List Step) → HasJudged j o x → IsFoundOf m (levels_after o x) y
     → HasJudged (record { left = m.left; steps = n; found = f }) o (x ++ y)
-judged_after_chunk j m n f count found o x y h made =
+HasJudged-append j m n f count found o x y h made =
     let long : summary_steps m.summary ≡ length y = made.finds.known.counted in
     record {
       left = made.left ∙ sym (levels_after-append x y o);

@@ -7,16 +7,17 @@ use Rattle.vme_summary.specs.JudgedSoFar.{KeepsUp}
 
 module _ (IsPast : Levels → List Step → Type 0) (count : ℕ) (o : Levels) (taken waiting : List Step)
     (k : KeepsUp IsPast count o taken waiting) (le : count ≤ capture_limit) where
-  within : length taken ≤ capture_limit
-  within = omega (arith, le, k.counted)
+  -- the steps taken are within the limit of a recording
+  length-taken_within_limit : length taken ≤ capture_limit
+  length-taken_within_limit = omega (arith, le, k.counted)
 
   -- the judged steps and the waiting ones are at most 268,435,456
-  pub few_wait : (o : Levels) × (x : List Step) × IsPast o x × (length x + length waiting ≤ 268435456)
-  few_wait =
-      let h = k.kept within in
-      (o, h.0, h.1, omega (arith, within, sym (length-append h.0 waiting) ∙ ap length h.2))
+  pub length-judged_and_waiting : (o : Levels) × (x : List Step) × IsPast o x × (length x + length waiting ≤ 268435456)
+  length-judged_and_waiting =
+      let h = k.kept length-taken_within_limit in
+      (o, h.0, h.1, omega (arith, length-taken_within_limit, sym (length-append h.0 waiting) ∙ ap length h.2))
 
   -- if the waiting steps are judged, all steps are
-  pub all-judged : (IsNext : Levels → List Step → Type 0) → ((o : Levels) (x : List Step) → IsPast o x
+  pub IsNext-all_steps : (IsNext : Levels → List Step → Type 0) → ((o : Levels) (x : List Step) → IsPast o x
       → IsNext o (x ++ waiting)) → IsNext o taken
-  all-judged IsNext past = let h = k.kept within in subst (IsNext o) h.2 (past o h.0 h.1)
+  IsNext-all_steps IsNext past = let h = k.kept length-taken_within_limit in subst (IsNext o) h.2 (past o h.0 h.1)

@@ -4,7 +4,7 @@ use Rattle.std.proofs.lemmas.Option.{IfSome_then}
 use Rattle.std.proofs.lemmas.Result.{IfOk-weaker}
 use Rattle.vme_monitor.specs.declared.mark.Mark.{Mark}
 use Rattle.vme_summary.specs.Runs.{known_run, handshake_run, stability_run, grant_run, acknowledge_run}
-use Rattle.vme_summary.proofs.Together.{marks_of_all}
+use Rattle.vme_summary.proofs.Together.{merged-marks_of_monitors}
 use Rattle.vme_part_format.specs.Tables.{segment_value}
 use Rattle.vme_part_listing.specs.Late.{HasLateMark}
 use Rattle.vme_part_listing.specs.Marks.{ShowLate, ShowsFiles, marks_of_ways}
@@ -59,7 +59,7 @@ returns c =
     let whole = marks_whole c.loop-segment.judging c.loop-segment.ways s c.args.rest.now c.loop-segment.segment-index
     (omega (arith, c.loop-segment-test.false))
     (λ t sound few has.
-    marks_of_all t _ _ _ _ _ (has.known.marks ∙ c.known_over_recordings.ensures.marks t sound few)
+    merged-marks_of_monitors t _ _ _ _ _ (has.known.marks ∙ c.known_over_recordings.ensures.marks t sound few)
     (has.handshake.marks ∙ c.handshake_over_recordings.ensures.marks t sound few)
     (has.stability.marks ∙ c.stability_over_recordings.ensures.marks t sound few)
     (has.grant.marks ∙ c.grants_over_recordings.ensures.marks t sound few)

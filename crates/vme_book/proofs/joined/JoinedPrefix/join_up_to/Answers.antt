@@ -3,7 +3,7 @@ use Rattle.std.proofs.Common.{arith, ◌≡◌, ℕ, ◌+◌, [], ◌∷◌, ◌
 use Rattle.std.proofs.Common.{Some, sym, ◌∙◌, ap, subst, set, Option}
 use Rattle.vme_summary.specs.Stands.{SpanStandsFor}
 use Rattle.vme_summary.specs.declared.span.Span.{Span}
-use Rattle.vme_summary.proofs.Progressing.{span_steps}
+use Rattle.vme_summary.proofs.Progressing.{step_count-of_span}
 use Rattle.vme_book.specs.Inserted.{stored}
 use Rattle.vme_book.specs.BookState.{HaveSpans, StandsForSome}
 use Rattle.vme_book.proofs.Prefixes.{AreJoinedTo-one_more, prefix-value_at, stored-has_span, prefix-append}
@@ -43,8 +43,8 @@ push-requires-clause-few c =
     let there : stored blocks (length xs) ≡ Some b.0 = ap (λ (k : ℕ). stored blocks k) (joined.count ∙ at) ∙ b.1 in
     λ t e.
     let before : SpanStandsFor t xs = subst (λ (o : Option Span). StandsForSome o xs) e joined.stands in
-    length-one_more_block_bound blocks xs b.0 _ _ c.requires.placed joined.there there (span_steps t xs before)
-    (span_steps c.in-Some.span (b.0 ∷ []) stands)
+    length-one_more_block_bound blocks xs b.0 _ _ c.requires.placed joined.there there (step_count-of_span t xs before)
+    (step_count-of_span c.in-Some.span (b.0 ∷ []) stands)
 
 pub push-requires-clause-joins : goal.push-requires-clause-joins
 push-requires-clause-joins c =

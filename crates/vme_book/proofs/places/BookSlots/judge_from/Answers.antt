@@ -6,7 +6,7 @@ use Rattle.vme_trace.specs.declared.block.Block.{Block}
 use Rattle.vme_summary.specs.Progressed.{HasCome}
 use Rattle.vme_summary.specs.Stands.{SpanStandsFor}
 use Rattle.vme_summary.specs.declared.running_verdict.RunningVerdict.{RunningVerdict}
-use Rattle.vme_summary.proofs.Progressing.{come_steps, span_steps}
+use Rattle.vme_summary.proofs.Progressing.{judged_steps-of_HasCome, step_count-of_span}
 use Rattle.vme_book.specs.Inserted.{stored}
 use Rattle.vme_book.specs.BookState.{IsStateAfter}
 use Rattle.vme_book.proofs.Prefixes.{get_or-of_read, SpanStandsFor-stored, IsJudgedPrefix-one_more, read-of_get_or}
@@ -45,7 +45,7 @@ after-next-requires c =
     let come : HasCome c.in-Some-progress.before bs = subst (λ p. IsStateAfter p bs) c.in-Some-progress.is past.come in
     length-one_more_block_bound blocks bs b.0 _ _ c.requires.placed past.prefix.there
     (ap (λ (k : ℕ). stored blocks k) past.count ∙ there)
-    (come_steps _ bs come) (span_steps c.in-Some.span (b.0 ∷ []) stands)
+    (judged_steps-of_HasCome _ bs come) (step_count-of_span c.in-Some.span (b.0 ∷ []) stands)
 
 pub loop-number-preserved : goal.loop-number-preserved
 loop-number-preserved c =

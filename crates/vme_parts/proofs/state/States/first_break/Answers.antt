@@ -4,7 +4,7 @@ use Rattle.std.specs.Option.{option_map}
 use Rattle.vme_monitor.specs.BothMonitors.{least}
 use Rattle.vme_part_tables.specs.Runs.{break_of}
 use Rattle.vme_summary.specs.Runs.{known_run, handshake_run, stability_run, grant_run, acknowledge_run}
-use Rattle.vme_summary.proofs.Together.{least_of_all}
+use Rattle.vme_summary.proofs.Together.{least_of-monitors}
 use Rattle.vme_parts.proofs.state.States.first_break.Goals as goal
 
 pub returns : goal.returns
@@ -17,7 +17,7 @@ returns c =
     ∙ (ap (least (option_map break_of s.known.first_break)) (c.least-started.ensures
     ∙ ap (least (option_map break_of s.handshake.first_break)) (c.least-held.ensures
     ∙ ap (least (option_map break_of s.stability.first_break)) c.least-chains.ensures))
-    ∙ least_of_all t _ _ _ _ _ (found.known.first_break ∙ c.known_over_recordings.ensures.first_break t all.sound
+    ∙ least_of-monitors t _ _ _ _ _ (found.known.first_break ∙ c.known_over_recordings.ensures.first_break t all.sound
     all.few) (found.handshake.first_break ∙ c.handshake_over_recordings.ensures.first_break t all.sound all.few)
     (found.stability.first_break ∙ c.stability_over_recordings.ensures.first_break t all.sound all.few)
     (found.grant.first_break ∙ c.grants_over_recordings.ensures.first_break t all.sound all.few)

@@ -1,8 +1,8 @@
 -- The steps were summarised by themselves, whatever is before them.
-use Rattle.vme_summary.proofs.Marked.{marked_after_chunk}
+use Rattle.vme_summary.proofs.Marked.{HasMarked-append}
 use Rattle.vme_summary.proofs.listing_state.ListingStateChunkJudge.pass.Goals as goal
 
 pub returns-clause-past : goal.returns-clause-past
 returns-clause-past c =
-    λ o x y before made. marked_after_chunk c.args.chunk_summary c.append.new.self.summary o x y
+    λ o x y before made. HasMarked-append c.args.chunk_summary c.append.new.self.summary o x y
     (c.in_ok-append.ensures.both o x y before.stands made.stands) made

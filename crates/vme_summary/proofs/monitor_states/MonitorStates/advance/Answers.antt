@@ -10,7 +10,7 @@ use Rattle.vme_chains.specs.GrantRules.{grant_begin, grant_end_fault, grant_next
 use Rattle.vme_chains.specs.AcknowledgeRules.{acknowledge_begin, acknowledge_end_fault, acknowledge_next}
 use Rattle.vme_chains.specs.AcknowledgeRules.{acknowledge_start_marks, acknowledge_observation}
 use Rattle.vme_summary.specs.Runs.{known_run, handshake_run, stability_run, grant_run, acknowledge_run}
-use Rattle.vme_summary.proofs.Advancing.{state_after_step, view_after}
+use Rattle.vme_summary.proofs.Advancing.{HasMonitorState-one_step, seen_in-after}
 use Rattle.vme_summary.proofs.monitor_states.MonitorStates.advance.Goals as goal
 
 pub returns : goal.returns
@@ -21,33 +21,33 @@ returns c =
     let before = c.args.view.now.before in
     let after = c.args.view.now.after in
     let is = c.as_slice-changes.ensures in
-    let there = view_after c.args.view.now step.changes c.requires in
+    let there = seen_in-after c.args.view.now step.changes c.requires in
     record {
-      known = state_after_step (machine_step (observed known_observation)
+      known = HasMonitorState-one_step (machine_step (observed known_observation)
           (phase_step known_begin known_start_marks known_reset_marks known_end_fault known_next))
           (start_in known_begin) _ _ o x step before after
           c.args.instant led.levels_are there led.instant_is
           (rw is at c.advance.ensures.memory) (rw is at c.advance.ensures.first_break)
           f.known;
-      handshake = state_after_step (machine_step (observed dtb_observation)
+      handshake = HasMonitorState-one_step (machine_step (observed dtb_observation)
           (phase_step dtb_begin dtb_start_marks no_step_marks dtb_end_fault dtb_step))
           (start_in dtb_begin) _ _ o x step before after
           c.args.instant led.levels_are there led.instant_is
           (rw is at c.advance-2.ensures.memory) (rw is at c.advance-2.ensures.first_break)
           f.handshake;
-      stability = state_after_step (machine_step (observed stability_observation)
+      stability = HasMonitorState-one_step (machine_step (observed stability_observation)
           (phase_step stability_begin stability_start_marks no_step_marks stability_end_fault stability_next))
           (start_in stability_begin) _ _ o x step before after
           c.args.instant led.levels_are there led.instant_is
           (rw is at c.advance-3.ensures.memory) (rw is at c.advance-3.ensures.first_break)
           f.stability;
-      grant = state_after_step (machine_step (observed grant_observation)
+      grant = HasMonitorState-one_step (machine_step (observed grant_observation)
           (phase_step grant_begin grant_start_marks no_step_marks grant_end_fault grant_next))
           (start_in grant_begin) _ _ o x step before after
           c.args.instant led.levels_are there led.instant_is
           (rw is at c.advance-4.ensures.memory) (rw is at c.advance-4.ensures.first_break)
           f.grant;
-      acknowledge = state_after_step (machine_step (observed acknowledge_observation)
+      acknowledge = HasMonitorState-one_step (machine_step (observed acknowledge_observation)
           (phase_step acknowledge_begin acknowledge_start_marks no_step_marks acknowledge_end_fault acknowledge_next))
           (start_in acknowledge_begin) _ _ o x step before after
           c.args.instant led.levels_are there led.instant_is

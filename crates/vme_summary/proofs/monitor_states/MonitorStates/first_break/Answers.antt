@@ -2,7 +2,7 @@
 use Rattle.std.proofs.Common.{◌∙◌, ap}
 use Rattle.vme_monitor.specs.BothMonitors.{least}
 use Rattle.vme_summary.specs.Runs.{known_run, handshake_run, stability_run, grant_run, acknowledge_run}
-use Rattle.vme_summary.proofs.Together.{least_of_all}
+use Rattle.vme_summary.proofs.Together.{least_of-monitors}
 use Rattle.vme_summary.proofs.monitor_states.MonitorStates.first_break.Goals as goal
 
 pub returns : goal.returns
@@ -14,7 +14,7 @@ returns c =
     c.least.ensures
     ∙ ap (least f.known.first_break) (c.least-started.ensures ∙ ap (least f.handshake.first_break) (c.least-held.ensures
     ∙ ap (least f.stability.first_break) c.least-chains.ensures))
-    ∙ least_of_all t _ _ _ _ _ (found.known.first_break ∙ c.known_over_recordings.ensures.first_break t all.sound
+    ∙ least_of-monitors t _ _ _ _ _ (found.known.first_break ∙ c.known_over_recordings.ensures.first_break t all.sound
     all.few) (found.handshake.first_break ∙ c.handshake_over_recordings.ensures.first_break t all.sound all.few)
     (found.stability.first_break ∙ c.stability_over_recordings.ensures.first_break t all.sound all.few)
     (found.grant.first_break

@@ -11,14 +11,14 @@ use Rattle.vme_summary.specs.declared.span.Span.{Span}
 use Rattle.std.proofs.Math.Logic.{∥∥₁_elim}
 use Rattle.std.specs.Coded.{Coded-set, coded_bool}
 use Rattle.std.proofs.lemmas.Result.{IfOk-weaker}
-use Rattle.vme_summary.proofs.Listed.{listing_joined, placed_joined}
+use Rattle.vme_summary.proofs.Listed.{IsListingOf-of_summary, is_well_placed-of_span}
 use Rattle.vme_summary.proofs.span.Span.listing.Goals as goal
 
 pub returns-clause-listing : goal.returns-clause-listing
 returns-clause-listing c =
     let s = c.args.self.now in
     let few : s.extent.opening.slots ≤ 21 = omega arith in
-    IfOk-weaker c.listing.result _ _ (λ rows is. listing_joined s few rows is) c.listing.ensures.listing
+    IfOk-weaker c.listing.result _ _ (λ rows is. IsListingOf-of_summary s few rows is) c.listing.ensures.listing
 
 -- the edges of the recording split into what its listing lists
 split_of : (s : Span) (listing : Listed) → IsListingOf s listing → SplitsItsRecording s listing
@@ -31,7 +31,7 @@ pub returns-clause-split : goal.returns-clause-split
 returns-clause-split c =
     let s = c.args.self.now in
     let few : s.extent.opening.slots ≤ 21 = omega arith in
-    IfOk-weaker c.listing.result _ _ (λ rows is. split_of s rows (listing_joined s few rows is))
+    IfOk-weaker c.listing.result _ _ (λ rows is. split_of s rows (IsListingOf-of_summary s few rows is))
     c.listing.ensures.listing
 
 pub returns-clause-placed : goal.returns-clause-placed
@@ -39,5 +39,5 @@ returns-clause-placed c =
     let s = c.args.self.now in
     let few : s.extent.opening.slots ≤ 21 = omega arith in
     IfOk-weaker c.listing.result _ _
-    (λ rows placed. ∥∥₁_elim s.stands (Coded-set coded_bool _ _) (placed_joined s few rows placed))
+    (λ rows placed. ∥∥₁_elim s.stands (Coded-set coded_bool _ _) (is_well_placed-of_span s few rows placed))
     c.listing.ensures.placed

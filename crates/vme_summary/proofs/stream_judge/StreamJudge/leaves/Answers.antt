@@ -2,14 +2,14 @@
 use Rattle.std.proofs.Common.{sym, ◌∙◌, ap}
 use Rattle.vme_trace.specs.Trace.{Trace, levels_after}
 use Rattle.vme_trace.proofs.LevelsEquality.{levels_eq-Decides}
-use Rattle.vme_summary.proofs.StreamJudging.{all-judged}
+use Rattle.vme_summary.proofs.StreamJudging.{IsNext-all_steps}
 use Rattle.vme_summary.proofs.stream_judge.StreamJudge.leaves.Goals as goal
 
 pub returns-clause-leaves : goal.returns-clause-leaves
 returns-clause-leaves g c =
     let i = c.self.inside in
     let judged =
-    all-judged (g.J.ChunkJudge.is_past i.judging) i.count i.opening i.taken.items i.waiting.items c.self.invariant
+    IsNext-all_steps (g.J.ChunkJudge.is_past i.judging) i.count i.opening i.taken.items i.waiting.items c.self.invariant
     c.if-self-gt-MOST_STEPS.false (g.J.ChunkJudge.is_past c.go_on.new.self)
     (rw c.deref.ensures.value at c.in_ok-go_on.ensures.past) in
     let left = c.left.ensures i.opening i.taken.items judged in

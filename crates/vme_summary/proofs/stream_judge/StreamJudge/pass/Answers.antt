@@ -3,7 +3,7 @@ use Rattle.std.proofs.Common.{◌≡◌, ◌+◌, List, ◌++◌, append-nil, le
 use Rattle.vme_trace.specs.Levels.{Levels}
 use Rattle.vme_trace.specs.Trace.{Trace, levels_after}
 use Rattle.vme_trace.specs.declared.step.Step.{Step}
-use Rattle.vme_summary.proofs.StreamJudging.{all-judged}
+use Rattle.vme_summary.proofs.StreamJudging.{IsNext-all_steps}
 use Rattle.vme_summary.proofs.stream_judge.StreamJudge.pass.Goals as goal
 
 pub invariant_of-self-2 : goal.invariant_of-self-2
@@ -14,7 +14,7 @@ invariant_of-self-2 g c =
     let all : List Step = i.taken.items ++ p.taken.items in
     let long : length all ≡ length i.taken.items + length p.taken.items = length-append i.taken.items p.taken.items in
     let judged =
-    all-judged (g.J.ChunkJudge.is_past i.judging) i.count i.opening i.taken.items i.waiting.items c.self.invariant
+    IsNext-all_steps (g.J.ChunkJudge.is_past i.judging) i.count i.opening i.taken.items i.waiting.items c.self.invariant
     (omega (arith, few)) (g.J.ChunkJudge.is_past c.go_on.new.self)
     (rw c.deref.ensures.value at c.in_ok-go_on.ensures.past) in
     let opens : p.opening ≡ levels_after i.opening i.taken.items = ap (λ (t : Trace). t.opening) c.part.view_is

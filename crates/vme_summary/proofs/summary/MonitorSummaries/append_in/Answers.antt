@@ -10,7 +10,7 @@ use Rattle.vme_chains.specs.GrantRules.{grant_begin, grant_end_fault, grant_next
 use Rattle.vme_chains.specs.AcknowledgeRules.{acknowledge_begin, acknowledge_end_fault, acknowledge_next}
 use Rattle.vme_chains.specs.AcknowledgeRules.{acknowledge_start_marks, acknowledge_observation}
 use Rattle.vme_summary.specs.Runs.{known_run, handshake_run, stability_run, grant_run, acknowledge_run}
-use Rattle.vme_summary.proofs.Turns.{in_turn}
+use Rattle.vme_summary.proofs.Turns.{StandsFor-composed}
 use Rattle.vme_summary.proofs.summary.MonitorSummaries.append_in.Goals as goal
 
 pub returns-clause-stands : goal.returns-clause-stands
@@ -18,20 +18,20 @@ unfolding known_run handshake_run stability_run grant_run acknowledge_run
 returns-clause-stands c =
     λ o x y p q.
     record {
-      known = in_turn (machine_step (observed known_observation)
+      known = StandsFor-composed (machine_step (observed known_observation)
           (phase_step known_begin known_start_marks known_reset_marks known_end_fault known_next))
           _ _ _ _ _ _ c.append_in.ensures.outcomes c.append_in.ensures.counted o x y p.known q.known;
-      handshake = in_turn (machine_step (observed dtb_observation)
+      handshake = StandsFor-composed (machine_step (observed dtb_observation)
           (phase_step dtb_begin dtb_start_marks no_step_marks dtb_end_fault dtb_step)) _ _ _ _ _
           _ c.append_in-2.ensures.outcomes c.append_in-2.ensures.counted o x y p.handshake q.handshake;
-      stability = in_turn (machine_step (observed stability_observation)
+      stability = StandsFor-composed (machine_step (observed stability_observation)
           (phase_step stability_begin stability_start_marks no_step_marks
           stability_end_fault stability_next)) _ _ _ _ _ _ c.append_in-3.ensures.outcomes c.append_in-3.ensures.counted
           o x y p.stability q.stability;
-      grant = in_turn (machine_step (observed grant_observation)
+      grant = StandsFor-composed (machine_step (observed grant_observation)
           (phase_step grant_begin grant_start_marks no_step_marks grant_end_fault grant_next)) _ _
           _ _ _ _ c.append_in-4.ensures.outcomes c.append_in-4.ensures.counted o x y p.grant q.grant;
-      acknowledge = in_turn (machine_step (observed acknowledge_observation)
+      acknowledge = StandsFor-composed (machine_step (observed acknowledge_observation)
           (phase_step acknowledge_begin acknowledge_start_marks no_step_marks
           acknowledge_end_fault acknowledge_next)) _ _ _ _ _ _ c.append_in-5.ensures.outcomes
           c.append_in-5.ensures.counted o x

@@ -10,7 +10,7 @@ use Rattle.vme_chains.specs.GrantRules.{grant_begin, grant_end_fault, grant_next
 use Rattle.vme_chains.specs.AcknowledgeRules.{acknowledge_begin, acknowledge_end_fault, acknowledge_next}
 use Rattle.vme_chains.specs.AcknowledgeRules.{acknowledge_start_marks, acknowledge_observation}
 use Rattle.vme_summary.specs.Runs.{known_run, handshake_run, stability_run, grant_run, acknowledge_run}
-use Rattle.vme_summary.proofs.Progressing.{seen_after}
+use Rattle.vme_summary.proofs.Progressing.{HasMonitorState-append}
 use Rattle.vme_summary.proofs.summary.MonitorSummaries.found_after.Goals as goal
 
 pub returns : goal.returns
@@ -18,24 +18,24 @@ unfolding known_run handshake_run stability_run grant_run acknowledge_run
 returns c =
     λ o x y long f says.
     record {
-      known = seen_after (machine_step (observed known_observation)
+      known = HasMonitorState-append (machine_step (observed known_observation)
           (phase_step known_begin known_start_marks known_reset_marks known_end_fault
           known_next)) (start_in known_begin) _ _ _ _ _ o x y c.after.ensures.memory c.after.ensures.first_break long
           f.known says.known;
-      handshake = seen_after
+      handshake = HasMonitorState-append
           (machine_step (observed dtb_observation) (phase_step dtb_begin dtb_start_marks no_step_marks dtb_end_fault
           dtb_step))
           (start_in dtb_begin) _ _ _ _ _ o x y c.after-2.ensures.memory c.after-2.ensures.first_break long f.handshake
           says.handshake;
-      stability = seen_after
+      stability = HasMonitorState-append
           (machine_step (observed stability_observation) (phase_step stability_begin stability_start_marks no_step_marks
           stability_end_fault stability_next)) (start_in stability_begin) _ _ _ _ _ o x y c.after-3.ensures.memory
           c.after-3.ensures.first_break long f.stability says.stability;
-      grant = seen_after (machine_step (observed grant_observation)
+      grant = HasMonitorState-append (machine_step (observed grant_observation)
           (phase_step grant_begin grant_start_marks no_step_marks grant_end_fault grant_next))
           (start_in grant_begin) _ _ _ _ _ o x y c.after-4.ensures.memory c.after-4.ensures.first_break long f.grant
           says.grant;
-      acknowledge = seen_after (machine_step (observed acknowledge_observation)
+      acknowledge = HasMonitorState-append (machine_step (observed acknowledge_observation)
           (phase_step acknowledge_begin acknowledge_start_marks no_step_marks
           acknowledge_end_fault acknowledge_next)) (start_in acknowledge_begin) _ _ _ _ _ o x y c.after-5.ensures.memory
           c.after-5.ensures.first_break long f.acknowledge says.acknowledge;
