@@ -26,20 +26,23 @@ use Rattle.vme_cert.specs.declared.bus.Bus.{Bus}
 use Rattle.vme_cert.specs.declared.state.State.{State}
 use Rattle.std.proofs.lemmas.List.Folds.{list_any_at}
 use Rattle.std.proofs.Math.Bool.{and-false}
-use Rattle.vme_cert.proofs.Ranges.{eq_fails, within_of, any-first, decide}
+use Rattle.vme_cert.proofs.Ranges.{eq-fails_below, range-of_tests, any-first, by_either_value}
 use Rattle.vme_cert.proofs.Fields.{starts-is}
 
 -- ---- The table of rules by line lists the rules that speak of a line: every rule is tried on every line.
 
+-- the rule is on the row of the line, in the table of rules by line
 abbrev listed : Rule → ℕ → Bool
 listed r l = list_any (λ y. rule_number y == rule_number r) (rules_on l)
 
-tried : (r : Rule) → agree_below (listed r) (may_be_broken_on r) line_count ≡ true
+-- every rule, tried on every line of the bus, is listed exactly where it may be broken
+listed-tried : (r : Rule) → agree_below (listed r) (may_be_broken_on r) line_count ≡ true
 unfolding rules_on
-tried r = every-rule (λ q. agree_below (listed q) (may_be_broken_on q) line_count) refl r
+listed-tried r = every-rule (λ q. agree_below (listed q) (may_be_broken_on q) line_count) refl r
 
+-- a rule is on the row of a line of the bus exactly if it may be broken on it
 pub listed-is : (l : ℕ) (r : Rule) → l < line_count → listed r l ≡ may_be_broken_on r l
-listed-is l r below = agree_below_at (listed r) (may_be_broken_on r) line_count l (tried r) below
+listed-is l r below = agree_below_at (listed r) (may_be_broken_on r) line_count l (listed-tried r) below
 
 -- each rule on the row of a line may be broken on it
 pub listed-may_be_broken : (l k : ℕ) → l < line_count → k < length (rules_on l)
@@ -70,9 +73,10 @@ may_be_broken-listed l r below its_line = found (rules_on l) (listed-is l r belo
 
 -- ---- A rule isn't broken on a line of which it doesn't speak.
 
-highest_31 : (code : ℕ) → highest_address code ≤ 31
+-- the highest address line is at most 31
+highest_address-bound : (code : ℕ) → highest_address code ≤ 31
 unfolding highest_address
-highest_31 code = by_tests (is_extended code) (is_standard code) (is_short code)
+highest_address-bound code = by_tests (is_extended code) (is_standard code) (is_short code)
   where
     by_tests : (a b c : Bool) → (if a then 31 else if b then 23 else if c then 15 else 0) ≤ 31
     by_tests true b c = omega arith
@@ -80,41 +84,45 @@ highest_31 code = by_tests (is_extended code) (is_standard code) (is_short code)
     by_tests false false true = omega arith
     by_tests false false false = omega arith
 
-pub needs_31 : (v : Levels) → (needs_of v).highest ≤ 31
+-- the highest address line that a cycle needs is at most 31
+pub needs_of-highest_bound : (v : Levels) → (needs_of v).highest ≤ 31
 unfolding needs_of
-needs_31 v = by_class (class_of v) refl
+needs_of-highest_bound v = by_class (class_of v) refl
   where
     by_class : (k : Class) → class_of v ≡ k → (needs_of v).highest ≤ 31
-    by_class class.S e = rw e (highest_31 (modifier_of v))
-    by_class class.K e = rw e (highest_31 (modifier_of v))
+    by_class class.S e = rw e (highest_address-bound (modifier_of v))
+    by_class class.K e = rw e (highest_address-bound (modifier_of v))
     by_class class.I e = rw e (omega arith)
     by_class class.F e = rw e (omega arith)
 
 -- a cycle needs no line outside of 5 to 44, as tests on numbers
-unneeded_outside : (l k : ℕ) (m : Bool) → k ≤ 31 → (nat_le 5 l && nat_le l 44) ≡ false
+is_needed-tests_fail : (l k : ℕ) (m : Bool) → k ≤ 31 → (nat_le 5 l && nat_le l 44) ≡ false
     → ((l == 5) || (m && ((nat_le 6 l && nat_le l 11) || (l == 12))) || (nat_le 14 l && nat_le l (13 + k))) ≡ false
-unneeded_outside l k m most h = grind (arith, nat_tests)
+is_needed-tests_fail l k m most h = grind (arith, nat_tests)
 
 -- a cycle needs only lines 5 to 44: IACK*, the modifier, LWORD* and the address
-not_needed : (v : Levels) (l : ℕ) → (nat_le 5 l && nat_le l 44) ≡ false → is_needed v l ≡ false
+is_needed-only_5_to_44 : (v : Levels) (l : ℕ) → (nat_le 5 l && nat_le l 44) ≡ false → is_needed v l ≡ false
 unfolding is_needed
-not_needed v l h = unneeded_outside l (needs_of v).highest (needs_of v).modifier (needs_31 v) h
+is_needed-only_5_to_44 v l h = is_needed-tests_fail l (needs_of v).highest (needs_of v).modifier
+    (needs_of-highest_bound v) h
 
 -- a transfer moves no line outside of 159 to 190, as tests on numbers
-unmoved_outside : (l : ℕ) (w x y u v : Bool) → (nat_le 159 l && nat_le l 190) ≡ false
+is_selected-tests_fail : (l : ℕ) (w x y u v : Bool) → (nat_le 159 l && nat_le l 190) ≡ false
     → ((w && ((x && (nat_le 159 l && nat_le l 166)) || (y && (nat_le 167 l && nat_le l 174)))) || (u && v && x && y
     && (nat_le 159 l && nat_le l 190))) ≡ false
-unmoved_outside l w x y u v h = grind (arith, nat_tests)
+is_selected-tests_fail l w x y u v h = grind (arith, nat_tests)
 
 -- a transfer moves only data lines, 159 to 190
-not_selected : (v : Levels) (l : ℕ) → (nat_le 159 l && nat_le l 190) ≡ false → is_selected v l ≡ false
+is_selected-only_data_lines : (v : Levels) (l : ℕ) → (nat_le 159 l && nat_le l 190) ≡ false → is_selected v l ≡ false
 unfolding is_selected
-not_selected v l h =
-    unmoved_outside l (is_high (level_at v LWORD)) (is_low (level_at v DS0)) (is_low (level_at v DS1))
+is_selected-only_data_lines v l h =
+    is_selected-tests_fail l (is_high (level_at v LWORD)) (is_low (level_at v DS0)) (is_low (level_at v DS1))
     (is_low (level_at v LWORD)) (is_low (level_at v (A 1))) h
 
-abbrev holds : Trace → Stretch → ℕ → ℕ → ℕ → Bool
-holds t stretch j l i = cycle_starts t stretch i && cycle_runs t stretch i j && none (is_answer t stretch) i (j + 1)
+-- at instant j the cycle that starts at i needs the line l: it runs, and isn't answered up to j
+abbrev needs_line : Trace → Stretch → ℕ → ℕ → ℕ → Bool
+needs_line t stretch j l i = cycle_starts t stretch i && cycle_runs t stretch i j && none (is_answer t stretch) i
+    (j + 1)
     && is_needed
     (levels_at t i) l
 
@@ -123,16 +131,16 @@ module _ (t : Trace) (stretch : Stretch) (j l : ℕ) where
   pub unbroken_elsewhere : (r : Rule) → is_judged stretch j ≡ true → may_be_broken_on r l ≡ false
       → is_broken t stretch r j l ≡ false
   unfolding is_broken
-  unbroken_elsewhere U1 n h = rw (eq_fails j stretch.end
+  unbroken_elsewhere U1 n h = rw (eq-fails_below j stretch.end
       (ltb-true j stretch.end (and_parts (nat_lt stretch.start j) (nat_lt j stretch.end) n).1)) refl
-  unbroken_elsewhere U2 n h = rw (not_needed (levels_at t j) l h, and-false) refl
-  unbroken_elsewhere U4 n h = rw (not_selected (levels_at t j) l h) refl
+  unbroken_elsewhere U2 n h = rw (is_needed-only_5_to_44 (levels_at t j) l h, and-false) refl
+  unbroken_elsewhere U4 n h = rw (is_selected-only_data_lines (levels_at t j) l h) refl
   unbroken_elsewhere S1 n h = ap (λ b. has_edge t l j && b)
-      (fails-any (holds t stretch j l) (stretch.start + 1) j
-      (λ i a b. rw (not_needed (levels_at t i) l h)
+      (fails-any (needs_line t stretch j l) (stretch.start + 1) j
+      (λ i a b. rw (is_needed-only_5_to_44 (levels_at t i) l h)
       (and-false (cycle_starts t stretch i && cycle_runs t stretch i j && none (is_answer t stretch) i (j + 1)))))
       ∙ and-false (has_edge t l j)
-  unbroken_elsewhere S3 n h = rw (not_selected (levels_at t (j - 1)) l h) refl
+  unbroken_elsewhere S3 n h = rw (is_selected-only_data_lines (levels_at t (j - 1)) l h) refl
   unbroken_elsewhere r n h = rw h refl
 
 -- ---- A rule that asks for an edge isn't broken on a line that doesn't change. And what follows where no rule is
@@ -140,50 +148,57 @@ module _ (t : Trace) (stretch : Stretch) (j l : ℕ) where
 
 -- ---- a line whose level is that of the instant before
 
-one_level : (x : Level) → ((is_high x && is_low x) ≡ false) × ((is_low x && is_high x) ≡ false)
+-- a line with the level that it had neither falls nor rises, nor has it an edge
+same_level-no_edge : (x : Level) → ((is_high x && is_low x) ≡ false) × ((is_low x && is_high x) ≡ false)
     × (not (same_level x x) ≡ false)
-one_level Low = (refl, refl, refl)
-one_level High = (refl, refl, refl)
-one_level Unknown = (refl, refl, refl)
+same_level-no_edge Low = (refl, refl, refl)
+same_level-no_edge High = (refl, refl, refl)
+same_level-no_edge Unknown = (refl, refl, refl)
 
+-- a line l that has the level of the instant before at instant j
 module _ (t : Trace) (l j : ℕ) (still : level t l j ≡ level t l (j - 1)) where
-  no_fall : falls t l j ≡ false
+  -- it doesn't fall
+  falls-not_still : falls t l j ≡ false
   unfolding falls low high
-  no_fall = rw still (one_level (level t l (j - 1))).0
+  falls-not_still = rw still (same_level-no_edge (level t l (j - 1))).0
 
-  no_rise : rises t l j ≡ false
+  -- it doesn't rise
+  rises-not_still : rises t l j ≡ false
   unfolding rises low high
-  no_rise = rw still (one_level (level t l (j - 1))).1
+  rises-not_still = rw still (same_level-no_edge (level t l (j - 1))).1
 
-  no_edge : has_edge t l j ≡ false
+  -- it has no edge
+  has_edge-not_still : has_edge t l j ≡ false
   unfolding has_edge
-  no_edge = rw still (one_level (level t l (j - 1))).2
+  has_edge-not_still = rw still (same_level-no_edge (level t l (j - 1))).2
 
+  -- a rule that asks for an edge isn't broken on it
   pub unbroken_without_edge : (stretch : Stretch) (r : Rule) → needs_edge r ≡ true → is_broken t stretch r j l ≡ false
   unfolding is_broken
-  unbroken_without_edge stretch S1 e = rw no_edge refl
+  unbroken_without_edge stretch S1 e = rw has_edge-not_still refl
   unbroken_without_edge stretch U1 e = absurd (cc)
   unbroken_without_edge stretch U2 e = absurd (cc)
   unbroken_without_edge stretch U3 e = absurd (cc)
   unbroken_without_edge stretch U4 e = absurd (cc)
   unbroken_without_edge stretch H1 e = absurd (cc)
   unbroken_without_edge stretch r e = first_of (
-    rw (no_fall, and-false),
-    rw (no_rise, and-false),
-    rw (no_edge, and-false),
+    rw (falls-not_still, and-false),
+    rw (rises-not_still, and-false),
+    rw (has_edge-not_still, and-false),
   )
 
 -- a line that isn't among the changes stays
-pub stays : (t : Trace) (bus : Bus) (cs : List Change) (l : ℕ) → IsBusOf t bus → LeadToInstant bus cs
+pub level-unchanged : (t : Trace) (bus : Bus) (cs : List Change) (l : ℕ) → IsBusOf t bus → LeadToInstant bus cs
     → is_changed cs l ≡ false
     → level t l bus.instant ≡ level t l (bus.instant - 1)
-stays t bus cs l at lead h =
+level-unchanged t bus cs l at lead h =
     sym (ap (λ v. level_at v l) at.levels)
     ∙ (ap (λ v. level_at v l) lead.made ∙ (level-kept bus.before cs l h ∙ ap (λ v. level_at v l) at.before))
 
 -- ---- `is_broken` against `breaks`, and the rules that are asked as a transfer or a cycle starts
 
 module _ (t : Trace) (stretch : Stretch) (j l : ℕ) where
+  -- where `is_broken` fails, the rule isn't broken
   pub breaks-off : (r : Rule) → is_broken t stretch r j l ≡ false → breaks t stretch r j l ≡ false
   unfolding breaks
   breaks-off r h = rw h (and-false _)
@@ -198,6 +213,7 @@ module _ (t : Trace) (stretch : Stretch) (j l : ℕ) where
       on true b = refl
       on false b = refl
 
+  -- no rule is broken on a line that the backplane doesn't have
   pub breaks-absent : (r : Rule) → has_line t.opening.slots l ≡ false → false ≡ breaks t stretch r j l
   unfolding breaks
   breaks-absent r h = rw h (none (ends_stretch r || is_judged stretch j) (is_broken t stretch r j l))
@@ -206,6 +222,7 @@ module _ (t : Trace) (stretch : Stretch) (j l : ℕ) where
       none true b = refl
       none false b = refl
 
+  -- no rule is broken on a line on which it can't be
   pub breaks-elsewhere : (r : Rule) → is_judged stretch j ≡ true → may_be_broken_on r l ≡ false
       → false ≡ breaks t stretch r j l
   breaks-elsewhere r judged h = sym (breaks-off r (unbroken_elsewhere t stretch j l r judged h))
@@ -213,22 +230,25 @@ module _ (t : Trace) (stretch : Stretch) (j l : ℕ) where
   -- U3 is broken on no line if it isn't broken on WRITE*
   pub direction-only : is_judged stretch j ≡ true → is_broken t stretch U3 j WRITE ≡ false → is_broken t stretch U3 j l
       ≡ false
-  direction-only judged h = decide (l == WRITE)
+  direction-only judged h = by_either_value (l == WRITE)
       (λ e. subst (λ k. is_broken t stretch U3 j k ≡ false) (sym (eqb-true l WRITE e)) h)
       (λ e. unbroken_elsewhere t stretch j l U3 judged e)
 
   -- H1 is broken on no line if it isn't broken on DTACK* and BERR*
   pub answers-only : is_judged stretch j ≡ true → is_broken t stretch H1 j DTACK ≡ false
       → is_broken t stretch H1 j BERR ≡ false → is_broken t stretch H1 j l ≡ false
-  answers-only judged h k = decide (l == DTACK)
+  answers-only judged h k = by_either_value (l == DTACK)
       (λ e. subst (λ k. is_broken t stretch H1 j k ≡ false) (sym (eqb-true l DTACK e)) h)
-      (λ e. decide (l == BERR) (λ f. subst (λ k. is_broken t stretch H1 j k ≡ false) (sym (eqb-true l BERR f)) k)
+      (λ e. by_either_value (l == BERR) (λ f. subst (λ k. is_broken t stretch H1 j k ≡ false) (sym (eqb-true l BERR f))
+      k)
       (λ f. unbroken_elsewhere t stretch j l H1 judged (rw (e, f) refl)))
 
+  -- U3 isn't broken where no transfer starts
   pub unstarted-direction : transfer_starts t stretch j ≡ false → is_broken t stretch U3 j l ≡ false
   unfolding is_broken
   unstarted-direction h = rw (h, and-false) refl
 
+  -- H1 isn't broken where no transfer starts
   pub unstarted-answers : transfer_starts t stretch j ≡ false → is_broken t stretch H1 j l ≡ false
   unfolding is_broken
   unstarted-answers h = rw (h, and-false) refl
@@ -238,7 +258,7 @@ pub known-within : (t : Trace) (j first last l : ℕ) → every (is_known_on (le
     → (nat_le first l && nat_le l last) ≡ true → known t l j ≡ true
 unfolding known
 known-within t j first last l all within =
-    let (from, below) = within_of first l last within in
+    let (from, below) = range-of_tests first l last within in
     not-false (is_known_on (levels_at t j) l)
     (any-fails (λ k. not (is_known_on (levels_at t j) k)) first (last + 1) l
     (not-true (any (λ k. not (is_known_on (levels_at t j) k)) first (last + 1)) all) from below)
@@ -246,20 +266,24 @@ known-within t j first last l all within =
 -- ---- where no rule is broken
 
 module _ (t : Trace) (stretch : Stretch) where
+  -- the first rule of a list that is broken on a line gives the break
   pub break_at-here : (r : Rule) (rs : List Rule) (j l : ℕ) → least (breaks t stretch r j) 0 line_count ≡ Some l
       → break_at t stretch (r ∷ rs) j ≡ Some (record { instant = j; time = time_at t j; rule = r; line = l })
   unfolding break_at rule_break
   break_at-here r rs j l e = rw e refl
 
+  -- if the first rule of a list is broken on no line, the break is that of the others
   pub break_at-next : (r : Rule) (rs : List Rule) (j : ℕ) → least (breaks t stretch r j) 0 line_count ≡ None
       → break_at t stretch (r ∷ rs) j ≡ break_at t stretch rs j
   unfolding break_at rule_break
   break_at-next r rs j e = rw e refl
 
+  -- no rule of an empty list is broken
   pub break_at-empty : (j : ℕ) → break_at t stretch [] j ≡ None
   unfolding break_at
   break_at-empty j = refl
 
+  -- if no rule is broken on any line, there is no break
   pub break_at-none : (j : ℕ) → ((r : Rule) (l : ℕ) → l < line_count → breaks t stretch r j l ≡ false)
       → (rs : List Rule)
       → break_at t stretch rs j ≡ None
@@ -275,6 +299,7 @@ module _ (t : Trace) (stretch : Stretch) (bus : Bus) (state : State) (cs : List 
   j : ℕ
   j = bus.instant
 
+  -- then no rule is broken on any line of the bus
   pub unbroken : ((r : Rule) (l : ℕ) → is_changed cs l ≡ true → may_be_broken_on r l ≡ true
       → is_broken t stretch r bus.instant l ≡ false)
       → ((l : ℕ) → breaks t stretch U2 bus.instant l ≡ false) → ((l : ℕ) → is_broken t stretch U3 bus.instant l ≡ false)
@@ -297,7 +322,7 @@ module _ (t : Trace) (stretch : Stretch) (bus : Bus) (state : State) (cs : List 
 
       by_change : needs_edge r ≡ true → (b : Bool) → is_changed cs l ≡ b → is_broken t stretch r bus.instant l ≡ false
       by_change e true c = by_line e c (may_be_broken_on r l) refl
-      by_change e false c = unbroken_without_edge t l bus.instant (stays t bus cs l h.at lead c) stretch r e
+      by_change e false c = unbroken_without_edge t l bus.instant (level-unchanged t bus cs l h.at lead c) stretch r e
 
       by_edge : (b : Bool) → needs_edge r ≡ b → breaks t stretch r bus.instant l ≡ false
       by_edge true e = breaks-off t stretch bus.instant l r (by_change e (is_changed cs l) refl)

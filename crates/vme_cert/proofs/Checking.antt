@@ -43,8 +43,8 @@ use Rattle.vme_cert.specs.declared.checker.CheckPhase.{CheckPhase}
 use Rattle.vme_cert.specs.declared.checker.CheckPhase.TheVariants.{Ended, InStretch, Waiting}
 use Rattle.vme_cert.specs.declared.open_rows.OpenRows.{OpenRows}
 use Rattle.vme_cert.specs.declared.state.State.{State}
-use Rattle.vme_cert.proofs.Ranges.{eq_fails, unjudged, case_of, same_value, eq_past}
-use Rattle.vme_cert.proofs.Ranges.{last_or_before}
+use Rattle.vme_cert.proofs.Ranges.{eq-fails_below, is_judged-not_up_to_start, by_option, Some-injective, eq-fails_above}
+use Rattle.vme_cert.proofs.Ranges.{eq-or_below}
 use Rattle.vme_cert.proofs.Breaks.{break_at-none}
 use Rattle.vme_cert.proofs.Following.{open-last, transfer-last}
 
@@ -98,18 +98,18 @@ module _ (t : Trace) where
   ends_later : (stretch : Stretch) (stretches : List Stretch) → AreInOrder t (stretch ∷ stretches)
       → stretch.start < listed_end t
       (least_of all_rules t (stretch ∷ stretches))
-  ends_later stretch [] is = case_of (least_break t stretch all_rules) (λ e. rw e (omega (arith, is.within)))
+  ends_later stretch [] is = by_option (least_break t stretch all_rules) (λ e. rw e (omega (arith, is.within)))
       (λ b e. rw e (broken_later stretch b is e).0)
   ends_later stretch (next ∷ stretches) order =
       let later = ends_later next stretches order.3 in
-      case_of (least_break t stretch all_rules)
+      by_option (least_break t stretch all_rules)
       (λ e. rw e (omega (arith, later, order.2, starts_before_end t stretch order.0)))
       (λ b e. rw e (broken_later stretch b order.0 e).0)
 
   listed_alone : (stretch : Stretch) → IsStretchOf t stretch → listing_before t (stretch ∷ [])
       (least_break t stretch all_rules)
       ≡ rows_by t stretch (least_break t stretch all_rules) (Verdict Conforming ∷ [])
-  listed_alone stretch is = case_of (least_break t stretch all_rules)
+  listed_alone stretch is = by_option (least_break t stretch all_rules)
       (λ e. rw (
         e,
         append-nil (rows_of_stretch t (last_instant t + 1) stretch),
@@ -211,7 +211,7 @@ module _ (t : Trace) (stretch : Stretch) where
   unfolding break_before
   none-after rules m zero order none later = let e : m ≡ 0 = omega arith in rw e at none
   none-after rules m (suc n) order none later =
-      elim (last_or_before m (suc n) (omega arith)) [
+      elim (eq-or_below m (suc n) (omega arith)) [
         | inl e ↦ rw e at none
         | inr before ↦ rw (
           none-after rules m n (omega arith) none (λ i a b. later i a (omega arith)),
@@ -236,7 +236,8 @@ module _ (t : Trace) (stretch : Stretch) where
       ≡ None
   unfolding break_before
   none-first j upto order = none-after all_rules 0 j (omega arith) refl
-      (λ i a b. quiet i (unjudged stretch i (omega arith)) (λ l below. held i l (eq_fails i stretch.end (omega arith)))
+      (λ i a b. quiet i (is_judged-not_up_to_start stretch i (omega arith))
+      (λ l below. held i l (eq-fails_below i stretch.end (omega arith)))
       all_rules)
 
 -- the instant after `j` of the stretch that starts at `s`: it ends there, or continues
@@ -252,7 +253,7 @@ module _ (t : Trace) (s j : ℕ) (is : IsStretchOf t (stretch_from t s)) (from :
 
   pub goes-on : is_reset_at t (suc j) ≡ false → loses_control_at t (suc j) ≡ false → suc j < stretch_end t s
   goes-on unreset unlost = end-past t s (suc j) (fails-any (stops_at t) (s + 1) (suc j + 1) (λ i a b. still i a
-      (last_or_before i (suc j) b))) within
+      (eq-or_below i (suc j) b))) within
     where
       still : (i : ℕ) → s + 1 ≤ i → (i ≡ suc j) ⊎ (i < suc j) → stops_at t i ≡ false
       still i a (inl e) = rw (e, unreset, unlost) refl
@@ -434,7 +435,8 @@ module _ {Whole Source : Type 0} {gave : Whole → Source → List Row → Type 
 
               by_order : (i l : ℕ) → l < line_count → (i ≡ n) ⊎ (n < i) → breaks t stretch U1 i l ≡ false
               by_order i l below (inl e) = rw e (u1_at n l h.after below (reset-unlost_at t n reset))
-              by_order i l below (inr after) = held t stretch i l (eq_past i stretch.end (omega (arith, after, ends)))
+              by_order i l below (inr after) =
+                  held t stretch i l (eq-fails_above i stretch.end (omega (arith, after, ends)))
 
           whole_stretch : rows_by t stretch (least_break t stretch all_rules) later ≡ rows_to t stretch n
               ++ (Reset n ∷ [] ++ rows_from t Conforming (stretches_after t (n + 1)))
@@ -489,8 +491,8 @@ named-break None rule line e = absurd (cc)
 named-break (Some b) rule line e = (
   b,
   refl,
-  ap (λ (p : Rule × ℕ). p.0) (sym (same_value _ _ e)),
-  ap (λ (p : Rule × ℕ). p.1) (sym (same_value _ _ e)),
+  ap (λ (p : Rule × ℕ). p.0) (sym (Some-injective _ _ e)),
+  ap (λ (p : Rule × ℕ). p.1) (sym (Some-injective _ _ e)),
 )
 
 pub named-none : (o : Option Break) → None ≡ named o → o ≡ None

@@ -15,42 +15,50 @@ use Rattle.vme_cert.specs.declared.comparison.OpenRow.{OpenRow}
 use Rattle.vme_cert.specs.declared.compare.Answer.TheVariants.{Yes, No}
 use Rattle.vme_cert.specs.Agreement.{DecidesListing, DiffersAt}
 use Rattle.vme_cert.specs.declared.compare.Answer.{Answer}
-use Rattle.vme_cert.proofs.Ranges.{same_value, decide}
+use Rattle.vme_cert.proofs.Ranges.{Some-injective, by_either_value}
 
 module _ {A : Type 0} where
-  none_some : (x : A) → None ≡ Some x → ⊥
-  none_some x h = cc
+  -- an option isn't both none and a value
+  none-not_some : (x : A) → None ≡ Some x → ⊥
+  none-not_some x h = cc
 
-  pub take-same : (n : ℕ) (xs ys : List A) → ((i : ℕ) → i < n → slice_get xs i ≡ slice_get ys i) → take n xs ≡ take n ys
-  take-same zero xs ys h = refl
-  take-same (suc n) [] [] h = refl
-  take-same (suc n) [] (y ∷ ys) h = absurd (none_some y (h 0 (omega arith)))
-  take-same (suc n) (x ∷ xs) [] h = absurd (none_some x (sym (h 0 (omega arith))))
-  take-same (suc n) (x ∷ xs) (y ∷ ys) h = rw (
-    same_value x y (h 0 (omega arith)),
-    take-same n xs ys
+  -- lists that have the same first n items begin with the same n items
+  pub take-same_items : (n : ℕ) (xs ys : List A) → ((i : ℕ) → i < n → slice_get xs i ≡ slice_get ys i) → take n xs
+      ≡ take n ys
+  take-same_items zero xs ys h = refl
+  take-same_items (suc n) [] [] h = refl
+  take-same_items (suc n) [] (y ∷ ys) h = absurd (none-not_some y (h 0 (omega arith)))
+  take-same_items (suc n) (x ∷ xs) [] h = absurd (none-not_some x (sym (h 0 (omega arith))))
+  take-same_items (suc n) (x ∷ xs) (y ∷ ys) h = rw (
+    Some-injective x y (h 0 (omega arith)),
+    take-same_items n xs ys
         (λ i b. h (suc i) (omega arith)),
   ) refl
 
-  list-same : (xs ys : List A) → ((i : ℕ) → slice_get xs i ≡ slice_get ys i) → xs ≡ ys
-  list-same [] [] h = refl
-  list-same [] (y ∷ ys) h = absurd (none_some y (h 0))
-  list-same (x ∷ xs) [] h = absurd (none_some x (sym (h 0)))
-  list-same (x ∷ xs) (y ∷ ys) h = rw (same_value x y (h 0), list-same xs ys (λ i. h (suc i))) refl
+  -- lists that have the same items are equal
+  list-same_items : (xs ys : List A) → ((i : ℕ) → slice_get xs i ≡ slice_get ys i) → xs ≡ ys
+  list-same_items [] [] h = refl
+  list-same_items [] (y ∷ ys) h = absurd (none-not_some y (h 0))
+  list-same_items (x ∷ xs) [] h = absurd (none-not_some x (sym (h 0)))
+  list-same_items (x ∷ xs) (y ∷ ys) h = rw (Some-injective x y (h 0), list-same_items xs ys (λ i. h (suc i))) refl
 
-  pub slice_get-front : (xs ys : List A) (n : ℕ) → n < length xs → slice_get (xs ++ ys) n ≡ slice_get xs n
-  slice_get-front [] ys n h = absurd (omega arith)
-  slice_get-front (x ∷ xs) ys zero h = refl
-  slice_get-front (x ∷ xs) ys (suc n) h = slice_get-front xs ys n (omega arith)
+  -- an item of the first list is that of both lists together
+  pub slice_get-first_list : (xs ys : List A) (n : ℕ) → n < length xs → slice_get (xs ++ ys) n ≡ slice_get xs n
+  slice_get-first_list [] ys n h = absurd (omega arith)
+  slice_get-first_list (x ∷ xs) ys zero h = refl
+  slice_get-first_list (x ∷ xs) ys (suc n) h = slice_get-first_list xs ys n (omega arith)
 
-  past : (xs : List A) (n : ℕ) → slice_get xs n ≡ None → length xs ≤ n
-  past [] n h = omega arith
-  past (x ∷ xs) zero h = absurd (none_some x (sym h))
-  past (x ∷ xs) (suc n) h = omega (arith, past xs n h)
+  -- where a list has no item n, it has at most n
+  length-at_most_missing : (xs : List A) (n : ℕ) → slice_get xs n ≡ None → length xs ≤ n
+  length-at_most_missing [] n h = omega arith
+  length-at_most_missing (x ∷ xs) zero h = absurd (none-not_some x (sym h))
+  length-at_most_missing (x ∷ xs) (suc n) h = omega (arith, length-at_most_missing xs n h)
 
-without-false : (open_at : ℕ → Bool) (row : OpenRow) (n : ℕ) → without open_at (Some row) n ≡ false
+-- a place that isn't open without a row is that of the row, or wasn't open
+without-fails : (open_at : ℕ → Bool) (row : OpenRow) (n : ℕ) → without open_at (Some row) n ≡ false
     → (n ≡ row.place) ⊎ (open_at n ≡ false)
-without-false open_at row n off = decide (n == row.place) (λ f. inl (eqb-true n row.place f)) (λ f. decide (open_at n)
+without-fails open_at row n off = by_either_value (n == row.place) (λ f. inl (eqb-true n row.place f))
+    (λ f. by_either_value (open_at n)
     (λ e. let h : (true && not false) ≡ false = rw (e, f) at off in absurd (cc)) (λ e. inr e))
 
 module _ (given expected : List Row) (taken : ℕ) (open_at : ℕ → Bool) (row : OpenRow) where
@@ -61,7 +69,7 @@ module _ (given expected : List Row) (taken : ℕ) (open_at : ℕ → Bool) (row
   compare_row-other wrong h within sooner other =
       let back : row.place + 1 - 1 ≡ row.place = omega arith in
       record {
-        same = λ n below off. elim (without-false open_at row n off) [
+        same = λ n below off. elim (without-fails open_at row n off) [
           | inl e ↦ absurd (omega arith)
           | inr closed ↦ h.same n (omega arith) closed
         ];
@@ -72,7 +80,7 @@ module _ (given expected : List Row) (taken : ℕ) (open_at : ℕ → Bool) (row
   pub compare_row-later : (wrong : Option ℕ) → IsCompared given expected taken open_at wrong
       → same_to taken wrong ≤ row.place → IsCompared given expected taken (without open_at (Some row)) wrong
   compare_row-later wrong h later = record {
-    same = λ n below off. elim (without-false open_at row n off) [
+    same = λ n below off. elim (without-fails open_at row n off) [
       | inl e ↦ absurd (omega arith)
       | inr closed ↦ h.same n below closed
     ];
@@ -116,6 +124,7 @@ compared-fewer now h kept = record {
 -- after one row was compared
 module _ {Source : Type 0} {o : Option OpenRow} {edge : Option ℕ} {old new : Comparison Source}
     (s : HasComparedRow o edge old new) where
+  -- what was compared holds after a row that ends was compared
   pub compare_row-compared : {given expected : List Row} {open_at : ℕ → Bool}
       → IsCompared given expected old.taken open_at old.wrong → IsDue given expected old.taken edge o
       → IsCompared given expected new.taken (without open_at o) new.wrong
@@ -123,6 +132,7 @@ module _ {Source : Type 0} {o : Option OpenRow} {edge : Option ℕ} {old new : C
       subst (λ n. IsCompared given expected n (without open_at o) new.wrong) (sym s.taken)
       (s.wrong given expected open_at h due)
 
+  -- what was given holds after a row was compared
   pub compare_row-given : {Whole : Type 0} {gave : Whole → Source → List Row → Type 0} {is_over : Source → Type 0}
       {whole : Whole} {given : List Row} → IsGiven gave is_over whole given old.source old.taken
       → IsGiven gave is_over whole given new.source new.taken
@@ -134,6 +144,7 @@ module _ {Source : Type 0} {o : Option OpenRow} {edge : Option ℕ} {old new : C
 module _ {Whole Source : Type 0} {gave : Whole → Source → List Row → Type 0} {is_over : Source → Type 0}
     {expected : Row}
     {old new : Comparison Source} {row : OpenRow} (b : IsBegun gave is_over expected old new row) where
+  -- what was compared holds after one more row was taken, which is open
   pub begun-compared : {given expected_rows : List Row} {open_at : ℕ → Bool} (more all : List Row) (now : ℕ → Bool)
       → IsCompared given expected_rows old.taken open_at old.wrong → Extends given more old.taken
       → Extends expected_rows all old.taken
@@ -172,13 +183,13 @@ module _ {Whole Source : Type 0} {gave : Whole → Source → List Row → Type 
       record {
         more = given ++ row ∷ [];
         is_given = record { gave_is = asked; count = inl (length-append given (row ∷ []) ∙ ap (λ n. n + 1) all) };
-        extends = λ n below. slice_get-front given (row ∷ []) n (omega (arith, all, below));
+        extends = λ n below. slice_get-first_list given (row ∷ []) n (omega (arith, all, below));
         given_is = sym (ap (slice_get (given ++ row ∷ [])) (sym all) ∙ slice_get-here given row []);
       }
     where
       whole_taken : (length given ≡ taken) ⊎ (is_over old × (length given ≤ taken)) → length given ≡ taken
       whole_taken (inl e) = e
-      whole_taken (inr short) = absurd (none_some row (sym (stays short.0)))
+      whole_taken (inr short) = absurd (none-not_some row (sym (stays short.0)))
 
 -- at the end no row is open
 module _ {Source : Type 0} (is_over : Source → Type 0) (given expected : List Row) (taken : ℕ)
@@ -189,7 +200,12 @@ module _ {Source : Type 0} (is_over : Source → Type 0) (given expected : List 
       → Decides is_over given expected source (No row)
   finish-other source row h count =
       let (first, within, other) = h.differs in (
-        record { first = first; before = take-same (row - 1) given expected (λ i b. h.same i b refl); here = other },
+        record {
+          first = first;
+          before = take-same_items (row - 1) given expected (λ i b. h.same i b refl);
+          here =
+              other;
+        },
         elim count [ inl e ↦ inl (omega (arith, within)) | inr short ↦ inr short.0 ],
       )
 
@@ -203,8 +219,8 @@ module _ {Source : Type 0} (is_over : Source → Type 0) (given expected : List 
         let long : taken < length more = slice_get_within more taken row (sym is) in (
           record {
             first = omega arith;
-            before = rw back (take-same taken more expected (λ i b. extends i b ∙ h.same i b refl));
-            here = rw back (λ same. none_some row
+            before = rw back (take-same_items taken more expected (λ i b. extends i b ∙ h.same i b refl));
+            here = rw back (λ same. none-not_some row
                 (sym (is ∙ same ∙ slice_get_past expected taken (omega (arith, all)))));
           },
           inl (omega arith),
@@ -215,10 +231,10 @@ module _ {Source : Type 0} (is_over : Source → Type 0) (given expected : List 
         → Decides is_over more expected source
         Yes
     finish-same source is over = (
-      list-same more expected (λ n. elim (cases_lt n taken) [
+      list-same_items more expected (λ n. elim (cases_lt n taken) [
         | inl below ↦ extends n below ∙ h.same n below refl
         | inr from ↦
-            slice_get_past more n (omega (arith, past more taken (sym is)))
+            slice_get_past more n (omega (arith, length-at_most_missing more taken (sym is)))
             ∙ sym (slice_get_past expected n (omega (arith, all)))
       ]),
       over,
@@ -226,6 +242,7 @@ module _ {Source : Type 0} (is_over : Source → Type 0) (given expected : List 
 
 -- ---- The answer to all rows that are given, by those that were asked for.
 
+-- an answer for the rows that were asked for is one for all rows, if none is left once the source is over
 pub decides-all : {Source : Type 0} (is_over : Source → Type 0) (given more expected : List Row) (source : Source)
     (answer : Answer) → Decides is_over given expected source answer → (is_over source → more ≡ [])
     → DecidesListing (given ++ more) expected answer
@@ -240,8 +257,8 @@ decides-all is_over given more expected source (No row) (differs, known) none = 
         let first = differs.first in
         record {
           first = first;
-          before = take-same (row - 1) (given ++ more) given
-              (λ i below. slice_get-front given more i (omega (arith, below, within))) ∙ differs.before;
+          before = take-same_items (row - 1) (given ++ more) given
+              (λ i below. slice_get-first_list given more i (omega (arith, below, within))) ∙ differs.before;
           here = λ same. differs.here
-              (sym (slice_get-front given more (row - 1) (omega (arith, first, within))) ∙ same);
+              (sym (slice_get-first_list given more (row - 1) (omega (arith, first, within))) ∙ same);
         }

@@ -1,4 +1,4 @@
--- The fields of the state as a cycle or a transfer starts, and one instant later. And what rules ask of them.
+-- The fields of the state as a cycle or a transfer starts, and one instant later, and what rules ask of them.
 use Rattle.std.proofs.Common.{◌≡◌, ℕ, ◌+◌, ◌-◌, ◌≤◌, ◌<◌, ◌&&◌, ◌||◌, Bool, true, false, refl, sym, ◌∙◌, ap, arith, inl}
 use Rattle.std.proofs.Common.{inr, ◌⊎◌, ◌∷◌, ◌++◌, [], not, add-one, List, subst, zero, suc, cond}
 use Rattle.std.specs.Prelude.{Some, nat_le, if◌then◌else◌, nat_lt, unwrap_or, None}
@@ -25,19 +25,21 @@ use Rattle.vme_cert.specs.Instant.{starts_transfer}
 use Rattle.vme_cert.specs.declared.state.Transfer.{Transfer}
 use Rattle.vme_cert.specs.declared.state.Cycle.{Cycle}
 use Rattle.vme_cert.proofs.Ranges.{IsGreatest, greatest-found, none-shorter}
-use Rattle.vme_cert.proofs.Ranges.{after_start, greatest-here, greatest-not, none-step, any-start, last_or_before}
-use Rattle.vme_cert.proofs.Ranges.{greatest-none-any, order_of}
-use Rattle.vme_cert.proofs.Ranges.{decide, case_of, later, only-last, unless}
+use Rattle.vme_cert.proofs.Ranges.{is_judged-after_start, greatest-here, greatest-not, none-step, any-start}
+use Rattle.vme_cert.proofs.Ranges.{eq-or_below}
+use Rattle.vme_cert.proofs.Ranges.{greatest-none-any, below-same-above}
+use Rattle.vme_cert.proofs.Ranges.{by_either_value, by_option, is_judged-not_opening, only-last, and-fails_unless}
 use Rattle.vme_cert.proofs.Instant.{address-known}
 
 -- ---- The transfer of an instant: the last to start, while no instant since then had both strobes high.
 
-pub high-and-low : (x y : Level) → (is_high x && is_high y) ≡ true → (is_low x || is_low y) ≡ true → ⊥
-high-and-low High High h k = cc
-high-and-low High Low h k = cc
-high-and-low High Unknown h k = cc
-high-and-low Low y h k = cc
-high-and-low Unknown y h k = cc
+-- two lines that are high aren't low, neither of them
+pub not-high_and_low : (x y : Level) → (is_high x && is_high y) ≡ true → (is_low x || is_low y) ≡ true → ⊥
+not-high_and_low High High h k = cc
+not-high_and_low High Low h k = cc
+not-high_and_low High Unknown h k = cc
+not-high_and_low Low y h k = cc
+not-high_and_low Unknown y h k = cc
 
 module _ (t : Trace) (stretch : Stretch) where
   -- between the starts of two transfers both strobes are high
@@ -46,9 +48,9 @@ module _ (t : Trace) (stretch : Stretch) where
   unfolding transfer_starts low high
   high-between i k order first second =
       elim (just-or-later i k order) [
-        | inl e ↦ absurd (high-and-low (level t DS0 i) (level t DS1 i) (ap (strobes_high t) (sym e) ∙ before)
+        | inl e ↦ absurd (not-high_and_low (level t DS0 i) (level t DS1 i) (ap (strobes_high t) (sym e) ∙ before)
             (and_parts (is_judged stretch i && strobes_high t (i - 1)) _ first).1)
-        | inr later ↦ any-holds (strobes_high t) (i + 1) k (k - 1) (omega arith) (omega arith) before
+        | inr is_judged-not_opening ↦ any-holds (strobes_high t) (i + 1) k (k - 1) (omega arith) (omega arith) before
       ]
     where
       just-or-later : (i k : ℕ) → i < k → (k - 1 ≡ i) ⊎ (i < k - 1)
@@ -59,57 +61,67 @@ module _ (t : Trace) (stretch : Stretch) where
           (and_parts (is_judged stretch k && strobes_high t (k - 1)) _ second).0).1
 
   module _ (j : ℕ) (judged : is_judged stretch j ≡ true) where
-    lasts-not : (i : ℕ) → any (strobes_high t) (i + 1) j ≡ true → lasts t stretch i j ≡ false
+    -- a transfer doesn't last to j, if both strobes were high before, after its start
+    lasts-not_after_high : (i : ℕ) → any (strobes_high t) (i + 1) j ≡ true → lasts t stretch i j ≡ false
     unfolding lasts
-    lasts-not i h = rw h (and-false (nat_le i j && is_judged stretch j))
+    lasts-not_after_high i h = rw h (and-false (nat_le i j && is_judged stretch j))
 
-    pub lasts-on : (i : ℕ) → i ≤ j → none (strobes_high t) (i + 1) j ≡ true → lasts t stretch i j ≡ true
+    -- a transfer lasts to j, if both strobes weren't high since its start
+    pub lasts-while_not_high : (i : ℕ) → i ≤ j → none (strobes_high t) (i + 1) j ≡ true → lasts t stretch i j ≡ true
     unfolding lasts
-    lasts-on i order h = rw (le-leb i j order, judged, h) refl
+    lasts-while_not_high i order h = rw (le-leb i j order, judged, h) refl
 
     -- if each transfer has closed, none is open at the instant
-    pub in-none : (p : ℕ → Bool) → ((i : ℕ) → i < j + 1 → transfer_starts t stretch i ≡ true
+    pub in_transfer-none : (p : ℕ → Bool) → ((i : ℕ) → i < j + 1 → transfer_starts t stretch i ≡ true
         → any (strobes_high t) (i + 1) j ≡ true) → in_transfer t stretch p j ≡ false
     unfolding in_transfer
-    in-none p closed = fails-any (λ i. transfer_starts t stretch i && lasts t stretch i j && p i) (stretch.start + 1)
+    in_transfer-none p closed = fails-any (λ i. transfer_starts t stretch i && lasts t stretch i j && p i)
+        (stretch.start + 1)
         (j + 1)
-        (λ i a b. decide (transfer_starts t stretch i) (λ e. rw (e, lasts-not i (closed i b e)) refl) (λ e. rw e refl))
+        (λ i a b. by_either_value (transfer_starts t stretch i)
+        (λ e. rw (e, lasts-not_after_high i (closed i b e)) refl) (λ e. rw e refl))
 
     module _ (i : ℕ) (last : greatest (transfer_starts t stretch) (stretch.start + 1) (j + 1) ≡ Some i) where
+      -- the last transfer to start is that of the instant i
       found : IsGreatest (transfer_starts t stretch) (stretch.start + 1) (j + 1) i
       found = greatest-found (transfer_starts t stretch) (stretch.start + 1) (j + 1) i last
 
       -- if the last transfer is open, a condition on the transfer of the instant is one on it
-      pub in-last : (p : ℕ → Bool) → none (strobes_high t) (i + 1) j ≡ true → in_transfer t stretch p j ≡ p i
-      in-last p still =
+      pub in_transfer-last : (p : ℕ → Bool) → none (strobes_high t) (i + 1) j ≡ true → in_transfer t stretch p j ≡ p i
+      in_transfer-last p still =
           let from = found.from in
           let before = found.before in
-          in_transfer-is t stretch p i j (omega arith) (omega arith) found.holds (lasts-on i (omega arith) still)
+          in_transfer-is t stretch p i j (omega arith) (omega arith) found.holds
+          (lasts-while_not_high i (omega arith) still)
 
 -- ---- The answer of the transfer of an instant, and those of the cycle, by the state.
 
 module _ (t : Trace) (stretch : Stretch) (j i : ℕ) (judged : is_judged stretch j ≡ true)
     (last : greatest (transfer_starts t stretch) (stretch.start + 1) (j + 1) ≡ Some i)
     (still : none (strobes_high t) (i + 1) j ≡ true) where
+  -- the transfer starts at j or before
   within : i ≤ j
   within = let before = (greatest-found (transfer_starts t stretch) (stretch.start + 1) (j + 1) i last).before
       in omega arith
 
+  -- the transfer lasts to j
   here : lasts t stretch i j ≡ true
-  here = lasts-on t stretch j judged i within still
+  here = lasts-while_not_high t stretch j judged i within still
 
   -- whether the transfer is answered before `j + 1`, by whether it is before `j`
   pub answered-step : is_answered t stretch i (j + 1) ≡ (is_answered t stretch i j || answer_falls t j)
   unfolding is_answered
   answered-step = any-step (λ r. lasts t stretch i r && answer_falls t r) i j ∙ rw (le-leb i j within, here) refl
 
+  -- the transfer is answered at j exactly if an answer falls there, and it wasn't answered before
   pub answers-is : answers t stretch i j ≡ (answer_falls t j && not (is_answered t stretch i j))
   unfolding answers
   answers-is = rw here refl
 
+  -- at j there is an answer of a transfer exactly if one falls there, and the last transfer wasn't answered before
   pub is_answer-is : is_answer t stretch j ≡ (answer_falls t j && not (is_answered t stretch i j))
   unfolding is_answer
-  is_answer-is = in-last t stretch j judged i last (λ k. answers t stretch k j) still ∙ answers-is
+  is_answer-is = in_transfer-last t stretch j judged i last (λ k. answers t stretch k j) still ∙ answers-is
 
 -- the answers before `j + 1` of a cycle that started at `j` or before: those before `j`, and that at `j`, if any
 pub answers-step : (t : Trace) (stretch : Stretch) (i j : ℕ) → i ≤ j → answers_of t stretch i (j + 1)
@@ -119,33 +131,36 @@ answers-step t stretch i j order = rw (add-one, le-leb i j order) refl
 
 -- ---- The answers of a cycle, with at most one more, and what rules ask of them.
 
-pub later-with : (rs : List ℕ) (r : ℕ) (b : Bool) → has_earlier_answer (rs ++ (if b then r ∷ [] else []))
+-- there is an answer among some and maybe one more, if there is one among these or the one more is there
+pub has_earlier_answer-append : (rs : List ℕ) (r : ℕ) (b : Bool) → has_earlier_answer (rs ++ (if b then r ∷ [] else []))
     ≡ (has_earlier_answer rs || b)
-later-with [] r true = refl
-later-with [] r false = refl
-later-with (q ∷ rs) r b = refl
+has_earlier_answer-append [] r true = refl
+has_earlier_answer-append [] r false = refl
+has_earlier_answer-append (q ∷ rs) r b = refl
 
-pub many-with : (rs : List ℕ) (r : ℕ) (b : Bool) → is_many (rs ++ (if b then r ∷ [] else []))
+-- there are many answers with maybe one more, if there are many or the one more is there after another
+pub is_many-append : (rs : List ℕ) (r : ℕ) (b : Bool) → is_many (rs ++ (if b then r ∷ [] else []))
     ≡ (is_many rs || (b && has_earlier_answer rs))
-many-with [] r true = refl
-many-with [] r false = refl
-many-with (q ∷ []) r true = refl
-many-with (q ∷ []) r false = refl
-many-with (q ∷ p ∷ rs) r b = refl
+is_many-append [] r true = refl
+is_many-append [] r false = refl
+is_many-append (q ∷ []) r true = refl
+is_many-append (q ∷ []) r false = refl
+is_many-append (q ∷ p ∷ rs) r b = refl
 
 module _ (t : Trace) (stretch : Stretch) where
-  pub first-with : (rs : List ℕ) (r : ℕ) (b : Bool) → writes_first t stretch (rs ++ (if b then r ∷ [] else []))
+  -- the first answer with maybe one more is that of a write, if it was, or if the one more is, and is the first
+  pub writes_first-append : (rs : List ℕ) (r : ℕ) (b : Bool) → writes_first t stretch (rs ++ (if b then r ∷ [] else []))
       ≡ (writes_first t stretch rs || (b && not (has_earlier_answer rs) && answers_write t stretch r))
-  first-with [] r true = refl
-  first-with [] r false = refl
-  first-with (q ∷ rs) r b = stays (answers_write t stretch q) b (answers_write t stretch r)
+  writes_first-append [] r true = refl
+  writes_first-append [] r false = refl
+  writes_first-append (q ∷ rs) r b = stays (answers_write t stretch q) b (answers_write t stretch r)
     where
       stays : (a b w : Bool) → a ≡ (a || (b && false && w))
       stays true b w = refl
       stays false true w = refl
       stays false false w = refl
 
-  -- what rules C1 and C2 ask of the answers of a cycle, by the fields of the state
+  -- what rule C1 asks of the answers of a cycle, by the fields of the state
   pub breaks_read_modify_write-is : (rs : List ℕ) (r : ℕ)
       → (has_earlier_answer rs && (is_many rs || writes_first t stretch rs || not (answers_write t stretch r)))
       ≡ breaks_read_modify_write t stretch rs r
@@ -154,6 +169,7 @@ module _ (t : Trace) (stretch : Stretch) where
   breaks_read_modify_write-is (q ∷ []) r = refl
   breaks_read_modify_write-is (q ∷ p ∷ rs) r = refl
 
+  -- what rule C2 asks of the answers of a cycle, by the fields of the state
   pub changes_direction-is : (rs : List ℕ) (r : ℕ)
       → (has_earlier_answer rs && not (beq (writes_first t stretch rs) (answers_write t stretch r)))
       ≡ changes_direction t stretch rs r
@@ -169,27 +185,30 @@ module _ (t : Trace) (stretch : Stretch) where
 
 -- ---- The field that says which transfer is open, as one starts, and one instant later.
 
-pub longer : (p : ℕ → Bool) (f m n : ℕ) → m ≤ n → any p f m ≡ true → any p f n ≡ true
-longer p f m n order h =
-    decide (any p f n) (λ e. e) (λ e. absurd (clash (any p f m) h (none-shorter p f m n order e)))
+-- if some number of a range meets `p`, some number of a longer range does
+pub any-longer : (p : ℕ → Bool) (f m n : ℕ) → m ≤ n → any p f m ≡ true → any p f n ≡ true
+any-longer p f m n order h =
+    by_either_value (any p f n) (λ e. e) (λ e. absurd (clash (any p f m) h (none-shorter p f m n order e)))
 
 module _ (t : Trace) (stretch : Stretch) (j : ℕ) (judged : is_judged stretch j ≡ true) where
+  -- a transfer starts at a judged instant as the strobes of the instant say
   pub starts-is : transfer_starts t stretch j ≡ starts_transfer t j
   unfolding transfer_starts
   starts-is = rw judged refl
 
-  -- a transfer starts
-  pub open-here : starts_transfer t j ≡ true → (w : Bool) → w ≡ low t WRITE j → IsTransfer t stretch (j + 1) j (record {
-    is_open = true;
-    start = j;
-    is_write = w;
-    answered = false;
-    rose = false;
-  })
+  -- where a transfer starts, it is the open one, not answered, and no strobe rose since
+  pub IsTransfer-started : starts_transfer t j ≡ true → (w : Bool) → w ≡ low t WRITE j
+      → IsTransfer t stretch (j + 1) j (record {
+        is_open = true;
+        start = j;
+        is_write = w;
+        answered = false;
+        rose = false;
+      })
   unfolding is_write is_answered
-  open-here here w is = record {
+  IsTransfer-started here w is = record {
     here = λ e. record {
-      last = greatest-here (transfer_starts t stretch) (stretch.start + 1) j (after_start stretch j judged)
+      last = greatest-here (transfer_starts t stretch) (stretch.start + 1) j (is_judged-after_start stretch j judged)
           (starts-is ∙ here);
       still = ap not (any-start (strobes_high t) (j + 1) j (omega arith));
       direction = is;
@@ -199,10 +218,10 @@ module _ (t : Trace) (stretch : Stretch) (j : ℕ) (judged : is_judged stretch j
     absent = λ e. absurd (cc);
   }
 
-  -- no transfer starts
-  pub open-not : starts_transfer t j ≡ false → (c : Transfer) → IsTransfer t stretch j j c
+  -- where no transfer starts, the open one stays what it is
+  pub IsTransfer-not_started : starts_transfer t j ≡ false → (c : Transfer) → IsTransfer t stretch j j c
       → IsTransfer t stretch (j + 1) j c
-  open-not here c is = record {
+  IsTransfer-not_started here c is = record {
     here = λ e. let w = is.here e in record {
       last = greatest-not (transfer_starts t stretch) (stretch.start + 1) j (starts-is ∙ here) ∙ w.last;
       still = w.still;
@@ -210,31 +229,35 @@ module _ (t : Trace) (stretch : Stretch) (j : ℕ) (judged : is_judged stretch j
       answered = w.answered;
       rose = w.rose;
     };
-    absent = λ e i before start. elim (last_or_before i j before) [
+    absent = λ e i before start. elim (eq-or_below i j before) [
       | inl same ↦ absurd
           (clash (transfer_starts t stretch j) (ap (transfer_starts t stretch) (sym same) ∙ start) (starts-is ∙ here))
       | inr earlier ↦ is.absent e i earlier start
     ];
   }
 
-  -- one instant later
-  closed-on : AreClosed t stretch (j + 1) j → AreClosed t stretch (j + 1) (j + 1)
-  closed-on is i before start = longer (strobes_high t) (i + 1) j (j + 1) (omega arith) (is i before start)
+  -- transfers that have closed have closed one instant later
+  AreClosed-later : AreClosed t stretch (j + 1) j → AreClosed t stretch (j + 1) (j + 1)
+  AreClosed-later is i before start = any-longer (strobes_high t) (i + 1) j (j + 1) (omega arith) (is i before start)
 
   module _ (c : Transfer) (is : IsOpenTransfer t stretch (j + 1) j c) where
+    -- the open transfer is the last to start
     found-transfer : IsGreatest (transfer_starts t stretch) (stretch.start + 1) (j + 1) c.start
     found-transfer = greatest-found (transfer_starts t stretch) (stretch.start + 1) (j + 1) c.start is.last
 
-    closes : c.start < j → strobes_high t j ≡ true → AreClosed t stretch (j + 1) (j + 1)
-    closes later there i before start =
+    -- if both strobes are high after its start, the open transfer closes, as all before it did
+    AreClosed-both_high : c.start < j → strobes_high t j ≡ true → AreClosed t stretch (j + 1) (j + 1)
+    AreClosed-both_high later there i before start =
         any-holds (strobes_high t) (i + 1) (j + 1) j (elim (cases_lt c.start i) [
           | inl past ↦ absurd (clash (transfer_starts t stretch i) start
               (any-fails (transfer_starts t stretch) (c.start + 1) (j + 1) i found-transfer.last (omega arith) before))
           | inr earlier ↦ omega arith
         ]) (omega arith) there
 
-    still-on : (nat_lt c.start j && strobes_high t j) ≡ false → none (strobes_high t) (c.start + 1) (j + 1) ≡ true
-    still-on h = decide (nat_lt c.start j)
+    -- if both strobes aren't high after its start, the transfer is still open
+    none-high_so_far : (nat_lt c.start j && strobes_high t j) ≡ false → none (strobes_high t) (c.start + 1) (j + 1)
+        ≡ true
+    none-high_so_far h = by_either_value (nat_lt c.start j)
         (λ e. let before = ltb-true c.start j e in
         let low : strobes_high t j ≡ false = rw e at h in
         none-step (strobes_high t) (c.start + 1) j (omega arith)
@@ -242,36 +265,41 @@ module _ (t : Trace) (stretch : Stretch) (j : ℕ) (judged : is_judged stretch j
         (λ e. let same = ltb-false c.start j e in
         ap not (any-start (strobes_high t) (c.start + 1) (j + 1) (omega arith)))
 
-    pub rose-on : any (strobe_rises t) (c.start + 1) (j + 1) ≡ (c.rose || (nat_lt c.start j && strobe_rises t j))
-    rose-on = any-step (strobe_rises t) (c.start + 1) j
+    -- a strobe rose since the start of the transfer, if one did before, or does at j after the start
+    pub any-strobe_rose : any (strobe_rises t) (c.start + 1) (j + 1)
+        ≡ (c.rose || (nat_lt c.start j && strobe_rises t j))
+    any-strobe_rose = any-step (strobe_rises t) (c.start + 1) j
         ∙ (ap (λ b. b || (nat_le (c.start + 1) j && strobe_rises t j)) (sym is.rose)
         ∙ ap (λ b. c.rose || (b && strobe_rises t j)) (alike c.start j))
       where
         alike : (i k : ℕ) → nat_le (i + 1) k ≡ nat_lt i k
         alike i k = grind (arith, nat_tests)
 
-    stays-open : (nat_lt c.start j && strobes_high t j) ≡ false → IsOpenTransfer t stretch (j + 1) (j + 1) (record c {
-      is_open = true;
-      answered = c.answered || answer_falls t j;
-      rose = any (strobe_rises t) (c.start + 1) (j + 1);
-    })
-    stays-open h = record {
+    -- a transfer that stays open is the open one, by its fields one instant later
+    IsOpenTransfer-later : (nat_lt c.start j && strobes_high t j) ≡ false
+        → IsOpenTransfer t stretch (j + 1) (j + 1) (record c {
+          is_open = true;
+          answered = c.answered || answer_falls t j;
+          rose = any (strobe_rises t) (c.start + 1) (j + 1);
+        })
+    IsOpenTransfer-later h = record {
       last = is.last;
-      still = still-on h;
+      still = none-high_so_far h;
       direction = is.direction;
       answered = ap (λ b. b || answer_falls t j) is.answered
           ∙ sym (answered-step t stretch j c.start judged is.last is.still);
       rose = refl;
     }
 
-  pub transfer-later : (c : Transfer) → IsTransfer t stretch (j + 1) j c → (hi fa ro : Bool) → hi ≡ strobes_high t j
+  -- the open transfer, or none, by its fields one instant later
+  pub IsTransfer-later : (c : Transfer) → IsTransfer t stretch (j + 1) j c → (hi fa ro : Bool) → hi ≡ strobes_high t j
       → fa ≡ answer_falls t j → (IsOpenTransfer t stretch (j + 1) j c → ro ≡ any (strobe_rises t) (c.start + 1) (j + 1))
       → IsTransfer t stretch (j + 1) (j + 1) (record c {
         is_open = c.is_open && not (nat_lt c.start j && hi);
         answered = c.answered || fa;
         rose = ro;
       })
-  transfer-later c is hi fa ro h f r = rw (h, f) (by_flags c.is_open (nat_lt c.start j && strobes_high t j) refl refl)
+  IsTransfer-later c is hi fa ro h f r = rw (h, f) (by_flags c.is_open (nat_lt c.start j && strobes_high t j) refl refl)
     where
       by_flags : (a b : Bool) → c.is_open ≡ a → (nat_lt c.start j && strobes_high t j) ≡ b
           → IsTransfer t stretch (j + 1) (j + 1) (record c {
@@ -279,42 +307,43 @@ module _ (t : Trace) (stretch : Stretch) (j : ℕ) (judged : is_judged stretch j
             answered = c.answered || answer_falls t j;
             rose = ro;
           })
-      by_flags false b e g = record { here = λ k. absurd (cc); absent = λ k. closed-on (is.absent e) }
+      by_flags false b e g = record { here = λ k. absurd (cc); absent = λ k. AreClosed-later (is.absent e) }
       by_flags true true e g =
           let parts = and_parts (nat_lt c.start j) (strobes_high t j) g in record {
             here = λ k. absurd (cc);
-            absent = λ k. closes c (is.here e) (ltb-true c.start j parts.0) parts.1;
+            absent = λ k. AreClosed-both_high c (is.here e) (ltb-true c.start j parts.0) parts.1;
           }
       by_flags true false e g = record {
         here = λ k. subst (λ b. IsOpenTransfer t stretch (j + 1) (j + 1) (record c {
           is_open = true;
           answered = c.answered || answer_falls t j;
           rose = b;
-        })) (sym (r (is.here e))) (stays-open c (is.here e) g);
+        })) (sym (r (is.here e))) (IsOpenTransfer-later c (is.here e) g);
         absent = λ k. absurd (cc);
       }
 
 -- no transfer starts up to the start of a stretch
-pub none-started : (t : Trace) (stretch : Stretch) → AreClosed t stretch (stretch.start + 1) (stretch.start + 1)
+pub AreClosed-at_start : (t : Trace) (stretch : Stretch) → AreClosed t stretch (stretch.start + 1) (stretch.start + 1)
 unfolding transfer_starts
-none-started t stretch i before start =
+AreClosed-at_start t stretch i before start =
     let judged = (and_parts (is_judged stretch i) (strobes_high t (i - 1))
     (and_parts (is_judged stretch i && strobes_high t (i - 1)) _ start).0).0 in
-    let after = after_start stretch i judged in
+    let after = is_judged-after_start stretch i judged in
     absurd (omega arith)
 
 -- for the goals of the open transfer as it starts, and one instant later
-pub ruleset transfers = (open-here, open-not, transfer-later, rose-on)
+pub ruleset transfers = (IsTransfer-started, IsTransfer-not_started, IsTransfer-later, any-strobe_rose)
 
 -- ---- The field that says which cycle is the last, as one starts, and one instant later.
 
 -- what is high isn't low, and what is low isn't high
-one_of : (x : Level) → (is_high x ≡ true → is_low x ≡ false) × (is_low x ≡ true → is_high x ≡ false)
-one_of Low = (λ h. absurd (cc), λ h. refl)
-one_of High = (λ h. refl, λ h. absurd (cc))
-one_of Unknown = (λ h. absurd (cc), λ h. absurd (cc))
+not-both_levels : (x : Level) → (is_high x ≡ true → is_low x ≡ false) × (is_low x ≡ true → is_high x ≡ false)
+not-both_levels Low = (λ h. absurd (cc), λ h. refl)
+not-both_levels High = (λ h. refl, λ h. absurd (cc))
+not-both_levels Unknown = (λ h. absurd (cc), λ h. absurd (cc))
 
 module _ (t : Trace) (l j : ℕ) where
+  -- what falls is low
   pub fall-low : falls t l j ≡ true → low t l j ≡ true
   unfolding falls
   fall-low h = (and_parts (high t l (j - 1)) (low t l j) h).1
@@ -322,12 +351,12 @@ module _ (t : Trace) (l j : ℕ) where
   -- what was low doesn't fall
   pub low-no_fall : low t l (j - 1) ≡ true → falls t l j ≡ false
   unfolding falls low high
-  low-no_fall h = rw ((one_of (level t l (j - 1))).1 h) refl
+  low-no_fall h = rw ((not-both_levels (level t l (j - 1))).1 h) refl
 
   -- what falls doesn't rise
   pub no-rise : falls t l j ≡ true → rises t l j ≡ false
   unfolding falls rises low high
-  no-rise h = rw ((one_of (level t l (j - 1))).0 (and_parts (high t l (j - 1)) (low t l j) h).0) refl
+  no-rise h = rw ((not-both_levels (level t l (j - 1))).0 (and_parts (high t l (j - 1)) (low t l j) h).0) refl
 
   -- what rises doesn't fall
   pub no-fall : rises t l j ≡ true → falls t l j ≡ false
@@ -344,55 +373,61 @@ module _ (t : Trace) (l j : ℕ) where
       by_level High a e h k = let c : (true && true) ≡ false = rw e at h in absurd (cc)
       by_level Unknown a e h k = absurd (cc)
 
--- what has ended stays so
-pub stays-ended : (p : ℕ → Bool) (i j : ℕ) → none p (i + 1) j ≡ false → none p (i + 1) (j + 1) ≡ false
-stays-ended p i j h = rw (any-step p (i + 1) j, not-false (any p (i + 1) j) h) refl
+-- what has risen since i has risen since i one instant later
+pub none-stays_false : (p : ℕ → Bool) (i j : ℕ) → none p (i + 1) j ≡ false → none p (i + 1) (j + 1) ≡ false
+none-stays_false p i j h = rw (any-step p (i + 1) j, not-false (any p (i + 1) j) h) refl
 
-starts-after : (t : Trace) (stretch : Stretch) (i : ℕ) → cycle_starts t stretch i ≡ true → stretch.start + 1 ≤ i
+-- a cycle starts after the start of the stretch
+cycle_starts-after_start : (t : Trace) (stretch : Stretch) (i : ℕ) → cycle_starts t stretch i ≡ true
+    → stretch.start + 1 ≤ i
 unfolding cycle_starts
-starts-after t stretch i h = after_start stretch i (and_parts (is_judged stretch i) (falls t AS i) h).0
+cycle_starts-after_start t stretch i h =
+    is_judged-after_start stretch i (and_parts (is_judged stretch i) (falls t AS i) h).0
 
-starts-low : (t : Trace) (stretch : Stretch) (i : ℕ) → cycle_starts t stretch i ≡ true → low t AS i ≡ true
+-- AS is low where a cycle starts
+cycle_starts-low : (t : Trace) (stretch : Stretch) (i : ℕ) → cycle_starts t stretch i ≡ true → low t AS i ≡ true
 unfolding cycle_starts
-starts-low t stretch i h = fall-low t AS i (and_parts (is_judged stretch i) (falls t AS i) h).1
+cycle_starts-low t stretch i h = fall-low t AS i (and_parts (is_judged stretch i) (falls t AS i) h).1
 
 -- where AS* falls each earlier cycle has ended
 all-ended : (t : Trace) (stretch : Stretch) (j : ℕ) (c : Cycle) → IsCycle t stretch j j c → falls t AS j ≡ true
     → (i : ℕ)
     → cycle_starts t stretch i ≡ true → i < j → none (rises t AS) (i + 1) j ≡ false
-all-ended t stretch j c is here i start before = decide c.has_started (λ e. by_last (is.here e))
+all-ended t stretch j c is here i start before = by_either_value c.has_started (λ e. by_last (is.here e))
     (λ e. absurd (clash (cycle_starts t stretch i) start (any-fails (cycle_starts t stretch) (stretch.start + 1) j i
-    (greatest-none-any (cycle_starts t stretch) (stretch.start + 1) j (is.absent e)) (starts-after t stretch i start)
+    (greatest-none-any (cycle_starts t stretch) (stretch.start + 1) j (is.absent e))
+    (cycle_starts-after_start t stretch i start)
     before)))
   where
     by_last : IsLastCycle t stretch j j c → none (rises t AS) (i + 1) j ≡ false
     by_last w =
         let found = greatest-found (cycle_starts t stretch) (stretch.start + 1) j c.start w.last in
-        let stopped : c.runs ≡ false = decide c.runs
+        let stopped : c.runs ≡ false = by_either_value c.runs
         (λ e. absurd (clash (falls t AS j) here (low-no_fall t AS j (w.is_low e found.before)))) (λ e. e) in
-        elim (order_of i c.start) [
+        elim (below-same-above i c.start) [
           | inl earlier ↦ w.others i start earlier
           | inr (inl e) ↦ ap (λ k. none (rises t AS) (k + 1) j) e ∙ (sym w.runs ∙ stopped)
-          | inr (inr later) ↦ absurd (clash (cycle_starts t stretch i) start
+          | inr (inr is_judged-not_opening) ↦ absurd (clash (cycle_starts t stretch i) start
               (any-fails (cycle_starts t stretch) (c.start + 1) j i found.last (omega arith) before))
         ]
 
 module _ (t : Trace) (stretch : Stretch) (j : ℕ) (judged : is_judged stretch j ≡ true) where
+  -- at a judged instant a cycle starts exactly if AS falls
   pub cycle-starts-is : cycle_starts t stretch j ≡ falls t AS j
   unfolding cycle_starts
   cycle-starts-is = rw judged refl
 
-  -- a cycle starts
-  pub cycle-here : (o : Cycle) → IsCycle t stretch j j o → falls t AS j ≡ true → (c : Cycle) → c.start ≡ j
+  -- where a cycle starts, it is the last, runs and isn't answered
+  pub IsLastCycle-started : (o : Cycle) → IsCycle t stretch j j o → falls t AS j ≡ true → (c : Cycle) → c.start ≡ j
       → c.class ≡ class_at t stretch j → c.needs ≡ needs_of (levels_at t j) → c.runs ≡ true → c.answered ≡ false
       → c.first_writes ≡ false → c.answered_again ≡ false → c.answered_by_dtack ≡ false
       → IsLastCycle t stretch (j + 1) j c
   unfolding answers_of
-  cycle-here o was here c at class needs runs answered first again answered_by_dtack =
+  IsLastCycle-started o was here c at class needs runs answered first again answered_by_dtack =
       let none_yet = ap (λ k. those (is_answer t stretch) k j) at ∙ those-empty (is_answer t stretch) j j (omega arith)
       in
       record {
-        last = greatest-here (cycle_starts t stretch) (stretch.start + 1) j (after_start stretch j judged)
+        last = greatest-here (cycle_starts t stretch) (stretch.start + 1) j (is_judged-after_start stretch j judged)
             (cycle-starts-is ∙ here) ∙ ap (λ k. Some k) (sym at);
         class = class ∙ sym (ap (class_at t stretch) at);
         needs = needs ∙ sym (ap (λ k. needs_of (levels_at t k)) at);
@@ -407,9 +442,9 @@ module _ (t : Trace) (stretch : Stretch) (j : ℕ) (judged : is_judged stretch j
             ∙ any-start (λ r. is_answer t stretch r && falls t DTACK r) j j (omega arith));
       }
 
-  -- no cycle starts
-  pub cycle-not : falls t AS j ≡ false → (c : Cycle) → IsCycle t stretch j j c → IsCycle t stretch (j + 1) j c
-  cycle-not here c is =
+  -- where no cycle starts, the last one stays what it is
+  pub IsCycle-not_started : falls t AS j ≡ false → (c : Cycle) → IsCycle t stretch j j c → IsCycle t stretch (j + 1) j c
+  IsCycle-not_started here c is =
       let same = greatest-not (cycle_starts t stretch) (stretch.start + 1) j (cycle-starts-is ∙ here) in
       record {
         here = λ e. let w = is.here e in record {
@@ -428,14 +463,17 @@ module _ (t : Trace) (stretch : Stretch) (j : ℕ) (judged : is_judged stretch j
       }
 
   module _ (c : Cycle) (is : IsLastCycle t stretch (j + 1) j c) where
+    -- the last cycle is the last to start
     found-cycle : IsGreatest (cycle_starts t stretch) (stretch.start + 1) (j + 1) c.start
     found-cycle = greatest-found (cycle_starts t stretch) (stretch.start + 1) (j + 1) c.start is.last
 
+    -- it starts at j or before
     pub cycle-within : c.start ≤ j
     cycle-within = let before = found-cycle.before in omega arith
 
+    -- it runs up to j exactly if it did before, and AS doesn't rise at j
     pub runs-on : none (rises t AS) (c.start + 1) (j + 1) ≡ (c.runs && not (rises t AS j))
-    runs-on = by_order (last_or_before c.start j found-cycle.before)
+    runs-on = by_order (eq-or_below c.start j found-cycle.before)
       where
         by_order : (c.start ≡ j) ⊎ (c.start < j) → none (rises t AS) (c.start + 1) (j + 1)
             ≡ (c.runs && not (rises t AS j))
@@ -446,33 +484,37 @@ module _ (t : Trace) (stretch : Stretch) (j : ℕ) (judged : is_judged stretch j
         by_order (inr before) = none-step (rises t AS) (c.start + 1) j (omega arith)
             ∙ ap (λ b. b && not (rises t AS j)) (sym is.runs)
 
+    -- while it runs AS is low, where it is known
     low-now : known t AS j ≡ true → (c.runs && not (rises t AS j)) ≡ true → low t AS j ≡ true
-    low-now knows on = by_order (last_or_before c.start j found-cycle.before)
+    low-now knows on = by_order (eq-or_below c.start j found-cycle.before)
       where
         parts : (c.runs ≡ true) × (not (rises t AS j) ≡ true)
         parts = and_parts c.runs (not (rises t AS j)) on
 
         by_order : (c.start ≡ j) ⊎ (c.start < j) → low t AS j ≡ true
-        by_order (inl e) = starts-low t stretch j (ap (cycle_starts t stretch) (sym e) ∙ found-cycle.holds)
+        by_order (inl e) = cycle_starts-low t stretch j (ap (cycle_starts t stretch) (sym e) ∙ found-cycle.holds)
         by_order (inr before) = stays-low t AS j (is.is_low parts.0 before) (not-true (rises t AS j) parts.1) knows
 
+    -- its answers before `j + 1` are those before `j`, and that at `j`, if there is one
     answers-later : answers_of t stretch c.start (j + 1)
         ≡ answers_of t stretch c.start j ++ (if is_answer t stretch j then j ∷ [] else [])
     answers-later = answers-step t stretch c.start j cycle-within
 
+    -- whether one of its answers before `j + 1` is by DTACK, by whether one before `j` is
     answered_by_dtack-step : is_answered_by_dtack t stretch c.start (j + 1)
         ≡ (is_answered_by_dtack t stretch c.start j || (is_answer t stretch j && falls t DTACK j))
     answered_by_dtack-step = any-step (λ r. is_answer t stretch r && falls t DTACK r) c.start j
         ∙ rw (le-leb c.start j cycle-within) refl
 
-    later-last : known t AS j ≡ true → IsLastCycle t stretch (j + 1) (j + 1) (record c {
+    -- it is the last cycle, by its fields one instant later
+    IsLastCycle-later : known t AS j ≡ true → IsLastCycle t stretch (j + 1) (j + 1) (record c {
       runs = c.runs && not (rises t AS j);
       answered = c.answered || is_answer t stretch j;
       first_writes = c.first_writes || (is_answer t stretch j && not c.answered && answers_write t stretch j);
       answered_again = c.answered_again || (is_answer t stretch j && c.answered);
       answered_by_dtack = c.answered_by_dtack || (is_answer t stretch j && falls t DTACK j);
     })
-    later-last knows =
+    IsLastCycle-later knows =
         let rs = answers_of t stretch c.start j in
         let an = is_answer t stretch j in
         let back : j + 1 - 1 ≡ j = omega arith in
@@ -482,18 +524,20 @@ module _ (t : Trace) (stretch : Stretch) (j : ℕ) (judged : is_judged stretch j
           needs = is.needs;
           runs = sym runs-on;
           is_low = λ on before. ap (low t AS) back ∙ low-now knows on;
-          others = λ i start before. stays-ended (rises t AS) i j (is.others i start before);
-          answered = ap (λ b. b || an) is.answered ∙ sym (ap has_earlier_answer answers-later ∙ later-with rs j an);
+          others = λ i start before. none-stays_false (rises t AS) i j (is.others i start before);
+          answered = ap (λ b. b || an) is.answered
+              ∙ sym (ap has_earlier_answer answers-later ∙ has_earlier_answer-append rs j an);
           first_writes = ap (λ b. b || (an && not c.answered && answers_write t stretch j)) is.first_writes
               ∙ (ap (λ b. writes_first t stretch rs || (an && not b && answers_write t stretch j)) is.answered
-              ∙ sym (ap (writes_first t stretch) answers-later ∙ first-with t stretch rs j an));
+              ∙ sym (ap (writes_first t stretch) answers-later ∙ writes_first-append t stretch rs j an));
           answered_again = ap (λ b. b || (an && c.answered)) is.answered_again
-              ∙ (ap (λ b. is_many rs || (an && b)) is.answered ∙ sym (ap is_many answers-later ∙ many-with rs j an));
+              ∙ (ap (λ b. is_many rs || (an && b)) is.answered
+              ∙ sym (ap is_many answers-later ∙ is_many-append rs j an));
           answered_by_dtack = ap (λ b. b || (an && falls t DTACK j)) is.answered_by_dtack ∙ sym answered_by_dtack-step;
         }
 
-  -- one instant later
-  pub cycle-later : known t AS j ≡ true → (c : Cycle) → IsCycle t stretch (j + 1) j c → (ri an wr fa : Bool)
+  -- the last cycle, or none, by its fields one instant later
+  pub IsCycle-later : known t AS j ≡ true → (c : Cycle) → IsCycle t stretch (j + 1) j c → (ri an wr fa : Bool)
       → ri ≡ rises t AS j → an ≡ is_answer t stretch j → wr ≡ answers_write t stretch j → fa ≡ falls t DTACK j
       → IsCycle t stretch (j + 1) (j + 1) (record c {
         runs = c.runs && not ri;
@@ -502,28 +546,31 @@ module _ (t : Trace) (stretch : Stretch) (j : ℕ) (judged : is_judged stretch j
         answered_again = c.answered_again || (an && c.answered);
         answered_by_dtack = c.answered_by_dtack || (an && fa);
       })
-  cycle-later knows c is ri an wr fa r a w f =
-      rw (r, a, w, f) (record { here = λ e. later-last c (is.here e) knows; absent = λ e. is.absent e })
+  IsCycle-later knows c is ri an wr fa r a w f =
+      rw (r, a, w, f) (record { here = λ e. IsLastCycle-later c (is.here e) knows; absent = λ e. is.absent e })
 
 -- for the goals of the last cycle as it starts, and one instant later
-pub ruleset cycles = (cycle-here, cycle-not, cycle-later, address-known)
+pub ruleset cycles = (IsLastCycle-started, IsCycle-not_started, IsCycle-later, address-known)
 
 -- ---- Whether `q` held since `p` last did: the fields that rules H6, G5 and B2 ask for.
 
+-- whether `q` holds since `p` last did, at a judged instant j
 module _ (t : Trace) (stretch : Stretch) (p q : ℕ → Bool) (j : ℕ) (judged : is_judged stretch j ≡ true) where
-  last-here : p j ≡ true → last_before t stretch p (j + 1) ≡ j
+  -- where `p` holds at j, j is the last instant before `j + 1` at which it does
+  last_before-here : p j ≡ true → last_before t stretch p (j + 1) ≡ j
   unfolding last_before
-  last-here here = ap (λ o. unwrap_or o stretch.start)
-      (greatest-here p (stretch.start + 1) j (after_start stretch j judged) here)
+  last_before-here here = ap (λ o. unwrap_or o stretch.start)
+      (greatest-here p (stretch.start + 1) j (is_judged-after_start stretch j judged) here)
 
-  last-not : p j ≡ false → last_before t stretch p (j + 1) ≡ last_before t stretch p j
+  -- where `p` doesn't hold at j, the last instant is the one before j
+  last_before-not_here : p j ≡ false → last_before t stretch p (j + 1) ≡ last_before t stretch p j
   unfolding last_before
-  last-not here = ap (λ o. unwrap_or o stretch.start) (greatest-not p (stretch.start + 1) j here)
+  last_before-not_here here = ap (λ o. unwrap_or o stretch.start) (greatest-not p (stretch.start + 1) j here)
 
   -- the last instant with `p`, or else the start of the stretch, is before `j`
   last-within : last_before t stretch p j + 1 ≤ j
   unfolding last_before
-  last-within = case_of (greatest p (stretch.start + 1) j) (λ e. rw e (after_start stretch j judged))
+  last-within = by_option (greatest p (stretch.start + 1) j) (λ e. rw e (is_judged-after_start stretch j judged))
       (λ i e. let found = (greatest-found p (stretch.start + 1) j i e).before in rw e (omega arith))
 
   -- what a rule asks up to `j`, by the field and by what happens at `j`
@@ -531,6 +578,7 @@ module _ (t : Trace) (stretch : Stretch) (p q : ℕ → Bool) (j : ℕ) (judged 
   since-asks = any-step q (last_before t stretch p j) j
       ∙ rw (le-leb (last_before t stretch p j) j (omega (arith, last-within))) refl
 
+  -- what a rule asks after the last instant up to `j`, by the field and by what happens at `j`
   pub since-later-asks : any q (last_before t stretch p j + 1) (j + 1)
       ≡ (any q (last_before t stretch p j + 1) j || q j)
   since-later-asks = any-step q (last_before t stretch p j + 1) j
@@ -539,84 +587,99 @@ module _ (t : Trace) (stretch : Stretch) (p q : ℕ → Bool) (j : ℕ) (judged 
   -- the field one instant later
   pub since-step : {a b c : Bool} → a ≡ any q (last_before t stretch p j) j → b ≡ p j → c ≡ q j
       → ((a && not b) || c) ≡ any q (last_before t stretch p (j + 1)) (j + 1)
-  since-step e f g = rw (e, f, g) (decide (p j) (λ e. rw (last-here e, e, here_only, and-false) refl)
-      (λ e. rw (last-not e, e, since-asks, and-true) refl))
+  since-step e f g = rw (e, f, g) (by_either_value (p j) (λ e. rw (last_before-here e, e, here_only, and-false) refl)
+      (λ e. rw (last_before-not_here e, e, since-asks, and-true) refl))
     where
       here_only : any q j (j + 1) ≡ q j
       here_only = any-step q j j ∙ rw (any-start q j j (omega arith), le-leb j j (omega arith)) refl
 
+  -- the field that leaves out the last instant, one instant later
   pub since-later-step : {a b c : Bool} → a ≡ any q (last_before t stretch p j + 1) j → b ≡ p j → c ≡ q j
       → ((a || c) && not b) ≡ any q (last_before t stretch p (j + 1) + 1) (j + 1)
-  since-later-step e f g = rw (e, f, g) (decide (p j)
-      (λ e. rw (last-here e, e, and-false) (sym (any-start q (j + 1) (j + 1) (omega arith))))
-      (λ e. rw (last-not e, e, and-true) (sym since-later-asks)))
+  since-later-step e f g = rw (e, f, g) (by_either_value (p j)
+      (λ e. rw (last_before-here e, e, and-false) (sym (any-start q (j + 1) (j + 1) (omega arith))))
+      (λ e. rw (last_before-not_here e, e, and-true) (sym since-later-asks)))
 
 -- the fields after the start of a stretch
 module _ (t : Trace) (stretch : Stretch) (p q : ℕ → Bool) where
-  last-start : last_before t stretch p (stretch.start + 1) ≡ stretch.start
+  -- after the start of a stretch the last instant is the start
+  last_before-start : last_before t stretch p (stretch.start + 1) ≡ stretch.start
   unfolding last_before
-  last-start = ap (λ o. unwrap_or o stretch.start) (greatest-empty p (stretch.start + 1) (stretch.start + 1)
+  last_before-start = ap (λ o. unwrap_or o stretch.start) (greatest-empty p (stretch.start + 1) (stretch.start + 1)
       (omega arith))
 
+  -- after the start of a stretch `q` has held exactly if it does at the start
   pub since-start : any q (last_before t stretch p (stretch.start + 1)) (stretch.start + 1) ≡ q stretch.start
-  since-start = ap (λ k. any q k (stretch.start + 1)) last-start
+  since-start = ap (λ k. any q k (stretch.start + 1)) last_before-start
       ∙ (any-step q stretch.start stretch.start
       ∙ rw (any-start q stretch.start stretch.start (omega arith), le-leb stretch.start stretch.start (omega arith))
       refl)
 
+  -- after the start of a stretch `q` hasn't held since
   pub since-later-start : any q (last_before t stretch p (stretch.start + 1) + 1) (stretch.start + 1) ≡ false
-  since-later-start = ap (λ k. any q (k + 1) (stretch.start + 1)) last-start
+  since-later-start = ap (λ k. any q (k + 1) (stretch.start + 1)) last_before-start
       ∙ any-start q (stretch.start + 1) (stretch.start + 1) (omega arith)
 
 module _ (t : Trace) (stretch : Stretch) (j : ℕ) (judged : is_judged stretch j ≡ true) where
   module _ (c : Transfer) (is : IsTransfer t stretch (j + 1) j c) where
     -- a condition on the open transfer, which is false if none is open, is that condition on the transfer of the
     -- instant
-    ask : (x : Bool) (p : ℕ → Bool) → (IsOpenTransfer t stretch (j + 1) j c → x ≡ p c.start)
+    in_transfer-by_open : (x : Bool) (p : ℕ → Bool) → (IsOpenTransfer t stretch (j + 1) j c → x ≡ p c.start)
         → (c.is_open && x) ≡ in_transfer t stretch p j
-    ask x p here = decide c.is_open
-        (λ e. let w = is.here e in rw e (here w ∙ sym (in-last t stretch j judged c.start w.last p w.still)))
-        (λ e. rw e (sym (in-none t stretch j judged p (is.absent e))))
+    in_transfer-by_open x p here = by_either_value c.is_open
+        (λ e. let w = is.here e in rw e (here w ∙ sym (in_transfer-last t stretch j judged c.start w.last p w.still)))
+        (λ e. rw e (sym (in_transfer-none t stretch j judged p (is.absent e))))
 
-    answered-by : IsOpenTransfer t stretch (j + 1) j c
+    -- the open transfer is answered up to j exactly if it was before, or an answer falls at j
+    is_answered-by_fields : IsOpenTransfer t stretch (j + 1) j c
         → (c.answered || answer_falls t j) ≡ is_answered t stretch c.start (j + 1)
-    answered-by w =
+    is_answered-by_fields w =
         ap (λ b. b || answer_falls t j) w.answered ∙ sym (answered-step t stretch j c.start judged w.last w.still)
 
-    answers-here : IsOpenTransfer t stretch (j + 1) j c → (answer_falls t j && not c.answered)
+    -- the open transfer is answered at j exactly if an answer falls there, and it wasn't answered before
+    answers-by_fields : IsOpenTransfer t stretch (j + 1) j c → (answer_falls t j && not c.answered)
         ≡ answers t stretch c.start j
-    answers-here w =
+    answers-by_fields w =
         ap (λ b. answer_falls t j && not b) w.answered ∙ sym (answers-is t stretch j c.start judged w.last w.still)
 
+    -- a transfer is open exactly if the instant is in one
     pub has-is : c.is_open ≡ in_transfer t stretch (λ i. true) j
-    has-is = sym (and-true c.is_open) ∙ ask true (λ i. true) (λ w. refl)
+    has-is = sym (and-true c.is_open) ∙ in_transfer-by_open true (λ i. true) (λ w. refl)
 
+    -- there is an answer at j exactly if a transfer is open, an answer falls, and it wasn't answered before
     pub answer-is : (c.is_open && (answer_falls t j && not c.answered)) ≡ is_answer t stretch j
     unfolding is_answer
-    answer-is = ask (answer_falls t j && not c.answered) (λ i. answers t stretch i j) (λ w. answers-here w)
+    answer-is = in_transfer-by_open (answer_falls t j && not c.answered) (λ i. answers t stretch i j)
+        (λ w. answers-by_fields w)
 
+    -- the answer at j is that of a write exactly if the open transfer is a write
     pub write-is : (is_answer t stretch j && c.is_write) ≡ answers_write t stretch j
     unfolding answers_write
     write-is =
         ap (λ b. b && c.is_write) (sym answer-is) ∙ (and_assoc c.is_open (answer_falls t j && not c.answered) c.is_write
-        ∙ ask ((answer_falls t j && not c.answered) && c.is_write) (λ i. answers t stretch i j && is_write t stretch i)
-        (λ w. ap (λ b. b && c.is_write) (answers-here w) ∙ ap (λ b. answers t stretch c.start j && b) w.direction))
+        ∙ in_transfer-by_open ((answer_falls t j && not c.answered) && c.is_write)
+        (λ i. answers t stretch i j && is_write t stretch i)
+        (λ w. ap (λ b. b && c.is_write) (answers-by_fields w) ∙ ap (λ b. answers t stretch c.start j && b) w.direction))
 
+    -- the open transfer started before j, and isn't answered up to it
     pub unanswered-is : (c.is_open && (nat_lt c.start j && not (c.answered || answer_falls t j)))
         ≡ is_unanswered t stretch j
-    unanswered-is = ask (nat_lt c.start j && not (c.answered || answer_falls t j)) _
-        (λ w. ap (λ b. nat_lt c.start j && not b) (answered-by w))
+    unanswered-is = in_transfer-by_open (nat_lt c.start j && not (c.answered || answer_falls t j)) _
+        (λ w. ap (λ b. nat_lt c.start j && not b) (is_answered-by_fields w))
 
+    -- the open transfer started before j, and was answered before
     pub was-answered-is : (c.is_open && (nat_lt c.start j && c.answered))
         ≡ in_transfer t stretch (λ i. nat_lt i j && is_answered t stretch i j) j
-    was-answered-is = ask (nat_lt c.start j && c.answered) _ (λ w. ap (λ b. nat_lt c.start j && b) w.answered)
+    was-answered-is = in_transfer-by_open (nat_lt c.start j && c.answered) _
+        (λ w. ap (λ b. nat_lt c.start j && b) w.answered)
 
+    -- the open transfer was answered before j, or both answers fall at j
     pub twice-is : (c.is_open && (c.answered || (falls t DTACK j && falls t BERR j)))
         ≡ in_transfer t stretch
         (λ i. is_answered t stretch i j || (answers t stretch i j && falls t DTACK j && falls t BERR j)) j
-    twice-is = ask (c.answered || (falls t DTACK j && falls t BERR j)) _
+    twice-is = in_transfer-by_open (c.answered || (falls t DTACK j && falls t BERR j)) _
         (λ w. by_values c.answered (falls t DTACK j) (falls t BERR j)
-        ∙ (ap (λ b. c.answered || (b && falls t DTACK j && falls t BERR j)) (answers-here w)
+        ∙ (ap (λ b. c.answered || (b && falls t DTACK j && falls t BERR j)) (answers-by_fields w)
         ∙ ap (λ b. b || (answers t stretch c.start j && falls t DTACK j && falls t BERR j)) w.answered))
       where
         by_values : (a d b : Bool) → (a || (d && b)) ≡ (a || (((d || b) && not a) && d && b))
@@ -626,68 +689,77 @@ module _ (t : Trace) (stretch : Stretch) (j : ℕ) (judged : is_judged stretch j
         by_values false false true = refl
         by_values false false false = refl
 
+    -- the open transfer is a write that wasn't answered before j
     pub open-write-is : (c.is_open && (c.is_write && not c.answered))
         ≡ in_transfer t stretch (λ i. is_write t stretch i && not (is_answered t stretch i j)) j
-    open-write-is = ask (c.is_write && not c.answered) _ (λ w. rw (w.direction, w.answered) refl)
+    open-write-is = in_transfer-by_open (c.is_write && not c.answered) _ (λ w. rw (w.direction, w.answered) refl)
 
+    -- the open transfer is a write whose data must be held at j
     pub data-is : (r : Bool) → (IsOpenTransfer t stretch (j + 1) j c → r ≡ any (strobe_rises t) (c.start + 1) (j + 1))
         → (c.is_open && (nat_lt c.start j && c.is_write && not (c.answered || answer_falls t j) && not r))
         ≡ is_data_held t stretch j
-    data-is r rose = ask (nat_lt c.start j && c.is_write && not (c.answered || answer_falls t j) && not r) _
-        (λ w. rw (w.direction, answered-by w, rose w) refl)
+    data-is r rose = in_transfer-by_open
+        (nat_lt c.start j && c.is_write && not (c.answered || answer_falls t j) && not r) _
+        (λ w. rw (w.direction, is_answered-by_fields w, rose w) refl)
 
   module _ (c : Cycle) (is : IsCycle t stretch (j + 1) j c) where
     -- a condition on the last cycle, which is false if none has started, is that condition on the cycle of the instant
-    ask-cycle : (x : Bool) (p : ℕ → Bool) → (IsLastCycle t stretch (j + 1) j c → x ≡ p c.start)
+    in_cycle-by_last : (x : Bool) (p : ℕ → Bool) → (IsLastCycle t stretch (j + 1) j c → x ≡ p c.start)
         → (c.has_started && x) ≡ in_cycle t stretch p j
     unfolding in_cycle cycle_of
-    ask-cycle x p here = decide c.has_started (λ e. rw (e, (is.here e).last) (here (is.here e)))
+    in_cycle-by_last x p here = by_either_value c.has_started (λ e. rw (e, (is.here e).last) (here (is.here e)))
         (λ e. rw (e, is.absent e) refl)
 
+    -- what rule C1 asks of the last cycle, by its fields
     pub breaks_read_modify_write-cycle-is : (w : Bool) → w ≡ answers_write t stretch j
         → (c.has_started && (is_single c.class && (c.answered && (c.answered_again || c.first_writes || not w))))
         ≡ in_cycle t stretch (λ i. is_single (class_at t stretch i)
         && breaks_read_modify_write t stretch (answers_of t stretch i j)
         j) j
     breaks_read_modify_write-cycle-is w e =
-        ask-cycle (is_single c.class && (c.answered && (c.answered_again || c.first_writes || not w))) _
+        in_cycle-by_last (is_single c.class && (c.answered && (c.answered_again || c.first_writes || not w))) _
         (λ k. rw (k.class, k.answered, k.answered_again, k.first_writes, e)
         (ap (λ b. is_single (class_at t stretch c.start) && b)
         (breaks_read_modify_write-is t stretch (answers_of t stretch c.start j) j)))
 
+    -- what rule C2 asks of the last cycle, by its fields
     pub changes_direction-cycle-is : (w : Bool) → w ≡ answers_write t stretch j
         → (c.has_started && (is_block_class c.class && (c.answered && not (beq c.first_writes w))))
         ≡ in_cycle t stretch (λ i. is_block_class (class_at t stretch i)
         && changes_direction t stretch (answers_of t stretch i j)
         j) j
-    changes_direction-cycle-is w e = ask-cycle (is_block_class c.class && (c.answered && not (beq c.first_writes w))) _
+    changes_direction-cycle-is w e = in_cycle-by_last
+        (is_block_class c.class && (c.answered && not (beq c.first_writes w))) _
         (λ k. rw (k.class, k.answered, k.first_writes, e)
         (ap (λ b. is_block_class (class_at t stretch c.start) && b)
         (changes_direction-is t stretch (answers_of t stretch c.start j) j)))
 
+    -- the cycle of the instant is an interrupt acknowledge, by the fields of the last cycle
     pub interrupt-is : (c.has_started && is_interrupt c.class) ≡ in_cycle t stretch
         (λ i. is_interrupt (class_at t stretch i)) j
-    interrupt-is = ask-cycle (is_interrupt c.class) _ (λ k. ap is_interrupt k.class)
+    interrupt-is = in_cycle-by_last (is_interrupt c.class) _ (λ k. ap is_interrupt k.class)
 
+    -- it is one that has been answered, by these fields
     pub answered-interrupt-is : (c.has_started && (is_interrupt c.class && c.answered))
         ≡ in_cycle t stretch (λ i. is_interrupt (class_at t stretch i) && has_earlier_answer (answers_of t stretch i j))
         j
-    answered-interrupt-is = ask-cycle (is_interrupt c.class && c.answered) _ (λ k. rw (k.class, k.answered) refl)
+    answered-interrupt-is = in_cycle-by_last (is_interrupt c.class && c.answered) _ (λ k. rw (k.class, k.answered) refl)
 
     -- the cycle of the instant is that of the instant before, if none starts here
     before-is : falls t AS j ≡ false → (p : ℕ → Bool) → in_cycle t stretch p j ≡ in_cycle t stretch p (j - 1)
     unfolding in_cycle cycle_of
     before-is still p =
-        let some = later stretch j judged in
+        let some = is_judged-not_opening stretch j judged in
         let back : j ≡ j - 1 + 1 = omega arith in
         ap (λ o. option_map_or p o false)
         (greatest-not (cycle_starts t stretch) (stretch.start + 1) j (cycle-starts-is t stretch j judged ∙ still)
         ∙ ap (greatest (cycle_starts t stretch) (stretch.start + 1)) back)
 
+    -- the cycle of the instant before was answered by DTACK, by the fields of the last cycle, where none starts
     pub answered_by_dtack-is : falls t AS j ≡ false → (c.has_started && c.answered_by_dtack)
         ≡ in_cycle t stretch (λ i. is_answered_by_dtack t stretch i j) (j - 1)
     answered_by_dtack-is still =
-        ask-cycle c.answered_by_dtack (λ i. is_answered_by_dtack t stretch i j) (λ k. k.answered_by_dtack)
+        in_cycle-by_last c.answered_by_dtack (λ i. is_answered_by_dtack t stretch i j) (λ k. k.answered_by_dtack)
         ∙ before-is still (λ i. is_answered_by_dtack t stretch i j)
 
 -- for the goals of the questions that the state answers
@@ -708,15 +780,15 @@ any-later p f (suc n) = rw (any-later p f n) (more (those p f n) (nat_le f n && 
     more (r ∷ rs) b = refl
 
 -- a line that was low stays so while it is known and doesn't rise
-stays-along : (t : Trace) (l i k : ℕ) → low t l i ≡ true → i ≤ k → ((r : ℕ) → i < r → r ≤ k → known t l r ≡ true)
+low-stays : (t : Trace) (l i k : ℕ) → low t l i ≡ true → i ≤ k → ((r : ℕ) → i < r → r ≤ k → known t l r ≡ true)
     → ((r : ℕ) → i < r → r ≤ k → rises t l r ≡ false) → low t l k ≡ true
-stays-along t l i zero starts order knows still = let same : 0 ≡ i = omega arith in ap (low t l) same ∙ starts
-stays-along t l i (suc k) starts order knows still =
-    elim (last_or_before i (suc k) (omega arith)) [
+low-stays t l i zero starts order knows still = let same : 0 ≡ i = omega arith in ap (low t l) same ∙ starts
+low-stays t l i (suc k) starts order knows still =
+    elim (eq-or_below i (suc k) (omega arith)) [
       | inl same ↦ ap (low t l) (sym same) ∙ starts
       | inr before ↦
           let back : k ≡ suc k - 1 = omega arith in
-          let earlier = stays-along t l i k starts (omega arith) (λ r a b. knows r a (omega arith))
+          let earlier = low-stays t l i k starts (omega arith) (λ r a b. knows r a (omega arith))
           (λ r a b. still r a (omega arith)) in
           stays-low t l (suc k) (ap (low t l) (sym back) ∙ earlier) (still (suc k) before (omega arith))
           (knows (suc k) before (omega arith))
@@ -724,6 +796,7 @@ stays-along t l i (suc k) starts order knows still =
 
 -- the lines that a cycle needs are those that the levels at its start need
 module _ (t : Trace) (start : ℕ) where
+  -- a line is within what a cycle needs exactly if the levels at its start need it
   pub needed-at : (needs : Needs) (l : ℕ) → needs ≡ needs_of (levels_at t start) → is_within needs l
       ≡ is_needed (levels_at t start) l
   unfolding is_needed
@@ -734,8 +807,9 @@ module _ (t : Trace) (stretch : Stretch) (is : IsStretchOf t stretch) where
   strobe-rose : (i k : ℕ) → transfer_starts t stretch i ≡ true → i < k → k < stretch.end → strobes_high t k ≡ true
       → any (strobe_rises t) (i + 1) (k + 1) ≡ true
   unfolding transfer_starts low high
-  strobe-rose i k start before end high_there = decide (any (strobe_rises t) (i + 1) (k + 1)) (λ e. e) (λ none. absurd
-      (high-and-low (level t DS0 k) (level t DS1 k) high_there
+  strobe-rose i k start before end high_there =
+      by_either_value (any (strobe_rises t) (i + 1) (k + 1)) (λ e. e) (λ none. absurd
+      (not-high_and_low (level t DS0 k) (level t DS1 k) high_there
       (by_low (low t DS0 i) (low t DS1 i) parts.1 refl refl (quiet none))))
     where
       reads : ReadsStrobes t stretch
@@ -745,7 +819,7 @@ module _ (t : Trace) (stretch : Stretch) (is : IsStretchOf t stretch) where
       parts = and_parts (is_judged stretch i && strobes_high t (i - 1)) (low t DS0 i || low t DS1 i) start
 
       from : stretch.start + 1 ≤ i
-      from = after_start stretch i (and_parts (is_judged stretch i) (strobes_high t (i - 1)) parts.0).0
+      from = is_judged-after_start stretch i (and_parts (is_judged stretch i) (strobes_high t (i - 1)) parts.0).0
 
       quiet : any (strobe_rises t) (i + 1) (k + 1) ≡ false → (r : ℕ) → i < r → r ≤ k
           → (rises t DS0 r ≡ false) × (rises t DS1 r ≡ false)
@@ -755,81 +829,93 @@ module _ (t : Trace) (stretch : Stretch) (is : IsStretchOf t stretch) where
       by_low : (a b : Bool) → (a || b) ≡ true → low t DS0 i ≡ a → low t DS1 i ≡ b
           → ((r : ℕ) → i < r → r ≤ k → (rises t DS0 r ≡ false) × (rises t DS1 r ≡ false))
           → (low t DS0 k || low t DS1 k) ≡ true
-      by_low true b h e f still = rw (stays-along t DS0 i k e (omega arith)
+      by_low true b h e f still = rw (low-stays t DS0 i k e (omega arith)
           (λ r a b. reads.first r (omega (arith, from)) (omega arith)) (λ r a b. (still r a b).0)) refl
-      by_low false true h e f still = rw (stays-along t DS1 i k f (omega arith)
+      by_low false true h e f still = rw (low-stays t DS1 i k f (omega arith)
           (λ r a b. reads.second r (omega (arith, from)) (omega arith)) (λ r a b. (still r a b).1))
           (or-true (low t DS0 k))
       by_low false false h e f still = absurd (cc)
 
   module _ (j : ℕ) (judged : is_judged stretch j ≡ true) where
-    before_end : j < stretch.end
-    before_end = ltb-true j stretch.end (and_parts (nat_lt stretch.start j) (nat_lt j stretch.end) judged).1
+    -- a judged instant is before the end of the stretch
+    judged-before_end : j < stretch.end
+    judged-before_end = ltb-true j stretch.end (and_parts (nat_lt stretch.start j) (nat_lt j stretch.end) judged).1
 
     -- ---- the direction of a transfer
+    -- the transfer that starts at i holds the direction at j: no strobe rose since
     abbrev directs : ℕ → Bool
     directs i = transfer_starts t stretch i && none (strobe_rises t) (i + 1) (j + 1)
 
     -- a transfer doesn't hold the direction if both strobes were high since its start
-    closed-not : (i : ℕ) → any (strobes_high t) (i + 1) j ≡ true → transfer_starts t stretch i ≡ true → directs i
+    directs-not_closed : (i : ℕ) → any (strobes_high t) (i + 1) j ≡ true → transfer_starts t stretch i ≡ true
+        → directs i
         ≡ false
-    closed-not i closed start =
+    directs-not_closed i closed start =
         let some = any-least (strobes_high t) (i + 1) j closed in
         let found = least-found (strobes_high t) (i + 1) j some.0 some.1 in
         let first = found.first in
         let below = found.below in
         rw (
-          longer (strobe_rises t) (i + 1) (some.0 + 1) (j + 1) (omega arith)
-              (strobe-rose i some.0 start (omega arith) (omega (arith, before_end)) found.holds),
+          any-longer (strobe_rises t) (i + 1) (some.0 + 1) (j + 1) (omega arith)
+              (strobe-rose i some.0 start (omega arith) (omega (arith, judged-before_end)) found.holds),
           start,
         ) refl
 
+    -- if each transfer has closed, none holds the direction
     direction-none : AreClosed t stretch (j + 1) j → any directs (stretch.start + 1) j ≡ false
     direction-none closed = fails-any directs (stretch.start + 1) j
-        (λ i a b. unless (transfer_starts t stretch i) _ (λ e. closed-not i (closed i (omega arith) e) e))
+        (λ i a b. and-fails_unless (transfer_starts t stretch i) _
+        (λ e. directs-not_closed i (closed i (omega arith) e) e))
 
+    -- the open transfer holds the direction exactly if it started before j and no strobe rose since
     direction-last : (c : Transfer) → IsOpenTransfer t stretch (j + 1) j c
         → any directs (stretch.start + 1) j ≡ (nat_lt c.start j && none (strobe_rises t) (c.start + 1) (j + 1))
     direction-last c h =
         let found = greatest-found (transfer_starts t stretch) (stretch.start + 1) (j + 1) c.start h.last in
         let within = found.before in
         only-last (transfer_starts t stretch) directs (stretch.start + 1) j c.start found (λ i e. rw e refl)
-        (λ i before e. closed-not i (longer (strobes_high t) (i + 1) c.start j (omega arith)
+        (λ i before e. directs-not_closed i (any-longer (strobes_high t) (i + 1) c.start j (omega arith)
         (high-between t stretch i c.start before e found.holds)) e)
         ∙ ap (λ b. nat_lt c.start j && (b && none (strobe_rises t) (c.start + 1) (j + 1))) found.holds
 
+    -- some transfer holds the direction at j exactly if the fields of the open one say so
     pub direction-is : (c : Transfer) → IsTransfer t stretch (j + 1) j c → (r : Bool)
         → (IsOpenTransfer t stretch (j + 1) j c → r ≡ any (strobe_rises t) (c.start + 1) (j + 1))
         → (c.is_open && nat_lt c.start j && not r) ≡ any directs (stretch.start + 1) j
-    direction-is c is r rose = decide c.is_open
+    direction-is c is r rose = by_either_value c.is_open
         (λ e. rw e (ap (λ b. nat_lt c.start j && not b) (rose (is.here e)) ∙ sym (direction-last c (is.here e))))
         (λ e. rw e (sym (direction-none (is.absent e))))
 
     -- ---- a line that a cycle needs
     module _ (l : ℕ) where
+      -- the cycle that starts at i needs the line at j: it runs and isn't answered up to j
       abbrev needs : ℕ → Bool
       needs i = cycle_starts t stretch i && cycle_runs t stretch i j && none (is_answer t stretch) i (j + 1)
           && is_needed
           (levels_at t i) l
 
-      not-there : (i : ℕ) → cycle_starts t stretch i ≡ false → needs i ≡ false
-      not-there i h = rw h refl
+      -- where no cycle starts, none needs the line
+      needs-not_without_start : (i : ℕ) → cycle_starts t stretch i ≡ false → needs i ≡ false
+      needs-not_without_start i h = rw h refl
 
-      ended : (i : ℕ) → none (rises t AS) (i + 1) j ≡ false → needs i ≡ false
+      -- a cycle that has ended doesn't need the line
+      needs-not_after_end : (i : ℕ) → none (rises t AS) (i + 1) j ≡ false → needs i ≡ false
       unfolding cycle_runs
-      ended i h = rw (stays-ended (rises t AS) i j h) (off (cycle_starts t stretch i))
+      needs-not_after_end i h = rw (none-stays_false (rises t AS) i j h) (off (cycle_starts t stretch i))
         where
           off : (a : Bool) → (a && false && none (is_answer t stretch) i (j + 1) && is_needed (levels_at t i) l) ≡ false
           off true = refl
           off false = refl
 
+      -- if no cycle has started, none needs the line
       held-none : greatest (cycle_starts t stretch) (stretch.start + 1) (j + 1) ≡ None → any needs (stretch.start + 1) j
           ≡ false
       held-none nowhere = fails-any needs (stretch.start + 1) j
-          (λ i a b. not-there i
+          (λ i a b. needs-not_without_start i
           (any-fails (cycle_starts t stretch) (stretch.start + 1) (j + 1) i (greatest-none-any _ _ _ nowhere) a
           (omega arith)))
 
+      -- only the last cycle may need the line, as its fields say
       held-last : (c : Cycle) → IsLastCycle t stretch (j + 1) j c
           → any needs (stretch.start + 1) j ≡
           (nat_lt c.start j && (c.runs && not (rises t AS j)) && not
@@ -837,8 +923,9 @@ module _ (t : Trace) (stretch : Stretch) (is : IsStretchOf t stretch) where
           && not (is_answer t stretch j) && is_needed (levels_at t c.start) l)
       unfolding answers_of cycle_runs
       held-last c h =
-          only-last (cycle_starts t stretch) needs (stretch.start + 1) j c.start found (λ i e. not-there i e)
-          (λ i before e. ended i (h.others i e before))
+          only-last (cycle_starts t stretch) needs (stretch.start + 1) j c.start found
+          (λ i e. needs-not_without_start i e)
+          (λ i before e. needs-not_after_end i (h.others i e before))
           ∙ (ap (λ b. nat_lt c.start j && b) step ∙ grouped (nat_lt c.start j) _ _ _ _)
         where
           grouped : (n a b x y : Bool) → (n && (a && b && x && y)) ≡ (n && a && b && x && y)
@@ -870,11 +957,12 @@ module _ (t : Trace) (stretch : Stretch) (is : IsStretchOf t stretch) where
               regroup true false x y = refl
               regroup false b x y = refl
 
+      -- some cycle needs the line at j exactly if the fields of the last one say so
       pub held-is : (c : Cycle) → IsCycle t stretch (j + 1) j c → (ri an ne : Bool) → ri ≡ rises t AS j
           → an ≡ is_answer t stretch j → ne ≡ is_within c.needs l
           → (c.has_started && nat_lt c.start j && (c.runs && not ri) && not c.answered && not an && ne)
           ≡ any needs (stretch.start + 1) j
-      held-is c is ri an ne r a n = rw (r, a, n) (decide c.has_started
+      held-is c is ri an ne r a n = rw (r, a, n) (by_either_value c.has_started
           (λ e. let w = is.here e in
           rw (e, w.answered, needed-at t c.start c.needs l w.needs) (sym (held-last c w)))
           (λ e. rw e (sym (held-none (is.absent e)))))
@@ -882,18 +970,22 @@ module _ (t : Trace) (stretch : Stretch) (is : IsStretchOf t stretch) where
 -- ---- The parts of a rule, as the code tests them and as they are defined.
 
 module _ {s : Bool} (its_line : s ≡ true) {a b x y : Bool} (first : a ≡ x) (second : b ≡ y) where
-  pub two : (a && b) ≡ (s && x && y)
-  two = rw (its_line, first, second) refl
+  -- a rule of two parts on its line, by the tests of its parts
+  pub and-two_parts : (a && b) ≡ (s && x && y)
+  and-two_parts = rw (its_line, first, second) refl
 
-  pub net : {c z : Bool} → c ≡ z → (a && b && c) ≡ ((s && x) && y && z)
-  net third = rw (its_line, first, second, third) refl
+  -- a rule of three parts on its line, by the tests of its parts
+  pub and-three_parts : {c z : Bool} → c ≡ z → (a && b && c) ≡ ((s && x) && y && z)
+  and-three_parts third = rw (its_line, first, second, third) refl
 
-pub either : {a b x y : Bool} → a ≡ x → b ≡ y → (a || b) ≡ (x || y)
-either e f = rw (e, f) refl
+-- a rule that is broken in one of two ways, by the tests of these
+pub or-two_parts : {a b x y : Bool} → a ≡ x → b ≡ y → (a || b) ≡ (x || y)
+or-two_parts e f = rw (e, f) refl
 
-pub turned : (a b : Bool) → a ≡ not b → b ≡ not a
-turned a true h = rw h refl
-turned a false h = rw h refl
+-- if a is the contrary of b, b is that of a
+pub not-swapped : (a b : Bool) → a ≡ not b → b ≡ not a
+not-swapped a true h = rw h refl
+not-swapped a false h = rw h refl
 
 -- for the arms of `is_broken`
 pub ruleset asked = (

@@ -31,14 +31,15 @@ use Rattle.vme_cert.specs.Instant.{starts_transfer}
 use Rattle.vme_cert.specs.State.{IsOpenTransfer, IsTransfer}
 use Rattle.vme_cert.specs.declared.state.Transfer.{Transfer}
 use Rattle.vme_cert.proofs.Comparing.{begun-compared, compare_row-compared, compare_row-given, compared-fewer}
-use Rattle.vme_cert.proofs.Comparing.{compared-on, slice_get-front}
-use Rattle.vme_cert.proofs.Fields.{low-no_fall, stays-low, answers-is, is_answer-is, starts-is, high-and-low}
+use Rattle.vme_cert.proofs.Comparing.{compared-on, slice_get-first_list}
+use Rattle.vme_cert.proofs.Fields.{low-no_fall, stays-low, answers-is, is_answer-is, starts-is, not-high_and_low}
 use Rattle.vme_cert.proofs.Fields.{high-between, answer-is, fall-low, no-fall}
-use Rattle.vme_cert.proofs.Placing.{cycle-place, next-count, row_after, rows_in-append, rows_in-length, tenure-place}
+use Rattle.vme_cert.proofs.Placing.{cycle-place, next-count, rows_in-row_after, rows_in-append, rows_in-length}
+use Rattle.vme_cert.proofs.Placing.{tenure-place}
 use Rattle.vme_cert.proofs.Placing.{transfer-place}
-use Rattle.vme_cert.proofs.Ranges.{same_value, any-more, any-start, greatest-found, after_start}
-use Rattle.vme_cert.proofs.Ranges.{greatest-here, greatest-not, decide}
-use Rattle.vme_cert.proofs.Ranges.{case_of, unjudged}
+use Rattle.vme_cert.proofs.Ranges.{Some-injective, any-more, any-start, greatest-found, is_judged-after_start}
+use Rattle.vme_cert.proofs.Ranges.{greatest-here, greatest-not, by_either_value}
+use Rattle.vme_cert.proofs.Ranges.{by_option, is_judged-not_up_to_start}
 use Rattle.vme_cert.proofs.Instant.{address-known, control-known}
 
 -- the last edge of a row may be set before or after the row is put in a version
@@ -175,7 +176,8 @@ module _ {Whole Source : Type 0} {gave : Whole → Source → List Row → Type 
       let more = rows_in v (expected_rows ++ expected ∷ []) in
       let begun = begun-compared b g.more more (λ n. n == row.place) closed_all g.extends
       (λ n below. ap (λ (xs : List Row). slice_get xs n) (rows_in-append v expected_rows (expected ∷ []))
-      ∙ slice_get-front all (rows_in v (expected ∷ [])) n (omega (arith, below, upto, rows_in-length v expected_rows)))
+      ∙ slice_get-first_list all (rows_in v (expected ∷ [])) n
+      (omega (arith, below, upto, rows_in-length v expected_rows)))
       (λ n off. (each_off (is_at old.tenure n) (is_at old.cycle n) (is_at old.transfer n), off)) in
       let is : row.expected ≡ row_in v expected = b.expected_is ∙ ap (λ (w : Version). row_in w expected)
       (s3.version ∙ (s2.version ∙ (s1.version ∙ h.version_is))) in
@@ -187,7 +189,8 @@ module _ {Whole Source : Type 0} {gave : Whole → Source → List Row → Type 
         compared = compared-fewer (λ n. false) (compare_row-compared s4 begun (
           omega (arith, b.place, b.taken),
           g.given_is ∙ ap (slice_get g.more) (sym b.place),
-          ap (slice_get more) (b.place ∙ upto) ∙ (row_after v expected_rows [] expected ∙ ap (λ (r : Row). Some r)
+          ap (slice_get more) (b.place ∙ upto)
+              ∙ (rows_in-row_after v expected_rows [] expected ∙ ap (λ (r : Row). Some r)
               (sym (ap (λ (r : Row). with_edge r None) is ∙ (with_edge-in v expected None ∙ ap (row_in v) edge)))),
         )) (λ n off. and-not_self (n == row.place));
         tenure = tt;
@@ -205,7 +208,7 @@ module _ {Whole Source : Type 0} {gave : Whole → Source → List Row → Type 
 
 -- the least of a range stays so in a longer one, if none of the added numbers meets `p`
 least-longer : (p : ℕ → Bool) (f m n : ℕ) → m ≤ n → ((r : ℕ) → m ≤ r → r < n → p r ≡ false) → least p f n ≡ least p f m
-least-longer p f m n order later = case_of (least p f m)
+least-longer p f m n order later = by_option (least p f m)
     (λ e. rw e (least-none p f n (fails-any p f n (λ r a b. elim (cases_lt r m) [
       | inl below ↦ any-fails p f m r (least-none-any p f m e) a below
       | inr from ↦ later r from b
@@ -296,7 +299,7 @@ module _ (t : Trace) (stretch : Stretch) where
         → At (j + 1) j j (Some row)
     transfer-new row expected here places = record {
       start = j;
-      last = greatest-here (transfer_starts t stretch) (stretch.start + 1) j (after_start stretch j judged)
+      last = greatest-here (transfer_starts t stretch) (stretch.start + 1) j (is_judged-after_start stretch j judged)
           (starts-is t stretch j judged ∙ here);
       still = any-start (strobes_high t) (j + 1) j (omega arith);
       expected = places;
@@ -335,7 +338,7 @@ module _ (t : Trace) (stretch : Stretch) where
     -- a transfer that is answered is the open one of the state
     pub is-opened : (c : Transfer) → IsTransfer t stretch (j + 1) j c → is_answer t stretch j ≡ true
         → IsOpenTransfer t stretch (j + 1) j c
-    is-opened c is here = decide c.is_open is.here (λ e. absurd (clash (is_answer t stretch j) here
+    is-opened c is here = by_either_value c.is_open is.here (λ e. absurd (clash (is_answer t stretch j) here
         (sym (answer-is t stretch j judged c is) ∙ ap (λ b. b && (answer_falls t j && not c.answered)) e)))
 
     -- if no cycle has started, the answer isn't listed
@@ -377,7 +380,7 @@ module _ (t : Trace) (stretch : Stretch) where
               ∙ h.expected end from within;
           known = λ end edge. rw answer (known end edge
               ∙ ap (λ i. with_edge (row_in v (transfer_row t stretch end i (Some j))) edge)
-              (same_value c.start h.start (sym opened.last ∙ h.last)));
+              (Some-injective c.start h.start (sym opened.last ∙ h.last)));
         }
 
     -- where both strobes are high the close of the transfer is known
@@ -402,7 +405,8 @@ module _ (t : Trace) (stretch : Stretch) where
             by_order : (h.start < j) ⊎ (j ≤ h.start) → h.start < j
             by_order (inl less) = less
             by_order (inr from) = let e : h.start ≡ j = omega arith in
-                absurd (high-and-low (level t DS0 j) (level t DS1 j) high (ap (λ k. low t DS0 k || low t DS1 k) (sym e)
+                absurd (not-high_and_low (level t DS0 j) (level t DS1 j) high
+                (ap (λ k. low t DS0 k || low t DS1 k) (sym e)
                 ∙ (and_parts (is_judged stretch h.start && strobes_high t (h.start - 1)) _ starts).1))
 
         by_edge : (end : ℕ) (edge : Option ℕ) → least (strobes_high t) (h.start + 1) end ≡ edge
@@ -828,15 +832,15 @@ module _ (t : Trace) (stretch : Stretch) where
   -- no row starts before the stretch, and at its start only a tenure
   cycles-none : (end i : ℕ) → i ≤ stretch.start → cycle_rows t stretch end i ≡ []
   unfolding cycle_rows cycle_starts
-  cycles-none end i h = rw (unjudged stretch i h) refl
+  cycles-none end i h = rw (is_judged-not_up_to_start stretch i h) refl
 
   transfers-none : (end i : ℕ) → i ≤ stretch.start → transfer_rows t stretch end i ≡ []
   unfolding transfer_rows transfer_starts
-  transfers-none end i h = rw (unjudged stretch i h) refl
+  transfers-none end i h = rw (is_judged-not_up_to_start stretch i h) refl
 
   tenures-none : (end i : ℕ) → i < stretch.start → tenure_rows t stretch end i ≡ []
   unfolding tenure_rows tenure_starts
-  tenures-none end i h = rw (other i h, unjudged stretch i (omega arith)) refl
+  tenures-none end i h = rw (other i h, is_judged-not_up_to_start stretch i (omega arith)) refl
     where
       other : (i : ℕ) → i < stretch.start → (i == stretch.start) ≡ false
       other i h = grind (arith, nat_tests)
@@ -861,7 +865,7 @@ module _ (t : Trace) (stretch : Stretch) where
 
   free-there : (end : ℕ) → low t BBSY stretch.start ≡ false → tenure_rows t stretch end stretch.start ≡ []
   unfolding tenure_rows tenure_starts
-  free-there end free = rw (same, free, unjudged stretch stretch.start (omega arith)) refl
+  free-there end free = rw (same, free, is_judged-not_up_to_start stretch stretch.start (omega arith)) refl
 
   counted : (v : Version) (done : List Row) → count_before v done t stretch (stretch.start + 1)
       ≡ length done + 1 + length (tenure_rows t stretch stretch.start stretch.start)
@@ -905,7 +909,7 @@ module _ {Whole Source : Type 0} {gave : Whole → Source → List Row → Type 
           ap (λ (rows : List Row). slice_get (rows_in v rows) n) (sym
           (append_assoc done (Start stretch.start ∷ []) rest))
           ∙ (ap (λ (rows : List Row). slice_get rows n) (rows_in-append v front rest)
-          ∙ slice_get-front (rows_in v front) (rows_in v rest) n
+          ∙ slice_get-first_list (rows_in v front) (rows_in v rest) n
           (omega (arith, below, h.taken_is, rows_in-length v front)))
 
   no_cycle : IsOpenAt v done t stretch AS (stretch.start + 1) old.cycle

@@ -14,10 +14,11 @@ use Rattle.vme_cert.specs.Vocabulary.{is_high, is_within, least, level_at, low, 
 use Rattle.vme_cert.specs.Vocabulary.{rows_before, rows_in, tenure_level, tenure_row, tenure_rows, tenure_slot}
 use Rattle.vme_cert.specs.Vocabulary.{tenure_starts, transfer_rows, transfer_starts, without_data}
 use Rattle.vme_cert.specs.Following.{count_before, count_with_cycle, count_with_tenure, expected_to}
-use Rattle.vme_cert.proofs.Ranges.{last_or_before}
+use Rattle.vme_cert.proofs.Ranges.{eq-or_below}
 
 -- ---- The address of a cycle, line by line.
 
+-- the weight of the next address line is twice as much
 pub next-weight : (n : ℕ) → 2 ^ (n + 1) ≡ 2 * 2 ^ n
 next-weight n = rw add-one (pow-succ' 2 n)
 
@@ -26,13 +27,15 @@ pub weight_below : (n : ℕ) → n < 31 → 2 * 2 ^ n ≤ 2147483648
 weight_below n h = let e = pow-succ' 2 n in let up : 2 ^ suc n ≤ 2 ^ 31 = pow-le-pow_right {n = 2} (lit< tt) {i = suc n}
     {j = 31} (omega arith) in omega (arith, e, up)
 
+-- the weight of an address line isn't cut by 32 bits
 pub weight-is : (n : ℕ) → n < 31 → 2 * 2 ^ n % 4294967296 ≡ 2 * 2 ^ n
 weight-is n h = let below = weight_below n h in mod-eq_of_lt (omega (arith, below))
 
-pub address-below : (v : Levels) (n : ℕ) → address_to v n < 2 ^ (n + 1)
-address-below v zero = lit< tt
-address-below v (suc n) = by_test (is_high (level_at v (A (suc n)))) (next-weight n) (next-weight (suc n))
-    (pow-succ' 2 n) (address-below v n)
+-- the address on lines 1 to n is below 2 ^ (n + 1)
+pub address_to-bound : (v : Levels) (n : ℕ) → address_to v n < 2 ^ (n + 1)
+address_to-bound v zero = lit< tt
+address_to-bound v (suc n) = by_test (is_high (level_at v (A (suc n)))) (next-weight n) (next-weight (suc n))
+    (pow-succ' 2 n) (address_to-bound v n)
   where
     by_test : (b : Bool) → 2 ^ (n + 1) ≡ 2 * 2 ^ n → 2 ^ (suc n + 1) ≡ 2 * 2 ^ suc n → 2 ^ suc n ≡ 2 * 2 ^ n
         → address_to v n < 2 ^ (n + 1) → address_to v n + (if b then 2 ^ suc n else 0) < 2 ^ (suc n + 1)
@@ -40,29 +43,35 @@ address-below v (suc n) = by_test (is_high (level_at v (A (suc n)))) (next-weigh
     by_test false e f g below = omega arith
 
 -- an address line that is needed is at most the highest one
-pub address_line : (needs : Needs) (n : ℕ) → n < 31 → is_within needs (A (n + 1)) ≡ true → n + 1 ≤ needs.highest
-address_line needs n h e = by_highest needs.modifier needs.highest e
+pub is_within-address_line : (needs : Needs) (n : ℕ) → n < 31 → is_within needs (A (n + 1)) ≡ true
+    → n + 1 ≤ needs.highest
+is_within-address_line needs n h e = by_highest needs.modifier needs.highest e
   where
     by_highest : (m : Bool) (k : ℕ)
         → ((A (n + 1) == 5) || (m && ((nat_le 6 (A (n + 1)) && nat_le (A (n + 1)) 11) || (A (n + 1) == 12))) ||
         (nat_le 14 (A (n + 1)) && nat_le (A (n + 1)) (13 + k))) ≡ true → n + 1 ≤ k
     by_highest m k e = grind (arith, nat_tests)
 
-pub no_address_line : (needs : Needs) (n : ℕ) → n < 31 → is_within needs (A (n + 1)) ≡ false → needs.highest ≤ n
-no_address_line needs n h e = by_highest needs.modifier needs.highest e
+-- an address line that isn't needed is above the highest one
+pub is_within-no_address_line : (needs : Needs) (n : ℕ) → n < 31 → is_within needs (A (n + 1)) ≡ false
+    → needs.highest ≤ n
+is_within-no_address_line needs n h e = by_highest needs.modifier needs.highest e
   where
     by_highest : (m : Bool) (k : ℕ)
         → ((A (n + 1) == 5) || (m && ((nat_le 6 (A (n + 1)) && nat_le (A (n + 1)) 11) || (A (n + 1) == 12))) ||
         (nat_le 14 (A (n + 1)) && nat_le (A (n + 1)) (13 + k))) ≡ false → k ≤ n
     by_highest m k e = grind (arith, nat_tests)
 
-pub with_high : (v : Levels) (n : ℕ) → is_high (level_at v (A (n + 1))) ≡ true → address_to v (n + 1) ≡ address_to v n +
+-- the address up to a line that is high is that below it, and the weight of the line
+pub address_to-high_line : (v : Levels) (n : ℕ) → is_high (level_at v (A (n + 1))) ≡ true → address_to v (n + 1)
+    ≡ address_to v n +
     2 * 2 ^ n
-with_high v n h = rw add-one (rw (rw add-one at h) (ap (λ w. address_to v n + w) (pow-succ' 2 n)))
+address_to-high_line v n h = rw add-one (rw (rw add-one at h) (ap (λ w. address_to v n + w) (pow-succ' 2 n)))
 
-pub without_high : (v : Levels) (n : ℕ) → is_high (level_at v (A (n + 1))) ≡ false → address_to v (n + 1)
+-- the address up to a line that isn't high is that below it
+pub address_to-other_line : (v : Levels) (n : ℕ) → is_high (level_at v (A (n + 1))) ≡ false → address_to v (n + 1)
     ≡ address_to v n
-without_high v n h = rw add-one (rw (rw add-one at h) (add-zero (address_to v n)))
+address_to-other_line v n h = rw add-one (rw (rw add-one at h) (add-zero (address_to v n)))
 
 -- the row of a cycle by the address on the lines that it needs
 pub addressed-row : (i : ℕ) (v : Levels) (end : Option ℕ) (k : Class) → class_of v ≡ k → (k ≡ class.I → ⊥)
@@ -82,19 +91,21 @@ interrupt-highest v e = rw e refl
 -- ---- The place of an expected row: how many rows start before an instant doesn't depend on the
 -- end, and they come first.
 
--- the expected rows in the version of a listing
+-- the rows of two lists, put in a version, are those of the first list and then those of the second
 pub rows_in-append : (v : Version) (xs ys : List Row) → rows_in v (xs ++ ys) ≡ rows_in v xs ++ rows_in v ys
 unfolding rows_in
 rows_in-append One xs ys = map-append without_data xs ys
 rows_in-append Two xs ys = refl
 rows_in-append Three xs ys = refl
 
+-- the first of some rows, put in a version, is the first row put in it
 pub rows_in-first : (v : Version) (row : Row) (rows : List Row) → rows_in v (row ∷ rows) ≡ row_in v row ∷ rows_in v rows
 unfolding rows_in
 rows_in-first One row rows = refl
 rows_in-first Two row rows = refl
 rows_in-first Three row rows = refl
 
+-- as many rows are put in a version as there are
 pub rows_in-length : (v : Version) (xs : List Row) → length (rows_in v xs) ≡ length xs
 unfolding rows_in
 rows_in-length One xs = length-map xs without_data
@@ -102,23 +113,27 @@ rows_in-length Two xs = refl
 rows_in-length Three xs = refl
 
 -- the row after the rows `xs`
-pub row_after : (v : Version) (xs ys : List Row) (row : Row) → slice_get (rows_in v (xs ++ row ∷ ys)) (length xs)
+pub rows_in-row_after : (v : Version) (xs ys : List Row) (row : Row)
+    → slice_get (rows_in v (xs ++ row ∷ ys)) (length xs)
     ≡ Some (row_in v row)
-row_after v xs ys row =
+rows_in-row_after v xs ys row =
     ap (slice_get (rows_in v (xs ++ row ∷ ys))) (sym (rows_in-length v xs))
     ∙ (ap (λ (rows : List Row). slice_get rows (length (rows_in v xs))) (rows_in-append v xs (row ∷ ys)
     ∙ ap (λ (rows : List Row). rows_in v xs ++ rows) (rows_in-first v row ys))
     ∙ slice_get-here (rows_in v xs) (row_in v row) (rows_in v ys))
 
-same_length : (b : Bool) (x y : Row) → length (cond b (x ∷ []) []) ≡ length (cond b (y ∷ []) [])
-same_length true x y = refl
-same_length false x y = refl
+-- whichever row is there, there is one, if b holds
+length-cond_one_row : (b : Bool) (x y : Row) → length (cond b (x ∷ []) []) ≡ length (cond b (y ∷ []) [])
+length-cond_one_row true x y = refl
+length-cond_one_row false x y = refl
 
-regroup : (a b c d e : List Row) → a ++ b ++ c ++ d ++ e ≡ a ++ (b ++ (c ++ (d ++ e)))
-regroup a b c d e = simp append_assoc
+-- five lists one after the other may be put together from the right
+append-five : (a b c d e : List Row) → a ++ b ++ c ++ d ++ e ≡ a ++ (b ++ (c ++ (d ++ e)))
+append-five a b c d e = simp append_assoc
 
 module _ (t : Trace) (stretch : Stretch) where
   module _ (e f : ℕ) where
+    -- how many tenures start at an instant doesn't depend on the end
     pub tenure-count : (i : ℕ) → length (tenure_rows t stretch e i) ≡ length (tenure_rows t stretch f i)
     unfolding tenure_rows
     tenure-count i = by_test ((i == stretch.start) && low t BBSY i) (tenure_starts t stretch i) _ _ _ _
@@ -136,13 +151,15 @@ module _ (t : Trace) (stretch : Stretch) where
         by_place (Some level) None = refl
         by_place (Some level) (Some slot) = refl
 
+    -- how many cycles start at an instant doesn't depend on the end
     pub cycle-count : (i : ℕ) → length (cycle_rows t stretch e i) ≡ length (cycle_rows t stretch f i)
     unfolding cycle_rows
-    cycle-count i = same_length (cycle_starts t stretch i) _ _
+    cycle-count i = length-cond_one_row (cycle_starts t stretch i) _ _
 
+    -- how many transfers start at an instant doesn't depend on the end
     pub transfer-count : (i : ℕ) → length (transfer_rows t stretch e i) ≡ length (transfer_rows t stretch f i)
     unfolding transfer_rows
-    transfer-count i = same_length (transfer_starts t stretch i) _ _
+    transfer-count i = length-cond_one_row (transfer_starts t stretch i) _ _
 
     -- how many rows start before an instant doesn't depend on the end
     pub rows-count : (j : ℕ) → length (rows_before t stretch e j) ≡ length (rows_before t stretch f j)
@@ -150,6 +167,7 @@ module _ (t : Trace) (stretch : Stretch) where
     rows-count zero = refl
     rows-count (suc j) = simp (length-append, rows-count j, tenure-count j, cycle-count j, transfer-count j)
 
+  -- the rows that start before `j + 1` are those that start before `j`, and those that start at `j`
   rows-next : (end j : ℕ) → rows_before t stretch end (j + 1) ≡ rows_before t stretch end j
       ++ tenure_rows t stretch end j
       ++ cycle_rows t stretch end j ++ transfer_rows t stretch end j
@@ -157,36 +175,38 @@ module _ (t : Trace) (stretch : Stretch) where
   rows-next end j = rw add-one refl
 
   -- the rows that start before `j` are the first of those that start before `n`
-  front : (end j n : ℕ) → j ≤ n → (rest : List Row) × (rows_before t stretch end n ≡ rows_before t stretch end j
+  rows_before-front : (end j n : ℕ) → j ≤ n → (rest : List Row)
+      × (rows_before t stretch end n ≡ rows_before t stretch end j
       ++ rest)
   unfolding rows_before
-  front end j zero h = let e : j ≡ 0 = omega arith in ([], rw e refl)
-  front end j (suc n) h =
-      elim (last_or_before j (suc n) (omega arith)) [
+  rows_before-front end j zero h = let e : j ≡ 0 = omega arith in ([], rw e refl)
+  rows_before-front end j (suc n) h =
+      elim (eq-or_below j (suc n) (omega arith)) [
         | inl e ↦ ([], ap (rows_before t stretch end) (sym e) ∙ sym (append-nil (rows_before t stretch end j)))
         | inr before ↦
-            let (rest, is) = front end j n (omega arith) in
+            let (rest, is) = rows_before-front end j n (omega arith) in
             let new = tenure_rows t stretch end n ++ (cycle_rows t stretch end n ++ transfer_rows t stretch end n) in
             (rest ++ new, simp (is, append_assoc))
       ]
 
   -- the rows are those that start before `j`, those that start at `j`, and then the rest
-  all_rows : (end j : ℕ) → j + 1 ≤ end → (rest : List Row) × (rows_before t stretch end end
+  rows_before-all : (end j : ℕ) → j + 1 ≤ end → (rest : List Row) × (rows_before t stretch end end
       ≡ rows_before t stretch end j
       ++ (tenure_rows t stretch end j ++ (cycle_rows t stretch end j ++ (transfer_rows t stretch end j ++ rest))))
-  all_rows end j h =
-      let (rest, is) = front end (j + 1) end h in (
+  rows_before-all end j h =
+      let (rest, is) = rows_before-front end (j + 1) end h in (
         rest,
         is ∙ (ap (λ (rows : List Row). rows ++ rest) (rows-next end j)
-            ∙ regroup (rows_before t stretch end j) (tenure_rows t stretch end j) (cycle_rows t stretch end j)
+            ∙ append-five (rows_before t stretch end j) (tenure_rows t stretch end j) (cycle_rows t stretch end j)
             (transfer_rows t stretch end j) rest),
       )
 
   module _ (v : Version) (done : List Row) where
     -- a row of the stretch after the rows `xs` is the expected row at `place`, which counts all rows before it
-    row_at : (end : ℕ) (xs ys : List Row) (row : Row) (place : ℕ) → rows_before t stretch end end ≡ xs ++ row ∷ ys
+    expected_to-row : (end : ℕ) (xs ys : List Row) (row : Row) (place : ℕ) → rows_before t stretch end end ≡ xs
+        ++ row ∷ ys
         → length done + 1 + length xs ≡ place → slice_get (expected_to v done t stretch end) place ≡ Some (row_in v row)
-    row_at end xs ys row place is at =
+    expected_to-row end xs ys row place is at =
         let all : done ++ (Start stretch.start ∷ rows_before t stretch end end) ≡
         (done ++ Start stretch.start ∷ xs) ++ row ∷ ys =
         ap (λ (rows : List Row). done ++ (Start stretch.start ∷ rows)) is
@@ -194,26 +214,28 @@ module _ (t : Trace) (stretch : Stretch) where
         ap (λ (rows : List Row). slice_get (rows_in v rows) place) all
         ∙ (ap (slice_get (rows_in v ((done ++ Start stretch.start ∷ xs) ++ row ∷ ys)))
         (sym (length-append done (Start stretch.start ∷ xs) ∙ counted) ∙ refl)
-        ∙ row_after v (done ++ Start stretch.start ∷ xs) ys row)
+        ∙ rows_in-row_after v (done ++ Start stretch.start ∷ xs) ys row)
       where
         counted : length done + length (Start stretch.start ∷ xs) ≡ place
         counted = omega (arith, at)
 
     module _ (end j : ℕ) (h : j + 1 ≤ end) (row : Row) where
-      -- the place of a row that starts at `j` is the number of the expected rows before it
+      -- the place of a tenure that starts at `j` is the number of the expected rows before it
       pub tenure-place : tenure_rows t stretch end j ≡ row ∷ []
           → slice_get (expected_to v done t stretch end) (count_before v done t stretch j) ≡ Some (row_in v row)
       tenure-place is =
-          let (rest, all) = all_rows end j h in
-          row_at end (rows_before t stretch end j) (cycle_rows t stretch end j
+          let (rest, all) = rows_before-all end j h in
+          expected_to-row end (rows_before t stretch end j) (cycle_rows t stretch end j
           ++ (transfer_rows t stretch end j ++ rest)) row _
           (rw is at all) (ap (λ n. length done + 1 + n) (rows-count end j j))
 
+      -- the place of a cycle that starts at `j` is the number of the expected rows before it, the tenure at `j`
+      -- included
       pub cycle-place : cycle_rows t stretch end j ≡ row ∷ []
           → slice_get (expected_to v done t stretch end) (count_with_tenure v done t stretch j) ≡ Some (row_in v row)
       cycle-place is =
-          let (rest, all) = all_rows end j h in
-          row_at end (rows_before t stretch end j ++ tenure_rows t stretch end j)
+          let (rest, all) = rows_before-all end j h in
+          expected_to-row end (rows_before t stretch end j ++ tenure_rows t stretch end j)
           (transfer_rows t stretch end j ++ rest) row _
           (rw is at all ∙ sym (append_assoc (rows_before t stretch end j) (tenure_rows t stretch end j)
           (row ∷ (transfer_rows t stretch end j ++ rest))))
@@ -224,11 +246,14 @@ module _ (t : Trace) (stretch : Stretch) where
             tenure-count end j j,
           ))
 
+      -- the place of a transfer that starts at `j` is the number of the expected rows before it, the tenure and the
+      -- cycle at `j` included
       pub transfer-place : transfer_rows t stretch end j ≡ row ∷ []
           → slice_get (expected_to v done t stretch end) (count_with_cycle v done t stretch j) ≡ Some (row_in v row)
       transfer-place is =
-          let (rest, all) = all_rows end j h in
-          row_at end (rows_before t stretch end j ++ tenure_rows t stretch end j ++ cycle_rows t stretch end j) rest row
+          let (rest, all) = rows_before-all end j h in
+          expected_to-row end (rows_before t stretch end j ++ tenure_rows t stretch end j ++ cycle_rows t stretch end j)
+          rest row
           _
           (rw is at all ∙ simp append_assoc)
           (omega (

@@ -1,4 +1,4 @@
--- Tests on numbers, and searches over a range of numbers.
+-- Tests on numbers, and searches over a range of numbers, also for one number more.
 use Rattle.std.proofs.Common.{◌≡◌, ℕ, ◌+◌, ◌<◌, ◌≤◌, Bool, true, false, ◌&&◌, not, refl, arith, ◌⊎◌, zero, suc}
 use Rattle.std.proofs.Common.{[], ◌∷◌, get_or, sym, ◌∙◌, ap, inl, inr, cond, add-one}
 use Rattle.std.specs.Prelude.{◌==◌, nat_le, nat_lt, Option, None, Some, is_some}
@@ -11,43 +11,52 @@ use Rattle.vme_cert.specs.Vocabulary.{Stretch, any, greatest, is_judged, least, 
 
 -- ---- Tests on numbers, and two tests together.
 
-pub eq_fails : (i j : ℕ) → i < j → (i == j) ≡ false
-eq_fails i j h = grind (arith, nat_tests)
+-- i isn't j, if it is below j
+pub eq-fails_below : (i j : ℕ) → i < j → (i == j) ≡ false
+eq-fails_below i j h = grind (arith, nat_tests)
 
-pub eq_past : (i j : ℕ) → j < i → (i == j) ≡ false
-eq_past i j h = grind (arith, nat_tests)
+-- i isn't j, if it is above j
+pub eq-fails_above : (i j : ℕ) → j < i → (i == j) ≡ false
+eq-fails_above i j h = grind (arith, nat_tests)
 
-pub decide : {P : Type 0} (b : Bool) → (b ≡ true → P) → (b ≡ false → P) → P
-decide true holds fails = holds refl
-decide false holds fails = fails refl
+-- case distinction by a test
+pub by_either_value : {P : Type 0} (b : Bool) → (b ≡ true → P) → (b ≡ false → P) → P
+by_either_value true holds fails = holds refl
+by_either_value false holds fails = fails refl
 
-pub case_of : {A P : Type 0} (o : Option A) → (o ≡ None → P) → ((x : A) → o ≡ Some x → P) → P
-case_of None none some = none refl
-case_of (Some x) none some = some x refl
+-- case distinction by whether an option has a value
+pub by_option : {A P : Type 0} (o : Option A) → (o ≡ None → P) → ((x : A) → o ≡ Some x → P) → P
+by_option None none some = none refl
+by_option (Some x) none some = some x refl
 
-pub order_of : (i k : ℕ) → (i < k) ⊎ ((i ≡ k) ⊎ (k < i))
-order_of i k = grind arith
+-- i is below k, k, or above it
+pub below-same-above : (i k : ℕ) → (i < k) ⊎ ((i ≡ k) ⊎ (k < i))
+below-same-above i k = grind arith
 
-pub last_or_before : (i j : ℕ) → i < j + 1 → (i ≡ j) ⊎ (i < j)
-last_or_before i j h = grind arith
+-- i, if it is below j + 1, is j or below j
+pub eq-or_below : (i j : ℕ) → i < j + 1 → (i ≡ j) ⊎ (i < j)
+eq-or_below i j h = grind arith
 
-pub within_of : (f i n : ℕ) → (nat_le f i && nat_le i n) ≡ true → (f ≤ i) × (i < n + 1)
-within_of f i n h = let both = and_parts (nat_le f i) (nat_le i n) h in
+-- i is from f to n, if the tests say so
+pub range-of_tests : (f i n : ℕ) → (nat_le f i && nat_le i n) ≡ true → (f ≤ i) × (i < n + 1)
+range-of_tests f i n h = let both = and_parts (nat_le f i) (nat_le i n) h in
     let last = leb-true i n both.1 in (leb-true f i both.0, omega arith)
 
-pub unless : (a b : Bool) → (a ≡ true → (a && b) ≡ false) → (a && b) ≡ false
-unless true b h = h refl
-unless false b h = refl
+-- a && b fails, if it does where a holds
+pub and-fails_unless : (a b : Bool) → (a ≡ true → (a && b) ≡ false) → (a && b) ≡ false
+and-fails_unless true b h = h refl
+and-fails_unless false b h = refl
 
 -- ---- A condition on each of the four request levels.
 
-pub each-of : (q : ℕ → Bool) (a b c d : Bool) → a ≡ q 0 → b ≡ q 1 → c ≡ q 2 → d ≡ q 3 → (n : ℕ) → n < 4
+-- a list of four conditions, one of each request level, has at index n that of level n
+pub get_or-four_levels : (q : ℕ → Bool) (a b c d : Bool) → a ≡ q 0 → b ≡ q 1 → c ≡ q 2 → d ≡ q 3 → (n : ℕ) → n < 4
     → get_or (a ∷ b ∷ c ∷ d ∷ []) n false ≡ q n
-each-of q a b c d e f g h zero below = e
-each-of q a b c d e f g h (suc zero) below = f
-each-of q a b c d e f g h (suc (suc zero)) below = g
-each-of q a b c d e f g h (suc (suc (suc zero))) below = h
-each-of q a b c d e f g h (suc (suc (suc (suc n)))) below = absurd (omega arith)
+get_or-four_levels q a b c d e f g h zero below = e
+get_or-four_levels q a b c d e f g h (suc zero) below = f
+get_or-four_levels q a b c d e f g h (suc (suc zero)) below = g
+get_or-four_levels q a b c d e f g h (suc (suc (suc zero))) below = h
+get_or-four_levels q a b c d e f g h (suc (suc (suc (suc n)))) below = absurd (omega arith)
 
 -- ---- What the greatest of a range is.
 
@@ -55,19 +64,21 @@ each-of q a b c d e f g h (suc (suc (suc (suc n)))) below = absurd (omega arith)
 pub none-shorter : (p : ℕ → Bool) (f m n : ℕ) → m ≤ n → any p f n ≡ false → any p f m ≡ false
 none-shorter p f m n h none = fails-any p f m (λ i a b. any-fails p f n i none a (omega arith))
 
-chosen : (b : Bool) (x y z : Option ℕ) → cond b x y ≡ z → ((b ≡ true) × (x ≡ z)) ⊎ ((b ≡ false) × (y ≡ z))
-chosen true x y z h = inl (refl, h)
-chosen false x y z h = inr (refl, h)
+-- a choice that gives z gives it by one of its two values
+cond-value : (b : Bool) (x y z : Option ℕ) → cond b x y ≡ z → ((b ≡ true) × (x ≡ z)) ⊎ ((b ≡ false) × (y ≡ z))
+cond-value true x y z h = inl (refl, h)
+cond-value false x y z h = inr (refl, h)
 
-pub same_value : {A : Type 0} (x y : A) → Some x ≡ Some y → x ≡ y
-same_value x y h = cc
+-- options that are equal have equal values
+pub Some-injective : {A : Type 0} (x y : A) → Some x ≡ Some y → x ≡ y
+Some-injective x y h = cc
 
 -- where there is no greatest, none holds
 pub greatest-none-any : (p : ℕ → Bool) (f n : ℕ) → greatest p f n ≡ None → any p f n ≡ false
 unfolding greatest any
 greatest-none-any p f zero e = refl
 greatest-none-any p f (suc n) e =
-    elim (chosen (nat_le f n && p n) (Some n) (greatest p f n) None e) [
+    elim (cond-value (nat_le f n && p n) (Some n) (greatest p f n) None e) [
       | inl here ↦ absurd (some_is_none n here.1)
       | inr none ↦ rw (greatest-none-any p f n none.1, none.0) refl
     ]
@@ -87,9 +98,9 @@ pub greatest-found : (p : ℕ → Bool) (f n i : ℕ) → greatest p f n ≡ Som
 unfolding greatest any
 greatest-found p f zero i e = absurd (cc)
 greatest-found p f (suc n) i e =
-    elim (chosen (nat_le f n && p n) (Some n) (greatest p f n) (Some i) e) [
+    elim (cond-value (nat_le f n && p n) (Some n) (greatest p f n) (Some i) e) [
       | inl here ↦
-          let same : n ≡ i = same_value n i here.1 in
+          let same : n ≡ i = Some-injective n i here.1 in
           let both = and_parts (nat_le f n) (p n) here.0 in
           let from : f ≤ n = leb-true f n both.0 in
           record {
@@ -106,7 +117,7 @@ greatest-found p f (suc n) i e =
             from = found.from;
             before = omega (arith, found.before);
             holds = found.holds;
-            last = fails-any p (i + 1) (suc n) (λ k a b. elim (last_or_before k n (omega arith)) [
+            last = fails-any p (i + 1) (suc n) (λ k a b. elim (eq-or_below k n (omega arith)) [
               | inl is ↦ ap p is ∙ not_here
               | inr less ↦ any-fails p (i + 1) n k found.last a less
             ]);
@@ -116,9 +127,9 @@ greatest-found p f (suc n) i e =
 -- `greatest` finds `i` if `p` holds at `i` and at no later number before `n`
 pub greatest-is : (p : ℕ → Bool) (f n i : ℕ) → f ≤ i → i < n → p i ≡ true → any p (i + 1) n ≡ false → greatest p f n
     ≡ Some i
-greatest-is p f n i from before holds last = case_of (greatest p f n)
+greatest-is p f n i from before holds last = by_option (greatest p f n)
     (λ e. absurd (clash (p i) holds (any-fails p f n i (greatest-none-any p f n e) from before)))
-    (λ k e. let found = greatest-found p f n k e in e ∙ elim (order_of k i) [
+    (λ k e. let found = greatest-found p f n k e in e ∙ elim (below-same-above k i) [
       | inl less ↦ absurd (clash (p i) holds (any-fails p (k + 1) n i found.last (omega arith) before))
       | inr (inl is) ↦ ap (λ m. Some m) is
       | inr (inr more) ↦ absurd (clash (p k) found.holds (any-fails p (i + 1) n k last (omega arith) found.before))
@@ -128,17 +139,17 @@ greatest-is p f n i from before holds last = case_of (greatest p f n)
 -- exactly if `i` is before `j` and `p` holds at `i`
 pub only-last : (s p : ℕ → Bool) (f j i : ℕ) → IsGreatest s f (j + 1) i → ((k : ℕ) → s k ≡ false → p k ≡ false)
     → ((k : ℕ) → k < i → s k ≡ true → p k ≡ false) → any p f j ≡ (nat_lt i j && p i)
-only-last s p f j i found off earlier = by_order (last_or_before i j found.before)
+only-last s p f j i found off earlier = by_order (eq-or_below i j found.before)
   where
     sooner : (k : ℕ) → k < i → p k ≡ false
-    sooner k before = decide (s k) (earlier k before) (off k)
+    sooner k before = by_either_value (s k) (earlier k before) (off k)
 
     past : (k : ℕ) → i < k → k < j → p k ≡ false
     past k after before = off k (any-fails s (i + 1) (j + 1) k found.last (omega arith) (omega arith))
 
     by_value : i < j → any p f j ≡ p i
-    by_value before = decide (p i) (λ e. any-holds p f j i found.from before e ∙ sym e)
-        (λ e. fails-any p f j (λ k a b. elim (order_of k i) [
+    by_value before = by_either_value (p i) (λ e. any-holds p f j i found.from before e ∙ sym e)
+        (λ e. fails-any p f j (λ k a b. elim (below-same-above k i) [
           | inl less ↦ sooner k less
           | inr (inl same) ↦ ap p same ∙ e
           | inr (inr more) ↦ past k more b
@@ -151,15 +162,17 @@ only-last s p f j i found off earlier = by_order (last_or_before i j found.befor
 
 -- ---- One instant more, or less, of a search.
 
+-- in a range that ends where it starts, or before, no number meets `p`
 pub any-start : (p : ℕ → Bool) (f n : ℕ) → n ≤ f → any p f n ≡ false
 any-start p f n h = fails-any p f n (λ i a b. absurd (omega arith))
 
+-- if no number of a range meets `p`, nor the next one, none of the longer range does
 pub any-more : (p : ℕ → Bool) (f n : ℕ) → any p f n ≡ false → p n ≡ false → any p f (n + 1) ≡ false
 any-more p f n none fails = any-step p f n ∙ rw (none, fails) (and-false (nat_le f n))
 
 -- there is a least number that meets `p` exactly if some number does
 pub any-first : (p : ℕ → Bool) (f n : ℕ) → is_some (least p f n) ≡ any p f n
-any-first p f n = case_of (least p f n) (λ e. rw e (sym (least-none-any p f n e)))
+any-first p f n = by_option (least p f n) (λ e. rw e (sym (least-none-any p f n e)))
     (λ i e. let found = least-found p f n i e in rw e (sym (any-holds p f n i found.first found.below found.holds)))
 
 -- for the goals of a loop that searches a range from its first number on
@@ -167,23 +180,29 @@ pub ruleset steps = (searches, any-start, any-more, none-shorter)
 
 -- ---- A range that is longer by one.
 
-pub after_start : (stretch : Stretch) (j : ℕ) → is_judged stretch j ≡ true → stretch.start + 1 ≤ j
-after_start stretch j judged = let after =
+-- a judged instant is after the start of its stretch
+pub is_judged-after_start : (stretch : Stretch) (j : ℕ) → is_judged stretch j ≡ true → stretch.start + 1 ≤ j
+is_judged-after_start stretch j judged = let after =
     ltb-true stretch.start j (and_parts (nat_lt stretch.start j) (nat_lt j stretch.end) judged).0 in omega arith
 
-pub unjudged : (stretch : Stretch) (i : ℕ) → i ≤ stretch.start → is_judged stretch i ≡ false
-unjudged stretch i h = grind (arith, nat_tests)
+-- no instant up to the start of a stretch is judged
+pub is_judged-not_up_to_start : (stretch : Stretch) (i : ℕ) → i ≤ stretch.start → is_judged stretch i ≡ false
+is_judged-not_up_to_start stretch i h = grind (arith, nat_tests)
 
+-- if the last number of a range meets `p`, it is the greatest that does
 pub greatest-here : (p : ℕ → Bool) (f n : ℕ) → f ≤ n → p n ≡ true → greatest p f (n + 1) ≡ Some n
 unfolding greatest
 greatest-here p f n from here = rw (add-one, le-leb f n from, here) refl
 
+-- if the last number of a range doesn't meet `p`, the greatest that does is that of the shorter range
 pub greatest-not : (p : ℕ → Bool) (f n : ℕ) → p n ≡ false → greatest p f (n + 1) ≡ greatest p f n
 unfolding greatest
 greatest-not p f n not_here = rw (add-one, and_right (nat_le f n) (p n) not_here) refl
 
+-- no number of a range meets `p` exactly if none of the shorter range does, nor the last one
 pub none-step : (p : ℕ → Bool) (f n : ℕ) → f ≤ n → none p f (n + 1) ≡ (none p f n && not (p n))
 none-step p f n from = ap not (any-step p f n) ∙ rw (le-leb f n from) (not_or (any p f n) (p n))
 
-pub later : (stretch : Stretch) (j : ℕ) → is_judged stretch j ≡ true → 1 ≤ j
-later stretch j judged = let after = after_start stretch j judged in omega arith
+-- a judged instant isn't the opening
+pub is_judged-not_opening : (stretch : Stretch) (j : ℕ) → is_judged stretch j ≡ true → 1 ≤ j
+is_judged-not_opening stretch j judged = let after = is_judged-after_start stretch j judged in omega arith

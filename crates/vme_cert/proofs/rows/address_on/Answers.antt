@@ -1,9 +1,10 @@
 -- The address so far is that on the lines before the current one.
 use Rattle.std.proofs.Common.{◌≡◌, ◌+◌, ◌*◌, ◌^◌, ◌%◌, ◌<◌, ◌≤◌, ℕ, sym, ◌∙◌, ap, arith}
 use Rattle.vme_cert.specs.Vocabulary.{Needs, address_to, is_high, is_within, level_at}
-use Rattle.vme_cert.proofs.Placing.{weight_below, weight-is, next-weight, address-below, address_line, no_address_line}
-use Rattle.vme_cert.proofs.Placing.{with_high, without_high}
-use Rattle.vme_cert.proofs.Breaks.{needs_31}
+use Rattle.vme_cert.proofs.Placing.{weight_below, weight-is, next-weight, address_to-bound, is_within-address_line}
+use Rattle.vme_cert.proofs.Placing.{is_within-no_address_line}
+use Rattle.vme_cert.proofs.Placing.{address_to-high_line, address_to-other_line}
+use Rattle.vme_cert.proofs.Breaks.{needs_of-highest_bound}
 use Rattle.vme_cert.proofs.rows.address_on.Goals.{then-is_high, else-is_high}
 use Rattle.vme_cert.proofs.rows.address_on.Goals as goal
 
@@ -13,7 +14,7 @@ overflow_add-address c =
     let few : n < 31 = omega arith in
     let same = weight-is n few in
     let next = next-weight n in
-    let below = address-below c.args.lines.now n in
+    let below = address_to-bound c.args.lines.now n in
     let weight = weight_below n few in
     omega (arith, same, next, below, weight, c.loop-bit.invariant.so_far)
 
@@ -24,18 +25,18 @@ loop-bit-preserved c =
     let same = weight-is n few in
     let shown = ap (λ l. is_high (level_at c.args.lines.now l)) (sym c.address-line.ensures)
     ∙ ap is_high (sym c.level.ensures) ∙ sym c.is_high.ensures in
-    let needed = address_line c.args.needs n few (ap (is_within c.args.needs) (sym c.address-line.ensures)
+    let needed = is_within-address_line c.args.needs n few (ap (is_within c.args.needs) (sym c.address-line.ensures)
     ∙ sym c.has.ensures ∙ c.if-not-has.false) in
     elim c.if-is_high.branch [
       | then-is_high w ↦ record {
         so_far = w.address-is ∙ ap (λ a. a + 2 * 2 ^ n % 4294967296) c.loop-bit.invariant.so_far
             ∙ ap (λ k. address_to c.args.lines.now n + k) same
-            ∙ sym (with_high c.args.lines.now n (shown ∙ w.if-is_high.true));
+            ∙ sym (address_to-high_line c.args.lines.now n (shown ∙ w.if-is_high.true));
         within = needed;
       }
       | else-is_high w ↦ record {
         so_far = w.address-is ∙ c.loop-bit.invariant.so_far
-            ∙ sym (without_high c.args.lines.now n (shown ∙ w.if-is_high.false));
+            ∙ sym (address_to-other_line c.args.lines.now n (shown ∙ w.if-is_high.false));
         within = needed;
       }
     ]
@@ -46,7 +47,8 @@ at_end n m k e h g = omega arith
 pub returns-then-not-has : goal.returns-then-not-has
 returns-then-not-has c =
     let n = c.loop-bit.bit in
-    let past = no_address_line c.args.needs n (omega arith) (ap (is_within c.args.needs) (sym c.address-line.ensures)
+    let past = is_within-no_address_line c.args.needs n (omega arith)
+    (ap (is_within c.args.needs) (sym c.address-line.ensures)
     ∙ sym c.has.ensures ∙ c.if-not-has.true) in
     let e = ap (λ (needs : Needs). needs.highest) c.requires in
     c.loop-bit.invariant.so_far ∙ ap (address_to c.args.lines.now) (at_end n _ _ e c.loop-bit.invariant.within
@@ -55,7 +57,7 @@ returns-then-not-has c =
 pub returns : goal.returns
 returns c =
     let n = c.loop-bit.bit in
-    let most = needs_31 c.args.lines.now in
+    let most = needs_of-highest_bound c.args.lines.now in
     let e = ap (λ (needs : Needs). needs.highest) c.requires in
     c.loop-bit.invariant.so_far ∙ ap (address_to c.args.lines.now) (at_end n _ _ e c.loop-bit.invariant.within
     (omega (arith, most, e)))

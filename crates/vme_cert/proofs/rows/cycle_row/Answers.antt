@@ -1,14 +1,14 @@
 use Rattle.std.proofs.Common.{ap, arith, sym, ◌∙◌}
 use Rattle.std.specs.Prelude.{◌/◌, None}
 use Rattle.vme_cert.specs.Vocabulary.{AddressedCycle, InterruptCycle, address_to, cycle_row, modifier_of}
-use Rattle.vme_cert.proofs.Placing.{address-below, addressed-row, interrupt-highest}
+use Rattle.vme_cert.proofs.Placing.{address_to-bound, addressed-row, interrupt-highest}
 use Rattle.vme_cert.proofs.rows.cycle_row.Goals as goal
 
 pub overflow_cast-level : goal.overflow_cast-level
 overflow_cast-level c =
     let e = c.address_on-address.ensures ∙ ap (address_to c.args.lines.now) (interrupt-highest c.args.lines.now
     (sym c.am_class-class.ensures ∙ c.in-I.is)) in
-    let below = address-below c.args.lines.now 3 in
+    let below = address_to-bound c.args.lines.now 3 in
     omega (arith, e, below)
 
 pub returns-in-I : goal.returns-in-I

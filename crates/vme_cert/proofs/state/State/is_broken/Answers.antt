@@ -15,17 +15,18 @@ unfolding is_broken
 returns-in-G5 c t stretch h =
     let j = c.args.bus.now.instant in
     let level = c.level_of-level.result in
-    rw c.in-G5.is (arms.net (its_line c.args.line c.in-G5.is c.requires.its_line) c.is_first-in-G5.ensures
+    rw c.in-G5.is (arms.and-three_parts (its_line c.args.line c.in-G5.is c.requires.its_line) c.is_first-in-G5.ensures
     (c.falls-in-G5.ensures t h.at)
-    (ap not (arms.either (c.was_requested.ensures ∙ h.holds.requested level c.level_of-level.ensures.below)
+    (ap not (arms.or-two_parts (c.was_requested.ensures ∙ h.holds.requested level c.level_of-level.ensures.below)
     (c.requests.ensures t h.at) ∙ sym (since-asks t stretch (grant_falls t) (low t (BR level)) j h.judged))
     ∙ ap (λ n. none (low t (BR n)) (last_before t stretch (grant_falls t) j) (j + 1)) c.level_of-level.ensures.level))
 
 pub returns-in-B1 : goal.returns-in-B1
 unfolding is_broken
 returns-in-B1 c t stretch h =
-    rw c.in-B1.is (arms.two (its_line c.args.line c.in-B1.is c.requires.its_line) (c.falls-in-B1.ensures t h.at)
-    (arms.turned _ _ c.is_none.ensures ∙ (ap (λ o. not (is_some o)) (c.tenure_level.ensures.level t h.at)
+    rw c.in-B1.is (arms.and-two_parts (its_line c.args.line c.in-B1.is c.requires.its_line)
+    (c.falls-in-B1.ensures t h.at)
+    (arms.not-swapped _ _ c.is_none.ensures ∙ (ap (λ o. not (is_some o)) (c.tenure_level.ensures.level t h.at)
     ∙ ap not (granted-near t c.args.bus.now.instant))))
 
 pub returns-in-S2 : goal.returns-in-S2
@@ -33,6 +34,7 @@ unfolding is_broken
 returns-in-S2 c t stretch h =
     let j = c.args.bus.now.instant in
     let transfer = c.args.self.now.transfer in
-    rw c.in-S2.is (arms.two (its_line c.args.line c.in-S2.is c.requires.its_line) (c.has_edge-in-S2.ensures t h.at)
+    rw c.in-S2.is (arms.and-two_parts (its_line c.args.line c.in-S2.is c.requires.its_line)
+    (c.has_edge-in-S2.ensures t h.at)
     (direction-is t stretch h.is j h.judged transfer h.holds.transfer c.rose_by.result
     (λ w. c.rose_by.ensures t stretch h.at h.judged w)))

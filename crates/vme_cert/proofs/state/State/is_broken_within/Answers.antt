@@ -3,7 +3,7 @@ use Rattle.std.proofs.Common.{◌≡◌, ◌+◌, ◌&&◌, ◌∙◌, ap, false
 use Rattle.std.specs.Prelude.{is_some, nat_le}
 use Rattle.vme_trace.proofs.Ranges.{any-fails}
 use Rattle.vme_cert.specs.Vocabulary.{any, breaks, least}
-use Rattle.vme_cert.proofs.Ranges.{any-first, decide, within_of}
+use Rattle.vme_cert.proofs.Ranges.{any-first, by_either_value, range-of_tests}
 use Rattle.vme_cert.proofs.state.State.is_broken_within.Goals as goal
 
 pub returns : goal.returns
@@ -15,5 +15,6 @@ returns c t stretch l h e unasked knows outside =
     ∙ (sym (ap is_some (c.least_line.ensures t stretch h ∙ (ap (λ k. least p k (c.number-end.result + 1))
     c.number.ensures.number ∙ ap (λ n. least p first (n + 1)) c.number-end.ensures.number)))
     ∙ (sym c.is_some.ensures ∙ e)) in
-    decide (nat_le first l && nat_le l last) (λ within. let (from, below) = within_of first l last within in
+    by_either_value (nat_le first l && nat_le l last)
+    (λ within. let (from, below) = range-of_tests first l last within in
     any-fails p first (last + 1) l none from below) outside

@@ -10,7 +10,7 @@ use Rattle.vme_trace.proofs.Ranges.{clash}
 use Rattle.vme_cert.specs.Vocabulary.{Change, Levels, are_changes, has_line, is_broken, is_changed, level_at}
 use Rattle.vme_cert.specs.Vocabulary.{same_level}
 use Rattle.vme_cert.specs.RulesByLine.{may_be_broken_on}
-use Rattle.vme_cert.proofs.Ranges.{decide}
+use Rattle.vme_cert.proofs.Ranges.{by_either_value}
 use Rattle.vme_cert.proofs.state.State.is_change_broken.Goals as goal
 
 -- one more change adds only its own line to those that are changed
@@ -45,7 +45,7 @@ is_line_broken-requires c =
     let changes = c.args.changes.now in
     let change = c.change-item.result in
     let has = λ (d : Change). has_line bus.before.slots d.line in
-    rw (← bus.same_slots) (decide (has change) (λ e. e)
+    rw (← bus.same_slots) (by_either_value (has change) (λ e. e)
     (λ e. absurd (clash (list_all has changes) (has-lines bus.before 0 changes c.requires.sound)
     (list_all_at has changes c.loop-change.change-index change (omega arith) (ap has (sym c.change-item.is) ∙ e)))))
 

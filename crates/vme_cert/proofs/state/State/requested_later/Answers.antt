@@ -2,14 +2,14 @@ use Rattle.std.proofs.Common.{◌+◌, arith}
 use Rattle.vme_cert.specs.Vocabulary.{BR, grant_falls, low}
 use Rattle.vme_cert.specs.State.{is_requested}
 use Rattle.vme_cert.proofs.Fields.{since-step}
-use Rattle.vme_cert.proofs.Ranges.{each-of}
+use Rattle.vme_cert.proofs.Ranges.{get_or-four_levels}
 use Rattle.vme_cert.proofs.state.State.requested_later.Goals as goal
 
 pub returns : goal.returns
 returns c t stretch at judged is =
     let j = c.args.bus.now.instant in
     let grants = c.grant_falls-keeps.ensures t at in
-    each-of (λ n. is_requested t stretch n (j + 1)) _ _ _ _
+    get_or-four_levels (λ n. is_requested t stretch n (j + 1)) _ _ _ _
     (since-step t stretch (grant_falls t) (low t (BR 0)) j judged (is 0 (omega arith)) grants (c.requests.ensures t at))
     (since-step t stretch (grant_falls t) (low t (BR 1)) j judged (is 1 (omega arith)) grants
     (c.requests-2.ensures t at))
