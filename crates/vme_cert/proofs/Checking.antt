@@ -1,4 +1,5 @@
--- The listing of a recording stretch by stretch, from one instant to the next, and its steps taken one by one.
+-- The listing of a recording is checked stretch by stretch, from one instant to the next, as its steps are taken one by
+-- one.
 use Rattle.std.proofs.Common.{◌≡◌, ℕ, ◌+◌, ◌<◌, ◌≤◌, List, [], ◌∷◌, ◌++◌, refl, sym, ◌∙◌, ap, arith, append_assoc, zero}
 use Rattle.std.proofs.Common.{suc, ◌-◌, true, false, inl, inr, ◌⊎◌, add-one, ◌*◌, map, subst, length-append}
 use Rattle.std.proofs.Common.{not, get_or, length, take, append-nil}
@@ -52,17 +53,21 @@ use Rattle.vme_cert.proofs.Following.{open-last, transfer-last}
 
 module _ (t : Trace) where
   -- a stretch is listed whole, up to `limit`, or not at all
-  whole : (stretch : Stretch) (limit : ℕ) → stretch.start < stretch.end → stretch.end ≤ limit → nat_lt stretch.end limit
+  rows_of_stretch-whole : (stretch : Stretch) (limit : ℕ) → stretch.start < stretch.end → stretch.end ≤ limit
+      → nat_lt stretch.end limit
       ≡ nat_lt stretch.end (last_instant t + 1) → rows_of_stretch t limit stretch ≡ rows_to t stretch stretch.end
       ++ reset_at t
       stretch.end
   unfolding rows_of_stretch
-  whole stretch limit order within same = rw (lt-ltb stretch.start limit (omega arith), min-eq_left within, same) refl
+  rows_of_stretch-whole stretch limit order within same =
+      rw (lt-ltb stretch.start limit (omega arith), min-eq_left within, same) refl
 
-  cut : (stretch : Stretch) (limit : ℕ) → stretch.start < limit → limit ≤ stretch.end → rows_of_stretch t limit stretch
+  -- a stretch in which the limit is, or at its end, is listed up to the limit
+  rows_of_stretch-cut : (stretch : Stretch) (limit : ℕ) → stretch.start < limit → limit ≤ stretch.end
+      → rows_of_stretch t limit stretch
       ≡ rows_to t stretch limit
   unfolding rows_of_stretch
-  cut stretch limit order within =
+  rows_of_stretch-cut stretch limit order within =
       rw (
         lt-ltb stretch.start limit order,
         min-eq_right within,
@@ -71,60 +76,73 @@ module _ (t : Trace) where
       )
       (append-nil (rows_to t stretch limit))
 
-  past : (stretch : Stretch) (limit : ℕ) → limit ≤ stretch.start → rows_of_stretch t limit stretch ≡ []
+  -- a stretch that starts at the limit or later isn't listed
+  rows_of_stretch-past : (stretch : Stretch) (limit : ℕ) → limit ≤ stretch.start → rows_of_stretch t limit stretch ≡ []
   unfolding rows_of_stretch
-  past stretch limit h = rw (le-ltb stretch.start limit h) refl
+  rows_of_stretch-past stretch limit h = rw (le-ltb stretch.start limit h) refl
 
-  is_first : (stretch : Stretch) (stretches : List Stretch) → AreInOrder t (stretch ∷ stretches) → IsStretchOf t stretch
-  is_first stretch [] order = order
-  is_first stretch (next ∷ stretches) order = order.0
+  -- the first of stretches that follow one another is one of the recording
+  IsStretchOf-first : (stretch : Stretch) (stretches : List Stretch) → AreInOrder t (stretch ∷ stretches)
+      → IsStretchOf t stretch
+  IsStretchOf-first stretch [] order = order
+  IsStretchOf-first stretch (next ∷ stretches) order = order.0
 
-  past_all : (stretch : Stretch) (stretches : List Stretch) (limit : ℕ) → AreInOrder t (stretch ∷ stretches)
+  -- if the limit is in the first stretch, those after it aren't listed
+  rows_of_stretches-past : (stretch : Stretch) (stretches : List Stretch) (limit : ℕ)
+      → AreInOrder t (stretch ∷ stretches)
       → limit ≤ stretch.end
       → flat_map (rows_of_stretch t limit) stretches ≡ []
-  past_all stretch [] limit order h = refl
-  past_all stretch (next ∷ stretches) limit order h =
+  rows_of_stretches-past stretch [] limit order h = refl
+  rows_of_stretches-past stretch (next ∷ stretches) limit order h =
       ap (λ (rows : List Row). rows ++ flat_map (rows_of_stretch t limit) stretches)
-      (past next limit (omega (arith, h, order.2)))
-      ∙ past_all next stretches limit order.3
-      (omega (arith, h, order.2, starts_before_end t next (is_first next stretches order.3)))
+      (rows_of_stretch-past next limit (omega (arith, h, order.2)))
+      ∙ rows_of_stretches-past next stretches limit order.3
+      (omega (arith, h, order.2, starts_before_end t next (IsStretchOf-first next stretches order.3)))
 
   -- the least break of a stretch comes after its start, and at its end at the latest
-  broken_later : (stretch : Stretch) (b : Break) → IsStretchOf t stretch → least_break t stretch all_rules ≡ Some b
+  least_break-within_stretch : (stretch : Stretch) (b : Break) → IsStretchOf t stretch → least_break t stretch all_rules
+      ≡ Some b
       → (stretch.start < b.instant) × (b.instant ≤ stretch.end)
-  broken_later stretch b is e = least_break-judged t stretch all_rules b (starts_before_end t stretch is) e
+  least_break-within_stretch stretch b is e =
+      least_break-judged t stretch all_rules b (starts_before_end t stretch is) e
 
   -- the listing ends after the start of the first of the stretches
-  ends_later : (stretch : Stretch) (stretches : List Stretch) → AreInOrder t (stretch ∷ stretches)
+  listed_end-after_start : (stretch : Stretch) (stretches : List Stretch) → AreInOrder t (stretch ∷ stretches)
       → stretch.start < listed_end t
       (least_of all_rules t (stretch ∷ stretches))
-  ends_later stretch [] is = by_option (least_break t stretch all_rules) (λ e. rw e (omega (arith, is.within)))
-      (λ b e. rw e (broken_later stretch b is e).0)
-  ends_later stretch (next ∷ stretches) order =
-      let later = ends_later next stretches order.3 in
+  listed_end-after_start stretch [] is =
+      by_option (least_break t stretch all_rules) (λ e. rw e (omega (arith, is.within)))
+      (λ b e. rw e (least_break-within_stretch stretch b is e).0)
+  listed_end-after_start stretch (next ∷ stretches) order =
+      let later = listed_end-after_start next stretches order.3 in
       by_option (least_break t stretch all_rules)
       (λ e. rw e (omega (arith, later, order.2, starts_before_end t stretch order.0)))
-      (λ b e. rw e (broken_later stretch b order.0 e).0)
+      (λ b e. rw e (least_break-within_stretch stretch b order.0 e).0)
 
-  listed_alone : (stretch : Stretch) → IsStretchOf t stretch → listing_before t (stretch ∷ [])
+  -- the listing of the only stretch is its rows, up to its least break, and the verdict
+  listing_before-one_stretch : (stretch : Stretch) → IsStretchOf t stretch → listing_before t (stretch ∷ [])
       (least_break t stretch all_rules)
       ≡ rows_by t stretch (least_break t stretch all_rules) (Verdict Conforming ∷ [])
-  listed_alone stretch is = by_option (least_break t stretch all_rules)
+  listing_before-one_stretch stretch is = by_option (least_break t stretch all_rules)
       (λ e. rw (
         e,
         append-nil (rows_of_stretch t (last_instant t + 1) stretch),
-        whole stretch (last_instant t + 1) (starts_before_end t stretch is) (ends_within t stretch is) refl,
+        rows_of_stretch-whole stretch (last_instant t + 1) (starts_before_end t stretch is) (ends_within t stretch is)
+            refl,
       )
       (append_assoc (rows_to t stretch stretch.end) (reset_at t stretch.end) (Verdict Conforming ∷ [])))
-      (λ b e. let there = broken_later stretch b is e in
-      rw (e, append-nil (rows_of_stretch t b.instant stretch), cut stretch b.instant there.0 there.1) refl)
+      (λ b e. let there = least_break-within_stretch stretch b is e in
+      rw (e, append-nil (rows_of_stretch t b.instant stretch), rows_of_stretch-cut stretch b.instant there.0 there.1)
+      refl)
 
-  listed : (outcome : ListedVerdict) (stretch : Stretch) (stretches : List Stretch) → AreInOrder t (stretch ∷ stretches)
+  -- the listing of stretches that follow one another is their rows, one after the other
+  listing_before-rows_from : (outcome : ListedVerdict) (stretch : Stretch) (stretches : List Stretch)
+      → AreInOrder t (stretch ∷ stretches)
       → listing_before t (stretch ∷ stretches) (least_of all_rules t (stretch ∷ stretches))
       ≡ rows_from t outcome (stretch ∷ stretches)
-  listed outcome stretch [] is = listed_alone stretch is
-  listed outcome stretch (next ∷ stretches) order = by_break (least_break t stretch all_rules) refl
-      (listed Conforming next stretches order.3)
+  listing_before-rows_from outcome stretch [] is = listing_before-one_stretch stretch is
+  listing_before-rows_from outcome stretch (next ∷ stretches) order = by_break (least_break t stretch all_rules) refl
+      (listing_before-rows_from Conforming next stretches order.3)
     where
       later : Option Break
       later = least_of all_rules t (next ∷ stretches)
@@ -136,39 +154,40 @@ module _ (t : Trace) where
       by_break None e following =
           let limit = listed_end t later in
           let starts = starts_before_end t stretch order.0 in
-          let below : stretch.end < limit = omega (arith, ends_later next stretches order.3, order.2) in
+          let below : stretch.end < limit = omega (arith, listed_end-after_start next stretches order.3, order.2) in
           let within : stretch.end < last_instant t + 1 = omega (
             arith,
             order.2,
-            (is_first next stretches order.3).within,
+            (IsStretchOf-first next stretches order.3).within,
           ) in
           let same : nat_lt stretch.end limit ≡ nat_lt stretch.end (last_instant t + 1) = lt-ltb stretch.end limit below
           ∙ sym (lt-ltb stretch.end (last_instant t + 1) within) in
           let rest = flat_map (rows_of_stretch t limit) (next ∷ stretches) in
           ap (λ (rows : List Row). rows ++ rest ++ Verdict (outcome_of later) ∷ [])
-          (whole stretch limit starts (omega (arith, below)) same)
+          (rows_of_stretch-whole stretch limit starts (omega (arith, below)) same)
           ∙ (append_assoc (rows_to t stretch stretch.end ++ reset_at t stretch.end) rest
           (Verdict (outcome_of later) ∷ [])
           ∙ (append_assoc (rows_to t stretch stretch.end) (reset_at t stretch.end)
           (rest ++ Verdict (outcome_of later) ∷ [])
           ∙ ap (λ (rows : List Row). rows_to t stretch stretch.end ++ (reset_at t stretch.end ++ rows)) following))
       by_break (Some b) e following =
-          let there = broken_later stretch b order.0 e in
+          let there = least_break-within_stretch stretch b order.0 e in
           rw (
-            cut stretch b.instant there.0 there.1,
-            past_all stretch (next ∷ stretches) b.instant order there.1,
+            rows_of_stretch-cut stretch b.instant there.0 there.1,
+            rows_of_stretches-past stretch (next ∷ stretches) b.instant order there.1,
             append-nil (rows_before t stretch b.instant b.instant),
           ) refl
 
-  pub recorded-from : recorded_rows t ≡ rows_from t NeverIdle (judged_stretches t)
+  -- the rows of a recording are those of its stretches, one after the other
+  pub recorded_rows-rows_from : recorded_rows t ≡ rows_from t NeverIdle (judged_stretches t)
   unfolding listing_by
-  recorded-from = by_stretches (judged_stretches t) (AreInOrder-judged_stretches t)
+  recorded_rows-rows_from = by_stretches (judged_stretches t) (AreInOrder-judged_stretches t)
     where
       by_stretches : (stretches : List Stretch) → AreInOrder t stretches
           → listing_of_stretches all_rules t stretches ≡ rows_from t NeverIdle
           stretches
       by_stretches [] order = refl
-      by_stretches (stretch ∷ stretches) order = listed NeverIdle stretch stretches order
+      by_stretches (stretch ∷ stretches) order = listing_before-rows_from NeverIdle stretch stretches order
 
 -- ---- The first break of a stretch: there is none before its start, after its end or at a reset, and where a line is
 -- lost it is U1.
@@ -189,68 +208,79 @@ module _ (t : Trace) (stretch : Stretch) where
           sym (ap (λ (x : Break). x.instant) same)
 
   -- no rule is broken at an instant that isn't judged, if no line is lost there
-  unjudged_unbroken : (j : ℕ) → is_judged stretch j ≡ false → ((l : ℕ) → l < line_count → breaks t stretch U1 j l
+  breaks-unjudged : (j : ℕ) → is_judged stretch j ≡ false → ((l : ℕ) → l < line_count → breaks t stretch U1 j l
       ≡ false)
       → (r : Rule) (l : ℕ) → l < line_count → breaks t stretch r j l ≡ false
   unfolding breaks
-  unjudged_unbroken j out still U1 l below = still l below
-  unjudged_unbroken j out still r l below = rw out refl
+  breaks-unjudged j out still U1 l below = still l below
+  breaks-unjudged j out still r l below = rw out refl
 
-  pub quiet : (j : ℕ) → is_judged stretch j ≡ false → ((l : ℕ) → l < line_count → breaks t stretch U1 j l ≡ false)
+  -- at an instant that isn't judged there is no break, if no line is lost there
+  pub break_at-unjudged : (j : ℕ) → is_judged stretch j ≡ false
+      → ((l : ℕ) → l < line_count → breaks t stretch U1 j l ≡ false)
       → (rules : List Rule) → break_at t stretch rules j ≡ None
-  quiet j out still rules = break_at-none t stretch j (λ r l below. unjudged_unbroken j out still r l below) rules
+  break_at-unjudged j out still rules = break_at-none t stretch j (λ r l below. breaks-unjudged j out still r l below)
+      rules
 
   -- without a break before `j` or at `j` there is none before `j + 1`
-  pub none-on : (rules : List Rule) (j : ℕ) → break_before t stretch rules j ≡ None → break_at t stretch rules j ≡ None
+  pub break_before-next_none : (rules : List Rule) (j : ℕ) → break_before t stretch rules j ≡ None
+      → break_at t stretch rules j ≡ None
       → break_before t stretch rules (j + 1) ≡ None
   unfolding break_before
-  none-on rules j none here = rw (add-one, none, here) refl
+  break_before-next_none rules j none here = rw (add-one, none, here) refl
 
-  pub none-after : (rules : List Rule) (m n : ℕ) → m ≤ n → break_before t stretch rules m ≡ None
+  -- without a break before `m`, nor from there to `n`, there is none before `n`
+  pub break_before-none_up_to : (rules : List Rule) (m n : ℕ) → m ≤ n → break_before t stretch rules m ≡ None
       → ((i : ℕ) → m ≤ i → i < n → break_at t stretch rules i ≡ None) → break_before t stretch rules n ≡ None
   unfolding break_before
-  none-after rules m zero order none later = let e : m ≡ 0 = omega arith in rw e at none
-  none-after rules m (suc n) order none later =
+  break_before-none_up_to rules m zero order none later = let e : m ≡ 0 = omega arith in rw e at none
+  break_before-none_up_to rules m (suc n) order none later =
       elim (eq-or_below m (suc n) (omega arith)) [
         | inl e ↦ rw e at none
         | inr before ↦ rw (
-          none-after rules m n (omega arith) none (λ i a b. later i a (omega arith)),
+          break_before-none_up_to rules m n (omega arith) none (λ i a b. later i a (omega arith)),
           later n (omega arith) (omega arith),
         ) refl
       ]
 
-  pub found-first : (j : ℕ) (b : Break) → break_before t stretch all_rules j ≡ None → break_at t stretch all_rules j
+  -- a break at `j`, without one before it, is the least
+  pub least_break-found : (j : ℕ) (b : Break) → break_before t stretch all_rules j ≡ None
+      → break_at t stretch all_rules j
       ≡ Some b
       → j ≤ last_instant t → least_break t stretch all_rules ≡ Some b
   unfolding least_break break_before
-  found-first j b none here within = break_before-stays t stretch all_rules b (suc j) (last_instant t + 1)
+  least_break-found j b none here within = break_before-stays t stretch all_rules b (suc j) (last_instant t + 1)
       (rw (none, here) refl) (omega arith)
 
   -- away from the end of a stretch U1 isn't broken
-  pub held : (j l : ℕ) → (j == stretch.end) ≡ false → breaks t stretch U1 j l ≡ false
+  pub breaks-no_loss_within : (j l : ℕ) → (j == stretch.end) ≡ false → breaks t stretch U1 j l ≡ false
   unfolding breaks is_broken
-  held j l other = rw other (and_right (has_line t.opening.slots l) false refl)
+  breaks-no_loss_within j l other = rw other (and_right (has_line t.opening.slots l) false refl)
 
   -- no rule is broken up to the start of the stretch
-  pub none-first : (j : ℕ) → j ≤ stretch.start + 1 → stretch.start < stretch.end → break_before t stretch all_rules j
+  pub break_before-none_at_start : (j : ℕ) → j ≤ stretch.start + 1 → stretch.start < stretch.end
+      → break_before t stretch all_rules j
       ≡ None
   unfolding break_before
-  none-first j upto order = none-after all_rules 0 j (omega arith) refl
-      (λ i a b. quiet i (is_judged-not_up_to_start stretch i (omega arith))
-      (λ l below. held i l (eq-fails_below i stretch.end (omega arith)))
+  break_before-none_at_start j upto order = break_before-none_up_to all_rules 0 j (omega arith) refl
+      (λ i a b. break_at-unjudged i (is_judged-not_up_to_start stretch i (omega arith))
+      (λ l below. breaks-no_loss_within i l (eq-fails_below i stretch.end (omega arith)))
       all_rules)
 
 -- the instant after `j` of the stretch that starts at `s`: it ends there, or continues
 module _ (t : Trace) (s j : ℕ) (is : IsStretchOf t (stretch_from t s)) (from : s ≤ j) (before : j < stretch_end t s)
     (within : suc j ≤ last_instant t) where
+  -- no instant after the start up to `j` ends the stretch
   ran : any (stops_at t) (s + 1) (j + 1) ≡ false
   ran = fails-any (stops_at t) (s + 1) (j + 1) (λ i a b. or_from _ _
       (stretch_unreset t (stretch_from t s) i is (omega arith) (omega arith))
       (stretch_unlost t (stretch_from t s) i is (omega arith) (omega arith)))
 
+  -- if the next instant ends a stretch, it is the end of this one
   pub ends-here : stops_at t (suc j) ≡ true → stretch_end t s ≡ suc j
   ends-here stops = end-is t s j ran from (omega arith) stops
 
+  -- without a reset or a loss of control at the next instant, the stretch lasts past it
   pub goes-on : is_reset_at t (suc j) ≡ false → loses_control_at t (suc j) ≡ false → suc j < stretch_end t s
   goes-on unreset unlost = end-past t s (suc j) (fails-any (stops_at t) (s + 1) (suc j + 1) (λ i a b. still i a
       (eq-or_below i (suc j) b))) within
@@ -261,9 +291,11 @@ module _ (t : Trace) (s j : ℕ) (is : IsStretchOf t (stretch_from t s)) (from :
 
 -- at an instant of a stretch, or at its end
 module _ (t : Trace) (s : ℕ) (is : IsStretchOf t (stretch_from t s)) where
+  -- the stretch that starts at `s`
   abbrev own_stretch : Stretch
   own_stretch = stretch_from t s
 
+  -- a reset in the stretch, or at its end, is its end
   pub at-reset : (n : ℕ) → s < n → n ≤ own_stretch.end → n ≤ last_instant t → is_reset_at t n ≡ true → own_stretch.end
       ≡ n
   at-reset zero after upto within reset = absurd (omega arith)
@@ -272,6 +304,7 @@ module _ (t : Trace) (s : ℕ) (is : IsStretchOf t (stretch_from t s)) where
 
   -- of the changes that lead to an instant the first lost control line is the least one
   module _ (cs : List Change) where
+    -- the first of the changes that loses a control line is on the least line that is lost
     lost-is : (j : ℕ) → s ≤ j → j < own_stretch.end → (levels_at t j).slots ≤ 21
         → levels_at t (suc j) ≡ changed (levels_at t j) cs
         → are_changes (levels_at t j) 0 cs ≡ true
@@ -280,6 +313,7 @@ module _ (t : Trace) (s : ℕ) (is : IsStretchOf t (stretch_from t s)) where
     lost-is j from before few made sound = rw made (lost-least (levels_at t j) cs few sound
         (stretch_unlost t own_stretch j is from before) (stretch_unreset t own_stretch j is from before))
 
+    -- where a control line is lost, the break is U1 on that line
     pub at-loss : (n l : ℕ) → s < n → n ≤ own_stretch.end → n ≤ last_instant t → (levels_at t (n - 1)).slots ≤ 21
         → levels_at t n ≡ changed (levels_at t (n - 1)) cs → are_changes (levels_at t (n - 1)) 0 cs ≡ true
         → lost_among (levels_at t n) cs ≡ Some l
@@ -298,6 +332,7 @@ module _ (t : Trace) (s : ℕ) (is : IsStretchOf t (stretch_from t s)) where
         rw (least-alike (breaks t own_stretch U1 (suc j)) (is_lost (levels_at t (suc j))) 0 line_count
         (λ k a b. u1-lost t s j ends (omega arith) k) ∙ least_is) refl
 
+    -- without a reset and a lost line, the instant is before the end of the stretch
     pub at-rest : (n : ℕ) → s < n → n ≤ own_stretch.end → n ≤ last_instant t → (levels_at t (n - 1)).slots ≤ 21
         → levels_at t n ≡ changed (levels_at t (n - 1)) cs → are_changes (levels_at t (n - 1)) 0 cs ≡ true
         → is_reset_at t n ≡ false → lost_among (levels_at t n) cs ≡ None → n < own_stretch.end
@@ -308,14 +343,16 @@ module _ (t : Trace) (s : ℕ) (is : IsStretchOf t (stretch_from t s)) where
         goes-on t s j is (omega arith) (omega arith) within unreset (least-none-any _ _ _
         (sym (lost-is j (omega arith) (omega arith) (rw back at few) (rw back at made) (rw back at sound)) ∙ lost))
 
--- after the last instant no stretch starts, and none does at an instant that isn't idle
-no_stretches : (t : Trace) (n : ℕ) → last_instant t + 1 ≤ n → stretches_after t n ≡ []
-no_stretches t n past = ap (map (stretch_from t)) (those-none (stretch_starts t) n (last_instant t + 1)
+-- after the last instant no stretch starts
+stretches_after-last : (t : Trace) (n : ℕ) → last_instant t + 1 ≤ n → stretches_after t n ≡ []
+stretches_after-last t n past =
+    ap (map (stretch_from t)) (those-none (stretch_starts t) n (last_instant t + 1)
     (fails-any (stretch_starts t) n (last_instant t + 1) (λ i a b. absurd (omega arith))))
 
-next_stretches : (t : Trace) (n : ℕ) → n ≤ last_instant t → is_idle_at t n ≡ false → stretches_after t n
+-- no stretch starts at an instant that isn't idle
+stretches_after-not_idle : (t : Trace) (n : ℕ) → n ≤ last_instant t → is_idle_at t n ≡ false → stretches_after t n
     ≡ stretches_after t (n + 1)
-next_stretches t n within busy =
+stretches_after-not_idle t n within busy =
     ap (map (stretch_from t)) (those-split (stretch_starts t) n (n + 1) (last_instant t + 1) (omega arith) (omega arith)
     ∙ ap (λ (is : List ℕ). is ++ those (stretch_starts t) (n + 1) (last_instant t + 1))
     (those-none (stretch_starts t) n (n + 1)
@@ -348,7 +385,7 @@ module _ {Whole Source : Type 0} {gave : Whole → Source → List Row → Type 
   waits-first h = record {
     awaits = awaits-first t;
     done = [];
-    all = ap (rows_from t NeverIdle) (sym (judged_stretches-after_first t)) ∙ sym (recorded-from t);
+    all = ap (rows_from t NeverIdle) (sym (judged_stretches-after_first t)) ∙ sym (recorded_rows-rows_from t);
     rows_are = h;
   }
 
@@ -360,7 +397,7 @@ module _ {Whole Source : Type 0} {gave : Whole → Source → List Row → Type 
       awaits = rw add-one (awaits-next t n h.awaits busy);
       done = h.done;
       all = ap (λ (stretches : List Stretch). h.done ++ rows_from t outcome stretches)
-          (sym (next_stretches t n within busy))
+          (sym (stretches_after-not_idle t n within busy))
           ∙ h.all;
       rows_are = h.rows_are;
     }
@@ -379,7 +416,7 @@ module _ {Whole Source : Type 0} {gave : Whole → Source → List Row → Type 
           is = found.0;
           after = omega arith;
           upto = omega (arith, order);
-          unbroken = none-first t (stretch_from t n) (n + 1) (omega arith) order;
+          unbroken = break_before-none_at_start t (stretch_from t n) (n + 1) (omega arith) order;
           holds = holds;
           conforms = refl;
           done = h.done;
@@ -388,12 +425,14 @@ module _ {Whole Source : Type 0} {gave : Whole → Source → List Row → Type 
         }
 
     module _ {state : State} (h : IsInStretch gave is_over whole v t n outcome rows state) where
+      -- the stretch in which the instant is
       abbrev stretch : Stretch
       stretch = stretch_from t h.start
 
       abbrev later : List Row
       later = rows_from t Conforming (stretches_after t (stretch.end + 1))
 
+      -- the rows up to the instant
       abbrev so_far : List Row
       so_far = h.done ++ rows_to t stretch n
 
@@ -418,8 +457,9 @@ module _ {Whole Source : Type 0} {gave : Whole → Source → List Row → Type 
           regroup a b c d = simp append_assoc
 
           none : least_break t stretch all_rules ≡ None
-          none = none-after t stretch all_rules n (last_instant t + 1) (omega arith) h.unbroken
-              (λ i a b. quiet t stretch i (past i a) (λ l below. by_order i l below (order i a)) all_rules)
+          none = break_before-none_up_to t stretch all_rules n (last_instant t + 1) (omega arith) h.unbroken
+              (λ i a b. break_at-unjudged t stretch i (past i a)
+              (λ l below. by_order i l below (order i a)) all_rules)
             where
               past : (i : ℕ) → n ≤ i → is_judged stretch i ≡ false
               past i a = and_right (nat_lt stretch.start i) (nat_lt i stretch.end)
@@ -436,7 +476,7 @@ module _ {Whole Source : Type 0} {gave : Whole → Source → List Row → Type 
               by_order : (i l : ℕ) → l < line_count → (i ≡ n) ⊎ (n < i) → breaks t stretch U1 i l ≡ false
               by_order i l below (inl e) = rw e (u1_at n l h.after below (reset-unlost_at t n reset))
               by_order i l below (inr after) =
-                  held t stretch i l (eq-fails_above i stretch.end (omega (arith, after, ends)))
+                  breaks-no_loss_within t stretch i l (eq-fails_above i stretch.end (omega (arith, after, ends)))
 
           whole_stretch : rows_by t stretch (least_break t stretch all_rules) later ≡ rows_to t stretch n
               ++ (Reset n ∷ [] ++ rows_from t Conforming (stretches_after t (n + 1)))
@@ -447,7 +487,7 @@ module _ {Whole Source : Type 0} {gave : Whole → Source → List Row → Type 
           → IsEnded gave is_over whole v t (outcome_of (Some b)) rows
       breaks-off b here =
           let at : b.instant ≡ n = break-instant t stretch all_rules n b here in
-          let found = found-first t stretch n b h.unbroken here within in
+          let found = least_break-found t stretch n b h.unbroken here within in
           record {
             done = so_far;
             all =
@@ -467,7 +507,7 @@ module _ {Whole Source : Type 0} {gave : Whole → Source → List Row → Type 
         is = h.is;
         after = omega (arith, h.after);
         upto = omega (arith, before);
-        unbroken = none-on t stretch all_rules n h.unbroken here;
+        unbroken = break_before-next_none t stretch all_rules n h.unbroken here;
         holds = holds;
         conforms = h.conforms;
         done = h.done;
@@ -475,34 +515,37 @@ module _ {Whole Source : Type 0} {gave : Whole → Source → List Row → Type 
         rows_are = follows;
       }
 
--- whether an instant is idle, and whether it is a reset, by its levels
+-- an instant is idle exactly if its levels are
 pub idle-is : (t : Trace) (levels : Levels) (n : ℕ) → levels ≡ levels_at t n → is_idle_at t n ≡ is_idle levels
 unfolding is_idle_at
 idle-is t levels n e = ap is_idle (sym e)
 
+-- an instant is a reset exactly if its levels are
 pub reset-is : (t : Trace) (levels : Levels) (n : ℕ) → levels ≡ levels_at t n → is_reset_at t n ≡ is_reset levels
 unfolding is_reset_at
 reset-is t levels n e = ap is_reset (sym e)
 
 -- if `named` gives a rule and a line, there is a break with them
-pub named-break : (o : Option Break) (rule : Rule) (line : ℕ) → Some (rule, line) ≡ named o
+pub named-some : (o : Option Break) (rule : Rule) (line : ℕ) → Some (rule, line) ≡ named o
     → (b : Break) × (o ≡ Some b) × (b.rule ≡ rule) × (b.line ≡ line)
-named-break None rule line e = absurd (cc)
-named-break (Some b) rule line e = (
+named-some None rule line e = absurd (cc)
+named-some (Some b) rule line e = (
   b,
   refl,
   ap (λ (p : Rule × ℕ). p.0) (sym (Some-injective _ _ e)),
   ap (λ (p : Rule × ℕ). p.1) (sym (Some-injective _ _ e)),
 )
 
-pub named-none : (o : Option Break) → None ≡ named o → o ≡ None
-named-none None e = refl
-named-none (Some b) e = absurd (cc)
+-- if `named` gives nothing, there is no break
+pub named-no_break : (o : Option Break) → None ≡ named o → o ≡ None
+named-no_break None e = refl
+named-no_break (Some b) e = absurd (cc)
 
 -- the checker after a break: judging has ended
 module _ {Whole Source : Type 0} {gave : Whole → Source → List Row → Type 0} {is_over : Source → Type 0} {whole : Whole}
     {v : Version} {t : Trace} {bus : Bus} {rows : OpenRows Source} {outcome : ListedVerdict}
     (new : Checker Source) where
+  -- after a break the checker has ended judging
   pub checks-ended : new.bus ≡ bus → new.rows ≡ rows → new.phase ≡ Ended → new.outcome ≡ outcome → IsBusOf t bus
       → IsEnded gave is_over whole v t outcome rows → Checks gave is_over whole v t new
   checks-ended same_bus same_rows phase same_outcome at h = record {
@@ -520,18 +563,23 @@ module _ {Whole Source : Type 0} {gave : Whole → Source → List Row → Type 
     {state : State} (at : IsBusOf t bus) (lead : LeadToInstant bus cs) (few : bus.before.slots ≤ 21)
     (within : bus.instant ≤ last_instant t)
     (h : IsInStretch gave is_over whole v t bus.instant outcome rows state) where
+  -- the levels of the instant are those of the one before, changed
   made : levels_at t bus.instant ≡ changed (levels_at t (bus.instant - 1)) cs
   made = sym at.levels ∙ (lead.made ∙ ap (λ (w : Levels). changed w cs) at.before)
 
+  -- the changes are well formed
   sound : are_changes (levels_at t (bus.instant - 1)) 0 cs ≡ true
   sound = ap (λ (w : Levels). are_changes w 0 cs) (sym at.before) ∙ lead.sound
 
+  -- the backplane has at most 21 slots
   few_slots : (levels_at t (bus.instant - 1)).slots ≤ 21
   few_slots = omega (arith, few, ap (λ (w : Levels). w.slots) at.before)
 
+  -- the lost line by the levels of the bus is that by the levels of the recording
   lost_is : (o : Option ℕ) → o ≡ lost_among bus.levels cs → lost_among (levels_at t bus.instant) cs ≡ o
   lost_is o e = ap (λ (w : Levels). lost_among w cs) (sym at.levels) ∙ sym e
 
+  -- at a reset the next stretch is awaited
   pub judge-resets : is_reset bus.levels ≡ true → {new : OpenRows Source}
       → CanClose gave is_over whole v (h.done ++ rows_to t (stretch_from t h.start) bus.instant ++ Reset bus.instant
       ∷ [])
@@ -541,17 +589,19 @@ module _ {Whole Source : Type 0} {gave : Whole → Source → List Row → Type 
       let here = reset-is t bus.levels bus.instant at.levels ∙ reset in
       resets within h (at-reset t h.start h.is bus.instant h.after h.upto within here) here closed
 
+  -- where a control line is lost, judging ends with U1
   pub judge-loses : (line : ℕ) → Some line ≡ lost_among bus.levels cs
       → IsEnded gave is_over whole v t (Unreadable U1 bus.instant line) rows
   judge-loses line e = breaks-off within h _
       (at-loss t h.start h.is cs bus.instant line h.after h.upto within few_slots made sound (lost_is (Some line) e))
 
+  -- where a rule is broken, judging ends with it
   pub judge-breaks : (rule : Rule) (line : ℕ)
       → Some (rule, line) ≡ named (break_at t (stretch_from t h.start) all_rules bus.instant)
       → IsEnded gave is_over whole v t
       (if is_unreadable rule then Unreadable rule bus.instant line else Broken rule bus.instant line) rows
   judge-breaks rule line e =
-      let (b, here, same_rule, same_line) = named-break (break_at t (stretch_from t h.start) all_rules bus.instant) rule
+      let (b, here, same_rule, same_line) = named-some (break_at t (stretch_from t h.start) all_rules bus.instant) rule
       line e in
       let same_instant = break-instant t (stretch_from t h.start) all_rules bus.instant b here in
       subst (λ (o : ListedVerdict). IsEnded gave is_over whole v t o rows)
@@ -560,6 +610,7 @@ module _ {Whole Source : Type 0} {gave : Whole → Source → List Row → Type 
       ∙ ap (λ l. if is_unreadable rule then Unreadable rule bus.instant l else Broken rule bus.instant l) same_line))
       (breaks-off within h b here)
 
+  -- without a reset and a lost line, the stretch lasts past the instant
   pub judge-within : is_reset bus.levels ≡ false → None ≡ lost_among bus.levels cs → bus.instant < stretch_end t h.start
   judge-within unreset e = at-rest t h.start h.is cs bus.instant h.after h.upto within few_slots made sound
       (reset-is t bus.levels bus.instant at.levels ∙ unreset) (lost_is None e)
@@ -577,10 +628,10 @@ judge-state {t = t} {bus = bus} at h before holds =
     record { at = at; is = h.is; judged = judged; holds = holds judged }
 
 -- a bus that the changes of a step advance has the levels of the recording one instant later
-advanced : (t : Trace) (old new : Bus) (cs : List Change) → IsBusOf t old → new.instant ≡ old.instant + 1
+IsBusOf-advanced : (t : Trace) (old new : Bus) (cs : List Change) → IsBusOf t old → new.instant ≡ old.instant + 1
     → new.before ≡ old.levels → new.levels ≡ changed old.levels cs
     → levels_at t (old.instant + 1) ≡ changed (levels_at t old.instant) cs → IsBusOf t new
-advanced t old new cs at instant before levels made =
+IsBusOf-advanced t old new cs at instant before levels made =
     let back : old.instant ≡ new.instant - 1 = omega (arith, instant) in
     record {
       before = before ∙ (at.levels ∙ ap (levels_at t) back);
@@ -591,9 +642,9 @@ advanced t old new cs at instant before levels made =
 
 module _ (t : Trace) (i : ℕ) (step : Step) (found : slice_get t.steps i ≡ Some step) where
   -- its changes make the levels of instant `i + 1`
-  pub levels-made : levels_at t (i + 1) ≡ changed (levels_at t i) step.changes
+  pub levels_at-next : levels_at t (i + 1) ≡ changed (levels_at t i) step.changes
   unfolding levels_at
-  levels-made = rw (add-one, found) refl
+  levels_at-next = rw (add-one, found) refl
 
   -- its changes are sound if no step is malformed
   pub sound-step : malformed_step t ≡ None → are_changes (levels_at t i) 0 step.changes ≡ true
@@ -611,14 +662,16 @@ step_at t steps i step e below is = ap (λ (xs : List Step). slice_get xs i) (sy
 
 -- ---- A recording whose steps are taken one by one.
 
-pub goes_to : (recorded : Trace) (step : Step) (more : List Step)
+-- a recording with steps is the one with the first of them, and then with the others
+pub with_steps-one_by_one : (recorded : Trace) (step : Step) (more : List Step)
     → with_steps recorded (step ∷ more) ≡ with_steps (with_steps recorded (step ∷ [])) more
-goes_to recorded step more =
+with_steps-one_by_one recorded step more =
     ap (λ (steps : List Step). record recorded { steps = steps }) (sym (append_assoc recorded.steps (step ∷ []) more))
 
-pub next-is : (recorded : Trace) (step : Step) (more : List Step)
+-- the step after those of a recording is the next one
+pub slice_get-next_step : (recorded : Trace) (step : Step) (more : List Step)
     → slice_get (recorded.steps ++ step ∷ more) (last_instant recorded) ≡ Some step
-next-is recorded step more =
+slice_get-next_step recorded step more =
     slice_get_read (recorded.steps ++ step ∷ more) (length (recorded.steps ++ step ∷ more)) (length recorded.steps) step
     refl (omega (arith, length-append recorded.steps (step ∷ more)))
     (sym (get_or-append_seam recorded.steps step more step))
@@ -631,8 +684,9 @@ levels-next recorded step levels changes behind same =
     ap (λ (w : Levels). changed w changes) behind ∙ (ap (changed (last_levels recorded)) same
     ∙ sym (levels_after-append recorded.opening recorded.steps (step ∷ [])))
 
-pub all-taken : (recorded : Trace) → with_steps recorded [] ≡ recorded
-all-taken recorded =
+-- a recording with no more steps is the same
+pub with_steps-none : (recorded : Trace) → with_steps recorded [] ≡ recorded
+with_steps-none recorded =
     ap (λ (steps : List Step). record recorded { steps = steps }) (append-nil recorded.steps)
 
 -- a checker that takes `step` has followed the recording with that step
@@ -665,10 +719,11 @@ arrives {gave = gave} {is_over = is_over} {whole = whole} {v = v} {recorded = re
     let n = last_instant recorded in
     let h = compared (step ∷ more) in
     subst (λ (u : Trace). IsBusOf u bus × (bus.instant ≤ last_instant u)
-    × IsPhase gave is_over whole v u bus.instant old.outcome old.rows phase) (goes_to recorded step more) (
-      advanced t old.bus bus cs h.at instant before levels
+    × IsPhase gave is_over whole v u bus.instant old.outcome old.rows phase)
+    (with_steps-one_by_one recorded step more) (
+      IsBusOf-advanced t old.bus bus cs h.at instant before levels
           (subst (λ i. levels_at t (i + 1) ≡ changed (levels_at t i) cs) (sym taken.instant)
-          (levels-made t n step (next-is recorded step more) ∙ ap (changed (levels_at t n)) (sym same))),
+          (levels_at-next t n step (slice_get-next_step recorded step more) ∙ ap (changed (levels_at t n)) (sym same))),
       omega (arith, instant, taken.instant, length-append recorded.steps (step ∷ more)),
       subst (λ n. IsPhase gave is_over whole v t n old.outcome old.rows phase) (sym instant)
           (subst (IsPhase gave is_over whole v t (old.bus.instant + 1) old.outcome old.rows) is h.phase_is),
@@ -679,11 +734,13 @@ abbrev pub recorded_to : Trace → ℕ → Trace
 recorded_to t n = record t { steps = take n t.steps }
 
 module _ (t : Trace) (n : ℕ) where
+  -- the recording up to instant n, with the step n, is that up to instant n + 1
   pub goes_on-to : (step : Step) → slice_get t.steps n ≡ Some step
       → with_steps (recorded_to t n) (step ∷ []) ≡ recorded_to t (n + 1)
   goes_on-to step found =
       ap (λ (steps : List Step). record t { steps = steps }) (sym (take-next t.steps n step found))
 
+  -- the recording up to instant n may go on with the step n
   pub may-go_on : (step : Step) → IsCapture t → slice_get t.steps n ≡ Some step → MayGoOn (recorded_to t n) step
   may-go_on step capture found =
       let below = slice_get_within t.steps n step found in
@@ -693,6 +750,7 @@ module _ (t : Trace) (n : ℕ) where
             ∙ sound-step t n step found capture.well_formed;
       }
 
+  -- up to an instant that isn't before the last, the recording is whole
   pub whole-to : length t.steps ≤ n → recorded_to t n ≡ t
   whole-to past = ap (λ (steps : List Step). record t { steps = steps }) (take_all n t.steps past)
 
@@ -709,7 +767,7 @@ module _ {Whole Source : Type 0} (gave : Whole → Source → List Row → Type 
   ended outcome rows Waiting h = record {
     done = h.done;
     all = ap (λ (stretches : List Stretch). h.done ++ rows_from t outcome stretches)
-        (sym (no_stretches t (last_instant t + 1) (omega arith))) ∙ h.all;
+        (sym (stretches_after-last t (last_instant t + 1) (omega arith))) ∙ h.all;
     rows_are = h.rows_are;
   }
   ended outcome rows (InStretch state) h =
@@ -731,17 +789,19 @@ module _ {Whole Source : Type 0} (gave : Whole → Source → List Row → Type 
       whole_stretch s none ends = rw (
         none,
         ends,
-        no_stretches t (last_instant t + 1 + 1) (omega arith),
+        stretches_after-last t (last_instant t + 1 + 1) (omega arith),
         h.conforms,
         le-ltb (last_instant t + 1) (last_instant t + 1) (omega arith),
         and_right (is_reset_at t (last_instant t + 1)) false refl,
       ) refl
 
+-- a checker that has taken all steps has ended
 pub ended-all : {Whole Source : Type 0} {gave : Whole → Source → List Row → Type 0} {is_over : Source → Type 0}
     {whole : Whole} {v : Version} {t : Trace} {checker : Checker Source} → HasFollowed t checker
     → HasCompared gave is_over whole v t checker → IsEnded gave is_over whole v t checker.outcome checker.rows
 ended-all {gave = gave} {is_over = is_over} {whole = whole} {v = v} {t = t} {checker = checker} taken compared =
-    let h = subst (λ (u : Trace). Checks gave is_over whole v u checker) (all-taken t) (compared []) in
+    let h = subst (λ (u : Trace). Checks gave is_over whole v u checker) (with_steps-none t)
+    (compared []) in
     ended gave is_over whole v t checker.outcome checker.rows checker.phase
     (subst (λ n. IsPhase gave is_over whole v t (n + 1) checker.outcome checker.rows checker.phase) taken.instant
     h.phase_is)

@@ -1,4 +1,4 @@
--- The open rows as a row starts, as one ends, and from an instant to the next.
+-- The open rows of a listing as a row starts, as one ends, and from an instant to the next.
 use Rattle.std.proofs.Common.{◌≡◌, ℕ, ◌+◌, ◌-◌, ◌≤◌, Bool, true, false, ◌&&◌, ◌||◌, not, List, [], ◌∷◌, ◌++◌, length}
 use Rattle.std.proofs.Common.{refl, sym, ◌∙◌, ap, subst, arith, length-append, ◌<◌, inl, inr, ◌⊎◌, zero, suc}
 use Rattle.std.proofs.Common.{append_assoc}
@@ -48,46 +48,55 @@ with_edge-without_data : (row : Row) (edge : Option ℕ)
 with_edge-without_data (Start i) edge = refl
 with_edge-without_data row edge = refl
 
+-- the last edge of a row may be set before or after the row is put in a version
 pub with_edge-in : (v : Version) (row : Row) (edge : Option ℕ)
     → with_edge (row_in v row) edge ≡ row_in v (with_edge row edge)
 with_edge-in One row edge = with_edge-without_data row edge
 with_edge-in Two row edge = refl
 with_edge-in Three row edge = refl
 
--- the places of the open rows
-pub each-off : (a b c : Bool) → (a || b || c) ≡ false → (a ≡ false) × (b ≡ false) × (c ≡ false)
-each-off true b c h = absurd (cc)
-each-off false true c h = absurd (cc)
-each-off false false c h = (refl, refl, h)
+-- ---- The places of the open rows.
+-- if a || b || c fails, each does
+pub or-fails_each : (a b c : Bool) → (a || b || c) ≡ false → (a ≡ false) × (b ≡ false) × (c ≡ false)
+or-fails_each true b c h = absurd (cc)
+or-fails_each false true c h = absurd (cc)
+or-fails_each false false c h = (refl, refl, h)
 
-pub all-off : (a b c : Bool) → a ≡ false → b ≡ false → c ≡ false → (a || b || c) ≡ false
-all-off a b c h k l = rw (h, k, l) refl
+-- if each fails, a || b || c does
+pub or-fails_all : (a b c : Bool) → a ≡ false → b ≡ false → c ≡ false → (a || b || c) ≡ false
+or-fails_all a b c h k l = rw (h, k, l) refl
 
-pub none-at : (o : Option OpenRow) (n : ℕ) → o ≡ None → is_at o n ≡ false
-none-at o n e = rw e refl
+-- no row is open at a place, if none is open
+pub is_at-none : (o : Option OpenRow) (n : ℕ) → o ≡ None → is_at o n ≡ false
+is_at-none o n e = rw e refl
 
-pub without-off : (x a : Bool) → (a ≡ false → x ≡ false) → (x && not a) ≡ false
-without-off x true h = and_right x false refl
-without-off x false h = rw (h refl) refl
+-- x without a fails, if x does wherever a does
+pub and-not_fails : (x a : Bool) → (a ≡ false → x ≡ false) → (x && not a) ≡ false
+and-not_fails x true h = and_right x false refl
+and-not_fails x false h = rw (h refl) refl
 
 -- a row that was taken stays so when more rows are given and taken
-taken-more : (given more : List Row) (taken many : ℕ) → taken ≤ many → Extends given more taken → (o : Option OpenRow)
+IsTakenAt-more : (given more : List Row) (taken many : ℕ) → taken ≤ many → Extends given more taken
+    → (o : Option OpenRow)
     → IsTakenAt given taken o → IsTakenAt more many o
-taken-more given more taken many grows extends None h = tt
-taken-more given more taken many grows extends (Some row) h = record {
+IsTakenAt-more given more taken many grows extends None h = tt
+IsTakenAt-more given more taken many grows extends (Some row) h = record {
   below = omega (arith, h.below);
   given_is = h.given_is ∙ sym (extends row.place h.below);
 }
 
-pub placed-more : {Source : Type 0} (given more : List Row) (taken many : ℕ) (rows : OpenRows Source) → taken ≤ many
+-- rows that are at their places stay there when more rows are given and taken
+pub AreAtPlaces-more : {Source : Type 0} (given more : List Row) (taken many : ℕ) (rows : OpenRows Source)
+    → taken ≤ many
     → Extends given more taken → AreAtPlaces given taken rows → AreAtPlaces more many rows
-placed-more given more taken many rows grows extends h = record {
-  tenure = taken-more given more taken many grows extends rows.tenure h.tenure;
-  cycle = taken-more given more taken many grows extends rows.cycle h.cycle;
-  transfer = taken-more given more taken many grows extends rows.transfer h.transfer;
+AreAtPlaces-more given more taken many rows grows extends h = record {
+  tenure = IsTakenAt-more given more taken many grows extends rows.tenure h.tenure;
+  cycle = IsTakenAt-more given more taken many grows extends rows.cycle h.cycle;
+  transfer = IsTakenAt-more given more taken many grows extends rows.transfer h.transfer;
 }
 
 module _ (v : Version) (done : List Row) (t : Trace) (stretch : Stretch) (l j : ℕ) where
+  -- the row is open at instant i, and ends where the line l rises
   abbrev EdgeAt : ℕ → Option OpenRow → Type 0
   EdgeAt i o = IsOpenAt v done t stretch l i o
 
@@ -156,18 +165,22 @@ module _ {Whole Source : Type 0} {gave : Whole → Source → List Row → Type 
     (s1 : HasComparedRow old.tenure None old.compared c1) (s2 : HasComparedRow old.cycle None c1 c2)
     (s3 : HasComparedRow old.transfer None c2 c3) (b : IsBegun gave is_over expected c3 c4 row)
     (s4 : HasComparedRow (Some row) None c4 c5) where
+  -- the rows that are expected, in the version
   abbrev all : List Row
   all = rows_in v expected_rows
 
+  -- the places that are open when the rows of all three kinds were compared
   abbrev open_at : ℕ → Bool
   open_at = without (without (without (is_open old) old.tenure) old.cycle) old.transfer
 
+  -- what is known after all open rows were compared
   closed_all : IsCompared h.given all c3.taken open_at c3.wrong
   closed_all =
       compare_row-compared s3 (compare_row-compared s2 (compare_row-compared s1 h.compared h.tenure)
       (subst (λ n. IsDue h.given all n None old.cycle) (sym s1.taken) h.cycle))
       (subst (λ n. IsDue h.given all n None old.transfer) (sym (s2.taken ∙ s1.taken)) h.transfer)
 
+  -- when no row is open, the rows with one more can close
   pub closes : CanClose gave is_over whole v (expected_rows ++ expected ∷ [])
       (record { compared = c5; tenure = None; cycle = None; transfer = None })
   closes =
@@ -226,6 +239,7 @@ module _ (t : Trace) (stretch : Stretch) where
       fails-any (answers t stretch i) i j (λ r a b. and_left (lasts t stretch i r && answer_falls t r)
       (not (is_answered t stretch i r)) (any-fails (λ r. lasts t stretch i r && answer_falls t r) i j r none a b))
 
+  -- a transfer that isn't answered at `j` has the answer that it had before
   answer-not : (i j : ℕ) → answers t stretch i j ≡ false → least (answers t stretch i) i (j + 1)
       ≡ least (answers t stretch i) i
       j
@@ -239,6 +253,7 @@ module _ (t : Trace) (stretch : Stretch) where
       rw (any-holds (strobes_high t) (i + 1) r j (omega arith) (omega arith) high)
       (and_right (nat_le i r && is_judged stretch r) false refl)
 
+  -- after both strobes were high, the answer of a transfer is the one up to then
   answer-last : (i j end : ℕ) → i < j → strobes_high t j ≡ true → j + 1 ≤ end
       → least (answers t stretch i) i end ≡ least (answers t stretch i) i (j + 1)
   unfolding answers
@@ -258,6 +273,7 @@ module _ (t : Trace) (stretch : Stretch) where
       by_cycle None = refl
       by_cycle (Some k) = refl
 
+  -- the row of a transfer, put in a version, already has its close as its last edge
   edge-in : (v : Version) (end i : ℕ) (answer edge : Option ℕ) → least (strobes_high t) (i + 1) end ≡ edge
       → row_in v (transfer_row t stretch end i answer) ≡ with_edge (row_in v (transfer_row t stretch end i answer)) edge
   edge-in v end i answer edge e =
@@ -279,6 +295,7 @@ module _ (t : Trace) (stretch : Stretch) where
       )
 
   module _ (v : Version) (done : List Row) (j : ℕ) (judged : is_judged stretch j ≡ true) where
+    -- the row is the open one of the transfer, by what is known up to these instants
     abbrev At : ℕ → ℕ → ℕ → Option OpenRow → Type 0
     At i k c o = IsTransferAt v done t stretch i k c o
 
@@ -291,6 +308,7 @@ module _ (t : Trace) (stretch : Stretch) where
         (starts-is t stretch j judged ∙ here))
         h.still)
 
+    -- the row of a transfer that starts is the open one
     pub transfer-new : (row : OpenRow) (expected : (end : ℕ) → row.expected
         ≡ row_in v (transfer_row t stretch end j None))
         → starts_transfer t j ≡ true
@@ -307,6 +325,7 @@ module _ (t : Trace) (stretch : Stretch) where
           (ap (λ (r : Row). with_edge r edge) (expected end));
     }
 
+    -- where no transfer starts, the open one stays
     pub transfer-kept : (o : Option OpenRow) → starts_transfer t j ≡ false → At j j j o → At (j + 1) j j o
     transfer-kept None here h = tt
     transfer-kept (Some row) here h = record {
@@ -319,11 +338,12 @@ module _ (t : Trace) (stretch : Stretch) where
     }
 
     -- whether the last transfer is answered at the instant
-    asked : (i : ℕ) → greatest (transfer_starts t stretch) (stretch.start + 1) (j + 1) ≡ Some i
+    answers-of_last : (i : ℕ) → greatest (transfer_starts t stretch) (stretch.start + 1) (j + 1) ≡ Some i
         → any (strobes_high t) (i + 1) j ≡ false → answers t stretch i j ≡ is_answer t stretch j
-    asked i last still = answers-is t stretch j i judged last (ap not still)
+    answers-of_last i last still = answers-is t stretch j i judged last (ap not still)
         ∙ sym (is_answer-is t stretch j i judged last (ap not still))
 
+    -- without an answer the row of the transfer stays what it is
     pub transfer-unanswered : (o : Option OpenRow) → is_answer t stretch j ≡ false → At (j + 1) j j o
         → At (j + 1) (j + 1) j o
     transfer-unanswered None h is = tt
@@ -332,13 +352,15 @@ module _ (t : Trace) (stretch : Stretch) where
       last = is.last;
       still = is.still;
       expected = is.expected;
-      known = λ end edge. rw (answer-not is.start j (asked is.start is.last is.still ∙ h)) (is.known end edge);
+      known = λ end edge. rw (answer-not is.start j (answers-of_last is.start is.last is.still ∙ h))
+          (is.known end edge);
     }
 
     -- a transfer that is answered is the open one of the state
-    pub is-opened : (c : Transfer) → IsTransfer t stretch (j + 1) j c → is_answer t stretch j ≡ true
+    pub IsOpenTransfer-answered : (c : Transfer) → IsTransfer t stretch (j + 1) j c → is_answer t stretch j ≡ true
         → IsOpenTransfer t stretch (j + 1) j c
-    is-opened c is here = by_either_value c.is_open is.here (λ e. absurd (clash (is_answer t stretch j) here
+    IsOpenTransfer-answered c is here = by_either_value c.is_open is.here
+        (λ e. absurd (clash (is_answer t stretch j) here
         (sym (answer-is t stretch j judged c is) ∙ ap (λ b. b && (answer_falls t j && not c.answered)) e)))
 
     -- if no cycle has started, the answer isn't listed
@@ -348,7 +370,7 @@ module _ (t : Trace) (stretch : Stretch) where
     unfolding cycle_of
     transfer-outside None here none h = tt
     transfer-outside (Some row) here none h =
-        let answered = asked h.start h.last h.still ∙ here in
+        let answered = answers-of_last h.start h.last h.still ∙ here in
         let before = answers-once h.start j answered in
         let found = greatest-found (transfer_starts t stretch) (stretch.start + 1) (j + 1) h.start h.last in
         let answer = least-is (answers t stretch h.start) h.start (j + 1) j (omega (arith, found.before)) (omega arith)
@@ -362,13 +384,14 @@ module _ (t : Trace) (stretch : Stretch) where
               (h.known end edge));
         }
 
+    -- with an answer the row of the transfer is the one that is answered at the instant
     pub transfer-answered : (row : OpenRow) (c : Transfer) → is_answer t stretch j ≡ true
         → IsOpenTransfer t stretch (j + 1) j c
         → At (j + 1) j j (Some row) → (later : OpenRow) → later.place ≡ row.place
         → ((end : ℕ) (edge : Option ℕ) → with_edge later.expected edge
         ≡ with_edge (row_in v (transfer_row t stretch end c.start (Some j))) edge) → At (j + 1) (j + 1) j (Some later)
     transfer-answered row c here opened h later same_place known =
-        let answered = asked h.start h.last h.still ∙ here in
+        let answered = answers-of_last h.start h.last h.still ∙ here in
         let found = greatest-found (transfer_starts t stretch) (stretch.start + 1) (j + 1) h.start h.last in
         let answer = least-is (answers t stretch h.start) h.start (j + 1) j (omega (arith, found.before)) (omega arith)
         answered (answers-once h.start j answered) in
@@ -418,6 +441,7 @@ module _ (t : Trace) (stretch : Stretch) where
             ∙ (edge-in v end h.start (least (answers t stretch h.start) h.start (j + 1)) edge e
             ∙ sym (h.known end edge))
 
+    -- where the strobes aren't both high, the transfer stays open
     pub transfer-open : (o : Option OpenRow) → strobes_high t j ≡ false → At (j + 1) (j + 1) j o
         → At (j + 1) (j + 1) (j + 1) o
     transfer-open None not_here h = tt
@@ -431,12 +455,14 @@ module _ (t : Trace) (stretch : Stretch) where
 
   -- the data that the answer at `j` of the open transfer gives
   module _ (j : ℕ) (c : Transfer) (is : IsOpenTransfer t stretch (j + 1) j c) (end : ℕ) where
+    -- a write that is answered where it starts gives the data of that instant
     pub data-here : c.is_write ≡ true → c.start ≡ j → Some (lanes_at (levels_at t j)) ≡ data_of t stretch end c.start j
     unfolding data_at
     data-here write here =
         let found = greatest-found (transfer_starts t stretch) (stretch.start + 1) (j + 1) c.start is.last in
         rw (sym is.direction ∙ write, ap (transfer_starts t stretch) (sym here) ∙ found.holds) refl
 
+    -- a write that is answered later gives the data of the instant before
     pub data-before : c.is_write ≡ true → (c.start ≡ j → ⊥)
         → Some (lanes_at (levels_at t (j - 1))) ≡ data_of t stretch end c.start j
     unfolding data_at
@@ -451,6 +477,7 @@ module _ (t : Trace) (stretch : Stretch) where
         earlier : c.start < j + 1 → (c.start ≡ j → ⊥) → c.start + 1 ≤ j
         earlier before other = grind arith
 
+    -- the row that is made of the answer is that of the transfer answered at `j`
     pub answered-is : (d : Direction) (l : AnswerLine) (k : ℕ) (x : Option Lanes) (edge : Option ℕ)
         → greatest (cycle_starts t stretch) (stretch.start + 1) (j + 1) ≡ Some k → d
         ≡ (if c.is_write then Write else Read)
@@ -462,20 +489,23 @@ module _ (t : Trace) (stretch : Stretch) where
 
 -- ---- The rows that are open, by their kinds.
 
+-- the kinds of rows that may be open
 pub data OpenRowKind : Type 0 where
   Tenures : OpenRowKind
   Cycles : OpenRowKind
   Transfers : OpenRowKind
 
+-- the one of three that belongs to the kind
 abbrev pub pick : {A : Type 0} → OpenRowKind → A → A → A → A
 pick Tenures a b c = a
 pick Cycles a b c = b
 pick Transfers a b c = c
 
--- the open row of a kind, and another one in its place
+-- the open row of a kind
 abbrev pub at : {Source : Type 0} → OpenRowKind → OpenRows Source → Option OpenRow
 at k rows = pick k rows.tenure rows.cycle rows.transfer
 
+-- the open rows with another row of a kind, or none, in its place
 abbrev pub put : {Source : Type 0} → OpenRowKind → OpenRows Source → Comparison Source → Option OpenRow
     → OpenRows Source
 put k rows compared o = record {
@@ -489,35 +519,38 @@ module _ {Source : Type 0} (rows : OpenRows Source) (compared : Comparison Sourc
   -- a place that isn't open after `put` isn't that of the new row, nor of the others
   put-off : (k : OpenRowKind) (n : ℕ) → is_open (put k rows compared o) n ≡ false
       → (is_at o n ≡ false) × (is_at (at k rows) n ≡ false → is_open rows n ≡ false)
-  put-off Tenures n off = let each = each-off (is_at o n) (is_at rows.cycle n) (is_at rows.transfer n) off in (
+  put-off Tenures n off = let each = or-fails_each (is_at o n) (is_at rows.cycle n) (is_at rows.transfer n) off in (
     each.0,
-    λ e. all-off (is_at rows.tenure n) (is_at rows.cycle n) (is_at rows.transfer n) e each.1 each.2,
+    λ e. or-fails_all (is_at rows.tenure n) (is_at rows.cycle n) (is_at rows.transfer n) e each.1 each.2,
   )
-  put-off Cycles n off = let each = each-off (is_at rows.tenure n) (is_at o n) (is_at rows.transfer n) off in (
+  put-off Cycles n off = let each = or-fails_each (is_at rows.tenure n) (is_at o n) (is_at rows.transfer n) off in (
     each.1,
-    λ e. all-off (is_at rows.tenure n) (is_at rows.cycle n) (is_at rows.transfer n) each.0 e each.2,
+    λ e. or-fails_all (is_at rows.tenure n) (is_at rows.cycle n) (is_at rows.transfer n) each.0 e each.2,
   )
-  put-off Transfers n off = let each = each-off (is_at rows.tenure n) (is_at rows.cycle n) (is_at o n) off in (
+  put-off Transfers n off = let each = or-fails_each (is_at rows.tenure n) (is_at rows.cycle n) (is_at o n) off in (
     each.2,
-    λ e. all-off (is_at rows.tenure n) (is_at rows.cycle n) (is_at rows.transfer n) each.0 each.1 e,
+    λ e. or-fails_all (is_at rows.tenure n) (is_at rows.cycle n) (is_at rows.transfer n) each.0 each.1 e,
   )
 
+  -- rows that are at their places stay there with another row of a kind that is taken
   put-placed : (k : OpenRowKind) {given : List Row} {taken : ℕ} → AreAtPlaces given taken rows → IsTakenAt given taken o
       → AreAtPlaces given taken (put k rows compared o)
   put-placed Tenures p new = record { tenure = new; cycle = p.cycle; transfer = p.transfer }
   put-placed Cycles p new = record { tenure = p.tenure; cycle = new; transfer = p.transfer }
   put-placed Transfers p new = record { tenure = p.tenure; cycle = p.cycle; transfer = new }
 
-at-place : {Source : Type 0} {given : List Row} {taken : ℕ} {rows : OpenRows Source} (k : OpenRowKind)
+-- the open row of a kind is at its place, if all are
+AreAtPlaces-at : {Source : Type 0} {given : List Row} {taken : ℕ} {rows : OpenRows Source} (k : OpenRowKind)
     → AreAtPlaces given taken rows → IsTakenAt given taken (at k rows)
-at-place Tenures p = p.tenure
-at-place Cycles p = p.cycle
-at-place Transfers p = p.transfer
+AreAtPlaces-at Tenures p = p.tenure
+AreAtPlaces-at Cycles p = p.cycle
+AreAtPlaces-at Transfers p = p.transfer
 
 -- one row of a kind is compared, starts, or gets its answer, and the others stay as they are
 module _ {Whole Source : Type 0} {gave : Whole → Source → List Row → Type 0} {is_over : Source → Type 0} {whole : Whole}
     {v : Version} {done : List Row} {t : Trace} {stretch : Stretch} {first taken : ℕ} {old : OpenRows Source}
     (h : AreTaken gave is_over whole v done t stretch first taken old) (next : ℕ) (order : first ≤ next) where
+  -- where nothing happens, the same rows are taken, though more may be counted
   rests : {many : ℕ} → taken ≡ many → AreTaken gave is_over whole v done t stretch next many old
   rests e = record {
     version_is = h.version_is;
@@ -529,6 +562,7 @@ module _ {Whole Source : Type 0} {gave : Whole → Source → List Row → Type 
   }
 
   module _ (k : OpenRowKind) {new : Comparison Source} where
+    -- the row of a kind that ends is compared, and is no longer open
     compares_row : {many : ℕ} {edge : Option ℕ} → HasComparedRow (at k old) edge old.compared new
         → ((end : ℕ) → next ≤ end → end ≤ stretch.end
         → IsDue h.given (expected_to v done t stretch end) old.compared.taken edge (at k old))
@@ -540,10 +574,11 @@ module _ {Whole Source : Type 0} {gave : Whole → Source → List Row → Type 
       is_given = compare_row-given s h.is_given;
       compared = λ end from within. compared-fewer (is_open (put k old new None))
           (compare_row-compared s (h.compared end (omega arith) within) (due end from within))
-          (λ n off. without-off (is_open old n) (is_at (at k old) n) (put-off old new None k n off).1);
+          (λ n off. and-not_fails (is_open old n) (is_at (at k old) n) (put-off old new None k n off).1);
       placed = put-placed old new None k (subst (λ n. AreAtPlaces h.given n old) (sym s.taken) h.placed) tt;
     }
 
+    -- a row of a kind starts, and is open
     begins : {expected : Row} {row : OpenRow} {many : ℕ} → at k old ≡ None
         → IsBegun gave is_over expected old.compared new row → taken + 1 ≡ many
         → AreTaken gave is_over whole v done t stretch next many (put k old new (Some row))
@@ -558,21 +593,24 @@ module _ {Whole Source : Type 0} {gave : Whole → Source → List Row → Type 
           compared = λ end from within. begun-compared b g.more (expected_to v done t stretch end) now
               (h.compared end (omega arith) within) g.extends (λ n below. refl)
               (λ n off. let parts = put-off old new (Some row) k n off in
-              (parts.1 (none-at (at k old) n none), parts.0));
+              (parts.1 (is_at-none (at k old) n none), parts.0));
           placed = put-placed old new (Some row) k
-              (placed-more h.given g.more old.compared.taken new.taken old (omega (arith, b.taken)) g.extends h.placed)
+              (AreAtPlaces-more h.given g.more old.compared.taken new.taken old (omega (arith, b.taken)) g.extends
+              h.placed)
               (record {
                 below = omega (arith, b.place, b.taken);
                 given_is = g.given_is ∙ ap (slice_get g.more) (sym b.place);
               });
         }
 
+    -- a row that starts is the expected one, put in the version
     expected-is : {expected : Row} {row : OpenRow} → IsBegun gave is_over expected old.compared new row
         → row.expected ≡ row_in v expected
     expected-is {expected} b = b.expected_is ∙ ap (λ (w : Version). row_in w expected) h.version_is
 
   -- a tenure or a cycle
   module _ (k : OpenRowKind) (l : ℕ) {new : Comparison Source} where
+    -- a row that ends where a line rises is open as it starts, where the line is low
     line-begins : {expected : Row} {row : OpenRow} {many : ℕ} (j : ℕ) → next ≡ j + 1 → at k old ≡ None → low t l j
         ≡ true
         → IsBegun gave is_over expected old.compared new row → taken + 1 ≡ many
@@ -587,51 +625,61 @@ module _ {Whole Source : Type 0} {gave : Whole → Source → List Row → Type 
           ∙ places end from),
     )
 
+    -- where the line rises, the row is compared, and is no longer open
     line-ends : {many : ℕ} (j : ℕ) → next ≡ j + 1 → IsOpenAt v done t stretch l j (at k old) → rises t l j ≡ true
         → HasComparedRow (at k old) (Some j) old.compared new → taken ≡ many
         → AreTaken gave is_over whole v done t stretch next many (put k old new None)
     line-ends j here opened high s = compares_row k s (λ end from within. open-due v done t stretch l j h.given
-        old.compared.taken (at k old) high (at-place k h.placed) opened end (omega arith) within)
+        old.compared.taken (at k old) high (AreAtPlaces-at k h.placed) opened end (omega arith) within)
 
 -- which rows start at an instant
 module _ (t : Trace) (stretch : Stretch) (j : ℕ) (judged : is_judged stretch j ≡ true) (end : ℕ) where
+  -- a judged instant isn't the start of the stretch
   not_start : (j == stretch.start) ≡ false
   not_start = grind (arith, nat_tests)
 
+  -- where BBSY falls, a tenure starts with its level and its slot
   pub tenure-rows-at : falls t BBSY j ≡ true → tenure_rows t stretch end j
       ≡ tenure_row j (tenure_level t j) (tenure_slot t j) (least (rises t BBSY) (j + 1) end)
   unfolding tenure_rows tenure_starts
   tenure-rows-at here = rw (not_start, judged, here) refl
 
+  -- where BBSY doesn't fall, no tenure starts
   pub tenure-rows-not : falls t BBSY j ≡ false → tenure_rows t stretch end j ≡ []
   unfolding tenure_rows tenure_starts
   tenure-rows-not here = rw (not_start, judged, here) refl
 
+  -- where AS falls, a cycle starts
   pub cycle-rows-at : falls t AS j ≡ true → cycle_rows t stretch end j
       ≡ cycle_row j (levels_at t j) (least (rises t AS) (j + 1) end) (class_of (levels_at t j)) ∷ []
   unfolding cycle_rows cycle_starts
   cycle-rows-at here = rw (judged, here) refl
 
+  -- where AS doesn't fall, no cycle starts
   pub cycle-rows-not : falls t AS j ≡ false → cycle_rows t stretch end j ≡ []
   unfolding cycle_rows cycle_starts
   cycle-rows-not here = rw (judged, here) refl
 
+  -- where a transfer starts, its row is the one by its first answer
   pub transfer-rows-at : starts_transfer t j ≡ true → transfer_rows t stretch end j
       ≡ transfer_row t stretch end j (least (answers t stretch j) j end) ∷ []
   unfolding transfer_rows
   transfer-rows-at here = rw (starts-is t stretch j judged ∙ here) refl
 
+  -- where no transfer starts, there is no row of one
   pub transfer-rows-not : starts_transfer t j ≡ false → transfer_rows t stretch end j ≡ []
   unfolding transfer_rows
   transfer-rows-not here = rw (starts-is t stretch j judged ∙ here) refl
 
+-- the row of a cycle without its end, when the end is set, is the row with it
 cycle_row-with_edge : (i : ℕ) (v : Levels) (edge : Option ℕ) (c : Class)
     → with_edge (cycle_row i v None c) edge ≡ cycle_row i v edge c
 cycle_row-with_edge i v edge class.S = refl
 cycle_row-with_edge i v edge c = refl
 
-same-length : {xs ys : List Row} → xs ≡ ys → length xs ≡ length ys
-same-length e = ap (λ (rows : List Row). length rows) e
+-- equal lists of rows have the same length
+length-equal_rows : {xs ys : List Row} → xs ≡ ys → length xs ≡ length ys
+length-equal_rows e = ap (λ (rows : List Row). length rows) e
 
 -- the open rows stay, where the instants up to which they are described change
 are-still : {Whole Source : Type 0} {gave : Whole → Source → List Row → Type 0} {is_over : Source → Type 0}
@@ -653,6 +701,7 @@ module _ {Whole Source : Type 0} {gave : Whole → Source → List Row → Type 
     (is : IsStretchOf t stretch) (judged : is_judged stretch j ≡ true) where
   -- a tenure
   module _ (h : Follows gave is_over whole v done t stretch j old) where
+    -- where BBSY falls after a grant, the row of a tenure starts
     pub tenure-begins : falls t BBSY j ≡ true → {level slot : ℕ} → tenure_level t j ≡ Some level
         → tenure_slot t j ≡ Some slot → {new : Comparison Source} {row : OpenRow}
         → IsBegun gave is_over (Tenure j level slot None) old.compared new row
@@ -663,7 +712,7 @@ module _ {Whole Source : Type 0} {gave : Whole → Source → List Row → Type 
         λ end. tenure-rows-at t stretch j judged end here ∙ rw (e, f) refl in
         let (taken, opened) = line-begins h.are_taken (j + 1) (omega arith) Tenures BBSY j refl
         (open-none v done t stretch BBSY j old.tenure here h.tenure) (fall-low t BBSY j here) b
-        (ap (λ n. count_before v done t stretch j + n) (sym (same-length (starts j))))
+        (ap (λ n. count_before v done t stretch j + n) (sym (length-equal_rows (starts j))))
         (λ end from. tenure-place t stretch v done end j from _ (starts end)) in
         record { are_taken = taken; tenure = opened; cycle = h.cycle; transfer = h.transfer }
 
@@ -671,14 +720,16 @@ module _ {Whole Source : Type 0} {gave : Whole → Source → List Row → Type 
     unlisted : falls t BBSY j ≡ true → tenure_row j (tenure_level t j) (tenure_slot t j)
         (least (rises t BBSY) (j + 1) j) ≡ [] → WithTenure gave is_over whole v done t stretch j old
     unlisted here none = are-still h (omega arith)
-        (omega (arith, same-length (tenure-rows-at t stretch j judged j here ∙ none)))
+        (omega (arith, length-equal_rows (tenure-rows-at t stretch j judged j here ∙ none)))
         (subst (IsOpenAt v done t stretch BBSY (j + 1))
         (sym (open-none v done t stretch BBSY j old.tenure here h.tenure)) tt) h.cycle h.transfer
 
+    -- a tenure without a level isn't listed
     pub tenure-no_level : falls t BBSY j ≡ true → tenure_level t j ≡ None
         → WithTenure gave is_over whole v done t stretch j old
     tenure-no_level here e = unlisted here (rw e refl)
 
+    -- a tenure without a slot isn't listed
     pub tenure-no_slot : falls t BBSY j ≡ true → tenure_slot t j ≡ None
         → WithTenure gave is_over whole v done t stretch j old
     tenure-no_slot here e = unlisted here (rw e (none_of (tenure_level t j)))
@@ -687,12 +738,13 @@ module _ {Whole Source : Type 0} {gave : Whole → Source → List Row → Type 
         none_of None = refl
         none_of (Some level) = refl
 
+    -- where BBSY rises, the open row of a tenure ends
     pub tenure-ends : rises t BBSY j ≡ true → {new : Comparison Source}
         → HasComparedRow old.tenure (Some j) old.compared new
         → WithTenure gave is_over whole v done t stretch j (put Tenures old new None)
     tenure-ends here s = record {
       are_taken =
-          let none = same-length (tenure-rows-not t stretch j judged j (no-fall t BBSY j here)) in
+          let none = length-equal_rows (tenure-rows-not t stretch j judged j (no-fall t BBSY j here)) in
           let count : count_before v done t stretch j ≡ count_with_tenure v done t stretch j = omega (arith, none) in
           line-ends h.are_taken (j + 1) (omega arith) Tenures BBSY j refl h.tenure here s count;
       tenure = tt;
@@ -700,15 +752,17 @@ module _ {Whole Source : Type 0} {gave : Whole → Source → List Row → Type 
       transfer = h.transfer;
     }
 
+    -- where BBSY neither falls nor rises, the open row of a tenure stays
     pub tenure-stays : falls t BBSY j ≡ false → rises t BBSY j ≡ false
         → WithTenure gave is_over whole v done t stretch j old
     tenure-stays not_here held = are-still h (omega arith)
-        (omega (arith, same-length (tenure-rows-not t stretch j judged j not_here)))
+        (omega (arith, length-equal_rows (tenure-rows-not t stretch j judged j not_here)))
         (open-stays v done t stretch BBSY j old.tenure held
         (control-known t stretch is j judged BBSY (omega arith) refl) h.tenure) h.cycle h.transfer
 
   -- a cycle
   module _ (h : WithTenure gave is_over whole v done t stretch j old) where
+    -- where AS falls, the row of a cycle starts
     pub cycle-begins : falls t AS j ≡ true → {levels : Levels} → levels ≡ levels_at t j
         → {new : Comparison Source} {expected : Row} {row : OpenRow}
         → IsBegun gave is_over expected old.compared new row
@@ -717,7 +771,7 @@ module _ {Whole Source : Type 0} {gave : Whole → Source → List Row → Type 
     cycle-begins here {levels} same {expected = expected} b is =
         let (taken, opened) = line-begins h.are_taken (j + 1) (omega arith) Cycles AS j refl
         (open-none v done t stretch AS j old.cycle here h.cycle) (fall-low t AS j here) b
-        (ap (λ n. count_with_tenure v done t stretch j + n) (sym (same-length
+        (ap (λ n. count_with_tenure v done t stretch j + n) (sym (length-equal_rows
         (cycle-rows-at t stretch j judged j here))))
         (λ end from. cycle-place t stretch v done end j from _ (cycle-rows-at t stretch j judged end here)
         ∙ ap (λ (r : Row). Some (row_in v r)) (sym (ap (λ (r : Row). with_edge r (least (rises t AS) (j + 1) end)) is
@@ -725,11 +779,12 @@ module _ {Whole Source : Type 0} {gave : Whole → Source → List Row → Type 
         ∙ ap (λ (w : Levels). cycle_row j w (least (rises t AS) (j + 1) end) (class_of w)) same)))) in
         record { are_taken = taken; tenure = h.tenure; cycle = opened; transfer = h.transfer }
 
+    -- where AS rises, the open row of a cycle ends
     pub cycle-ends : rises t AS j ≡ true → {new : Comparison Source} → HasComparedRow old.cycle (Some j)
         old.compared new → WithCycle gave is_over whole v done t stretch j (put Cycles old new None)
     cycle-ends here s = record {
       are_taken =
-          let none = same-length (cycle-rows-not t stretch j judged j (no-fall t AS j here)) in
+          let none = length-equal_rows (cycle-rows-not t stretch j judged j (no-fall t AS j here)) in
           let count : count_with_tenure v done t stretch j ≡ count_with_cycle v done t stretch j = omega (arith, none)
           in
           line-ends h.are_taken (j + 1) (omega arith) Cycles AS j refl h.cycle here s count;
@@ -738,13 +793,15 @@ module _ {Whole Source : Type 0} {gave : Whole → Source → List Row → Type 
       transfer = h.transfer;
     }
 
+    -- where AS neither falls nor rises, the open row of a cycle stays
     pub cycle-stays : falls t AS j ≡ false → rises t AS j ≡ false → WithCycle gave is_over whole v done t stretch j old
     cycle-stays not_here held = are-still h (omega arith)
-        (omega (arith, same-length (cycle-rows-not t stretch j judged j not_here))) h.tenure
+        (omega (arith, length-equal_rows (cycle-rows-not t stretch j judged j not_here))) h.tenure
         (open-stays v done t stretch AS j old.cycle held (address-known t stretch is j judged) h.cycle) h.transfer
 
   -- a transfer starts
   module _ (h : WithCycle gave is_over whole v done t stretch j old) where
+    -- where a transfer starts, its row starts without an answer
     pub transfer-begins : starts_transfer t j ≡ true → {new : Comparison Source} {expected : Row} {row : OpenRow}
         → IsBegun gave is_over expected old.compared new row
         → expected ≡ PendingTransfer j (if low t WRITE j then Write else Read)
@@ -753,7 +810,7 @@ module _ {Whole Source : Type 0} {gave : Whole → Source → List Row → Type 
     transfer-begins here {row = row} b is = record {
       are_taken = begins h.are_taken (j + 1) (omega arith) Transfers
           (transfer-none t stretch v done j judged old.transfer here h.transfer) b
-          (ap (λ n. count_with_cycle v done t stretch j + n) (sym (same-length
+          (ap (λ n. count_with_cycle v done t stretch j + n) (sym (length-equal_rows
           (transfer-rows-at t stretch j judged j here)))
           ∙ sym (next-count t stretch v done j));
       tenure = h.tenure;
@@ -764,9 +821,10 @@ module _ {Whole Source : Type 0} {gave : Whole → Source → List Row → Type 
           ∙ transfer-place t stretch v done end j from _ (transfer-rows-at t stretch j judged end here));
     }
 
+    -- where no transfer starts, the open row of one stays
     pub transfer-idle : starts_transfer t j ≡ false → WithTransfer gave is_over whole v done t stretch j old
     transfer-idle not_here =
-        let none = same-length (transfer-rows-not t stretch j judged j not_here) in
+        let none = length-equal_rows (transfer-rows-not t stretch j judged j not_here) in
         are-still h (omega arith) (omega (arith, next-count t stretch v done j, none)) h.tenure h.cycle
         (transfer-kept t stretch v done j judged old.transfer not_here h.transfer)
 
@@ -806,6 +864,7 @@ module _ {Whole Source : Type 0} {gave : Whole → Source → List Row → Type 
 
   -- where both strobes are high the transfer closes, elsewhere it stays open
   module _ (h : WithAnswer gave is_over whole v done t stretch j old) where
+    -- where both strobes are high, the open row of a transfer ends
     pub transfer-closes : strobes_high t j ≡ true → {new : Comparison Source}
         → HasComparedRow old.transfer (Some j) old.compared new
         → Follows gave is_over whole v done t stretch (j + 1) (put Transfers old new None)
@@ -819,6 +878,7 @@ module _ {Whole Source : Type 0} {gave : Whole → Source → List Row → Type 
       transfer = tt;
     }
 
+    -- where they aren't both high, it stays
     pub transfer-lasts : strobes_high t j ≡ false → Follows gave is_over whole v done t stretch (j + 1) old
     transfer-lasts not_here = are-still h (omega arith) refl h.tenure h.cycle
         (transfer-open t stretch v done j judged old.transfer not_here h.transfer)
@@ -829,15 +889,17 @@ pub ruleset ends = (tenure-ends, cycle-ends, transfer-closes)
 -- ---- The open rows as a stretch starts.
 
 module _ (t : Trace) (stretch : Stretch) where
-  -- no row starts before the stretch, and at its start only a tenure
+  -- up to the start of the stretch no cycle starts
   cycles-none : (end i : ℕ) → i ≤ stretch.start → cycle_rows t stretch end i ≡ []
   unfolding cycle_rows cycle_starts
   cycles-none end i h = rw (is_judged-not_up_to_start stretch i h) refl
 
+  -- up to the start of the stretch no transfer starts
   transfers-none : (end i : ℕ) → i ≤ stretch.start → transfer_rows t stretch end i ≡ []
   unfolding transfer_rows transfer_starts
   transfers-none end i h = rw (is_judged-not_up_to_start stretch i h) refl
 
+  -- before the start of the stretch no tenure starts
   tenures-none : (end i : ℕ) → i < stretch.start → tenure_rows t stretch end i ≡ []
   unfolding tenure_rows tenure_starts
   tenures-none end i h = rw (other i h, is_judged-not_up_to_start stretch i (omega arith)) refl
@@ -845,6 +907,7 @@ module _ (t : Trace) (stretch : Stretch) where
       other : (i : ℕ) → i < stretch.start → (i == stretch.start) ≡ false
       other i h = grind (arith, nat_tests)
 
+  -- up to the start of the stretch no row starts before
   none-before : (end i : ℕ) → i ≤ stretch.start → rows_before t stretch end i ≡ []
   unfolding rows_before
   none-before end zero h = refl
@@ -855,18 +918,23 @@ module _ (t : Trace) (stretch : Stretch) where
     transfers-none end i (omega arith),
   ) refl
 
+  -- the start of the stretch is equal to itself, by the test
   same : (stretch.start == stretch.start) ≡ true
   same = grind (arith, nat_tests)
 
+  -- where the bus is busy at the start of the stretch, a tenure is open there
   open-there : (end : ℕ) → low t BBSY stretch.start ≡ true → tenure_rows t stretch end stretch.start
       ≡ OpenTenure stretch.start (least (rises t BBSY) (stretch.start + 1) end) ∷ []
   unfolding tenure_rows
   open-there end busy = rw (same, busy) refl
 
+  -- where it isn't, none is
   free-there : (end : ℕ) → low t BBSY stretch.start ≡ false → tenure_rows t stretch end stretch.start ≡ []
   unfolding tenure_rows tenure_starts
   free-there end free = rw (same, free, is_judged-not_up_to_start stretch stretch.start (omega arith)) refl
 
+  -- the rows before the instant after the start are those of earlier stretches, the row of the start, and that of an
+  -- open tenure
   counted : (v : Version) (done : List Row) → count_before v done t stretch (stretch.start + 1)
       ≡ length done + 1 + length (tenure_rows t stretch stretch.start stretch.start)
   counted v done =
@@ -874,14 +942,15 @@ module _ (t : Trace) (stretch : Stretch) where
       omega (
         arith,
         next-count t stretch v done stretch.start,
-        same-length (none-before stretch.start stretch.start from),
-        same-length (cycles-none stretch.start stretch.start from),
-        same-length (transfers-none stretch.start stretch.start from),
+        length-equal_rows (none-before stretch.start stretch.start from),
+        length-equal_rows (cycles-none stretch.start stretch.start from),
+        length-equal_rows (transfers-none stretch.start stretch.start from),
       )
 
 module _ {Whole Source : Type 0} {gave : Whole → Source → List Row → Type 0} {is_over : Source → Type 0} {whole : Whole}
     {v : Version} (done : List Row) (t : Trace) (stretch : Stretch) {old : OpenRows Source} (closed : NoneIsOpen old)
     (h : CanClose gave is_over whole v (done ++ Start stretch.start ∷ []) old) where
+  -- the rows up to that of the start of the stretch
   abbrev front : List Row
   front = done ++ Start stretch.start ∷ []
 
@@ -912,35 +981,39 @@ module _ {Whole Source : Type 0} {gave : Whole → Source → List Row → Type 
           ∙ slice_get-first_list (rows_in v front) (rows_in v rest) n
           (omega (arith, below, h.taken_is, rows_in-length v front)))
 
+  -- no cycle is open at the start of a stretch
   no_cycle : IsOpenAt v done t stretch AS (stretch.start + 1) old.cycle
   no_cycle = subst (IsOpenAt v done t stretch AS (stretch.start + 1)) (sym closed.cycle) tt
 
+  -- no transfer is open at the start of a stretch
   none_pending : IsTransferAt v done t stretch (stretch.start + 1) (stretch.start + 1) (stretch.start + 1) old.transfer
   none_pending =
       let first = stretch.start + 1 in
       subst (IsTransferAt v done t stretch first first first) (sym closed.transfer) tt
 
+  -- if the bus isn't busy at the start of a stretch, no row is open
   pub starts-free : low t BBSY stretch.start ≡ false → Follows gave is_over whole v done t stretch (stretch.start + 1)
       old
   starts-free free = record {
     are_taken = rests start_taken (stretch.start + 1) (omega arith)
-        (omega (arith, counted t stretch v done, same-length (free-there t stretch stretch.start free)));
+        (omega (arith, counted t stretch v done, length-equal_rows (free-there t stretch stretch.start free)));
     tenure = subst (IsOpenAt v done t stretch BBSY (stretch.start + 1)) (sym closed.tenure) tt;
     cycle = no_cycle;
     transfer = none_pending;
   }
 
+  -- if the bus is busy at the start of a stretch, the row of a tenure is open
   pub starts-busy : low t BBSY stretch.start ≡ true → {new : Comparison Source} {row : OpenRow}
       → IsBegun gave is_over (OpenTenure stretch.start None) old.compared new row
       → Follows gave is_over whole v done t stretch (stretch.start + 1) (put Tenures old new (Some row))
   starts-busy busy b =
       let there : count_before v done t stretch stretch.start ≡ length done + 1 =
-      omega (arith, same-length (none-before t stretch stretch.start stretch.start (omega arith))) in
+      omega (arith, length-equal_rows (none-before t stretch stretch.start stretch.start (omega arith))) in
       let (taken, opened) = line-begins start_taken (stretch.start + 1) (omega arith) Tenures BBSY stretch.start refl
       closed.tenure busy b (omega (
         arith,
         counted t stretch v done,
-        same-length (open-there t stretch stretch.start busy),
+        length-equal_rows (open-there t stretch stretch.start busy),
       ))
       (λ end from. ap (slice_get (expected_to v done t stretch end)) (sym there)
       ∙ tenure-place t stretch v done end stretch.start from _ (open-there t stretch end busy)) in

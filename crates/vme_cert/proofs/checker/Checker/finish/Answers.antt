@@ -3,7 +3,7 @@ use Rattle.vme_cert.specs.Vocabulary.{Row, recorded_rows, rows_in}
 use Rattle.vme_cert.specs.Comparing.{IsCompared, is_at}
 use Rattle.vme_cert.proofs.Checking.{ended-all}
 use Rattle.vme_cert.proofs.Comparing.{compared-fewer}
-use Rattle.vme_cert.proofs.Following.{all-off, none-at}
+use Rattle.vme_cert.proofs.Following.{or-fails_all, is_at-none}
 use Rattle.vme_cert.proofs.Placing.{rows_in-length}
 use Rattle.vme_cert.proofs.checker.Checker.finish.Goals as goal
 
@@ -23,6 +23,7 @@ returns g c whole v t taken compared =
     (subst (λ (rows : List Row). IsCompared closed.given (rows_in v rows) new.compared.taken (λ n. false)
     new.compared.wrong) e.all
     (compared-fewer (λ n. false) closed.compared
-    (λ n off. all-off (is_at new.tenure n) (is_at new.cycle n) (is_at new.transfer n)
-    (none-at new.tenure n none.tenure) (none-at new.cycle n none.cycle) (none-at new.transfer n none.transfer))))
+    (λ n off. or-fails_all (is_at new.tenure n) (is_at new.cycle n) (is_at new.transfer n)
+    (is_at-none new.tenure n none.tenure) (is_at-none new.cycle n none.cycle)
+    (is_at-none new.transfer n none.transfer))))
     (closed.taken_is ∙ (ap (λ (rows : List Row). length rows) e.all ∙ sym (rows_in-length v (recorded_rows t))))

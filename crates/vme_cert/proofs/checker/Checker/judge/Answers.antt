@@ -2,7 +2,7 @@ use Rattle.std.proofs.Common.{◌≤◌, ◌∙◌, ◌++◌, refl, sym, arith}
 use Rattle.vme_cert.specs.Vocabulary.{stretch_from}
 use Rattle.vme_cert.specs.Following.{rows_to}
 use Rattle.vme_cert.proofs.Checking.{checks-ended, follows-close, goes-later, judge-breaks, judge-loses, judge-resets}
-use Rattle.vme_cert.proofs.Checking.{judge-state, judge-within, named-none}
+use Rattle.vme_cert.proofs.Checking.{judge-state, judge-within, named-no_break}
 use Rattle.vme_cert.proofs.checker.Checker.judge.Goals as goal
 
 pub returns-then-is_reset-clause-checks : goal.returns-then-is_reset-clause-checks
@@ -43,6 +43,6 @@ returns-clause-checks g c whole v t at within h =
     record {
       at = at;
       phase_is = goes-later within h before
-          (named-none _ (sym c.in_default-break_at.is ∙ c.break_at.ensures t stretch judges))
+          (named-no_break _ (sym c.in_default-break_at.is ∙ c.break_at.ensures t stretch judges))
           (c.later.ensures t stretch judges) (c.follow_instant.ensures.rows whole v h.done t stretch judges h.rows_are);
     }

@@ -4,7 +4,8 @@ use Rattle.vme_cert.specs.Vocabulary.{Row, Version, row_in, transfer_row}
 use Rattle.vme_cert.specs.WithEdge.{with_edge}
 use Rattle.vme_cert.specs.Following.{IsTransferAt}
 use Rattle.vme_cert.specs.declared.comparison.OpenRow.{OpenRow}
-use Rattle.vme_cert.proofs.Following.{with_edge-in, is-opened, transfer-answered, transfer-outside, transfer-unanswered}
+use Rattle.vme_cert.proofs.Following.{with_edge-in, IsOpenTransfer-answered, transfer-answered, transfer-outside}
+use Rattle.vme_cert.proofs.Following.{transfer-unanswered}
 use Rattle.vme_cert.proofs.Following.{transfer-replies, transfer-rests}
 use Rattle.vme_cert.proofs.open_rows.OpenRows.answer_transfer.Goals as goal
 
@@ -26,7 +27,7 @@ returns-clause-rows g c whole v done t stretch h rows =
     let j = c.args.bus.now.instant in
     let here = sym (c.is_answer.ensures t stretch h) ∙ c.if-not-is_answer.false in
     let transfer = c.args.state.now.transfer in
-    let opened = is-opened t stretch v done j h.judged transfer h.holds.transfer here in
+    let opened = IsOpenTransfer-answered t stretch v done j h.judged transfer h.holds.transfer here in
     let row = c.answered_row-row.result in
     transfer-replies j h.is h.judged rows c.in-Some.open _ c.in-Some.is refl refl
     (transfer-answered t stretch v done j h.judged c.in-Some.open transfer here opened
