@@ -1,3 +1,4 @@
+-- `GhostSteps::and_all` meets its contract, proved in the program logic step by step.
 use mathlib.Core.Path.{refl}
 use seplogic.Ra.Ura.{Ura}
 use mir.Syntax.{named}

@@ -1,3 +1,4 @@
+-- `GhostSteps::new` meets its contract, proved in the program logic step by step.
 use mathlib.Core.Path.{refl}
 use mathlib.Core.List.{[], ◌∷◌}
 use seplogic.Ra.Ura.{Ura}
