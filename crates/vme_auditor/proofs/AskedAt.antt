@@ -46,7 +46,8 @@ use Rattle.vme_dtb.specs.declared.cycle.CyclePhase.TheVariants.{InterruptDone, S
 use Rattle.vme_dtb.specs.declared.edges.Edges.{Edges}
 use Rattle.vme_dtb.specs.declared.memory.HandshakeMemory.{HandshakeMemory}
 use Rattle.vme_dtb.proofs.CycleBreaks.{cycle_starts-between, cycle_before-here}
-use Rattle.vme_dtb.proofs.CycleMemory.{cycle_before, in_interrupt_acknowledge, in_answered_interrupt_acknowledge, phase_by_answers}
+use Rattle.vme_dtb.proofs.CycleMemory.{cycle_before, in_interrupt_acknowledge, in_answered_interrupt_acknowledge}
+use Rattle.vme_dtb.proofs.CycleMemory.{phase_by_answers}
 use Rattle.vme_dtb.proofs.CycleMemory.{phase_of_cycle}
 use Rattle.vme_dtb.proofs.HandshakeBreaks.{is_answer-unanswered}
 use Rattle.vme_dtb.proofs.HandshakeMeaning.{Holds}
@@ -285,7 +286,8 @@ module _ (t : Trace) (ok : malformed_step t ≡ None) (few : t.opening.slots ≤
   -- the step shows the start of a transfer exactly if one starts at n + 1
   transfer_event : is_some shown.transfer ≡ transfer_starts t stretch (suc n)
   transfer_event =
-      is_some-cond (starts_between v w) (is_low (level_at w WRITE)) ∙ sym (transfer_starts-between t n stretch from before)
+      is_some-cond (starts_between v w) (is_low (level_at w WRITE))
+        ∙ sym (transfer_starts-between t n stretch from before)
 
   -- the step shows the start of a write exactly if one starts at n + 1
   write_event : option_map_or (λ (w : Bool). w) shown.transfer false ≡ write_starts t stretch (suc n)
@@ -303,14 +305,16 @@ module _ (t : Trace) (ok : malformed_step t ≡ None) (few : t.opening.slots ≤
       ≡ (strobe_rises t (suc n) && within_transfer t stretch (suc n))
   strobe_rise_event =
       and_comm (is_within m.transfer) (strobe_rises_between v w)
-      ∙ and-equal_parts _ _ _ _ (or-equal_parts _ _ _ _ (sym (rises-between t n DS0)) (sym (rises-between t n DS1))) within_event
+      ∙ and-equal_parts _ _ _ _ (or-equal_parts _ _ _ _ (sym (rises-between t n DS0)) (sym (rises-between t n DS1)))
+        within_event
 
   -- a strobe falls in the step, within a transfer, exactly if one does at n + 1
   strobe_fall_event : (is_within m.transfer && strobe_falls_between v w)
       ≡ (strobe_falls t (suc n) && within_transfer t stretch (suc n))
   strobe_fall_event =
       and_comm (is_within m.transfer) (strobe_falls_between v w)
-      ∙ and-equal_parts _ _ _ _ (or-equal_parts _ _ _ _ (sym (falls-between t n DS0)) (sym (falls-between t n DS1))) within_event
+      ∙ and-equal_parts _ _ _ _ (or-equal_parts _ _ _ _ (sym (falls-between t n DS0)) (sym (falls-between t n DS1)))
+        within_event
 
   -- an answer line falls in the step exactly if one falls at n + 1
   answer_fall_event : answer_between v w ≡ answer_falls t (suc n)
@@ -353,7 +357,8 @@ module _ (t : Trace) (ok : malformed_step t ≡ None) (few : t.opening.slots ≤
   -- BBSY falls in the step exactly if a tenure starts at n + 1
   tenure_event : falls_between v w BBSY ≡ tenure_starts t stretch (suc n)
   unfolding tenure_starts
-  tenure_event = sym (falls-between t n BBSY) ∙ ap (λ b. b && falls t BBSY (suc n)) (sym (is_judged-next t n stretch from before))
+  tenure_event = sym (falls-between t n BBSY)
+      ∙ ap (λ b. b && falls t BBSY (suc n)) (sym (is_judged-next t n stretch from before))
 
   -- the levels before the step have at most 21 slots, as the opening has
   few_slots : v.slots ≤ 21

@@ -114,7 +114,8 @@ settled_to-reached first now later steps out outs time made is next grown =
 -- ---- steps in order
 
 -- steps that may follow one another are in order
-are_in_order-after : (reached now : ℕ) (v : Levels) (steps : List Step) → reached ≤ now → MayComeAfter v (Some now) steps
+are_in_order-after : (reached now : ℕ) (v : Levels) (steps : List Step) → reached ≤ now
+    → MayComeAfter v (Some now) steps
     → are_in_order reached steps ≡ true
 unfolding are_in_order
 are_in_order-after reached now v [] le m = refl

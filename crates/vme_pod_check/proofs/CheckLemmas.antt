@@ -81,7 +81,8 @@ pods_answer_by-as_checked : (there : Result Verdict Refusal) (found : Result Ver
     → ((pods_answer_by found).status ≡ 4 → ⊥)
     → pods_answer_by found ≡ answer_by there
 pods_answer_by-as_checked there (Ok v) finds other = answer-AnswerGives answer_by refl (Ok v) there finds other
-pods_answer_by-as_checked there (Err (Refused r)) finds other = answer-AnswerGives answer_by refl (Err r) there finds other
+pods_answer_by-as_checked there (Err (Refused r)) finds other =
+    answer-AnswerGives answer_by refl (Err r) there finds other
 pods_answer_by-as_checked there (Err NoWorker) finds other = absurd (other refl)
 pods_answer_by-as_checked there (Err Stray) finds other = absurd finds
 

@@ -97,7 +97,8 @@ MayCome-of_fault blocks ds total w fault.BadTotal is positive few some most join
 MayCome-of_fault blocks ds total w fault.BadDraws is positive few some most join d r =
     deliveries-at_most (length blocks) (length ds)
     total is few d.count r.2
-MayCome-of_fault blocks ds total w fault.BadWorkers is positive few some most join d r = in_range-not_out w 64 some most r.3
+MayCome-of_fault blocks ds total w fault.BadWorkers is positive few some most join d r =
+    in_range-not_out w 64 some most r.3
 MayCome-of_fault blocks ds total w fault.Memory is positive few some most join d r = tt
 MayCome-of_fault blocks ds total w fault.NoWorker is positive few some most join d r = tt
 MayCome-of_fault blocks ds total w fault.Stray is positive few some most join d r = r

@@ -9,7 +9,8 @@ use Rattle.vcd_read.specs.Header.{◌>>=◌}
 use Rattle.vcd_read.specs.Meaning.{ReadFails, ReadGives, dump_of, instants_from}
 use Rattle.vcd_read.specs.Sections.{Defined, Headed}
 use Rattle.vcd_read.specs.BodyFold.{fold_body}
-use Rattle.vcd_read.proofs.DumpLemmas.{contents_of_header, with_variables, whole_header, dump_of-header, dump_of-whole_header}
+use Rattle.vcd_read.proofs.DumpLemmas.{contents_of_header, with_variables, whole_header, dump_of-header}
+use Rattle.vcd_read.proofs.DumpLemmas.{dump_of-whole_header}
 use Rattle.vcd_read.proofs.ReadLemmas.{ReadFails-first}
 use Rattle.vcd_read.proofs.CurrentValues.{CurrentValues}
 use Rattle.vcd_read.proofs.BodyFoldLemmas.{Ends, Follows, ReadFails-followed, ok-followed, Follows-fold_body}
