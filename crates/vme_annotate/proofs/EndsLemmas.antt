@@ -127,7 +127,7 @@ module _ (skew : ℕ) (binding dump : Reading × Reading) (out err : Writing × 
   Annotates-exact does b d binding_whole dump_whole same memory =
       let (binding_bytes, dump_bytes, found, text, binding_read, dump_read, given, annotation, end) = does in
       let b_is : binding_bytes ≡ Some b =
-        IsReading-whole binding.0 binding.1 binding_bytes b binding_read binding_whole in
+      IsReading-whole binding.0 binding.1 binding_bytes b binding_read binding_whole in
       let d_is : dump_bytes ≡ Some d = IsReading-whole dump.0 dump.1 dump_bytes d dump_read dump_whole in
       let with_b = subst (λ (x : Option (List ℕ)).
       AnswerGives (λ (t : Trace). t) found (settled_recording skew x dump_bytes BLOCK)) b_is given in

@@ -10,14 +10,14 @@ use Rattle.std.proofs.lemmas.List.Folds.{list_any-append}
 use Rattle.std.proofs.lemmas.Simd.{map-map}
 use Rattle.vme_trace.specs.Streams.{Reading, Writing}
 use Rattle.vme_bind.specs.Binding.{BoundLines}
-use Rattle.vme_bind.proofs.PathSearchLemmas.{stepped_rest}
+use Rattle.vme_bind.proofs.PathSearchLemmas.{drop-set_same_rest}
 use Rattle.vme_stream.specs.Outputs.{TriesToWrite, Writes}
+use Rattle.vme_stream.proofs.OutputLemmas.{FailsToWrite-after, Writes-append, Writes-nothing}
 use Rattle.vme_audit_command.specs.DumpAnswers.{AuditOptions}
 use Rattle.vme_audit_command.specs.DumpEnds.{CannotWriteDump, WritesDump}
 use Rattle.vme_audit_command.specs.SeveralDumps.{AuditsDumps, CannotWriteDumps, DumpEnd, MayEnd, NamedReading}
 use Rattle.vme_audit_command.specs.SeveralDumps.{TriesEach, WritesDumps, audit_status, cannot_write_line}
 use Rattle.vme_audit_command.specs.SeveralDumps.{first_occurred}
-use Rattle.vme_audit_command.proofs.WriteLemmas.{FailsToWrite-after, Writes-append, Writes-nothing}
 
 -- ---- the status
 
@@ -203,7 +203,7 @@ module _ (options : AuditOptions) (bound : BoundLines) where
         ∙ sym (append_assoc (map (source_by f) (take i now)) (source_by f y ∷ []) (map (source_by f) later))
         ∙ ap (λ (l : List Reading). l ++ map (source_by f) later) sources-with_next
         ∙ ap (λ (l : List A). map (source_by f) (take (i + 1) stepped) ++ map (source_by f) l)
-        (sym (stepped_rest now dumps i y rest))
+        (sym (drop-set_same_rest now dumps i y rest))
         ∙ sym (map-append (source_by f) (take (i + 1) stepped) (drop (i + 1) stepped))
         ∙ ap (map (source_by f)) (take-append-drop (i + 1) stepped)
 

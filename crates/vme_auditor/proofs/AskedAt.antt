@@ -287,7 +287,7 @@ module _ (t : Trace) (ok : malformed_step t ≡ None) (few : t.opening.slots ≤
   transfer_event : is_some shown.transfer ≡ transfer_starts t stretch (suc n)
   transfer_event =
       is_some-cond (starts_between v w) (is_low (level_at w WRITE))
-        ∙ sym (transfer_starts-between t n stretch from before)
+      ∙ sym (transfer_starts-between t n stretch from before)
 
   -- the step shows the start of a write exactly if one starts at n + 1
   write_event : option_map_or (λ (w : Bool). w) shown.transfer false ≡ write_starts t stretch (suc n)
@@ -306,7 +306,7 @@ module _ (t : Trace) (ok : malformed_step t ≡ None) (few : t.opening.slots ≤
   strobe_rise_event =
       and_comm (is_within m.transfer) (strobe_rises_between v w)
       ∙ and-equal_parts _ _ _ _ (or-equal_parts _ _ _ _ (sym (rises-between t n DS0)) (sym (rises-between t n DS1)))
-        within_event
+      within_event
 
   -- a strobe falls in the step, within a transfer, exactly if one does at n + 1
   strobe_fall_event : (is_within m.transfer && strobe_falls_between v w)
@@ -314,7 +314,7 @@ module _ (t : Trace) (ok : malformed_step t ≡ None) (few : t.opening.slots ≤
   strobe_fall_event =
       and_comm (is_within m.transfer) (strobe_falls_between v w)
       ∙ and-equal_parts _ _ _ _ (or-equal_parts _ _ _ _ (sym (falls-between t n DS0)) (sym (falls-between t n DS1)))
-        within_event
+      within_event
 
   -- an answer line falls in the step exactly if one falls at n + 1
   answer_fall_event : answer_between v w ≡ answer_falls t (suc n)

@@ -66,7 +66,7 @@ module _ (t : Trace) (stretch : Stretch) (ok : malformed_step t ≡ None) (few :
         subst (λ (w : Levels). first_changed (passes_on old w) changes ≡ least (passes_on old w) 0 line_count)
         (sym (levels_at-step t n within))
         (first_changed-least old (passes_on old (changed old changes)) few_slots 0 changes
-          (are_changes-step t n ok within)
+        (are_changes-step t n ok within)
         (passes_on-unchanged old changes))
 
     -- the first changed line for which `passes_unasked` holds is the least of all lines for which it holds

@@ -168,10 +168,10 @@ Confirms-exact skew binding dump listing out err status confirms b d l binding_w
     (listing_text listing_bytes) given
     found none rows answered in
     let b_is : binding_bytes ≡ Some b = IsReading-whole binding.0 binding.1 binding_bytes b binding_reading
-      binding_whole in
+    binding_whole in
     let d_is : dump_bytes ≡ Some d = IsReading-whole dump.0 dump.1 dump_bytes d dump_reading dump_whole in
     let l_is : listing_bytes ≡ Some l = IsReading-whole listing.0 listing.1 listing_bytes l listing_reading
-      listing_whole in
+    listing_whole in
     let with_b = subst (λ (x : Option (List ℕ)). IsConfirmation skew (binding_read x) (dump_read dump_bytes)
     (listing_text listing_bytes) found) b_is is in
     let with_d = subst (λ (x : Option (List ℕ)). IsConfirmation skew (binding_read (Some b)) (dump_read x)
