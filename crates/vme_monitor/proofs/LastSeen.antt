@@ -1,6 +1,6 @@
 -- Memories with an entry of `last_seen` for each place, and lists in which no two memories are at one place.
 use Rattle.std.proofs.Common.{◌≡◌, ◌≢◌, ◌⊎◌, ℕ, zero, suc, ◌<◌, ◌≤◌, List, [], ◌∷◌, ◌++◌, length, map, set, refl, ap}
-use Rattle.std.proofs.Common.{sym, ◌∙◌, subst, arith, inl, inr, ⊎_elim, get_or, Option, Some, None}
+use Rattle.std.proofs.Common.{sym, ◌∙◌, subst, arith, inl, inr, ⊎_elim, Option, Some, None}
 use mathlib.Core.Logic.{dite}
 use native.Mathlib.Decide.{ℕ_discrete}
 use Rattle.std.specs.Prelude.{slice_get, unwrap_or}
@@ -138,27 +138,6 @@ module _ {P : Type 0} (place : P → ℕ) where
       (same_value other p (sym here ∙ ap (λ n. slice_get ms n) (entry_of ms last_seen k at there index_at_place i p e
       same) ∙ e)) ∙ same)
 
-  -- two memories at different places
-  pub two_distinct : (ms : List P) (p q : P) → ms ≡ p ∷ q ∷ [] → place p ≢ place q → AreDistinct place ms
-  two_distinct ms p q is other = subst (AreDistinct place) (sym is) at
-    where
-      at : (i j : ℕ) (a b : P) → slice_get (p ∷ q ∷ []) i ≡ Some a → slice_get (p ∷ q ∷ []) j ≡ Some b → place a
-          ≡ place b → i ≡ j
-      at zero zero a b e f same = refl
-      at zero (suc zero) a b e f same = absurd
-          (other (ap place (same_value p a e) ∙ same ∙ ap place (same_value b q (sym f))))
-      at (suc zero) zero a b e f same = absurd
-          (other (ap place (same_value p b f) ∙ sym same ∙ ap place (same_value a q (sym e))))
-      at (suc zero) (suc zero) a b e f same = refl
-      at (suc (suc i)) j a b e f same = absurd (no_value a e)
-      at zero (suc (suc j)) a b e f same = absurd (no_value b f)
-      at (suc zero) (suc (suc j)) a b e f same = absurd (no_value b f)
-
-  -- at most one memory
-  pub one_distinct : (ms : List P) → length ms < 2 → AreDistinct place ms
-  one_distinct ms few i j p q a b same = let x = slice_get_within ms i p a in let y = slice_get_within ms j q b in
-      omega (arith, x, y)
-
 -- a list with one memory more is among `others` if that memory is
 pub among_more : {P : Type 0} (ms more others : List P) (m : P) (k : ℕ) → slice_get others k ≡ Some m
     → ((i : ℕ) (p : P) → slice_get more i ≡ Some p → (slice_get ms i ≡ Some p) ⊎ (p ≡ m)) → AreAmong ms others
@@ -166,26 +145,3 @@ pub among_more : {P : Type 0} (ms more others : List P) (m : P) (k : ℕ) → sl
 among_more {P} ms more others m k there added among i p e =
     ⊎_elim (λ a. among i p a) (λ a. let r : (j : ℕ) × (slice_get others j ≡ Some p) = (k, there ∙ ap Some (sym a)) in
     r) (added i p e)
-
-pub length-memories : {P : Type 0} (rows : List (TableRow P)) → length (memories_in (map outcome_of rows)) ≡ length rows
-length-memories [] = refl
-length-memories (r ∷ rows) = ap suc (length-memories rows)
-
-two_memories : {P : Type 0} (rows : List (TableRow P)) (a b : TableRow P) → length rows ≡ 2 → a ≡ get_or rows 0 a → b
-    ≡ get_or rows 1 b → memories_in (map outcome_of rows) ≡ a.memory ∷ b.memory ∷ []
-two_memories [] a b len first second = absurd (omega arith)
-two_memories (x ∷ []) a b len first second = absurd (omega arith)
-two_memories {P} (x ∷ y ∷ []) a b len first second =
-    let one : x ≡ a = sym first in
-    let two : y ≡ b = sym second in
-    ap (λ (r : TableRow P). r.memory ∷ y.memory ∷ []) one ∙ ap (λ (r : TableRow P). a.memory ∷ r.memory ∷ []) two
-two_memories (x ∷ y ∷ z ∷ rows) a b len first second = absurd (omega arith)
-
--- two rows are in different memories if one is more sensitive, or if the places differ
-pub two_rows_distinct : {P : Type 0} (place sensitivity : P → ℕ) (nth : ℕ → P) → ((p : P) → nth (place p) ≡ p)
-    → (rows : List (TableRow P)) (a b : TableRow P) → length rows ≡ 2 → a ≡ get_or rows 0 a → b ≡ get_or rows 1 b
-    → (sensitivity a.memory ≢ sensitivity b.memory) ⊎ (place a.memory ≢ place b.memory) → AreDistinct place
-    (memories_in (map outcome_of rows))
-two_rows_distinct place sensitivity nth found rows a b len first second either =
-    two_distinct place (memories_in (map outcome_of rows)) a.memory b.memory (two_memories rows a b len first second)
-    (⊎_elim (λ ne same. ne (ap sensitivity (sym (found a.memory) ∙ ap nth same ∙ found b.memory))) (λ ne. ne) either)
