@@ -30,15 +30,6 @@ module _ {A : Type 0} where
   get_pushed (z ∷ xs) x y zero e = inl e
   get_pushed (z ∷ xs) x y (suc i) e = ⊎_elim (λ a. inl a) (λ a. inr (ap suc a.0, a.1)) (get_pushed xs x y i e)
 
-  pub get_kept : (xs : List A) (x y : A) (i : ℕ) → slice_get xs i ≡ Some y → slice_get (xs ++ x ∷ []) i ≡ Some y
-  get_kept [] x y i e = absurd (no_value y e)
-  get_kept (z ∷ xs) x y zero e = e
-  get_kept (z ∷ xs) x y (suc i) e = get_kept xs x y i e
-
-  pub get_last : (xs : List A) (x : A) → slice_get (xs ++ x ∷ []) (length xs) ≡ Some x
-  get_last [] x = refl
-  get_last (z ∷ xs) x = get_last xs x
-
   pub get_set : (l : List A) (i : ℕ) (a : A) → i < length l → slice_get (set l i a) i ≡ Some a
   get_set [] i a h = absurd (omega arith)
   get_set (x ∷ xs) zero a h = refl
@@ -101,16 +92,6 @@ module _ {P : Type 0} (place : P → ℕ) where
       new : (r : P) (n : ℕ) → slice_get ms n ≡ Some r → place r ≡ place m → ⊥
       new r n e at = other (same_value found stamp (sym there ∙ ap (λ n. slice_get last_seen n) (is ∙ sym at)
           ∙ stamped n r e))
-
-  -- if no memory of ms is at the place k of m, `AreLastSeen` stays true as m is appended to ms and its index is written
-  -- to entry k
-  pub last_seen_appended : (ms : List P) (last_seen : List ℕ) (m : P) (k : ℕ) → k ≡ place m → k < length last_seen
-      → ((i : ℕ) (p : P) → slice_get ms i ≡ Some p → place p ≢ k) → AreLastSeen place ms last_seen → AreLastSeen place
-      (ms ++ m ∷ []) (set last_seen k (length ms))
-  last_seen_appended ms last_seen m k is below new index_at_place i p e =
-      ⊎_elim (λ a. get_unset last_seen k (place p) (length ms) (new i p a) ∙ index_at_place i p a)
-      (λ a. ap (λ n. slice_get (set last_seen k (length ms)) n) (ap place a.1 ∙ sym is) ∙ get_set last_seen k
-      (length ms) below ∙ ap Some (sym a.0)) (get_pushed ms m p i e)
 
   -- no memory of ms is at a place without an entry, nor (`none_past_end`, `none_elsewhere`) at one whose entry is an
   -- index past ms or that of a memory at another place
