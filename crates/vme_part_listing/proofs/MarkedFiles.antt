@@ -108,7 +108,7 @@ goes_past bs ys rest stop.TooManySteps joins small many =
       arith,
       many.1,
       small,
-      ap (λ (z : List Step). length z) (steps-append (bs ++ ys) rest),
+      ap (λ (z : List Step). length z) (joined_steps-append (bs ++ ys) rest),
       length-append (joined_steps (bs ++ ys)) (joined_steps rest),
     ))
 

@@ -1,16 +1,20 @@
 -- Buddies at the end of segments become one.
-use Rattle.std.proofs.Common.{◌≡◌, ℕ, List, [], ◌∷◌, ◌++◌, map, take, ap, sym, ◌∙◌, subst, append_assoc}
+use Rattle.std.proofs.Common.{◌≡◌, ℕ, ◌+◌, ◌≤◌, ◌^◌, List, [], ◌∷◌, ◌++◌, map, take, ap, sym, ◌∙◌, subst, append_assoc}
 use Rattle.std.specs.Prelude.{All}
-use Rattle.std.proofs.lemmas.List.{map_push, take-map}
-use Rattle.std.proofs.lemmas.List.Elements.{All-same, All-take}
-use Rattle.vme_trace.proofs.ListLaws.{All-front}
+use Rattle.std.proofs.lemmas.List.{map-append, map_push, take-map}
+use Rattle.std.proofs.lemmas.List.Elements.{All-head, All-same, All-tail, All-take}
+use Rattle.vme_trace.proofs.ListLaws.{All-back, All-front}
 use Rattle.vme_part_format.specs.Sizes.{IsCompact}
 use Rattle.vme_part_format.specs.Tables.{SegmentValue, segment_value}
 use Rattle.vme_part_format.specs.declared.segment.Segment.{Segment}
-use Rattle.vme_parts.specs.Buddies.{AreBuddies}
+use Rattle.vme_parts.specs.Alike.{AreTooLong}
+use Rattle.vme_parts.specs.Buddies.{AreBuddies, SegmentGoesOn}
+use Rattle.vme_parts.specs.Files.{files_of}
 use Rattle.vme_parts.specs.Gathering.{Gathered, IsSegment}
 use Rattle.vme_parts.specs.Joined.{IsOfBoth}
+use Rattle.vme_parts.specs.Stands.{SegmentStandsFor}
 use Rattle.vme_parts.proofs.Gathering.{all_last, gathered_merged}
+use Rattle.vme_parts.proofs.Merging.{both_too_long}
 
 popped_values : (old new : List Segment) (x : Segment) → old ≡ new ++ x ∷ []
     → map segment_value old ≡ map segment_value new ++ segment_value x ∷ []
@@ -38,12 +42,43 @@ popped_all n old new e all =
     (ap (map segment_value) e ∙ sym (take-map segment_value n old))
     (All-take IsSegment n (map segment_value old) all)
 
+two_at_end : (old new : List Segment) (x : Segment) (t : SegmentValue) → old ≡ new ++ x ∷ []
+    → map segment_value old ++ t ∷ [] ≡ map segment_value new ++ segment_value x ∷ t ∷ []
+two_at_end old new x t e =
+    ap (λ (k : List SegmentValue). k ++ t ∷ []) (popped_values old new x e)
+    ∙ append_assoc (map segment_value new) (segment_value x ∷ []) (t ∷ [])
+
 pub step_gathered : (done : List SegmentValue) (old new : List Segment) (x : Segment) (t r : SegmentValue)
     → old ≡ new ++ x ∷ [] → IsOfBoth (segment_value x) t r → AreBuddies (segment_value x) t → IsCompact r
     → Gathered done (map segment_value old ++ t ∷ []) → Gathered done (map segment_value new ++ r ∷ [])
 step_gathered done old new x t r e b h few g =
+    gathered_merged done (map segment_value new) (segment_value x) t r
+    (subst (Gathered done) (two_at_end old new x t e) g) b h few
+
+-- if the last two of gathered segments are buddies that follow one another and have too many steps, those of which they
+-- were gathered are too long
+pub step_too_long : (done : List SegmentValue) (old new : List Segment) (x : Segment) (t : SegmentValue)
+    → old ≡ new ++ x ∷ [] → AreBuddies (segment_value x) t → SegmentGoesOn (segment_value x) t
+    → 2 ^ 64 ≤ x.steps + t.steps → Gathered done (map segment_value old ++ t ∷ []) → AreTooLong done
+step_too_long done old new x t e h goes_on many g =
     let front = map segment_value new in
     let s = segment_value x in
-    let two : map segment_value old ++ t ∷ [] ≡ front ++ s ∷ t ∷ [] =
-    ap (λ (k : List SegmentValue). k ++ t ∷ []) (popped_values old new x e) ∙ append_assoc front (s ∷ []) (t ∷ []) in
-    gathered_merged done front s t r (subst (Gathered done) two g) b h few
+    let two : Gathered done (front ++ s ∷ t ∷ []) = subst (Gathered done) (two_at_end old new x t e) g in
+    λ listing files stand.
+    let P : SegmentValue → Type 0 = λ k. SegmentStandsFor listing k (files_of files k) in
+    let back = All-back P front (s ∷ t ∷ []) (two.stand listing files stand) in
+    both_too_long s t h goes_on many listing files (All-head P s (t ∷ []) back)
+    (All-head P t [] (All-tail P s (t ∷ []) back))
+
+-- segments are too long if the first of them are
+pub too_long_whole : (all done rest : List Segment) (x : Segment) → done ++ x ∷ rest ≡ all
+    → AreTooLong (map segment_value done ++ segment_value x ∷ []) → AreTooLong (map segment_value all)
+too_long_whole all done rest x e long =
+    let front = map segment_value done ++ segment_value x ∷ [] in
+    let behind = map segment_value rest in
+    let whole : front ++ behind ≡ map segment_value all =
+    append_assoc (map segment_value done) (segment_value x ∷ []) behind
+    ∙ (sym (map-append segment_value done (x ∷ rest)) ∙ ap (map segment_value) e) in
+    λ listing files stand.
+    let P : SegmentValue → Type 0 = λ k. SegmentStandsFor listing k (files_of files k) in
+    long listing files (All-front P front behind (All-same P (front ++ behind) (map segment_value all) whole stand))

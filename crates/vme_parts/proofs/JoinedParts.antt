@@ -14,7 +14,7 @@ use Rattle.vme_part_format.specs.Sizes.{IsCompact, IsCompactPart}
 use Rattle.vme_part_format.specs.Tables.{PartValue, SegmentValue, TableValue, last_of, part_value, segment_value}
 use Rattle.vme_part_format.specs.declared.part.Part.{Part}
 use Rattle.vme_part_tables.proofs.Fitting.{has_ways}
-use Rattle.vme_parts.specs.Alike.{AllAlike, HaveApart}
+use Rattle.vme_parts.specs.Alike.{AllAlike, AreTooLong, HaveApart, SomeHaveTooManySteps}
 use Rattle.vme_parts.specs.Buddies.{IsTableOf}
 use Rattle.vme_parts.specs.Files.{AllStand, IsPartOf, JoinsParts, SegmentsCover, SomeCovers}
 use Rattle.vme_parts.specs.Files.{files_of}
@@ -174,6 +174,23 @@ module _ (ps : List PartValue) (made sorted : List SegmentValue) (e : made ≡ s
 
   pub joins_alike : AllAlike sorted → AllAlike (segments_of ps)
   joins_alike alike = λ s t p q h. alike s t (in_sorted s p) (in_sorted t q) h
+
+  sorted_stand : (listing : Bool) → All (λ (p : PartValue). p.listing ≡ listing) ps → (files : List Block)
+      → All (IsPartOf files) ps → AllStand listing files sorted
+  sorted_stand listing listed files parts k d h =
+      let s = get_or sorted k d in
+      let there = from_some ps s (from_sorted s (Contains-get_or sorted k d h)) in
+      let p = there.0 in
+      let own = All-contains (IsPartOf files) ps p parts there.1 in
+      let like = All-contains (λ (p : PartValue). p.listing ≡ listing) ps p listed there.1 in
+      subst (λ l. SegmentStandsFor l s (files_of files s)) like
+      (All-contains (λ (s : SegmentValue). SegmentStandsFor p.listing s (files_of files s)) p.segments s own.stands
+      there.2)
+
+  -- if the sorted segments are too long, some of the files that the parts are of have too many steps
+  pub joins_long : (listing : Bool) → All (λ (p : PartValue). p.listing ≡ listing) ps → AreTooLong sorted
+      → (files : List Block) → All (IsPartOf files) ps → SomeHaveTooManySteps files
+  joins_long listing listed long files parts = long listing files (sorted_stand listing listed files parts)
 
   pub joins_apart : (number : ℕ) → HaveApart sorted number → HaveApart (segments_of ps) number
   joins_apart number a =

@@ -7,8 +7,10 @@ use Rattle.std.proofs.lemmas.List.{get_or-map, length-map}
 use Rattle.std.proofs.lemmas.Option.{slice_get-get_or, slice_get-map}
 use Rattle.vme_part_format.specs.Tables.{PartValue, part_value}
 use Rattle.vme_part_format.specs.declared.part.Part.{Part}
+use Rattle.vme_trace.specs.declared.block.Block.{Block}
 use Rattle.vme_parts.specs.Alike.{AreRefused, AreRefusedBy, HasUnlikeAt, HaveApart, IsLike, IsNoDifference}
-use Rattle.vme_parts.specs.Alike.{first_backplane, first_listing}
+use Rattle.vme_parts.specs.Alike.{SomeHaveTooManySteps, first_backplane, first_listing}
+use Rattle.vme_parts.specs.Files.{IsPartOf}
 use Rattle.vme_parts.specs.Gathering.{segments_of}
 use Rattle.vme_parts.specs.declared.join_refusal.JoinRefusal.{JoinRefusal}
 use Rattle.vme_parts.specs.declared.join_refusal.JoinRefusal.TheVariants as refusal
@@ -50,11 +52,23 @@ pub refused_apart : (ps : List PartValue) (why : JoinRefusal) (number : ℕ) →
     → HaveApart (segments_of ps) number → AreRefused ps why
 refused_apart ps why number e h = subst (AreRefused ps) (sym e) h
 
-pub refused_else : (ps : List PartValue) (why : JoinRefusal) → IsNoDifference why → AreRefused ps why
+-- a refusal that isn't for a difference stays one if `Q` follows from `P`
+pub no_difference_on : (P Q : Type 0) (why : JoinRefusal) → (P → Q) → IsNoDifference P why → IsNoDifference Q why
+no_difference_on P Q refusal.Memory f h = tt
+no_difference_on P Q (refusal.Backplane place) f h = absurd h
+no_difference_on P Q (refusal.Marks place) f h = absurd h
+no_difference_on P Q (refusal.Differs number) f h = absurd h
+no_difference_on P Q refusal.TooManySteps f h = f h
+no_difference_on P Q refusal.TooManyNodes f h = tt
+no_difference_on P Q refusal.TooManySegments f h = tt
+
+pub refused_else : (ps : List PartValue) (why : JoinRefusal)
+    → IsNoDifference ((files : List Block) → All (IsPartOf files) ps → SomeHaveTooManySteps files) why
+    → AreRefused ps why
 refused_else ps refusal.Memory h = tt
 refused_else ps (refusal.Backplane place) h = absurd h
 refused_else ps (refusal.Marks place) h = absurd h
 refused_else ps (refusal.Differs number) h = absurd h
-refused_else ps refusal.TooManySteps h = tt
+refused_else ps refusal.TooManySteps h = h
 refused_else ps refusal.TooManyNodes h = tt
 refused_else ps refusal.TooManySegments h = tt

@@ -10,33 +10,59 @@ use Rattle.std.proofs.lemmas.List.{drop-drop}
 use Rattle.std.proofs.lemmas.Nat.{pow_pos}
 use Rattle.vme_trace.specs.declared.block.Block.{Block}
 use Rattle.vme_trace.specs.Levels.{Levels}
+use Rattle.vme_summary.specs.Extents.{Meets}
 use Rattle.vme_summary.specs.Joins.{is_later_time}
 use Rattle.vme_part_format.specs.Bounds.{FitsSegment, FitsTimes}
 use Rattle.vme_part_format.specs.Tables.{SegmentValue}
 use Rattle.vme_part_format.specs.declared.segment.SegmentTimes.{SegmentTimes}
-use Rattle.vme_parts.specs.Buddies.{AreBuddies}
+use Rattle.vme_parts.specs.Alike.{SomeHaveTooManySteps}
+use Rattle.vme_parts.specs.Buddies.{AreBuddies, SegmentGoesOn}
 use Rattle.vme_parts.specs.Files.{SegmentCovers, files_of}
 use Rattle.vme_parts.specs.Joined.{IsOfBoth, joined_times}
 use Rattle.vme_parts.specs.Meeting.{ends_at, starts_at}
-use Rattle.vme_parts.specs.Stands.{SegmentStandsFor}
-use Rattle.vme_parts.proofs.Standing.{segment_stands_for_both, twice}
+use Rattle.vme_parts.specs.Progress.{HaveTooManySteps}
+use Rattle.vme_parts.specs.Stands.{SegmentStandsFor, extent_of}
+use Rattle.vme_parts.proofs.Standing.{both_have_too_many, segment_stands_for_both, twice}
+
+module _ (s t : SegmentValue) (h : AreBuddies s t) where
+  second_begins : t.first ≡ s.first + 2 ^ s.order
+  second_begins = omega (arith, h.behind, pow_pos s.order)
+
+  -- the files of t come right after those of s
+  files_of_buddies : (files : List Block) → files_of files s ++ files_of files t
+      ≡ take (2 ^ s.order + 2 ^ s.order) (drop s.first files)
+  files_of_buddies files =
+      let size = 2 ^ s.order in
+      let second : files_of files t ≡ take size (drop size (drop s.first files)) =
+      ap (λ k. take (2 ^ k) (drop t.first files)) h.same_order
+      ∙ (ap (λ k. take size (drop k files)) second_begins
+      ∙ ap (take size) (sym (drop-drop size s.first files))) in
+      ap (λ x. files_of files s ++ x) second ∙ sym (take-add size size (drop s.first files))
+
+  -- if t continues where s ends, and both have too many steps, so have some of the files that they stand for
+  pub both_too_long : SegmentGoesOn s t → 2 ^ 64 ≤ s.steps + t.steps → (listing : Bool) (files : List Block)
+      → SegmentStandsFor listing s (files_of files s) → SegmentStandsFor listing t (files_of files t)
+      → SomeHaveTooManySteps files
+  both_too_long goes_on many listing files p q =
+      let meets : Meets (extent_of s) (extent_of t)
+      = record { numbered = h.behind; opened = goes_on.opened; later = goes_on.later } in (
+        s.first,
+        2 ^ s.order + 2 ^ s.order,
+        subst HaveTooManySteps (files_of_buddies files)
+            (both_have_too_many s t meets many listing (files_of files s) (files_of files t) p q),
+      )
 
 module _ (s t r : SegmentValue) (b : IsOfBoth s t r) (h : AreBuddies s t) where
   begins : t.first ≡ s.first + 2 ^ s.order
-  begins = omega (arith, h.behind, pow_pos s.order)
+  begins = second_begins s t h
 
   -- the files of r are those of s and then those of t
   pub files_of_both : (files : List Block) → files_of files s ++ files_of files t ≡ files_of files r
   files_of_both files =
       let size = 2 ^ s.order in
-      let second : files_of files t ≡ take size (drop size (drop s.first files)) =
-      ap (λ k. take (2 ^ k) (drop t.first files)) h.same_order
-      ∙ (ap (λ k. take size (drop k files)) begins
-      ∙ ap (take size) (sym (drop-drop size s.first files))) in
       let order : 2 ^ r.order ≡ size + size = ap (λ k. 2 ^ k) b.order ∙ twice s.order in
-      ap (λ x. files_of files s ++ x) second
-      ∙ (sym (take-add size size (drop s.first files))
-      ∙ (ap (λ k. take k (drop s.first files)) (sym order) ∙ ap (λ k. take (2 ^ r.order) (drop k files)) (sym b.first)))
+      files_of_buddies s t h files
+      ∙ (ap (λ k. take k (drop s.first files)) (sym order) ∙ ap (λ k. take (2 ^ r.order) (drop k files)) (sym b.first))
 
   pub both_stand : (listing : Bool) (files : List Block) → SegmentStandsFor listing s (files_of files s)
       → SegmentStandsFor listing t (files_of files t) → SegmentStandsFor listing r (files_of files r)

@@ -1,5 +1,5 @@
 -- A segment joined from two stands for the files of both.
-use Rattle.std.proofs.Common.{◌≡◌, ℕ, ◌+◌, ◌<◌, ◌^◌, Bool, List, ◌++◌, length, refl, ap, sym, subst, ◌∙◌}
+use Rattle.std.proofs.Common.{◌≡◌, ℕ, ◌+◌, ◌<◌, ◌≤◌, ◌^◌, Bool, List, ◌++◌, length, refl, ap, sym, subst, ◌∙◌}
 use Rattle.std.proofs.Common.{arith, length-append, Option, Some, None}
 use Rattle.std.specs.Prelude.{find, not}
 use Rattle.std.specs.Option.{option_map, option_or}
@@ -14,7 +14,7 @@ use Rattle.vme_dtb.specs.MemoryNumbers.{memory_place}
 use Rattle.vme_dtb.specs.HoldingNumbers.{holding_place}
 use Rattle.vme_chains.specs.GrantMemory.{arbitration_place}
 use Rattle.vme_chains.specs.AcknowledgeRules.{acknowledge_memory_place}
-use Rattle.vme_summary.specs.Extents.{IsExtent, joined_extent}
+use Rattle.vme_summary.specs.Extents.{IsExtent, Meets, joined_extent}
 use Rattle.vme_summary.specs.Runs.{known_run, handshake_run, stability_run, grant_run, acknowledge_run}
 use Rattle.vme_summary.specs.declared.extent.Extent.{Extent}
 use Rattle.vme_summary.proofs.Chains.{joined_steps-append}
@@ -22,6 +22,7 @@ use Rattle.vme_summary.proofs.Extents.{IsExtent-joined, levels_after-extent}
 use Rattle.vme_part_format.specs.Tables.{SegmentValue, last_of}
 use Rattle.vme_part_format.specs.declared.segment.SegmentTimes.{SegmentTimes}
 use Rattle.vme_parts.specs.Joined.{IsOfBoth, joined_times}
+use Rattle.vme_parts.specs.Progress.{HaveTooManySteps}
 use Rattle.vme_parts.specs.Stands.{SegmentStandsFor, extent_of, first_with_step, is_empty}
 use Rattle.vme_parts.proofs.Runs.{acknowledge_is_run, grant_is_run, handshake_is_run, known_is_run, stability_is_run}
 use Rattle.vme_parts.proofs.Runs.{tables_of_both}
@@ -135,3 +136,12 @@ module _ (s t r : SegmentValue) (b : IsOfBoth s t r) where
                 t.opening (joined_steps x) (joined_steps y) s.acknowledge t.acknowledge r.acknowledge opens fits
                 (rw (← p.counted) b.acknowledge) p.acknowledge q.acknowledge);
           }
+
+-- if the steps of s and t, which continues where s ends, are too many together, the files of both have too many steps
+pub both_have_too_many : (s t : SegmentValue) → Meets (extent_of s) (extent_of t) → 2 ^ 64 ≤ s.steps + t.steps
+    → (listing : Bool) (x y : List Block) → SegmentStandsFor listing s x → SegmentStandsFor listing t y
+    → HaveTooManySteps (x ++ y)
+both_have_too_many s t meets many listing x y p q = (
+  (extent_joined (extent_of s) (extent_of t) x y p.extent q.extent meets).join,
+  rw (steps-append x y, length-append, ← p.counted, ← q.counted) many,
+)

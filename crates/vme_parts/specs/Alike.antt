@@ -1,9 +1,13 @@
 -- Which parts can be joined: they are of one backplane, all have marks or none has, and no two segments of the same
 -- files differ.
-use Rattle.std.specs.Prelude.{◌≡◌, ℕ, ◌<◌, Bool, false, List, [], ◌∷◌, All, Contains, Some, length, slice_get, take}
+use Rattle.std.specs.Prelude.{◌≡◌, ℕ, ◌<◌, Bool, false, List, [], ◌∷◌, All, Contains, Some, drop, length, slice_get}
+use Rattle.std.specs.Prelude.{take}
+use Rattle.vme_trace.specs.declared.block.Block.{Block}
 use Rattle.vme_part_format.specs.Tables.{PartValue, SegmentValue, TableValue}
 use Rattle.vme_part_tables.specs.Ways.{outcome_in}
+use Rattle.vme_parts.specs.Files.{AllStand, IsPartOf}
 use Rattle.vme_parts.specs.Gathering.{segments_of}
+use Rattle.vme_parts.specs.Progress.{HaveTooManySteps}
 use Rattle.vme_parts.specs.declared.join_refusal.JoinRefusal.{JoinRefusal}
 use Rattle.vme_parts.specs.declared.join_refusal.JoinRefusal.TheVariants as refusal
 
@@ -68,6 +72,14 @@ abbrev pub HasUnlikeAt : ℕ → Bool → List PartValue → ℕ → (PartValue 
 HasUnlikeAt backplane listing ps place Is =
     (p : PartValue) × (slice_get ps place ≡ Some p) × All (IsLike backplane listing) (take place ps) × Is p
 
+-- some of the files follow one another, and have more steps than 64 bits count
+abbrev pub SomeHaveTooManySteps : List Block → Type 0
+SomeHaveTooManySteps files = (n k : ℕ) × HaveTooManySteps (take k (drop n files))
+
+-- whichever files the segments stand for, some of these have too many steps
+abbrev pub AreTooLong : List SegmentValue → Type 0
+AreTooLong ss = (listing : Bool) (files : List Block) → AllStand listing files ss → SomeHaveTooManySteps files
+
 -- when a refusal of the parts ps is true, where `backplane` and `listing` are those of the first
 abbrev pub AreRefusedBy : ℕ → Bool → List PartValue → JoinRefusal → Type 0
 AreRefusedBy backplane listing ps refusal.Memory = Unit {0}
@@ -76,19 +88,20 @@ AreRefusedBy backplane listing ps (refusal.Backplane place) =
 AreRefusedBy backplane listing ps (refusal.Marks place) =
     HasUnlikeAt backplane listing ps place (λ p. (p.backplane ≡ backplane) × (p.listing ≡ listing → ⊥))
 AreRefusedBy backplane listing ps (refusal.Differs number) = HaveApart (segments_of ps) number
-AreRefusedBy backplane listing ps refusal.TooManySteps = Unit {0}
+AreRefusedBy backplane listing ps refusal.TooManySteps =
+    (files : List Block) → All (IsPartOf files) ps → SomeHaveTooManySteps files
 AreRefusedBy backplane listing ps refusal.TooManyNodes = Unit {0}
 AreRefusedBy backplane listing ps refusal.TooManySegments = Unit {0}
 
 abbrev pub AreRefused : List PartValue → JoinRefusal → Type 0
 AreRefused ps why = AreRefusedBy (first_backplane ps) (first_listing ps) ps why
 
--- a refusal that isn't for a difference between parts
-abbrev pub IsNoDifference : JoinRefusal → Type 0
-IsNoDifference refusal.Memory = Unit {0}
-IsNoDifference (refusal.Backplane place) = ⊥
-IsNoDifference (refusal.Marks place) = ⊥
-IsNoDifference (refusal.Differs number) = ⊥
-IsNoDifference refusal.TooManySteps = Unit {0}
-IsNoDifference refusal.TooManyNodes = Unit {0}
-IsNoDifference refusal.TooManySegments = Unit {0}
+-- a refusal that isn't for a difference between parts; if it is for too many steps, `Many` holds
+abbrev pub IsNoDifference : Type 0 → JoinRefusal → Type 0
+IsNoDifference Many refusal.Memory = Unit {0}
+IsNoDifference Many (refusal.Backplane place) = ⊥
+IsNoDifference Many (refusal.Marks place) = ⊥
+IsNoDifference Many (refusal.Differs number) = ⊥
+IsNoDifference Many refusal.TooManySteps = Many
+IsNoDifference Many refusal.TooManyNodes = Unit {0}
+IsNoDifference Many refusal.TooManySegments = Unit {0}

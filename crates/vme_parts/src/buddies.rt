@@ -1,6 +1,6 @@
 //! Buddies: two segments that are the halves of one.
 
-ghost use Rattle.std.specs.Prelude.{◌≡◌, ◌+◌, ◌<◌, ◌^◌, IfErr, IfOk, IsTrue};
+ghost use Rattle.std.specs.Prelude.{◌≡◌, ◌+◌, ◌<◌, ◌≤◌, ◌^◌, IfErr, IfOk, IsTrue};
 ghost use Rattle.vme_part_format.specs.Bounds.{FitsNumbers};
 ghost use Rattle.vme_part_format.specs.Sizes.{IsCompact};
 ghost use Rattle.vme_part_format.specs.Tables.{last_of, segment_value, table_value};
@@ -115,7 +115,7 @@ pub(crate) fn joined(alloc: Global, first: Segment, second: Segment) -> Result<S
     requires goes_on { SegmentGoesOn (segment_value first) (segment_value second) }
     ensures both { IfOk result (λ r. IsOfBoth (segment_value first) (segment_value second) (segment_value r)) }
     ensures compact { IfOk result (λ r. IsCompact (segment_value r)) }
-    ensures refused { IfErr result IsNoDifference }
+    ensures refused { IfErr result (IsNoDifference (2 ^ 64 ≤ first.steps + second.steps)) }
 {
     let Some(steps) = first.steps.checked_add(second.steps) else {
         return Err(JoinRefusal::TooManySteps);

@@ -81,7 +81,10 @@ pub fn join_parts(alloc: Global, parts: Vec<Part>) -> Result<Part, JoinRefusal>
     if let Err(why) = compare_all(all.as_slice()) {
         return Err(why);
     }
-    let segments = gather(alloc, all)?;
+    let segments = match gather(alloc, all) {
+        Ok(segments) => segments,
+        Err(why) => return Err(why),
+    };
     if (u32::MAX as usize) < segments.len() {
         return Err(JoinRefusal::TooManySegments);
     }

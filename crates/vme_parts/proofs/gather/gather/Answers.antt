@@ -1,5 +1,5 @@
 use Rattle.std.proofs.Common.{rules, ◌≡◌, List, [], ◌∷◌, length, map, ap, sym, ◌∙◌, subst, arith}
-use Rattle.std.proofs.Common.{append_assoc}
+use Rattle.std.proofs.Common.{◌++◌, append_assoc}
 use Rattle.std.proofs.Common.{append-nil}
 use Rattle.std.specs.Prelude.{All, IfSome, None}
 use Rattle.std.specs.List.{last_or}
@@ -8,8 +8,11 @@ use Rattle.std.proofs.lemmas.List.{map_push, nil_from_length}
 use Rattle.std.proofs.lemmas.List.Elements.{All-nil}
 use Rattle.vme_part_format.specs.Tables.{SegmentValue, segment_value}
 use Rattle.vme_part_format.specs.declared.segment.Segment.{Segment}
+use Rattle.vme_parts.specs.Alike.{AreTooLong}
 use Rattle.vme_parts.specs.Gathering.{Gathered, IsSegment, Precedes}
+use Rattle.vme_parts.proofs.Backward.{too_long_whole}
 use Rattle.vme_parts.proofs.Gathering.{gathered_none}
+use Rattle.vme_parts.proofs.Likeness.{no_difference_on}
 use Rattle.vme_parts.proofs.Ordering.{comes_next, precede_all, precede_head}
 use Rattle.vme_parts.proofs.gather.gather.Goals as goal
 
@@ -60,12 +63,12 @@ loop-segment-preserved c =
           let short = ap (λ (l : List Segment). length l) steps in
           omega (arith, was, gone, short);
       all = append_assoc at.yielded (x ∷ []) more ∙ rw (← steps) at.invariant.all;
-      segments = c.in_ok-add.ensures.segments;
+      segments = c.in-Ok.ensures.segments;
       order = precede_all (last_or None (map segment_value c.add.new.segments.items)) (segment_value x)
-          (map segment_value more) c.in_ok-add.ensures.last next.1;
+          (map segment_value more) c.in-Ok.ensures.last next.1;
       gathered = subst (λ (done : List SegmentValue). Gathered done (map segment_value c.add.new.segments.items))
           (sym (map_push segment_value at.yielded x))
-          (c.in_ok-add.ensures.gathered (map segment_value at.yielded) at.invariant.gathered);
+          (c.in-Ok.ensures.gathered (map segment_value at.yielded) at.invariant.gathered);
     }
 
 pub returns-clause-gathered : goal.returns-clause-gathered
@@ -77,3 +80,17 @@ returns-clause-gathered c =
     let all : at.yielded ≡ c.args.all.items = sym (append-nil at.yielded) ∙ rw empty at at.invariant.all in
     subst (λ (xs : List Segment). Gathered (map segment_value xs) (map segment_value at.segments.items)) all
     at.invariant.gathered
+
+pub returns-in-Err-clause-refused : goal.returns-in-Err-clause-refused
+returns-in-Err-clause-refused c =
+    let at = c.loop-segment in
+    let x = c.in-Some.segment in
+    let more = into_iter_items c.next.new.self in
+    let steps : into_iter_items at.segment-iterator ≡ x ∷ more = c.in-Some.ensures.steps.0 in
+    let old = map segment_value at.segments.items in
+    no_difference_on ((done : List SegmentValue) → Gathered done old → AreTooLong (done ++ segment_value x ∷ []))
+    (AreTooLong (map segment_value c.args.all.items)) c.in-Err.why
+    (λ many.
+    too_long_whole c.args.all.items at.yielded more x (rw (← steps) at.invariant.all)
+    (many (map segment_value at.yielded) at.invariant.gathered))
+    c.in-Err.ensures.refused

@@ -1,10 +1,12 @@
-use Rattle.std.proofs.Common.{◌≡◌, ◌-◌, List, [], ◌∷◌, ◌++◌, map, sym, ◌∙◌, subst, append-nil, vec_len}
+use Rattle.std.proofs.Common.{◌≡◌, ◌+◌, ◌-◌, ◌≤◌, ◌^◌, List, [], ◌∷◌, ◌++◌, map, sym, ◌∙◌, subst, append-nil, vec_len}
 use Rattle.std.specs.Prelude.{All}
-use Rattle.vme_part_format.specs.Tables.{segment_value}
+use Rattle.vme_part_format.specs.Tables.{SegmentValue, segment_value}
 use Rattle.vme_part_format.specs.declared.segment.Segment.{Segment}
+use Rattle.vme_parts.specs.Alike.{AreTooLong}
 use Rattle.vme_parts.specs.Gathering.{Gathered, IsSegment}
-use Rattle.vme_parts.proofs.Backward.{popped_all, popped_front, popped_last, step_gathered}
+use Rattle.vme_parts.proofs.Backward.{popped_all, popped_front, popped_last, step_gathered, step_too_long}
 use Rattle.vme_parts.proofs.Halves.{first_of_both, segment_of_both}
+use Rattle.vme_parts.proofs.Likeness.{no_difference_on}
 use Rattle.vme_parts.proofs.Ordering.{precedes_itself}
 use Rattle.vme_parts.proofs.gather.join_back.Goals as goal
 
@@ -44,20 +46,20 @@ pub loop-last-preserved : goal.loop-last-preserved
 loop-last-preserved c =
     let s = segment_value c.in-Some.last in
     let t = segment_value c.loop-last.next in
-    let r = segment_value c.in_ok-next.next in
+    let r = segment_value c.in-Ok.whole in
     let buddies = c.are_joinable.ensures.buddies c.if-not-are_joinable.false in
     let was = c.in-Some.ensures.items in
     record {
       segments = popped_front c.loop-last.segments.items c.pop.new.self.items c.in-Some.last was
           c.loop-last.invariant.segments;
-      next = segment_of_both s t r c.in_ok-next.ensures.both buddies
+      next = segment_of_both s t r c.in-Ok.ensures.both buddies
           (popped_last c.loop-last.segments.items c.pop.new.self.items c.in-Some.last was
           c.loop-last.invariant.segments);
-      first = first_of_both s t r (segment_value c.args.next) c.in_ok-next.ensures.both buddies
+      first = first_of_both s t r (segment_value c.args.next) c.in-Ok.ensures.both buddies
           c.loop-last.invariant.first;
       gathered = λ done g.
           step_gathered done c.loop-last.segments.items c.pop.new.self.items c.in-Some.last t r was
-          c.in_ok-next.ensures.both buddies c.in_ok-next.ensures.compact (c.loop-last.invariant.gathered done g);
+          c.in-Ok.ensures.both buddies c.in-Ok.ensures.compact (c.loop-last.invariant.gathered done g);
     }
 
 pub returns-clause-segments : goal.returns-clause-segments
@@ -81,3 +83,16 @@ joined-requires-clause-buddies c = c.are_joinable.ensures.buddies c.if-not-are_j
 
 pub joined-requires-clause-goes_on : goal.joined-requires-clause-goes_on
 joined-requires-clause-goes_on c = c.are_joinable.ensures.goes_on c.if-not-are_joinable.false
+
+pub returns-in-Err-clause-refused : goal.returns-in-Err-clause-refused
+returns-in-Err-clause-refused c =
+    let s = segment_value c.in-Some.last in
+    let t = segment_value c.loop-last.next in
+    let all = map segment_value c.args.segments.now.items ++ segment_value c.args.next ∷ [] in
+    no_difference_on (2 ^ 64 ≤ s.steps + t.steps) ((done : List SegmentValue) → Gathered done all → AreTooLong done)
+    c.in-Err.why
+    (λ many done g.
+    step_too_long done c.loop-last.segments.items c.pop.new.self.items c.in-Some.last t c.in-Some.ensures.items
+    (c.are_joinable.ensures.buddies c.if-not-are_joinable.false)
+    (c.are_joinable.ensures.goes_on c.if-not-are_joinable.false) many (c.loop-last.invariant.gathered done g))
+    c.in-Err.ensures.refused

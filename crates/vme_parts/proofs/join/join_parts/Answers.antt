@@ -1,13 +1,16 @@
-use Rattle.std.proofs.Common.{◌≡◌, map, arith}
+use Rattle.std.proofs.Common.{◌≡◌, List, map, arith}
+use Rattle.std.specs.Prelude.{All}
 use Rattle.std.proofs.lemmas.List.{length-map}
 use Rattle.std.proofs.lemmas.List.Elements.{All-map, All-weaker}
 use Rattle.std.proofs.lemmas.List.Sorted.{IsPermutation-map}
+use Rattle.vme_trace.specs.declared.block.Block.{Block}
 use Rattle.vme_part_format.specs.Bounds.{FitsPart}
 use Rattle.vme_part_format.specs.Tables.{PartValue, part_value, segment_value}
-use Rattle.vme_parts.specs.Alike.{IsLike}
-use Rattle.vme_parts.proofs.JoinedParts.{joins_alike, joins_all, joins_apart, joins_compact, joins_fit}
+use Rattle.vme_parts.specs.Alike.{AreTooLong, IsLike, SomeHaveTooManySteps}
+use Rattle.vme_parts.specs.Files.{IsPartOf}
+use Rattle.vme_parts.proofs.JoinedParts.{joins_alike, joins_all, joins_apart, joins_compact, joins_fit, joins_long}
 use Rattle.vme_parts.proofs.JoinedParts.{sorted_are_segments}
-use Rattle.vme_parts.proofs.Likeness.{refused_apart}
+use Rattle.vme_parts.proofs.Likeness.{no_difference_on, refused_apart, refused_else}
 use Rattle.vme_parts.proofs.join.join_parts.Goals as goal
 
 pub gather-requires-clause-segments : goal.gather-requires-clause-segments
@@ -21,7 +24,7 @@ gather-requires-clause-segments c =
 pub returns-clause-joins : goal.returns-clause-joins
 returns-clause-joins c =
     let parts = c.args.parts.items in
-    let segments = c.in_ok-segments.segments in
+    let segments = c.in-Ok.segments in
     let r : PartValue = record {
       backplane = c.backplane_of-backplane.result;
       listing = c.has_marks-listing.result;
@@ -36,12 +39,12 @@ returns-clause-joins c =
     (All-map FitsPart part_value parts c.requires)
     (omega arith)
     (omega (arith, length-map segments.items segment_value))
-    c.in_ok-segments.ensures.gathered
+    c.in-Ok.ensures.gathered
 
 pub returns-clause-fits : goal.returns-clause-fits
 returns-clause-fits c =
     let parts = c.args.parts.items in
-    let segments = c.in_ok-segments.segments in
+    let segments = c.in-Ok.segments in
     let r : PartValue = record {
       backplane = c.backplane_of-backplane.result;
       listing = c.has_marks-listing.result;
@@ -56,7 +59,7 @@ returns-clause-fits c =
     (All-map FitsPart part_value parts c.requires)
     (omega arith)
     (omega (arith, length-map segments.items segment_value))
-    c.in_ok-segments.ensures.gathered
+    c.in-Ok.ensures.gathered
 
 pub returns-clause-one : goal.returns-clause-one
 returns-clause-one c =
@@ -72,7 +75,7 @@ returns-clause-one c =
 pub returns-clause-compact : goal.returns-clause-compact
 returns-clause-compact c =
     let parts = c.args.parts.items in
-    let segments = c.in_ok-segments.segments in
+    let segments = c.in-Ok.segments in
     let r : PartValue = record {
       backplane = c.backplane_of-backplane.result;
       listing = c.has_marks-listing.result;
@@ -87,7 +90,7 @@ returns-clause-compact c =
     (All-map FitsPart part_value parts c.requires)
     (omega arith)
     (omega (arith, length-map segments.items segment_value))
-    c.in_ok-segments.ensures.gathered
+    c.in-Ok.ensures.gathered
 
 pub compare_all-requires-clause-segments : goal.compare_all-requires-clause-segments
 compare_all-requires-clause-segments c =
@@ -110,3 +113,21 @@ returns-in-Err-clause-refused c =
     (map segment_value c.sort_segments.new.segments.items) c.in_ok-all.ensures
     (IsPermutation-map segment_value c.in_ok-all.all.items c.sort_segments.new.segments.items
     c.sort_segments.ensures.same) number (rw c.as_slice-4.ensures.value at apart))
+
+pub returns-in-Err-gather-clause-refused : goal.returns-in-Err-gather-clause-refused
+returns-in-Err-gather-clause-refused c =
+    let parts = map part_value c.args.parts.items in
+    let sorted = map segment_value c.sort_segments.new.segments.items in
+    let backplane = c.backplane_of-backplane.result in
+    let listing = c.has_marks-listing.result in
+    let listed : All (λ (p : PartValue). p.listing ≡ listing) parts =
+    All-weaker (IsLike backplane listing) (λ (p : PartValue). p.listing ≡ listing) (λ p like. like.1) parts
+    (rw c.as_slice-3.ensures.value at c.in_ok-check_alike.ensures.like) in
+    refused_else parts c.in-Err-gather.why
+    (no_difference_on (AreTooLong sorted)
+    ((files : List Block) → All (IsPartOf files) parts → SomeHaveTooManySteps files) c.in-Err-gather.why
+    (λ long.
+    joins_long parts (map segment_value c.in_ok-all.all.items) sorted c.in_ok-all.ensures
+    (IsPermutation-map segment_value c.in_ok-all.all.items c.sort_segments.new.segments.items
+    c.sort_segments.ensures.same) listing listed long)
+    c.in-Err-gather.ensures.refused)
