@@ -143,5 +143,5 @@ pub both_have_too_many : (s t : SegmentValue) → Meets (extent_of s) (extent_of
     → HaveTooManySteps (x ++ y)
 both_have_too_many s t meets many listing x y p q = (
   (extent_joined (extent_of s) (extent_of t) x y p.extent q.extent meets).join,
-  rw (steps-append x y, length-append, ← p.counted, ← q.counted) many,
+  rw (joined_steps-append x y, length-append, ← p.counted, ← q.counted) many,
 )
