@@ -31,7 +31,7 @@ use Rattle.vme_audit_command.specs.declared.written_lines.NoOutcome.TheVariants.
 use Rattle.vme_audit_command.specs.declared.written_lines.WriteFault.{WriteFault}
 use Rattle.vme_audit_command.specs.declared.written_lines.WriteFault.TheVariants.{Memory, CannotWrite}
 use Rattle.vme_audit_command.proofs.LastLemmas.{prefix-of}
-use Rattle.vme_audit_command.proofs.BodyPieces.{all-left, left_of}
+use Rattle.vme_audit_command.proofs.BodyPieces.{left_of-known, left_of}
 use Rattle.vme_audit_command.proofs.WriteLemmas.{WritesPrefix-after, WritesPrefix-longer}
 
 -- before the first step there are no lines
@@ -249,7 +249,7 @@ all-from-rest (Some x) (Some y) done more read all = ap (λ (l : List ℕ). done
 module _ (options : AuditOptions) (head : List ℕ) (binding : BoundLines) (source : Reading) (u : Writing) where
   -- without memory nothing is written of a dump
   pub answers-without_memory : AuditsDump options head binding source u u (Err (NotWritten Memory))
-  answers-without_memory = (left_of source.left, all-left source.left, prefix-of u _)
+  answers-without_memory = (left_of source.left, left_of-known source.left, prefix-of u _)
 
   -- a dump whose definitions aren't read, by `why`, is answered so, and nothing is written
   pub answers-without_definitions : (new : Reading) (left : List ℕ) (why : NoOutcome)
@@ -261,10 +261,11 @@ module _ (options : AuditOptions) (head : List ℕ) (binding : BoundLines) (sour
         subst (λ (x : Result TextReading CaptureFault). EndsAs (dump_answer options head x) u u (Err (Refused refusal)))
             (sym is) (Writes-nothing u, ap Err same),
       )
-  answers-without_definitions new left CannotRead reads = (left_of source.left, all-left source.left, prefix-of u _)
+  answers-without_definitions new left CannotRead reads =
+      (left_of source.left, left_of-known source.left, prefix-of u _)
   answers-without_definitions new left (NotWritten CannotWrite) reads = absurd reads.2
   answers-without_definitions new left (NotWritten Memory) reads =
-      (left_of source.left, all-left source.left, prefix-of u _)
+      (left_of source.left, left_of-known source.left, prefix-of u _)
 
   -- a dump with its definitions and its body was audited
   pub dump-answers : (new : Reading) (left : List ℕ) (r : StepReading) (is_more : Bool) (w : Writing)

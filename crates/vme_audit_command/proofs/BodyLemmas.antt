@@ -42,14 +42,16 @@ lines-go-on law head allowances stop t more formed few =
       ap (flat_map line) on.grown ∙ flat_map-append line (breaks (read_by allowances stop t)) on.more,
     )
 
-pub steps-both : (t : Trace) (x y : List Step) → with_steps (with_steps t x) y ≡ with_steps t (x ++ y)
-steps-both t x y = ap (λ (s : List Step). record t { steps = s }) (append_assoc t.steps x y)
+-- a recording continued by x, and then by y, is the recording continued by both, one after the other
+pub with_steps-append : (t : Trace) (x y : List Step) → with_steps (with_steps t x) y ≡ with_steps t (x ++ y)
+with_steps-append t x y = ap (λ (s : List Step). record t { steps = s }) (append_assoc t.steps x y)
 
 -- if there is no memory for further steps, a prefix of their lines is written, the empty one
-pub no-memory : (A : Type 0) → ReadGoesOn → (head : List ℕ) (audit : GivenSteps) (steps : List Step) (w : Writing)
+pub AuditGoesOn-no_memory : (A : Type 0) → ReadGoesOn
+    → (head : List ℕ) (audit : GivenSteps) (steps : List Step) (w : Writing)
     → malformed_step (with_steps audit.recording steps) ≡ None → audit.recording.opening.slots ≤ 21
     → AuditGoesOn {A = A} head audit steps w w (Err Memory)
-no-memory A law head audit steps w formed few =
+AuditGoesOn-no_memory A law head audit steps w formed few =
     let (text, same) = lines-go-on law head audit.allowances audit.stop audit.recording steps formed few in
     (text, same, WritesPrefix-longer w w [] text (WritesPrefix-whole w w [] (Writes-nothing w)))
 
@@ -88,24 +90,25 @@ nothing-written head audit later steps is more =
 
 -- ---- steps one after the other
 
-pub goes-after : {A : Type 0} (before middle after : List ℕ) (u v w : Writing) (result : Result A WriteFault)
+-- if a text was written first, and the lines after it go on with this result, so do the lines from before that text on
+pub GoesOn-after_text : {A : Type 0} (before middle after : List ℕ) (u v w : Writing) (result : Result A WriteFault)
     → (text : List ℕ) × (middle ≡ before ++ text) × Writes u v text → GoesOn middle after v w result
     → GoesOn before after u w result
-goes-after before middle after u v w (Ok x) one two =
+GoesOn-after_text before middle after u v w (Ok x) one two =
     let (first, is, writes) = one in
     let (second, more, told) = two in (
       first ++ second,
       more ∙ ap (λ (l : List ℕ). l ++ second) is ∙ append_assoc before first second,
       Writes-append u v w first second writes told,
     )
-goes-after before middle after u v w (Err CannotWrite) one two =
+GoesOn-after_text before middle after u v w (Err CannotWrite) one two =
     let (first, is, writes) = one in
     let (second, more, told) = two in (
       first ++ second,
       more ∙ ap (λ (l : List ℕ). l ++ second) is ∙ append_assoc before first second,
       FailsToWrite-after u v w first second writes told,
     )
-goes-after before middle after u v w (Err Memory) one two =
+GoesOn-after_text before middle after u v w (Err Memory) one two =
     let (first, is, writes) = one in
     let (second, more, told) = two in (
       first ++ second,
@@ -114,17 +117,17 @@ goes-after before middle after u v w (Err Memory) one two =
     )
 
 -- after an error a prefix of any longer text was written
-pub goes-further : (A B : Type 0) (before after all : List ℕ) (u v : Writing) (fault : WriteFault)
+pub GoesOn-longer : (A B : Type 0) (before after all : List ℕ) (u v : Writing) (fault : WriteFault)
     → GoesOn {A = A} before after u v (Err fault) → (later : List ℕ) × (all ≡ after ++ later)
     → GoesOn {A = B} before all u v (Err fault)
-goes-further A B before after all u v CannotWrite goes more =
+GoesOn-longer A B before after all u v CannotWrite goes more =
     let (text, is, fails) = goes in
     let (later, same) = more in (
       text ++ later,
       same ∙ ap (λ (l : List ℕ). l ++ later) is ∙ append_assoc before text later,
       FailsToWrite-longer u v text later fails,
     )
-goes-further A B before after all u v Memory goes more =
+GoesOn-longer A B before after all u v Memory goes more =
     let (text, is, some) = goes in
     let (later, same) = more in (
       text ++ later,
@@ -193,17 +196,18 @@ rest-unwritten A B law head first audit steps i step u v w fault so_far lt is fo
     let t = first.recording in
     let front = take (i + 1) steps in
     let here : malformed_step (with_steps (with_steps t front) (drop (i + 1) steps)) ≡ None =
-    ap malformed_step (steps-both t front (drop (i + 1) steps)
+    ap malformed_step (with_steps-append t front (drop (i + 1) steps)
     ∙ ap (with_steps t) (take-append-drop (i + 1) steps)) ∙ formed in
     let (later, grown) = lines-go-on law head first.allowances first.stop (with_steps t front) (drop (i + 1) steps)
     here few in
     let reached = one-more first audit (given_more audit (step ∷ [])) steps i step so_far refl lt is in
     let all : lines_of head (given_more first steps) ≡ lines_of head (given_more audit (step ∷ [])) ++ later =
     ap (break_lines first.allowances first.stop head) (sym (ap (with_steps t) (take-append-drop (i + 1) steps))
-    ∙ sym (steps-both t front (drop (i + 1) steps)))
+    ∙ sym (with_steps-append t front (drop (i + 1) steps)))
     ∙ grown ∙ ap (λ (l : List ℕ). l ++ later) (sym (ap (lines_of head) reached)) in
-    goes-further A B (lines_of head first) (lines_of head (given_more audit (step ∷ [])))
+    GoesOn-longer A B (lines_of head first) (lines_of head (given_more audit (step ∷ [])))
     (lines_of head (given_more first steps)) u w fault
-    (goes-after {A = A} (lines_of head first) (lines_of head audit) (lines_of head (given_more audit (step ∷ []))) u v w
+    (GoesOn-after_text {A = A} (lines_of head first) (lines_of head audit)
+    (lines_of head (given_more audit (step ∷ []))) u v w
     (Err fault) one two)
     (later, all)

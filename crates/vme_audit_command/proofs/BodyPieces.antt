@@ -1,4 +1,4 @@
--- The audit of a body, piece by piece.
+-- The audit of a body that is underway, before the first piece, after one more piece, and where it ends.
 use Rattle.std.proofs.Common.{◌≡◌, ℕ, List, [], ◌++◌, Option, None, Some, IfSome, Result, Ok, Err, take, drop, sym}
 use Rattle.std.proofs.Common.{ap, subst, ◌∙◌, append_assoc, append-nil, take-append-drop, refl}
 use Rattle.std.specs.Io.KnownBytes.{Consumes, IsAtEnd}
@@ -22,7 +22,7 @@ use Rattle.vme_audit_command.specs.declared.written_lines.NoOutcome.TheVariants.
 use Rattle.vme_audit_command.specs.declared.written_lines.WriteFault.TheVariants.{Memory}
 use Rattle.vme_audit_command.proofs.BodyLemmas.{ReadGoesOn}
 use Rattle.vme_dump_input.proofs.ReadSteps.{StepsFollow, TimeGoesOn}
-use Rattle.vme_audit_command.proofs.Onward.{given-on}
+use Rattle.vme_audit_command.proofs.Onward.{ExtendsTo-given}
 use Rattle.vme_audit_command.proofs.PieceLemmas.{ends-after, memory-ends}
 
 -- what is left of a source after its first bytes were read
@@ -30,22 +30,27 @@ abbrev pub left_of : Option (List ℕ) → List ℕ
 left_of None = []
 left_of (Some x) = x
 
-pub all-of : (a b : Option (List ℕ)) (bytes : List ℕ) → Consumes a b bytes → IfSome a (λ told. bytes ++ left_of b
+-- if the bytes of a source are known, those that were read and those that are left are all of them
+pub Consumes-then_left : (a b : Option (List ℕ)) (bytes : List ℕ) → Consumes a b bytes
+    → IfSome a (λ told. bytes ++ left_of b
     ≡ told)
-all-of None b bytes read = tt
-all-of (Some x) None bytes read = absurd read
-all-of (Some x) (Some y) bytes read = sym read
+Consumes-then_left None b bytes read = tt
+Consumes-then_left (Some x) None bytes read = absurd read
+Consumes-then_left (Some x) (Some y) bytes read = sym read
 
-pub all-at-end : (a b : Option (List ℕ)) (bytes : List ℕ) → Consumes a b bytes → IsAtEnd b → IfSome a (λ told. bytes
+-- if the bytes of a source are known, and it is at its end, those that were read are all of them
+pub Consumes-to_end : (a b : Option (List ℕ)) (bytes : List ℕ) → Consumes a b bytes → IsAtEnd b
+    → IfSome a (λ told. bytes
     ≡ told)
-all-at-end None b bytes read end = tt
-all-at-end (Some x) None bytes read end = absurd read
-all-at-end (Some x) (Some y) bytes read end =
+Consumes-to_end None b bytes read end = tt
+Consumes-to_end (Some x) None bytes read end = absurd read
+Consumes-to_end (Some x) (Some y) bytes read end =
     sym (read ∙ ap (λ (l : List ℕ). bytes ++ l) end ∙ append-nil bytes)
 
-pub all-left : (a : Option (List ℕ)) → IfSome a (λ told. left_of a ≡ told)
-all-left None = tt
-all-left (Some x) = refl
+-- if the bytes that are left of a source are known, `left_of` gives them
+pub left_of-known : (a : Option (List ℕ)) → IfSome a (λ told. left_of a ≡ told)
+left_of-known None = tt
+left_of-known (Some x) = refl
 
 -- the audit of a body that began with `held`: `more` was read from `source`; `done` is taken, and `left` is held now;
 -- the lines of the breaks so far, `text`, were written
@@ -61,9 +66,10 @@ pub record IsUnderway (head : List ℕ) (source now : Reading) (old new : Writin
   pub lines : lines_of head audit ≡ lines_of head first ++ text
   pub writes : Writes old new text
 
-pub underway-first : (head : List ℕ) (source : Reading) (old : Writing) (audit : GivenSteps) (r : StepReading)
+-- an audit is underway before anything is taken, read or written
+pub IsUnderway-first : (head : List ℕ) (source : Reading) (old : Writing) (audit : GivenSteps) (r : StepReading)
     (held : List ℕ) → IsUnderway head source source old old audit audit r r held held
-underway-first head source old audit r held = record {
+IsUnderway-first head source old audit r held = record {
   done = [];
   more = [];
   text = [];
@@ -78,13 +84,13 @@ underway-first head source old audit r held = record {
 module _ (skew : Option ℕ) (head : List ℕ) (source now : Reading) (old new : Writing) (first audit : GivenSteps)
     (begun r : StepReading) (held left : List ℕ)
     (u : IsUnderway head source now old new first audit begun r held left) where
-  -- a piece is taken
-  pub underway-taken : (later : GivenSteps) (next : StepReading) (n : ℕ) (after : Writing)
+  -- the audit is underway after the first `n` bytes that are held are taken, and the lines that they add are written
+  pub IsUnderway-taken : (later : GivenSteps) (next : StepReading) (n : ℕ) (after : Writing)
       → ((rest : List ℕ) → whole_reading r (take n left ++ rest) ≡ whole_reading next rest)
       → later ≡ given_recording audit later.recording
       → (text : List ℕ) × (lines_of head later ≡ lines_of head audit ++ text) × Writes new after text
       → IsUnderway head source now old after first later begun next held (drop n left)
-  underway-taken later next n after passes same told =
+  IsUnderway-taken later next n after passes same told =
       let (text, lines, writes) = told in
       record {
         done = u.done ++ take n left;
@@ -101,10 +107,10 @@ module _ (skew : Option ℕ) (head : List ℕ) (source now : Reading) (old new :
         writes = Writes-append old new after u.text text u.writes writes;
       }
 
-  -- more is read
-  pub underway-read : (later : Reading) (bytes grown : List ℕ) → Consumes now.left later.left bytes
+  -- the audit is underway after further bytes are read, which are held then
+  pub IsUnderway-read : (later : Reading) (bytes grown : List ℕ) → Consumes now.left later.left bytes
       → grown ≡ left ++ bytes → IsUnderway head source later old new first audit begun r held grown
-  underway-read later bytes grown read is = record {
+  IsUnderway-read later bytes grown read is = record {
     done = u.done;
     more = u.more ++ bytes;
     text = u.text;
@@ -118,18 +124,21 @@ module _ (skew : Option ℕ) (head : List ℕ) (source now : Reading) (old new :
   }
 
   -- what all bytes of the body give is what the reader gives from the held ones on
-  same_reading : (rest : List ℕ) → whole_reading begun (held ++ (u.more ++ rest)) ≡ whole_reading r (left ++ rest)
-  same_reading rest =
+  whole_reading-underway : (rest : List ℕ) → whole_reading begun (held ++ (u.more ++ rest))
+      ≡ whole_reading r (left ++ rest)
+  whole_reading-underway rest =
       ap (whole_reading begun) (sym (append_assoc held u.more rest) ∙ ap (λ (l : List ℕ). l ++ rest) u.split
       ∙ append_assoc u.done left rest)
       ∙ u.passes (left ++ rest)
 
-  end-behind : {A : Type 0} (later : GivenSteps) (after : Writing) (result : Result A NoOutcome) (rest : List ℕ)
+  -- if the rest of the body, from the held bytes on, ends with this result, so does the whole body
+  WritesRest-underway : {A : Type 0} (later : GivenSteps) (after : Writing) (result : Result A NoOutcome)
+      (rest : List ℕ)
       → WritesRest head audit (lines_of head audit) (settled_by skew (whole_reading r (left ++ rest))) later.recording
       new after result
       → WritesRest head first (lines_of head first) (settled_by skew (whole_reading begun (held ++ (u.more ++ rest))))
       later.recording old after result
-  end-behind {A} later after result rest ends =
+  WritesRest-underway {A} later after result rest ends =
       let reading = settled_by skew (whole_reading r (left ++ rest)) in
       let there : WritesRest head audit (lines_of head first ++ u.text) reading later.recording new after result =
       subst (λ (l : List ℕ). WritesRest head audit l reading later.recording new after result) u.lines ends in
@@ -140,32 +149,33 @@ module _ (skew : Option ℕ) (head : List ℕ) (source now : Reading) (old new :
       u.writes ours in
       subst (λ (x : TextReading). WritesRest head first (lines_of head first) (settled_by skew x) later.recording old
       after result)
-      (sym (same_reading rest)) whole
+      (sym (whole_reading-underway rest)) whole
 
-  -- the audit ends here, whatever follows
-  pub underway-ends : {A : Type 0} (later : GivenSteps) (after : Writing) (result : Result A NoOutcome)
+  -- if the audit ends with this result, whatever follows the held bytes, the body was audited until it ends
+  pub AuditsBody-ends : {A : Type 0} (later : GivenSteps) (after : Writing) (result : Result A NoOutcome)
       → ((rest : List ℕ)
       → WritesRest head audit (lines_of head audit) (settled_by skew (whole_reading r (left ++ rest))) later.recording
       new after result)
       → AuditsBody skew head first later begun held source old after result
-  underway-ends later after result ends = (
+  AuditsBody-ends later after result ends = (
     u.more ++ left_of now.left,
-    all-of source.left now.left u.more u.read,
-    end-behind later after result (left_of now.left) (ends (left_of now.left)),
+    Consumes-then_left source.left now.left u.more u.read,
+    WritesRest-underway later after result (left_of now.left) (ends (left_of now.left)),
   )
 
-  -- the source is at its end
-  pub underway-last : {A : Type 0} (later : GivenSteps) (after : Writing) (result : Result A NoOutcome)
+  -- if the source is at its end, and the audit of the held bytes ends with this result, the body was audited until it
+  -- ends
+  pub AuditsBody-last : {A : Type 0} (later : GivenSteps) (after : Writing) (result : Result A NoOutcome)
       → IsAtEnd now.left
       → WritesRest head audit (lines_of head audit) (settled_by skew (whole_reading r left)) later.recording new after
       result
       → AuditsBody skew head first later begun held source old after result
-  underway-last later after result end ends = (
+  AuditsBody-last later after result end ends = (
     u.more,
-    all-at-end source.left now.left u.more u.read end,
+    Consumes-to_end source.left now.left u.more u.read end,
     subst (λ (l : List ℕ). WritesRest head first (lines_of head first)
         (settled_by skew (whole_reading begun (held ++ l))) later.recording old after result) (append-nil u.more)
-        (end-behind later after result []
+        (WritesRest-underway later after result []
         (subst (λ (l : List ℕ). WritesRest head audit (lines_of head audit) (settled_by skew (whole_reading r l))
         later.recording new after result)
         (sym (append-nil left)) ends)),
@@ -175,78 +185,82 @@ module _ (skew : Option ℕ) (head : List ℕ) (source now : Reading) (old new :
 module _ (law : ReadGoesOn) (front : GivenIsPrefix) (follows : StepsFollow) (on : TimeGoesOn) (head : List ℕ)
     (skew : Option ℕ) (settler : Option Settling) (audit : GivenSteps) (r : StepReading)
     (h : HasGiven skew settler audit r) (w : Writing) where
-  pub unheld-ends : (A : Type 0) (t : Trace) (rest : List ℕ)
+  -- if there is no memory for more bytes, a prefix of the other lines was written, the empty one
+  pub WritesRest-no_memory : (A : Type 0) (t : Trace) (rest : List ℕ)
       → WritesRest {A = A} head audit (lines_of head audit) (settled_by skew (whole_reading r rest)) t w w
       (Err (NotWritten Memory))
-  unheld-ends A t rest =
+  WritesRest-no_memory A t rest =
       memory-ends A law head audit (settled_by skew (whole_reading r rest)) t w
-      (given-on front follows on skew r rest settler audit h)
+      (ExtendsTo-given front follows on skew r rest settler audit h)
 
-  pub unread-ends : (A : Type 0) (t : Trace) (rest : List ℕ)
+  -- if a read fails, a prefix of the other lines was written, the empty one
+  pub WritesRest-cannot_read : (A : Type 0) (t : Trace) (rest : List ℕ)
       → WritesRest {A = A} head audit (lines_of head audit) (settled_by skew (whole_reading r rest)) t w w
       (Err CannotRead)
-  unread-ends A t rest = unheld-ends A t rest
+  WritesRest-cannot_read A t rest = WritesRest-no_memory A t rest
 
-  -- the reason why no more was read
-  pub no-more-ends : (fault : ReadFault) (why : NoOutcome) (t : Trace) → why ≡ unread fault → (rest : List ℕ)
+  -- if no more is read, because of this fault, a prefix of the other lines was written, the empty one
+  pub WritesRest-unread : (fault : ReadFault) (why : NoOutcome) (t : Trace) → why ≡ unread fault → (rest : List ℕ)
       → WritesRest {A = Unit {0}} head audit (lines_of head audit) (settled_by skew (whole_reading r rest)) t w w
       (Err why)
-  no-more-ends read.Failed why t is rest =
+  WritesRest-unread read.Failed why t is rest =
       subst (λ (e : NoOutcome). WritesRest {A = Unit {0}} head audit (lines_of head audit)
-      (settled_by skew (whole_reading r rest)) t w w (Err e)) (sym is) (unread-ends (Unit {0}) t rest)
-  no-more-ends read.Memory why t is rest =
+      (settled_by skew (whole_reading r rest)) t w w (Err e)) (sym is) (WritesRest-cannot_read (Unit {0}) t rest)
+  WritesRest-unread read.Memory why t is rest =
       subst (λ (e : NoOutcome). WritesRest {A = Unit {0}} head audit (lines_of head audit)
-      (settled_by skew (whole_reading r rest)) t w w (Err e)) (sym is) (unheld-ends (Unit {0}) t rest)
+      (settled_by skew (whole_reading r rest)) t w w (Err e)) (sym is) (WritesRest-no_memory (Unit {0}) t rest)
 
 -- ---- a piece of a body that is underway
 
 -- after a piece the audit was given what comes out of the reader's steps
-pub given-next : (skew : Option ℕ) (head : List ℕ) (audit later : GivenSteps) (settled : Option Settling)
+pub HasGiven-next : (skew : Option ℕ) (head : List ℕ) (audit later : GivenSteps) (settled : Option Settling)
     (r next : StepReading) (n : ℕ) (bytes : List ℕ) (u v : Writing)
     → TakesPiece skew head audit later settled r bytes u v (Ok (Some (next, n))) → HasGiven skew settled later next
-given-next skew head audit later settled r next n bytes u v takes = let (_, _, given, _, _) = takes in given
+HasGiven-next skew head audit later settled r next n bytes u v takes = let (_, _, given, _, _) = takes in given
 
 module _ (skew : Option ℕ) (head : List ℕ) (source now : Reading) (old new : Writing) (first audit : GivenSteps)
     (begun r : StepReading) (held left bytes : List ℕ)
     (u : IsUnderway head source now old new first audit begun r held left) (is : bytes ≡ left)
     (later : GivenSteps) (settled : Option Settling) (after : Writing) where
   -- the body ends in this piece with an error
-  pub underway-fails : (why : NoOutcome) → TakesPiece skew head audit later settled r bytes new after (Err why)
+  pub AuditsBody-fails : (why : NoOutcome) → TakesPiece skew head audit later settled r bytes new after (Err why)
       → AuditsBody {A = Unit {0}} skew head first later begun held source old after (Err why)
-  underway-fails why takes =
-      underway-ends skew head source now old new first audit begun r held left u {A = Unit {0}} later after (Err why)
+  AuditsBody-fails why takes =
+      AuditsBody-ends skew head source now old new first audit begun r held left u {A = Unit {0}} later after (Err why)
       (subst (λ (l : List ℕ). (rest : List ℕ) → WritesRest {A = Unit {0}} head audit (lines_of head audit)
       (settled_by skew (whole_reading r (l ++ rest))) later.recording new after (Err why)) is takes)
 
-  pub underway-stops : (going : Option (StepReading × ℕ)) → going ≡ None
+  -- the audit stops in this piece
+  pub AuditsBody-stops : (going : Option (StepReading × ℕ)) → going ≡ None
       → TakesPiece skew head audit later settled r bytes new after (Ok going)
       → AuditsBody {A = Unit {0}} skew head first later begun held source old after (Ok tt)
-  underway-stops going none takes =
+  AuditsBody-stops going none takes =
       let ends = subst (λ (x : Option (StepReading × ℕ)). TakesPiece skew head audit later settled r bytes new after
       (Ok x)) none
       takes
       in
-      underway-ends skew head source now old new first audit begun r held left u {A = Unit {0}} later after (Ok tt)
+      AuditsBody-ends skew head source now old new first audit begun r held left u {A = Unit {0}} later after (Ok tt)
       (subst (λ (l : List ℕ). (rest : List ℕ) → WritesRest {A = Unit {0}} head audit (lines_of head audit)
       (settled_by skew (whole_reading r (l ++ rest))) later.recording new after (Ok tt)) is ends)
 
   -- the audit continues after this piece
-  pub underway-on : (next : StepReading) (n : ℕ) (dropped : List ℕ) → dropped ≡ drop n left
+  pub IsUnderway-next : (next : StepReading) (n : ℕ) (dropped : List ℕ) → dropped ≡ drop n left
       → TakesPiece skew head audit later settled r bytes new after (Ok (Some (next, n)))
       → IsUnderway head source now old after first later begun next held dropped
-  underway-on next n dropped drops takes =
+  IsUnderway-next next n dropped drops takes =
       let (_, taken, _, same, told) = takes in
       let passes = subst (λ (l : List ℕ). (rest : List ℕ) → whole_reading r (take n l ++ rest) ≡ whole_reading next
       rest)
       is taken in
       subst (λ (l : List ℕ). IsUnderway head source now old after first later begun next held l) (sym drops)
-      (underway-taken skew head source now old new first audit begun r held left u later next n after passes same told)
+      (IsUnderway-taken skew head source now old new first audit begun r held left u later next n after passes same
+      told)
 
 -- a piece after which the audit is known to continue
-pub takes-some : (skew : Option ℕ) (head : List ℕ) (audit later : GivenSteps) (settled : Option Settling)
+pub TakesPiece-some : (skew : Option ℕ) (head : List ℕ) (audit later : GivenSteps) (settled : Option Settling)
     (r : StepReading) (bytes : List ℕ) (u v : Writing)
     (going : Option (StepReading × ℕ)) (next : StepReading) (n : ℕ) → going ≡ Some (next, n)
     → TakesPiece skew head audit later settled r bytes u v (Ok going)
     → TakesPiece skew head audit later settled r bytes u v (Ok (Some (next, n)))
-takes-some skew head audit later settled r bytes u v going next n is takes =
+TakesPiece-some skew head audit later settled r bytes u v going next n is takes =
     subst (λ (x : Option (StepReading × ℕ)). TakesPiece skew head audit later settled r bytes u v (Ok x)) is takes

@@ -20,7 +20,7 @@ use Rattle.vme_audit_command.specs.declared.written_lines.NoOutcome.TheVariants.
 use Rattle.vme_audit_command.specs.declared.written_lines.WriteFault.{WriteFault}
 use Rattle.vme_audit_command.proofs.BodyLemmas.{ReadGoesOn}
 use Rattle.vme_dump_input.proofs.ReadSteps.{StepsFollow, StepsWithin, TimeGoesOn, settled_so_far-formed}
-use Rattle.vme_audit_command.proofs.Onward.{ExtendsTo, piece-to, reading-on}
+use Rattle.vme_audit_command.proofs.Onward.{ExtendsTo, GoOnTo-next_piece, ExtendsTo-reading}
 use Rattle.vme_audit_command.proofs.PieceLemmas.{StopIsRead, StopStays, cut-ends, final-ends}
 
 -- a piece is taken, and its steps are given
@@ -33,33 +33,39 @@ module _ (front : GivenIsPrefix) (follows : StepsFollow) (within : StepsWithin) 
   abbrev so_far : Trace
   so_far = settled_so_far skew time (with_steps r.given steps)
 
-  pub piece-steps : malformed_step next.given ≡ None → GoOnTo r.given (whole_reading r []).time steps time
-  piece-steps formed =
+  -- the steps of the piece may follow those that were given, and none is later than `time`
+  pub GoOnTo-piece : malformed_step next.given ≡ None → GoOnTo r.given (whole_reading r []).time steps time
+  GoOnTo-piece formed =
       subst (GoOnTo r.given (whole_reading r []).time steps) (sym now)
-      (piece-to follows within on skew settler audit r h front next steps (take n bytes) taken given formed)
+      (GoOnTo-next_piece follows within on skew settler audit r h front next steps (take n bytes) taken given formed)
 
-  piece-whole : (rest : List ℕ) → whole_reading r (bytes ++ rest) ≡ whole_reading next (drop n bytes ++ rest)
-  piece-whole rest =
+  -- reading all bytes gives what the reader after the piece gives from the other bytes on
+  whole_reading-after_piece : (rest : List ℕ) → whole_reading r (bytes ++ rest)
+      ≡ whole_reading next (drop n bytes ++ rest)
+  whole_reading-after_piece rest =
       let split : bytes ++ rest ≡ take n bytes ++ (drop n bytes ++ rest) =
       ap (λ (l : List ℕ). l ++ rest) (sym (take-append-drop n bytes))
       ∙ append_assoc (take n bytes) (drop n bytes) rest in
       ap (whole_reading r) split ∙ taken (drop n bytes ++ rest)
 
-  next-formed : (rest : List ℕ) → malformed_step (whole_reading next rest).recorded ≡ None
-  next-formed rest =
+  -- whatever follows the piece, the recording is well formed
+  formed-after_piece : (rest : List ℕ) → malformed_step (whole_reading next rest).recorded ≡ None
+  formed-after_piece rest =
       ap (λ (x : TextReading). malformed_step x.recorded) (sym (taken rest)) ∙ h.formed (take n bytes ++ rest)
 
-  next-few : next.given.opening.slots ≤ 21
-  next-few = subst (λ (t : Trace). t.opening.slots ≤ 21) (sym given) h.few
+  -- what the reader has given after the piece has at most 21 slots
+  slots-after_piece : next.given.opening.slots ≤ 21
+  slots-after_piece = subst (λ (t : Trace). t.opening.slots ≤ 21) (sym given) h.few
 
   -- what the whole text settles to continues what is settled after the piece
-  piece-onward : (rest : List ℕ) → ExtendsTo so_far (settled_by skew (whole_reading r (bytes ++ rest))).recorded
-  piece-onward rest =
-      subst (λ (x : TextReading). ExtendsTo so_far (settled_by skew x).recorded) (sym (piece-whole rest))
+  ExtendsTo-after_piece : (rest : List ℕ)
+      → ExtendsTo so_far (settled_by skew (whole_reading r (bytes ++ rest))).recorded
+  ExtendsTo-after_piece rest =
+      subst (λ (x : TextReading). ExtendsTo so_far (settled_by skew x).recorded) (sym (whole_reading-after_piece rest))
       (subst (λ (t : Trace). ExtendsTo (settled_so_far skew time t)
       (settled_by skew (whole_reading next (drop n bytes ++ rest))).recorded) given
-      (reading-on front follows on skew next (drop n bytes ++ rest) time (omega (arith, now)) next-few
-      (ap (λ (t : Trace). length t.opening.levels) given ∙ h.whole) next-formed))
+      (ExtendsTo-reading front follows on skew next (drop n bytes ++ rest) time (omega (arith, now)) slots-after_piece
+      (ap (λ (t : Trace). length t.opening.levels) given ∙ h.whole) formed-after_piece))
 
   -- not all lines of the piece were written
   pub piece-cut : ReadGoesOn → (head : List ℕ) (u v : Writing) (fault : WriteFault) (t : Trace) (rest : List ℕ)
@@ -68,17 +74,19 @@ module _ (front : GivenIsPrefix) (follows : StepsFollow) (within : StepsWithin) 
       t u v (Err (NotWritten fault))
   piece-cut law head u v fault t rest goes =
       cut-ends (Unit {0}) (Unit {0}) law head audit (settled_by skew (whole_reading r (bytes ++ rest))) so_far u v fault
-      t (piece-onward rest) goes
+      t (ExtendsTo-after_piece rest) goes
 
   module _ (formed : malformed_step next.given ≡ None) (head : List ℕ) (later : GivenSteps)
       (settled : Option Settling) (u v : Writing) (same : later ≡ given_recording audit so_far)
       (goes : AuditGoesTo {A = Unit {0}} head audit so_far u v (Ok tt)) where
-    later-is : later.recording ≡ so_far
-    later-is = ap (λ (a : GivenSteps). a.recording) same
+    -- the recording that was given to the audit is then what is settled after the piece
+    recording-later : later.recording ≡ so_far
+    recording-later = ap (λ (a : GivenSteps). a.recording) same
 
-    pub later-formed : malformed_step later.recording ≡ None
-    later-formed =
-        ap malformed_step later-is
+    -- the recording that was given to the audit is then well formed
+    pub formed-later : malformed_step later.recording ≡ None
+    formed-later =
+        ap malformed_step recording-later
         ∙ settled_so_far-formed skew time (with_steps r.given steps) h.whole (sym (ap malformed_step given) ∙ formed)
 
     -- the audit continues
@@ -91,11 +99,11 @@ module _ (front : GivenIsPrefix) (follows : StepsFollow) (within : StepsWithin) 
           record {
             comes = subst (λ (k : ℕ). ComesOut skew settled next.given k later.recording) now
                 (subst (λ (t : Trace). ComesOut skew settled t time later.recording) (sym given) comes);
-            few = next-few;
+            few = slots-after_piece;
             whole = ap (λ (t : Trace). length t.opening.levels) given ∙ h.whole;
-            formed = next-formed;
+            formed = formed-after_piece;
           },
-          same ∙ ap (given_recording audit) (sym later-is),
+          same ∙ ap (given_recording audit) (sym recording-later),
           (text, ap (lines_of head) same ∙ grown, writes),
         )
 
@@ -105,16 +113,17 @@ module _ (front : GivenIsPrefix) (follows : StepsFollow) (within : StepsWithin) 
         (settled_by skew (whole_reading r (bytes ++ rest))) later.recording u v (Ok tt)
     piece-final stays read stopped rest =
         subst (λ (t : Trace). WritesRest {A = Unit {0}} head audit (lines_of head audit)
-        (settled_by skew (whole_reading r (bytes ++ rest))) t u v (Ok tt)) (sym later-is)
+        (settled_by skew (whole_reading r (bytes ++ rest))) t u v (Ok tt)) (sym recording-later)
         (final-ends stays read head audit (settled_by skew (whole_reading r (bytes ++ rest))) so_far u v
-        (piece-onward rest) (ap has_stopped (sym same) ∙ stopped) goes)
+        (ExtendsTo-after_piece rest) (ap has_stopped (sym same) ∙ stopped) goes)
 
+    -- the audit takes the piece and continues, or it stops in the piece
     pub piece-taken : StopStays → StopIsRead → (going : Option (StepReading × ℕ)) → n ≤ length bytes
         → ComesOut skew settled (with_steps r.given steps) time later.recording
         → IfSome going (λ p. (p.0 ≡ next) × (p.1 ≡ n))
         → (malformed_step later.recording ≡ None → IfNone going (has_stopped later ≡ true))
         → TakesPiece skew head audit later settled r bytes u v (Ok going)
-    piece-taken stays read None fits comes on stopped = piece-final stays read (stopped later-formed)
+    piece-taken stays read None fits comes on stopped = piece-final stays read (stopped formed-later)
     piece-taken stays read (Some (x, m)) fits comes on stopped =
         subst (λ (k : ℕ). TakesPiece skew head audit later settled r bytes u v (Ok (Some (x, k)))) (sym on.1)
         (subst (λ (y : StepReading). TakesPiece skew head audit later settled r bytes u v (Ok (Some (y, n))))

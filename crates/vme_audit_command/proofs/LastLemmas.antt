@@ -34,10 +34,11 @@ pub outcome-written : (o : Outcome) (u v : Writing) (text : List ℕ) (result : 
     → Writes u v text → IfOk result (λ status. status ≡ outcome_status o) → IfErr result (λ fault. fault ≡ Memory)
     → WritesOutcome text o u v result
 outcome-written o u v text (Ok status) writes ok err = (writes, ok)
-outcome-written o u v text (Err CannotWrite) writes ok err = absurd (differ err)
+outcome-written o u v text (Err CannotWrite) writes ok err = absurd (cannot_write-not_memory err)
   where
-    differ : CannotWrite ≡ Memory → ⊥
-    differ same = cc
+    -- that a write fails isn't that memory runs out
+    cannot_write-not_memory : CannotWrite ≡ Memory → ⊥
+    cannot_write-not_memory same = cc
 outcome-written o u v text (Err Memory) writes ok err = WritesPrefix-whole u v text writes
 
 -- the outcome wasn't written

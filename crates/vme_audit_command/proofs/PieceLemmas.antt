@@ -27,7 +27,7 @@ use Rattle.vme_audit_command.specs.declared.written_lines.NoOutcome.{NoOutcome}
 use Rattle.vme_audit_command.specs.declared.written_lines.NoOutcome.TheVariants.{CannotRead, NotWritten, Refused}
 use Rattle.vme_audit_command.specs.declared.written_lines.WriteFault.{WriteFault}
 use Rattle.vme_audit_command.specs.declared.written_lines.WriteFault.TheVariants.{CannotWrite, Memory}
-use Rattle.vme_audit_command.proofs.BodyLemmas.{ReadGoesOn, lines-go-on, no-memory}
+use Rattle.vme_audit_command.proofs.BodyLemmas.{ReadGoesOn, lines-go-on, AuditGoesOn-no_memory}
 use Rattle.vme_audit_command.proofs.Onward.{ExtendsTo}
 use Rattle.vme_audit_command.proofs.WriteLemmas.{WritesPrefix-after, WritesPrefix-longer}
 use Rattle.vme_audit_command.proofs.WriteLemmas.{WritesPrefix-whole}
@@ -95,7 +95,7 @@ pub memory-goes : (A : Type 0) → ReadGoesOn → (head : List ℕ) (audit : Giv
     → ExtendsTo audit.recording t → AuditGoesTo {A = A} head audit t w w (Err Memory)
 memory-goes A law head audit t w on =
     goes-to {A = A} head audit t on.more w w (Err Memory) (sym on.is)
-    (no-memory A law head audit on.more w (sym (ap malformed_step on.is) ∙ on.formed) on.few)
+    (AuditGoesOn-no_memory A law head audit on.more w (sym (ap malformed_step on.is) ∙ on.formed) on.few)
 
 -- not all lines of the steps were written
 pub cut-ends : (A B : Type 0) → ReadGoesOn → (head : List ℕ) (audit : GivenSteps) (reading : TextReading) (t : Trace)

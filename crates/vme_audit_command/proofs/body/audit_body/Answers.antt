@@ -4,11 +4,12 @@ use Rattle.vme_audit_command.specs.Bodies.{WritesRest}
 use Rattle.vme_audit_command.specs.DumpAudits.{lines_of}
 use Rattle.vme_dump_input.specs.SettledReadings.{settled_by}
 use Rattle.vme_step_reader.specs.StepReading.{whole_reading}
-use Rattle.vme_audit_command.proofs.BodyPieces.{given-next, no-more-ends, takes-some, underway-ends, underway-fails}
-use Rattle.vme_audit_command.proofs.BodyPieces.{underway-first, underway-last, underway-on, underway-read}
-use Rattle.vme_audit_command.proofs.BodyPieces.{underway-stops}
-use Rattle.vme_audit_command.proofs.BodyPieces.{unread-ends}
-use Rattle.vme_audit_command.proofs.Later.{kept-none, later-both, later-ok}
+use Rattle.vme_audit_command.proofs.BodyPieces.{HasGiven-next, WritesRest-unread, TakesPiece-some, AuditsBody-ends}
+use Rattle.vme_audit_command.proofs.BodyPieces.{AuditsBody-fails}
+use Rattle.vme_audit_command.proofs.BodyPieces.{IsUnderway-first, AuditsBody-last, IsUnderway-next, IsUnderway-read}
+use Rattle.vme_audit_command.proofs.BodyPieces.{AuditsBody-stops}
+use Rattle.vme_audit_command.proofs.BodyPieces.{WritesRest-cannot_read}
+use Rattle.vme_audit_command.proofs.Later.{IsLater-of_none, IsLater-after, OnOk-IsLater_after}
 use Rattle.vme_audit_command.proofs.ReadLemmas.{CountsUnread-fault, CountsUnread-given_up, CountsUnread-other}
 use Rattle.vme_audit_command.proofs.ReadLemmas.{NoReadFails-counted, NoReadFails-trans}
 use Rattle.vme_audit_command.proofs.body.audit_body.Goals as goal
@@ -17,7 +18,7 @@ pub loop-init : goal.loop-init
 loop-init g c = record {
   underway = λ skew h. (
     h,
-    underway-first c.args.head.now (g.D.Source.reading c.args.dump.now) (g.O.Sink.writing c.args.out.now)
+    IsUnderway-first c.args.head.now (g.D.Source.reading c.args.dump.now) (g.O.Sink.writing c.args.out.now)
         c.args.auditor.now c.args.reader c.args.input.now,
   );
   failures = refl;
@@ -27,7 +28,7 @@ loop-init g c = record {
 pub returns-in-Ok-None-clause-audits : goal.returns-in-Ok-None-clause-audits
 returns-in-Ok-None-clause-audits g c = λ skew first.
     let (h, u) = c.loop.invariant.underway skew first in
-    underway-stops skew c.args.head.now (g.D.Source.reading c.args.dump.now) (g.D.Source.reading c.loop.dump)
+    AuditsBody-stops skew c.args.head.now (g.D.Source.reading c.args.dump.now) (g.D.Source.reading c.loop.dump)
     (g.O.Sink.writing c.args.out.now) (g.O.Sink.writing c.loop.out) c.args.auditor.now c.loop.auditor c.args.reader
     c.loop.reader c.args.input.now c.loop.input c.bytes-held.result.now u c.bytes-held.ensures
     c.audit_piece.new.auditor c.audit_piece.new.settler (g.O.Sink.writing c.audit_piece.new.out) c.in-Ok-None.field-0
@@ -37,7 +38,7 @@ returns-in-Ok-None-clause-audits g c = λ skew first.
 pub returns-in-Err-clause-audits : goal.returns-in-Err-clause-audits
 returns-in-Err-clause-audits g c = λ skew first.
     let (h, u) = c.loop.invariant.underway skew first in
-    underway-fails skew c.args.head.now (g.D.Source.reading c.args.dump.now) (g.D.Source.reading c.loop.dump)
+    AuditsBody-fails skew c.args.head.now (g.D.Source.reading c.args.dump.now) (g.D.Source.reading c.loop.dump)
     (g.O.Sink.writing c.args.out.now) (g.O.Sink.writing c.loop.out) c.args.auditor.now c.loop.auditor c.args.reader
     c.loop.reader c.args.input.now c.loop.input c.bytes-held.result.now u c.bytes-held.ensures
     c.audit_piece.new.auditor c.audit_piece.new.settler (g.O.Sink.writing c.audit_piece.new.out) c.in-Err.why
@@ -56,20 +57,22 @@ returns-in-Ok-false-clause-audits g c = λ skew first.
     let audit = c.loop.auditor in
     let later = c.audit_piece.new.auditor in
     let next = c.in-Ok-Some.next in
-    let takes = takes-some skew head audit later c.audit_piece.new.settler c.loop.reader c.bytes-held.result.now new
+    let takes = TakesPiece-some skew head audit later c.audit_piece.new.settler c.loop.reader c.bytes-held.result.now
+    new
     then c.in-Ok-Some.field-0 next
     c.in-Ok-Some.count c.in-Ok-Some.field-0-is (c.in-Ok-Some.ensures.takes skew h) in
-    let given = given-next skew head audit later c.audit_piece.new.settler c.loop.reader next c.in-Ok-Some.count
+    let given = HasGiven-next skew head audit later c.audit_piece.new.settler c.loop.reader next c.in-Ok-Some.count
     c.bytes-held.result.now new then takes in
-    let on = underway-on skew head source now old new c.args.auditor.now audit c.args.reader c.loop.reader
+    let on = IsUnderway-next skew head source now old new c.args.auditor.now audit c.args.reader c.loop.reader
     c.args.input.now
     c.loop.input c.bytes-held.result.now u c.bytes-held.ensures later c.audit_piece.new.settler then next
     c.in-Ok-Some.count
     c.drop_first.new.self c.drop_first.ensures takes in
     let (more, read, grown) = c.in-Ok-false.ensures.more in
-    let held = underway-read skew head source now old then c.args.auditor.now later c.args.reader next c.args.input.now
+    let held = IsUnderway-read skew head source now old then c.args.auditor.now later c.args.reader next
+    c.args.input.now
     c.drop_first.new.self on after more c.read.new.self read grown in
-    underway-last skew head source after old then c.args.auditor.now later c.args.reader next c.args.input.now
+    AuditsBody-last skew head source after old then c.args.auditor.now later c.args.reader next c.args.input.now
     c.read.new.self
     held c.audit_last.new.auditor (g.O.Sink.writing c.audit_last.new.out) c.audit_last.result
     (c.in-Ok-false.ensures.end (ap Ok c.in-Ok-false.field-0-test))
@@ -90,19 +93,21 @@ returns-in-Err-read-clause-audits g c = λ skew first.
     let audit = c.loop.auditor in
     let later = c.audit_piece.new.auditor in
     let next = c.in-Ok-Some.next in
-    let takes = takes-some skew head audit later c.audit_piece.new.settler c.loop.reader c.bytes-held.result.now new
+    let takes = TakesPiece-some skew head audit later c.audit_piece.new.settler c.loop.reader c.bytes-held.result.now
+    new
     then c.in-Ok-Some.field-0 next
     c.in-Ok-Some.count c.in-Ok-Some.field-0-is (c.in-Ok-Some.ensures.takes skew h) in
-    let given = given-next skew head audit later c.audit_piece.new.settler c.loop.reader next c.in-Ok-Some.count
+    let given = HasGiven-next skew head audit later c.audit_piece.new.settler c.loop.reader next c.in-Ok-Some.count
     c.bytes-held.result.now new then takes in
-    let on = underway-on skew head source now old new c.args.auditor.now audit c.args.reader c.loop.reader
+    let on = IsUnderway-next skew head source now old new c.args.auditor.now audit c.args.reader c.loop.reader
     c.args.input.now
     c.loop.input c.bytes-held.result.now u c.bytes-held.ensures later c.audit_piece.new.settler then next
     c.in-Ok-Some.count
     c.drop_first.new.self c.drop_first.ensures takes in
-    underway-ends skew head source now old then c.args.auditor.now later c.args.reader next c.args.input.now
+    AuditsBody-ends skew head source now old then c.args.auditor.now later c.args.reader next c.args.input.now
     c.drop_first.new.self on {A = Unit {0}} later then (Err c.not_read.result)
-    (λ rest. no-more-ends c.reading_goes_on.ensures.breaks c.given_is_a_prefix.ensures c.times_go_on.ensures.follows
+    (λ rest. WritesRest-unread c.reading_goes_on.ensures.breaks c.given_is_a_prefix.ensures
+    c.times_go_on.ensures.follows
     c.times_go_on.ensures.on head skew c.audit_piece.new.settler later next given then c.in-Err-read.fault
     c.not_read.result later.recording c.not_read.ensures
     (c.drop_first.new.self ++ rest))
@@ -123,19 +128,21 @@ loop-preserved g c =
           let audit = c.loop.auditor in
           let later = c.audit_piece.new.auditor in
           let next = c.in-Ok-Some.next in
-          let takes = takes-some skew head audit later c.audit_piece.new.settler c.loop.reader c.bytes-held.result.now
+          let takes = TakesPiece-some skew head audit later c.audit_piece.new.settler c.loop.reader
+          c.bytes-held.result.now
           new then c.in-Ok-Some.field-0 next c.in-Ok-Some.count c.in-Ok-Some.field-0-is
           (c.in-Ok-Some.ensures.takes skew h) in
-          let given = given-next skew head audit later c.audit_piece.new.settler c.loop.reader next c.in-Ok-Some.count
+          let given = HasGiven-next skew head audit later c.audit_piece.new.settler c.loop.reader next
+          c.in-Ok-Some.count
           c.bytes-held.result.now new then takes in
-          let on = underway-on skew head source now old new c.args.auditor.now audit c.args.reader c.loop.reader
+          let on = IsUnderway-next skew head source now old new c.args.auditor.now audit c.args.reader c.loop.reader
           c.args.input.now
           c.loop.input c.bytes-held.result.now u c.bytes-held.ensures later c.audit_piece.new.settler then next
           c.in-Ok-Some.count
           c.drop_first.new.self c.drop_first.ensures takes in
           let (more, read, grown) = c.in-Ok-true.ensures.more in (
             given,
-            underway-read skew head source now old then c.args.auditor.now later c.args.reader next c.args.input.now
+            IsUnderway-read skew head source now old then c.args.auditor.now later c.args.reader next c.args.input.now
                 c.drop_first.new.self on after more c.read.new.self read grown,
           );
       failures = c.in-Ok-true.ensures.ok ∙ c.loop.invariant.failures;
@@ -147,18 +154,19 @@ returns-clause-audits g c = λ skew first.
     let (h, u) = c.loop.invariant.underway skew first in
     let head = c.args.head.now in
     let new = g.O.Sink.writing c.loop.out in
-    underway-ends skew head (g.D.Source.reading c.args.dump.now) (g.D.Source.reading c.loop.dump)
+    AuditsBody-ends skew head (g.D.Source.reading c.args.dump.now) (g.D.Source.reading c.loop.dump)
     (g.O.Sink.writing c.args.out.now) new c.args.auditor.now c.loop.auditor c.args.reader c.loop.reader
     c.args.input.now c.loop.input u {A = Unit {0}} c.loop.auditor new (Err CannotRead)
-    (λ rest. unread-ends c.reading_goes_on.ensures.breaks c.given_is_a_prefix.ensures c.times_go_on.ensures.follows
+    (λ rest. WritesRest-cannot_read c.reading_goes_on.ensures.breaks c.given_is_a_prefix.ensures
+    c.times_go_on.ensures.follows
     c.times_go_on.ensures.on head skew c.loop.settler c.loop.auditor
     c.loop.reader h new (Unit {0}) c.loop.auditor.recording (c.loop.input ++ rest))
 
 pub returns-in-Ok-None-clause-kept : goal.returns-in-Ok-None-clause-kept
 returns-in-Ok-None-clause-kept g c = λ skew first.
     let (h, u) = c.loop.invariant.underway skew first in
-    later-both c.args.auditor.now c.loop.auditor c.audit_piece.new.auditor c.loop.auditor.recording u.same
-    (kept-none c.loop.auditor c.audit_piece.new.auditor c.in-Ok-None.field-0 c.in-Ok-None.field-0-is
+    IsLater-after c.args.auditor.now c.loop.auditor c.audit_piece.new.auditor c.loop.auditor.recording u.same
+    (IsLater-of_none c.loop.auditor c.audit_piece.new.auditor c.in-Ok-None.field-0 c.in-Ok-None.field-0-is
     (c.in-Ok-None.ensures.kept skew h))
 
 pub returns-in-Ok-false-clause-kept : goal.returns-in-Ok-false-clause-kept
@@ -173,17 +181,18 @@ returns-in-Ok-false-clause-kept g c = λ skew first.
     let audit = c.loop.auditor in
     let later = c.audit_piece.new.auditor in
     let next = c.in-Ok-Some.next in
-    let takes = takes-some skew head audit later c.audit_piece.new.settler c.loop.reader c.bytes-held.result.now new
+    let takes = TakesPiece-some skew head audit later c.audit_piece.new.settler c.loop.reader c.bytes-held.result.now
+    new
     then c.in-Ok-Some.field-0 next
     c.in-Ok-Some.count c.in-Ok-Some.field-0-is (c.in-Ok-Some.ensures.takes skew h) in
-    let given = given-next skew head audit later c.audit_piece.new.settler c.loop.reader next c.in-Ok-Some.count
+    let given = HasGiven-next skew head audit later c.audit_piece.new.settler c.loop.reader next c.in-Ok-Some.count
     c.bytes-held.result.now new then takes in
-    let on = underway-on skew head source now old new c.args.auditor.now audit c.args.reader c.loop.reader
+    let on = IsUnderway-next skew head source now old new c.args.auditor.now audit c.args.reader c.loop.reader
     c.args.input.now
     c.loop.input c.bytes-held.result.now u c.bytes-held.ensures later c.audit_piece.new.settler then next
     c.in-Ok-Some.count
     c.drop_first.new.self c.drop_first.ensures takes in
-    later-ok c.args.auditor.now later c.audit_last.new.auditor later.recording on.same c.audit_last.result
+    OnOk-IsLater_after c.args.auditor.now later c.audit_last.new.auditor later.recording on.same c.audit_last.result
     (c.audit_last.ensures.kept skew given)
 
 pub returns-in-Ok-None-clause-unread : goal.returns-in-Ok-None-clause-unread

@@ -8,8 +8,9 @@ use Rattle.vme_audit_command.specs.declared.written_lines.NoOutcome.TheVariants.
 use Rattle.vme_audit_command.specs.Bodies.{IsLater, WritesRest}
 use Rattle.vme_audit_command.specs.DumpAudits.{lines_of}
 use Rattle.vme_dump_input.specs.SettledReadings.{settled_by, settled_so_far}
-use Rattle.vme_audit_command.proofs.Later.{later-by, on-any}
-use Rattle.vme_audit_command.proofs.Onward.{stopped-fault, stopped-is, stopped-on, stopped-to, to-next}
+use Rattle.vme_audit_command.proofs.Later.{IsLater-given_recording, OnOk-any}
+use Rattle.vme_audit_command.proofs.Onward.{fault-stopped, settled_by-stopped, ExtendsTo-stopped, GoOnTo-stopped}
+use Rattle.vme_audit_command.proofs.Onward.{ExtendsTo-next}
 use Rattle.vme_audit_command.proofs.PieceLemmas.{cut-ends, fault-ends}
 use Rattle.vme_audit_command.proofs.body.audit_faulty.Goals as goal
 
@@ -24,17 +25,17 @@ returns-in-Ok-clause-ends g c = λ skew r rest h stops.
     let later = c.audit_settled.new.auditor in
     let from = (whole_reading r []).time in
     let t = settled_so_far skew stopped.time (with_steps r.given steps) in
-    let to = stopped-to law.follows law.within law.on skew settler audit r h stopped rest stops c.requires in
+    let to = GoOnTo-stopped law.follows law.within law.on skew settler audit r h stopped rest stops c.requires in
     let given = c.in-Ok.ensures.given skew r.given from h.comes to in
-    let on = to-next skew settler r.given from audit.recording h.comes steps stopped.time to in
+    let on = ExtendsTo-next skew settler r.given from audit.recording h.comes steps stopped.time to in
     let now : malformed_step later.recording ≡ None = ap (λ a. malformed_step a.recording) given ∙ on.formed in
     subst (λ x. WritesRest {A = Unit {0}} c.args.head.now audit (lines_of c.args.head.now audit)
     (settled_by skew (whole_reading r rest)) x (g.O.Sink.writing c.args.out.now)
     (g.O.Sink.writing c.audit_settled.new.out) c.at_fault.result) (sym (ap (λ a. a.recording) given))
     (fault-ends c.args.head.now audit (settled_by skew (whole_reading r rest)) (g.O.Sink.writing c.args.out.now)
     (g.O.Sink.writing c.audit_settled.new.out) fault t c.at_fault.result
-    (stopped-is law.follows law.within law.on skew settler audit r h stopped rest stops c.requires)
-    (stopped-fault law.follows law.within law.on skew settler audit r h stopped rest stops c.requires) c.requires
+    (settled_by-stopped law.follows law.within law.on skew settler audit r h stopped rest stops c.requires)
+    (fault-stopped law.follows law.within law.on skew settler audit r h stopped rest stops c.requires) c.requires
     (subst (λ a. OnOk c.at_fault.result (is_stopped a.allowances a.stop a.recording ≡ true)) given
     (c.at_fault.ensures.stopped now))
     (subst (λ a. IfErr c.at_fault.result (λ why. (why ≡ Refused (BadDump fault))
@@ -48,11 +49,11 @@ returns-in-Err-clause-ends g c = λ skew r rest h stops.
     let settler = c.args.settler.now in
     let stopped = c.args.stopped in
     let t = settled_so_far skew stopped.time (with_steps r.given stopped.steps.items) in
-    let to = stopped-to law.follows law.within law.on skew settler audit r h stopped rest stops c.requires in
+    let to = GoOnTo-stopped law.follows law.within law.on skew settler audit r h stopped rest stops c.requires in
     cut-ends (Unit {0}) (Unit {0}) c.reading_goes_on.ensures.breaks c.args.head.now audit
     (settled_by skew (whole_reading r rest)) t (g.O.Sink.writing c.args.out.now)
     (g.O.Sink.writing c.audit_settled.new.out) c.in-Err.fault c.audit_settled.new.auditor.recording
-    (stopped-on law.follows law.within law.on skew settler audit r h stopped rest stops c.requires)
+    (ExtendsTo-stopped law.follows law.within law.on skew settler audit r h stopped rest stops c.requires)
     (c.in-Err.ensures.writes skew r.given (whole_reading r []).time h.comes to)
 
 pub returns-in-Ok-clause-kept : goal.returns-in-Ok-clause-kept
@@ -65,7 +66,7 @@ returns-in-Ok-clause-kept g c = λ skew r rest h stops.
     let later = c.audit_settled.new.auditor in
     let from = (whole_reading r []).time in
     let t = settled_so_far skew stopped.time (with_steps r.given steps) in
-    let to = stopped-to law.follows law.within law.on skew settler audit r h stopped rest stops c.requires in
-    let on = to-next skew settler r.given from audit.recording h.comes steps stopped.time to in
-    on-any (IsLater audit later) c.at_fault.result
-    (later-by audit later t (c.in-Ok.ensures.given skew r.given from h.comes to) on.formed)
+    let to = GoOnTo-stopped law.follows law.within law.on skew settler audit r h stopped rest stops c.requires in
+    let on = ExtendsTo-next skew settler r.given from audit.recording h.comes steps stopped.time to in
+    OnOk-any (IsLater audit later) c.at_fault.result
+    (IsLater-given_recording audit later t (c.in-Ok.ensures.given skew r.given from h.comes to) on.formed)

@@ -4,8 +4,8 @@ use Rattle.vme_step_reader.specs.StepReading.{whole_reading}
 use Rattle.vme_audit_command.specs.Bodies.{WritesRest}
 use Rattle.vme_audit_command.specs.DumpAudits.{lines_of}
 use Rattle.vme_dump_input.specs.SettledReadings.{settled_by, settled_whole}
-use Rattle.vme_audit_command.proofs.Later.{later-by}
-use Rattle.vme_audit_command.proofs.Onward.{last-from, last-is, last-on, to-end}
+use Rattle.vme_audit_command.proofs.Later.{IsLater-given_recording}
+use Rattle.vme_audit_command.proofs.Onward.{GoOnFrom-last, settled_by-last, ExtendsTo-last, ExtendsTo-end}
 use Rattle.vme_audit_command.proofs.PieceLemmas.{cut-ends, whole-ends}
 use Rattle.vme_audit_command.proofs.body.audit_last.Goals as goal
 
@@ -25,10 +25,10 @@ returns-in-Ok-audit_ended-clause-kept g c = λ skew h.
     let settler = c.args.settler.now in
     let steps = c.in-Ok.steps.items in
     let from = (whole_reading r []).time in
-    let last = last-from law.follows law.within law.on skew settler audit r h c.args.bytes.now steps
+    let last = GoOnFrom-last law.follows law.within law.on skew settler audit r h c.args.bytes.now steps
     c.in-Ok.ensures.recorded in
-    let on = to-end skew settler r.given from audit.recording h.comes steps last in
-    later-by audit c.audit_ended.new.auditor (settled_whole skew (with_steps r.given steps))
+    let on = ExtendsTo-end skew settler r.given from audit.recording h.comes steps last in
+    IsLater-given_recording audit c.audit_ended.new.auditor (settled_whole skew (with_steps r.given steps))
     (c.in-Ok-audit_ended.ensures.given skew r.given from h.comes last) on.formed
 
 pub returns-in-Ok-audit_ended-clause-ends : goal.returns-in-Ok-audit_ended-clause-ends
@@ -41,8 +41,9 @@ returns-in-Ok-audit_ended-clause-ends g c = λ skew h.
     let steps = c.in-Ok.steps.items in
     let from = (whole_reading r []).time in
     let t = settled_whole skew (with_steps r.given steps) in
-    let last = last-from law.follows law.within law.on skew settler audit r h bytes steps c.in-Ok.ensures.recorded in
-    let is = last-is law.follows law.within law.on skew settler audit r h bytes steps c.in-Ok.ensures.recorded
+    let last = GoOnFrom-last law.follows law.within law.on skew settler audit r h bytes steps
+    c.in-Ok.ensures.recorded in
+    let is = settled_by-last law.follows law.within law.on skew settler audit r h bytes steps c.in-Ok.ensures.recorded
     c.in-Ok.ensures.whole in
     subst (λ x. WritesRest {A = Unit {0}} c.args.head.now audit (lines_of c.args.head.now audit)
     (settled_by skew (whole_reading r bytes)) x (g.O.Sink.writing c.args.out.now)
@@ -62,10 +63,11 @@ returns-in-Err-audit_ended-clause-ends g c = λ skew h.
     let steps = c.in-Ok.steps.items in
     let from = (whole_reading r []).time in
     let t = settled_whole skew (with_steps r.given steps) in
-    let last = last-from law.follows law.within law.on skew settler audit r h bytes steps c.in-Ok.ensures.recorded in
+    let last = GoOnFrom-last law.follows law.within law.on skew settler audit r h bytes steps
+    c.in-Ok.ensures.recorded in
     cut-ends (Unit {0}) (Unit {0}) c.reading_goes_on.ensures.breaks c.args.head.now audit
     (settled_by skew (whole_reading r bytes)) t (g.O.Sink.writing c.args.out.now)
     (g.O.Sink.writing c.audit_ended.new.out) c.in-Err-audit_ended.fault c.audit_ended.new.auditor.recording
-    (last-on law.follows law.within law.on skew settler audit r h bytes steps c.in-Ok.ensures.recorded
+    (ExtendsTo-last law.follows law.within law.on skew settler audit r h bytes steps c.in-Ok.ensures.recorded
     c.in-Ok.ensures.whole)
     (c.in-Err-audit_ended.ensures.writes skew r.given from h.comes last)

@@ -2,9 +2,9 @@ use Rattle.std.proofs.Common.{◌++◌, []}
 use Rattle.vme_trace.specs.Followed.{with_steps}
 use Rattle.vme_step_reader.specs.StepReading.{whole_reading}
 use Rattle.vme_dump_input.specs.SettledReadings.{settled_so_far}
-use Rattle.vme_audit_command.proofs.GivenPieces.{piece-cut, piece-steps, piece-taken}
-use Rattle.vme_audit_command.proofs.Later.{later-by, none-kept}
-use Rattle.vme_audit_command.proofs.Onward.{to-next}
+use Rattle.vme_audit_command.proofs.GivenPieces.{piece-cut, GoOnTo-piece, piece-taken}
+use Rattle.vme_audit_command.proofs.Later.{IsLater-given_recording, IfNone-IsLater}
+use Rattle.vme_audit_command.proofs.Onward.{ExtendsTo-next}
 use Rattle.vme_audit_command.proofs.body.audit_piece.Goals as goal
 
 pub returns-in-Ok-audit_settled-clause-takes : goal.returns-in-Ok-audit_settled-clause-takes
@@ -21,7 +21,7 @@ returns-in-Ok-audit_settled-clause-takes g c = λ skew h.
     let bytes = c.args.bytes.now in
     let time = c.time-time.result in
     let made = c.in-Ok.ensures in
-    let to = piece-steps front law.follows law.within law.on skew settler audit r h next steps n bytes made.taken
+    let to = GoOnTo-piece front law.follows law.within law.on skew settler audit r h next steps n bytes made.taken
     made.given time c.time-time.ensures made.formed in
     piece-taken front law.follows law.within law.on skew settler audit r h next steps n bytes made.taken made.given time
     c.time-time.ensures made.formed c.args.head.now c.audit_settled.new.auditor c.audit_settled.new.settler
@@ -45,7 +45,7 @@ returns-in-Err-audit_settled-clause-takes g c = λ skew h rest.
     let bytes = c.args.bytes.now in
     let time = c.time-time.result in
     let made = c.in-Ok.ensures in
-    let to = piece-steps front law.follows law.within law.on skew settler audit r h next steps n bytes made.taken
+    let to = GoOnTo-piece front law.follows law.within law.on skew settler audit r h next steps n bytes made.taken
     made.given time c.time-time.ensures made.formed in
     piece-cut front law.follows law.within law.on skew settler audit r h next steps n bytes made.taken made.given time
     c.time-time.ensures c.reading_goes_on.ensures.breaks c.args.head.now (g.O.Sink.writing c.args.out.now)
@@ -70,11 +70,12 @@ returns-in-Ok-audit_settled-clause-kept g c = λ skew h.
     let steps = c.in-Ok.steps.items in
     let time = c.time-time.result in
     let made = c.in-Ok.ensures in
-    let to = piece-steps c.given_is_a_prefix.ensures law.follows law.within law.on skew settler audit r h c.in-Ok.reader
+    let to = GoOnTo-piece c.given_is_a_prefix.ensures law.follows law.within law.on skew settler audit r h
+    c.in-Ok.reader
     steps c.in-Ok.count c.args.bytes.now made.taken made.given time c.time-time.ensures made.formed in
-    let on = to-next skew settler r.given from audit.recording h.comes steps time to in
-    none-kept audit c.audit_settled.new.auditor c.going_on.result
-    (later-by audit c.audit_settled.new.auditor (settled_so_far skew time (with_steps r.given steps))
+    let on = ExtendsTo-next skew settler r.given from audit.recording h.comes steps time to in
+    IfNone-IsLater audit c.audit_settled.new.auditor c.going_on.result
+    (IsLater-given_recording audit c.audit_settled.new.auditor (settled_so_far skew time (with_steps r.given steps))
     (c.in-Ok-audit_settled.ensures.given skew r.given from h.comes to) on.formed)
 
 pub returns-in-Ok-audit_stopped-clause-kept : goal.returns-in-Ok-audit_stopped-clause-kept

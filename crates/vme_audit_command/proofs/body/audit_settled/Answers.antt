@@ -4,15 +4,15 @@ use Rattle.vme_trace.specs.WellFormed.{malformed_step}
 use Rattle.vme_audit_command.specs.DumpAudits.{given_recording}
 use Rattle.vme_dump_input.specs.SettledReadings.{settled_so_far}
 use Rattle.vme_dump_input.specs.SettledSteps.{ComesOut}
-use Rattle.vme_audit_command.proofs.Later.{on-given}
-use Rattle.vme_audit_command.proofs.Onward.{to-next}
+use Rattle.vme_audit_command.proofs.Later.{OnOk-given_more}
+use Rattle.vme_audit_command.proofs.Onward.{ExtendsTo-next}
 use Rattle.vme_audit_command.proofs.PieceLemmas.{goes-to, memory-goes}
 use Rattle.vme_audit_command.proofs.body.audit_settled.Goals as goal
 
 pub returns-in-Ok-clause-comes : goal.returns-in-Ok-clause-comes
 returns-in-Ok-clause-comes g c = λ skew given from h go.
     let t = c.args.auditor.now.recording in
-    on-given (ComesOut skew c.settled_steps.new.settler (with_steps given c.args.steps.items) c.args.time)
+    OnOk-given_more (ComesOut skew c.settled_steps.new.settler (with_steps given c.args.steps.items) c.args.time)
     c.audit_steps.result c.args.auditor.now c.audit_steps.new.auditor c.as_slice.result.now c.audit_steps.ensures.given
     (subst (λ s. ComesOut skew c.settled_steps.new.settler (with_steps given c.args.steps.items) c.args.time
     (with_steps t s)) (sym c.as_slice.ensures.value) (c.in-Ok.ensures.comes skew given t from h go))
@@ -27,7 +27,7 @@ returns-in-Ok-clause-given g c = λ skew given from h go.
 pub returns-in-Ok-clause-writes : goal.returns-in-Ok-clause-writes
 returns-in-Ok-clause-writes g c = λ skew given from h go.
     let t = c.args.auditor.now.recording in
-    let on = to-next skew c.args.settler.now given from t h c.args.steps.items c.args.time go in
+    let on = ExtendsTo-next skew c.args.settler.now given from t h c.args.steps.items c.args.time go in
     let is = ap (with_steps t) c.as_slice.ensures.value ∙ c.in-Ok.ensures.settled skew given t from h go in
     goes-to c.args.head.now c.args.auditor.now
     (settled_so_far skew c.args.time (with_steps given c.args.steps.items)) c.as_slice.result.now
@@ -38,4 +38,4 @@ pub returns-in-Err-clause-writes : goal.returns-in-Err-clause-writes
 returns-in-Err-clause-writes g c = λ skew given from h go.
     memory-goes (Unit {0}) c.reading_goes_on.ensures.breaks c.args.head.now c.args.auditor.now
     (settled_so_far skew c.args.time (with_steps given c.args.steps.items)) (g.O.Sink.writing c.args.out.now)
-    (to-next skew c.args.settler.now given from c.args.auditor.now.recording h c.args.steps.items c.args.time go)
+    (ExtendsTo-next skew c.args.settler.now given from c.args.auditor.now.recording h c.args.steps.items c.args.time go)

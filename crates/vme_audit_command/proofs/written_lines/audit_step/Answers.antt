@@ -5,7 +5,8 @@ use Rattle.vme_stream.specs.Texts.{line_of}
 use Rattle.vme_stream.proofs.OutputLemmas.{Writes-nothing}
 use Rattle.vme_audit_lines.specs.AuditLines.{audit_break_text}
 use Rattle.vme_audit_command.specs.DumpAudits.{given_more, line_of_break, lines_of}
-use Rattle.vme_audit_command.proofs.BodyLemmas.{break-written, no-memory, nothing-written, writes-further-text}
+use Rattle.vme_audit_command.proofs.BodyLemmas.{break-written, AuditGoesOn-no_memory, nothing-written}
+use Rattle.vme_audit_command.proofs.BodyLemmas.{writes-further-text}
 use Rattle.vme_audit_command.proofs.written_lines.audit_step.Goals as goal
 
 pub returns-in-Ok-Some-clause-writes : goal.returns-in-Ok-Some-clause-writes
@@ -43,6 +44,6 @@ returns-in-Ok-None-clause-writes g c =
     )
 
 pub returns-in-Err-clause-writes : goal.returns-in-Err-clause-writes
-returns-in-Err-clause-writes g c = no-memory (Unit {0}) c.reading_goes_on.ensures.breaks c.args.head.now
+returns-in-Err-clause-writes g c = AuditGoesOn-no_memory (Unit {0}) c.reading_goes_on.ensures.breaks c.args.head.now
     c.args.auditor.now
     (c.args.step.now ∷ []) (g.O.Sink.writing c.args.out.now)
