@@ -23,7 +23,7 @@ use Rattle.vme_audit_command.specs.declared.written_lines.WriteFault.TheVariants
 use Rattle.vme_audit_command.proofs.BodyLemmas.{ReadGoesOn}
 use Rattle.vme_dump_input.proofs.ReadSteps.{StepsFollow, TimeGoesOn}
 use Rattle.vme_audit_command.proofs.Onward.{ExtendsTo-given}
-use Rattle.vme_audit_command.proofs.PieceLemmas.{ends-after, memory-ends}
+use Rattle.vme_audit_command.proofs.PieceLemmas.{WritesRest-after_text, WritesRest-memory}
 
 -- what is left of a source after its first bytes were read
 abbrev pub left_of : Option (List ℕ) → List ℕ
@@ -145,7 +145,8 @@ module _ (skew : Option ℕ) (head : List ℕ) (source now : Reading) (old new :
       let ours : WritesRest head first (lines_of head first ++ u.text) reading later.recording new after result =
       subst (λ (a : GivenSteps). WritesRest head a (lines_of head first ++ u.text) reading later.recording new after
       result) u.same there in
-      let whole = ends-after head first (lines_of head first) u.text reading later.recording old new after result
+      let whole = WritesRest-after_text head first (lines_of head first) u.text reading later.recording old new after
+      result
       u.writes ours in
       subst (λ (x : TextReading). WritesRest head first (lines_of head first) (settled_by skew x) later.recording old
       after result)
@@ -190,7 +191,7 @@ module _ (law : ReadGoesOn) (front : GivenIsPrefix) (follows : StepsFollow) (on 
       → WritesRest {A = A} head audit (lines_of head audit) (settled_by skew (whole_reading r rest)) t w w
       (Err (NotWritten Memory))
   WritesRest-no_memory A t rest =
-      memory-ends A law head audit (settled_by skew (whole_reading r rest)) t w
+      WritesRest-memory A law head audit (settled_by skew (whole_reading r rest)) t w
       (ExtendsTo-given front follows on skew r rest settler audit h)
 
   -- if a read fails, a prefix of the other lines was written, the empty one

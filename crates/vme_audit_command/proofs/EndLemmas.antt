@@ -1,4 +1,5 @@
--- How the audit of a dump ends.
+-- How the audit of a dump ends: the status isn't 5 unless a write fails, and what is written is a possible end of the
+-- dump.
 use Rattle.std.proofs.Common.{◌≡◌, ◌≢◌, ◌⊎◌, ℕ, Bool, true, false, if◌then◌else◌, nat_eq, List, [], ◌∷◌, ◌++◌, All}
 use Rattle.std.proofs.Common.{length, take, Option, None, Some, Result, Ok, Err, IfErr, inl, inr}
 use Rattle.std.proofs.Common.{refl, sym, ap, subst, ◌∙◌}
@@ -44,33 +45,38 @@ use Rattle.vme_audit_command.proofs.SeveralLemmas.{not-five}
 
 -- ---- only the status of a failed write is 5
 
-outcome-other : (o : Outcome) → outcome_status o ≡ 5 → ⊥
-outcome-other (outcome.Conforming n) is = not-five 0 refl is
-outcome-other outcome.Broken is = not-five 1 refl is
-outcome-other outcome.Unreadable is = not-five 2 refl is
-outcome-other (outcome.NotCovered gap) is = not-five 6 refl is
+-- the status of an outcome isn't 5
+outcome_status-not_five : (o : Outcome) → outcome_status o ≡ 5 → ⊥
+outcome_status-not_five (outcome.Conforming n) is = not-five 0 refl is
+outcome_status-not_five outcome.Broken is = not-five 1 refl is
+outcome_status-not_five outcome.Unreadable is = not-five 2 refl is
+outcome_status-not_five (outcome.NotCovered gap) is = not-five 6 refl is
 
-refusal-other : (why : Refusal) → refusal_status why ≡ 5 → ⊥
-refusal-other refusal.Memory is = not-five 4 refl is
-refusal-other why is = not-five 3 refl is
+-- the status of a refusal isn't 5
+refusal_status-not_five : (why : Refusal) → refusal_status why ≡ 5 → ⊥
+refusal_status-not_five refusal.Memory is = not-five 4 refl is
+refusal_status-not_five why is = not-five 3 refl is
 
+-- the status, or 0 if there is no outcome
 abbrev status_or_zero : Result ℕ Refusal → ℕ
 status_or_zero (Ok status) = status
 status_or_zero (Err why) = 0
 
-ended-by : (options : AuditOptions) (head lines : List ℕ) (ended : Result Trace Refusal) (status : ℕ)
+-- the status of an outcome in an answer isn't 5
+answer_by-not_five : (options : AuditOptions) (head lines : List ℕ) (ended : Result Trace Refusal) (status : ℕ)
     → (answer_by options head lines ended).ended ≡ Ok status → status ≡ 5 → ⊥
-ended-by options head lines (Ok a) status is five =
-    outcome-other (dump_outcome options head a) (ap status_or_zero is ∙ five)
-ended-by options head lines (Err why) status is five = not-five 0 refl (ap status_or_zero is ∙ five)
+answer_by-not_five options head lines (Ok a) status is five =
+    outcome_status-not_five (dump_outcome options head a) (ap status_or_zero is ∙ five)
+answer_by-not_five options head lines (Err why) status is five = not-five 0 refl (ap status_or_zero is ∙ five)
 
-ended-other : (options : AuditOptions) (head : List ℕ) (reading : Result TextReading CaptureFault) (status : ℕ)
+-- the status of an outcome in the answer for a dump isn't 5
+dump_answer-not_five : (options : AuditOptions) (head : List ℕ) (reading : Result TextReading CaptureFault) (status : ℕ)
     → (dump_answer options head reading).ended ≡ Ok status → status ≡ 5 → ⊥
-ended-other options head (Ok reading) status is five =
+dump_answer-not_five options head (Ok reading) status is five =
     let settled = settled_by (skew_of options.skew) reading in
-    ended-by options head (break_lines options.allowances options.stop head settled.recorded)
+    answer_by-not_five options head (break_lines options.allowances options.stop head settled.recorded)
     (ended_at options.allowances options.stop settled.recorded settled.fault) status is five
-ended-other options head (Err fault) status is five = not-five 0 refl (ap status_or_zero is ∙ five)
+dump_answer-not_five options head (Err fault) status is five = not-five 0 refl (ap status_or_zero is ∙ five)
 
 -- ---- that a dump can't be read isn't the reason in an answer
 
@@ -112,12 +118,13 @@ IsOtherReason-capture_refusal (capture.Binding fault) =
 IsOtherReason-ended_at : (allowances : List Allowance) (stop : Option ℕ) (t : Trace) (fault : Option VcdFault)
     → IfErr (ended_at allowances stop t fault) IsOtherReason
 IsOtherReason-ended_at allowances stop t None = tt
-IsOtherReason-ended_at allowances stop t (Some fault) = by (is_stopped allowances stop t)
+IsOtherReason-ended_at allowances stop t (Some fault) = by_test (is_stopped allowances stop t)
   where
-    by : (b : Bool)
+    -- by whether the audit stopped before the fault
+    by_test : (b : Bool)
         → IfErr (if b then Ok (read_by allowances stop t) else Err (dump_refusal fault)) IsOtherReason
-    by true = tt
-    by false = IsOtherReason-capture_refusal (capture.Dump fault)
+    by_test true = tt
+    by_test false = IsOtherReason-capture_refusal (capture.Dump fault)
 
 -- the reason in an answer is another one, if that in `ended` is
 IsOtherReason-answer_by : (options : AuditOptions) (head lines : List ℕ) (ended : Result Trace Refusal)
@@ -137,17 +144,18 @@ IsOtherReason-dump_answer options head (Err fault) = IsOtherReason-capture_refus
 
 -- ---- the text of a dump without an outcome
 
-pub whole-is-front : (text : List ℕ) → IsTextPrefix text text
-whole-is-front text = (length text, sym (take-length text))
+-- a text is a prefix of itself
+pub IsTextPrefix-whole : (text : List ℕ) → IsTextPrefix text text
+IsTextPrefix-whole text = (length text, sym (take-length text))
 
 module _ (named : NamedReading) (after : Reading) (answer : DumpAnswer) (out : List ℕ)
     (is_front : IsTextPrefix out answer.out) where
   -- memory runs out
-  ends-without-memory : (before : List (List ℕ)) (last : List ℕ) (status : ℕ) → All (IsErrorLine named after) before
+  IsEndOf-without_memory : (before : List (List ℕ)) (last : List ℕ) (status : ℕ) → All (IsErrorLine named after) before
       → (last ≡ memory_line) ⊎ (last ≡ refusal_line_of named.name refusal.Memory) → status ≡ 4
       → (errors : List (List ℕ)) → errors ≡ before ++ last ∷ []
       → IsEndOf named answer (record { out = out; errors = errors; status = status; after = after })
-  ends-without-memory before last status others tells four errors is = inr (inr (record {
+  IsEndOf-without_memory before last status others tells four errors is = inr (inr (record {
     out = is_front;
     before = before;
     last = last;
@@ -157,8 +165,9 @@ module _ (named : NamedReading) (after : Reading) (answer : DumpAnswer) (out : L
     status = four;
   }))
 
-  one-line : (line : List ℕ) → IsErrorLine named after line → All (IsErrorLine named after) (line ∷ [])
-  one-line line is = All-cons (IsErrorLine named after) line [] is (All-nil (IsErrorLine named after))
+  -- if a line is an error line, a list of that line has only such lines
+  All-one_line : (line : List ℕ) → IsErrorLine named after line → All (IsErrorLine named after) (line ∷ [])
+  All-one_line line is = All-cons (IsErrorLine named after) line [] is (All-nil (IsErrorLine named after))
 
   -- the dump may end with these error lines and this status, which isn't 5
   abbrev MayEndWith : Writing → Writing → ℕ → Type 0
@@ -168,54 +177,54 @@ module _ (named : NamedReading) (after : Reading) (answer : DumpAnswer) (out : L
       × TriesEach e p errors × (status ≡ 5 → ⊥)
 
   -- the dump has an outcome
-  may-end-with-status : (e p : Writing) (ended status : ℕ)
+  MayEndWith-status : (e p : Writing) (ended status : ℕ)
       → IsEndOf named answer (record { out = out; errors = []; status = ended; after = after }) → (ended ≡ 5 → ⊥)
       → EndsWithStatus ended e p status → MayEndWith e p status
-  may-end-with-status e p ended status told other (inl (nothing, is)) = (
+  MayEndWith-status e p ended status told other (inl (nothing, is)) = (
     [],
     subst (λ (n : ℕ). IsEndOf named answer (record { out = out; errors = []; status = n; after = after }))
         (sym is) told,
     nothing,
     λ five. other (sym is ∙ five),
   )
-  may-end-with-status e p ended status told other (inr (tries, four)) = (
+  MayEndWith-status e p ended status told other (inr (tries, four)) = (
     memory_line ∷ [],
-    ends-without-memory [] memory_line status (All-nil (IsErrorLine named after)) (inl refl) four
+    IsEndOf-without_memory [] memory_line status (All-nil (IsErrorLine named after)) (inl refl) four
         (memory_line ∷ []) refl,
     (p, tries, refl),
     λ five. not-five 4 refl (sym four ∙ five),
   )
 
   -- the dump has no outcome
-  may-end-with-reason : (why : Refusal) → MayBeReason named after why → (e p : Writing) (status : ℕ)
+  MayEndWith-reason : (why : Refusal) → MayBeReason named after why → (e p : Writing) (status : ℕ)
       → IsEndOf named answer (end_by named.name out (Err why) after)
       → EndsWithReason named.name why e p status → MayEndWith e p status
-  may-end-with-reason why may e p status told (w, ended, inl (tries, from), inl (nothing, is)) = (
+  MayEndWith-reason why may e p status told (w, ended, inl (tries, from), inl (nothing, is)) = (
     refusal_line_of named.name why ∷ [],
     subst (λ (n : ℕ). IsEndOf named answer
         (record { out = out; errors = refusal_line_of named.name why ∷ []; status = n; after = after }))
         (sym (is ∙ from)) told,
     (w, tries, nothing),
-    λ five. refusal-other why (sym (is ∙ from) ∙ five),
+    λ five. refusal_status-not_five why (sym (is ∙ from) ∙ five),
   )
-  may-end-with-reason why may e p status told (w, ended, inl (tries, from), inr (others, four)) = (
+  MayEndWith-reason why may e p status told (w, ended, inl (tries, from), inr (others, four)) = (
     refusal_line_of named.name why ∷ memory_line ∷ [],
-    ends-without-memory (refusal_line_of named.name why ∷ []) memory_line status
-        (one-line (refusal_line_of named.name why) (inr (why, may, refl))) (inl refl) four
+    IsEndOf-without_memory (refusal_line_of named.name why ∷ []) memory_line status
+        (All-one_line (refusal_line_of named.name why) (inr (why, may, refl))) (inl refl) four
         (refusal_line_of named.name why ∷ memory_line ∷ []) refl,
     (w, tries, (p, others, refl)),
     λ five. not-five 4 refl (sym four ∙ five),
   )
-  may-end-with-reason why may e p status told (w, ended, inr (tries, from), inl (nothing, is)) = (
+  MayEndWith-reason why may e p status told (w, ended, inr (tries, from), inl (nothing, is)) = (
     memory_line ∷ [],
-    ends-without-memory [] memory_line status (All-nil (IsErrorLine named after)) (inl refl) (is ∙ from)
+    IsEndOf-without_memory [] memory_line status (All-nil (IsErrorLine named after)) (inl refl) (is ∙ from)
         (memory_line ∷ []) refl,
     (w, tries, nothing),
     λ five. not-five 4 refl (sym (is ∙ from) ∙ five),
   )
-  may-end-with-reason why may e p status told (w, ended, inr (tries, from), inr (others, four)) = (
+  MayEndWith-reason why may e p status told (w, ended, inr (tries, from), inr (others, four)) = (
     memory_line ∷ memory_line ∷ [],
-    ends-without-memory (memory_line ∷ []) memory_line status (one-line memory_line (inl refl)) (inl refl) four
+    IsEndOf-without_memory (memory_line ∷ []) memory_line status (All-one_line memory_line (inl refl)) (inl refl) four
         (memory_line ∷ memory_line ∷ []) refl,
     (w, tries, (p, others, refl)),
     λ five. not-five 4 refl (sym four ∙ five),
@@ -225,11 +234,12 @@ module _ (named : NamedReading) (after : Reading) (answer : DumpAnswer) (out : L
 
 module _ (options : AuditOptions) (binding : BoundLines) (named : NamedReading) (after : Reading) (u v e p : Writing)
     (status : ℕ) where
-  audits-named-by : (bytes : List ℕ) → AreAllBytesOf named.dump bytes → (out : List ℕ) → Writes u v out
+  -- if a prefix of a dump's text was written, and the dump may end with the error lines and the status, it was audited
+  AuditsNamed-by_end : (bytes : List ℕ) → AreAllBytesOf named.dump bytes → (out : List ℕ) → Writes u v out
       → (is_front : IsTextPrefix out (answer_to options binding named.name bytes).out)
       → MayEndWith named after (answer_to options binding named.name bytes) out is_front e p status
       → AuditsNamed options binding named after (u, v) (e, p) status
-  audits-named-by bytes all out writes is_front (errors, is, tries, other) = inl (record {
+  AuditsNamed-by_end bytes all out writes is_front (errors, is, tries, other) = inl (record {
     end = record { out = out; errors = errors; status = status; after = after };
     may = (bytes, all, is);
     after_is = refl;
@@ -239,38 +249,40 @@ module _ (options : AuditOptions) (binding : BoundLines) (named : NamedReading) 
     other = other;
   })
 
-  pub audits-named : (ended : Result ℕ NoOutcome)
+  -- a dump was audited by its name, if its text was written with this result, its reads count so, and its end is
+  -- written
+  pub AuditsNamed-by_result : (ended : Result ℕ NoOutcome)
       → AuditsDump options (head_of named.name) binding named.dump u v ended → CountsUnread named.dump after ended
       → WritesEnd named.name ended e p status → AuditsNamed options binding named after (u, v) (e, p) status
-  audits-named (Ok n) (bytes, all, (writes, is)) counts tells =
+  AuditsNamed-by_result (Ok n) (bytes, all, (writes, is)) counts tells =
       let answer = answer_to options binding named.name bytes in
-      audits-named-by bytes all answer.out writes (whole-is-front answer.out)
-      (may-end-with-status named after answer answer.out (whole-is-front answer.out) e p n status
+      AuditsNamed-by_end bytes all answer.out writes (IsTextPrefix-whole answer.out)
+      (MayEndWith-status named after answer answer.out (IsTextPrefix-whole answer.out) e p n status
       (inl (counts, ap (λ (x : Result ℕ Refusal). end_by named.name answer.out x after) (sym is)))
-      (ended-other options (head_of named.name) (reading_of_text binding bytes) n is) tells)
-  audits-named (Err (Refused why)) (bytes, all, (writes, is)) counts tells =
+      (dump_answer-not_five options (head_of named.name) (reading_of_text binding bytes) n is) tells)
+  AuditsNamed-by_result (Err (Refused why)) (bytes, all, (writes, is)) counts tells =
       let answer = answer_to options binding named.name bytes in
       let other : IsOtherReason why = subst (λ (x : Result ℕ Refusal). IfErr x IsOtherReason) is
       (IsOtherReason-dump_answer options (head_of named.name) (reading_of_text binding bytes)) in
-      audits-named-by bytes all answer.out writes (whole-is-front answer.out)
-      (may-end-with-reason named after answer answer.out (whole-is-front answer.out) why
+      AuditsNamed-by_end bytes all answer.out writes (IsTextPrefix-whole answer.out)
+      (MayEndWith-reason named after answer answer.out (IsTextPrefix-whole answer.out) why
       (λ unread. absurd (other unread)) e p status
       (inl (counts, ap (λ (x : Result ℕ Refusal). end_by named.name answer.out x after) (sym is))) tells)
-  audits-named (Err CannotRead) (bytes, all, ((n, appends), same)) counts tells =
+  AuditsNamed-by_result (Err CannotRead) (bytes, all, ((n, appends), same)) counts tells =
       let answer = answer_to options binding named.name bytes in
       let front = take n answer.out in
-      audits-named-by bytes all front (appends, same) (n, refl)
-      (may-end-with-reason named after answer front (n, refl) (refusal.CannotRead Dump) (λ unread. counts) e p status
+      AuditsNamed-by_end bytes all front (appends, same) (n, refl)
+      (MayEndWith-reason named after answer front (n, refl) (refusal.CannotRead Dump) (λ unread. counts) e p status
       (inr (inl (counts, (front, (n, refl), refl)))) tells)
-  audits-named (Err (NotWritten Memory)) (bytes, all, ((n, appends), same)) counts tells =
+  AuditsNamed-by_result (Err (NotWritten Memory)) (bytes, all, ((n, appends), same)) counts tells =
       let answer = answer_to options binding named.name bytes in
       let front = take n answer.out in
-      audits-named-by bytes all front (appends, same) (n, refl)
-      (may-end-with-reason named after answer front (n, refl) refusal.Memory
+      AuditsNamed-by_end bytes all front (appends, same) (n, refl)
+      (MayEndWith-reason named after answer front (n, refl) refusal.Memory
       (λ unread. absurd (IsOtherReason-by_number refusal.Memory refl unread)) e p status
-      (ends-without-memory named after answer front (n, refl) [] (refusal_line_of named.name refusal.Memory) 4
+      (IsEndOf-without_memory named after answer front (n, refl) [] (refusal_line_of named.name refusal.Memory) 4
       (All-nil (IsErrorLine named after)) (inr refl) refl (refusal_line_of named.name refusal.Memory ∷ []) refl) tells)
-  audits-named (Err (NotWritten CannotWrite)) (bytes, all, fails) counts (tries, is) =
+  AuditsNamed-by_result (Err (NotWritten CannotWrite)) (bytes, all, fails) counts (tries, is) =
       inr (record {
         none_fails = counts;
         bytes = bytes;

@@ -21,7 +21,7 @@ use Rattle.vme_audit_command.specs.declared.written_lines.WriteFault.{WriteFault
 use Rattle.vme_audit_command.proofs.BodyLemmas.{ReadGoesOn}
 use Rattle.vme_dump_input.proofs.ReadSteps.{StepsFollow, StepsWithin, TimeGoesOn, settled_so_far-formed}
 use Rattle.vme_audit_command.proofs.Onward.{ExtendsTo, GoOnTo-next_piece, ExtendsTo-reading}
-use Rattle.vme_audit_command.proofs.PieceLemmas.{StopIsRead, StopStays, cut-ends, final-ends}
+use Rattle.vme_audit_command.proofs.PieceLemmas.{StopIsRead, StopStays, WritesRest-cut, WritesRest-stopped}
 
 -- a piece is taken, and its steps are given
 module _ (front : GivenIsPrefix) (follows : StepsFollow) (within : StepsWithin) (on : TimeGoesOn) (skew : Option ℕ)
@@ -73,7 +73,8 @@ module _ (front : GivenIsPrefix) (follows : StepsFollow) (within : StepsWithin) 
       → WritesRest {A = Unit {0}} head audit (lines_of head audit) (settled_by skew (whole_reading r (bytes ++ rest)))
       t u v (Err (NotWritten fault))
   piece-cut law head u v fault t rest goes =
-      cut-ends (Unit {0}) (Unit {0}) law head audit (settled_by skew (whole_reading r (bytes ++ rest))) so_far u v fault
+      WritesRest-cut (Unit {0}) (Unit {0}) law head audit (settled_by skew (whole_reading r (bytes ++ rest))) so_far u v
+      fault
       t (ExtendsTo-after_piece rest) goes
 
   module _ (formed : malformed_step next.given ≡ None) (head : List ℕ) (later : GivenSteps)
@@ -114,7 +115,7 @@ module _ (front : GivenIsPrefix) (follows : StepsFollow) (within : StepsWithin) 
     piece-final stays read stopped rest =
         subst (λ (t : Trace). WritesRest {A = Unit {0}} head audit (lines_of head audit)
         (settled_by skew (whole_reading r (bytes ++ rest))) t u v (Ok tt)) (sym recording-later)
-        (final-ends stays read head audit (settled_by skew (whole_reading r (bytes ++ rest))) so_far u v
+        (WritesRest-stopped stays read head audit (settled_by skew (whole_reading r (bytes ++ rest))) so_far u v
         (ExtendsTo-after_piece rest) (ap has_stopped (sym same) ∙ stopped) goes)
 
     -- the audit takes the piece and continues, or it stops in the piece

@@ -1,4 +1,4 @@
--- Several dumps, one after the other.
+-- Several dumps, one after the other: their status, their error lines, and what is written of them.
 use Rattle.std.proofs.Common.{◌≡◌, ◌⊎◌, ℕ, ◌+◌, ◌<◌, ◌≤◌, Bool, true, false, ◌||◌, if◌then◌else◌, nat_eq, List, [], ◌∷◌}
 use Rattle.std.proofs.Common.{◌++◌, flat_map, length, get_or, set, take, drop, map, inl, inr}
 use Rattle.std.proofs.Common.{refl, sym, ap, subst, ◌∙◌, add-zero, append-nil, append_assoc, take-append-drop}
@@ -25,87 +25,101 @@ use Rattle.vme_audit_command.specs.SeveralDumps.{first_occurred}
 abbrev IsNoneOf : ℕ → List ℕ → Type 0
 IsNoneOf s statuses = (occurred : List ℕ) → nat_eq (first_occurred statuses occurred) s ≡ false
 
-is_none_of-empty : (s : ℕ) → nat_eq 0 s ≡ false → IsNoneOf s []
-is_none_of-empty s other occurred = other
+-- without statuses the first that occurred is 0, which isn't `s`
+IsNoneOf-empty : (s : ℕ) → nat_eq 0 s ≡ false → IsNoneOf s []
+IsNoneOf-empty s other occurred = other
 
-is_none_of-then : (s t : ℕ) (statuses : List ℕ) → nat_eq t s ≡ false → IsNoneOf s statuses → IsNoneOf s (t ∷ statuses)
-is_none_of-then s t statuses other none occurred = by (list_any (λ n. nat_eq n t) occurred)
+-- if `s` isn't `t`, nor the first of `statuses` that occurred, it isn't the first of `t` and these
+IsNoneOf-cons : (s t : ℕ) (statuses : List ℕ) → nat_eq t s ≡ false → IsNoneOf s statuses → IsNoneOf s (t ∷ statuses)
+IsNoneOf-cons s t statuses other none occurred = by_test (list_any (λ n. nat_eq n t) occurred)
   where
-    by : (b : Bool) → nat_eq (if b then t else first_occurred statuses occurred) s ≡ false
-    by true = other
-    by false = none occurred
+    -- by whether `t` occurred
+    by_test : (b : Bool) → nat_eq (if b then t else first_occurred statuses occurred) s ≡ false
+    by_test true = other
+    by_test false = none occurred
 
--- the first status that occurred in a list and one more is that of the list's first one and the last one
+-- the first of `statuses` that occurred in a list and one more is the first of them that occurred in two: the first one
+-- of the list, and the last one
 abbrev IsFirst : List ℕ → Type 0
 IsFirst statuses = (occurred : List ℕ) (last : ℕ)
     → first_occurred statuses (occurred ++ last ∷ [])
     ≡ first_occurred statuses (first_occurred statuses occurred ∷ last ∷ [])
 
-first-then : (s : ℕ) (statuses : List ℕ) → IsNoneOf s statuses → IsFirst statuses → IsFirst (s ∷ statuses)
-first-then s statuses none first occurred last =
+-- if `s` isn't the first of `statuses` that occurred, and the statuses have `IsFirst`, so have `s` and they
+IsFirst-cons : (s : ℕ) (statuses : List ℕ) → IsNoneOf s statuses → IsFirst statuses → IsFirst (s ∷ statuses)
+IsFirst-cons s statuses none first occurred last =
     ap (λ (b : Bool). if b then s else first_occurred statuses (occurred ++ last ∷ []))
     (list_any-append (λ n. nat_eq n s) occurred (last ∷ []))
-    ∙ by (list_any (λ n. nat_eq n s) occurred) (nat_eq last s)
+    ∙ by_test (list_any (λ n. nat_eq n s) occurred) (nat_eq last s)
   where
-    r : ℕ
-    r = first_occurred statuses occurred
+    -- the first of `statuses` that occurred
+    first_other : ℕ
+    first_other = first_occurred statuses occurred
 
-    both : Bool → ℕ → ℕ
-    both b f = if nat_eq f s || (b || false) then s else first_occurred statuses (f ∷ last ∷ [])
+    -- the first of `s` and `statuses` that occurred in f and `last`, if b says whether `last` is `s`
+    first_of_two : Bool → ℕ → ℕ
+    first_of_two b f = if nat_eq f s || (b || false) then s else first_occurred statuses (f ∷ last ∷ [])
 
-    by : (a b : Bool) → (if a || (b || false) then s else first_occurred statuses (occurred ++ last ∷ []))
-        ≡ both b (if a then s else r)
-    by true b = ap (λ (e : Bool). if e || (b || false) then s else first_occurred statuses (s ∷ last ∷ []))
+    -- by whether `s` occurred, and whether it is `last`
+    by_test : (a b : Bool) → (if a || (b || false) then s else first_occurred statuses (occurred ++ last ∷ []))
+        ≡ first_of_two b (if a then s else first_other)
+    by_test true b = ap (λ (e : Bool). if e || (b || false) then s else first_occurred statuses (s ∷ last ∷ []))
         (sym (eq-eqb s s refl))
-    by false true = ap (λ (e : Bool). if e || true then s else first_occurred statuses (r ∷ last ∷ []))
+    by_test false true = ap (λ (e : Bool). if e || true then s else first_occurred statuses (first_other ∷ last ∷ []))
         (sym (none occurred))
-    by false false = first occurred last
-        ∙ ap (λ (e : Bool). if e || false then s else first_occurred statuses (r ∷ last ∷ [])) (sym (none occurred))
+    by_test false false = first occurred last
+        ∙ ap (λ (e : Bool). if e || false then s else first_occurred statuses (first_other ∷ last ∷ []))
+        (sym (none occurred))
 
--- the status after one more dump
-pub status-then : (occurred : List ℕ) (last : ℕ)
+-- the status after one more dump is that of the status so far and the one of this dump
+pub audit_status-push : (occurred : List ℕ) (last : ℕ)
     → audit_status (occurred ++ last ∷ []) ≡ audit_status (audit_status occurred ∷ last ∷ [])
-status-then =
-    let n0 : (s : ℕ) → nat_eq 0 s ≡ false → IsNoneOf s [] = is_none_of-empty in
+audit_status-push =
+    let n0 : (s : ℕ) → nat_eq 0 s ≡ false → IsNoneOf s [] = IsNoneOf-empty in
     let l6 = 6 ∷ [] in
     let l2 = 2 ∷ l6 in
     let l1 = 1 ∷ l2 in
     let l3 = 3 ∷ l1 in
     let l4 = 4 ∷ l3 in
-    first-then 5 l4 (is_none_of-then 5 4 l3 refl (is_none_of-then 5 3 l1 refl (is_none_of-then 5 1 l2 refl
-    (is_none_of-then 5 2 l6 refl (is_none_of-then 5 6 [] refl (n0 5 refl))))))
-    (first-then 4 l3 (is_none_of-then 4 3 l1 refl (is_none_of-then 4 1 l2 refl (is_none_of-then 4 2 l6 refl
-    (is_none_of-then 4 6 [] refl (n0 4 refl)))))
-    (first-then 3 l1 (is_none_of-then 3 1 l2 refl (is_none_of-then 3 2 l6 refl
-    (is_none_of-then 3 6 [] refl (n0 3 refl))))
-    (first-then 1 l2 (is_none_of-then 1 2 l6 refl (is_none_of-then 1 6 [] refl (n0 1 refl)))
-    (first-then 2 l6 (is_none_of-then 2 6 [] refl (n0 2 refl))
-    (first-then 6 [] (n0 6 refl) (λ occurred last. refl))))))
+    IsFirst-cons 5 l4 (IsNoneOf-cons 5 4 l3 refl (IsNoneOf-cons 5 3 l1 refl (IsNoneOf-cons 5 1 l2 refl
+    (IsNoneOf-cons 5 2 l6 refl (IsNoneOf-cons 5 6 [] refl (n0 5 refl))))))
+    (IsFirst-cons 4 l3 (IsNoneOf-cons 4 3 l1 refl (IsNoneOf-cons 4 1 l2 refl (IsNoneOf-cons 4 2 l6 refl
+    (IsNoneOf-cons 4 6 [] refl (n0 4 refl)))))
+    (IsFirst-cons 3 l1 (IsNoneOf-cons 3 1 l2 refl (IsNoneOf-cons 3 2 l6 refl
+    (IsNoneOf-cons 3 6 [] refl (n0 3 refl))))
+    (IsFirst-cons 1 l2 (IsNoneOf-cons 1 2 l6 refl (IsNoneOf-cons 1 6 [] refl (n0 1 refl)))
+    (IsFirst-cons 2 l6 (IsNoneOf-cons 2 6 [] refl (n0 2 refl))
+    (IsFirst-cons 6 [] (n0 6 refl) (λ occurred last. refl))))))
 
 -- ---- standard error
 
-pub tries-then : (a b c : Writing) (xs ys : List (List ℕ)) → TriesEach a b xs → TriesEach b c ys
+-- if each of some lines was tried, and then each of others, each of all of them was
+pub TriesEach-append : (a b c : Writing) (xs ys : List (List ℕ)) → TriesEach a b xs → TriesEach b c ys
     → TriesEach a c (xs ++ ys)
-tries-then a b c [] ys none two = subst (λ (w : Writing). TriesEach w c ys) none two
-tries-then a b c (x ∷ xs) ys one two =
+TriesEach-append a b c [] ys none two = subst (λ (w : Writing). TriesEach w c ys) none two
+TriesEach-append a b c (x ∷ xs) ys one two =
     let (next, first, others) = one in
-    (next, first, tries-then next b c xs ys others two)
+    (next, first, TriesEach-append next b c xs ys others two)
 
-pub tries-one : (a b : Writing) (x : List ℕ) → TriesToWrite a b x → TriesEach a b (x ∷ [])
-tries-one a b x one = (b, one, refl)
+-- if a line was tried, each of the list of that line was
+pub TriesEach-one : (a b : Writing) (x : List ℕ) → TriesToWrite a b x → TriesEach a b (x ∷ [])
+TriesEach-one a b x one = (b, one, refl)
 
 -- ---- each dump
 
-zip-then : {A B : Type 0} (R : A → B → Type 0) (xs : List A) (ys : List B) (x : A) (y : B) → AllZip R xs ys → R x y
+-- two lists of which R holds, and one element more of each, of which it holds
+AllZip-push : {A B : Type 0} (R : A → B → Type 0) (xs : List A) (ys : List B) (x : A) (y : B) → AllZip R xs ys → R x y
     → AllZip R (xs ++ x ∷ []) (ys ++ y ∷ [])
-zip-then R [] [] x y none is = (is, tt)
-zip-then R [] (y ∷ ys) u v none is = absurd none
-zip-then R (x ∷ xs) [] u v none is = absurd none
-zip-then R (x ∷ xs) (y ∷ ys) u v each is = (each.0, zip-then R xs ys u v each.1 is)
+AllZip-push R [] [] x y none is = (is, tt)
+AllZip-push R [] (y ∷ ys) u v none is = absurd none
+AllZip-push R (x ∷ xs) [] u v none is = absurd none
+AllZip-push R (x ∷ xs) (y ∷ ys) u v each is = (each.0, AllZip-push R xs ys u v each.1 is)
 
-flat-then : {X A : Type 0} (f : X → List A) (xs : List X) (x : X) → flat_map f xs ++ f x ≡ flat_map f (xs ++ x ∷ [])
-flat-then f xs x = ap (λ l. flat_map f xs ++ l) (sym (append-nil (f x))) ∙ sym (flat_map-append f xs (x ∷ []))
+-- what f gives for a list, and then for x, is what it gives for the list and x
+flat_map-push : {X A : Type 0} (f : X → List A) (xs : List X) (x : X) → flat_map f xs ++ f x ≡ flat_map f (xs ++ x ∷ [])
+flat_map-push f xs x = ap (λ l. flat_map f xs ++ l) (sym (append-nil (f x))) ∙ sym (flat_map-append f xs (x ∷ []))
 
+-- a number that the test finds not to be 5 isn't 5
 pub not-five : (n : ℕ) → nat_eq n 5 ≡ false → n ≡ 5 → ⊥
 not-five n other = eqb-false n 5 other
 
@@ -114,8 +128,9 @@ abbrev source_by : {A : Type 0} → (A → NamedReading) → A → Reading
 source_by f d = (f d).dump
 
 module _ (options : AuditOptions) (bound : BoundLines) where
-  pub writes-no-dumps : (out err : Writing) → WritesDumps options bound [] [] (out, out) (err, err) 0
-  writes-no-dumps out err = record {
+  -- before the first dump nothing was written, and the status is 0
+  pub WritesDumps-none : (out err : Writing) → WritesDumps options bound [] [] (out, out) (err, err) 0
+  WritesDumps-none out err = record {
     ends = [];
     each = tt;
     afters_are = refl;
@@ -124,35 +139,38 @@ module _ (options : AuditOptions) (bound : BoundLines) where
     status_is = refl;
   }
 
+  -- `dumps` were audited, with status `so_far`, and `named` comes next. The output goes from a to b before it, and from
+  -- b to c with it; standard error from e to p, and from p to h.
   module _ (dumps : List NamedReading) (afters : List Reading) (named : NamedReading) (after : Reading)
       (a b c e p h : Writing) (so_far ended : ℕ)
       (before : WritesDumps options bound dumps afters (a, b) (e, p) so_far) where
-    -- one more dump
-    writes-dump-after : WritesDump options bound named after (b, c) (p, h) ended
+    -- `named` was audited too, with status `ended`
+    WritesDumps-push : WritesDump options bound named after (b, c) (p, h) ended
         → WritesDumps options bound (dumps ++ named ∷ []) (afters ++ after ∷ []) (a, c) (e, h)
         (audit_status (so_far ∷ ended ∷ []))
-    writes-dump-after one = record {
+    WritesDumps-push one = record {
       ends = before.ends ++ one.end ∷ [];
-      each = zip-then (MayEnd options bound) dumps before.ends named one.end before.each one.may;
+      each = AllZip-push (MayEnd options bound) dumps before.ends named one.end before.each one.may;
       afters_are = ap (λ (l : List Reading). l ++ after ∷ []) before.afters_are
           ∙ ap (λ (r : Reading). map (λ (x : DumpEnd). x.after) before.ends ++ r ∷ []) (sym one.after_is)
           ∙ sym (map-append (λ (x : DumpEnd). x.after) before.ends (one.end ∷ []));
-      out_is = subst (Writes a c) (flat-then (λ (x : DumpEnd). x.out) before.ends one.end)
+      out_is = subst (Writes a c) (flat_map-push (λ (x : DumpEnd). x.out) before.ends one.end)
           (Writes-append a b c _ one.end.out before.out_is one.out_is);
-      err_is = subst (TriesEach e h) (flat-then (λ (x : DumpEnd). x.errors) before.ends one.end)
-          (tries-then e p h _ one.end.errors before.err_is one.err_is);
+      err_is = subst (TriesEach e h) (flat_map-push (λ (x : DumpEnd). x.errors) before.ends one.end)
+          (TriesEach-append e p h _ one.end.errors before.err_is one.err_is);
       status_is = ap (λ (n : ℕ). audit_status (n ∷ ended ∷ [])) before.status_is
           ∙ ap (λ (n : ℕ). audit_status (audit_status (map (λ (x : DumpEnd). x.status) before.ends) ∷ n ∷ []))
           one.status_is
-          ∙ sym (status-then (map (λ (x : DumpEnd). x.status) before.ends) one.end.status)
+          ∙ sym (audit_status-push (map (λ (x : DumpEnd). x.status) before.ends) one.end.status)
           ∙ ap audit_status (sym (map-append (λ (x : DumpEnd). x.status) before.ends (one.end ∷ [])));
     }
 
     -- a dump whose text can't be written
-    cannot-write-after : (others : List NamedReading) → CannotWriteDump options bound named after (b, c) (p, h) ended
+    CannotWriteDumps-after : (others : List NamedReading)
+        → CannotWriteDump options bound named after (b, c) (p, h) ended
         → CannotWriteDumps options bound (dumps ++ named ∷ others)
         (afters ++ after ∷ map (λ (n : NamedReading). n.dump) others) (a, c) (e, h) 5
-    cannot-write-after others one = record {
+    CannotWriteDumps-after others one = record {
       before = dumps;
       named = named;
       others = others;
@@ -165,23 +183,26 @@ module _ (options : AuditOptions) (bound : BoundLines) where
       bytes = one.bytes;
       all = one.all;
       out_is = FailsToWrite-after a b c _ _ before.out_is one.out_is;
-      err_is = tries-then e p h _ (cannot_write_line ∷ []) before.err_is (tries-one p h cannot_write_line one.err_is);
+      err_is = TriesEach-append e p h _ (cannot_write_line ∷ []) before.err_is
+          (TriesEach-one p h cannot_write_line one.err_is);
       status_is = refl;
     }
 
   -- the dumps before index `i` were audited, and `now` are the dumps then; the dump at `i` is x, and y after its audit
   module _ {A : Type 0} (f : A → NamedReading) (now dumps : List A) (i : ℕ) (x y : A) (within : i < length now)
       (same : length now ≡ length dumps) (is : x ≡ get_or now i x) (rest : drop i now ≡ drop i dumps) where
-    here : x ≡ get_or dumps i x
-    here =
+    -- the dump at index i is still the one of the dumps at first
+    get_or-not_yet_audited : x ≡ get_or dumps i x
+    get_or-not_yet_audited =
         is ∙ ap (λ (n : ℕ). get_or now n x) (sym (add-zero i)) ∙ sym (get_or-drop i now 0 x)
         ∙ ap (λ (l : List A). get_or l 0 x) rest ∙ get_or-drop i dumps 0 x
         ∙ ap (λ (n : ℕ). get_or dumps n x) (add-zero i)
 
-    one-more : map f (take i dumps) ++ f x ∷ [] ≡ map f (take (i + 1) dumps)
-    one-more =
+    -- the dumps before index i and x are the dumps up to index i
+    map-next_dump : map f (take i dumps) ++ f x ∷ [] ≡ map f (take (i + 1) dumps)
+    map-next_dump =
         sym (map-append f (take i dumps) (x ∷ []))
-        ∙ ap (map f) (ap (λ (d : A). take i dumps ++ d ∷ []) here
+        ∙ ap (map f) (ap (λ (d : A). take i dumps ++ d ∷ []) get_or-not_yet_audited
         ∙ sym (take_more dumps i x (subst (λ (n : ℕ). i < n) same within)))
 
     -- the sources of the dumps up to index `i`, if the dump there is then `y`
@@ -215,49 +236,56 @@ module _ (options : AuditOptions) (bound : BoundLines) where
       Audits d = WritesDump options bound (f d) (source_by f y) (b, c) (p, h) ended
           ⊎ CannotWriteDump options bound (f d) (source_by f y) (b, c) (p, h) ended
 
-      writes-this-dump : (ended ≡ 5 → ⊥) → Audits x
+      -- if the status of the dump at index i isn't 5, the dumps up to it were audited
+      WritesDumps-this : (ended ≡ 5 → ⊥) → Audits x
           → WritesDumps options bound (map f (take (i + 1) dumps)) (map (source_by f) (take (i + 1) (set now i y)))
           (a, c) (e, h) (audit_status (so_far ∷ ended ∷ []))
-      writes-this-dump other (inl one) =
+      WritesDumps-this other (inl one) =
           subst (λ (l : List NamedReading). WritesDumps options bound l
-          (map (source_by f) (take (i + 1) (set now i y))) (a, c) (e, h) (audit_status (so_far ∷ ended ∷ []))) one-more
+          (map (source_by f) (take (i + 1) (set now i y))) (a, c) (e, h) (audit_status (so_far ∷ ended ∷ [])))
+          map-next_dump
           (subst (λ (l : List Reading). WritesDumps options bound (map f (take i dumps) ++ f x ∷ []) l (a, c) (e, h)
           (audit_status (so_far ∷ ended ∷ []))) sources-with_next
-          (writes-dump-after (map f (take i dumps)) (map (source_by f) (take i now)) (f x) (source_by f y) a b c e p h
+          (WritesDumps-push (map f (take i dumps)) (map (source_by f) (take i now)) (f x) (source_by f y) a b c e p h
           so_far ended before one))
-      writes-this-dump other (inr one) = absurd (other one.status_is)
+      WritesDumps-this other (inr one) = absurd (other one.status_is)
 
-      cannot-write-this : ended ≡ 5 → Audits x
+      -- if the status of the dump at index i is 5, a write failed in its text, and the other dumps aren't audited
+      AuditsDumps-cannot_write_this : ended ≡ 5 → Audits x
           → AuditsDumps options bound (map f dumps) (map (source_by f) (set now i y)) (a, c) (e, h) 5
-      cannot-write-this five (inl one) = absurd (one.other five)
-      cannot-write-this five (inr one) =
+      AuditsDumps-cannot_write_this five (inl one) = absurd (one.other five)
+      AuditsDumps-cannot_write_this five (inr one) =
           let later = drop (i + 1) dumps in
           let split : map f dumps ≡ map f (take i dumps) ++ f x ∷ map f later =
           ap (map f) (sym (take-append-drop (i + 1) dumps)) ∙ map-append f (take (i + 1) dumps) later
-          ∙ ap (λ (l : List NamedReading). l ++ map f later) (sym one-more)
+          ∙ ap (λ (l : List NamedReading). l ++ map f later) (sym map-next_dump)
           ∙ append_assoc (map f (take i dumps)) (f x ∷ []) (map f later) in
           inr (subst (λ (l : List NamedReading). CannotWriteDumps options bound l (map (source_by f) (set now i y))
           (a, c) (e, h) 5) (sym split)
           (subst (λ (l : List Reading). CannotWriteDumps options bound (map f (take i dumps) ++ f x ∷ map f later) l
           (a, c) (e, h) 5) sources-with_others
-          (cannot-write-after (map f (take i dumps)) (map (source_by f) (take i now)) (f x) (source_by f y) a b c e p h
+          (CannotWriteDumps-after (map f (take i dumps)) (map (source_by f) (take i now)) (f x) (source_by f y) a b c e
+          p h
           so_far ended before (map f later) one)))
 
-      pub writes-next-dump : (ended ≡ 5 → ⊥) → Audits (get_or now i x)
+      -- if the status of the dump at index i of the dumps now isn't 5, the dumps up to it were audited
+      pub WritesDumps-next : (ended ≡ 5 → ⊥) → Audits (get_or now i x)
           → WritesDumps options bound (map f (take (i + 1) dumps)) (map (source_by f) (take (i + 1) (set now i y)))
           (a, c) (e, h) (audit_status (so_far ∷ ended ∷ []))
-      writes-next-dump other audits = writes-this-dump other (subst Audits (sym is) audits)
+      WritesDumps-next other audits = WritesDumps-this other (subst Audits (sym is) audits)
 
-      pub cannot-write-next : ended ≡ 5 → Audits (get_or now i x)
+      -- if the status of the dump at index i of the dumps now is 5, a write failed in its text, and the other dumps
+      -- aren't audited
+      pub AuditsDumps-cannot_write_next : ended ≡ 5 → Audits (get_or now i x)
           → AuditsDumps options bound (map f dumps) (map (source_by f) (set now i y)) (a, c) (e, h) 5
-      cannot-write-next five audits = cannot-write-this five (subst Audits (sym is) audits)
+      AuditsDumps-cannot_write_next five audits = AuditsDumps-cannot_write_this five (subst Audits (sym is) audits)
 
   -- all dumps were audited
-  pub writes-all-dumps : {A : Type 0} (f : A → NamedReading) (now dumps : List A) (i : ℕ) → length dumps ≤ i
+  pub AuditsDumps-all : {A : Type 0} (f : A → NamedReading) (now dumps : List A) (i : ℕ) → length dumps ≤ i
       → length now ≡ length dumps → (status : ℕ) (a b e p : Writing)
       → WritesDumps options bound (map f (take i dumps)) (map (source_by f) (take i now)) (a, b) (e, p) status
       → AuditsDumps options bound (map f dumps) (map (source_by f) now) (a, b) (e, p) status
-  writes-all-dumps {A} f now dumps i within same status a b e p each =
+  AuditsDumps-all {A} f now dumps i within same status a b e p each =
       let short : length now ≤ i = subst (λ (n : ℕ). n ≤ i) (sym same) within in
       inl (subst (λ (l : List A). WritesDumps options bound (map f l) (map (source_by f) now) (a, b) (e, p) status)
       (take_all i dumps within)

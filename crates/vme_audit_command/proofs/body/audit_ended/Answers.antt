@@ -4,7 +4,7 @@ use Rattle.vme_trace.specs.WellFormed.{malformed_step}
 use Rattle.vme_audit_command.specs.DumpAudits.{given_recording}
 use Rattle.vme_dump_input.specs.SettledReadings.{settled_whole}
 use Rattle.vme_audit_command.proofs.Onward.{ExtendsTo-end}
-use Rattle.vme_audit_command.proofs.PieceLemmas.{goes-to, memory-goes}
+use Rattle.vme_audit_command.proofs.PieceLemmas.{AuditGoesTo-steps, AuditGoesTo-memory}
 use Rattle.vme_audit_command.proofs.body.audit_ended.Goals as goal
 
 pub returns-in-Ok-clause-given : goal.returns-in-Ok-clause-given
@@ -18,12 +18,12 @@ returns-in-Ok-clause-writes g c = λ skew given from h go.
     let t = c.args.auditor.now.recording in
     let on = ExtendsTo-end skew c.args.settler.now given from t h c.args.steps.items go in
     let is = ap (with_steps t) c.as_slice.ensures.value ∙ c.in-Ok.ensures skew given t from h go in
-    goes-to c.args.head.now c.args.auditor.now (settled_whole skew (with_steps given c.args.steps.items))
+    AuditGoesTo-steps c.args.head.now c.args.auditor.now (settled_whole skew (with_steps given c.args.steps.items))
     c.as_slice.result.now (g.O.Sink.writing c.args.out.now) (g.O.Sink.writing c.audit_steps.new.out)
     c.audit_steps.result is (c.audit_steps.ensures.writes (ap malformed_step is ∙ on.formed) on.few)
 
 pub returns-in-Err-clause-writes : goal.returns-in-Err-clause-writes
 returns-in-Err-clause-writes g c = λ skew given from h go.
-    memory-goes (Unit {0}) c.reading_goes_on.ensures.breaks c.args.head.now c.args.auditor.now
+    AuditGoesTo-memory (Unit {0}) c.reading_goes_on.ensures.breaks c.args.head.now c.args.auditor.now
     (settled_whole skew (with_steps given c.args.steps.items)) (g.O.Sink.writing c.args.out.now)
     (ExtendsTo-end skew c.args.settler.now given from c.args.auditor.now.recording h c.args.steps.items go)

@@ -11,7 +11,7 @@ use Rattle.vme_dump_input.specs.SettledReadings.{settled_by, settled_so_far}
 use Rattle.vme_audit_command.proofs.Later.{IsLater-given_recording, OnOk-any}
 use Rattle.vme_audit_command.proofs.Onward.{fault-stopped, settled_by-stopped, ExtendsTo-stopped, GoOnTo-stopped}
 use Rattle.vme_audit_command.proofs.Onward.{ExtendsTo-next}
-use Rattle.vme_audit_command.proofs.PieceLemmas.{cut-ends, fault-ends}
+use Rattle.vme_audit_command.proofs.PieceLemmas.{WritesRest-cut, WritesRest-fault}
 use Rattle.vme_audit_command.proofs.body.audit_faulty.Goals as goal
 
 pub returns-in-Ok-clause-ends : goal.returns-in-Ok-clause-ends
@@ -32,7 +32,7 @@ returns-in-Ok-clause-ends g c = λ skew r rest h stops.
     subst (λ x. WritesRest {A = Unit {0}} c.args.head.now audit (lines_of c.args.head.now audit)
     (settled_by skew (whole_reading r rest)) x (g.O.Sink.writing c.args.out.now)
     (g.O.Sink.writing c.audit_settled.new.out) c.at_fault.result) (sym (ap (λ a. a.recording) given))
-    (fault-ends c.args.head.now audit (settled_by skew (whole_reading r rest)) (g.O.Sink.writing c.args.out.now)
+    (WritesRest-fault c.args.head.now audit (settled_by skew (whole_reading r rest)) (g.O.Sink.writing c.args.out.now)
     (g.O.Sink.writing c.audit_settled.new.out) fault t c.at_fault.result
     (settled_by-stopped law.follows law.within law.on skew settler audit r h stopped rest stops c.requires)
     (fault-stopped law.follows law.within law.on skew settler audit r h stopped rest stops c.requires) c.requires
@@ -50,7 +50,7 @@ returns-in-Err-clause-ends g c = λ skew r rest h stops.
     let stopped = c.args.stopped in
     let t = settled_so_far skew stopped.time (with_steps r.given stopped.steps.items) in
     let to = GoOnTo-stopped law.follows law.within law.on skew settler audit r h stopped rest stops c.requires in
-    cut-ends (Unit {0}) (Unit {0}) c.reading_goes_on.ensures.breaks c.args.head.now audit
+    WritesRest-cut (Unit {0}) (Unit {0}) c.reading_goes_on.ensures.breaks c.args.head.now audit
     (settled_by skew (whole_reading r rest)) t (g.O.Sink.writing c.args.out.now)
     (g.O.Sink.writing c.audit_settled.new.out) c.in-Err.fault c.audit_settled.new.auditor.recording
     (ExtendsTo-stopped law.follows law.within law.on skew settler audit r h stopped rest stops c.requires)

@@ -6,7 +6,7 @@ use Rattle.vme_audit_command.specs.DumpAudits.{lines_of}
 use Rattle.vme_dump_input.specs.SettledReadings.{settled_by, settled_whole}
 use Rattle.vme_audit_command.proofs.Later.{IsLater-given_recording}
 use Rattle.vme_audit_command.proofs.Onward.{GoOnFrom-last, settled_by-last, ExtendsTo-last, ExtendsTo-end}
-use Rattle.vme_audit_command.proofs.PieceLemmas.{cut-ends, whole-ends}
+use Rattle.vme_audit_command.proofs.PieceLemmas.{WritesRest-cut, WritesRest-whole}
 use Rattle.vme_audit_command.proofs.body.audit_last.Goals as goal
 
 pub returns-in-Err-clause-ends : goal.returns-in-Err-clause-ends
@@ -49,7 +49,8 @@ returns-in-Ok-audit_ended-clause-ends g c = λ skew h.
     (settled_by skew (whole_reading r bytes)) x (g.O.Sink.writing c.args.out.now)
     (g.O.Sink.writing c.audit_ended.new.out) (Ok tt))
     (sym (ap (λ a. a.recording) (c.in-Ok-audit_ended.ensures.given skew r.given from h.comes last)))
-    (whole-ends c.args.head.now audit (settled_by skew (whole_reading r bytes)) t (g.O.Sink.writing c.args.out.now)
+    (WritesRest-whole c.args.head.now audit (settled_by skew (whole_reading r bytes)) t
+    (g.O.Sink.writing c.args.out.now)
     (g.O.Sink.writing c.audit_ended.new.out) is c.in-Ok.ensures.whole
     (c.in-Ok-audit_ended.ensures.writes skew r.given from h.comes last))
 
@@ -65,7 +66,7 @@ returns-in-Err-audit_ended-clause-ends g c = λ skew h.
     let t = settled_whole skew (with_steps r.given steps) in
     let last = GoOnFrom-last law.follows law.within law.on skew settler audit r h bytes steps
     c.in-Ok.ensures.recorded in
-    cut-ends (Unit {0}) (Unit {0}) c.reading_goes_on.ensures.breaks c.args.head.now audit
+    WritesRest-cut (Unit {0}) (Unit {0}) c.reading_goes_on.ensures.breaks c.args.head.now audit
     (settled_by skew (whole_reading r bytes)) t (g.O.Sink.writing c.args.out.now)
     (g.O.Sink.writing c.audit_ended.new.out) c.in-Err-audit_ended.fault c.audit_ended.new.auditor.recording
     (ExtendsTo-last law.follows law.within law.on skew settler audit r h bytes steps c.in-Ok.ensures.recorded

@@ -6,7 +6,7 @@ use Rattle.vme_dump_input.specs.SettledReadings.{settled_so_far}
 use Rattle.vme_dump_input.specs.SettledSteps.{ComesOut}
 use Rattle.vme_audit_command.proofs.Later.{OnOk-given_more}
 use Rattle.vme_audit_command.proofs.Onward.{ExtendsTo-next}
-use Rattle.vme_audit_command.proofs.PieceLemmas.{goes-to, memory-goes}
+use Rattle.vme_audit_command.proofs.PieceLemmas.{AuditGoesTo-steps, AuditGoesTo-memory}
 use Rattle.vme_audit_command.proofs.body.audit_settled.Goals as goal
 
 pub returns-in-Ok-clause-comes : goal.returns-in-Ok-clause-comes
@@ -29,13 +29,13 @@ returns-in-Ok-clause-writes g c = λ skew given from h go.
     let t = c.args.auditor.now.recording in
     let on = ExtendsTo-next skew c.args.settler.now given from t h c.args.steps.items c.args.time go in
     let is = ap (with_steps t) c.as_slice.ensures.value ∙ c.in-Ok.ensures.settled skew given t from h go in
-    goes-to c.args.head.now c.args.auditor.now
+    AuditGoesTo-steps c.args.head.now c.args.auditor.now
     (settled_so_far skew c.args.time (with_steps given c.args.steps.items)) c.as_slice.result.now
     (g.O.Sink.writing c.args.out.now) (g.O.Sink.writing c.audit_steps.new.out) c.audit_steps.result is
     (c.audit_steps.ensures.writes (ap malformed_step is ∙ on.formed) on.few)
 
 pub returns-in-Err-clause-writes : goal.returns-in-Err-clause-writes
 returns-in-Err-clause-writes g c = λ skew given from h go.
-    memory-goes (Unit {0}) c.reading_goes_on.ensures.breaks c.args.head.now c.args.auditor.now
+    AuditGoesTo-memory (Unit {0}) c.reading_goes_on.ensures.breaks c.args.head.now c.args.auditor.now
     (settled_so_far skew c.args.time (with_steps given c.args.steps.items)) (g.O.Sink.writing c.args.out.now)
     (ExtendsTo-next skew c.args.settler.now given from c.args.auditor.now.recording h c.args.steps.items c.args.time go)

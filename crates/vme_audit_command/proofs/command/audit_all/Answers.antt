@@ -1,14 +1,14 @@
 use Rattle.std.proofs.Common.{refl, rules}
 use Rattle.vme_bind.proofs.PathSearchLemmas.{drop-set_same_rest}
 use Rattle.vme_audit_command.proofs.AnswerLemmas.{options_by}
-use Rattle.vme_audit_command.proofs.SeveralLemmas.{cannot-write-next, writes-all-dumps, writes-next-dump}
-use Rattle.vme_audit_command.proofs.SeveralLemmas.{writes-no-dumps}
+use Rattle.vme_audit_command.proofs.SeveralLemmas.{AuditsDumps-cannot_write_next, AuditsDumps-all, WritesDumps-next}
+use Rattle.vme_audit_command.proofs.SeveralLemmas.{WritesDumps-none}
 use Rattle.vme_audit_command.proofs.command.audit_all.Goals as goal
 
 pub loop-named-init : goal.loop-named-init
 loop-named-init g c = record {
   rest = refl;
-  writes = writes-no-dumps (options_by c.args.options.allowances.now c.args.options.stop c.args.options.skew
+  writes = WritesDumps-none (options_by c.args.options.allowances.now c.args.options.stop c.args.options.skew
       c.args.options.transfers c.args.options.is_quiet) c.args.bound.now (g.O.Sink.writing c.args.out.now)
       (g.E.Sink.writing c.args.err.now);
 }
@@ -18,7 +18,7 @@ loop-named-preserved g c = record {
   rest = drop-set_same_rest c.loop-named.dumps c.args.dumps.now c.loop-named.named-index c.audit_named-ended.new.named
       c.loop-named.invariant.rest;
   writes = rw c.worse-status.ensures
-      (writes-next-dump (options_by c.args.options.allowances.now c.args.options.stop c.args.options.skew
+      (WritesDumps-next (options_by c.args.options.allowances.now c.args.options.stop c.args.options.skew
       c.args.options.transfers c.args.options.is_quiet) c.args.bound.now
       (λ d. record { name = d.name.now; dump = g.D.Source.reading d.dump }) c.loop-named.dumps
       c.args.dumps.now c.loop-named.named-index c.named-item.result
@@ -34,7 +34,7 @@ loop-named-preserved g c = record {
 
 pub returns-then-ended-eq5 : goal.returns-then-ended-eq5
 returns-then-ended-eq5 g c =
-    cannot-write-next (options_by c.args.options.allowances.now c.args.options.stop c.args.options.skew
+    AuditsDumps-cannot_write_next (options_by c.args.options.allowances.now c.args.options.stop c.args.options.skew
     c.args.options.transfers c.args.options.is_quiet) c.args.bound.now
     (λ d. record { name = d.name.now; dump = g.D.Source.reading d.dump }) c.loop-named.dumps
     c.args.dumps.now c.loop-named.named-index c.named-item.result
@@ -49,7 +49,7 @@ returns-then-ended-eq5 g c =
 
 pub returns : goal.returns
 returns g c =
-    writes-all-dumps (options_by c.args.options.allowances.now c.args.options.stop c.args.options.skew
+    AuditsDumps-all (options_by c.args.options.allowances.now c.args.options.stop c.args.options.skew
     c.args.options.transfers c.args.options.is_quiet) c.args.bound.now
     (λ d. record { name = d.name.now; dump = g.D.Source.reading d.dump })
     c.loop-named.dumps c.args.dumps.now
