@@ -25,7 +25,7 @@ pub counts-are : (allowances : List Allowance) (head : List ℕ) (a : Trace) (c 
 counts-are allowances head a c f counted found asked =
     rw (counted.broken, counted.unreadable, counted.allowed, found.counts, asked) refl
 
--- nothing of a text was written, which is a prefix of it
+-- if nothing was written, a prefix of any text was, the empty one
 pub prefix-of : (w : Writing) (text : List ℕ) → WritesPrefix w w text
 prefix-of w text = WritesPrefix-longer w w [] text (WritesPrefix-whole w w [] (Writes-nothing w))
 

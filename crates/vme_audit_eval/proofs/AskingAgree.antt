@@ -1,4 +1,5 @@
--- Each recording of `asking` asks, by the definitions, the rules that stand beside it: computed.
+-- Each recording of `asking` asks, by the definitions, the rules that stand beside it: computed. The lemma
+-- `NAME_agrees` says so of the recording NAME.
 use Rattle.std.proofs.Common.{refl}
 use Rattle.vme_eval.proofs.Everything.{everything}
 use Rattle.vme_audit_eval.proofs.Computing.{asked}
@@ -185,6 +186,7 @@ pub acknowledge_is_asked_for_agrees : AskingAgrees acknowledge_is_asked_for
 unfolding everything asked acknowledge_is_asked_for
 acknowledge_is_asked_for_agrees = record { well_formed = refl; asked = refl }
 
+-- each recording of `asking` is well formed, and asks the rules that stand beside it
 pub asking_agrees : AllAsk asking
 asking_agrees = (
   never_idle_agrees,

@@ -1,4 +1,5 @@
 -- The audit of each recording of `several_breaks` has, by the definitions, the results that stand beside it: computed.
+-- The lemma `NAME_agrees` says so of the recording NAME.
 use Rattle.std.proofs.Common.{refl}
 use Rattle.vme_eval.proofs.Everything.{everything, rows}
 use Rattle.vme_audit_eval.proofs.Computing.{audits}
@@ -135,6 +136,8 @@ cycle_cut_off_at_its_start_agrees = record {
       = refl;
 }
 
+-- each recording of `several_breaks` is well formed, and its audit has the starts, breaks, counts and outcome that
+-- stand beside it
 pub several_breaks_agree : AllAudits several_breaks
 several_breaks_agree = (
   two_stray_answers_agrees,

@@ -1,4 +1,5 @@
--- The audit of each recording of `coverage` has, by the definitions, the results that stand beside it: computed.
+-- The audit of each recording of `coverage` has, by the definitions, the results that stand beside it: computed. The
+-- lemma `NAME_agrees` says so of the recording NAME.
 use Rattle.std.proofs.Common.{refl}
 use Rattle.vme_eval.proofs.Everything.{everything, rows}
 use Rattle.vme_audit_eval.proofs.Computing.{audits}
@@ -138,6 +139,8 @@ pub stopped_nowhere_agrees : AuditAgrees stopped_nowhere
 unfolding everything rows audits stopped_nowhere two_stray_answers
 stopped_nowhere_agrees = record { well_formed = refl; starts = refl; breaks = refl; counts = refl; outcome = refl }
 
+-- each recording of `coverage` is well formed, and its audit has the starts, breaks, counts and outcome that stand
+-- beside it
 pub coverage_agrees : AllAudits coverage
 coverage_agrees = (
   nothing_known_agrees,

@@ -56,13 +56,15 @@ listed-may_be_broken l k below within =
 -- each rule that may be broken on a line is on the line's row
 pub may_be_broken-listed : (l : ℕ) (r : Rule) → l < line_count → may_be_broken_on r l ≡ true
     → (k : ℕ) × (k < length (rules_on l)) × (get_or (rules_on l) k U1 ≡ r)
-may_be_broken-listed l r below its_line = found (rules_on l) (listed-is l r below ∙ its_line)
+may_be_broken-listed l r below its_line = listed_by_number (rules_on l) (listed-is l r below ∙ its_line)
   where
-    found : (rs : List Rule) → list_any (λ y. rule_number y == rule_number r) rs ≡ true
+    -- a rule whose number one of `rs` has is one of them
+    listed_by_number : (rs : List Rule) → list_any (λ y. rule_number y == rule_number r) rs ≡ true
         → (k : ℕ) × (k < length rs) × (get_or rs k U1 ≡ r)
-    found [] h = absurd (cc)
-    found (x ∷ rs) h = by_test (rule_number x == rule_number r) refl h (λ k. found rs k)
+    listed_by_number [] h = absurd (cc)
+    listed_by_number (x ∷ rs) h = by_test (rule_number x == rule_number r) refl h (λ k. listed_by_number rs k)
       where
+        -- by whether it is the first of them
         by_test : (b : Bool) → (rule_number x == rule_number r) ≡ b
             → (b || list_any (λ y. rule_number y == rule_number r) rs) ≡ true
             → (list_any (λ y. rule_number y == rule_number r) rs ≡ true
@@ -78,6 +80,7 @@ highest_address-bound : (code : ℕ) → highest_address code ≤ 31
 unfolding highest_address
 highest_address-bound code = by_tests (is_extended code) (is_standard code) (is_short code)
   where
+    -- by the three kinds of address
     by_tests : (a b c : Bool) → (if a then 31 else if b then 23 else if c then 15 else 0) ≤ 31
     by_tests true b c = omega arith
     by_tests false true c = omega arith
@@ -89,6 +92,7 @@ pub needs_of-highest_bound : (v : Levels) → (needs_of v).highest ≤ 31
 unfolding needs_of
 needs_of-highest_bound v = by_class (class_of v) refl
   where
+    -- by the class of the cycle
     by_class : (k : Class) → class_of v ≡ k → (needs_of v).highest ≤ 31
     by_class class.S e = rw e (highest_address-bound (modifier_of v))
     by_class class.K e = rw e (highest_address-bound (modifier_of v))
@@ -296,6 +300,7 @@ module _ (t : Trace) (stretch : Stretch) where
 module _ (t : Trace) (stretch : Stretch) (bus : Bus) (state : State) (cs : List Change)
     (h : IsStateOf t stretch bus state)
     (lead : LeadToInstant bus cs) where
+  -- the instant of the bus
   j : ℕ
   j = bus.instant
 

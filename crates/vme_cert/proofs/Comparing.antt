@@ -250,6 +250,7 @@ decides-all is_over given more expected source Yes (same, over) none =
     ap (λ (rows : List Row). given ++ rows) (none over) ∙ (append-nil given ∙ same)
 decides-all is_over given more expected source (No row) (differs, known) none = by_count known
   where
+    -- by whether the row that differs is among those given, or the source is over
     by_count : (row ≤ length given) ⊎ is_over source → DiffersAt (given ++ more) expected row
     by_count (inr over) = subst (λ (rows : List Row). DiffersAt rows expected row)
         (sym (ap (λ (rows : List Row). given ++ rows) (none over) ∙ append-nil given)) differs

@@ -399,6 +399,7 @@ all-ended t stretch j c is here i start before = by_either_value c.has_started (
     (cycle_starts-after_start t stretch i start)
     before)))
   where
+    -- by the cycle that was the last to start before `j`
     by_last : IsLastCycle t stretch j j c → none (rises t AS) (i + 1) j ≡ false
     by_last w =
         let found = greatest-found (cycle_starts t stretch) (stretch.start + 1) j c.start w.last in
@@ -772,12 +773,14 @@ pub ruleset questions = (answer-is, write-is, unanswered-is, data-is)
 any-later : (p : ℕ → Bool) (f n : ℕ) → any p f n ≡ has_earlier_answer (those p f n)
 unfolding any those
 any-later p f zero = refl
-any-later p f (suc n) = rw (any-later p f n) (more (those p f n) (nat_le f n && p n))
+any-later p f (suc n) = rw (any-later p f n) (not_empty-push (those p f n) (nat_le f n && p n))
   where
-    more : (rs : List ℕ) (b : Bool) → (has_earlier_answer rs || b) ≡ has_earlier_answer (rs ++ cond b (n ∷ []) [])
-    more [] true = refl
-    more [] false = refl
-    more (r ∷ rs) b = refl
+    -- a list with one number more, if b is true, isn't empty exactly if it wasn't or b is true
+    not_empty-push : (rs : List ℕ) (b : Bool) → (has_earlier_answer rs || b)
+        ≡ has_earlier_answer (rs ++ cond b (n ∷ []) [])
+    not_empty-push [] true = refl
+    not_empty-push [] false = refl
+    not_empty-push (r ∷ rs) b = refl
 
 -- a line that was low stays so while it is known and doesn't rise
 low-stays : (t : Trace) (l i k : ℕ) → low t l i ≡ true → i ≤ k → ((r : ℕ) → i < r → r ≤ k → known t l r ≡ true)

@@ -70,16 +70,25 @@ pub greatest-reached : (p : ℕ → Bool) (n : ℕ) → 0 < n → p 0 ≡ true
     n) ≡ Some (unwrap_or (least (λ k. not (p k)) 0 n) n)
 greatest-reached p n some low = by_least (least (λ k. not (p k)) 0 n) refl
   where
-    as_far : (m : ℕ) → 0 < m → m ≤ n → any (λ k. not (p k)) 0 m ≡ false → any (λ k. every p 0 (k + 1)) (m - 1 + 1) n
+    -- if `p` holds of all numbers below m, and from m on of none together with all before it, m - 1 is the last number
+    -- up to which it holds
+    greatest-before_first : (m : ℕ) → 0 < m → m ≤ n → any (λ k. not (p k)) 0 m ≡ false
+        → any (λ k. every p 0 (k + 1)) (m - 1 + 1) n
         ≡ false → greatest (λ k. every p 0 (k + 1)) 0 n ≡ Some (m - 1)
-    as_far m above within so_far rest = greatest-is (λ k. every p 0 (k + 1)) 0 n (m - 1) (omega arith) (omega arith)
+    greatest-before_first m above within so_far rest =
+        greatest-is (λ k. every p 0 (k + 1)) 0 n (m - 1) (omega arith) (omega arith)
         (ap (λ k. not (any (λ i. not (p i)) 0 k)) (suc-of_pred m above) ∙ ap not so_far) rest
 
+    -- by the first number of which `p` doesn't hold, if there is one
     by_least : (o : Option ℕ) → least (λ k. not (p k)) 0 n ≡ o → option_map (λ k. 1 + k)
         (greatest (λ k. every p 0 (k + 1)) 0 n) ≡ Some (unwrap_or (least (λ k. not (p k)) 0 n) n)
     by_least None e =
         let none = least-none-any (λ k. not (p k)) 0 n e in
-        rw (e, as_far n some (omega arith) none (any-start (λ k. every p 0 (k + 1)) (n - 1 + 1) n (omega arith)))
+        rw (
+          e,
+          greatest-before_first n some (omega arith) none
+              (any-start (λ k. every p 0 (k + 1)) (n - 1 + 1) n (omega arith)),
+        )
         (ap (λ k. Some k) (one_plus-pred n some))
     by_least (Some m) e =
         let found = least-found (λ k. not (p k)) 0 n m e in
@@ -88,7 +97,7 @@ greatest-reached p n some low = by_least (least (λ k. not (p k)) 0 n) refl
           | inr above ↦
               rw (
                 e,
-                as_far m above (omega (arith, found.below)) found.least
+                greatest-before_first m above (omega (arith, found.below)) found.least
                     (fails-any (λ k. every p 0 (k + 1)) (m - 1 + 1) n
                     (λ k a b. ap not (any-holds (λ i. not (p i)) 0 (k + 1) m (omega arith) (omega (arith, above))
                     found.holds))),

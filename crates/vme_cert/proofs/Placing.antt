@@ -37,6 +37,7 @@ address_to-bound v zero = lit< tt
 address_to-bound v (suc n) = by_test (is_high (level_at v (A (suc n)))) (next-weight n) (next-weight (suc n))
     (pow-succ' 2 n) (address_to-bound v n)
   where
+    -- by whether the line is high
     by_test : (b : Bool) → 2 ^ (n + 1) ≡ 2 * 2 ^ n → 2 ^ (suc n + 1) ≡ 2 * 2 ^ suc n → 2 ^ suc n ≡ 2 * 2 ^ n
         → address_to v n < 2 ^ (n + 1) → address_to v n + (if b then 2 ^ suc n else 0) < 2 ^ (suc n + 1)
     by_test true e f g below = omega arith
@@ -47,6 +48,7 @@ pub is_within-address_line : (needs : Needs) (n : ℕ) → n < 31 → is_within 
     → n + 1 ≤ needs.highest
 is_within-address_line needs n h e = by_highest needs.modifier needs.highest e
   where
+    -- by whether the cycle needs the address modifier, and by its highest address line
     by_highest : (m : Bool) (k : ℕ)
         → ((A (n + 1) == 5) || (m && ((nat_le 6 (A (n + 1)) && nat_le (A (n + 1)) 11) || (A (n + 1) == 12))) ||
         (nat_le 14 (A (n + 1)) && nat_le (A (n + 1)) (13 + k))) ≡ true → n + 1 ≤ k
@@ -57,6 +59,7 @@ pub is_within-no_address_line : (needs : Needs) (n : ℕ) → n < 31 → is_with
     → needs.highest ≤ n
 is_within-no_address_line needs n h e = by_highest needs.modifier needs.highest e
   where
+    -- by whether the cycle needs the address modifier, and by its highest address line
     by_highest : (m : Bool) (k : ℕ)
         → ((A (n + 1) == 5) || (m && ((nat_le 6 (A (n + 1)) && nat_le (A (n + 1)) 11) || (A (n + 1) == 12))) ||
         (nat_le 14 (A (n + 1)) && nat_le (A (n + 1)) (13 + k))) ≡ false → k ≤ n
@@ -139,6 +142,7 @@ module _ (t : Trace) (stretch : Stretch) where
     tenure-count i = by_test ((i == stretch.start) && low t BBSY i) (tenure_starts t stretch i) _ _ _ _
         (by_place (tenure_level t i) (tenure_slot t i))
       where
+        -- by whether a tenure is open at the start of the stretch, and whether one starts
         by_test : (a b : Bool) (x y : Row) (xs ys : List Row) → length xs ≡ length ys
             → length (cond a (x ∷ []) (cond b xs [])) ≡ length (cond a (y ∷ []) (cond b ys []))
         by_test true b x y xs ys h = refl

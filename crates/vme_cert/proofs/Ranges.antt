@@ -79,12 +79,13 @@ unfolding greatest any
 greatest-none-any p f zero e = refl
 greatest-none-any p f (suc n) e =
     elim (cond-value (nat_le f n && p n) (Some n) (greatest p f n) None e) [
-      | inl here ↦ absurd (some_is_none n here.1)
+      | inl here ↦ absurd (not_none n here.1)
       | inr none ↦ rw (greatest-none-any p f n none.1, none.0) refl
     ]
   where
-    some_is_none : (n : ℕ) → Some n ≡ None → ⊥
-    some_is_none n h = cc
+    -- a value isn't none
+    not_none : (n : ℕ) → Some n ≡ None → ⊥
+    not_none n h = cc
 
 -- `i` is the greatest number from `f` to `n - 1` that meets `p`
 pub record IsGreatest (p : ℕ → Bool) (f n i : ℕ) : Type 0 where
@@ -141,23 +142,27 @@ pub only-last : (s p : ℕ → Bool) (f j i : ℕ) → IsGreatest s f (j + 1) i 
     → ((k : ℕ) → k < i → s k ≡ true → p k ≡ false) → any p f j ≡ (nat_lt i j && p i)
 only-last s p f j i found off earlier = by_order (eq-or_below i j found.before)
   where
-    sooner : (k : ℕ) → k < i → p k ≡ false
-    sooner k before = by_either_value (s k) (earlier k before) (off k)
+    -- `p` doesn't hold before `i`
+    fails_before : (k : ℕ) → k < i → p k ≡ false
+    fails_before k before = by_either_value (s k) (earlier k before) (off k)
 
-    past : (k : ℕ) → i < k → k < j → p k ≡ false
-    past k after before = off k (any-fails s (i + 1) (j + 1) k found.last (omega arith) (omega arith))
+    -- `p` doesn't hold after `i`, before `j`
+    fails_after : (k : ℕ) → i < k → k < j → p k ≡ false
+    fails_after k after before = off k (any-fails s (i + 1) (j + 1) k found.last (omega arith) (omega arith))
 
+    -- if `i` is before `j`, `p` holds before `j` exactly if it holds at `i`
     by_value : i < j → any p f j ≡ p i
     by_value before = by_either_value (p i) (λ e. any-holds p f j i found.from before e ∙ sym e)
         (λ e. fails-any p f j (λ k a b. elim (below-same-above k i) [
-          | inl less ↦ sooner k less
+          | inl less ↦ fails_before k less
           | inr (inl same) ↦ ap p same ∙ e
-          | inr (inr more) ↦ past k more b
+          | inr (inr more) ↦ fails_after k more b
         ]) ∙ sym e)
 
+    -- by whether `i` is `j` or before it
     by_order : (i ≡ j) ⊎ (i < j) → any p f j ≡ (nat_lt i j && p i)
     by_order (inl e) = rw (le-ltb i j (omega arith)) (fails-any p f j
-        (λ k a b. sooner k (omega (arith, b))))
+        (λ k a b. fails_before k (omega (arith, b))))
     by_order (inr before) = rw (lt-ltb i j before) (by_value before)
 
 -- ---- One instant more, or less, of a search.

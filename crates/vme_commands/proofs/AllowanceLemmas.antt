@@ -81,9 +81,11 @@ pub IsCut-first_equals : (text : List ℕ) (end : ℕ) (a : Allowance) → IfSom
     → allowance_text a ≡ text → IsFirstByte (is_byte 61) text (Some end) → IsCut text end a
 IsCut-first_equals text end a small is first = by_line a.line refl
   where
+    -- the name of the rule of `a` has two bytes
     two : HasTwoByteName a.rule
     two = HasTwoByteName-rule a.rule
 
+    -- by whether `a` has a line: without one its text has no `=`, and with one the `=` is at 2
     by_line : (o : Option ℕ) → a.line ≡ o → IsCut text end a
     by_line None none =
         let whole : text ≡ two.x ∷ two.y ∷ [] = sym is ∙ rw (none, two.name) refl in
@@ -107,9 +109,11 @@ pub rule_name-no_equals : (text : List ℕ) (a : Allowance) → allowance_text a
     → (a.line ≡ None) × (rule_name a.rule ≡ text)
 rule_name-no_equals text a is nowhere = by_line a.line refl
   where
+    -- the name of the rule of `a` has two bytes
     two : HasTwoByteName a.rule
     two = HasTwoByteName-rule a.rule
 
+    -- by whether `a` has a line: with one its text has `=` at 2
     by_line : (o : Option ℕ) → a.line ≡ o → (a.line ≡ None) × (rule_name a.rule ≡ text)
     by_line None none = (none, sym (append-nil (rule_name a.rule)) ∙ (rw none at is))
     by_line (Some line) some =

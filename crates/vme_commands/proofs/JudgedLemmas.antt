@@ -49,6 +49,7 @@ verdict_in_blocks-in_blocks : (block : ℕ) (r : Result Trace Refusal) → (r >>
 verdict_in_blocks-in_blocks block (Err r) = refl
 verdict_in_blocks-in_blocks block (Ok t) = by_test (nat_lt 4096 (block_count block t))
   where
+    -- by whether the blocks are too many
     by_test : (test : Bool)
         → (if test then Err refusal.TooManyBlocks else Ok (verdict_by rules_in_force t))
         ≡ ((let cut : Result Trace Refusal = if test then Err refusal.TooManyBlocks else Ok t in cut) >>= λ t. Ok

@@ -56,6 +56,7 @@ unfolding dump_read
 IsOfText-dump_read None = tt
 IsOfText-dump_read (Some bytes) = by_test (nat_le (length bytes) longest_input)
   where
+    -- by whether the dump is short enough
     by_test : (short : Bool) → IsOfText (bytes_if_short bytes short >>= or_dumped)
     by_test true = IsOfText-dump bytes (dump_of bytes) refl
     by_test false = tt
@@ -90,6 +91,7 @@ pub settled_read-zero_skew : (b d : Option (List ℕ)) → settled_read 0 b d �
 unfolding settled_read capture_read
 settled_read-zero_skew b d = by_binding (binding_read b)
   where
+    -- by whether there is a binding
     by_binding : (r : Result BoundLines Refusal) → settled_or 0 (r >>= captured_by d) ≡ (r >>= captured_by d)
     by_binding (Ok binding) = capture_by-zero_skew binding (dump_read d) (IsOfText-dump_read d)
     by_binding (Err r) = refl

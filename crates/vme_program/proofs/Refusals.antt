@@ -9,8 +9,10 @@ use Rattle.vme_stream.specs.declared.refusal.Input.{Input}
 use Rattle.vme_stream.specs.declared.refusal.Refusal.TheVariants.{CannotOpen}
 use Rattle.vme_stream.specs.Outputs.{TriesToWrite}
 
-pub tells_refused : (input : Input) (out : Writing) (err : Writing × Writing) (status : ℕ)
+-- if the line that an input can't be opened was tried, the status is 3, and nothing is written to standard output, that
+-- refusal was written
+pub WritesAnswer-cannot_open : (input : Input) (out : Writing) (err : Writing × Writing) (status : ℕ)
     → TriesToWrite err.0 err.1 (line_of (refusal_text (CannotOpen input))) → status ≡ 3
     → WritesAnswer (refusal_answer (CannotOpen input)) (out, out) err status
-tells_refused input out err status told is =
+WritesAnswer-cannot_open input out err status told is =
     record { out_is = (Appends-nil out.taken, refl); err_is = told; status_is = is }

@@ -1,4 +1,4 @@
--- The verdict of an explanation is that of a check.
+-- The verdict of an explanation is that of a check, and there is an account unless there is no verdict.
 use Rattle.std.proofs.Common.{◌≡◌, ◌+◌, ◌*◌, ◌/◌, ◌%◌, ◌<◌, ◌≤◌, ℕ, Bool, true, false, List, length, refl}
 use Rattle.std.proofs.Common.{sym, subst, ap}
 use Rattle.std.proofs.Common.{◌∙◌, arith}
@@ -33,121 +33,147 @@ use Rattle.vme_commands.proofs.SettledLemmas.{settled_judgement-refused, settled
 use Rattle.vme_commands.proofs.SettledLemmas.{settled_or-refused}
 use Rattle.vme_commands.proofs.SettledLemmas.{length-settled_within}
 
-pub judged-bound : (skew : ℕ) (b d : Option (List ℕ)) (bound : BoundLines) → binding_read b ≡ Ok bound
+-- if a binding is read, the verdict on the deskewed recording is that on what this binding makes of the dump
+pub settled_judgement-bound : (skew : ℕ) (b d : Option (List ℕ)) (bound : BoundLines) → binding_read b ≡ Ok bound
     → settled_judgement skew b d 16384 ≡ judged_by skew bound (dump_read d)
 unfolding settled_judgement settled_read
-judged-bound skew b d bound is = ap (λ (r : Result Trace Refusal). settled_or skew r >>= verdict_in_blocks 16384)
+settled_judgement-bound skew b d bound is =
+    ap (λ (r : Result Trace Refusal). settled_or skew r >>= verdict_in_blocks 16384)
     (capture_read-bound b d bound is)
 
 -- a refusal that is given instead of a verdict may be given instead of an explanation
-pub refusal_explained : (r : Refusal) (said : Result Verdict Refusal) → AnswerGives (λ (v : Verdict). v) (Err r) said
+pub AnswerGives-explained : (r : Refusal) (said : Result Verdict Refusal)
+    → AnswerGives (λ (v : Verdict). v) (Err r) said
     → AnswerGives (λ (e : Explained). e.verdict) (Err r) said
-refusal_explained Memory said gives = gives
-refusal_explained r said gives = gives
+AnswerGives-explained Memory said gives = gives
+AnswerGives-explained r said gives = gives
 
-pub judged-refused : (skew : ℕ) (b d : Option (List ℕ)) (r : Refusal) → AnswerGives (λ (x : BoundLines). x) (Err r)
+-- a refusal that is given instead of a binding may be given instead of an explanation
+pub AnswerGives-binding_refused : (skew : ℕ) (b d : Option (List ℕ)) (r : Refusal)
+    → AnswerGives (λ (x : BoundLines). x) (Err r)
     (binding_read b) → AnswerGives (λ (e : Explained). e.verdict) (Err r) (settled_judgement skew b d 16384)
-judged-refused skew b d r gives =
-    refusal_explained r (settled_judgement skew b d 16384)
+AnswerGives-binding_refused skew b d r gives =
+    AnswerGives-explained r (settled_judgement skew b d 16384)
     (settled_judgement-refused skew b d 16384 r (settled_read-refused skew b d r (capture_read-refused b d r gives)))
 
 -- ---- a recording that is judged as the dump is read
 
-short_in : {W : Type 0} (r : Result W BindFault) (made : W → Trace) → or_bad_binding (r >>= λ w. limited (made w))
+-- what is made of the groups that were found is captured if it isn't too long, and else it is refused
+or_bad_binding-limited : {W : Type 0} (r : Result W BindFault) (made : W → Trace)
+    → or_bad_binding (r >>= λ w. limited (made w))
     ≡ (or_bad_binding (r >>= λ w. Ok (made w)) >>= or_too_long)
-short_in (Ok w) made = refl
-short_in (Err fault) made = refl
+or_bad_binding-limited (Ok w) made = refl
+or_bad_binding-limited (Err fault) made = refl
 
-short_of : (bound : BoundLines) (contents : Contents) → or_bad_binding (capture_of bound contents)
+-- the recording that a binding captures of the contents is the one that it makes of them, if that isn't too long
+capture_of-short : (bound : BoundLines) (contents : Contents) → or_bad_binding (capture_of bound contents)
     ≡ (or_bad_binding (recording_of bound contents) >>= or_too_long)
 unfolding capture_of recording_of
-short_of bound contents = short_in (bound_groups_in contents.variables bound.assignments)
+capture_of-short bound contents = or_bad_binding-limited (bound_groups_in contents.variables bound.assignments)
     (λ wires. recording bound.slots wires contents.instants (length contents.instants))
 
 -- the captured recording is the one that the binding makes, if that isn't too long
-pub captured-short : (bound : BoundLines) (dump : Result Contents Refusal) → capture_by bound dump
+pub capture_by-short : (bound : BoundLines) (dump : Result Contents Refusal) → capture_by bound dump
     ≡ (recording_by bound dump >>= or_too_long)
-captured-short bound (Ok contents) = short_of bound contents
-captured-short bound (Err r) = refl
+capture_by-short bound (Ok contents) = capture_of-short bound contents
+capture_by-short bound (Err r) = refl
 
 -- a recording that has no more steps than a recording may have
-pub fits-captured : (t : Trace) → length t.steps ≤ capture_limit → or_too_long t ≡ Ok t
-fits-captured t short = rw (le-ltb capture_limit (length t.steps) short) refl
+pub or_too_long-fits : (t : Trace) → length t.steps ≤ capture_limit → or_too_long t ≡ Ok t
+or_too_long-fits t short = rw (le-ltb capture_limit (length t.steps) short) refl
 
-pub over-captured : (t : Trace) → capture_limit < length t.steps → or_too_long t
+-- a recording that has more steps than a recording may have is refused
+pub or_too_long-over : (t : Trace) → capture_limit < length t.steps → or_too_long t
     ≡ Err (judging_refusal no_verdict.TooManySteps)
-over-captured t long = rw (lt-ltb capture_limit (length t.steps) long) refl
+or_too_long-over t long = rw (lt-ltb capture_limit (length t.steps) long) refl
 
 -- ---- the number of blocks
 
+-- up to 67,108,864 steps need at most 4,096 blocks of 16,384 steps
 few_blocks : (n : ℕ) → n ≤ 67108864 → nat_lt 4096 (max 1 (n / 16384 + min 1 (n % 16384))) ≡ false
 few_blocks n short = by_bounds (n / 16384 + min 1 (n % 16384)) (div_ceil_times n 16384 (omega arith)).1
   where
+    -- by the upper bound of the number of blocks
     by_bounds : (d : ℕ) → d * 16384 < n + 16384 → nat_lt 4096 (max 1 d) ≡ false
     by_bounds d below =
         let few : max 1 d ≤ 4096 = omega (arith, below, short) in
         le-ltb 4096 (max 1 d) few
 
+-- more than 67,108,864 steps need more than 4,096 blocks of 16,384 steps
 many_blocks : (n : ℕ) → 67108864 < n → nat_lt 4096 (max 1 (n / 16384 + min 1 (n % 16384))) ≡ true
 many_blocks n long = by_bounds (n / 16384 + min 1 (n % 16384)) (div_ceil_times n 16384 (omega arith)).0
   where
+    -- by the lower bound of the number of blocks
     by_bounds : (d : ℕ) → n ≤ d * 16384 → nat_lt 4096 (max 1 d) ≡ true
     by_bounds d above =
         let many : 4096 < max 1 d = omega (arith, above, long) in
         lt-ltb 4096 (max 1 d) many
 
-pub fits-blocks : (t : Trace) → length t.steps ≤ 67108864 → verdict_in_blocks 16384 t ≡ Ok (verdict t)
-fits-blocks t short = ap (λ (b : Bool). if b then Err TooManyBlocks else Ok (verdict t))
+-- a recording of up to 67,108,864 steps has a verdict
+pub verdict_in_blocks-fits : (t : Trace) → length t.steps ≤ 67108864 → verdict_in_blocks 16384 t ≡ Ok (verdict t)
+verdict_in_blocks-fits t short = ap (λ (b : Bool). if b then Err TooManyBlocks else Ok (verdict t))
     (few_blocks (length t.steps) short)
 
-pub over-blocks : (t : Trace) → 67108864 < length t.steps → verdict_in_blocks 16384 t ≡ Err TooManyBlocks
-over-blocks t long = ap (λ (b : Bool). if b then Err TooManyBlocks else Ok (verdict t))
+-- a recording of more than 67,108,864 steps is refused for its number of blocks
+pub verdict_in_blocks-over : (t : Trace) → 67108864 < length t.steps → verdict_in_blocks 16384 t ≡ Err TooManyBlocks
+verdict_in_blocks-over t long = ap (λ (b : Bool). if b then Err TooManyBlocks else Ok (verdict t))
     (many_blocks (length t.steps) long)
 
 -- ---- the account
 
-pub account-taken : (t : Trace) (a : Account) → length t.steps ≤ 67108864 → IsAccountOf a t
+-- an account of a recording of up to 67,108,864 steps may be given for this recording
+pub GivesAccount-of : (t : Trace) (a : Account) → length t.steps ≤ 67108864 → IsAccountOf a t
     → GivesAccount (Ok a) (or_too_long t)
-account-taken t a short is = (t, fits-captured t (omega (arith, short)), short, is)
+GivesAccount-of t a short is = (t, or_too_long-fits t (omega (arith, short)), short, is)
 
-pub account-long : (t : Trace) → capture_limit < length t.steps
+-- there is no account of a recording that has more steps than a recording may have, for that reason
+pub GivesAccount-too_long : (t : Trace) → capture_limit < length t.steps
     → GivesAccount (Err (judging_refusal no_verdict.TooManySteps)) (or_too_long t)
-account-long t long = ap (λ (r : Result Trace Refusal). r >>= verdict_in_blocks 16384) (over-captured t long)
+GivesAccount-too_long t long = ap (λ (r : Result Trace Refusal). r >>= verdict_in_blocks 16384)
+    (or_too_long-over t long)
 
-pub account-over : (t : Trace) → 67108864 < length t.steps → length t.steps ≤ capture_limit
+-- there is no account of a recording of more than 67,108,864 steps, for its number of blocks
+pub GivesAccount-too_many_blocks : (t : Trace) → 67108864 < length t.steps → length t.steps ≤ capture_limit
     → GivesAccount (Err TooManyBlocks) (or_too_long t)
-account-over t over short = ap (λ (r : Result Trace Refusal). r >>= verdict_in_blocks 16384) (fits-captured t short)
-    ∙ over-blocks t over
+GivesAccount-too_many_blocks t over short =
+    ap (λ (r : Result Trace Refusal). r >>= verdict_in_blocks 16384) (or_too_long-fits t short)
+    ∙ verdict_in_blocks-over t over
 
-pub account-refused : (r : Refusal) (captured : Result Trace Refusal) → AnswerGives (λ (t : Trace). t) (Err r) captured
+-- a refusal that is given instead of a captured recording may be given instead of its account
+pub GivesAccount-refused : (r : Refusal) (captured : Result Trace Refusal)
+    → AnswerGives (λ (t : Trace). t) (Err r) captured
     → GivesAccount (Err r) captured
-account-refused r captured gives = AnswerGives-then r captured (verdict_in_blocks 16384) gives
+GivesAccount-refused r captured gives = AnswerGives-then r captured (verdict_in_blocks 16384) gives
 
-pub account-unread : (r : Refusal) (read : Result Trace Refusal) → AnswerGives (λ (t : Trace). t) (Err r) read
+-- a refusal that is given instead of a recording may be given instead of an account of it
+pub GivesAccount-unread : (r : Refusal) (read : Result Trace Refusal) → AnswerGives (λ (t : Trace). t) (Err r) read
     → GivesAccount (Err r) (read >>= or_too_long)
-account-unread r read gives = account-refused r (read >>= or_too_long) (AnswerGives-then r read or_too_long gives)
+GivesAccount-unread r read gives = GivesAccount-refused r (read >>= or_too_long)
+    (AnswerGives-then r read or_too_long gives)
 
-pub account-unsettled : (skew : ℕ) (r : Refusal) (read : Result Trace Refusal)
+-- a refusal that is given instead of a recording may be given instead of an account of it deskewed
+pub GivesAccount-unsettled : (skew : ℕ) (r : Refusal) (read : Result Trace Refusal)
     → AnswerGives (λ (t : Trace). t) (Err r) read → GivesAccount (Err r) (settled_or skew (read >>= or_too_long))
-account-unsettled skew r read gives =
-    account-refused r (settled_or skew (read >>= or_too_long))
+GivesAccount-unsettled skew r read gives =
+    GivesAccount-refused r (settled_or skew (read >>= or_too_long))
     (settled_or-refused skew (read >>= or_too_long) r (AnswerGives-then r read or_too_long gives))
 
 -- the account of the deskewed recording `made` is the one that `explain` gives, if the recording `t` isn't too long
-pub account-settled : (skew : ℕ) (t made : Trace) (a : Result Account Refusal)
+pub GivesAccount-settled : (skew : ℕ) (t made : Trace) (a : Result Account Refusal)
     → nat_lt capture_limit (length t.steps) ≡ false → made ≡ settled skew t → GivesAccount a (or_too_long made)
     → GivesAccount a (settled_or skew (or_too_long t))
-account-settled skew t made a within is gives =
+GivesAccount-settled skew t made a within is gives =
     let fits = settled_or-within skew t made within is in
     let short = length-settled_within skew t made within is in
-    subst (GivesAccount a) (fits-captured made short ∙ sym fits) gives
+    subst (GivesAccount a) (or_too_long-fits made short ∙ sym fits) gives
 
 -- an explanation by an account has the verdict on the captured recording
-pub explained-by : (told : Result Explained Refusal) (a : Account) (captured : Result Trace Refusal)
+pub AnswerGives-by_account : (told : Result Explained Refusal) (a : Account) (captured : Result Trace Refusal)
     → GivesAccount (Ok a) captured
     → ((t : Trace) → IsAccountOf a t → AnswerGives (λ (e : Explained). e.verdict) told (Ok (verdict t)))
     → AnswerGives (λ (e : Explained). e.verdict) told (captured >>= verdict_in_blocks 16384)
-explained-by told a captured given tells =
+AnswerGives-by_account told a captured given tells =
     let (t, is, short, of) = given in
     subst (AnswerGives (λ (e : Explained). e.verdict) told)
-    (sym (ap (λ (r : Result Trace Refusal). r >>= verdict_in_blocks 16384) is ∙ fits-blocks t short)) (tells t of)
+    (sym (ap (λ (r : Result Trace Refusal). r >>= verdict_in_blocks 16384) is ∙ verdict_in_blocks-fits t short))
+    (tells t of)

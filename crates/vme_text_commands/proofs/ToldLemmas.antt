@@ -1,4 +1,4 @@
--- What a command writes about a dump that is refused, and facts about a binding that is written for a dump.
+-- Why there is no text, or no binding, for a dump that is refused, and when a text binds a dump.
 use Rattle.std.proofs.Common.{◌≡◌, ℕ, List, sym, ap, true, ◌∙◌}
 use Rattle.std.specs.Prelude.{Option, Some, None, IfSome, Result, Ok, Err}
 use Rattle.vcd_read.specs.Contents.{Contents}
@@ -21,69 +21,82 @@ use Rattle.vme_declarations.specs.Surveys.{IsSurveyOf, Survey}
 use Rattle.vme_find.specs.Recordings.{HasSlots, MakesRecording, MakesRecordings}
 use denote.Ref.{Bor}
 
-pub text_refused : (read : Result Contents Refusal) (r : Refusal) → AnswerGives (λ (d : Contents). d) (Err r) read
+-- a refusal that is given instead of the contents of a dump may be given instead of a text about it
+pub IsTextOf-refused : (read : Result Contents Refusal) (r : Refusal) → AnswerGives (λ (d : Contents). d) (Err r) read
     → IsTextOf read (Err r)
-text_refused read Memory gives = gives
-text_refused read r gives = gives
+IsTextOf-refused read Memory gives = gives
+IsTextOf-refused read r gives = gives
 
-pub binding_refused : (read : Result Contents Refusal) (slots : Option ℕ) (scope : Option (Bor (List ℕ))) (r : Refusal)
+-- a refusal that is given instead of the contents of a dump may be given instead of a binding for it
+pub IsBindingFor-refused : (read : Result Contents Refusal) (slots : Option ℕ) (scope : Option (Bor (List ℕ)))
+    (r : Refusal)
     → AnswerGives (λ (d : Contents). d) (Err r) read → IsBindingFor read slots scope (Err (Refused r))
-binding_refused read slots scope Memory gives = gives
-binding_refused read slots scope r gives = gives
+IsBindingFor-refused read slots scope Memory gives = gives
+IsBindingFor-refused read slots scope r gives = gives
 
 -- ---- a binding that is written
 
-same_bound : (b c : BoundLines) (r : Result BoundLines BindFault) → r ≡ Ok b → r ≡ Ok c → b ≡ c
-same_bound b c r is too = let same : Ok b ≡ Ok c = sym is ∙ too in cc
+-- a text is one binding only
+bound_lines-same : (b c : BoundLines) (r : Result BoundLines BindFault) → r ≡ Ok b → r ≡ Ok c → b ≡ c
+bound_lines-same b c r is too = let same : Ok b ≡ Ok c = sym is ∙ too in cc
 
-slots_told : (text : List ℕ) (b : BoundLines) (slots : Option ℕ) → binding_of text ≡ Ok b
+-- the binding of a text that has the slots that are given, if they are, has these slots
+slots-HasSlots : (text : List ℕ) (b : BoundLines) (slots : Option ℕ) → binding_of text ≡ Ok b
     → IfSome slots (λ n. HasSlots n text) → IfSome slots (λ n. b.slots ≡ n)
-slots_told text b None is has = tt
-slots_told text b (Some n) is (c, is_too, slots) = ap (λ (x : BoundLines). x.slots)
-    (same_bound b c (binding_of text) is is_too) ∙ slots
+slots-HasSlots text b None is has = tt
+slots-HasSlots text b (Some n) is (c, is_too, slots) = ap (λ (x : BoundLines). x.slots)
+    (bound_lines-same b c (binding_of text) is is_too) ∙ slots
 
-scope_told : (dump : List ℕ) (scope : Option (Bor (List ℕ))) → IfSome scope (λ path. HasScope path.now dump)
+-- a dump that has the scope that is given, if one is, is read and has it
+ScopeIs-HasScope : (dump : List ℕ) (scope : Option (Bor (List ℕ))) → IfSome scope (λ path. HasScope path.now dump)
     → IfSome scope (λ path. ScopeIs true (or_bad_dump (dump_of dump)) path.now)
-scope_told dump None has = tt
-scope_told dump (Some path) (contents, is, has) = (contents, ap or_bad_dump is, has)
+ScopeIs-HasScope dump None has = tt
+ScopeIs-HasScope dump (Some path) (contents, is, has) = (contents, ap or_bad_dump is, has)
 
-pub binds_dump : (dump text : List ℕ) (slots : Option ℕ) (scope : Option (Bor (List ℕ))) → MakesRecording text dump
+-- a text that makes a recording of the dump, and has the slots and the scope that are given, binds the dump
+pub BindsDump-recording : (dump text : List ℕ) (slots : Option ℕ) (scope : Option (Bor (List ℕ)))
+    → MakesRecording text dump
     → IfSome slots (λ n. HasSlots n text) → IfSome scope (λ path. HasScope path.now dump)
     → BindsDump (or_bad_dump (dump_of dump)) slots scope text
-binds_dump dump text slots scope made slots_are scope_is = record {
+BindsDump-recording dump text slots scope made slots_are scope_is = record {
   bound = made.bound;
   recording = made.recording;
   is_binding = made.is_binding;
   records = capture_by-recorded made.bound (or_bad_dump (dump_of dump)) (Ok made.recording)
       (recorded_by-captured made.bound dump made.recording made.records);
-  slots_are = slots_told text made.bound slots made.is_binding slots_are;
-  scope_is = scope_told dump scope scope_is;
+  slots_are = slots-HasSlots text made.bound slots made.is_binding slots_are;
+  scope_is = ScopeIs-HasScope dump scope scope_is;
 }
 
 -- ---- facts about a survey
 
-scope_surveyed : (dump : List ℕ) (scope : Option (Bor (List ℕ))) (survey : Survey) → IsSurveyOf survey dump
+-- if a survey of the dump has the scope that is given, if one is, the dump has it
+HasScope-surveyed : (dump : List ℕ) (scope : Option (Bor (List ℕ))) (survey : Survey) → IsSurveyOf survey dump
     → IfSome scope (λ path. has_scope path.now survey.variables ≡ true) → IfSome scope (λ path. HasScope path.now dump)
-scope_surveyed dump None survey surveyed has = tt
-scope_surveyed dump (Some path) survey (contents, is, declared, count) has = (
+HasScope-surveyed dump None survey surveyed has = tt
+HasScope-surveyed dump (Some path) survey (contents, is, declared, count) has = (
   contents,
   is,
   ap (λ (vs : List Variable). has_scope path.now vs) declared ∙ has,
 )
 
-pub binds_surveyed : (dump text : List ℕ) (slots : Option ℕ) (scope : Option (Bor (List ℕ))) (survey : Survey)
+-- a text that makes a recording of each dump with the dump's survey, and has the slots and the scope that are given,
+-- binds the dump
+pub BindsDump-surveyed : (dump text : List ℕ) (slots : Option ℕ) (scope : Option (Bor (List ℕ))) (survey : Survey)
     → IsSurveyOf survey dump → MakesRecordings text survey → IfSome slots (λ n. HasSlots n text)
     → IfSome scope (λ path. has_scope path.now survey.variables ≡ true)
     → BindsDump (or_bad_dump (dump_of dump)) slots scope text
-binds_surveyed dump text slots scope survey surveyed made slots_are scope_is =
-    binds_dump dump text slots scope (made dump surveyed) slots_are
-    (scope_surveyed dump scope survey surveyed scope_is)
+BindsDump-surveyed dump text slots scope survey surveyed made slots_are scope_is =
+    BindsDump-recording dump text slots scope (made dump surveyed) slots_are
+    (HasScope-surveyed dump scope survey surveyed scope_is)
 
-pub fault_refused : (dump : List ℕ) (slots : Option ℕ) (scope : Option (Bor (List ℕ))) (fault : VcdFault)
+-- a fault of the dump is why there is no binding for it
+pub IsBindingFor-fault : (dump : List ℕ) (slots : Option ℕ) (scope : Option (Bor (List ℕ))) (fault : VcdFault)
     → ReadFails fault (dump_of dump)
     → IsBindingFor (or_bad_dump (dump_of dump)) slots scope (Err (Refused (dump_refusal fault)))
-fault_refused dump slots scope fault fails = by_kind fault.line fault.kind fails
+IsBindingFor-fault dump slots scope fault fails = by_kind fault.line fault.kind fails
   where
+    -- by the kind of the fault
     by_kind : (line : ℕ) (kind : FaultKind) → ReadFailsAs line kind (dump_of dump)
         → IsBindingFor (or_bad_dump (dump_of dump)) slots scope
         (Err (Refused (dump_refusal (record { line = line; kind = kind }))))

@@ -3,7 +3,7 @@ use Rattle.std.specs.Prelude.{◌==◌}
 use Rattle.std.proofs.lemmas.Bool.{eqb-false, eqb-true}
 use Rattle.std.proofs.lemmas.List.{append-nil}
 use Rattle.vme_audit_lines.specs.AuditLines.{names_text, unasked}
-use Rattle.vme_audit_lines.proofs.Lines.{no-line, on_ok, some-line}
+use Rattle.vme_audit_lines.proofs.Lines.{unasked_line-none, on_ok, unasked_line-some}
 use Rattle.vme_audit_lines.proofs.counts.push_unasked.Goals as goal
 
 pub returns-then-is_empty : goal.returns-then-is_empty
@@ -13,7 +13,7 @@ returns-then-is_empty c =
     ∙ ap (λ (text : List ℕ). text ++ names_text rules) c.new-names.ensures in
     let none : length (names_text rules) ≡ 0 = eqb-true (length (names_text rules)) 0
     (sym (c.if-is_empty.ensures ∙ ap (λ (text : List ℕ). length text == 0) (c.as_bytes.ensures ∙ named))) in
-    sym (ap (λ (line : List ℕ). c.args.text.now ++ line) (no-line c.args.head.now rules none)
+    sym (ap (λ (line : List ℕ). c.args.text.now ++ line) (unasked_line-none c.args.head.now rules none)
     ∙ append-nil c.args.text.now)
 
 pub returns : goal.returns
@@ -21,7 +21,7 @@ returns c =
     let rules = unasked c.args.events.now in
     let named : c.push_names.new.text ≡ names_text rules = c.in_ok-push_names.ensures
     ∙ ap (λ (text : List ℕ). text ++ names_text rules) c.new-names.ensures in
-    let line = some-line c.args.head.now rules (eqb-false (length (names_text rules)) 0
+    let line = unasked_line-some c.args.head.now rules (eqb-false (length (names_text rules)) 0
     (sym (c.if-is_empty.ensures ∙ ap (λ (text : List ℕ). length text == 0) (c.as_bytes.ensures ∙ named)))) in
     on_ok c.push-4.result _ _ c.push-4.ensures.ok (λ last.
     rw (

@@ -2,7 +2,7 @@ use Rattle.std.proofs.Common.{◌≡◌, ◌-◌, ◌<◌, true, false, get_or, 
 use Rattle.std.proofs.lemmas.Bool.Decides.{nat_tests}
 use Rattle.std.proofs.lemmas.List.{get_or-reverse, length-reverse}
 use Rattle.std.specs.Char.{eq_ignore_ascii_case}
-use Rattle.vme_faults.proofs.NearnessLemmas.{front-ends, front-other, front-same}
+use Rattle.vme_faults.proofs.NearnessLemmas.{common_prefix-ends, common_prefix-other, common_prefix-same}
 use Rattle.vme_faults.proofs.nearness.common_suffix.Goals as goal
 
 pub returns-then-not-eq_ignore_ascii_case : goal.returns-then-not-eq_ignore_ascii_case
@@ -17,7 +17,7 @@ returns-then-not-eq_ignore_ascii_case c =
     let differ
     : eq_ignore_ascii_case (get_or one (length one - 1 - at) 0) (get_or other (length other - 1 - at) 0) ≡ false =
     first_of (cc c.if-not-eq_ignore_ascii_case.ensures, search (rules, c.if-not-eq_ignore_ascii_case.ensures)) in
-    let e = front-other (reverse one) (reverse other) at i j
+    let e = common_prefix-other (reverse one) (reverse other) at i j
     (rw (get_or-reverse one at 0 h, get_or-reverse other at 0 k) differ) in
     omega arith
 
@@ -33,7 +33,7 @@ loop-at-preserved c =
     let agree
     : eq_ignore_ascii_case (get_or one (length one - 1 - at) 0) (get_or other (length other - 1 - at) 0) ≡ true =
     first_of (cc c.if-not-eq_ignore_ascii_case.ensures, search (rules, c.if-not-eq_ignore_ascii_case.ensures)) in
-    let e = front-same (reverse one) (reverse other) at i j
+    let e = common_prefix-same (reverse one) (reverse other) at i j
     (rw (get_or-reverse one at 0 h, get_or-reverse other at 0 k) agree) in
     omega arith
 
@@ -44,6 +44,6 @@ returns c =
     let p = length-reverse one in
     let q = length-reverse other in
     let e =
-    front-ends (reverse one) (reverse other) c.loop-at.at
+    common_prefix-ends (reverse one) (reverse other) c.loop-at.at
     (λ h. first_of (grind (arith, nat_tests), search rules)) in
     omega arith

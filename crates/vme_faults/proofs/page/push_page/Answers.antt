@@ -1,10 +1,10 @@
 use Rattle.std.proofs.Common.{◌≡◌, ◌++◌, ◌∙◌, OnOk, ℕ, List, subst}
-use Rattle.vme_faults.proofs.PageLemmas.{rows-are}
+use Rattle.vme_faults.proofs.PageLemmas.{page_text-rows}
 use Rattle.vme_faults.proofs.page.push_page.Goals as goal
 
 pub returns : goal.returns
 returns c =
-    let page = rows-are c.args.kind c.as_bytes.result.now c.as_bytes-2.result.now c.as_bytes-3.result.now
+    let page = page_text-rows c.args.kind c.as_bytes.result.now c.as_bytes-2.result.now c.as_bytes-3.result.now
     c.as_bytes-4.result.now c.as_bytes-5.result.now (c.as_bytes.ensures.value ∙ c.name.ensures)
     (c.as_bytes-2.ensures.value ∙ c.of-page.ensures.means) (c.as_bytes-3.ensures.value ∙ c.of-page.ensures.expected)
     (c.as_bytes-4.ensures.value ∙ c.of-page.ensures.causes) (c.as_bytes-5.ensures.value ∙ c.of-page.ensures.remedy) in

@@ -1,7 +1,7 @@
 use Rattle.std.proofs.Common.{rules, ◌≡◌, ◌≤◌, Some, All, map, length, subst, sym}
 use Rattle.std.proofs.lemmas.List.{length-map, take_all}
 use Rattle.vme_program.specs.Audits.{IsFileOf, IsOther}
-use Rattle.vme_program.proofs.AuditLemmas.{all-on, contains-mapped}
+use Rattle.vme_program.proofs.AuditLemmas.{All-take_map_next, Contains-map_item}
 use Rattle.vme_program.proofs.audit.is_a_dump.Goals as goal
 
 pub returns-then-eq-clause-yes : goal.returns-then-eq-clause-yes
@@ -9,7 +9,7 @@ returns-then-eq-clause-yes g c =
     let same : c.id_of_dump.result ≡ Some c.args.id = search rules in
     λ _. (
       record { name = c.named-item.result.name.now; dump = g.S.Reader.Source.reading c.named-item.result.dump },
-      contains-mapped (λ d. record { name = d.name.now; dump = g.S.Reader.Source.reading d.dump }) c.args.dumps.now
+      Contains-map_item (λ d. record { name = d.name.now; dump = g.S.Reader.Source.reading d.dump }) c.args.dumps.now
           c.loop-named.named-index c.named-item.result (search rules) c.named-item.is,
       subst (IsFileOf g.S.Environment c.args.environment.now
           (record { name = c.named-item.result.name.now; dump = g.S.Reader.Source.reading c.named-item.result.dump }))
@@ -19,7 +19,7 @@ returns-then-eq-clause-yes g c =
 pub loop-named-preserved : goal.loop-named-preserved
 loop-named-preserved g c =
     let other : c.id_of_dump.result ≡ Some c.args.id → ⊥ = search rules in
-    all-on (λ d. record { name = d.name.now; dump = g.S.Reader.Source.reading d.dump }) c.args.dumps.now
+    All-take_map_next (λ d. record { name = d.name.now; dump = g.S.Reader.Source.reading d.dump }) c.args.dumps.now
     c.loop-named.named-index c.named-item.result (search rules) c.named-item.is
     (IsOther g.S.Environment c.args.environment.now c.args.id) c.loop-named.invariant
     (c.id_of_dump.result, c.id_of_dump.ensures, other)

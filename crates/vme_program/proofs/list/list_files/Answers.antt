@@ -1,5 +1,5 @@
 use Rattle.std.proofs.Common.{inl, inr}
-use Rattle.vme_program.proofs.Refusals.{tells_refused}
+use Rattle.vme_program.proofs.Refusals.{WritesAnswer-cannot_open}
 use Rattle.vme_program.proofs.list.list_files.Goals as goal
 
 pub returns-in-Ok : goal.returns-in-Ok
@@ -16,7 +16,7 @@ pub returns-in-Err : goal.returns-in-Err
 returns-in-Err g c = inl (
   c.in-Err.input,
   c.in-Err.ensures.unopened,
-  tells_refused c.in-Err.input (g.O.Sink.writing c.args.out.now)
+  WritesAnswer-cannot_open c.in-Err.input (g.O.Sink.writing c.args.out.now)
       (g.E.Sink.writing c.args.err.now, g.E.Sink.writing c.refuse_input.new.err)
       c.refuse_input.result c.refuse_input.ensures.told c.refuse_input.ensures.status,
 )

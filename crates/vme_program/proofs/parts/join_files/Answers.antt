@@ -1,13 +1,13 @@
 use Rattle.std.proofs.Common.{◌∙◌, ap, map, string_bytes, subst}
 use Rattle.vme_part_command.specs.PartAnswers.{WritesJoin}
 use Rattle.vme_program.specs.Parts.{AreOpened}
-use Rattle.vme_program.proofs.PartLemmas.{does_with}
+use Rattle.vme_program.proofs.PartLemmas.{WithParts-opened}
 use Rattle.vme_program.proofs.parts.join_files.Goals as goal
 
 pub returns-in-Ok : goal.returns-in-Ok
 returns-in-Ok g c =
     let opens = g.S.Environment.opens c.args.environment.now in
-    does_with opens WritesJoin
+    WithParts-opened opens WritesJoin
     (g.O.Sink.writing c.args.out.now, g.O.Sink.writing c.write_joined.new.out)
     (g.E.Sink.writing c.args.err.now, g.E.Sink.writing c.write_joined.new.err)
     c.write_joined.result

@@ -1,12 +1,12 @@
 use Rattle.std.proofs.Common.{◌∙◌, ap, map, string_bytes, subst}
 use Rattle.vme_program.specs.Parts.{AreOpened, TellsParts}
-use Rattle.vme_program.proofs.PartLemmas.{does_with}
+use Rattle.vme_program.proofs.PartLemmas.{WithParts-opened}
 use Rattle.vme_program.proofs.parts.tell_files.Goals as goal
 
 pub returns-in-Ok : goal.returns-in-Ok
 returns-in-Ok g c =
     let opens = g.S.Environment.opens c.args.environment.now in
-    does_with opens (TellsParts c.args.order.now.listing c.args.order.now.file_count)
+    WithParts-opened opens (TellsParts c.args.order.now.listing c.args.order.now.file_count)
     (g.O.Sink.writing c.args.out.now, g.O.Sink.writing c.tell_opened.new.out)
     (g.E.Sink.writing c.args.err.now, g.E.Sink.writing c.tell_opened.new.err)
     c.tell_opened.result

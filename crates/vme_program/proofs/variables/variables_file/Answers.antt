@@ -1,6 +1,6 @@
 use Rattle.std.proofs.Common.{inl, inr}
 use Rattle.vme_stream.specs.declared.refusal.Input.TheVariants.{Dump}
-use Rattle.vme_program.proofs.Refusals.{tells_refused}
+use Rattle.vme_program.proofs.Refusals.{WritesAnswer-cannot_open}
 use Rattle.vme_program.proofs.variables.variables_file.Goals as goal
 
 pub returns-in-Some : goal.returns-in-Some
@@ -14,7 +14,7 @@ returns-in-Some g c =
 pub returns-in-None : goal.returns-in-None
 returns-in-None g c = inl (
   rw c.as_str.ensures.value at c.in-None.ensures,
-  tells_refused Dump (g.O.Sink.writing c.args.out.now)
+  WritesAnswer-cannot_open Dump (g.O.Sink.writing c.args.out.now)
       (g.E.Sink.writing c.args.err.now, g.E.Sink.writing c.refuse_input.new.err)
       c.refuse_input.result c.refuse_input.ensures.told c.refuse_input.ensures.status,
 )

@@ -2,7 +2,7 @@ use Rattle.std.proofs.Common.{◌∙◌, sym}
 use Rattle.std.specs.Prelude.{Some}
 use Rattle.vme_stream.specs.Answers.{dump_read}
 use Rattle.vme_stream.proofs.AnswerLemmas.{dump_read-whole, dump_read-fault}
-use Rattle.vme_text_commands.proofs.ToldLemmas.{binding_refused}
+use Rattle.vme_text_commands.proofs.ToldLemmas.{IsBindingFor-refused}
 use Rattle.vme_text_commands.proofs.bind.binding_for.Goals as goal
 
 pub returns-in-Ok : goal.returns-in-Ok
@@ -16,4 +16,4 @@ returns-in-Err g c =
     let (bytes, reading, refused) = dump_read-fault _ _ c.read_by.result c.in-Err.fault c.in-Err.is
     c.read_by.ensures.read
     c.read_by.ensures.too_long c.read_by.ensures.memory in
-    rw c.of_input.ensures (bytes, reading, binding_refused (dump_read bytes) c.args.slots c.args.scope _ refused)
+    rw c.of_input.ensures (bytes, reading, IsBindingFor-refused (dump_read bytes) c.args.slots c.args.scope _ refused)

@@ -3,7 +3,7 @@ use Rattle.std.specs.Prelude.{Result}
 use Rattle.vcd_read.specs.Meaning.{ReadFails}
 use Rattle.vcd_read.specs.declared.fault.VcdFault.{VcdFault}
 use Rattle.vme_declarations.specs.Surveys.{Survey}
-use Rattle.vme_text_commands.proofs.ToldLemmas.{fault_refused}
+use Rattle.vme_text_commands.proofs.ToldLemmas.{IsBindingFor-fault}
 use Rattle.vme_text_commands.proofs.bind.binding_of_input.Goals as goal
 
 pub returns-in-Ok : goal.returns-in-Ok
@@ -14,5 +14,5 @@ pub returns-in-Err : goal.returns-in-Err
 returns-in-Err c bytes is =
     let fails = subst (λ (r : Result Survey VcdFault). ReadFails c.in-Err.fault r) (sym is) c.in-Err.ensures in
     rw c.refused.ensures
-    (fault_refused bytes c.args.slots c.args.scope c.in-Err.fault
+    (IsBindingFor-fault bytes c.args.slots c.args.scope c.in-Err.fault
     (c.surveys_are_of_dumps.ensures.fails bytes c.in-Err.fault fails))

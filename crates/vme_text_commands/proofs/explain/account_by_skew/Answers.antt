@@ -8,7 +8,7 @@ use Rattle.vme_skew.specs.Settled.{settled_or}
 use Rattle.vme_trace.specs.Trace.{Trace}
 use Rattle.vme_trace.specs.WellFormed.{malformed_step}
 use Rattle.vme_text_commands.specs.ExplainedDumps.{GivesAccount, or_too_long}
-use Rattle.vme_text_commands.proofs.ExplainLemmas.{account-unsettled}
+use Rattle.vme_text_commands.proofs.ExplainLemmas.{GivesAccount-unsettled}
 use Rattle.vme_text_commands.proofs.explain.account_by_skew.Goals as goal
 
 pub returns : goal.returns
@@ -25,5 +25,5 @@ pub returns-in_err-settling : goal.returns-in_err-settling
 returns-in_err-settling g c =
     let p = err_from_is_err_and c.from_residual.result c.from_residual.ensures.1 in
     rw (p.1, p.2)
-    (λ read gives formed. account-unsettled g.K.GhostSkew.skew c.in_err-settling.field-0.0 read
+    (λ read gives formed. GivesAccount-unsettled g.K.GhostSkew.skew c.in_err-settling.field-0.0 read
     (subst (λ (r : Result Trace Refusal). AnswerGives (λ (t : Trace). t) r read) c.in_err-settling.was gives))

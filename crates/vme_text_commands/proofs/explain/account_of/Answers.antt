@@ -7,7 +7,7 @@ use Rattle.vme_stream.specs.declared.refusal.Refusal.{Refusal}
 use Rattle.vme_trace.specs.Trace.{Trace}
 use Rattle.vme_trace.specs.WellFormed.{malformed_step}
 use Rattle.vme_text_commands.specs.ExplainedDumps.{GivesAccount, or_too_long}
-use Rattle.vme_text_commands.proofs.ExplainLemmas.{account-unread}
+use Rattle.vme_text_commands.proofs.ExplainLemmas.{GivesAccount-unread}
 use Rattle.vme_text_commands.proofs.explain.account_of.Goals as goal
 
 pub returns : goal.returns
@@ -23,5 +23,5 @@ pub returns-in_err-visitor : goal.returns-in_err-visitor
 returns-in_err-visitor c =
     let p = err_from_is_err_and c.from_residual.result c.from_residual.ensures.1 in
     rw (p.1, p.2)
-    (λ read gives formed. account-unread c.in_err-visitor.field-0.0 read
+    (λ read gives formed. GivesAccount-unread c.in_err-visitor.field-0.0 read
     (subst (λ (r : Result Trace Refusal). AnswerGives (λ (t : Trace). t) r read) c.in_err-visitor.was gives))

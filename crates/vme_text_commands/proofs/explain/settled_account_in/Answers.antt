@@ -5,7 +5,7 @@ use Rattle.vme_stream.specs.Answers.{verdict_in_blocks}
 use Rattle.vme_stream.specs.declared.refusal.Refusal.{Refusal}
 use Rattle.vme_trace.specs.Trace.{Trace}
 use Rattle.vme_trace.specs.WellFormed.{capture_limit}
-use Rattle.vme_text_commands.proofs.ExplainLemmas.{account-settled}
+use Rattle.vme_text_commands.proofs.ExplainLemmas.{GivesAccount-settled}
 use Rattle.vme_commands.proofs.SettledLemmas.{settled_or-too_long}
 use Rattle.vme_text_commands.proofs.explain.settled_account_in.Goals as goal
 
@@ -21,5 +21,5 @@ pub returns-in-Ok : goal.returns-in-Ok
 returns-in-Ok g c =
     let t = c.args.settling in
     let within : nat_lt capture_limit (length t.steps) ≡ false = sym c.is_too_long.ensures ∙ c.if-is_too_long.false in
-    λ formed. account-settled g.K.GhostSkew.skew t c.in-Ok.visitor c.account_in.result within
+    λ formed. GivesAccount-settled g.K.GhostSkew.skew t c.in-Ok.visitor c.account_in.result within
     (c.in-Ok.ensures.settled formed) (c.account_in.ensures (c.in-Ok.ensures.formed formed))
