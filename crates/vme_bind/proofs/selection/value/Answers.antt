@@ -1,3 +1,4 @@
+-- The number of the digits up to the current one. Nine digits are below 2 ^ 32.
 use Rattle.std.proofs.Common.{◌≡◌, ◌+◌, ◌<◌, ◌≤◌, true, length, arith}
 use Rattle.std.specs.Str.{all_ascii_digits}
 use Rattle.std.proofs.lemmas.Str.Parse.{digits_value_short, numerals_by_value, tells_all_ascii_digits}
@@ -6,8 +7,9 @@ use Rattle.vcd_read.specs.Numbers.{number, is_number}
 use Rattle.vcd_read.proofs.NumberLemmas.{IsDigit-at, number-take_le, number-next_digit, all_ascii_digits-is_number}
 use Rattle.vme_bind.proofs.selection.value.Goals as goal
 
-number_short : (text : List ℕ) → is_number text ≡ true → length text ≤ 9 → number text < 1000000000
-number_short text digits short = digits_value_short (numerals_by_value (λ ds. all_ascii_digits ds ≡ true)
+-- a number of up to nine digits is below 1,000,000,000
+number-bound : (text : List ℕ) → is_number text ≡ true → length text ≤ 9 → number text < 1000000000
+number-bound text digits short = digits_value_short (numerals_by_value (λ ds. all_ascii_digits ds ≡ true)
     tells_all_ascii_digits) text 9 (all_ascii_digits-is_number text digits) short
 
 pub overflow_sub-digit : goal.overflow_sub-digit
@@ -23,7 +25,7 @@ overflow_mul-number c =
     let step = number-next_digit ds c.loop-byte.byte-index (all_ascii_digits-is_number ds c.requires.number)
     c.loop-byte-test.true in
     let front = number-take_le ds (c.loop-byte.byte-index + 1) in
-    let short = number_short ds c.requires.number c.requires.short in
+    let short = number-bound ds c.requires.number c.requires.short in
     omega (arith, step, front, short, c.loop-byte.invariant)
 
 pub overflow_add-number : goal.overflow_add-number
@@ -32,7 +34,7 @@ overflow_add-number c =
     let step = number-next_digit ds c.loop-byte.byte-index (all_ascii_digits-is_number ds c.requires.number)
     c.loop-byte-test.true in
     let front = number-take_le ds (c.loop-byte.byte-index + 1) in
-    let short = number_short ds c.requires.number c.requires.short in
+    let short = number-bound ds c.requires.number c.requires.short in
     omega (arith, step, front, short, c.loop-byte.invariant, c.from-digit.ensures)
 
 pub loop-byte-preserved : goal.loop-byte-preserved

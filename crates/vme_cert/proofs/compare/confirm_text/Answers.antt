@@ -6,9 +6,10 @@ use Rattle.vme_cert.specs.contracts.source.TextRowsRowSource.TheImpl.{ghosts}
 use Rattle.vme_cert.proofs.Comparing.{decides-all}
 use Rattle.vme_cert.proofs.compare.confirm_text.Goals as goal
 
-no_fault : (fault : Option ListFault) → fault ≡ None → IsSome fault → ⊥
-no_fault None none some = absurd (cc)
-no_fault (Some x) none some = absurd (cc)
+-- a fault that is none isn't some
+none-not_some : (fault : Option ListFault) → fault ≡ None → IsSome fault → ⊥
+none-not_some None none some = absurd (cc)
+none-not_some (Some x) none some = absurd (cc)
 
 pub returns-in-None-clause-answer : goal.returns-in-None-clause-answer
 returns-in-None-clause-answer c =
@@ -23,7 +24,7 @@ returns-in-None-clause-answer c =
       is.0,
       is.1,
       decides-all ghosts.is_over found.0 left.0 (rows_in version all) source answer found.2 (λ over. elim over [
-        | inl some ↦ absurd (no_fault source.fault (c.fault.ensures.kept c.in-None.is) some)
+        | inl some ↦ absurd (none-not_some source.fault (c.fault.ensures.kept c.in-None.is) some)
         | inr ends ↦ left.2 ends
       ]),
     )

@@ -41,8 +41,9 @@ loop-bit-preserved c =
       }
     ]
 
-at_end : (n m k : ℕ) → m ≡ k → n ≤ m → k ≤ n → n ≡ k
-at_end n m k e h g = omega arith
+-- a number that is at most m, and at least k, which is m, is k
+eq-between : (n m k : ℕ) → m ≡ k → n ≤ m → k ≤ n → n ≡ k
+eq-between n m k e h g = omega arith
 
 pub returns-then-not-has : goal.returns-then-not-has
 returns-then-not-has c =
@@ -51,7 +52,7 @@ returns-then-not-has c =
     (ap (is_within c.args.needs) (sym c.address-line.ensures)
     ∙ sym c.has.ensures ∙ c.if-not-has.true) in
     let e = ap (λ (needs : Needs). needs.highest) c.requires in
-    c.loop-bit.invariant.so_far ∙ ap (address_to c.args.lines.now) (at_end n _ _ e c.loop-bit.invariant.within
+    c.loop-bit.invariant.so_far ∙ ap (address_to c.args.lines.now) (eq-between n _ _ e c.loop-bit.invariant.within
     (omega (arith, past, e)))
 
 pub returns : goal.returns
@@ -59,5 +60,5 @@ returns c =
     let n = c.loop-bit.bit in
     let most = needs_of-highest_bound c.args.lines.now in
     let e = ap (λ (needs : Needs). needs.highest) c.requires in
-    c.loop-bit.invariant.so_far ∙ ap (address_to c.args.lines.now) (at_end n _ _ e c.loop-bit.invariant.within
+    c.loop-bit.invariant.so_far ∙ ap (address_to c.args.lines.now) (eq-between n _ _ e c.loop-bit.invariant.within
     (omega (arith, most, e)))

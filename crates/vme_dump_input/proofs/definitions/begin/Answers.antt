@@ -10,6 +10,7 @@ use Rattle.vme_dump_input.specs.declared.definitions.DumpAfterDefinitions.TheVar
 use Rattle.vme_dump_input.proofs.DefinitionLemmas.{IsAtDefinitions-begun}
 use Rattle.vme_dump_input.proofs.definitions.begin.Goals as goal
 
+-- the body that was found begins within the held bytes, or at their end
 within-held : (found : Option (StepReading × ℕ)) (one : StepReading × ℕ) (bytes held : List ℕ) → found ≡ Some one
     → bytes ≡ held → IfSome found (λ begun. begun.1 ≤ length bytes) → one.1 ≤ length held
 within-held found one bytes held is same within =

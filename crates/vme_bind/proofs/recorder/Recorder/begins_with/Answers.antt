@@ -1,3 +1,5 @@
+-- Once the current instant has ended, both levels are those after its values, so only these are compared. If it doesn't
+-- end, those shown are compared too.
 use Rattle.std.proofs.Common.{◌≡◌, ◌∙◌, ◌↔◌, ap, subst, sym}
 use Rattle.std.specs.Prelude.{IsTrue, Option, ℕ}
 use Rattle.std.proofs.lemmas.Bool.{false≢true}
@@ -7,8 +9,10 @@ use Rattle.vme_bind.specs.Recording.{RecorderLevels, all_of, end_of}
 use Rattle.vme_trace.proofs.LevelsEquality.{levels_eq-Decides}
 use Rattle.vme_bind.proofs.recorder.Recorder.begins_with.Goals as goal
 
-both : (shown now levels : Levels) → shown ≡ levels → now ≡ levels → record { shown = shown; now = now } ≡ all_of levels
-both shown now levels e f = ap (λ (v : Levels). record { shown = v; now = now }) e
+-- levels that are shown, and now, as `levels` are `all_of levels`
+all_of-same : (shown now levels : Levels) → shown ≡ levels → now ≡ levels → record { shown = shown; now = now }
+    ≡ all_of levels
+all_of-same shown now levels e f = ap (λ (v : Levels). record { shown = v; now = now }) e
     ∙ ap (λ (v : Levels). record { shown = levels; now = v }) f
 
 pub returns-in-Some : goal.returns-in-Some
@@ -31,7 +35,7 @@ returns-then-eq c =
     c.self.view_is
     (subst (λ (e : Option ℕ). IsTrue c.eq-then-eq.result ↔
     (entered end_of (record { shown = inside.shown; now = inside.now }) e ≡ all_of v)) (sym c.in-None.is) (
-      λ on. both inside.shown inside.now v (s.0 on) (d.0 c.if-eq.true),
+      λ on. all_of-same inside.shown inside.now v (s.0 on) (d.0 c.if-eq.true),
       λ e. s.1 (ap (λ (p : RecorderLevels). p.shown) e),
     ))
 

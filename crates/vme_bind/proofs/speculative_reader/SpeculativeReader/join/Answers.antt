@@ -1,3 +1,4 @@
+-- The reader after a piece that was read ahead is well formed, and joins the text so far and the piece.
 use Rattle.std.proofs.Common.{◌≡◌, ◌∙◌, Option, Some, None, ap, refl, rules, subst, sym, ℕ}
 use Rattle.vcd_read.specs.DetachedPieces.{ReadDetached, read_detached}
 use Rattle.vcd_read.specs.Reached.{Reached, reached}
@@ -9,16 +10,17 @@ use Rattle.vme_bind.specs.SpeculativeReading.{ReadSpeculatively, SpeculativeReac
 use Rattle.vme_bind.proofs.SpeculativeReadingLemmas.{ahead_of, IsJoined-by_fields, speculative_of}
 use Rattle.vme_bind.proofs.speculative_reader.SpeculativeReader.join.Goals as goal
 
-entered_now : (p : RecorderLevels) (e : Option ℕ) → (entered end_of p e).now ≡ p.now
-entered_now p None = refl
-entered_now p (Some time) = refl
+-- the end of an instant changes no level that is now
+now-entered : (p : RecorderLevels) (e : Option ℕ) → (entered end_of p e).now ≡ p.now
+now-entered p None = refl
+now-entered p (Some time) = refl
 
 pub invariant_of-speculative : goal.invariant_of-speculative
 invariant_of-speculative c =
     let inside = c.self.inside in
     let slots : inside.recorder.now.slots ≡ c.ahead.inside.recorder.now.slots =
     ap (λ (w : SpeculativeReached). w.body.progress.accumulator.now.slots) c.self.view_is
-    ∙ sym (ap (λ (v : Levels). v.slots) (entered_now c.args.self.body.progress.accumulator _))
+    ∙ sym (ap (λ (v : Levels). v.slots) (now-entered c.args.self.body.progress.accumulator _))
     ∙ ap (λ (q : RecorderLevels). q.now.slots) c.requires.levels
     ∙ sym (ap (λ (a : ReadSpeculatively). a.from.slots) c.ahead.view_is) ∙ sym c.ahead.invariant.0 in (
       c.self.invariant.0,

@@ -12,10 +12,10 @@ use Rattle.vme_cert.proofs.comparison.Comparison.compare_row.Goals.{in_default-w
 use Rattle.vme_cert.proofs.comparison.Comparison.compare_row.Goals as goal
 
 -- the given row differs from the expected one, if it isn't the open row with its last edge
-differs : (given expected : List Row) (taken : ℕ) (edge : Option ℕ) (row : OpenRow) (shown : Row)
+IsSame-not_given : (given expected : List Row) (taken : ℕ) (edge : Option ℕ) (row : OpenRow) (shown : Row)
     → IsDue given expected taken edge (Some row) → shown ≡ with_edge row.expected edge → (row.given ≡ Some shown → ⊥)
     → IsSame given expected row.place → ⊥
-differs given expected taken edge row shown (below, given_is, expected_is) is other same =
+IsSame-not_given given expected taken edge row shown (below, given_is, expected_is) is other same =
     other (given_is ∙ (same ∙ (expected_is ∙ ap (λ (r : Row). Some r) (sym is))))
 
 pub returns : goal.returns
@@ -27,7 +27,7 @@ returns g c = record {
       let row = c.in-Some.row in
       let taken = c.args.self.now.taken in
       let due = subst (IsDue given expected taken c.args.edge) c.in-Some.is due_any in
-      let other = differs given expected taken c.args.edge row c.with_edge.result due c.with_edge.ensures
+      let other = IsSame-not_given given expected taken c.args.edge row c.with_edge.result due c.with_edge.ensures
       (c.is_given.ensures.other c.if-is_given.false) in
       subst (λ (o : Option OpenRow). IsCompared given expected taken (without open_at o) c.match-self.self)
       (sym c.in-Some.is)

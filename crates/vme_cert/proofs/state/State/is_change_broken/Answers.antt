@@ -1,3 +1,5 @@
+-- No rule is broken on the line of a change before the current one. If none is on the line of any change, none is on a
+-- line that changes.
 use Rattle.std.proofs.Common.{◌≡◌, ◌==◌, ℕ, ◌+◌, ◌∙◌, ◌⊎◌, ◌&&◌, arith, false, true, ap, refl, List, []}
 use Rattle.std.proofs.Common.{◌∷◌, ◌++◌, inl, inr, not, subst, sym, take}
 use Rattle.std.specs.Prelude.{nat_le}
@@ -14,30 +16,31 @@ use Rattle.vme_cert.proofs.Ranges.{by_either_value}
 use Rattle.vme_cert.proofs.state.State.is_change_broken.Goals as goal
 
 -- one more change adds only its own line to those that are changed
-changed-last : (cs : List Change) (c : Change) (n : ℕ) → is_changed (cs ++ c ∷ []) n ≡ true
+is_changed-push : (cs : List Change) (c : Change) (n : ℕ) → is_changed (cs ++ c ∷ []) n ≡ true
     → (is_changed cs n ≡ true) ⊎ (c.line ≡ n)
-changed-last [] c n h = elim (or_cases (c.line == n) false h) [
+is_changed-push [] c n h = elim (or_cases (c.line == n) false h) [
   | inl here ↦ inr (eqb-true c.line n here)
   | inr none ↦ absurd (cc)
 ]
-changed-last (d ∷ cs) c n h = elim (or_cases (d.line == n) (is_changed (cs ++ c ∷ []) n) h) [
+is_changed-push (d ∷ cs) c n h = elim (or_cases (d.line == n) (is_changed (cs ++ c ∷ []) n) h) [
   | inl first ↦ inl (rw first refl)
-  | inr more ↦ elim (changed-last cs c n more) [
+  | inr more ↦ elim (is_changed-push cs c n more) [
     | inl before ↦ inl (rw before (or-true (d.line == n)))
     | inr here ↦ inr here
   ]
 ]
 
 -- the backplane has the lines that change
-has-lines : (v : Levels) (lowest : ℕ) (cs : List Change) → are_changes v lowest cs ≡ true
+has_line-changes : (v : Levels) (lowest : ℕ) (cs : List Change) → are_changes v lowest cs ≡ true
     → list_all (λ (c : Change). has_line v.slots c.line) cs ≡ true
 unfolding are_changes
-has-lines v lowest [] h = refl
-has-lines v lowest (d ∷ cs) h =
+has_line-changes v lowest [] h = refl
+has_line-changes v lowest (d ∷ cs) h =
     let both = and_parts (nat_le lowest d.line && has_line v.slots d.line && not
     (same_level (level_at v d.line) d.level)) (are_changes v (d.line + 1) cs) h in
     let two = and_parts (nat_le lowest d.line && has_line v.slots d.line) _ both.0 in
-    rw ((and_parts (nat_le lowest d.line) (has_line v.slots d.line) two.0).1, has-lines v (d.line + 1) cs both.1) refl
+    rw ((and_parts (nat_le lowest d.line) (has_line v.slots d.line) two.0).1, has_line-changes v (d.line + 1) cs both.1)
+    refl
 
 pub is_line_broken-requires : goal.is_line_broken-requires
 is_line_broken-requires c =
@@ -46,7 +49,7 @@ is_line_broken-requires c =
     let change = c.change-item.result in
     let has = λ (d : Change). has_line bus.before.slots d.line in
     rw (← bus.same_slots) (by_either_value (has change) (λ e. e)
-    (λ e. absurd (clash (list_all has changes) (has-lines bus.before 0 changes c.requires.sound)
+    (λ e. absurd (clash (list_all has changes) (has_line-changes bus.before 0 changes c.requires.sound)
     (list_all_at has changes c.loop-change.change-index change (omega arith) (ap has (sym c.change-item.is) ∙ e)))))
 
 pub loop-change-init : goal.loop-change-init
@@ -60,7 +63,8 @@ loop-change-preserved c t stretch r n h changed its_line =
     let change = c.change-item.result in
     let more = take_more changes i change (omega arith)
     ∙ ap (λ (d : Change). take i changes ++ d ∷ []) (sym c.change-item.is) in
-    elim (changed-last (take i changes) change n (subst (λ (cs : List Change). is_changed cs n ≡ true) more changed)) [
+    elim (is_changed-push (take i changes) change n
+    (subst (λ (cs : List Change). is_changed cs n ≡ true) more changed)) [
       | inl before ↦ c.loop-change.invariant t stretch r n h before its_line
       | inr here ↦ subst (λ l. is_broken t stretch r j l ≡ false) here (c.is_line_broken.ensures t stretch r h
           c.if-is_line_broken.false (subst (λ l. may_be_broken_on r l ≡ true) (sym here) its_line))

@@ -11,6 +11,8 @@ use Rattle.vme_skew.specs.Settling.{KeepsGroup, Settling}
 use Rattle.vme_skew.proofs.SettlerSteps.{settled-KeepsGroup, settling}
 use Rattle.vme_skew.proofs.step_settler.StepSettler.end.Goals as goal
 
+-- if the step that the last group makes was made, the steps that came out and this one are those of the settled
+-- recording
 made-at_end : {E : Type 0} (s : Settling) (is_begun : Bool) (group : GroupLevels) → KeepsGroup s is_begun group
     → (r : Result (Option Step) E)
     → IfOk r (λ (made : Option Step). step_in made ≡ step_between group.start group.before group.now)
