@@ -1,3 +1,5 @@
+-- The loop over the digits of the code's number: a code of what is left of the number, after the bytes so far, makes a
+-- code of the number.
 use Rattle.std.proofs.Common.{◌≡◌, ◌⊎◌, ℕ, ◌<◌, ◌++◌, List, length, true}
 use Rattle.vcd_read.specs.CodeNumbers.{code_number}
 use Rattle.vcd_read.specs.Header.{is_code}

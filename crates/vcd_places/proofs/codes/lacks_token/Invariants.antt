@@ -1,3 +1,4 @@
+-- The loop over tokens: none so far is the word.
 use Rattle.std.proofs.Common.{◌≡◌, ◌-◌, length, take, true, false}
 use Rattle.std.specs.List.{list_any}
 use Rattle.vcd_read.specs.Tokens.{tokens}

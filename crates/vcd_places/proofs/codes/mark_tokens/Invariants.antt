@@ -1,3 +1,4 @@
+-- The loop over tokens: the reader's text is the given one, and each round passes a token of it.
 use Rattle.std.proofs.Common.{◌≡◌, ◌-◌, length}
 use Rattle.vcd_places.proofs.codes.mark_tokens.Given as goal
 

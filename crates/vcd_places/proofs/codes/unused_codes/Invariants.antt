@@ -1,3 +1,5 @@
+-- The loop over numbers: the codes so far are unused, and their numbers ascend and are below the current one, which
+-- isn't 0.
 use Rattle.std.proofs.Common.{ℕ, ◌-◌, ◌<◌, length, map}
 use Rattle.std.specs.Prelude.{All}
 use Rattle.std.specs.List.Sorted.{IsStrictlyIncreasing}

@@ -1,3 +1,4 @@
+-- The loop over bytes: those so far are digits, so all bytes are just if those that are left are.
 use Rattle.std.proofs.Common.{◌≡◌, drop}
 use Rattle.std.specs.Str.{all_ascii_digits}
 use Rattle.vcd_places.proofs.number.is_number.Given as goal

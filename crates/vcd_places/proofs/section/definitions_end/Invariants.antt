@@ -1,3 +1,4 @@
+-- The loop over sections: the reader is at a token boundary, and the text before it ends between two sections.
 use Rattle.std.proofs.Common.{◌≡◌, ◌-◌, length, take, true}
 use Rattle.vcd_places.specs.Places.{is_between_sections}
 use Rattle.vcd_places.specs.NextTokens.{is_token_boundary}

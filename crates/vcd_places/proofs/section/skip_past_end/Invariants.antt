@@ -1,3 +1,4 @@
+-- The loop over tokens: those so far were taken, and none of them ends the section.
 use Rattle.std.proofs.Common.{◌≡◌, ◌-◌, length}
 use Rattle.vcd_places.proofs.NextTokenLemmas.{IsTakenSoFar}
 use Rattle.vcd_places.proofs.section.skip_past_end.Given as goal

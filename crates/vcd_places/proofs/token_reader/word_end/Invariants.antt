@@ -1,3 +1,4 @@
+-- The loop over bytes of a word: none so far is a space.
 use Rattle.std.proofs.Common.{◌≡◌, ℕ, ◌<◌, ◌≤◌, ◌-◌, length, get_or, false}
 use Rattle.vcd_read.specs.Tokens.{is_space}
 use Rattle.vcd_places.proofs.token_reader.word_end.Given as goal

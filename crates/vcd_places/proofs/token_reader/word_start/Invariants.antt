@@ -1,3 +1,4 @@
+-- The loop over bytes: each so far is a space.
 use Rattle.std.proofs.Common.{◌≡◌, ℕ, ◌<◌, ◌≤◌, ◌-◌, length, get_or, true}
 use Rattle.vcd_read.specs.Tokens.{is_space}
 use Rattle.vcd_places.proofs.token_reader.word_start.Given as goal

@@ -1,3 +1,4 @@
+-- The loop over pages: the new ones so far have no net, so each place has the net that it had.
 use Rattle.std.proofs.Common.{◌≡◌, ℕ, ◌+◌, ◌-◌, vec_len}
 use Rattle.vcd_read.specs.CodeIndexes.{net_at_entry}
 use Rattle.vcd_read.proofs.code_index.make_page.Given as goal

@@ -1,3 +1,5 @@
+-- The loop over sections: reading on from here, with what was declared so far, gives the header that the text has from
+-- the start.
 use Rattle.std.proofs.Common.{◌≡◌, ◌-◌, length}
 use Rattle.vcd_read.specs.Reading.{left_at}
 use Rattle.vcd_read.specs.Header.{nothing_declared}

@@ -1,3 +1,4 @@
+-- The loop over words: none so far ends the section, so what follows it from here is what follows it from the start.
 use Rattle.std.proofs.Common.{◌≡◌, ◌≤◌, ◌-◌, length}
 use Rattle.vcd_read.specs.Reading.{line_at, left_at}
 use Rattle.vcd_read.specs.Sections.{after_section}

@@ -1,3 +1,5 @@
+-- The loop over words: none so far is empty or ends the section, which has these words and then those that it has from
+-- here.
 use Rattle.std.proofs.Common.{◌≡◌, ◌≤◌, ◌<◌, ◌-◌, length}
 use Rattle.std.specs.List.{All}
 use Rattle.vcd_read.specs.Reading.{line_at, left_at}

@@ -1,3 +1,4 @@
+-- The loop over changed nets: the values of those so far were moved, at most one for each, and no room was added.
 use Rattle.std.proofs.Common.{◌≡◌, ◌≤◌, vec_len, vec_capacity}
 use Rattle.vcd_read.proofs.ChangedNetLemmas.{IsMoved}
 use Rattle.vcd_read.proofs.instant_collector.move_values.Given as goal

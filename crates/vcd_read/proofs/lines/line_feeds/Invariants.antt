@@ -1,8 +1,8 @@
+-- The loop over pieces of 240 bytes: the line feeds so far, and those of the bytes that are left, are all of them.
 use Rattle.std.proofs.Common.{◌≡◌, ◌+◌, ◌==◌, ℕ, count_by}
 use Rattle.std.specs.Slice.Iter.{chunks_rest, chunks_size}
 use Rattle.vcd_read.proofs.lines.line_feeds.Given as goal
 
--- what was counted, and what is left to count, is all
 abbrev pub invariant-loop-few : goal.invariant-loop-few
 invariant-loop-few l = record {
   can_next : goal.iterator-loop-few.can_next l.few-iterator;

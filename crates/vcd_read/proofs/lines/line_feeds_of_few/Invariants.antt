@@ -1,3 +1,4 @@
+-- The loop over bytes: the count is the number of line feeds so far.
 use Rattle.std.proofs.Common.{◌≡◌, ◌==◌, ℕ, count_by, take}
 use Rattle.vcd_read.proofs.lines.line_feeds_of_few.Given as goal
 

@@ -1,3 +1,4 @@
+-- The loop over the first few bytes: each so far is above the space.
 use Rattle.std.proofs.Common.{ℕ, ◌<◌, ◌≤◌, ◌-◌, length, get_or}
 use Rattle.vcd_read.proofs.runs.above_space_end.Given as goal
 

@@ -1,3 +1,4 @@
+-- The loop over sixteen bytes at a time: each so far is above the space.
 use Rattle.std.proofs.Common.{ℕ, ◌<◌, ◌≤◌, ◌-◌, length, get_or}
 use Rattle.vcd_read.proofs.runs.above_space_end_by_lanes.Given as goal
 

@@ -1,3 +1,4 @@
+-- The loop over thirty-two bytes at a time: each so far is a digit of a vector.
 use Rattle.std.proofs.Common.{◌≡◌, ℕ, ◌<◌, ◌≤◌, ◌-◌, length, get_or, true}
 use Rattle.vcd_read.specs.Numbers.{is_bit}
 use Rattle.vcd_read.proofs.runs.bits_end.Given as goal

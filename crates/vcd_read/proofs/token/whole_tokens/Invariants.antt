@@ -1,3 +1,4 @@
+-- The loop over bytes from the end: the place is within the text, and each round makes it smaller.
 use Rattle.std.proofs.Common.{◌≤◌, length}
 use Rattle.vcd_read.proofs.token.whole_tokens.Given as goal
 

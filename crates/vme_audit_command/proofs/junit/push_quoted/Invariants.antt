@@ -1,3 +1,4 @@
+-- The loop over the bytes of the value: each round passes at least one.
 use Rattle.std.proofs.Common.{length, ◌-◌}
 use Rattle.vme_audit_command.proofs.junit.push_quoted.Given as goal
 

@@ -1,3 +1,4 @@
+-- The loop over bytes of the name: the text has those so far, as they are shown.
 use Rattle.std.proofs.Common.{◌≡◌, map, take}
 use Rattle.vme_audit_lines.specs.AuditLines.{shown}
 use Rattle.vme_audit_lines.proofs.dump_lines.dump_head.Given as goal

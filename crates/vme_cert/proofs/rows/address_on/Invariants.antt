@@ -1,3 +1,5 @@
+-- The loop over address lines: the address is that on the lines so far, none of which is above the highest one that is
+-- needed.
 use Rattle.std.proofs.Common.{◌≡◌, ◌≤◌}
 use Rattle.vme_cert.specs.Vocabulary.{address_to}
 use Rattle.vme_cert.proofs.rows.address_on.Given as goal

@@ -1,3 +1,4 @@
+-- The loop over numbers: none so far meets the predicate that the test decides.
 use Rattle.std.proofs.Common.{◌≡◌, ℕ, Bool, false}
 use Rattle.vme_cert.specs.Vocabulary.{any}
 use Rattle.vme_cert.specs.Tests.{Tests}

@@ -1,3 +1,5 @@
+-- The loop over bytes: what follows the spaces and remarks of the bytes that are left is what follows those of the
+-- text.
 use Rattle.std.specs.Prelude.{◌≡◌, false, length}
 use Rattle.vme_faults.specs.Files.{after_remarks}
 use Rattle.vme_faults.proofs.file_kind.after_remarks.Given as goal

@@ -1,3 +1,5 @@
+-- The loop over places: the bytes so far are common, and the common prefix is these and that of the bytes that are
+-- left.
 use Rattle.std.proofs.Common.{◌≡◌, ◌+◌, drop}
 use Rattle.vme_faults.specs.Nearness.{common_prefix}
 use Rattle.vme_faults.proofs.nearness.common_prefix.Given as goal

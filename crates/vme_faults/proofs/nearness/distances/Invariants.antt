@@ -1,3 +1,4 @@
+-- The loop over variables: the distances so far, and those of the variables that are left, are all distances.
 use Rattle.std.proofs.Common.{◌≡◌, ◌++◌, drop}
 use Rattle.vme_faults.specs.Nearness.{distances}
 use Rattle.vme_faults.proofs.nearness.distances.Given as goal

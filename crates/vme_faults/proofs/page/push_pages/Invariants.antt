@@ -1,3 +1,4 @@
+-- The loop over kinds: the pages of those so far were added to the text.
 use Rattle.std.specs.Prelude.{◌≡◌, ◌++◌, flat_map, take}
 use Rattle.vme_faults.specs.Pages.{page_text}
 use Rattle.vme_faults.proofs.page.push_pages.Given as goal

@@ -1,3 +1,4 @@
+-- The loop over bytes: the text has those so far, escaped except for line feeds.
 use Rattle.std.specs.Prelude.{◌≡◌, flat_map, take}
 use Rattle.vme_text.specs.Escaping.{hex_escaped_in_text}
 use Rattle.vme_text.proofs.escaping.escaped_lines.Given as goal

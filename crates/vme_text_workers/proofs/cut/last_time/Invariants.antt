@@ -1,3 +1,5 @@
+-- The loop over line feeds from the end: the part that is left to search is within the text, and each round makes it
+-- shorter.
 use Rattle.std.proofs.Common.{◌≤◌, length}
 use Rattle.vme_text_workers.proofs.cut.last_time.Given as goal
 

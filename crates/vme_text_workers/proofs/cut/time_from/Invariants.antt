@@ -1,3 +1,4 @@
+-- The loop over line feeds: each round passes at least one byte of the text.
 use Rattle.std.proofs.Common.{length, ◌-◌}
 use Rattle.vme_text_workers.proofs.cut.time_from.Given as goal
 

@@ -1,3 +1,5 @@
+-- The calls of `call_both` and `call_each` by one another: each has fewer places to fill than the call that made it, or
+-- as many and less to do.
 use Rattle.std.proofs.Common.{◌+◌, ◌*◌, length}
 use Rattle.vme_text_workers.proofs.detached.+apart.Given as goal
 

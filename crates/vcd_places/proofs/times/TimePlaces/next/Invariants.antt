@@ -1,3 +1,5 @@
+-- The loop over items: none so far is a time below 2^64, so the times that are left from here are those that were left
+-- at first. The reader is between two items.
 use Rattle.std.proofs.Common.{◌≡◌, ◌≤◌, ◌-◌, length}
 use Rattle.vcd_places.specs.Times.{IsBetweenItems, times_left}
 use Rattle.vcd_places.proofs.times.TimePlaces.next.Given as goal

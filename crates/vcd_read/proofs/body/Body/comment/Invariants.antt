@@ -1,3 +1,5 @@
+-- The loop over words of a comment: none so far ends it, and whatever follows, the body continues from here as from the
+-- start of the comment.
 use Rattle.std.proofs.Common.{◌≡◌, ◌≤◌, ◌-◌, ◌++◌, List, length}
 use Rattle.vcd_read.specs.Tokens.{Token}
 use Rattle.vcd_read.specs.Reading.{line_of, left_at}

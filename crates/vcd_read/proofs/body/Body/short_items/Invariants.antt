@@ -1,3 +1,5 @@
+-- The loop over short items: each was read whole, and whatever follows, reading on from here gives what reading from
+-- the start gives.
 use Rattle.std.proofs.Common.{◌≡◌, ◌≤◌, ◌-◌, List, length}
 use Rattle.vcd_read.specs.Tokens.{Token}
 use Rattle.vcd_read.specs.Body.{ready}

@@ -1,3 +1,4 @@
+-- The loop over spaces: the tokens that are left from here are those that are left from the start.
 use Rattle.std.proofs.Common.{◌≡◌, ◌≤◌, ◌-◌, length}
 use Rattle.vcd_read.specs.Reading.{left_at}
 use Rattle.vcd_read.proofs.token.Reader.finds_token.Given as goal
