@@ -144,16 +144,19 @@ module _ (t : Trace) where
   listing_before-rows_from outcome stretch (next ∷ stretches) order = by_break (least_break t stretch all_rules) refl
       (listing_before-rows_from Conforming next stretches order.3)
     where
-      later : Option Break
-      later = least_of all_rules t (next ∷ stretches)
+      -- the least break of the stretches after the first
+      later_break : Option Break
+      later_break = least_of all_rules t (next ∷ stretches)
 
-      by_break : (o : Option Break) → least_break t stretch all_rules ≡ o → listing_before t (next ∷ stretches) later
+      -- by whether the first stretch has a break
+      by_break : (o : Option Break) → least_break t stretch all_rules ≡ o
+          → listing_before t (next ∷ stretches) later_break
           ≡ rows_from t Conforming (next ∷ stretches)
-          → listing_before t (stretch ∷ next ∷ stretches) (option_or o later)
+          → listing_before t (stretch ∷ next ∷ stretches) (option_or o later_break)
           ≡ rows_by t stretch o (rows_from t Conforming (next ∷ stretches))
       by_break None e following =
-          let limit = listed_end t later in
-          let starts = starts_before_end t stretch order.0 in
+          let limit = listed_end t later_break in
+          let start_before_end = starts_before_end t stretch order.0 in
           let below : stretch.end < limit = omega (arith, listed_end-after_start next stretches order.3, order.2) in
           let within : stretch.end < last_instant t + 1 = omega (
             arith,
@@ -163,12 +166,12 @@ module _ (t : Trace) where
           let same : nat_lt stretch.end limit ≡ nat_lt stretch.end (last_instant t + 1) = lt-ltb stretch.end limit below
           ∙ sym (lt-ltb stretch.end (last_instant t + 1) within) in
           let rest = flat_map (rows_of_stretch t limit) (next ∷ stretches) in
-          ap (λ (rows : List Row). rows ++ rest ++ Verdict (outcome_of later) ∷ [])
-          (rows_of_stretch-whole stretch limit starts (omega (arith, below)) same)
+          ap (λ (rows : List Row). rows ++ rest ++ Verdict (outcome_of later_break) ∷ [])
+          (rows_of_stretch-whole stretch limit start_before_end (omega (arith, below)) same)
           ∙ (append_assoc (rows_to t stretch stretch.end ++ reset_at t stretch.end) rest
-          (Verdict (outcome_of later) ∷ [])
+          (Verdict (outcome_of later_break) ∷ [])
           ∙ (append_assoc (rows_to t stretch stretch.end) (reset_at t stretch.end)
-          (rest ++ Verdict (outcome_of later) ∷ [])
+          (rest ++ Verdict (outcome_of later_break) ∷ [])
           ∙ ap (λ (rows : List Row). rows_to t stretch stretch.end ++ (reset_at t stretch.end ++ rows)) following))
       by_break (Some b) e following =
           let there = least_break-within_stretch stretch b order.0 e in
@@ -183,6 +186,7 @@ module _ (t : Trace) where
   unfolding listing_by
   recorded_rows-rows_from = by_stretches (judged_stretches t) (AreInOrder-judged_stretches t)
     where
+      -- by whether there is a stretch
       by_stretches : (stretches : List Stretch) → AreInOrder t stretches
           → listing_of_stretches all_rules t stretches ≡ rows_from t NeverIdle
           stretches
@@ -194,11 +198,12 @@ module _ (t : Trace) where
 
 module _ (t : Trace) (stretch : Stretch) where
   -- a break that is found at instant `j` has that instant
-  pub break-instant : (rules : List Rule) (j : ℕ) (b : Break) → break_at t stretch rules j ≡ Some b → b.instant ≡ j
+  pub break_at-instant : (rules : List Rule) (j : ℕ) (b : Break) → break_at t stretch rules j ≡ Some b → b.instant ≡ j
   unfolding break_at rule_break
-  break-instant [] j b e = absurd (cc)
-  break-instant (r ∷ rs) j b e = by_line (least (breaks t stretch r j) 0 line_count) (break-instant rs j b) e
+  break_at-instant [] j b e = absurd (cc)
+  break_at-instant (r ∷ rs) j b e = by_line (least (breaks t stretch r j) 0 line_count) (break_at-instant rs j b) e
     where
+      -- by the first line on which the rule is broken, if there is one
       by_line : (o : Option ℕ) → (break_at t stretch rs j ≡ Some b → b.instant ≡ j) → option_or (option_map
           (λ l. record { instant = j; time = time_at t j; rule = r; line = l }) o) (break_at t stretch rs j) ≡ Some b
           → b.instant ≡ j
@@ -271,23 +276,27 @@ module _ (t : Trace) (stretch : Stretch) where
 module _ (t : Trace) (s j : ℕ) (is : IsStretchOf t (stretch_from t s)) (from : s ≤ j) (before : j < stretch_end t s)
     (within : suc j ≤ last_instant t) where
   -- no instant after the start up to `j` ends the stretch
-  ran : any (stops_at t) (s + 1) (j + 1) ≡ false
-  ran = fails-any (stops_at t) (s + 1) (j + 1) (λ i a b. or_from _ _
+  stops_at-none_so_far : any (stops_at t) (s + 1) (j + 1) ≡ false
+  stops_at-none_so_far = fails-any (stops_at t) (s + 1) (j + 1) (λ i a b. or_from _ _
       (stretch_unreset t (stretch_from t s) i is (omega arith) (omega arith))
       (stretch_unlost t (stretch_from t s) i is (omega arith) (omega arith)))
 
   -- if the next instant ends a stretch, it is the end of this one
-  pub ends-here : stops_at t (suc j) ≡ true → stretch_end t s ≡ suc j
-  ends-here stops = end-is t s j ran from (omega arith) stops
+  pub stretch_end-here : stops_at t (suc j) ≡ true → stretch_end t s ≡ suc j
+  stretch_end-here stops = end-is t s j stops_at-none_so_far from (omega arith) stops
 
   -- without a reset or a loss of control at the next instant, the stretch lasts past it
-  pub goes-on : is_reset_at t (suc j) ≡ false → loses_control_at t (suc j) ≡ false → suc j < stretch_end t s
-  goes-on unreset unlost = end-past t s (suc j) (fails-any (stops_at t) (s + 1) (suc j + 1) (λ i a b. still i a
+  pub stretch_end-past_next : is_reset_at t (suc j) ≡ false → loses_control_at t (suc j) ≡ false
+      → suc j < stretch_end t s
+  stretch_end-past_next unreset unlost =
+      end-past t s (suc j) (fails-any (stops_at t) (s + 1) (suc j + 1) (λ i a b. stops_at-none_up_to_next i a
       (eq-or_below i (suc j) b))) within
     where
-      still : (i : ℕ) → s + 1 ≤ i → (i ≡ suc j) ⊎ (i < suc j) → stops_at t i ≡ false
-      still i a (inl e) = rw (e, unreset, unlost) refl
-      still i a (inr earlier) = any-fails (stops_at t) (s + 1) (j + 1) i ran a (omega arith)
+      -- no instant after the start up to the next one ends the stretch
+      stops_at-none_up_to_next : (i : ℕ) → s + 1 ≤ i → (i ≡ suc j) ⊎ (i < suc j) → stops_at t i ≡ false
+      stops_at-none_up_to_next i a (inl e) = rw (e, unreset, unlost) refl
+      stops_at-none_up_to_next i a (inr earlier) =
+          any-fails (stops_at t) (s + 1) (j + 1) i stops_at-none_so_far a (omega arith)
 
 -- at an instant of a stretch, or at its end
 module _ (t : Trace) (s : ℕ) (is : IsStretchOf t (stretch_from t s)) where
@@ -296,52 +305,57 @@ module _ (t : Trace) (s : ℕ) (is : IsStretchOf t (stretch_from t s)) where
   own_stretch = stretch_from t s
 
   -- a reset in the stretch, or at its end, is its end
-  pub at-reset : (n : ℕ) → s < n → n ≤ own_stretch.end → n ≤ last_instant t → is_reset_at t n ≡ true → own_stretch.end
+  pub stretch_end-at_reset : (n : ℕ) → s < n → n ≤ own_stretch.end → n ≤ last_instant t → is_reset_at t n ≡ true
+      → own_stretch.end
       ≡ n
-  at-reset zero after upto within reset = absurd (omega arith)
-  at-reset (suc j) after upto within reset =
-      ends-here t s j is (omega arith) (omega arith) within (rw reset refl)
+  stretch_end-at_reset zero after upto within reset = absurd (omega arith)
+  stretch_end-at_reset (suc j) after upto within reset =
+      stretch_end-here t s j is (omega arith) (omega arith) within (rw reset refl)
 
   -- of the changes that lead to an instant the first lost control line is the least one
   module _ (cs : List Change) where
     -- the first of the changes that loses a control line is on the least line that is lost
-    lost-is : (j : ℕ) → s ≤ j → j < own_stretch.end → (levels_at t j).slots ≤ 21
+    lost_among-least : (j : ℕ) → s ≤ j → j < own_stretch.end → (levels_at t j).slots ≤ 21
         → levels_at t (suc j) ≡ changed (levels_at t j) cs
         → are_changes (levels_at t j) 0 cs ≡ true
         → lost_among (levels_at t (suc j)) cs ≡ least (is_lost (levels_at t (suc j))) 0 line_count
     unfolding loses_control_at is_reset_at
-    lost-is j from before few made sound = rw made (lost-least (levels_at t j) cs few sound
+    lost_among-least j from before few made sound = rw made (lost-least (levels_at t j) cs few sound
         (stretch_unlost t own_stretch j is from before) (stretch_unreset t own_stretch j is from before))
 
     -- where a control line is lost, the break is U1 on that line
-    pub at-loss : (n l : ℕ) → s < n → n ≤ own_stretch.end → n ≤ last_instant t → (levels_at t (n - 1)).slots ≤ 21
+    pub break_at-loss : (n l : ℕ) → s < n → n ≤ own_stretch.end → n ≤ last_instant t → (levels_at t (n - 1)).slots ≤ 21
         → levels_at t n ≡ changed (levels_at t (n - 1)) cs → are_changes (levels_at t (n - 1)) 0 cs ≡ true
         → lost_among (levels_at t n) cs ≡ Some l
         → break_at t own_stretch all_rules n ≡ Some (record { instant = n; time = time_at t n; rule = U1; line = l })
     unfolding break_at rule_break loses_control_at loses_control
-    at-loss zero l after upto within few made sound lost = absurd (omega arith)
-    at-loss (suc j) l after upto within few made sound lost =
+    break_at-loss zero l after upto within few made sound lost = absurd (omega arith)
+    break_at-loss (suc j) l after upto within few made sound lost =
         let back = suc-sub-one j in
-        let least_is = sym (lost-is j (omega arith) (omega arith) (rw back at few) (rw back at made) (rw back at sound))
+        let least_is = sym (lost_among-least j (omega arith) (omega arith) (rw back at few) (rw back at made)
+        (rw back at sound))
         ∙ lost in
         let found = least-found (is_lost (levels_at t (suc j))) 0 line_count l least_is in
         let loses : loses_control_at t (suc j) ≡ true = any-holds (is_lost (levels_at t (suc j))) 0 line_count l
         found.first
         found.below found.holds in
-        let ends = ends-here t s j is (omega arith) (omega arith) within (or_right (is_reset_at t (suc j)) _ loses) in
+        let ends = stretch_end-here t s j is (omega arith) (omega arith) within
+        (or_right (is_reset_at t (suc j)) _ loses) in
         rw (least-alike (breaks t own_stretch U1 (suc j)) (is_lost (levels_at t (suc j))) 0 line_count
         (λ k a b. u1-lost t s j ends (omega arith) k) ∙ least_is) refl
 
     -- without a reset and a lost line, the instant is before the end of the stretch
-    pub at-rest : (n : ℕ) → s < n → n ≤ own_stretch.end → n ≤ last_instant t → (levels_at t (n - 1)).slots ≤ 21
+    pub stretch_end-no_reset_no_loss : (n : ℕ) → s < n → n ≤ own_stretch.end → n ≤ last_instant t
+        → (levels_at t (n - 1)).slots ≤ 21
         → levels_at t n ≡ changed (levels_at t (n - 1)) cs → are_changes (levels_at t (n - 1)) 0 cs ≡ true
         → is_reset_at t n ≡ false → lost_among (levels_at t n) cs ≡ None → n < own_stretch.end
     unfolding loses_control_at loses_control
-    at-rest zero after upto within few made sound unreset lost = absurd (omega arith)
-    at-rest (suc j) after upto within few made sound unreset lost =
+    stretch_end-no_reset_no_loss zero after upto within few made sound unreset lost = absurd (omega arith)
+    stretch_end-no_reset_no_loss (suc j) after upto within few made sound unreset lost =
         let back = suc-sub-one j in
-        goes-on t s j is (omega arith) (omega arith) within unreset (least-none-any _ _ _
-        (sym (lost-is j (omega arith) (omega arith) (rw back at few) (rw back at made) (rw back at sound)) ∙ lost))
+        stretch_end-past_next t s j is (omega arith) (omega arith) within unreset (least-none-any _ _ _
+        (sym (lost_among-least j (omega arith) (omega arith) (rw back at few) (rw back at made) (rw back at sound))
+        ∙ lost))
 
 -- after the last instant no stretch starts
 stretches_after-last : (t : Trace) (n : ℕ) → last_instant t + 1 ≤ n → stretches_after t n ≡ []
@@ -362,10 +376,10 @@ stretches_after-not_idle t n within busy =
 module _ {Whole Source : Type 0} {gave : Whole → Source → List Row → Type 0} {is_over : Source → Type 0} {whole : Whole}
     {v : Version} {t : Trace} where
   -- open rows have no last edge where the listing ends
-  pub follows-close : {done : List Row} {stretch : Stretch} {n : ℕ} {rows : OpenRows Source}
+  pub CanClose-follows : {done : List Row} {stretch : Stretch} {n : ℕ} {rows : OpenRows Source}
       → Follows gave is_over whole v done t stretch n rows → n ≤ stretch.end
       → CanClose gave is_over whole v (done ++ rows_to t stretch n) rows
-  follows-close {done} {stretch} {n} {rows} h within =
+  CanClose-follows {done} {stretch} {n} {rows} h within =
       let a = h.are_taken in
       let taken = rows.compared.taken in
       record {
@@ -380,9 +394,9 @@ module _ {Whole Source : Type 0} {gave : Whole → Source → List Row → Type 
       }
 
   -- at the opening the first stretch is awaited
-  pub waits-first : {rows : OpenRows Source} → CanClose gave is_over whole v [] rows
+  pub IsWaiting-first : {rows : OpenRows Source} → CanClose gave is_over whole v [] rows
       → IsWaiting gave is_over whole v t 0 NeverIdle rows
-  waits-first h = record {
+  IsWaiting-first h = record {
     awaits = awaits-first t;
     done = [];
     all = ap (rows_from t NeverIdle) (sym (judged_stretches-after_first t)) ∙ sym (recorded_rows-rows_from t);
@@ -391,9 +405,9 @@ module _ {Whole Source : Type 0} {gave : Whole → Source → List Row → Type 
 
   module _ {n : ℕ} (within : n ≤ last_instant t) {outcome : ListedVerdict} {rows : OpenRows Source} where
     -- at an instant that isn't idle no stretch starts
-    pub waits-on : IsWaiting gave is_over whole v t n outcome rows → is_idle_at t n ≡ false
+    pub IsWaiting-next : IsWaiting gave is_over whole v t n outcome rows → is_idle_at t n ≡ false
         → IsWaiting gave is_over whole v t (n + 1) outcome rows
-    waits-on h busy = record {
+    IsWaiting-next h busy = record {
       awaits = rw add-one (awaits-next t n h.awaits busy);
       done = h.done;
       all = ap (λ (stretches : List Stretch). h.done ++ rows_from t outcome stretches)
@@ -403,11 +417,12 @@ module _ {Whole Source : Type 0} {gave : Whole → Source → List Row → Type 
     }
 
     -- at an idle instant a stretch starts
-    pub starts : (h : IsWaiting gave is_over whole v t n outcome rows) → is_idle_at t n ≡ true → {state : State}
+    pub IsInStretch-start : (h : IsWaiting gave is_over whole v t n outcome rows) → is_idle_at t n ≡ true
+        → {state : State}
         → Holds t (stretch_from t n) (n + 1) (n + 1) state → {later : OpenRows Source}
         → Follows gave is_over whole v h.done t (stretch_from t n) (n + 1) later
         → IsInStretch gave is_over whole v t (n + 1) Conforming later state
-    starts h idle holds follows =
+    IsInStretch-start h idle holds follows =
         let found = stretches_after-next t n n h.awaits (omega arith) within idle
         (fails-any (is_idle_at t) n n (λ i a b. absurd (omega arith))) in
         let order = end-after t n within in
@@ -429,19 +444,20 @@ module _ {Whole Source : Type 0} {gave : Whole → Source → List Row → Type 
       abbrev stretch : Stretch
       stretch = stretch_from t h.start
 
-      abbrev later : List Row
-      later = rows_from t Conforming (stretches_after t (stretch.end + 1))
+      -- the rows after those of this stretch, if it has no break
+      abbrev rows_after_stretch : List Row
+      rows_after_stretch = rows_from t Conforming (stretches_after t (stretch.end + 1))
 
       -- the rows up to the instant
       abbrev so_far : List Row
       so_far = h.done ++ rows_to t stretch n
 
       -- a reset ends the stretch, and the next one is awaited
-      pub resets : stretch_end t h.start ≡ n → is_reset_at t n ≡ true → {new : OpenRows Source}
+      pub IsWaiting-after_reset : stretch_end t h.start ≡ n → is_reset_at t n ≡ true → {new : OpenRows Source}
           → CanClose gave is_over whole v (h.done ++ rows_to t stretch n ++ Reset n ∷ []) new
           → IsWaiting gave is_over whole v t (n + 1) outcome new
       unfolding least_break
-      resets ends reset closed = record {
+      IsWaiting-after_reset ends reset closed = record {
         awaits = rw add-one (subst (λ m. Awaits t (suc m)) ends
             (stretch_reset t stretch h.is (ap (is_reset_at t) ends ∙ reset)));
         done = h.done ++ rows_to t stretch n ++ Reset n ∷ [];
@@ -453,56 +469,65 @@ module _ {Whole Source : Type 0} {gave : Whole → Source → List Row → Type 
         rows_are = closed;
       }
         where
+          -- four lists one after the other may be put together from the right
           regroup : (a b c d : List Row) → (a ++ b ++ c) ++ d ≡ a ++ (b ++ (c ++ d))
           regroup a b c d = simp append_assoc
 
-          none : least_break t stretch all_rules ≡ None
-          none = break_before-none_up_to t stretch all_rules n (last_instant t + 1) (omega arith) h.unbroken
-              (λ i a b. break_at-unjudged t stretch i (past i a)
-              (λ l below. by_order i l below (order i a)) all_rules)
+          -- the stretch has no break
+          no_break : least_break t stretch all_rules ≡ None
+          no_break = break_before-none_up_to t stretch all_rules n (last_instant t + 1) (omega arith) h.unbroken
+              (λ i a b. break_at-unjudged t stretch i (is_judged-past_reset i a)
+              (λ l below. U1_unbroken_by_order i l below (here_or_later i a)) all_rules)
             where
-              past : (i : ℕ) → n ≤ i → is_judged stretch i ≡ false
-              past i a = and_right (nat_lt stretch.start i) (nat_lt i stretch.end)
+              -- from the reset on no instant is judged
+              is_judged-past_reset : (i : ℕ) → n ≤ i → is_judged stretch i ≡ false
+              is_judged-past_reset i a = and_right (nat_lt stretch.start i) (nat_lt i stretch.end)
                   (le-ltb i stretch.end (omega (arith, ends)))
 
-              order : (i : ℕ) → n ≤ i → (i ≡ n) ⊎ (n < i)
-              order i a = grind arith
+              -- an instant from the reset on is that of the reset or comes after it
+              here_or_later : (i : ℕ) → n ≤ i → (i ≡ n) ⊎ (n < i)
+              here_or_later i a = grind arith
 
-              u1_at : (n l : ℕ) → h.start < n → l < line_count → loses_control_at t n ≡ false
+              -- where no control line is lost, U1 isn't broken
+              U1_unbroken_here : (n l : ℕ) → h.start < n → l < line_count → loses_control_at t n ≡ false
                   → breaks t stretch U1 n l ≡ false
-              u1_at (suc m) l after below unlost = u1-unlost t h.start m unlost l below
-              u1_at zero l after below unlost = absurd (omega arith)
+              U1_unbroken_here (suc m) l after below unlost = u1-unlost t h.start m unlost l below
+              U1_unbroken_here zero l after below unlost = absurd (omega arith)
 
-              by_order : (i l : ℕ) → l < line_count → (i ≡ n) ⊎ (n < i) → breaks t stretch U1 i l ≡ false
-              by_order i l below (inl e) = rw e (u1_at n l h.after below (reset-unlost_at t n reset))
-              by_order i l below (inr after) =
+              -- U1 isn't broken from the reset on: at it no control line is lost, and after it the stretch is over
+              U1_unbroken_by_order : (i l : ℕ) → l < line_count → (i ≡ n) ⊎ (n < i) → breaks t stretch U1 i l ≡ false
+              U1_unbroken_by_order i l below (inl e) =
+                  rw e (U1_unbroken_here n l h.after below (reset-unlost_at t n reset))
+              U1_unbroken_by_order i l below (inr after) =
                   breaks-no_loss_within t stretch i l (eq-fails_above i stretch.end (omega (arith, after, ends)))
 
-          whole_stretch : rows_by t stretch (least_break t stretch all_rules) later ≡ rows_to t stretch n
+          -- the rows from the stretch on are those up to the reset, that of the reset, and those of the stretches after
+          -- it
+          whole_stretch : rows_by t stretch (least_break t stretch all_rules) rows_after_stretch ≡ rows_to t stretch n
               ++ (Reset n ∷ [] ++ rows_from t Conforming (stretches_after t (n + 1)))
-          whole_stretch = rw (none, ends, reset, lt-ltb n (last_instant t + 1) (omega arith)) refl
+          whole_stretch = rw (no_break, ends, reset, lt-ltb n (last_instant t + 1) (omega arith)) refl
 
       -- a break ends judging
-      pub breaks-off : (b : Break) → break_at t stretch all_rules n ≡ Some b
+      pub IsEnded-break : (b : Break) → break_at t stretch all_rules n ≡ Some b
           → IsEnded gave is_over whole v t (outcome_of (Some b)) rows
-      breaks-off b here =
-          let at : b.instant ≡ n = break-instant t stretch all_rules n b here in
+      IsEnded-break b here =
+          let at : b.instant ≡ n = break_at-instant t stretch all_rules n b here in
           let found = least_break-found t stretch n b h.unbroken here within in
           record {
             done = so_far;
             all =
                 append_assoc h.done (rows_to t stretch n) (Verdict (outcome_of (Some b)) ∷ [])
                 ∙ (ap (λ i. h.done ++ (rows_to t stretch i ++ Verdict (outcome_of (Some b)) ∷ [])) (sym at)
-                ∙ (ap (λ (o : Option Break). h.done ++ rows_by t stretch o later) (sym found) ∙ h.all));
-            rows_are = follows-close h.rows_are h.upto;
+                ∙ (ap (λ (o : Option Break). h.done ++ rows_by t stretch o rows_after_stretch) (sym found) ∙ h.all));
+            rows_are = CanClose-follows h.rows_are h.upto;
           }
 
       -- without a break the stretch continues
-      pub goes-later : n < stretch_end t h.start → break_at t stretch all_rules n ≡ None → {new : State}
+      pub IsInStretch-next : n < stretch_end t h.start → break_at t stretch all_rules n ≡ None → {new : State}
           → Holds t stretch (n + 1) (n + 1) new → {taken : OpenRows Source}
           → Follows gave is_over whole v h.done t stretch (n + 1) taken
           → IsInStretch gave is_over whole v t (n + 1) outcome taken new
-      goes-later before here holds follows = record {
+      IsInStretch-next before here holds follows = record {
         start = h.start;
         is = h.is;
         after = omega (arith, h.after);
@@ -516,14 +541,15 @@ module _ {Whole Source : Type 0} {gave : Whole → Source → List Row → Type 
       }
 
 -- an instant is idle exactly if its levels are
-pub idle-is : (t : Trace) (levels : Levels) (n : ℕ) → levels ≡ levels_at t n → is_idle_at t n ≡ is_idle levels
+pub is_idle_at-levels : (t : Trace) (levels : Levels) (n : ℕ) → levels ≡ levels_at t n → is_idle_at t n ≡ is_idle levels
 unfolding is_idle_at
-idle-is t levels n e = ap is_idle (sym e)
+is_idle_at-levels t levels n e = ap is_idle (sym e)
 
 -- an instant is a reset exactly if its levels are
-pub reset-is : (t : Trace) (levels : Levels) (n : ℕ) → levels ≡ levels_at t n → is_reset_at t n ≡ is_reset levels
+pub is_reset_at-levels : (t : Trace) (levels : Levels) (n : ℕ) → levels ≡ levels_at t n → is_reset_at t n
+    ≡ is_reset levels
 unfolding is_reset_at
-reset-is t levels n e = ap is_reset (sym e)
+is_reset_at-levels t levels n e = ap is_reset (sym e)
 
 -- if `named` gives a rule and a line, there is a break with them
 pub named-some : (o : Option Break) (rule : Rule) (line : ℕ) → Some (rule, line) ≡ named o
@@ -546,9 +572,9 @@ module _ {Whole Source : Type 0} {gave : Whole → Source → List Row → Type 
     {v : Version} {t : Trace} {bus : Bus} {rows : OpenRows Source} {outcome : ListedVerdict}
     (new : Checker Source) where
   -- after a break the checker has ended judging
-  pub checks-ended : new.bus ≡ bus → new.rows ≡ rows → new.phase ≡ Ended → new.outcome ≡ outcome → IsBusOf t bus
+  pub Checks-ended : new.bus ≡ bus → new.rows ≡ rows → new.phase ≡ Ended → new.outcome ≡ outcome → IsBusOf t bus
       → IsEnded gave is_over whole v t outcome rows → Checks gave is_over whole v t new
-  checks-ended same_bus same_rows phase same_outcome at h = record {
+  Checks-ended same_bus same_rows phase same_outcome at h = record {
     at = subst (IsBusOf t) (sym same_bus) at;
     phase_is =
         subst (λ (s : CheckPhase). IsPhase gave is_over whole v t (new.bus.instant + 1) new.outcome new.rows s)
@@ -576,8 +602,8 @@ module _ {Whole Source : Type 0} {gave : Whole → Source → List Row → Type 
   few_slots = omega (arith, few, ap (λ (w : Levels). w.slots) at.before)
 
   -- the lost line by the levels of the bus is that by the levels of the recording
-  lost_is : (o : Option ℕ) → o ≡ lost_among bus.levels cs → lost_among (levels_at t bus.instant) cs ≡ o
-  lost_is o e = ap (λ (w : Levels). lost_among w cs) (sym at.levels) ∙ sym e
+  lost_among-bus : (o : Option ℕ) → o ≡ lost_among bus.levels cs → lost_among (levels_at t bus.instant) cs ≡ o
+  lost_among-bus o e = ap (λ (w : Levels). lost_among w cs) (sym at.levels) ∙ sym e
 
   -- at a reset the next stretch is awaited
   pub judge-resets : is_reset bus.levels ≡ true → {new : OpenRows Source}
@@ -586,14 +612,16 @@ module _ {Whole Source : Type 0} {gave : Whole → Source → List Row → Type 
       new
       → IsWaiting gave is_over whole v t (bus.instant + 1) outcome new
   judge-resets reset closed =
-      let here = reset-is t bus.levels bus.instant at.levels ∙ reset in
-      resets within h (at-reset t h.start h.is bus.instant h.after h.upto within here) here closed
+      let here = is_reset_at-levels t bus.levels bus.instant at.levels ∙ reset in
+      IsWaiting-after_reset within h (stretch_end-at_reset t h.start h.is bus.instant h.after h.upto within here) here
+      closed
 
   -- where a control line is lost, judging ends with U1
   pub judge-loses : (line : ℕ) → Some line ≡ lost_among bus.levels cs
       → IsEnded gave is_over whole v t (Unreadable U1 bus.instant line) rows
-  judge-loses line e = breaks-off within h _
-      (at-loss t h.start h.is cs bus.instant line h.after h.upto within few_slots made sound (lost_is (Some line) e))
+  judge-loses line e = IsEnded-break within h _
+      (break_at-loss t h.start h.is cs bus.instant line h.after h.upto within few_slots made sound
+      (lost_among-bus (Some line) e))
 
   -- where a rule is broken, judging ends with it
   pub judge-breaks : (rule : Rule) (line : ℕ)
@@ -603,17 +631,18 @@ module _ {Whole Source : Type 0} {gave : Whole → Source → List Row → Type 
   judge-breaks rule line e =
       let (b, here, same_rule, same_line) = named-some (break_at t (stretch_from t h.start) all_rules bus.instant) rule
       line e in
-      let same_instant = break-instant t (stretch_from t h.start) all_rules bus.instant b here in
+      let same_instant = break_at-instant t (stretch_from t h.start) all_rules bus.instant b here in
       subst (λ (o : ListedVerdict). IsEnded gave is_over whole v t o rows)
       (ap (λ (r : Rule). if is_unreadable r then Unreadable r b.instant b.line else Broken r b.instant b.line) same_rule
       ∙ (ap (λ i. if is_unreadable rule then Unreadable rule i b.line else Broken rule i b.line) same_instant
       ∙ ap (λ l. if is_unreadable rule then Unreadable rule bus.instant l else Broken rule bus.instant l) same_line))
-      (breaks-off within h b here)
+      (IsEnded-break within h b here)
 
   -- without a reset and a lost line, the stretch lasts past the instant
   pub judge-within : is_reset bus.levels ≡ false → None ≡ lost_among bus.levels cs → bus.instant < stretch_end t h.start
-  judge-within unreset e = at-rest t h.start h.is cs bus.instant h.after h.upto within few_slots made sound
-      (reset-is t bus.levels bus.instant at.levels ∙ unreset) (lost_is None e)
+  judge-within unreset e = stretch_end-no_reset_no_loss t h.start h.is cs bus.instant h.after h.upto within few_slots
+      made sound
+      (is_reset_at-levels t bus.levels bus.instant at.levels ∙ unreset) (lost_among-bus None e)
 
 -- the state with the cycle and the transfer that start at the instant
 pub judge-state : {Whole Source : Type 0} {gave : Whole → Source → List Row → Type 0} {is_over : Source → Type 0}
@@ -647,17 +676,17 @@ module _ (t : Trace) (i : ℕ) (step : Step) (found : slice_get t.steps i ≡ So
   levels_at-next = rw (add-one, found) refl
 
   -- its changes are sound if no step is malformed
-  pub sound-step : malformed_step t ≡ None → are_changes (levels_at t i) 0 step.changes ≡ true
+  pub are_changes-step : malformed_step t ≡ None → are_changes (levels_at t i) 0 step.changes ≡ true
   unfolding malformed_step is_step
-  sound-step well =
+  are_changes-step well =
       let fits = not-false (is_step t i) (any-fails (λ n. not (is_step t n)) 0 (length t.steps) i
       (least-none-any _ _ _ well) (omega arith) (slice_get_within t.steps i step found)) in
       (and_parts _ _ (rw found at fits)).1
 
 -- a step that was read from the steps at place `i` is step `i` of the recording
-pub step_at : (t : Trace) (steps : List Step) (i : ℕ) (step : Step) → steps ≡ t.steps → i < length steps
+pub slice_get-read_step : (t : Trace) (steps : List Step) (i : ℕ) (step : Step) → steps ≡ t.steps → i < length steps
     → step ≡ get_or steps i step → slice_get t.steps i ≡ Some step
-step_at t steps i step e below is = ap (λ (xs : List Step). slice_get xs i) (sym e) ∙ slice_get_read steps
+slice_get-read_step t steps i step e below is = ap (λ (xs : List Step). slice_get xs i) (sym e) ∙ slice_get_read steps
     (length steps) i step refl below is
 
 -- ---- A recording whose steps are taken one by one.
@@ -677,10 +706,10 @@ slice_get-next_step recorded step more =
     (sym (get_or-append_seam recorded.steps step more step))
 
 -- the last levels with one more step
-pub levels-next : (recorded : Trace) (step : Step) (levels : Levels) (changes : List Change)
+pub last_levels-next_step : (recorded : Trace) (step : Step) (levels : Levels) (changes : List Change)
     → levels ≡ last_levels recorded → changes ≡ step.changes
     → changed levels changes ≡ last_levels (with_steps recorded (step ∷ []))
-levels-next recorded step levels changes behind same =
+last_levels-next_step recorded step levels changes behind same =
     ap (λ (w : Levels). changed w changes) behind ∙ (ap (changed (last_levels recorded)) same
     ∙ sym (levels_after-append recorded.opening recorded.steps (step ∷ [])))
 
@@ -690,21 +719,23 @@ with_steps-none recorded =
     ap (λ (steps : List Step). record recorded { steps = steps }) (append-nil recorded.steps)
 
 -- a checker that takes `step` has followed the recording with that step
-pub has-taken : {Source : Type 0} {recorded : Trace} {old : Checker Source} {bus : Bus} {cs : List Change} (step : Step)
+pub HasFollowed-next : {Source : Type 0} {recorded : Trace} {old : Checker Source} {bus : Bus} {cs : List Change}
+    (step : Step)
     → HasFollowed recorded old → bus.instant ≡ old.bus.instant + 1 → bus.levels ≡ changed old.bus.levels cs
     → cs ≡ step.changes → (new : Checker Source) → new.bus ≡ bus → new.rows.compared.taken ≤ 4 * bus.instant + 4
     → HasFollowed (with_steps recorded (step ∷ [])) new
-has-taken {recorded = recorded} {old = old} {cs = cs} step taken instant levels same new is few =
+HasFollowed-next {recorded = recorded} {old = old} {cs = cs} step taken instant levels same new is few =
     let at = ap (λ (b : Bus). b.instant) is in
     record {
       instant = omega (arith, at, instant, taken.instant, length-append recorded.steps (step ∷ []));
       levels = ap (λ (b : Bus). b.levels) is
-          ∙ (levels ∙ levels-next recorded step old.bus.levels cs taken.levels same);
+          ∙ (levels ∙ last_levels-next_step recorded step old.bus.levels cs taken.levels same);
       few = omega (arith, at, few);
     }
 
 -- what the phase says of the next instant holds there once the step is taken
-pub arrives : {Whole Source : Type 0} {gave : Whole → Source → List Row → Type 0} {is_over : Source → Type 0}
+pub IsPhase-next_instant : {Whole Source : Type 0} {gave : Whole → Source → List Row → Type 0}
+    {is_over : Source → Type 0}
     {whole : Whole} {v : Version} {recorded : Trace} {old : Checker Source} {bus : Bus} {cs : List Change}
     (step : Step) → HasFollowed recorded old → bus.instant ≡ old.bus.instant + 1 → bus.before ≡ old.bus.levels
     → bus.levels ≡ changed old.bus.levels cs → cs ≡ step.changes → HasCompared gave is_over whole v recorded old
@@ -713,7 +744,8 @@ pub arrives : {Whole Source : Type 0} {gave : Whole → Source → List Row → 
     × (bus.instant ≤ last_instant (with_steps (with_steps recorded (step ∷ [])) more))
     × IsPhase gave is_over whole v (with_steps (with_steps recorded (step ∷ [])) more) bus.instant old.outcome old.rows
     phase
-arrives {gave = gave} {is_over = is_over} {whole = whole} {v = v} {recorded = recorded} {old = old} {bus = bus}
+IsPhase-next_instant {gave = gave} {is_over = is_over} {whole = whole} {v = v} {recorded = recorded} {old = old}
+    {bus = bus}
     {cs = cs} step taken instant before levels same compared {phase} is more =
     let t : Trace = with_steps recorded (step ∷ more) in
     let n = last_instant recorded in
@@ -735,42 +767,43 @@ recorded_to t n = record t { steps = take n t.steps }
 
 module _ (t : Trace) (n : ℕ) where
   -- the recording up to instant n, with the step n, is that up to instant n + 1
-  pub goes_on-to : (step : Step) → slice_get t.steps n ≡ Some step
+  pub recorded_to-next : (step : Step) → slice_get t.steps n ≡ Some step
       → with_steps (recorded_to t n) (step ∷ []) ≡ recorded_to t (n + 1)
-  goes_on-to step found =
+  recorded_to-next step found =
       ap (λ (steps : List Step). record t { steps = steps }) (sym (take-next t.steps n step found))
 
   -- the recording up to instant n may go on with the step n
-  pub may-go_on : (step : Step) → IsCapture t → slice_get t.steps n ≡ Some step → MayGoOn (recorded_to t n) step
-  may-go_on step capture found =
+  pub MayGoOn-recorded_to : (step : Step) → IsCapture t → slice_get t.steps n ≡ Some step
+      → MayGoOn (recorded_to t n) step
+  MayGoOn-recorded_to step capture found =
       let below = slice_get_within t.steps n step found in
       record {
         within = omega (arith, below, capture.limited, length-take-le n t.steps (omega arith));
         sound = ap (λ (w : Levels). are_changes w 0 step.changes) (sym (levels_at-taken t n))
-            ∙ sound-step t n step found capture.well_formed;
+            ∙ are_changes-step t n step found capture.well_formed;
       }
 
   -- up to an instant that isn't before the last, the recording is whole
-  pub whole-to : length t.steps ≤ n → recorded_to t n ≡ t
-  whole-to past = ap (λ (steps : List Step). record t { steps = steps }) (take_all n t.steps past)
+  pub recorded_to-whole : length t.steps ≤ n → recorded_to t n ≡ t
+  recorded_to-whole past = ap (λ (steps : List Step). record t { steps = steps }) (take_all n t.steps past)
 
 -- ---- Where the recording is whole.
 
 module _ {Whole Source : Type 0} (gave : Whole → Source → List Row → Type 0) (is_over : Source → Type 0) (whole : Whole)
     (v : Version) (t : Trace) where
   -- after the last instant, whatever the phase is, judging has ended
-  ended : (outcome : ListedVerdict) (rows : OpenRows Source) (phase : CheckPhase)
+  IsEnded-after_last : (outcome : ListedVerdict) (rows : OpenRows Source) (phase : CheckPhase)
       → IsPhase gave is_over whole v t (last_instant t + 1) outcome rows phase
       → IsEnded gave is_over whole v t outcome rows
   unfolding least_break
-  ended outcome rows Ended h = h
-  ended outcome rows Waiting h = record {
+  IsEnded-after_last outcome rows Ended h = h
+  IsEnded-after_last outcome rows Waiting h = record {
     done = h.done;
     all = ap (λ (stretches : List Stretch). h.done ++ rows_from t outcome stretches)
         (sym (stretches_after-last t (last_instant t + 1) (omega arith))) ∙ h.all;
     rows_are = h.rows_are;
   }
-  ended outcome rows (InStretch state) h =
+  IsEnded-after_last outcome rows (InStretch state) h =
       let stretch = stretch_from t h.start in
       let ends : stretch.end ≡ last_instant t + 1 = omega (arith, h.upto, end-within t h.start) in
       record {
@@ -778,9 +811,10 @@ module _ {Whole Source : Type 0} (gave : Whole → Source → List Row → Type 
         all =
             append_assoc h.done (rows_to t stretch (last_instant t + 1)) (Verdict outcome ∷ [])
             ∙ (ap (λ (rows : List Row). h.done ++ rows) (sym (whole_stretch h.start h.unbroken ends)) ∙ h.all);
-        rows_are = follows-close h.rows_are h.upto;
+        rows_are = CanClose-follows h.rows_are h.upto;
       }
     where
+      -- if the stretch has no break and ends after the last instant, the rows from it on are its rows and the verdict
       whole_stretch : (s : ℕ) → break_before t (stretch_from t s) all_rules (last_instant t + 1) ≡ None
           → stretch_end t s ≡ last_instant t + 1
           → rows_by t (stretch_from t s) (least_break t (stretch_from t s) all_rules) (rows_from t Conforming
@@ -796,12 +830,12 @@ module _ {Whole Source : Type 0} (gave : Whole → Source → List Row → Type 
       ) refl
 
 -- a checker that has taken all steps has ended
-pub ended-all : {Whole Source : Type 0} {gave : Whole → Source → List Row → Type 0} {is_over : Source → Type 0}
+pub IsEnded-all_steps : {Whole Source : Type 0} {gave : Whole → Source → List Row → Type 0} {is_over : Source → Type 0}
     {whole : Whole} {v : Version} {t : Trace} {checker : Checker Source} → HasFollowed t checker
     → HasCompared gave is_over whole v t checker → IsEnded gave is_over whole v t checker.outcome checker.rows
-ended-all {gave = gave} {is_over = is_over} {whole = whole} {v = v} {t = t} {checker = checker} taken compared =
+IsEnded-all_steps {gave = gave} {is_over = is_over} {whole = whole} {v = v} {t = t} {checker = checker} taken compared =
     let h = subst (λ (u : Trace). Checks gave is_over whole v u checker) (with_steps-none t)
     (compared []) in
-    ended gave is_over whole v t checker.outcome checker.rows checker.phase
+    IsEnded-after_last gave is_over whole v t checker.outcome checker.rows checker.phase
     (subst (λ n. IsPhase gave is_over whole v t (n + 1) checker.outcome checker.rows checker.phase) taken.instant
     h.phase_is)

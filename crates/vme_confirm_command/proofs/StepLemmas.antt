@@ -20,7 +20,7 @@ use Rattle.vme_skew.specs.Settling.{Settling}
 use Rattle.vme_skew.proofs.Complete.{settled_until-prefix}
 use Rattle.vme_skew.proofs.Laws.{length-settled}
 use Rattle.vme_cert.specs.Checking.{MayGoOn, last_levels}
-use Rattle.vme_cert.proofs.Checking.{sound-step}
+use Rattle.vme_cert.proofs.Checking.{are_changes-step}
 use Rattle.vme_dump_input.specs.SettledReadings.{settled_so_far, settled_whole}
 use Rattle.vme_dump_input.specs.SettledSteps.{ComesOut}
 use Rattle.vme_confirm_command.specs.StepChecks.{HasDeskewed, StepsMayFollow}
@@ -57,7 +57,7 @@ module _ (recorded : Trace) (steps : List Step) (i : ℕ) (step : Step) (found :
       record {
         within = omega (arith, may.within, below, few, length-append recorded.steps (take i steps));
         sound = ap (λ (w : Levels). are_changes w 0 step.changes) (sym levels)
-            ∙ sound-step t n step (slice_get-append recorded.steps steps i step found) may.formed;
+            ∙ are_changes-step t n step (slice_get-append recorded.steps steps i step found) may.formed;
       }
 
 -- before the first step the recording is as it was

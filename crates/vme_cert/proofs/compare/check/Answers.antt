@@ -2,7 +2,8 @@
 use Rattle.std.proofs.Common.{length, ap, subst, arith}
 use Rattle.vme_cert.specs.Vocabulary.{Trace}
 use Rattle.vme_cert.specs.Checking.{HasCompared, HasFollowed, at_opening}
-use Rattle.vme_cert.proofs.Checking.{step_at, goes_on-to, may-go_on, recorded_to, whole-to}
+use Rattle.vme_cert.proofs.Checking.{slice_get-read_step, recorded_to-next, MayGoOn-recorded_to, recorded_to}
+use Rattle.vme_cert.proofs.Checking.{recorded_to-whole}
 use Rattle.vme_cert.proofs.compare.check.Goals as goal
 
 pub loop-step-init : goal.loop-step-init
@@ -19,20 +20,22 @@ pub take-requires : goal.take-requires
 take-requires g c =
     let t = c.args.capture.now in
     let i = c.loop-step.step-index in
-    let found = step_at t c.steps-step-items.result.now i c.step-item.result c.steps-step-items.ensures.steps
+    let found = slice_get-read_step t c.steps-step-items.result.now i c.step-item.result
+    c.steps-step-items.ensures.steps
     c.loop-step-test.true c.step-item.is in (
       recorded_to t i,
       c.loop-step.invariant.taken,
-      may-go_on t i c.step-item.result c.steps-step-items.ensures.sound found,
+      MayGoOn-recorded_to t i c.step-item.result c.steps-step-items.ensures.sound found,
     )
 
 pub loop-step-preserved : goal.loop-step-preserved
 loop-step-preserved g c =
     let t = c.args.capture.now in
     let i = c.loop-step.step-index in
-    let found = step_at t c.steps-step-items.result.now i c.step-item.result c.steps-step-items.ensures.steps
+    let found = slice_get-read_step t c.steps-step-items.result.now i c.step-item.result
+    c.steps-step-items.ensures.steps
     c.loop-step-test.true c.step-item.is in
-    let on = goes_on-to t i c.step-item.result found in
+    let on = recorded_to-next t i c.step-item.result found in
     let taken = c.loop-step.invariant.taken in
     record {
       taken = subst (λ (u : Trace). HasFollowed u c.take.new.self) on (c.take.ensures.taken (recorded_to t i) taken);
@@ -50,7 +53,7 @@ pub returns : goal.returns
 returns g c whole gave =
     let t = c.args.capture.now in
     let i = c.loop-step.step-index in
-    let all = whole-to t i (omega (
+    let all = recorded_to-whole t i (omega (
       arith,
       c.loop-step-test.false,
       ap (λ xs. length xs) c.steps-step-items.ensures.steps,

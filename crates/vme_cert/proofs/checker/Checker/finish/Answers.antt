@@ -1,7 +1,7 @@
 use Rattle.std.proofs.Common.{◌∙◌, false, List, length, refl, sym, ap, subst, arith}
 use Rattle.vme_cert.specs.Vocabulary.{Row, recorded_rows, rows_in}
 use Rattle.vme_cert.specs.Comparing.{IsCompared, is_at}
-use Rattle.vme_cert.proofs.Checking.{ended-all}
+use Rattle.vme_cert.proofs.Checking.{IsEnded-all_steps}
 use Rattle.vme_cert.proofs.Comparing.{compared-fewer}
 use Rattle.vme_cert.proofs.Following.{or-fails_all, is_at-none}
 use Rattle.vme_cert.proofs.Placing.{rows_in-length}
@@ -15,7 +15,7 @@ finish-requires g c = omega (arith, c.close_before.ensures.taken, c.requires.1.f
 
 pub returns : goal.returns
 returns g c whole v t taken compared =
-    let e = ended-all taken compared in
+    let e = IsEnded-all_steps taken compared in
     let new = c.close_before.new.self in
     let closed = c.close_before.ensures.rows whole v e.done refl e.rows_are in
     let none = c.close_before.ensures.closed in

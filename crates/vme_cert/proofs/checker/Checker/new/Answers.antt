@@ -2,7 +2,7 @@ use Rattle.std.proofs.Common.{◌∙◌, refl, sym, ap, subst, arith}
 use Rattle.vme_cert.specs.Vocabulary.{NeverIdle, Trace, levels_at, with_steps}
 use Rattle.vme_cert.specs.Checking.{IsWaiting, at_opening}
 use Rattle.vme_cert.specs.declared.bus.Bus.{Bus}
-use Rattle.vme_cert.proofs.Checking.{waits-first}
+use Rattle.vme_cert.proofs.Checking.{IsWaiting-first}
 use Rattle.vme_cert.proofs.checker.Checker.new.Goals as goal
 
 pub returns-clause-taken : goal.returns-clause-taken
@@ -24,4 +24,4 @@ returns-clause-compared g c whole gave_none more =
     let first = c.opening.ensures.instant in
     c.begin_where_idle.ensures.checks whole c.args.version t (c.opening.ensures.at t refl) (omega (arith, first))
     (subst (λ n. IsWaiting g.S.RowSource.gave g.S.RowSource.is_over whole c.args.version t n NeverIdle c.new.result)
-    (sym first) (waits-first (c.new.ensures.rows whole gave_none)))
+    (sym first) (IsWaiting-first (c.new.ensures.rows whole gave_none)))
