@@ -27,7 +27,7 @@ use Rattle.vme_cert.specs.declared.state.State.{State}
 use Rattle.std.proofs.lemmas.List.Folds.{list_any_at}
 use Rattle.std.proofs.Math.Bool.{and-false}
 use Rattle.vme_cert.proofs.Ranges.{eq-fails_below, range-of_tests, any-first, by_either_value}
-use Rattle.vme_cert.proofs.Fields.{starts-is}
+use Rattle.vme_cert.proofs.Fields.{transfer_starts-is}
 
 -- ---- The table of rules by line lists the rules that speak of a line: every rule is tried on every line.
 
@@ -342,6 +342,13 @@ has-is t bus l at = ap (λ (v : Levels). has_line v.slots l) at.levels
 pub ruleset asked_breaks = (breaks-absent, breaks-is, breaks-elsewhere, has-is)
 
 -- for the goals of `is_transfer_start_broken`
-pub ruleset started = (answers-only, direction-only, unstarted-answers, unstarted-direction, starts-is, or_parts)
+pub ruleset started = (
+  answers-only,
+  direction-only,
+  unstarted-answers,
+  unstarted-direction,
+  transfer_starts-is,
+  or_parts,
+)
 
 pub ruleset within = (known-within, any-first, any-fails)

@@ -43,21 +43,24 @@ not-high_and_low Unknown y h k = cc
 
 module _ (t : Trace) (stretch : Stretch) where
   -- between the starts of two transfers both strobes are high
-  pub high-between : (i k : ℕ) → i < k → transfer_starts t stretch i ≡ true → transfer_starts t stretch k ≡ true
+  pub strobes_high-between : (i k : ℕ) → i < k → transfer_starts t stretch i ≡ true → transfer_starts t stretch k ≡ true
       → any (strobes_high t) (i + 1) k ≡ true
   unfolding transfer_starts low high
-  high-between i k order first second =
+  strobes_high-between i k order first second =
       elim (just-or-later i k order) [
-        | inl e ↦ absurd (not-high_and_low (level t DS0 i) (level t DS1 i) (ap (strobes_high t) (sym e) ∙ before)
+        | inl e ↦ absurd (not-high_and_low (level t DS0 i) (level t DS1 i)
+            (ap (strobes_high t) (sym e) ∙ strobes_high-before_second)
             (and_parts (is_judged stretch i && strobes_high t (i - 1)) _ first).1)
-        | inr is_judged-not_opening ↦ any-holds (strobes_high t) (i + 1) k (k - 1) (omega arith) (omega arith) before
+        | inr past ↦ any-holds (strobes_high t) (i + 1) k (k - 1) (omega arith) (omega arith) strobes_high-before_second
       ]
     where
+      -- the instant before k is i or comes after it
       just-or-later : (i k : ℕ) → i < k → (k - 1 ≡ i) ⊎ (i < k - 1)
       just-or-later i k h = grind arith
 
-      before : strobes_high t (k - 1) ≡ true
-      before = (and_parts (is_judged stretch k) (strobes_high t (k - 1))
+      -- both strobes are high before the second transfer starts
+      strobes_high-before_second : strobes_high t (k - 1) ≡ true
+      strobes_high-before_second = (and_parts (is_judged stretch k) (strobes_high t (k - 1))
           (and_parts (is_judged stretch k && strobes_high t (k - 1)) _ second).0).1
 
   module _ (j : ℕ) (judged : is_judged stretch j ≡ true) where
@@ -83,15 +86,15 @@ module _ (t : Trace) (stretch : Stretch) where
 
     module _ (i : ℕ) (last : greatest (transfer_starts t stretch) (stretch.start + 1) (j + 1) ≡ Some i) where
       -- the last transfer to start is that of the instant i
-      found : IsGreatest (transfer_starts t stretch) (stretch.start + 1) (j + 1) i
-      found = greatest-found (transfer_starts t stretch) (stretch.start + 1) (j + 1) i last
+      IsGreatest-last_start : IsGreatest (transfer_starts t stretch) (stretch.start + 1) (j + 1) i
+      IsGreatest-last_start = greatest-found (transfer_starts t stretch) (stretch.start + 1) (j + 1) i last
 
       -- if the last transfer is open, a condition on the transfer of the instant is one on it
       pub in_transfer-last : (p : ℕ → Bool) → none (strobes_high t) (i + 1) j ≡ true → in_transfer t stretch p j ≡ p i
       in_transfer-last p still =
-          let from = found.from in
-          let before = found.before in
-          in_transfer-is t stretch p i j (omega arith) (omega arith) found.holds
+          let from = IsGreatest-last_start.from in
+          let before = IsGreatest-last_start.before in
+          in_transfer-is t stretch p i j (omega arith) (omega arith) IsGreatest-last_start.holds
           (lasts-while_not_high i (omega arith) still)
 
 -- ---- The answer of the transfer of an instant, and those of the cycle, by the state.
@@ -100,23 +103,24 @@ module _ (t : Trace) (stretch : Stretch) (j i : ℕ) (judged : is_judged stretch
     (last : greatest (transfer_starts t stretch) (stretch.start + 1) (j + 1) ≡ Some i)
     (still : none (strobes_high t) (i + 1) j ≡ true) where
   -- the transfer starts at j or before
-  within : i ≤ j
-  within = let before = (greatest-found (transfer_starts t stretch) (stretch.start + 1) (j + 1) i last).before
+  start-not_later : i ≤ j
+  start-not_later = let before = (greatest-found (transfer_starts t stretch) (stretch.start + 1) (j + 1) i last).before
       in omega arith
 
   -- the transfer lasts to j
-  here : lasts t stretch i j ≡ true
-  here = lasts-while_not_high t stretch j judged i within still
+  lasts-to_instant : lasts t stretch i j ≡ true
+  lasts-to_instant = lasts-while_not_high t stretch j judged i start-not_later still
 
   -- whether the transfer is answered before `j + 1`, by whether it is before `j`
-  pub answered-step : is_answered t stretch i (j + 1) ≡ (is_answered t stretch i j || answer_falls t j)
+  pub is_answered-step : is_answered t stretch i (j + 1) ≡ (is_answered t stretch i j || answer_falls t j)
   unfolding is_answered
-  answered-step = any-step (λ r. lasts t stretch i r && answer_falls t r) i j ∙ rw (le-leb i j within, here) refl
+  is_answered-step = any-step (λ r. lasts t stretch i r && answer_falls t r) i j
+      ∙ rw (le-leb i j start-not_later, lasts-to_instant) refl
 
   -- the transfer is answered at j exactly if an answer falls there, and it wasn't answered before
   pub answers-is : answers t stretch i j ≡ (answer_falls t j && not (is_answered t stretch i j))
   unfolding answers
-  answers-is = rw here refl
+  answers-is = rw lasts-to_instant refl
 
   -- at j there is an answer of a transfer exactly if one falls there, and the last transfer wasn't answered before
   pub is_answer-is : is_answer t stretch j ≡ (answer_falls t j && not (is_answered t stretch i j))
@@ -124,10 +128,10 @@ module _ (t : Trace) (stretch : Stretch) (j i : ℕ) (judged : is_judged stretch
   is_answer-is = in_transfer-last t stretch j judged i last (λ k. answers t stretch k j) still ∙ answers-is
 
 -- the answers before `j + 1` of a cycle that started at `j` or before: those before `j`, and that at `j`, if any
-pub answers-step : (t : Trace) (stretch : Stretch) (i j : ℕ) → i ≤ j → answers_of t stretch i (j + 1)
+pub answers_of-step : (t : Trace) (stretch : Stretch) (i j : ℕ) → i ≤ j → answers_of t stretch i (j + 1)
     ≡ answers_of t stretch i j ++ (if is_answer t stretch j then j ∷ [] else [])
 unfolding answers_of those
-answers-step t stretch i j order = rw (add-one, le-leb i j order) refl
+answers_of-step t stretch i j order = rw (add-one, le-leb i j order) refl
 
 -- ---- The answers of a cycle, with at most one more, and what rules ask of them.
 
@@ -153,12 +157,13 @@ module _ (t : Trace) (stretch : Stretch) where
       ≡ (writes_first t stretch rs || (b && not (has_earlier_answer rs) && answers_write t stretch r))
   writes_first-append [] r true = refl
   writes_first-append [] r false = refl
-  writes_first-append (q ∷ rs) r b = stays (answers_write t stretch q) b (answers_write t stretch r)
+  writes_first-append (q ∷ rs) r b = or-and_false (answers_write t stretch q) b (answers_write t stretch r)
     where
-      stays : (a b w : Bool) → a ≡ (a || (b && false && w))
-      stays true b w = refl
-      stays false true w = refl
-      stays false false w = refl
+      -- what is false doesn't change `a`
+      or-and_false : (a b w : Bool) → a ≡ (a || (b && false && w))
+      or-and_false true b w = refl
+      or-and_false false true w = refl
+      or-and_false false false w = refl
 
   -- what rule C1 asks of the answers of a cycle, by the fields of the state
   pub breaks_read_modify_write-is : (rs : List ℕ) (r : ℕ)
@@ -177,6 +182,7 @@ module _ (t : Trace) (stretch : Stretch) where
   changes_direction-is [] r = refl
   changes_direction-is (q ∷ rs) r = differ-is (answers_write t stretch q) (answers_write t stretch r)
     where
+      -- two tests differ exactly if they aren't equal
       differ-is : (a b : Bool) → not (beq a b) ≡ differ a b
       differ-is true true = refl
       differ-is true false = refl
@@ -192,9 +198,9 @@ any-longer p f m n order h =
 
 module _ (t : Trace) (stretch : Stretch) (j : ℕ) (judged : is_judged stretch j ≡ true) where
   -- a transfer starts at a judged instant as the strobes of the instant say
-  pub starts-is : transfer_starts t stretch j ≡ starts_transfer t j
+  pub transfer_starts-is : transfer_starts t stretch j ≡ starts_transfer t j
   unfolding transfer_starts
-  starts-is = rw judged refl
+  transfer_starts-is = rw judged refl
 
   -- where a transfer starts, it is the open one, not answered, and no strobe rose since
   pub IsTransfer-started : starts_transfer t j ≡ true → (w : Bool) → w ≡ low t WRITE j
@@ -209,7 +215,7 @@ module _ (t : Trace) (stretch : Stretch) (j : ℕ) (judged : is_judged stretch j
   IsTransfer-started here w is = record {
     here = λ e. record {
       last = greatest-here (transfer_starts t stretch) (stretch.start + 1) j (is_judged-after_start stretch j judged)
-          (starts-is ∙ here);
+          (transfer_starts-is ∙ here);
       still = ap not (any-start (strobes_high t) (j + 1) j (omega arith));
       direction = is;
       answered = sym (any-start (λ r. lasts t stretch j r && answer_falls t r) j j (omega arith));
@@ -223,7 +229,7 @@ module _ (t : Trace) (stretch : Stretch) (j : ℕ) (judged : is_judged stretch j
       → IsTransfer t stretch (j + 1) j c
   IsTransfer-not_started here c is = record {
     here = λ e. let w = is.here e in record {
-      last = greatest-not (transfer_starts t stretch) (stretch.start + 1) j (starts-is ∙ here) ∙ w.last;
+      last = greatest-not (transfer_starts t stretch) (stretch.start + 1) j (transfer_starts-is ∙ here) ∙ w.last;
       still = w.still;
       direction = w.direction;
       answered = w.answered;
@@ -231,7 +237,8 @@ module _ (t : Trace) (stretch : Stretch) (j : ℕ) (judged : is_judged stretch j
     };
     absent = λ e i before start. elim (eq-or_below i j before) [
       | inl same ↦ absurd
-          (clash (transfer_starts t stretch j) (ap (transfer_starts t stretch) (sym same) ∙ start) (starts-is ∙ here))
+          (clash (transfer_starts t stretch j) (ap (transfer_starts t stretch) (sym same) ∙ start)
+          (transfer_starts-is ∙ here))
       | inr earlier ↦ is.absent e i earlier start
     ];
   }
@@ -242,15 +249,16 @@ module _ (t : Trace) (stretch : Stretch) (j : ℕ) (judged : is_judged stretch j
 
   module _ (c : Transfer) (is : IsOpenTransfer t stretch (j + 1) j c) where
     -- the open transfer is the last to start
-    found-transfer : IsGreatest (transfer_starts t stretch) (stretch.start + 1) (j + 1) c.start
-    found-transfer = greatest-found (transfer_starts t stretch) (stretch.start + 1) (j + 1) c.start is.last
+    IsGreatest-open_transfer : IsGreatest (transfer_starts t stretch) (stretch.start + 1) (j + 1) c.start
+    IsGreatest-open_transfer = greatest-found (transfer_starts t stretch) (stretch.start + 1) (j + 1) c.start is.last
 
     -- if both strobes are high after its start, the open transfer closes, as all before it did
     AreClosed-both_high : c.start < j → strobes_high t j ≡ true → AreClosed t stretch (j + 1) (j + 1)
     AreClosed-both_high later there i before start =
         any-holds (strobes_high t) (i + 1) (j + 1) j (elim (cases_lt c.start i) [
           | inl past ↦ absurd (clash (transfer_starts t stretch i) start
-              (any-fails (transfer_starts t stretch) (c.start + 1) (j + 1) i found-transfer.last (omega arith) before))
+              (any-fails (transfer_starts t stretch) (c.start + 1) (j + 1) i IsGreatest-open_transfer.last (omega arith)
+              before))
           | inr earlier ↦ omega arith
         ]) (omega arith) there
 
@@ -270,10 +278,11 @@ module _ (t : Trace) (stretch : Stretch) (j : ℕ) (judged : is_judged stretch j
         ≡ (c.rose || (nat_lt c.start j && strobe_rises t j))
     any-strobe_rose = any-step (strobe_rises t) (c.start + 1) j
         ∙ (ap (λ b. b || (nat_le (c.start + 1) j && strobe_rises t j)) (sym is.rose)
-        ∙ ap (λ b. c.rose || (b && strobe_rises t j)) (alike c.start j))
+        ∙ ap (λ b. c.rose || (b && strobe_rises t j)) (lt-by_le c.start j))
       where
-        alike : (i k : ℕ) → nat_le (i + 1) k ≡ nat_lt i k
-        alike i k = grind (arith, nat_tests)
+        -- a number is below another exactly if the next one is at most that
+        lt-by_le : (i k : ℕ) → nat_le (i + 1) k ≡ nat_lt i k
+        lt-by_le i k = grind (arith, nat_tests)
 
     -- a transfer that stays open is the open one, by its fields one instant later
     IsOpenTransfer-later : (nat_lt c.start j && strobes_high t j) ≡ false
@@ -287,7 +296,7 @@ module _ (t : Trace) (stretch : Stretch) (j : ℕ) (judged : is_judged stretch j
       still = none-high_so_far h;
       direction = is.direction;
       answered = ap (λ b. b || answer_falls t j) is.answered
-          ∙ sym (answered-step t stretch j c.start judged is.last is.still);
+          ∙ sym (is_answered-step t stretch j c.start judged is.last is.still);
       rose = refl;
     }
 
@@ -301,6 +310,7 @@ module _ (t : Trace) (stretch : Stretch) (j : ℕ) (judged : is_judged stretch j
       })
   IsTransfer-later c is hi fa ro h f r = rw (h, f) (by_flags c.is_open (nat_lt c.start j && strobes_high t j) refl refl)
     where
+      -- by whether a transfer is open, and whether it closes
       by_flags : (a b : Bool) → c.is_open ≡ a → (nat_lt c.start j && strobes_high t j) ≡ b
           → IsTransfer t stretch (j + 1) (j + 1) (record c {
             is_open = a && not b;
@@ -344,30 +354,32 @@ not-both_levels Unknown = (λ h. absurd (cc), λ h. absurd (cc))
 
 module _ (t : Trace) (l j : ℕ) where
   -- what falls is low
-  pub fall-low : falls t l j ≡ true → low t l j ≡ true
+  pub falls-low : falls t l j ≡ true → low t l j ≡ true
   unfolding falls
-  fall-low h = (and_parts (high t l (j - 1)) (low t l j) h).1
+  falls-low h = (and_parts (high t l (j - 1)) (low t l j) h).1
 
   -- what was low doesn't fall
-  pub low-no_fall : low t l (j - 1) ≡ true → falls t l j ≡ false
+  pub falls-not_if_low : low t l (j - 1) ≡ true → falls t l j ≡ false
   unfolding falls low high
-  low-no_fall h = rw ((not-both_levels (level t l (j - 1))).1 h) refl
+  falls-not_if_low h = rw ((not-both_levels (level t l (j - 1))).1 h) refl
 
   -- what falls doesn't rise
-  pub no-rise : falls t l j ≡ true → rises t l j ≡ false
+  pub rises-not_if_falls : falls t l j ≡ true → rises t l j ≡ false
   unfolding falls rises low high
-  no-rise h = rw ((not-both_levels (level t l (j - 1))).0 (and_parts (high t l (j - 1)) (low t l j) h).0) refl
+  rises-not_if_falls h = rw ((not-both_levels (level t l (j - 1))).0 (and_parts (high t l (j - 1)) (low t l j) h).0)
+      refl
 
   -- what rises doesn't fall
-  pub no-fall : rises t l j ≡ true → falls t l j ≡ false
+  pub falls-not_if_rises : rises t l j ≡ true → falls t l j ≡ false
   unfolding rises
-  no-fall h = low-no_fall (and_parts (low t l (j - 1)) (high t l j) h).0
+  falls-not_if_rises h = falls-not_if_low (and_parts (low t l (j - 1)) (high t l j) h).0
 
   -- what was low and doesn't rise stays low, where it is known
-  pub stays-low : low t l (j - 1) ≡ true → rises t l j ≡ false → known t l j ≡ true → low t l j ≡ true
+  pub low-next_instant : low t l (j - 1) ≡ true → rises t l j ≡ false → known t l j ≡ true → low t l j ≡ true
   unfolding rises low high known
-  stays-low h r k = by_level (level t l j) (is_low (level t l (j - 1))) h r k
+  low-next_instant h r k = by_level (level t l j) (is_low (level t l (j - 1))) h r k
     where
+      -- by the level of the line
       by_level : (x : Level) (a : Bool) → a ≡ true → (a && is_high x) ≡ false → is_known x ≡ true → is_low x ≡ true
       by_level Low a e h k = refl
       by_level High a e h k = let c : (true && true) ≡ false = rw e at h in absurd (cc)
@@ -387,13 +399,14 @@ cycle_starts-after_start t stretch i h =
 -- AS is low where a cycle starts
 cycle_starts-low : (t : Trace) (stretch : Stretch) (i : ℕ) → cycle_starts t stretch i ≡ true → low t AS i ≡ true
 unfolding cycle_starts
-cycle_starts-low t stretch i h = fall-low t AS i (and_parts (is_judged stretch i) (falls t AS i) h).1
+cycle_starts-low t stretch i h = falls-low t AS i (and_parts (is_judged stretch i) (falls t AS i) h).1
 
 -- where AS* falls each earlier cycle has ended
-all-ended : (t : Trace) (stretch : Stretch) (j : ℕ) (c : Cycle) → IsCycle t stretch j j c → falls t AS j ≡ true
+earlier_cycles-ended : (t : Trace) (stretch : Stretch) (j : ℕ) (c : Cycle) → IsCycle t stretch j j c → falls t AS j
+    ≡ true
     → (i : ℕ)
     → cycle_starts t stretch i ≡ true → i < j → none (rises t AS) (i + 1) j ≡ false
-all-ended t stretch j c is here i start before = by_either_value c.has_started (λ e. by_last (is.here e))
+earlier_cycles-ended t stretch j c is here i start before = by_either_value c.has_started (λ e. by_last (is.here e))
     (λ e. absurd (clash (cycle_starts t stretch i) start (any-fails (cycle_starts t stretch) (stretch.start + 1) j i
     (greatest-none-any (cycle_starts t stretch) (stretch.start + 1) j (is.absent e))
     (cycle_starts-after_start t stretch i start)
@@ -404,19 +417,19 @@ all-ended t stretch j c is here i start before = by_either_value c.has_started (
     by_last w =
         let found = greatest-found (cycle_starts t stretch) (stretch.start + 1) j c.start w.last in
         let stopped : c.runs ≡ false = by_either_value c.runs
-        (λ e. absurd (clash (falls t AS j) here (low-no_fall t AS j (w.is_low e found.before)))) (λ e. e) in
+        (λ e. absurd (clash (falls t AS j) here (falls-not_if_low t AS j (w.is_low e found.before)))) (λ e. e) in
         elim (below-same-above i c.start) [
           | inl earlier ↦ w.others i start earlier
           | inr (inl e) ↦ ap (λ k. none (rises t AS) (k + 1) j) e ∙ (sym w.runs ∙ stopped)
-          | inr (inr is_judged-not_opening) ↦ absurd (clash (cycle_starts t stretch i) start
+          | inr (inr past) ↦ absurd (clash (cycle_starts t stretch i) start
               (any-fails (cycle_starts t stretch) (c.start + 1) j i found.last (omega arith) before))
         ]
 
 module _ (t : Trace) (stretch : Stretch) (j : ℕ) (judged : is_judged stretch j ≡ true) where
   -- at a judged instant a cycle starts exactly if AS falls
-  pub cycle-starts-is : cycle_starts t stretch j ≡ falls t AS j
+  pub cycle_starts-is : cycle_starts t stretch j ≡ falls t AS j
   unfolding cycle_starts
-  cycle-starts-is = rw judged refl
+  cycle_starts-is = rw judged refl
 
   -- where a cycle starts, it is the last, runs and isn't answered
   pub IsLastCycle-started : (o : Cycle) → IsCycle t stretch j j o → falls t AS j ≡ true → (c : Cycle) → c.start ≡ j
@@ -429,13 +442,13 @@ module _ (t : Trace) (stretch : Stretch) (j : ℕ) (judged : is_judged stretch j
       in
       record {
         last = greatest-here (cycle_starts t stretch) (stretch.start + 1) j (is_judged-after_start stretch j judged)
-            (cycle-starts-is ∙ here) ∙ ap (λ k. Some k) (sym at);
+            (cycle_starts-is ∙ here) ∙ ap (λ k. Some k) (sym at);
         class = class ∙ sym (ap (class_at t stretch) at);
         needs = needs ∙ sym (ap (λ k. needs_of (levels_at t k)) at);
         runs = runs ∙ sym (ap (λ k. none (rises t AS) (k + 1) j) at
             ∙ ap not (any-start (rises t AS) (j + 1) j (omega arith)));
         is_low = λ on before. absurd (omega arith);
-        others = λ i start before. all-ended t stretch j o was here i start (omega arith);
+        others = λ i start before. earlier_cycles-ended t stretch j o was here i start (omega arith);
         answered = answered ∙ sym (ap has_earlier_answer none_yet);
         first_writes = first ∙ sym (ap (writes_first t stretch) none_yet);
         answered_again = again ∙ sym (ap is_many none_yet);
@@ -446,7 +459,7 @@ module _ (t : Trace) (stretch : Stretch) (j : ℕ) (judged : is_judged stretch j
   -- where no cycle starts, the last one stays what it is
   pub IsCycle-not_started : falls t AS j ≡ false → (c : Cycle) → IsCycle t stretch j j c → IsCycle t stretch (j + 1) j c
   IsCycle-not_started here c is =
-      let same = greatest-not (cycle_starts t stretch) (stretch.start + 1) j (cycle-starts-is ∙ here) in
+      let same = greatest-not (cycle_starts t stretch) (stretch.start + 1) j (cycle_starts-is ∙ here) in
       record {
         here = λ e. let w = is.here e in record {
           last = same ∙ w.last;
@@ -465,47 +478,52 @@ module _ (t : Trace) (stretch : Stretch) (j : ℕ) (judged : is_judged stretch j
 
   module _ (c : Cycle) (is : IsLastCycle t stretch (j + 1) j c) where
     -- the last cycle is the last to start
-    found-cycle : IsGreatest (cycle_starts t stretch) (stretch.start + 1) (j + 1) c.start
-    found-cycle = greatest-found (cycle_starts t stretch) (stretch.start + 1) (j + 1) c.start is.last
+    IsGreatest-last_cycle : IsGreatest (cycle_starts t stretch) (stretch.start + 1) (j + 1) c.start
+    IsGreatest-last_cycle = greatest-found (cycle_starts t stretch) (stretch.start + 1) (j + 1) c.start is.last
 
     -- it starts at j or before
-    pub cycle-within : c.start ≤ j
-    cycle-within = let before = found-cycle.before in omega arith
+    pub last_cycle-start_not_later : c.start ≤ j
+    last_cycle-start_not_later = let before = IsGreatest-last_cycle.before in omega arith
 
     -- it runs up to j exactly if it did before, and AS doesn't rise at j
-    pub runs-on : none (rises t AS) (c.start + 1) (j + 1) ≡ (c.runs && not (rises t AS j))
-    runs-on = by_order (eq-or_below c.start j found-cycle.before)
+    pub runs-step : none (rises t AS) (c.start + 1) (j + 1) ≡ (c.runs && not (rises t AS j))
+    runs-step = by_order (eq-or_below c.start j IsGreatest-last_cycle.before)
       where
+        -- by whether the cycle starts at j or before it
         by_order : (c.start ≡ j) ⊎ (c.start < j) → none (rises t AS) (c.start + 1) (j + 1)
             ≡ (c.runs && not (rises t AS j))
         by_order (inl e) = ap not (any-start (rises t AS) (c.start + 1) (j + 1) (omega arith))
             ∙ (sym (is.runs ∙ ap not (any-start (rises t AS) (c.start + 1) j (omega arith)))
-            ∙ (sym (and-true c.runs) ∙ ap (λ b. c.runs && not b) (sym (no-rise t AS j
-            (sym cycle-starts-is ∙ (ap (cycle_starts t stretch) (sym e) ∙ found-cycle.holds))))))
+            ∙ (sym (and-true c.runs) ∙ ap (λ b. c.runs && not b) (sym (rises-not_if_falls t AS j
+            (sym cycle_starts-is ∙ (ap (cycle_starts t stretch) (sym e) ∙ IsGreatest-last_cycle.holds))))))
         by_order (inr before) = none-step (rises t AS) (c.start + 1) j (omega arith)
             ∙ ap (λ b. b && not (rises t AS j)) (sym is.runs)
 
     -- while it runs AS is low, where it is known
-    low-now : known t AS j ≡ true → (c.runs && not (rises t AS j)) ≡ true → low t AS j ≡ true
-    low-now knows on = by_order (eq-or_below c.start j found-cycle.before)
+    low-while_runs : known t AS j ≡ true → (c.runs && not (rises t AS j)) ≡ true → low t AS j ≡ true
+    low-while_runs knows on = by_order (eq-or_below c.start j IsGreatest-last_cycle.before)
       where
-        parts : (c.runs ≡ true) × (not (rises t AS j) ≡ true)
-        parts = and_parts c.runs (not (rises t AS j)) on
+        -- the cycle ran before, and AS doesn't rise
+        runs_parts : (c.runs ≡ true) × (not (rises t AS j) ≡ true)
+        runs_parts = and_parts c.runs (not (rises t AS j)) on
 
+        -- by whether the cycle starts at j or before it
         by_order : (c.start ≡ j) ⊎ (c.start < j) → low t AS j ≡ true
-        by_order (inl e) = cycle_starts-low t stretch j (ap (cycle_starts t stretch) (sym e) ∙ found-cycle.holds)
-        by_order (inr before) = stays-low t AS j (is.is_low parts.0 before) (not-true (rises t AS j) parts.1) knows
+        by_order (inl e) = cycle_starts-low t stretch j
+            (ap (cycle_starts t stretch) (sym e) ∙ IsGreatest-last_cycle.holds)
+        by_order (inr before) = low-next_instant t AS j (is.is_low runs_parts.0 before)
+            (not-true (rises t AS j) runs_parts.1) knows
 
     -- its answers before `j + 1` are those before `j`, and that at `j`, if there is one
-    answers-later : answers_of t stretch c.start (j + 1)
+    answers_of-last_cycle : answers_of t stretch c.start (j + 1)
         ≡ answers_of t stretch c.start j ++ (if is_answer t stretch j then j ∷ [] else [])
-    answers-later = answers-step t stretch c.start j cycle-within
+    answers_of-last_cycle = answers_of-step t stretch c.start j last_cycle-start_not_later
 
     -- whether one of its answers before `j + 1` is by DTACK, by whether one before `j` is
     answered_by_dtack-step : is_answered_by_dtack t stretch c.start (j + 1)
         ≡ (is_answered_by_dtack t stretch c.start j || (is_answer t stretch j && falls t DTACK j))
     answered_by_dtack-step = any-step (λ r. is_answer t stretch r && falls t DTACK r) c.start j
-        ∙ rw (le-leb c.start j cycle-within) refl
+        ∙ rw (le-leb c.start j last_cycle-start_not_later) refl
 
     -- it is the last cycle, by its fields one instant later
     IsLastCycle-later : known t AS j ≡ true → IsLastCycle t stretch (j + 1) (j + 1) (record c {
@@ -523,17 +541,17 @@ module _ (t : Trace) (stretch : Stretch) (j : ℕ) (judged : is_judged stretch j
           last = is.last;
           class = is.class;
           needs = is.needs;
-          runs = sym runs-on;
-          is_low = λ on before. ap (low t AS) back ∙ low-now knows on;
+          runs = sym runs-step;
+          is_low = λ on before. ap (low t AS) back ∙ low-while_runs knows on;
           others = λ i start before. none-stays_false (rises t AS) i j (is.others i start before);
           answered = ap (λ b. b || an) is.answered
-              ∙ sym (ap has_earlier_answer answers-later ∙ has_earlier_answer-append rs j an);
+              ∙ sym (ap has_earlier_answer answers_of-last_cycle ∙ has_earlier_answer-append rs j an);
           first_writes = ap (λ b. b || (an && not c.answered && answers_write t stretch j)) is.first_writes
               ∙ (ap (λ b. writes_first t stretch rs || (an && not b && answers_write t stretch j)) is.answered
-              ∙ sym (ap (writes_first t stretch) answers-later ∙ writes_first-append t stretch rs j an));
+              ∙ sym (ap (writes_first t stretch) answers_of-last_cycle ∙ writes_first-append t stretch rs j an));
           answered_again = ap (λ b. b || (an && c.answered)) is.answered_again
               ∙ (ap (λ b. is_many rs || (an && b)) is.answered
-              ∙ sym (ap is_many answers-later ∙ is_many-append rs j an));
+              ∙ sym (ap is_many answers_of-last_cycle ∙ is_many-append rs j an));
           answered_by_dtack = ap (λ b. b || (an && falls t DTACK j)) is.answered_by_dtack ∙ sym answered_by_dtack-step;
         }
 
@@ -569,37 +587,39 @@ module _ (t : Trace) (stretch : Stretch) (p q : ℕ → Bool) (j : ℕ) (judged 
   last_before-not_here here = ap (λ o. unwrap_or o stretch.start) (greatest-not p (stretch.start + 1) j here)
 
   -- the last instant with `p`, or else the start of the stretch, is before `j`
-  last-within : last_before t stretch p j + 1 ≤ j
+  last_before-bound : last_before t stretch p j + 1 ≤ j
   unfolding last_before
-  last-within = by_option (greatest p (stretch.start + 1) j) (λ e. rw e (is_judged-after_start stretch j judged))
+  last_before-bound = by_option (greatest p (stretch.start + 1) j) (λ e. rw e (is_judged-after_start stretch j judged))
       (λ i e. let found = (greatest-found p (stretch.start + 1) j i e).before in rw e (omega arith))
 
   -- what a rule asks up to `j`, by the field and by what happens at `j`
-  pub since-asks : any q (last_before t stretch p j) (j + 1) ≡ (any q (last_before t stretch p j) j || q j)
-  since-asks = any-step q (last_before t stretch p j) j
-      ∙ rw (le-leb (last_before t stretch p j) j (omega (arith, last-within))) refl
+  pub any_since-step : any q (last_before t stretch p j) (j + 1) ≡ (any q (last_before t stretch p j) j || q j)
+  any_since-step = any-step q (last_before t stretch p j) j
+      ∙ rw (le-leb (last_before t stretch p j) j (omega (arith, last_before-bound))) refl
 
   -- what a rule asks after the last instant up to `j`, by the field and by what happens at `j`
-  pub since-later-asks : any q (last_before t stretch p j + 1) (j + 1)
+  pub any_after-step : any q (last_before t stretch p j + 1) (j + 1)
       ≡ (any q (last_before t stretch p j + 1) j || q j)
-  since-later-asks = any-step q (last_before t stretch p j + 1) j
-      ∙ rw (le-leb (last_before t stretch p j + 1) j last-within) refl
+  any_after-step = any-step q (last_before t stretch p j + 1) j
+      ∙ rw (le-leb (last_before t stretch p j + 1) j last_before-bound) refl
 
   -- the field one instant later
-  pub since-step : {a b c : Bool} → a ≡ any q (last_before t stretch p j) j → b ≡ p j → c ≡ q j
+  pub any_since-field_step : {a b c : Bool} → a ≡ any q (last_before t stretch p j) j → b ≡ p j → c ≡ q j
       → ((a && not b) || c) ≡ any q (last_before t stretch p (j + 1)) (j + 1)
-  since-step e f g = rw (e, f, g) (by_either_value (p j) (λ e. rw (last_before-here e, e, here_only, and-false) refl)
-      (λ e. rw (last_before-not_here e, e, since-asks, and-true) refl))
+  any_since-field_step e f g = rw (e, f, g)
+      (by_either_value (p j) (λ e. rw (last_before-here e, e, any-from_here, and-false) refl)
+      (λ e. rw (last_before-not_here e, e, any_since-step, and-true) refl))
     where
-      here_only : any q j (j + 1) ≡ q j
-      here_only = any-step q j j ∙ rw (any-start q j j (omega arith), le-leb j j (omega arith)) refl
+      -- from `j` on `q` has held exactly if it does at `j`
+      any-from_here : any q j (j + 1) ≡ q j
+      any-from_here = any-step q j j ∙ rw (any-start q j j (omega arith), le-leb j j (omega arith)) refl
 
   -- the field that leaves out the last instant, one instant later
-  pub since-later-step : {a b c : Bool} → a ≡ any q (last_before t stretch p j + 1) j → b ≡ p j → c ≡ q j
+  pub any_after-field_step : {a b c : Bool} → a ≡ any q (last_before t stretch p j + 1) j → b ≡ p j → c ≡ q j
       → ((a || c) && not b) ≡ any q (last_before t stretch p (j + 1) + 1) (j + 1)
-  since-later-step e f g = rw (e, f, g) (by_either_value (p j)
+  any_after-field_step e f g = rw (e, f, g) (by_either_value (p j)
       (λ e. rw (last_before-here e, e, and-false) (sym (any-start q (j + 1) (j + 1) (omega arith))))
-      (λ e. rw (last_before-not_here e, e, and-true) (sym since-later-asks)))
+      (λ e. rw (last_before-not_here e, e, and-true) (sym any_after-step)))
 
 -- the fields after the start of a stretch
 module _ (t : Trace) (stretch : Stretch) (p q : ℕ → Bool) where
@@ -610,15 +630,15 @@ module _ (t : Trace) (stretch : Stretch) (p q : ℕ → Bool) where
       (omega arith))
 
   -- after the start of a stretch `q` has held exactly if it does at the start
-  pub since-start : any q (last_before t stretch p (stretch.start + 1)) (stretch.start + 1) ≡ q stretch.start
-  since-start = ap (λ k. any q k (stretch.start + 1)) last_before-start
+  pub any_since-at_start : any q (last_before t stretch p (stretch.start + 1)) (stretch.start + 1) ≡ q stretch.start
+  any_since-at_start = ap (λ k. any q k (stretch.start + 1)) last_before-start
       ∙ (any-step q stretch.start stretch.start
       ∙ rw (any-start q stretch.start stretch.start (omega arith), le-leb stretch.start stretch.start (omega arith))
       refl)
 
   -- after the start of a stretch `q` hasn't held since
-  pub since-later-start : any q (last_before t stretch p (stretch.start + 1) + 1) (stretch.start + 1) ≡ false
-  since-later-start = ap (λ k. any q (k + 1) (stretch.start + 1)) last_before-start
+  pub any_after-at_start : any q (last_before t stretch p (stretch.start + 1) + 1) (stretch.start + 1) ≡ false
+  any_after-at_start = ap (λ k. any q (k + 1) (stretch.start + 1)) last_before-start
       ∙ any-start q (stretch.start + 1) (stretch.start + 1) (omega arith)
 
 module _ (t : Trace) (stretch : Stretch) (j : ℕ) (judged : is_judged stretch j ≡ true) where
@@ -635,7 +655,7 @@ module _ (t : Trace) (stretch : Stretch) (j : ℕ) (judged : is_judged stretch j
     is_answered-by_fields : IsOpenTransfer t stretch (j + 1) j c
         → (c.answered || answer_falls t j) ≡ is_answered t stretch c.start (j + 1)
     is_answered-by_fields w =
-        ap (λ b. b || answer_falls t j) w.answered ∙ sym (answered-step t stretch j c.start judged w.last w.still)
+        ap (λ b. b || answer_falls t j) w.answered ∙ sym (is_answered-step t stretch j c.start judged w.last w.still)
 
     -- the open transfer is answered at j exactly if an answer falls there, and it wasn't answered before
     answers-by_fields : IsOpenTransfer t stretch (j + 1) j c → (answer_falls t j && not c.answered)
@@ -644,45 +664,47 @@ module _ (t : Trace) (stretch : Stretch) (j : ℕ) (judged : is_judged stretch j
         ap (λ b. answer_falls t j && not b) w.answered ∙ sym (answers-is t stretch j c.start judged w.last w.still)
 
     -- a transfer is open exactly if the instant is in one
-    pub has-is : c.is_open ≡ in_transfer t stretch (λ i. true) j
-    has-is = sym (and-true c.is_open) ∙ in_transfer-by_open true (λ i. true) (λ w. refl)
+    pub in_transfer-is_open : c.is_open ≡ in_transfer t stretch (λ i. true) j
+    in_transfer-is_open = sym (and-true c.is_open) ∙ in_transfer-by_open true (λ i. true) (λ w. refl)
 
     -- there is an answer at j exactly if a transfer is open, an answer falls, and it wasn't answered before
-    pub answer-is : (c.is_open && (answer_falls t j && not c.answered)) ≡ is_answer t stretch j
+    pub is_answer-by_fields : (c.is_open && (answer_falls t j && not c.answered)) ≡ is_answer t stretch j
     unfolding is_answer
-    answer-is = in_transfer-by_open (answer_falls t j && not c.answered) (λ i. answers t stretch i j)
+    is_answer-by_fields = in_transfer-by_open (answer_falls t j && not c.answered) (λ i. answers t stretch i j)
         (λ w. answers-by_fields w)
 
     -- the answer at j is that of a write exactly if the open transfer is a write
-    pub write-is : (is_answer t stretch j && c.is_write) ≡ answers_write t stretch j
+    pub answers_write-by_fields : (is_answer t stretch j && c.is_write) ≡ answers_write t stretch j
     unfolding answers_write
-    write-is =
-        ap (λ b. b && c.is_write) (sym answer-is) ∙ (and_assoc c.is_open (answer_falls t j && not c.answered) c.is_write
+    answers_write-by_fields =
+        ap (λ b. b && c.is_write) (sym is_answer-by_fields)
+        ∙ (and_assoc c.is_open (answer_falls t j && not c.answered) c.is_write
         ∙ in_transfer-by_open ((answer_falls t j && not c.answered) && c.is_write)
         (λ i. answers t stretch i j && is_write t stretch i)
         (λ w. ap (λ b. b && c.is_write) (answers-by_fields w) ∙ ap (λ b. answers t stretch c.start j && b) w.direction))
 
     -- the open transfer started before j, and isn't answered up to it
-    pub unanswered-is : (c.is_open && (nat_lt c.start j && not (c.answered || answer_falls t j)))
+    pub is_unanswered-by_fields : (c.is_open && (nat_lt c.start j && not (c.answered || answer_falls t j)))
         ≡ is_unanswered t stretch j
-    unanswered-is = in_transfer-by_open (nat_lt c.start j && not (c.answered || answer_falls t j)) _
+    is_unanswered-by_fields = in_transfer-by_open (nat_lt c.start j && not (c.answered || answer_falls t j)) _
         (λ w. ap (λ b. nat_lt c.start j && not b) (is_answered-by_fields w))
 
     -- the open transfer started before j, and was answered before
-    pub was-answered-is : (c.is_open && (nat_lt c.start j && c.answered))
+    pub in_transfer-was_answered : (c.is_open && (nat_lt c.start j && c.answered))
         ≡ in_transfer t stretch (λ i. nat_lt i j && is_answered t stretch i j) j
-    was-answered-is = in_transfer-by_open (nat_lt c.start j && c.answered) _
+    in_transfer-was_answered = in_transfer-by_open (nat_lt c.start j && c.answered) _
         (λ w. ap (λ b. nat_lt c.start j && b) w.answered)
 
     -- the open transfer was answered before j, or both answers fall at j
-    pub twice-is : (c.is_open && (c.answered || (falls t DTACK j && falls t BERR j)))
+    pub in_transfer-answered_twice : (c.is_open && (c.answered || (falls t DTACK j && falls t BERR j)))
         ≡ in_transfer t stretch
         (λ i. is_answered t stretch i j || (answers t stretch i j && falls t DTACK j && falls t BERR j)) j
-    twice-is = in_transfer-by_open (c.answered || (falls t DTACK j && falls t BERR j)) _
+    in_transfer-answered_twice = in_transfer-by_open (c.answered || (falls t DTACK j && falls t BERR j)) _
         (λ w. by_values c.answered (falls t DTACK j) (falls t BERR j)
         ∙ (ap (λ b. c.answered || (b && falls t DTACK j && falls t BERR j)) (answers-by_fields w)
         ∙ ap (λ b. b || (answers t stretch c.start j && falls t DTACK j && falls t BERR j)) w.answered))
       where
+        -- by whether the transfer was answered, and which answers fall
         by_values : (a d b : Bool) → (a || (d && b)) ≡ (a || (((d || b) && not a) && d && b))
         by_values true d b = refl
         by_values false true true = refl
@@ -691,15 +713,17 @@ module _ (t : Trace) (stretch : Stretch) (j : ℕ) (judged : is_judged stretch j
         by_values false false false = refl
 
     -- the open transfer is a write that wasn't answered before j
-    pub open-write-is : (c.is_open && (c.is_write && not c.answered))
+    pub in_transfer-open_write : (c.is_open && (c.is_write && not c.answered))
         ≡ in_transfer t stretch (λ i. is_write t stretch i && not (is_answered t stretch i j)) j
-    open-write-is = in_transfer-by_open (c.is_write && not c.answered) _ (λ w. rw (w.direction, w.answered) refl)
+    in_transfer-open_write = in_transfer-by_open (c.is_write && not c.answered) _
+        (λ w. rw (w.direction, w.answered) refl)
 
     -- the open transfer is a write whose data must be held at j
-    pub data-is : (r : Bool) → (IsOpenTransfer t stretch (j + 1) j c → r ≡ any (strobe_rises t) (c.start + 1) (j + 1))
+    pub is_data_held-by_fields : (r : Bool)
+        → (IsOpenTransfer t stretch (j + 1) j c → r ≡ any (strobe_rises t) (c.start + 1) (j + 1))
         → (c.is_open && (nat_lt c.start j && c.is_write && not (c.answered || answer_falls t j) && not r))
         ≡ is_data_held t stretch j
-    data-is r rose = in_transfer-by_open
+    is_data_held-by_fields r rose = in_transfer-by_open
         (nat_lt c.start j && c.is_write && not (c.answered || answer_falls t j) && not r) _
         (λ w. rw (w.direction, is_answered-by_fields w, rose w) refl)
 
@@ -712,68 +736,70 @@ module _ (t : Trace) (stretch : Stretch) (j : ℕ) (judged : is_judged stretch j
         (λ e. rw (e, is.absent e) refl)
 
     -- what rule C1 asks of the last cycle, by its fields
-    pub breaks_read_modify_write-cycle-is : (w : Bool) → w ≡ answers_write t stretch j
+    pub in_cycle-breaks_read_modify_write : (w : Bool) → w ≡ answers_write t stretch j
         → (c.has_started && (is_single c.class && (c.answered && (c.answered_again || c.first_writes || not w))))
         ≡ in_cycle t stretch (λ i. is_single (class_at t stretch i)
         && breaks_read_modify_write t stretch (answers_of t stretch i j)
         j) j
-    breaks_read_modify_write-cycle-is w e =
+    in_cycle-breaks_read_modify_write w e =
         in_cycle-by_last (is_single c.class && (c.answered && (c.answered_again || c.first_writes || not w))) _
         (λ k. rw (k.class, k.answered, k.answered_again, k.first_writes, e)
         (ap (λ b. is_single (class_at t stretch c.start) && b)
         (breaks_read_modify_write-is t stretch (answers_of t stretch c.start j) j)))
 
     -- what rule C2 asks of the last cycle, by its fields
-    pub changes_direction-cycle-is : (w : Bool) → w ≡ answers_write t stretch j
+    pub in_cycle-changes_direction : (w : Bool) → w ≡ answers_write t stretch j
         → (c.has_started && (is_block_class c.class && (c.answered && not (beq c.first_writes w))))
         ≡ in_cycle t stretch (λ i. is_block_class (class_at t stretch i)
         && changes_direction t stretch (answers_of t stretch i j)
         j) j
-    changes_direction-cycle-is w e = in_cycle-by_last
+    in_cycle-changes_direction w e = in_cycle-by_last
         (is_block_class c.class && (c.answered && not (beq c.first_writes w))) _
         (λ k. rw (k.class, k.answered, k.first_writes, e)
         (ap (λ b. is_block_class (class_at t stretch c.start) && b)
         (changes_direction-is t stretch (answers_of t stretch c.start j) j)))
 
     -- the cycle of the instant is an interrupt acknowledge, by the fields of the last cycle
-    pub interrupt-is : (c.has_started && is_interrupt c.class) ≡ in_cycle t stretch
+    pub in_cycle-interrupt : (c.has_started && is_interrupt c.class) ≡ in_cycle t stretch
         (λ i. is_interrupt (class_at t stretch i)) j
-    interrupt-is = in_cycle-by_last (is_interrupt c.class) _ (λ k. ap is_interrupt k.class)
+    in_cycle-interrupt = in_cycle-by_last (is_interrupt c.class) _ (λ k. ap is_interrupt k.class)
 
     -- it is one that has been answered, by these fields
-    pub answered-interrupt-is : (c.has_started && (is_interrupt c.class && c.answered))
+    pub in_cycle-answered_interrupt : (c.has_started && (is_interrupt c.class && c.answered))
         ≡ in_cycle t stretch (λ i. is_interrupt (class_at t stretch i) && has_earlier_answer (answers_of t stretch i j))
         j
-    answered-interrupt-is = in_cycle-by_last (is_interrupt c.class && c.answered) _ (λ k. rw (k.class, k.answered) refl)
+    in_cycle-answered_interrupt = in_cycle-by_last (is_interrupt c.class && c.answered) _
+        (λ k. rw (k.class, k.answered) refl)
 
     -- the cycle of the instant is that of the instant before, if none starts here
-    before-is : falls t AS j ≡ false → (p : ℕ → Bool) → in_cycle t stretch p j ≡ in_cycle t stretch p (j - 1)
+    in_cycle-instant_before : falls t AS j ≡ false → (p : ℕ → Bool) → in_cycle t stretch p j
+        ≡ in_cycle t stretch p (j - 1)
     unfolding in_cycle cycle_of
-    before-is still p =
+    in_cycle-instant_before still p =
         let some = is_judged-not_opening stretch j judged in
         let back : j ≡ j - 1 + 1 = omega arith in
         ap (λ o. option_map_or p o false)
-        (greatest-not (cycle_starts t stretch) (stretch.start + 1) j (cycle-starts-is t stretch j judged ∙ still)
+        (greatest-not (cycle_starts t stretch) (stretch.start + 1) j (cycle_starts-is t stretch j judged ∙ still)
         ∙ ap (greatest (cycle_starts t stretch) (stretch.start + 1)) back)
 
     -- the cycle of the instant before was answered by DTACK, by the fields of the last cycle, where none starts
-    pub answered_by_dtack-is : falls t AS j ≡ false → (c.has_started && c.answered_by_dtack)
+    pub in_cycle-answered_by_dtack : falls t AS j ≡ false → (c.has_started && c.answered_by_dtack)
         ≡ in_cycle t stretch (λ i. is_answered_by_dtack t stretch i j) (j - 1)
-    answered_by_dtack-is still =
+    in_cycle-answered_by_dtack still =
         in_cycle-by_last c.answered_by_dtack (λ i. is_answered_by_dtack t stretch i j) (λ k. k.answered_by_dtack)
-        ∙ before-is still (λ i. is_answered_by_dtack t stretch i j)
+        ∙ in_cycle-instant_before still (λ i. is_answered_by_dtack t stretch i j)
 
 -- for the goals of the questions that the state answers
-pub ruleset questions = (answer-is, write-is, unanswered-is, data-is)
+pub ruleset questions = (is_answer-by_fields, answers_write-by_fields, is_unanswered-by_fields, is_data_held-by_fields)
 
 -- ---- What a cycle or a transfer holds while it lasts: the lines that the cycle needs, and the direction of the
 -- transfer. Of all cycles, and of all transfers, only the last may hold them.
 
 -- some number of a range meets `p` exactly if the list of those that do isn't empty
-any-later : (p : ℕ → Bool) (f n : ℕ) → any p f n ≡ has_earlier_answer (those p f n)
+any-those : (p : ℕ → Bool) (f n : ℕ) → any p f n ≡ has_earlier_answer (those p f n)
 unfolding any those
-any-later p f zero = refl
-any-later p f (suc n) = rw (any-later p f n) (not_empty-push (those p f n) (nat_le f n && p n))
+any-those p f zero = refl
+any-those p f (suc n) = rw (any-those p f n) (not_empty-push (those p f n) (nat_le f n && p n))
   where
     -- a list with one number more, if b is true, isn't empty exactly if it wasn't or b is true
     not_empty-push : (rs : List ℕ) (b : Bool) → (has_earlier_answer rs || b)
@@ -783,59 +809,66 @@ any-later p f (suc n) = rw (any-later p f n) (not_empty-push (those p f n) (nat_
     not_empty-push (r ∷ rs) b = refl
 
 -- a line that was low stays so while it is known and doesn't rise
-low-stays : (t : Trace) (l i k : ℕ) → low t l i ≡ true → i ≤ k → ((r : ℕ) → i < r → r ≤ k → known t l r ≡ true)
+low-up_to : (t : Trace) (l i k : ℕ) → low t l i ≡ true → i ≤ k → ((r : ℕ) → i < r → r ≤ k → known t l r ≡ true)
     → ((r : ℕ) → i < r → r ≤ k → rises t l r ≡ false) → low t l k ≡ true
-low-stays t l i zero starts order knows still = let same : 0 ≡ i = omega arith in ap (low t l) same ∙ starts
-low-stays t l i (suc k) starts order knows still =
+low-up_to t l i zero starts order knows still = let same : 0 ≡ i = omega arith in ap (low t l) same ∙ starts
+low-up_to t l i (suc k) starts order knows still =
     elim (eq-or_below i (suc k) (omega arith)) [
       | inl same ↦ ap (low t l) (sym same) ∙ starts
       | inr before ↦
           let back : k ≡ suc k - 1 = omega arith in
-          let earlier = low-stays t l i k starts (omega arith) (λ r a b. knows r a (omega arith))
+          let earlier = low-up_to t l i k starts (omega arith) (λ r a b. knows r a (omega arith))
           (λ r a b. still r a (omega arith)) in
-          stays-low t l (suc k) (ap (low t l) (sym back) ∙ earlier) (still (suc k) before (omega arith))
+          low-next_instant t l (suc k) (ap (low t l) (sym back) ∙ earlier) (still (suc k) before (omega arith))
           (knows (suc k) before (omega arith))
     ]
 
 -- the lines that a cycle needs are those that the levels at its start need
 module _ (t : Trace) (start : ℕ) where
   -- a line is within what a cycle needs exactly if the levels at its start need it
-  pub needed-at : (needs : Needs) (l : ℕ) → needs ≡ needs_of (levels_at t start) → is_within needs l
+  pub is_within-needs_at_start : (needs : Needs) (l : ℕ) → needs ≡ needs_of (levels_at t start) → is_within needs l
       ≡ is_needed (levels_at t start) l
   unfolding is_needed
-  needed-at needs l e = ap (λ (n : Needs). is_within n l) e
+  is_within-needs_at_start needs l e = ap (λ (n : Needs). is_within n l) e
 
 module _ (t : Trace) (stretch : Stretch) (is : IsStretchOf t stretch) where
   -- from the start of a transfer to where both strobes are high, one rises
-  strobe-rose : (i k : ℕ) → transfer_starts t stretch i ≡ true → i < k → k < stretch.end → strobes_high t k ≡ true
+  any-strobe_rises_until_high : (i k : ℕ) → transfer_starts t stretch i ≡ true → i < k → k < stretch.end
+      → strobes_high t k ≡ true
       → any (strobe_rises t) (i + 1) (k + 1) ≡ true
   unfolding transfer_starts low high
-  strobe-rose i k start before end high_there =
+  any-strobe_rises_until_high i k start before end high_there =
       by_either_value (any (strobe_rises t) (i + 1) (k + 1)) (λ e. e) (λ none. absurd
       (not-high_and_low (level t DS0 k) (level t DS1 k) high_there
-      (by_low (low t DS0 i) (low t DS1 i) parts.1 refl refl (quiet none))))
+      (by_low (low t DS0 i) (low t DS1 i) start_parts.1 refl refl (no_rise_between none))))
     where
-      reads : ReadsStrobes t stretch
-      reads = stretch_reads t stretch is
+      -- the levels of both strobes are read throughout the stretch
+      strobes_known : ReadsStrobes t stretch
+      strobes_known = stretch_reads t stretch is
 
-      parts : ((is_judged stretch i && strobes_high t (i - 1)) ≡ true) × ((low t DS0 i || low t DS1 i) ≡ true)
-      parts = and_parts (is_judged stretch i && strobes_high t (i - 1)) (low t DS0 i || low t DS1 i) start
+      -- both strobes were high before the start, and one is low at it
+      start_parts : ((is_judged stretch i && strobes_high t (i - 1)) ≡ true) × ((low t DS0 i || low t DS1 i) ≡ true)
+      start_parts = and_parts (is_judged stretch i && strobes_high t (i - 1)) (low t DS0 i || low t DS1 i) start
 
-      from : stretch.start + 1 ≤ i
-      from = is_judged-after_start stretch i (and_parts (is_judged stretch i) (strobes_high t (i - 1)) parts.0).0
+      -- the transfer starts after the stretch does
+      after_start : stretch.start + 1 ≤ i
+      after_start = is_judged-after_start stretch i
+          (and_parts (is_judged stretch i) (strobes_high t (i - 1)) start_parts.0).0
 
-      quiet : any (strobe_rises t) (i + 1) (k + 1) ≡ false → (r : ℕ) → i < r → r ≤ k
+      -- if no strobe rises up to k, neither line rises between
+      no_rise_between : any (strobe_rises t) (i + 1) (k + 1) ≡ false → (r : ℕ) → i < r → r ≤ k
           → (rises t DS0 r ≡ false) × (rises t DS1 r ≡ false)
-      quiet none r a b = or_parts (rises t DS0 r) (rises t DS1 r)
+      no_rise_between none r a b = or_parts (rises t DS0 r) (rises t DS1 r)
           (any-fails (strobe_rises t) (i + 1) (k + 1) r none (omega arith) (omega arith))
 
+      -- by which strobe is low at the start of the transfer
       by_low : (a b : Bool) → (a || b) ≡ true → low t DS0 i ≡ a → low t DS1 i ≡ b
           → ((r : ℕ) → i < r → r ≤ k → (rises t DS0 r ≡ false) × (rises t DS1 r ≡ false))
           → (low t DS0 k || low t DS1 k) ≡ true
-      by_low true b h e f still = rw (low-stays t DS0 i k e (omega arith)
-          (λ r a b. reads.first r (omega (arith, from)) (omega arith)) (λ r a b. (still r a b).0)) refl
-      by_low false true h e f still = rw (low-stays t DS1 i k f (omega arith)
-          (λ r a b. reads.second r (omega (arith, from)) (omega arith)) (λ r a b. (still r a b).1))
+      by_low true b h e f still = rw (low-up_to t DS0 i k e (omega arith)
+          (λ r a b. strobes_known.first r (omega (arith, after_start)) (omega arith)) (λ r a b. (still r a b).0)) refl
+      by_low false true h e f still = rw (low-up_to t DS1 i k f (omega arith)
+          (λ r a b. strobes_known.second r (omega (arith, after_start)) (omega arith)) (λ r a b. (still r a b).1))
           (or-true (low t DS0 k))
       by_low false false h e f still = absurd (cc)
 
@@ -860,34 +893,34 @@ module _ (t : Trace) (stretch : Stretch) (is : IsStretchOf t stretch) where
         let below = found.below in
         rw (
           any-longer (strobe_rises t) (i + 1) (some.0 + 1) (j + 1) (omega arith)
-              (strobe-rose i some.0 start (omega arith) (omega (arith, judged-before_end)) found.holds),
+              (any-strobe_rises_until_high i some.0 start (omega arith) (omega (arith, judged-before_end)) found.holds),
           start,
         ) refl
 
     -- if each transfer has closed, none holds the direction
-    direction-none : AreClosed t stretch (j + 1) j → any directs (stretch.start + 1) j ≡ false
-    direction-none closed = fails-any directs (stretch.start + 1) j
+    directs-none_if_closed : AreClosed t stretch (j + 1) j → any directs (stretch.start + 1) j ≡ false
+    directs-none_if_closed closed = fails-any directs (stretch.start + 1) j
         (λ i a b. and-fails_unless (transfer_starts t stretch i) _
         (λ e. directs-not_closed i (closed i (omega arith) e) e))
 
     -- the open transfer holds the direction exactly if it started before j and no strobe rose since
-    direction-last : (c : Transfer) → IsOpenTransfer t stretch (j + 1) j c
+    directs-last : (c : Transfer) → IsOpenTransfer t stretch (j + 1) j c
         → any directs (stretch.start + 1) j ≡ (nat_lt c.start j && none (strobe_rises t) (c.start + 1) (j + 1))
-    direction-last c h =
+    directs-last c h =
         let found = greatest-found (transfer_starts t stretch) (stretch.start + 1) (j + 1) c.start h.last in
         let within = found.before in
         only-last (transfer_starts t stretch) directs (stretch.start + 1) j c.start found (λ i e. rw e refl)
         (λ i before e. directs-not_closed i (any-longer (strobes_high t) (i + 1) c.start j (omega arith)
-        (high-between t stretch i c.start before e found.holds)) e)
+        (strobes_high-between t stretch i c.start before e found.holds)) e)
         ∙ ap (λ b. nat_lt c.start j && (b && none (strobe_rises t) (c.start + 1) (j + 1))) found.holds
 
     -- some transfer holds the direction at j exactly if the fields of the open one say so
-    pub direction-is : (c : Transfer) → IsTransfer t stretch (j + 1) j c → (r : Bool)
+    pub directs-by_fields : (c : Transfer) → IsTransfer t stretch (j + 1) j c → (r : Bool)
         → (IsOpenTransfer t stretch (j + 1) j c → r ≡ any (strobe_rises t) (c.start + 1) (j + 1))
         → (c.is_open && nat_lt c.start j && not r) ≡ any directs (stretch.start + 1) j
-    direction-is c is r rose = by_either_value c.is_open
-        (λ e. rw e (ap (λ b. nat_lt c.start j && not b) (rose (is.here e)) ∙ sym (direction-last c (is.here e))))
-        (λ e. rw e (sym (direction-none (is.absent e))))
+    directs-by_fields c is r rose = by_either_value c.is_open
+        (λ e. rw e (ap (λ b. nat_lt c.start j && not b) (rose (is.here e)) ∙ sym (directs-last c (is.here e))))
+        (λ e. rw e (sym (directs-none_if_closed (is.absent e))))
 
     -- ---- a line that a cycle needs
     module _ (l : ℕ) where
@@ -904,71 +937,80 @@ module _ (t : Trace) (stretch : Stretch) (is : IsStretchOf t stretch) where
       -- a cycle that has ended doesn't need the line
       needs-not_after_end : (i : ℕ) → none (rises t AS) (i + 1) j ≡ false → needs i ≡ false
       unfolding cycle_runs
-      needs-not_after_end i h = rw (none-stays_false (rises t AS) i j h) (off (cycle_starts t stretch i))
+      needs-not_after_end i h = rw (none-stays_false (rises t AS) i j h) (and-false_second (cycle_starts t stretch i))
         where
-          off : (a : Bool) → (a && false && none (is_answer t stretch) i (j + 1) && is_needed (levels_at t i) l) ≡ false
-          off true = refl
-          off false = refl
+          -- what is false makes a conjunction false, after another condition too
+          and-false_second : (a : Bool) → (a && false && none (is_answer t stretch) i (j + 1) && is_needed
+              (levels_at t i) l) ≡ false
+          and-false_second true = refl
+          and-false_second false = refl
 
       -- if no cycle has started, none needs the line
-      held-none : greatest (cycle_starts t stretch) (stretch.start + 1) (j + 1) ≡ None → any needs (stretch.start + 1) j
+      needs-none : greatest (cycle_starts t stretch) (stretch.start + 1) (j + 1) ≡ None
+          → any needs (stretch.start + 1) j
           ≡ false
-      held-none nowhere = fails-any needs (stretch.start + 1) j
+      needs-none nowhere = fails-any needs (stretch.start + 1) j
           (λ i a b. needs-not_without_start i
           (any-fails (cycle_starts t stretch) (stretch.start + 1) (j + 1) i (greatest-none-any _ _ _ nowhere) a
           (omega arith)))
 
       -- only the last cycle may need the line, as its fields say
-      held-last : (c : Cycle) → IsLastCycle t stretch (j + 1) j c
+      needs-last : (c : Cycle) → IsLastCycle t stretch (j + 1) j c
           → any needs (stretch.start + 1) j ≡
           (nat_lt c.start j && (c.runs && not (rises t AS j)) && not
           (has_earlier_answer (answers_of t stretch c.start j))
           && not (is_answer t stretch j) && is_needed (levels_at t c.start) l)
       unfolding answers_of cycle_runs
-      held-last c h =
-          only-last (cycle_starts t stretch) needs (stretch.start + 1) j c.start found
+      needs-last c h =
+          only-last (cycle_starts t stretch) needs (stretch.start + 1) j c.start IsGreatest-last_cycle_start
           (λ i e. needs-not_without_start i e)
           (λ i before e. needs-not_after_end i (h.others i e before))
-          ∙ (ap (λ b. nat_lt c.start j && b) step ∙ grouped (nat_lt c.start j) _ _ _ _)
+          ∙ (ap (λ b. nat_lt c.start j && b) needs-start ∙ and-group_first (nat_lt c.start j) _ _ _ _)
         where
-          grouped : (n a b x y : Bool) → (n && (a && b && x && y)) ≡ (n && a && b && x && y)
-          grouped true a b x y = refl
-          grouped false a b x y = refl
+          -- a condition on a conjunction is one part of it
+          and-group_first : (n a b x y : Bool) → (n && (a && b && x && y)) ≡ (n && a && b && x && y)
+          and-group_first true a b x y = refl
+          and-group_first false a b x y = refl
 
-          found : IsGreatest (cycle_starts t stretch) (stretch.start + 1) (j + 1) c.start
-          found = greatest-found (cycle_starts t stretch) (stretch.start + 1) (j + 1) c.start h.last
+          -- the last cycle is the last to start
+          IsGreatest-last_cycle_start : IsGreatest (cycle_starts t stretch) (stretch.start + 1) (j + 1) c.start
+          IsGreatest-last_cycle_start = greatest-found (cycle_starts t stretch) (stretch.start + 1) (j + 1) c.start
+              h.last
 
-          unanswered : none (is_answer t stretch) c.start (j + 1) ≡
+          -- the cycle isn't answered up to j exactly if it wasn't before, nor is at j
+          none-answers : none (is_answer t stretch) c.start (j + 1) ≡
               (not (has_earlier_answer (answers_of t stretch c.start j)) && not (is_answer t stretch j))
-          unanswered = rw (
+          none-answers = rw (
             any-step (is_answer t stretch) c.start j,
-            le-leb c.start j (cycle-within t stretch j judged c h),
-            any-later
+            le-leb c.start j (last_cycle-start_not_later t stretch j judged c h),
+            any-those
                 (is_answer t stretch) c.start j,
           )
               (not_or (has_earlier_answer (those (is_answer t stretch) c.start j)) (is_answer t stretch j))
 
-          step : needs c.start ≡
+          -- whether the last cycle needs the line, by its fields
+          needs-start : needs c.start ≡
               ((c.runs && not (rises t AS j)) && not (has_earlier_answer (answers_of t stretch c.start j)) && not
               (is_answer t stretch j) && is_needed (levels_at t c.start) l)
-          step = rw (found.holds, unanswered, runs-on t stretch j judged c h)
-              (regroup (c.runs && not (rises t AS j)) (not (has_earlier_answer (answers_of t stretch c.start j)))
+          needs-start = rw (IsGreatest-last_cycle_start.holds, none-answers, runs-step t stretch j judged c h)
+              (and-regroup (c.runs && not (rises t AS j)) (not (has_earlier_answer (answers_of t stretch c.start j)))
               (not (is_answer t stretch j)) (is_needed (levels_at t c.start) l))
             where
-              regroup : (a b x y : Bool) → (true && a && (b && x) && y) ≡ (a && b && x && y)
-              regroup true true x y = refl
-              regroup true false x y = refl
-              regroup false b x y = refl
+              -- a part that is true may be left out of a conjunction
+              and-regroup : (a b x y : Bool) → (true && a && (b && x) && y) ≡ (a && b && x && y)
+              and-regroup true true x y = refl
+              and-regroup true false x y = refl
+              and-regroup false b x y = refl
 
       -- some cycle needs the line at j exactly if the fields of the last one say so
-      pub held-is : (c : Cycle) → IsCycle t stretch (j + 1) j c → (ri an ne : Bool) → ri ≡ rises t AS j
+      pub needs-by_fields : (c : Cycle) → IsCycle t stretch (j + 1) j c → (ri an ne : Bool) → ri ≡ rises t AS j
           → an ≡ is_answer t stretch j → ne ≡ is_within c.needs l
           → (c.has_started && nat_lt c.start j && (c.runs && not ri) && not c.answered && not an && ne)
           ≡ any needs (stretch.start + 1) j
-      held-is c is ri an ne r a n = rw (r, a, n) (by_either_value c.has_started
+      needs-by_fields c is ri an ne r a n = rw (r, a, n) (by_either_value c.has_started
           (λ e. let w = is.here e in
-          rw (e, w.answered, needed-at t c.start c.needs l w.needs) (sym (held-last c w)))
-          (λ e. rw e (sym (held-none (is.absent e)))))
+          rw (e, w.answered, is_within-needs_at_start t c.start c.needs l w.needs) (sym (needs-last c w)))
+          (λ e. rw e (sym (needs-none (is.absent e)))))
 
 -- ---- The parts of a rule, as the code tests them and as they are defined.
 
@@ -992,20 +1034,20 @@ not-swapped a false h = rw h refl
 
 -- for the arms of `is_broken`
 pub ruleset asked = (
-  was-answered-is,
-  interrupt-is,
-  answered-interrupt-is,
-  has-is,
-  open-write-is,
-  breaks_read_modify_write-cycle-is,
-  changes_direction-cycle-is,
-  twice-is,
-  cycle-starts-is,
-  needed-at,
-  starts-is,
-  held-is,
-  answered_by_dtack-is,
-  low-no_fall,
-  since-asks,
-  since-later-asks,
+  in_transfer-was_answered,
+  in_cycle-interrupt,
+  in_cycle-answered_interrupt,
+  in_transfer-is_open,
+  in_transfer-open_write,
+  in_cycle-breaks_read_modify_write,
+  in_cycle-changes_direction,
+  in_transfer-answered_twice,
+  cycle_starts-is,
+  is_within-needs_at_start,
+  transfer_starts-is,
+  needs-by_fields,
+  in_cycle-answered_by_dtack,
+  falls-not_if_low,
+  any_since-step,
+  any_after-step,
 )

@@ -32,8 +32,9 @@ use Rattle.vme_cert.specs.State.{IsOpenTransfer, IsTransfer}
 use Rattle.vme_cert.specs.declared.state.Transfer.{Transfer}
 use Rattle.vme_cert.proofs.Comparing.{begun-compared, compare_row-compared, compare_row-given, compared-fewer}
 use Rattle.vme_cert.proofs.Comparing.{compared-on, slice_get-first_list}
-use Rattle.vme_cert.proofs.Fields.{low-no_fall, stays-low, answers-is, is_answer-is, starts-is, not-high_and_low}
-use Rattle.vme_cert.proofs.Fields.{high-between, answer-is, fall-low, no-fall}
+use Rattle.vme_cert.proofs.Fields.{falls-not_if_low, low-next_instant, answers-is, is_answer-is, transfer_starts-is}
+use Rattle.vme_cert.proofs.Fields.{not-high_and_low}
+use Rattle.vme_cert.proofs.Fields.{strobes_high-between, is_answer-by_fields, falls-low, falls-not_if_rises}
 use Rattle.vme_cert.proofs.Placing.{cycle-place, next-count, rows_in-row_after, rows_in-append, rows_in-length}
 use Rattle.vme_cert.proofs.Placing.{tenure-place}
 use Rattle.vme_cert.proofs.Placing.{transfer-place}
@@ -109,7 +110,7 @@ module _ (v : Version) (done : List Row) (t : Trace) (stretch : Stretch) (l j : 
         start = h.start;
         before = omega (arith, h.before);
         still = any-more (rises t l) (h.start + 1) j h.still held;
-        is_low = rw back (stays-low t l j h.is_low held is_known);
+        is_low = rw back (low-next_instant t l j h.is_low held is_known);
         expected = h.expected;
       }
 
@@ -139,7 +140,7 @@ module _ (v : Version) (done : List Row) (t : Trace) (stretch : Stretch) (l j : 
   -- where the line falls no row is open
   pub open-none : (o : Option OpenRow) → falls t l j ≡ true → EdgeAt j o → o ≡ None
   open-none None here h = refl
-  open-none (Some row) here h = absurd (clash (falls t l j) here (low-no_fall t l j h.is_low))
+  open-none (Some row) here h = absurd (clash (falls t l j) here (falls-not_if_low t l j h.is_low))
 
   -- a row that starts where the line is low is open
   pub open-new : (row : OpenRow) (expected : Row) → low t l j ≡ true → row.expected ≡ row_in v expected
@@ -304,8 +305,8 @@ module _ (t : Trace) (stretch : Stretch) where
     transfer-none None here h = refl
     transfer-none (Some row) here h =
         let found = greatest-found (transfer_starts t stretch) (stretch.start + 1) j h.start h.last in
-        absurd (clash _ (high-between t stretch h.start j found.before found.holds
-        (starts-is t stretch j judged ∙ here))
+        absurd (clash _ (strobes_high-between t stretch h.start j found.before found.holds
+        (transfer_starts-is t stretch j judged ∙ here))
         h.still)
 
     -- the row of a transfer that starts is the open one
@@ -318,7 +319,7 @@ module _ (t : Trace) (stretch : Stretch) where
     transfer-new row expected here places = record {
       start = j;
       last = greatest-here (transfer_starts t stretch) (stretch.start + 1) j (is_judged-after_start stretch j judged)
-          (starts-is t stretch j judged ∙ here);
+          (transfer_starts-is t stretch j judged ∙ here);
       still = any-start (strobes_high t) (j + 1) j (omega arith);
       expected = places;
       known = λ end edge. rw (least-none (answers t stretch j) j j (any-start (answers t stretch j) j j (omega arith)))
@@ -330,7 +331,8 @@ module _ (t : Trace) (stretch : Stretch) where
     transfer-kept None here h = tt
     transfer-kept (Some row) here h = record {
       start = h.start;
-      last = greatest-not (transfer_starts t stretch) (stretch.start + 1) j (starts-is t stretch j judged ∙ here)
+      last = greatest-not (transfer_starts t stretch) (stretch.start + 1) j
+          (transfer_starts-is t stretch j judged ∙ here)
           ∙ h.last;
       still = h.still;
       expected = h.expected;
@@ -361,7 +363,7 @@ module _ (t : Trace) (stretch : Stretch) where
         → IsOpenTransfer t stretch (j + 1) j c
     IsOpenTransfer-answered c is here = by_either_value c.is_open is.here
         (λ e. absurd (clash (is_answer t stretch j) here
-        (sym (answer-is t stretch j judged c is) ∙ ap (λ b. b && (answer_falls t j && not c.answered)) e)))
+        (sym (is_answer-by_fields t stretch j judged c is) ∙ ap (λ b. b && (answer_falls t j && not c.answered)) e)))
 
     -- if no cycle has started, the answer isn't listed
     pub transfer-outside : (o : Option OpenRow) → is_answer t stretch j ≡ true
@@ -664,12 +666,12 @@ module _ (t : Trace) (stretch : Stretch) (j : ℕ) (judged : is_judged stretch j
   pub transfer-rows-at : starts_transfer t j ≡ true → transfer_rows t stretch end j
       ≡ transfer_row t stretch end j (least (answers t stretch j) j end) ∷ []
   unfolding transfer_rows
-  transfer-rows-at here = rw (starts-is t stretch j judged ∙ here) refl
+  transfer-rows-at here = rw (transfer_starts-is t stretch j judged ∙ here) refl
 
   -- where no transfer starts, there is no row of one
   pub transfer-rows-not : starts_transfer t j ≡ false → transfer_rows t stretch end j ≡ []
   unfolding transfer_rows
-  transfer-rows-not here = rw (starts-is t stretch j judged ∙ here) refl
+  transfer-rows-not here = rw (transfer_starts-is t stretch j judged ∙ here) refl
 
 -- the row of a cycle without its end, when the end is set, is the row with it
 cycle_row-with_edge : (i : ℕ) (v : Levels) (edge : Option ℕ) (c : Class)
@@ -711,7 +713,7 @@ module _ {Whole Source : Type 0} {gave : Whole → Source → List Row → Type 
         (least (rises t BBSY) (j + 1) end) ∷ [] =
         λ end. tenure-rows-at t stretch j judged end here ∙ rw (e, f) refl in
         let (taken, opened) = line-begins h.are_taken (j + 1) (omega arith) Tenures BBSY j refl
-        (open-none v done t stretch BBSY j old.tenure here h.tenure) (fall-low t BBSY j here) b
+        (open-none v done t stretch BBSY j old.tenure here h.tenure) (falls-low t BBSY j here) b
         (ap (λ n. count_before v done t stretch j + n) (sym (length-equal_rows (starts j))))
         (λ end from. tenure-place t stretch v done end j from _ (starts end)) in
         record { are_taken = taken; tenure = opened; cycle = h.cycle; transfer = h.transfer }
@@ -744,7 +746,7 @@ module _ {Whole Source : Type 0} {gave : Whole → Source → List Row → Type 
         → WithTenure gave is_over whole v done t stretch j (put Tenures old new None)
     tenure-ends here s = record {
       are_taken =
-          let none = length-equal_rows (tenure-rows-not t stretch j judged j (no-fall t BBSY j here)) in
+          let none = length-equal_rows (tenure-rows-not t stretch j judged j (falls-not_if_rises t BBSY j here)) in
           let count : count_before v done t stretch j ≡ count_with_tenure v done t stretch j = omega (arith, none) in
           line-ends h.are_taken (j + 1) (omega arith) Tenures BBSY j refl h.tenure here s count;
       tenure = tt;
@@ -770,7 +772,7 @@ module _ {Whole Source : Type 0} {gave : Whole → Source → List Row → Type 
         → WithCycle gave is_over whole v done t stretch j (put Cycles old new (Some row))
     cycle-begins here {levels} same {expected = expected} b is =
         let (taken, opened) = line-begins h.are_taken (j + 1) (omega arith) Cycles AS j refl
-        (open-none v done t stretch AS j old.cycle here h.cycle) (fall-low t AS j here) b
+        (open-none v done t stretch AS j old.cycle here h.cycle) (falls-low t AS j here) b
         (ap (λ n. count_with_tenure v done t stretch j + n) (sym (length-equal_rows
         (cycle-rows-at t stretch j judged j here))))
         (λ end from. cycle-place t stretch v done end j from _ (cycle-rows-at t stretch j judged end here)
@@ -784,7 +786,7 @@ module _ {Whole Source : Type 0} {gave : Whole → Source → List Row → Type 
         old.compared new → WithCycle gave is_over whole v done t stretch j (put Cycles old new None)
     cycle-ends here s = record {
       are_taken =
-          let none = length-equal_rows (cycle-rows-not t stretch j judged j (no-fall t AS j here)) in
+          let none = length-equal_rows (cycle-rows-not t stretch j judged j (falls-not_if_rises t AS j here)) in
           let count : count_with_tenure v done t stretch j ≡ count_with_cycle v done t stretch j = omega (arith, none)
           in
           line-ends h.are_taken (j + 1) (omega arith) Cycles AS j refl h.cycle here s count;

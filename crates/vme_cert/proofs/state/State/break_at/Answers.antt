@@ -9,7 +9,7 @@ use Rattle.vme_cert.specs.Vocabulary.{strobe_falls}
 use Rattle.vme_cert.specs.Instant.{named}
 use Rattle.vme_cert.proofs.Breaks.{break_at-empty, break_at-here, break_at-next, break_at-none, breaks-off}
 use Rattle.vme_cert.proofs.Breaks.{breaks-elsewhere, unbroken}
-use Rattle.vme_cert.proofs.Fields.{cycle-starts-is}
+use Rattle.vme_cert.proofs.Fields.{cycle_starts-is}
 use Rattle.vme_cert.proofs.state.State.break_at.Goals as goal
 
 pub returns-then-not-change-transfer : goal.returns-then-not-change-transfer
@@ -28,7 +28,7 @@ returns-then-not-change-transfer c t stretch h =
     (λ r l e s. c.is_change_broken-change.ensures t stretch r l h one.0 e s)
     (λ l. c.is_broken_within-cycle.ensures t stretch l h two.1
     (λ e. let none : cycle_starts t stretch j ≡ false =
-    cycle-starts-is t stretch j h.judged ∙ (sym (c.falls-starts.ensures t h.at) ∙ e) in
+    cycle_starts-is t stretch j h.judged ∙ (sym (c.falls-starts.ensures t h.at) ∙ e) in
     breaks-off t stretch j l U2 (rw none refl))
     (λ e. breaks-off t stretch j l U2 (rw (e, and-false) refl))
     (λ e. sym (breaks-elsewhere t stretch j l U2 h.judged

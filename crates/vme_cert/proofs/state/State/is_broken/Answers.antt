@@ -5,7 +5,7 @@ use Rattle.vme_cert.specs.Vocabulary.{BR, Rule, grant_falls, is_broken, last_bef
 use Rattle.vme_cert.specs.RulesByLine.{may_be_broken_on}
 use Rattle.vme_cert.proofs.Fields as arms
 use Rattle.vme_cert.proofs.Instant.{granted-near}
-use Rattle.vme_cert.proofs.Fields.{direction-is, since-asks}
+use Rattle.vme_cert.proofs.Fields.{directs-by_fields, any_since-step}
 use Rattle.vme_cert.proofs.state.State.is_broken.Goals as goal
 
 -- a rule that may be broken on a line may be, if it is named otherwise
@@ -21,7 +21,7 @@ returns-in-G5 c t stretch h =
     c.is_first-in-G5.ensures
     (c.falls-in-G5.ensures t h.at)
     (ap not (arms.or-two_parts (c.was_requested.ensures ∙ h.holds.requested level c.level_of-level.ensures.below)
-    (c.requests.ensures t h.at) ∙ sym (since-asks t stretch (grant_falls t) (low t (BR level)) j h.judged))
+    (c.requests.ensures t h.at) ∙ sym (any_since-step t stretch (grant_falls t) (low t (BR level)) j h.judged))
     ∙ ap (λ n. none (low t (BR n)) (last_before t stretch (grant_falls t) j) (j + 1)) c.level_of-level.ensures.level))
 
 pub returns-in-B1 : goal.returns-in-B1
@@ -39,5 +39,5 @@ returns-in-S2 c t stretch h =
     let transfer = c.args.self.now.transfer in
     rw c.in-S2.is (arms.and-two_parts (may_be_broken_on-same c.args.line c.in-S2.is c.requires.its_line)
     (c.has_edge-in-S2.ensures t h.at)
-    (direction-is t stretch h.is j h.judged transfer h.holds.transfer c.rose_by.result
+    (directs-by_fields t stretch h.is j h.judged transfer h.holds.transfer c.rose_by.result
     (λ w. c.rose_by.ensures t stretch h.at h.judged w)))

@@ -1,6 +1,6 @@
 use Rattle.std.proofs.Common.{refl}
 use Rattle.vme_cert.specs.Vocabulary.{BBSY, BERR, DTACK, falls, grant_falls, strobe_rises}
-use Rattle.vme_cert.proofs.Fields.{since-later-step, since-step}
+use Rattle.vme_cert.proofs.Fields.{any_after-field_step, any_since-field_step}
 use Rattle.vme_cert.proofs.state.State.later.Goals as goal
 
 pub returns : goal.returns
@@ -12,11 +12,12 @@ returns c t stretch h =
       cycle = c.later.ensures t stretch c.args.self.now h refl (c.is_answer-is_answer.ensures t stretch h)
           (c.answers_write-writes.ensures t stretch h);
       transfer = c.later-2.ensures t stretch h.at h.judged h.holds.transfer;
-      acknowledge_freed = since-step t stretch (falls t DTACK) (strobe_rises t) j h.judged h.holds.acknowledge_freed
+      acknowledge_freed = any_since-field_step t stretch (falls t DTACK) (strobe_rises t) j h.judged
+          h.holds.acknowledge_freed
           (c.falls-acknowledge_falls.ensures t h.at) rises;
-      error_freed = since-step t stretch (falls t BERR) (strobe_rises t) j h.judged h.holds.error_freed
+      error_freed = any_since-field_step t stretch (falls t BERR) (strobe_rises t) j h.judged h.holds.error_freed
           (c.falls-error_falls.ensures t h.at) rises;
       requested = c.requested_later.ensures t stretch h.at h.judged h.holds.requested;
-      granted = since-later-step t stretch (falls t BBSY) (grant_falls t) j h.judged h.holds.granted
+      granted = any_after-field_step t stretch (falls t BBSY) (grant_falls t) j h.judged h.holds.granted
           (c.falls-busy_falls.ensures t h.at) grants;
     }
