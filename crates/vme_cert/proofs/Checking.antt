@@ -47,7 +47,7 @@ use Rattle.vme_cert.specs.declared.state.State.{State}
 use Rattle.vme_cert.proofs.Ranges.{eq-fails_below, is_judged-not_up_to_start, by_option, Some-injective, eq-fails_above}
 use Rattle.vme_cert.proofs.Ranges.{eq-or_below}
 use Rattle.vme_cert.proofs.Breaks.{break_at-none}
-use Rattle.vme_cert.proofs.Following.{open-last, transfer-last}
+use Rattle.vme_cert.proofs.Following.{IsDue-at_last, IsDue-transfer_at_last}
 
 -- ---- The listing of a recording, stretch by stretch.
 
@@ -388,9 +388,10 @@ module _ {Whole Source : Type 0} {gave : Whole → Source → List Row → Type 
         given = a.given;
         is_given = a.is_given;
         compared = a.compared n (omega arith) within;
-        tenure = open-last v done t stretch BBSY n a.given taken rows.tenure a.placed.tenure h.tenure within;
-        cycle = open-last v done t stretch AS n a.given taken rows.cycle a.placed.cycle h.cycle within;
-        transfer = transfer-last t stretch v done a.given taken n rows.transfer a.placed.transfer h.transfer within;
+        tenure = IsDue-at_last v done t stretch BBSY n a.given taken rows.tenure a.placed.tenure h.tenure within;
+        cycle = IsDue-at_last v done t stretch AS n a.given taken rows.cycle a.placed.cycle h.cycle within;
+        transfer = IsDue-transfer_at_last t stretch v done a.given taken n rows.transfer a.placed.transfer h.transfer
+            within;
       }
 
   -- at the opening the first stretch is awaited
