@@ -132,6 +132,7 @@ needs_line t stretch j l i = cycle_starts t stretch i && cycle_runs t stretch i 
 
 -- a rule isn't broken on a line on which it can't be
 module _ (t : Trace) (stretch : Stretch) (j l : ℕ) where
+  -- at a judged instant a rule isn't broken on a line on which it can't be
   pub unbroken_elsewhere : (r : Rule) → is_judged stretch j ≡ true → may_be_broken_on r l ≡ false
       → is_broken t stretch r j l ≡ false
   unfolding is_broken
@@ -203,59 +204,62 @@ level-unchanged t bus cs l at lead h =
 
 module _ (t : Trace) (stretch : Stretch) (j l : ℕ) where
   -- where `is_broken` fails, the rule isn't broken
-  pub breaks-off : (r : Rule) → is_broken t stretch r j l ≡ false → breaks t stretch r j l ≡ false
+  pub breaks-fails : (r : Rule) → is_broken t stretch r j l ≡ false → breaks t stretch r j l ≡ false
   unfolding breaks
-  breaks-off r h = rw h (and-false _)
+  breaks-fails r h = rw h (and-false _)
 
   -- at a judged instant, on a line that the backplane has, `breaks` is `is_broken`
   pub breaks-is : (r : Rule) → is_judged stretch j ≡ true → has_line t.opening.slots l ≡ true
       → is_broken t stretch r j l ≡ breaks t stretch r j l
   unfolding breaks
-  breaks-is r judged has = rw (has, judged) (on (ends_stretch r) (is_broken t stretch r j l))
+  breaks-is r judged has = rw (has, judged) (and-true_tests (ends_stretch r) (is_broken t stretch r j l))
     where
-      on : (a b : Bool) → b ≡ ((a || true) && true && b)
-      on true b = refl
-      on false b = refl
+      -- conditions that are true may be left out
+      and-true_tests : (a b : Bool) → b ≡ ((a || true) && true && b)
+      and-true_tests true b = refl
+      and-true_tests false b = refl
 
   -- no rule is broken on a line that the backplane doesn't have
-  pub breaks-absent : (r : Rule) → has_line t.opening.slots l ≡ false → false ≡ breaks t stretch r j l
+  pub breaks-no_such_line : (r : Rule) → has_line t.opening.slots l ≡ false → false ≡ breaks t stretch r j l
   unfolding breaks
-  breaks-absent r h = rw h (none (ends_stretch r || is_judged stretch j) (is_broken t stretch r j l))
+  breaks-no_such_line r h = rw h (false-and_false (ends_stretch r || is_judged stretch j) (is_broken t stretch r j l))
     where
-      none : (a b : Bool) → false ≡ (a && false && b)
-      none true b = refl
-      none false b = refl
+      -- what is false makes a conjunction false
+      false-and_false : (a b : Bool) → false ≡ (a && false && b)
+      false-and_false true b = refl
+      false-and_false false b = refl
 
   -- no rule is broken on a line on which it can't be
-  pub breaks-elsewhere : (r : Rule) → is_judged stretch j ≡ true → may_be_broken_on r l ≡ false
+  pub breaks-other_line : (r : Rule) → is_judged stretch j ≡ true → may_be_broken_on r l ≡ false
       → false ≡ breaks t stretch r j l
-  breaks-elsewhere r judged h = sym (breaks-off r (unbroken_elsewhere t stretch j l r judged h))
+  breaks-other_line r judged h = sym (breaks-fails r (unbroken_elsewhere t stretch j l r judged h))
 
   -- U3 is broken on no line if it isn't broken on WRITE*
-  pub direction-only : is_judged stretch j ≡ true → is_broken t stretch U3 j WRITE ≡ false → is_broken t stretch U3 j l
+  pub U3-only_on_write : is_judged stretch j ≡ true → is_broken t stretch U3 j WRITE ≡ false
+      → is_broken t stretch U3 j l
       ≡ false
-  direction-only judged h = by_either_value (l == WRITE)
+  U3-only_on_write judged h = by_either_value (l == WRITE)
       (λ e. subst (λ k. is_broken t stretch U3 j k ≡ false) (sym (eqb-true l WRITE e)) h)
       (λ e. unbroken_elsewhere t stretch j l U3 judged e)
 
   -- H1 is broken on no line if it isn't broken on DTACK* and BERR*
-  pub answers-only : is_judged stretch j ≡ true → is_broken t stretch H1 j DTACK ≡ false
+  pub H1-only_on_answers : is_judged stretch j ≡ true → is_broken t stretch H1 j DTACK ≡ false
       → is_broken t stretch H1 j BERR ≡ false → is_broken t stretch H1 j l ≡ false
-  answers-only judged h k = by_either_value (l == DTACK)
+  H1-only_on_answers judged h k = by_either_value (l == DTACK)
       (λ e. subst (λ k. is_broken t stretch H1 j k ≡ false) (sym (eqb-true l DTACK e)) h)
       (λ e. by_either_value (l == BERR) (λ f. subst (λ k. is_broken t stretch H1 j k ≡ false) (sym (eqb-true l BERR f))
       k)
       (λ f. unbroken_elsewhere t stretch j l H1 judged (rw (e, f) refl)))
 
   -- U3 isn't broken where no transfer starts
-  pub unstarted-direction : transfer_starts t stretch j ≡ false → is_broken t stretch U3 j l ≡ false
+  pub U3-not_started : transfer_starts t stretch j ≡ false → is_broken t stretch U3 j l ≡ false
   unfolding is_broken
-  unstarted-direction h = rw (h, and-false) refl
+  U3-not_started h = rw (h, and-false) refl
 
   -- H1 isn't broken where no transfer starts
-  pub unstarted-answers : transfer_starts t stretch j ≡ false → is_broken t stretch H1 j l ≡ false
+  pub H1-not_started : transfer_starts t stretch j ≡ false → is_broken t stretch H1 j l ≡ false
   unfolding is_broken
-  unstarted-answers h = rw (h, and-false) refl
+  H1-not_started h = rw (h, and-false) refl
 
 -- if all lines from `first` to `last` are known, so is line `l` of these
 pub known-within : (t : Trace) (j first last l : ℕ) → every (is_known_on (levels_at t j)) first (last + 1) ≡ true
@@ -312,43 +316,50 @@ module _ (t : Trace) (stretch : Stretch) (bus : Bus) (state : State) (cs : List 
       → (r : Rule) (l : ℕ) → l < line_count → breaks t stretch r bus.instant l ≡ false
   unbroken changes u2 u3 h1 u4 r l below = by_edge (needs_edge r) refl
     where
-      starts : (q : Rule) → needs_edge q ≡ false → breaks t stretch q bus.instant l ≡ false
-      starts U1 e = breaks-off t stretch bus.instant l U1 (unbroken_elsewhere t stretch bus.instant l U1 h.judged refl)
-      starts U2 e = u2 l
-      starts U3 e = breaks-off t stretch bus.instant l U3 (u3 l)
-      starts U4 e = u4 l
-      starts H1 e = breaks-off t stretch bus.instant l H1 (h1 l)
-      starts q e = absurd (cc)
+      -- a rule that doesn't ask for an edge isn't broken
+      breaks-no_edge_rule : (q : Rule) → needs_edge q ≡ false → breaks t stretch q bus.instant l ≡ false
+      breaks-no_edge_rule U1 e = breaks-fails t stretch bus.instant l U1
+          (unbroken_elsewhere t stretch bus.instant l U1 h.judged refl)
+      breaks-no_edge_rule U2 e = u2 l
+      breaks-no_edge_rule U3 e = breaks-fails t stretch bus.instant l U3 (u3 l)
+      breaks-no_edge_rule U4 e = u4 l
+      breaks-no_edge_rule H1 e = breaks-fails t stretch bus.instant l H1 (h1 l)
+      breaks-no_edge_rule q e = absurd (cc)
 
+      -- by whether the rule may be broken on the line
       by_line : needs_edge r ≡ true → is_changed cs l ≡ true → (b : Bool) → may_be_broken_on r l ≡ b
           → is_broken t stretch r bus.instant l ≡ false
       by_line e c true s = changes r l c s
       by_line e c false s = unbroken_elsewhere t stretch bus.instant l r h.judged s
 
+      -- by whether the line changes
       by_change : needs_edge r ≡ true → (b : Bool) → is_changed cs l ≡ b → is_broken t stretch r bus.instant l ≡ false
       by_change e true c = by_line e c (may_be_broken_on r l) refl
       by_change e false c = unbroken_without_edge t l bus.instant (level-unchanged t bus cs l h.at lead c) stretch r e
 
+      -- by whether the rule asks for an edge
       by_edge : (b : Bool) → needs_edge r ≡ b → breaks t stretch r bus.instant l ≡ false
-      by_edge true e = breaks-off t stretch bus.instant l r (by_change e (is_changed cs l) refl)
-      by_edge false e = starts r e
+      by_edge true e = breaks-fails t stretch bus.instant l r (by_change e (is_changed cs l) refl)
+      by_edge false e = breaks-no_edge_rule r e
 
 -- the backplane has the same lines at each instant
-pub has-is : (t : Trace) (bus : Bus) (l : ℕ) → IsBusOf t bus → has_line bus.levels.slots l ≡ has_line t.opening.slots l
-has-is t bus l at = ap (λ (v : Levels). has_line v.slots l) at.levels
+pub has_line-bus : (t : Trace) (bus : Bus) (l : ℕ) → IsBusOf t bus → has_line bus.levels.slots l
+    ≡ has_line t.opening.slots l
+has_line-bus t bus l at = ap (λ (v : Levels). has_line v.slots l) at.levels
     ∙ ap (λ slots. has_line slots l) (slots_at t bus.instant)
 
 -- for the goals of `breaks`
-pub ruleset asked_breaks = (breaks-absent, breaks-is, breaks-elsewhere, has-is)
+pub ruleset asked_breaks = (breaks-no_such_line, breaks-is, breaks-other_line, has_line-bus)
 
 -- for the goals of `is_transfer_start_broken`
 pub ruleset started = (
-  answers-only,
-  direction-only,
-  unstarted-answers,
-  unstarted-direction,
+  H1-only_on_answers,
+  U3-only_on_write,
+  H1-not_started,
+  U3-not_started,
   transfer_starts-is,
   or_parts,
 )
 
+-- for the goals of `is_broken_within`
 pub ruleset within = (known-within, any-first, any-fails)

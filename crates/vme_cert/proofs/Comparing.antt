@@ -88,16 +88,16 @@ module _ (given expected : List Row) (taken : ℕ) (open_at : ℕ → Bool) (row
   }
 
 -- `IsCompared` stays if more rows are given and taken, each of them open, and each open row stays open
-pub compared-on : (given more expected expected_rows : List Row) (taken next : ℕ) (open_at now : ℕ → Bool)
+pub IsCompared-more : (given more expected expected_rows : List Row) (taken next : ℕ) (open_at now : ℕ → Bool)
     (wrong : Option ℕ)
     → taken ≤ next → Extends given more taken → Extends expected expected_rows taken
     → ((n : ℕ) → n < next → now n ≡ false → (n < taken) × (open_at n ≡ false))
     → IsCompared given expected taken open_at wrong → IsCompared more expected_rows next now wrong
-compared-on given more expected expected_rows taken next open_at now None order extends all kept h = record {
+IsCompared-more given more expected expected_rows taken next open_at now None order extends all kept h = record {
   same = λ n below off. let was = kept n below off in extends n was.0 ∙ h.same n was.0 was.1 ∙ sym (all n was.0);
   differs = tt;
 }
-compared-on given more expected expected_rows taken next open_at now (Some row) order extends all kept h =
+IsCompared-more given more expected expected_rows taken next open_at now (Some row) order extends all kept h =
     let (first, within, other) = h.differs in
     let taken_before : (n : ℕ) → n < row - 1 → n < taken = λ n below. omega (arith, first, within) in
     let last : row - 1 < taken = omega (arith, first, within) in
@@ -113,10 +113,11 @@ compared-on given more expected expected_rows taken next open_at now (Some row) 
     }
 
 -- `IsCompared` stays if each open row stays open, and others may be open
-pub compared-fewer : {given expected : List Row} {taken : ℕ} {open_at : ℕ → Bool} {wrong : Option ℕ} (now : ℕ → Bool)
+pub IsCompared-more_open : {given expected : List Row} {taken : ℕ} {open_at : ℕ → Bool} {wrong : Option ℕ}
+    (now : ℕ → Bool)
     → IsCompared given expected taken open_at wrong → ((n : ℕ) → now n ≡ false → open_at n ≡ false)
     → IsCompared given expected taken now wrong
-compared-fewer now h kept = record {
+IsCompared-more_open now h kept = record {
   same = λ n below off. h.same n below (kept n off);
   differs = h.differs;
 }
@@ -145,41 +146,44 @@ module _ {Whole Source : Type 0} {gave : Whole → Source → List Row → Type 
     {expected : Row}
     {old new : Comparison Source} {row : OpenRow} (b : IsBegun gave is_over expected old new row) where
   -- what was compared holds after one more row was taken, which is open
-  pub begun-compared : {given expected_rows : List Row} {open_at : ℕ → Bool} (more all : List Row) (now : ℕ → Bool)
+  pub IsCompared-begun : {given expected_rows : List Row} {open_at : ℕ → Bool} (more all : List Row) (now : ℕ → Bool)
       → IsCompared given expected_rows old.taken open_at old.wrong → Extends given more old.taken
       → Extends expected_rows all old.taken
       → ((n : ℕ) → now n ≡ false → (open_at n ≡ false) × ((n == row.place) ≡ false))
       → IsCompared more all new.taken now new.wrong
-  begun-compared {given} {expected_rows} {open_at} more all now h extends others kept =
+  IsCompared-begun {given} {expected_rows} {open_at} more all now h extends others kept =
       subst (λ n. IsCompared more all n now new.wrong) (sym b.taken)
       (subst (λ (w : Option ℕ). IsCompared more all (old.taken + 1) now w) (sym b.wrong)
-      (compared-on given more expected_rows all old.taken (old.taken + 1) open_at now old.wrong (omega arith) extends
+      (IsCompared-more given more expected_rows all old.taken (old.taken + 1) open_at now old.wrong (omega arith)
+      extends
       others
       (λ n below off. (below_last n b.place below (kept n off).1, (kept n off).0)) h))
     where
+      -- a place up to that of the new row, and not that, is below it
       below_last : (n : ℕ) → row.place ≡ old.taken → n < old.taken + 1 → (n == row.place) ≡ false → n < old.taken
       below_last n e below other = grind (arith, nat_tests)
 
 module _ {Whole Source : Type 0} {gave : Whole → Source → List Row → Type 0} {is_over : Source → Type 0}
     {whole : Whole} where
-  -- after the source was asked for one more row
-  pub given-next : {given : List Row} {old : Source} {taken : ℕ} (row : Option Row) (new : Source)
+  -- after the source was asked for one more row, what it gave is the row at place `taken`, if it gave one
+  pub IsGivenNext-asked : {given : List Row} {old : Source} {taken : ℕ} (row : Option Row) (new : Source)
       → IsGiven gave is_over whole given old taken
       → MatchOption row (gave whole new given) (λ row. gave whole new (given ++ row ∷ []))
       → (row ≡ None → is_over new) → (is_over old → row ≡ None)
       → IsGivenNext gave is_over whole given row new taken
-  given-next {given} {old} {taken} None new h asked over stays = record {
+  IsGivenNext-asked {given} {old} {taken} None new h asked over stays = record {
     more = given;
-    is_given = record { gave_is = asked; count = inr (over refl, omega (arith, most h.count)) };
+    is_given = record { gave_is = asked; count = inr (over refl, omega (arith, given-at_most h.count)) };
     extends = λ n below. refl;
-    given_is = sym (slice_get_past given taken (most h.count));
+    given_is = sym (slice_get_past given taken (given-at_most h.count));
   }
     where
-      most : (length given ≡ taken) ⊎ (is_over old × (length given ≤ taken)) → length given ≤ taken
-      most (inl e) = omega arith
-      most (inr short) = short.1
-  given-next {given} {old} {taken} (Some row) new h asked over stays =
-      let all : length given ≡ taken = whole_taken h.count in
+      -- at most `taken` rows were given
+      given-at_most : (length given ≡ taken) ⊎ (is_over old × (length given ≤ taken)) → length given ≤ taken
+      given-at_most (inl e) = omega arith
+      given-at_most (inr short) = short.1
+  IsGivenNext-asked {given} {old} {taken} (Some row) new h asked over stays =
+      let all : length given ≡ taken = given-all h.count in
       record {
         more = given ++ row ∷ [];
         is_given = record { gave_is = asked; count = inl (length-append given (row ∷ []) ∙ ap (λ n. n + 1) all) };
@@ -187,18 +191,19 @@ module _ {Whole Source : Type 0} {gave : Whole → Source → List Row → Type 
         given_is = sym (ap (slice_get (given ++ row ∷ [])) (sym all) ∙ slice_get-here given row []);
       }
     where
-      whole_taken : (length given ≡ taken) ⊎ (is_over old × (length given ≤ taken)) → length given ≡ taken
-      whole_taken (inl e) = e
-      whole_taken (inr short) = absurd (none-not_some row (sym (stays short.0)))
+      -- exactly `taken` rows were given, since the source isn't over
+      given-all : (length given ≡ taken) ⊎ (is_over old × (length given ≤ taken)) → length given ≡ taken
+      given-all (inl e) = e
+      given-all (inr short) = absurd (none-not_some row (sym (stays short.0)))
 
 -- at the end no row is open
 module _ {Source : Type 0} (is_over : Source → Type 0) (given expected : List Row) (taken : ℕ)
     (all : taken ≡ length expected) where
-  -- a row that was compared differs
-  pub finish-other : (source : Source) (row : ℕ) → IsCompared given expected taken (λ n. false) (Some row)
+  -- if a row that was compared differs, the least such row is the answer
+  pub Decides-other : (source : Source) (row : ℕ) → IsCompared given expected taken (λ n. false) (Some row)
       → (length given ≡ taken) ⊎ (is_over source × (length given ≤ taken))
       → Decides is_over given expected source (No row)
-  finish-other source row h count =
+  Decides-other source row h count =
       let (first, within, other) = h.differs in (
         record {
           first = first;
@@ -211,10 +216,10 @@ module _ {Source : Type 0} (is_over : Source → Type 0) (given expected : List 
 
   module _ (more : List Row) (extends : Extends given more taken)
       (h : IsCompared given expected taken (λ n. false) None) where
-    -- the source gives one more row
-    pub finish-longer : (source : Source) (row : Row) → Some row ≡ slice_get more taken
+    -- if no row differs, and the source gives one more row, that row is the answer
+    pub Decides-longer : (source : Source) (row : Row) → Some row ≡ slice_get more taken
         → Decides is_over more expected source (No (taken + 1))
-    finish-longer source row is =
+    Decides-longer source row is =
         let back : taken + 1 - 1 ≡ taken = omega arith in
         let long : taken < length more = slice_get_within more taken row (sym is) in (
           record {
@@ -226,11 +231,11 @@ module _ {Source : Type 0} (is_over : Source → Type 0) (given expected : List 
           inl (omega arith),
         )
 
-    -- the source gives no more row
-    pub finish-same : (source : Source) → None ≡ slice_get more taken → is_over source
+    -- if no row differs, and the source gives no more row, the rows are the expected ones
+    pub Decides-same : (source : Source) → None ≡ slice_get more taken → is_over source
         → Decides is_over more expected source
         Yes
-    finish-same source is over = (
+    Decides-same source is over = (
       list-same_items more expected (λ n. elim (cases_lt n taken) [
         | inl below ↦ extends n below ∙ h.same n below refl
         | inr from ↦
@@ -243,12 +248,13 @@ module _ {Source : Type 0} (is_over : Source → Type 0) (given expected : List 
 -- ---- The answer to all rows that are given, by those that were asked for.
 
 -- an answer for the rows that were asked for is one for all rows, if none is left once the source is over
-pub decides-all : {Source : Type 0} (is_over : Source → Type 0) (given more expected : List Row) (source : Source)
+pub DecidesListing-all : {Source : Type 0} (is_over : Source → Type 0) (given more expected : List Row)
+    (source : Source)
     (answer : Answer) → Decides is_over given expected source answer → (is_over source → more ≡ [])
     → DecidesListing (given ++ more) expected answer
-decides-all is_over given more expected source Yes (same, over) none =
+DecidesListing-all is_over given more expected source Yes (same, over) none =
     ap (λ (rows : List Row). given ++ rows) (none over) ∙ (append-nil given ∙ same)
-decides-all is_over given more expected source (No row) (differs, known) none = by_count known
+DecidesListing-all is_over given more expected source (No row) (differs, known) none = by_count known
   where
     -- by whether the row that differs is among those given, or the source is over
     by_count : (row ≤ length given) ⊎ is_over source → DiffersAt (given ++ more) expected row

@@ -29,7 +29,7 @@ use Rattle.vme_cert.proofs.Ranges.{is_judged-after_start, greatest-here, greates
 use Rattle.vme_cert.proofs.Ranges.{eq-or_below}
 use Rattle.vme_cert.proofs.Ranges.{greatest-none-any, below-same-above}
 use Rattle.vme_cert.proofs.Ranges.{by_either_value, by_option, is_judged-not_opening, only-last, and-fails_unless}
-use Rattle.vme_cert.proofs.Instant.{address-known}
+use Rattle.vme_cert.proofs.Instant.{known-AS}
 
 -- ---- The transfer of an instant: the last to start, while no instant since then had both strobes high.
 
@@ -569,7 +569,7 @@ module _ (t : Trace) (stretch : Stretch) (j : ℕ) (judged : is_judged stretch j
       rw (r, a, w, f) (record { here = λ e. IsLastCycle-later c (is.here e) knows; absent = λ e. is.absent e })
 
 -- for the goals of the last cycle as it starts, and one instant later
-pub ruleset cycles = (IsLastCycle-started, IsCycle-not_started, IsCycle-later, address-known)
+pub ruleset cycles = (IsLastCycle-started, IsCycle-not_started, IsCycle-later, known-AS)
 
 -- ---- Whether `q` held since `p` last did: the fields that rules H6, G5 and B2 ask for.
 

@@ -30,18 +30,19 @@ use Rattle.vme_cert.specs.declared.open_rows.OpenRows.{OpenRows}
 use Rattle.vme_cert.specs.Instant.{starts_transfer}
 use Rattle.vme_cert.specs.State.{IsOpenTransfer, IsTransfer}
 use Rattle.vme_cert.specs.declared.state.Transfer.{Transfer}
-use Rattle.vme_cert.proofs.Comparing.{begun-compared, compare_row-compared, compare_row-given, compared-fewer}
-use Rattle.vme_cert.proofs.Comparing.{compared-on, slice_get-first_list}
+use Rattle.vme_cert.proofs.Comparing.{IsCompared-begun, compare_row-compared, compare_row-given, IsCompared-more_open}
+use Rattle.vme_cert.proofs.Comparing.{IsCompared-more, slice_get-first_list}
 use Rattle.vme_cert.proofs.Fields.{falls-not_if_low, low-next_instant, answers-is, is_answer-is, transfer_starts-is}
 use Rattle.vme_cert.proofs.Fields.{not-high_and_low}
 use Rattle.vme_cert.proofs.Fields.{strobes_high-between, is_answer-by_fields, falls-low, falls-not_if_rises}
-use Rattle.vme_cert.proofs.Placing.{cycle-place, next-count, rows_in-row_after, rows_in-append, rows_in-length}
-use Rattle.vme_cert.proofs.Placing.{tenure-place}
-use Rattle.vme_cert.proofs.Placing.{transfer-place}
+use Rattle.vme_cert.proofs.Placing.{expected_to-cycle, count_before-next, rows_in-row_after, rows_in-append}
+use Rattle.vme_cert.proofs.Placing.{rows_in-length}
+use Rattle.vme_cert.proofs.Placing.{expected_to-tenure}
+use Rattle.vme_cert.proofs.Placing.{expected_to-transfer}
 use Rattle.vme_cert.proofs.Ranges.{Some-injective, any-more, any-start, greatest-found, is_judged-after_start}
 use Rattle.vme_cert.proofs.Ranges.{greatest-here, greatest-not, by_either_value}
 use Rattle.vme_cert.proofs.Ranges.{by_option, is_judged-not_up_to_start}
-use Rattle.vme_cert.proofs.Instant.{address-known, control-known}
+use Rattle.vme_cert.proofs.Instant.{known-AS, known-control_line}
 
 -- the last edge of a row may be set before or after the row is put in a version
 with_edge-without_data : (row : Row) (edge : Option ℕ)
@@ -188,7 +189,7 @@ module _ {Whole Source : Type 0} {gave : Whole → Source → List Row → Type 
       let g = b.given whole h.given (compare_row-given s3 (compare_row-given s2 (compare_row-given s1 h.is_given))) in
       let upto : c3.taken ≡ length expected_rows = s3.taken ∙ (s2.taken ∙ (s1.taken ∙ h.taken_is)) in
       let more = rows_in v (expected_rows ++ expected ∷ []) in
-      let begun = begun-compared b g.more more (λ n. n == row.place) IsCompared-closed_rows g.extends
+      let begun = IsCompared-begun b g.more more (λ n. n == row.place) IsCompared-closed_rows g.extends
       (λ n below. ap (λ (xs : List Row). slice_get xs n) (rows_in-append v expected_rows (expected ∷ []))
       ∙ slice_get-first_list expected_in_version (rows_in v (expected ∷ [])) n
       (omega (arith, below, upto, rows_in-length v expected_rows)))
@@ -200,7 +201,7 @@ module _ {Whole Source : Type 0} {gave : Whole → Source → List Row → Type 
         taken_is = omega (arith, s4.taken, b.taken, upto, length-append expected_rows (expected ∷ []));
         given = g.more;
         is_given = compare_row-given s4 (subst (IsGiven gave is_over whole g.more c4.source) (sym b.taken) g.is_given);
-        compared = compared-fewer (λ n. false) (compare_row-compared s4 begun (
+        compared = IsCompared-more_open (λ n. false) (compare_row-compared s4 begun (
           omega (arith, b.place, b.taken),
           g.given_is ∙ ap (slice_get g.more) (sym b.place),
           ap (slice_get more) (b.place ∙ upto)
@@ -583,7 +584,7 @@ module _ {Whole Source : Type 0} {gave : Whole → Source → List Row → Type 
       taken_is = s.taken ∙ (h.taken_is ∙ e);
       given = h.given;
       is_given = compare_row-given s h.is_given;
-      compared = λ end from within. compared-fewer (is_open (put k old new None))
+      compared = λ end from within. IsCompared-more_open (is_open (put k old new None))
           (compare_row-compared s (h.compared end (omega arith) within) (due end from within))
           (λ n off. and-not_fails (is_open old n) (is_at (at k old) n) (is_open-put old new None k n off).1);
       placed = AreAtPlaces-put old new None k (subst (λ n. AreAtPlaces h.given n old) (sym s.taken) h.placed) tt;
@@ -601,7 +602,7 @@ module _ {Whole Source : Type 0} {gave : Whole → Source → List Row → Type 
           taken_is = b.taken ∙ (ap (λ n. n + 1) h.taken_is ∙ e);
           given = g.more;
           is_given = subst (IsGiven gave is_over whole g.more new.source) (sym b.taken) g.is_given;
-          compared = λ end from within. begun-compared b g.more (expected_to v done t stretch end) now
+          compared = λ end from within. IsCompared-begun b g.more (expected_to v done t stretch end) now
               (h.compared end (omega arith) within) g.extends (λ n below. refl)
               (λ n off. let parts = is_open-put old new (Some row) k n off in
               (parts.1 (is_at-none (at k old) n none), parts.0));
@@ -725,7 +726,7 @@ module _ {Whole Source : Type 0} {gave : Whole → Source → List Row → Type 
         let (taken, opened) = IsOpenAt-begun h.are_taken (j + 1) (omega arith) Tenures BBSY j refl
         (IsOpenAt-none_at_fall v done t stretch BBSY j old.tenure here h.tenure) (falls-low t BBSY j here) b
         (ap (λ n. count_before v done t stretch j + n) (sym (length-equal_rows (starts j))))
-        (λ end from. tenure-place t stretch v done end j from _ (starts end)) in
+        (λ end from. expected_to-tenure t stretch v done end j from _ (starts end)) in
         record { are_taken = taken; tenure = opened; cycle = h.cycle; transfer = h.transfer }
 
     -- a tenure without a grant isn't listed
@@ -771,7 +772,7 @@ module _ {Whole Source : Type 0} {gave : Whole → Source → List Row → Type 
     WithTenure-stays not_here held = AreOpen-rests h (omega arith)
         (omega (arith, length-equal_rows (tenure_rows-none t stretch j judged j not_here)))
         (IsOpenAt-stays v done t stretch BBSY j old.tenure held
-        (control-known t stretch is j judged BBSY (omega arith) refl) h.tenure) h.cycle h.transfer
+        (known-control_line t stretch is j judged BBSY (omega arith) refl) h.tenure) h.cycle h.transfer
 
   -- a cycle
   module _ (h : WithTenure gave is_over whole v done t stretch j old) where
@@ -786,7 +787,7 @@ module _ {Whole Source : Type 0} {gave : Whole → Source → List Row → Type 
         (IsOpenAt-none_at_fall v done t stretch AS j old.cycle here h.cycle) (falls-low t AS j here) b
         (ap (λ n. count_with_tenure v done t stretch j + n) (sym (length-equal_rows
         (cycle_rows-at t stretch j judged j here))))
-        (λ end from. cycle-place t stretch v done end j from _ (cycle_rows-at t stretch j judged end here)
+        (λ end from. expected_to-cycle t stretch v done end j from _ (cycle_rows-at t stretch j judged end here)
         ∙ ap (λ (r : Row). Some (row_in v r)) (sym (ap (λ (r : Row). with_edge r (least (rises t AS) (j + 1) end)) is
         ∙ (cycle_row-with_edge j levels (least (rises t AS) (j + 1) end) (class_of levels)
         ∙ ap (λ (w : Levels). cycle_row j w (least (rises t AS) (j + 1) end) (class_of w)) same)))) in
@@ -811,7 +812,7 @@ module _ {Whole Source : Type 0} {gave : Whole → Source → List Row → Type 
         → WithCycle gave is_over whole v done t stretch j old
     WithCycle-stays not_here held = AreOpen-rests h (omega arith)
         (omega (arith, length-equal_rows (cycle_rows-none t stretch j judged j not_here))) h.tenure
-        (IsOpenAt-stays v done t stretch AS j old.cycle held (address-known t stretch is j judged) h.cycle) h.transfer
+        (IsOpenAt-stays v done t stretch AS j old.cycle held (known-AS t stretch is j judged) h.cycle) h.transfer
 
   -- a transfer starts
   module _ (h : WithCycle gave is_over whole v done t stretch j old) where
@@ -826,20 +827,20 @@ module _ {Whole Source : Type 0} {gave : Whole → Source → List Row → Type 
           (IsTransferAt-none_at_start t stretch v done j judged old.transfer here h.transfer) b
           (ap (λ n. count_with_cycle v done t stretch j + n) (sym (length-equal_rows
           (transfer_rows-at t stretch j judged j here)))
-          ∙ sym (next-count t stretch v done j));
+          ∙ sym (count_before-next t stretch v done j));
       tenure = h.tenure;
       cycle = h.cycle;
       transfer = IsTransferAt-new t stretch v done j judged row
           (λ end. expected-begun h.are_taken (j + 1) (omega arith) Transfers b ∙ ap (row_in v) is) here
           (λ end from within. ap (slice_get (expected_to v done t stretch end)) (b.place ∙ h.are_taken.taken_is)
-          ∙ transfer-place t stretch v done end j from _ (transfer_rows-at t stretch j judged end here));
+          ∙ expected_to-transfer t stretch v done end j from _ (transfer_rows-at t stretch j judged end here));
     }
 
     -- where no transfer starts, the open row of one stays
     pub WithTransfer-idle : starts_transfer t j ≡ false → WithTransfer gave is_over whole v done t stretch j old
     WithTransfer-idle not_here =
         let none = length-equal_rows (transfer_rows-none t stretch j judged j not_here) in
-        AreOpen-rests h (omega arith) (omega (arith, next-count t stretch v done j, none)) h.tenure h.cycle
+        AreOpen-rests h (omega arith) (omega (arith, count_before-next t stretch v done j, none)) h.tenure h.cycle
         (IsTransferAt-kept t stretch v done j judged old.transfer not_here h.transfer)
 
   module _ (h : WithTransfer gave is_over whole v done t stretch j old) where
@@ -861,7 +862,7 @@ module _ {Whole Source : Type 0} {gave : Whole → Source → List Row → Type 
             taken_is = h1.taken_is;
             given = h1.given;
             is_given = h1.is_given;
-            compared = λ end from within. compared-fewer (is_open (put Transfers old old.compared (Some later)))
+            compared = λ end from within. IsCompared-more_open (is_open (put Transfers old old.compared (Some later)))
                 (h1.compared end from within)
                 (λ n off. let parts = is_open-put old old.compared (Some later) Transfers n off in
                 parts.1 (subst (λ (o : Option OpenRow). is_at o n ≡ false) (sym was)
@@ -962,7 +963,7 @@ module _ (t : Trace) (stretch : Stretch) where
       let from : stretch.start ≤ stretch.start = omega arith in
       omega (
         arith,
-        next-count t stretch v done stretch.start,
+        count_before-next t stretch v done stretch.start,
         length-equal_rows (rows_before-none stretch.start stretch.start from),
         length-equal_rows (cycle_rows-none_up_to_start stretch.start stretch.start from),
         length-equal_rows (transfer_rows-none_up_to_start stretch.start stretch.start from),
@@ -982,7 +983,7 @@ module _ {Whole Source : Type 0} {gave : Whole → Source → List Row → Type 
     taken_is = h.taken_is ∙ length-append done (Start stretch.start ∷ []);
     given = h.given;
     is_given = h.is_given;
-    compared = λ end from within. compared-on h.given h.given (rows_in v front) (expected_to v done t stretch end)
+    compared = λ end from within. IsCompared-more h.given h.given (rows_in v front) (expected_to v done t stretch end)
         old.compared.taken old.compared.taken (is_open old) (is_open old) old.compared.wrong (omega arith)
         (λ n below. refl) (λ n below. slice_get-longer end n below) (λ n below off. (below, off)) h.compared;
     placed = record {
@@ -1046,5 +1047,5 @@ module _ {Whole Source : Type 0} {gave : Whole → Source → List Row → Type 
         length-equal_rows (tenure_rows-busy_start t stretch stretch.start busy),
       ))
       (λ end from. ap (slice_get (expected_to v done t stretch end)) (sym there)
-      ∙ tenure-place t stretch v done end stretch.start from _ (tenure_rows-busy_start t stretch end busy)) in
+      ∙ expected_to-tenure t stretch v done end stretch.start from _ (tenure_rows-busy_start t stretch end busy)) in
       record { are_taken = taken; tenure = opened; cycle = IsOpenAt-no_cycle; transfer = IsTransferAt-none }

@@ -20,30 +20,30 @@ shown t l i = falls t l i
 -- ---- The grant that a tenure takes.
 
 -- a grant is given at an instant exactly if one of the four levels has a grant that is low there
-granting-is : (t : Trace) (i : ℕ) → any (λ n. low t (grant n 0) i) 0 4 ≡ is_granting t i
+is_granting-any : (t : Trace) (i : ℕ) → any (λ n. low t (grant n 0) i) 0 4 ≡ is_granting t i
 unfolding is_granting
-granting-is t i = refl
+is_granting-any t i = refl
 
 -- a tenure takes the grant of its instant, if there is one
-pub taken-now : (t : Trace) (j : ℕ) → is_granting t j ≡ true → taken_grant t j ≡ j
+pub taken_grant-now : (t : Trace) (j : ℕ) → is_granting t j ≡ true → taken_grant t j ≡ j
 unfolding taken_grant
-taken-now t j e = rw e refl
+taken_grant-now t j e = rw e refl
 
 -- a tenure takes the grant of the instant before, if there is none at its instant
-pub taken-before : (t : Trace) (j : ℕ) → is_granting t j ≡ false → taken_grant t j ≡ j - 1
+pub taken_grant-before : (t : Trace) (j : ℕ) → is_granting t j ≡ false → taken_grant t j ≡ j - 1
 unfolding taken_grant
-taken-before t j e = rw e refl
+taken_grant-before t j e = rw e refl
 
 -- a tenure has a level exactly if one is granted at the instant or at the one before
-pub granted-near : (t : Trace) (j : ℕ) → is_some (tenure_level t j) ≡ near (is_granting t) j
+pub tenure_level-near_grant : (t : Trace) (j : ℕ) → is_some (tenure_level t j) ≡ near (is_granting t) j
 unfolding tenure_level
-granted-near t j = any-first (λ n. low t (grant n 0) (taken_grant t j)) 0 4
-    ∙ (granting-is t (taken_grant t j) ∙ by_either_value (is_granting t j)
-    (λ e. rw (taken-now t j e, e) (sym (or-true (is_granting t (j - 1)))))
-    (λ e. rw (taken-before t j e, e) (sym (or-false (is_granting t (j - 1))))))
+tenure_level-near_grant t j = any-first (λ n. low t (grant n 0) (taken_grant t j)) 0 4
+    ∙ (is_granting-any t (taken_grant t j) ∙ by_either_value (is_granting t j)
+    (λ e. rw (taken_grant-now t j e, e) (sym (or-true (is_granting t (j - 1)))))
+    (λ e. rw (taken_grant-before t j e, e) (sym (or-false (is_granting t (j - 1))))))
 
 -- for the goals of the grant that a tenure takes
-pub ruleset grants = (taken-now, taken-before)
+pub ruleset grants = (taken_grant-now, taken_grant-before)
 
 -- ---- The request lines and the nets of a grant chain that a backplane has, and how far a grant has come.
 
@@ -111,48 +111,49 @@ module _ (t : Trace) (j level : ℕ) (is : tenure_level t j ≡ Some level) wher
   passes k = low t (grant level k) (taken_grant t j)
 
   -- the first net is low
-  granted-first : passes 0 ≡ true
+  passes-first : passes 0 ≡ true
   unfolding tenure_level
-  granted-first = (least-found (λ n. low t (grant n 0) (taken_grant t j)) 0 4 level is).holds
+  passes-first = (least-found (λ n. low t (grant n 0) (taken_grant t j)) 0 4 level is).holds
 
   -- the slot that takes the grant drives the first net that isn't low
-  pub slot-reached : (past : ℕ) (first : Option ℕ) → past ≡ t.opening.slots + 1 → first ≡ least (λ k. not (passes k)) 0
+  pub tenure_slot-reached : (past : ℕ) (first : Option ℕ) → past ≡ t.opening.slots + 1 → first
+      ≡ least (λ k. not (passes k)) 0
       past → Some (unwrap_or first past) ≡ tenure_slot t j
   unfolding tenure_slot has_reached
-  slot-reached past first e f =
-      rw (is, sym e, greatest-reached passes past (omega arith) granted-first, f) refl
+  tenure_slot-reached past first e f =
+      rw (is, sym e, greatest-reached passes past (omega arith) passes-first, f) refl
 
 -- ---- Within a stretch every control line is known.
 
 module _ (t : Trace) (stretch : Stretch) (is : IsStretchOf t stretch) (j : ℕ)
     (judged : is_judged stretch j ≡ true) where
   -- the instant is after the start of the stretch
-  after : stretch.start < j
-  after = ltb-true stretch.start j (and_parts (nat_lt stretch.start j) (nat_lt j stretch.end) judged).0
+  after_start : stretch.start < j
+  after_start = ltb-true stretch.start j (and_parts (nat_lt stretch.start j) (nat_lt j stretch.end) judged).0
 
   -- the instant is before the end of the stretch
-  before : j < stretch.end
-  before = ltb-true j stretch.end (and_parts (nat_lt stretch.start j) (nat_lt j stretch.end) judged).1
+  before_end : j < stretch.end
+  before_end = ltb-true j stretch.end (and_parts (nat_lt stretch.start j) (nat_lt j stretch.end) judged).1
 
   -- no control line is lost at the instant
   is_lost-none : (l : ℕ) → l < line_count → is_lost (levels_at t j) l ≡ false
   unfolding loses_control_at loses_control
   is_lost-none l below = any-fails (is_lost (levels_at t j)) 0 line_count l
-      (stretch_unlost t stretch j is (omega (arith, after)) before) (omega arith) below
+      (stretch_unlost t stretch j is (omega (arith, after_start)) before_end) (omega arith) below
 
   -- there is no reset at the instant
   is_reset-not : is_reset (levels_at t j) ≡ false
   unfolding is_reset_at
-  is_reset-not = stretch_unreset t stretch j is (omega (arith, after)) before
+  is_reset-not = stretch_unreset t stretch j is (omega (arith, after_start)) before_end
 
   -- each control line is known at the instant
-  pub control-known : (l : ℕ) → l < line_count → is_control (levels_at t j).slots l ≡ true → known t l j ≡ true
+  pub known-control_line : (l : ℕ) → l < line_count → is_control (levels_at t j).slots l ≡ true → known t l j ≡ true
   unfolding known
-  control-known l below control = by_either_value (is_known_on (levels_at t j) l) (λ e. e)
+  known-control_line l below control = by_either_value (is_known_on (levels_at t j) l) (λ e. e)
       (λ e. let lost : (true && not false && not false) ≡ false =
       rw (control, e, is_reset-not) at (is_lost-none l below) in
       absurd (cc))
 
   -- AS is known at the instant
-  pub address-known : known t AS j ≡ true
-  address-known = control-known AS (omega arith) refl
+  pub known-AS : known t AS j ≡ true
+  known-AS = known-control_line AS (omega arith) refl

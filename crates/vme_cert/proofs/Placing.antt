@@ -19,22 +19,22 @@ use Rattle.vme_cert.proofs.Ranges.{eq-or_below}
 -- ---- The address of a cycle, line by line.
 
 -- the weight of the next address line is twice as much
-pub next-weight : (n : ℕ) → 2 ^ (n + 1) ≡ 2 * 2 ^ n
-next-weight n = rw add-one (pow-succ' 2 n)
+pub weight-next : (n : ℕ) → 2 ^ (n + 1) ≡ 2 * 2 ^ n
+weight-next n = rw add-one (pow-succ' 2 n)
 
 -- the weight of address line `n + 1` is at most 2^31
-pub weight_below : (n : ℕ) → n < 31 → 2 * 2 ^ n ≤ 2147483648
-weight_below n h = let e = pow-succ' 2 n in let up : 2 ^ suc n ≤ 2 ^ 31 = pow-le-pow_right {n = 2} (lit< tt) {i = suc n}
+pub weight-bound : (n : ℕ) → n < 31 → 2 * 2 ^ n ≤ 2147483648
+weight-bound n h = let e = pow-succ' 2 n in let up : 2 ^ suc n ≤ 2 ^ 31 = pow-le-pow_right {n = 2} (lit< tt) {i = suc n}
     {j = 31} (omega arith) in omega (arith, e, up)
 
 -- the weight of an address line isn't cut by 32 bits
-pub weight-is : (n : ℕ) → n < 31 → 2 * 2 ^ n % 4294967296 ≡ 2 * 2 ^ n
-weight-is n h = let below = weight_below n h in mod-eq_of_lt (omega (arith, below))
+pub weight-fits : (n : ℕ) → n < 31 → 2 * 2 ^ n % 4294967296 ≡ 2 * 2 ^ n
+weight-fits n h = let below = weight-bound n h in mod-eq_of_lt (omega (arith, below))
 
 -- the address on lines 1 to n is below 2 ^ (n + 1)
 pub address_to-bound : (v : Levels) (n : ℕ) → address_to v n < 2 ^ (n + 1)
 address_to-bound v zero = lit< tt
-address_to-bound v (suc n) = by_test (is_high (level_at v (A (suc n)))) (next-weight n) (next-weight (suc n))
+address_to-bound v (suc n) = by_test (is_high (level_at v (A (suc n)))) (weight-next n) (weight-next (suc n))
     (pow-succ' 2 n) (address_to-bound v n)
   where
     -- by whether the line is high
@@ -77,19 +77,19 @@ pub address_to-other_line : (v : Levels) (n : ℕ) → is_high (level_at v (A (n
 address_to-other_line v n h = rw add-one (rw (rw add-one at h) (add-zero (address_to v n)))
 
 -- the row of a cycle by the address on the lines that it needs
-pub addressed-row : (i : ℕ) (v : Levels) (end : Option ℕ) (k : Class) → class_of v ≡ k → (k ≡ class.I → ⊥)
+pub cycle_row-addressed : (i : ℕ) (v : Levels) (end : Option ℕ) (k : Class) → class_of v ≡ k → (k ≡ class.I → ⊥)
     → (k ≡ class.F → ⊥) → AddressedCycle i k (modifier_of v) (address_to v (needs_of v).highest) end ≡ cycle_row i v end
     k
 unfolding needs_of
-addressed-row i v end class.S e h f = rw e refl
-addressed-row i v end class.K e h f = rw e refl
-addressed-row i v end class.I e h f = absurd (h refl)
-addressed-row i v end class.F e h f = absurd (f refl)
+cycle_row-addressed i v end class.S e h f = rw e refl
+cycle_row-addressed i v end class.K e h f = rw e refl
+cycle_row-addressed i v end class.I e h f = absurd (h refl)
+cycle_row-addressed i v end class.F e h f = absurd (f refl)
 
--- the level of an interrupt acknowledge fits a byte
-pub interrupt-highest : (v : Levels) → class_of v ≡ class.I → (needs_of v).highest ≡ 3
+-- of the address lines an interrupt acknowledge needs those up to 3
+pub needs_of-interrupt : (v : Levels) → class_of v ≡ class.I → (needs_of v).highest ≡ 3
 unfolding needs_of
-interrupt-highest v e = rw e refl
+needs_of-interrupt v e = rw e refl
 
 -- ---- The place of an expected row: how many rows start before an instant doesn't depend on the
 -- end, and they come first.
@@ -137,9 +137,9 @@ append-five a b c d e = simp append_assoc
 module _ (t : Trace) (stretch : Stretch) where
   module _ (e f : ℕ) where
     -- how many tenures start at an instant doesn't depend on the end
-    pub tenure-count : (i : ℕ) → length (tenure_rows t stretch e i) ≡ length (tenure_rows t stretch f i)
+    pub length-tenure_rows : (i : ℕ) → length (tenure_rows t stretch e i) ≡ length (tenure_rows t stretch f i)
     unfolding tenure_rows
-    tenure-count i = by_test ((i == stretch.start) && low t BBSY i) (tenure_starts t stretch i) _ _ _ _
+    length-tenure_rows i = by_test ((i == stretch.start) && low t BBSY i) (tenure_starts t stretch i) _ _ _ _
         (by_place (tenure_level t i) (tenure_slot t i))
       where
         -- by whether a tenure is open at the start of the stretch, and whether one starts
@@ -149,6 +149,7 @@ module _ (t : Trace) (stretch : Stretch) where
         by_test false true x y xs ys h = h
         by_test false false x y xs ys h = refl
 
+        -- by the level and the slot of the tenure
         by_place : (level slot : Option ℕ) → length (tenure_row i level slot (least (rises t BBSY) (i + 1) e))
             ≡ length (tenure_row i level slot (least (rises t BBSY) (i + 1) f))
         by_place None slot = refl
@@ -156,27 +157,33 @@ module _ (t : Trace) (stretch : Stretch) where
         by_place (Some level) (Some slot) = refl
 
     -- how many cycles start at an instant doesn't depend on the end
-    pub cycle-count : (i : ℕ) → length (cycle_rows t stretch e i) ≡ length (cycle_rows t stretch f i)
+    pub length-cycle_rows : (i : ℕ) → length (cycle_rows t stretch e i) ≡ length (cycle_rows t stretch f i)
     unfolding cycle_rows
-    cycle-count i = length-cond_one_row (cycle_starts t stretch i) _ _
+    length-cycle_rows i = length-cond_one_row (cycle_starts t stretch i) _ _
 
     -- how many transfers start at an instant doesn't depend on the end
-    pub transfer-count : (i : ℕ) → length (transfer_rows t stretch e i) ≡ length (transfer_rows t stretch f i)
+    pub length-transfer_rows : (i : ℕ) → length (transfer_rows t stretch e i) ≡ length (transfer_rows t stretch f i)
     unfolding transfer_rows
-    transfer-count i = length-cond_one_row (transfer_starts t stretch i) _ _
+    length-transfer_rows i = length-cond_one_row (transfer_starts t stretch i) _ _
 
     -- how many rows start before an instant doesn't depend on the end
-    pub rows-count : (j : ℕ) → length (rows_before t stretch e j) ≡ length (rows_before t stretch f j)
+    pub length-rows_before : (j : ℕ) → length (rows_before t stretch e j) ≡ length (rows_before t stretch f j)
     unfolding rows_before
-    rows-count zero = refl
-    rows-count (suc j) = simp (length-append, rows-count j, tenure-count j, cycle-count j, transfer-count j)
+    length-rows_before zero = refl
+    length-rows_before (suc j) = simp (
+      length-append,
+      length-rows_before j,
+      length-tenure_rows j,
+      length-cycle_rows j,
+      length-transfer_rows j,
+    )
 
   -- the rows that start before `j + 1` are those that start before `j`, and those that start at `j`
-  rows-next : (end j : ℕ) → rows_before t stretch end (j + 1) ≡ rows_before t stretch end j
+  rows_before-next : (end j : ℕ) → rows_before t stretch end (j + 1) ≡ rows_before t stretch end j
       ++ tenure_rows t stretch end j
       ++ cycle_rows t stretch end j ++ transfer_rows t stretch end j
   unfolding rows_before
-  rows-next end j = rw add-one refl
+  rows_before-next end j = rw add-one refl
 
   -- the rows that start before `j` are the first of those that start before `n`
   rows_before-front : (end j n : ℕ) → j ≤ n → (rest : List Row)
@@ -200,7 +207,7 @@ module _ (t : Trace) (stretch : Stretch) where
   rows_before-all end j h =
       let (rest, is) = rows_before-front end (j + 1) end h in (
         rest,
-        is ∙ (ap (λ (rows : List Row). rows ++ rest) (rows-next end j)
+        is ∙ (ap (λ (rows : List Row). rows ++ rest) (rows_before-next end j)
             ∙ append-five (rows_before t stretch end j) (tenure_rows t stretch end j) (cycle_rows t stretch end j)
             (transfer_rows t stretch end j) rest),
       )
@@ -217,27 +224,28 @@ module _ (t : Trace) (stretch : Stretch) where
         ∙ sym (append_assoc done (Start stretch.start ∷ xs) (row ∷ ys)) in
         ap (λ (rows : List Row). slice_get (rows_in v rows) place) all
         ∙ (ap (slice_get (rows_in v ((done ++ Start stretch.start ∷ xs) ++ row ∷ ys)))
-        (sym (length-append done (Start stretch.start ∷ xs) ∙ counted) ∙ refl)
+        (sym (length-append done (Start stretch.start ∷ xs) ∙ length-before_row) ∙ refl)
         ∙ rows_in-row_after v (done ++ Start stretch.start ∷ xs) ys row)
       where
-        counted : length done + length (Start stretch.start ∷ xs) ≡ place
-        counted = omega (arith, at)
+        -- there are `place` rows before the row
+        length-before_row : length done + length (Start stretch.start ∷ xs) ≡ place
+        length-before_row = omega (arith, at)
 
     module _ (end j : ℕ) (h : j + 1 ≤ end) (row : Row) where
       -- the place of a tenure that starts at `j` is the number of the expected rows before it
-      pub tenure-place : tenure_rows t stretch end j ≡ row ∷ []
+      pub expected_to-tenure : tenure_rows t stretch end j ≡ row ∷ []
           → slice_get (expected_to v done t stretch end) (count_before v done t stretch j) ≡ Some (row_in v row)
-      tenure-place is =
+      expected_to-tenure is =
           let (rest, all) = rows_before-all end j h in
           expected_to-row end (rows_before t stretch end j) (cycle_rows t stretch end j
           ++ (transfer_rows t stretch end j ++ rest)) row _
-          (rw is at all) (ap (λ n. length done + 1 + n) (rows-count end j j))
+          (rw is at all) (ap (λ n. length done + 1 + n) (length-rows_before end j j))
 
       -- the place of a cycle that starts at `j` is the number of the expected rows before it, the tenure at `j`
       -- included
-      pub cycle-place : cycle_rows t stretch end j ≡ row ∷ []
+      pub expected_to-cycle : cycle_rows t stretch end j ≡ row ∷ []
           → slice_get (expected_to v done t stretch end) (count_with_tenure v done t stretch j) ≡ Some (row_in v row)
-      cycle-place is =
+      expected_to-cycle is =
           let (rest, all) = rows_before-all end j h in
           expected_to-row end (rows_before t stretch end j ++ tenure_rows t stretch end j)
           (transfer_rows t stretch end j ++ rest) row _
@@ -246,15 +254,15 @@ module _ (t : Trace) (stretch : Stretch) where
           (omega (
             arith,
             length-append (rows_before t stretch end j) (tenure_rows t stretch end j),
-            rows-count end j j,
-            tenure-count end j j,
+            length-rows_before end j j,
+            length-tenure_rows end j j,
           ))
 
       -- the place of a transfer that starts at `j` is the number of the expected rows before it, the tenure and the
       -- cycle at `j` included
-      pub transfer-place : transfer_rows t stretch end j ≡ row ∷ []
+      pub expected_to-transfer : transfer_rows t stretch end j ≡ row ∷ []
           → slice_get (expected_to v done t stretch end) (count_with_cycle v done t stretch j) ≡ Some (row_in v row)
-      transfer-place is =
+      expected_to-transfer is =
           let (rest, all) = rows_before-all end j h in
           expected_to-row end (rows_before t stretch end j ++ tenure_rows t stretch end j ++ cycle_rows t stretch end j)
           rest row
@@ -264,19 +272,20 @@ module _ (t : Trace) (stretch : Stretch) where
             arith,
             length-append (rows_before t stretch end j ++ tenure_rows t stretch end j) (cycle_rows t stretch end j),
             length-append (rows_before t stretch end j) (tenure_rows t stretch end j),
-            rows-count end j j,
-            tenure-count end j j,
-            cycle-count end j j,
+            length-rows_before end j j,
+            length-tenure_rows end j j,
+            length-cycle_rows end j j,
           ))
 
     -- the rows that start before `j + 1` are those before `j` and those at `j`
-    pub next-count : (j : ℕ) → count_before v done t stretch (j + 1) ≡ count_with_cycle v done t stretch j + length
+    pub count_before-next : (j : ℕ) → count_before v done t stretch (j + 1)
+        ≡ count_with_cycle v done t stretch j + length
         (transfer_rows t stretch j j)
-    next-count j = simp (
-      rows-next,
+    count_before-next j = simp (
+      rows_before-next,
       length-append,
-      rows-count (j + 1) j,
-      tenure-count (j + 1) j,
-      cycle-count (j + 1) j,
-      transfer-count (j + 1) j,
+      length-rows_before (j + 1) j,
+      length-tenure_rows (j + 1) j,
+      length-cycle_rows (j + 1) j,
+      length-transfer_rows (j + 1) j,
     ) (omega arith)

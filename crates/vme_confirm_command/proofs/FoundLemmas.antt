@@ -18,7 +18,7 @@ use Rattle.vme_cert.specs.Agreement.{DecidesListing}
 use Rattle.vme_cert.specs.declared.compare.Answer.{Answer}
 use Rattle.vme_cert.specs.declared.compare.Answer.TheVariants.{Yes, No}
 use Rattle.vme_cert.specs.Comparing.{Decides}
-use Rattle.vme_cert.proofs.Comparing.{decides-all}
+use Rattle.vme_cert.proofs.Comparing.{DecidesListing-all}
 use Rattle.vme_stream.specs.Answers.{dump_read, or_bad_binding}
 use Rattle.vme_stream.specs.declared.refusal.Refusal.{Refusal}
 use Rattle.vme_stream.specs.declared.refusal.Refusal.TheVariants.{BadBinding, Memory}
@@ -42,8 +42,10 @@ module _ (version : Version) (expected_rows : List Row) (given more : List Row) 
   -- what the rows so far decide, they decide of the whole listing
   DecidesListing-so_far : (answer : Answer) → DecidesSoFar given expected_rows over answer
       → DecidesListing (given ++ more) expected_rows answer
-  DecidesListing-so_far Yes h = decides-all {Source = Unit {0}} (λ _. over) given more expected_rows tt Yes h ends
-  DecidesListing-so_far (No row) h = decides-all {Source = Unit {0}} (λ _. over) given more expected_rows tt (No row) h
+  DecidesListing-so_far Yes h = DecidesListing-all {Source = Unit {0}} (λ _. over) given more expected_rows tt Yes h
+      ends
+  DecidesListing-so_far (No row) h = DecidesListing-all {Source = Unit {0}} (λ _. over) given more expected_rows tt
+      (No row) h
       ends
 
 -- a listing without a fault has the answer by its rows

@@ -3,7 +3,7 @@ use Rattle.std.proofs.Common.{◌≡◌, ◌++◌, inl, inr, sym, subst}
 use Rattle.std.specs.Prelude.{IsSome, None, Option, Some}
 use Rattle.vme_cert.specs.Vocabulary.{IsTextOfListing, ListFault, Version, listed, recorded_rows, rows_in}
 use Rattle.vme_cert.specs.contracts.source.TextRowsRowSource.TheImpl.{ghosts}
-use Rattle.vme_cert.proofs.Comparing.{decides-all}
+use Rattle.vme_cert.proofs.Comparing.{DecidesListing-all}
 use Rattle.vme_cert.proofs.compare.confirm_text.Goals as goal
 
 -- a fault that is none isn't some
@@ -23,7 +23,7 @@ returns-in-None-clause-answer c =
       listed version (found.0 ++ left.0),
       is.0,
       is.1,
-      decides-all ghosts.is_over found.0 left.0 (rows_in version all) source answer found.2 (λ over. elim over [
+      DecidesListing-all ghosts.is_over found.0 left.0 (rows_in version all) source answer found.2 (λ over. elim over [
         | inl some ↦ absurd (none-not_some source.fault (c.fault.ensures.kept c.in-None.is) some)
         | inr ends ↦ left.2 ends
       ]),

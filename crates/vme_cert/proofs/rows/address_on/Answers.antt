@@ -1,7 +1,7 @@
 -- The address so far is that on the lines before the current one.
 use Rattle.std.proofs.Common.{◌≡◌, ◌+◌, ◌*◌, ◌^◌, ◌%◌, ◌<◌, ◌≤◌, ℕ, sym, ◌∙◌, ap, arith}
 use Rattle.vme_cert.specs.Vocabulary.{Needs, address_to, is_high, is_within, level_at}
-use Rattle.vme_cert.proofs.Placing.{weight_below, weight-is, next-weight, address_to-bound, is_within-address_line}
+use Rattle.vme_cert.proofs.Placing.{weight-bound, weight-fits, weight-next, address_to-bound, is_within-address_line}
 use Rattle.vme_cert.proofs.Placing.{is_within-no_address_line}
 use Rattle.vme_cert.proofs.Placing.{address_to-high_line, address_to-other_line}
 use Rattle.vme_cert.proofs.Breaks.{needs_of-highest_bound}
@@ -12,17 +12,17 @@ pub overflow_add-address : goal.overflow_add-address
 overflow_add-address c =
     let n = c.loop-bit.bit in
     let few : n < 31 = omega arith in
-    let same = weight-is n few in
-    let next = next-weight n in
+    let same = weight-fits n few in
+    let next = weight-next n in
     let below = address_to-bound c.args.lines.now n in
-    let weight = weight_below n few in
+    let weight = weight-bound n few in
     omega (arith, same, next, below, weight, c.loop-bit.invariant.so_far)
 
 pub loop-bit-preserved : goal.loop-bit-preserved
 loop-bit-preserved c =
     let n = c.loop-bit.bit in
     let few : n < 31 = omega arith in
-    let same = weight-is n few in
+    let same = weight-fits n few in
     let shown = ap (λ l. is_high (level_at c.args.lines.now l)) (sym c.address-line.ensures)
     ∙ ap is_high (sym c.level.ensures) ∙ sym c.is_high.ensures in
     let needed = is_within-address_line c.args.needs n few (ap (is_within c.args.needs) (sym c.address-line.ensures)

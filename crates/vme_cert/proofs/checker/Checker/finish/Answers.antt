@@ -2,7 +2,7 @@ use Rattle.std.proofs.Common.{◌∙◌, false, List, length, refl, sym, ap, sub
 use Rattle.vme_cert.specs.Vocabulary.{Row, recorded_rows, rows_in}
 use Rattle.vme_cert.specs.Comparing.{IsCompared, is_at}
 use Rattle.vme_cert.proofs.Checking.{IsEnded-all_steps}
-use Rattle.vme_cert.proofs.Comparing.{compared-fewer}
+use Rattle.vme_cert.proofs.Comparing.{IsCompared-more_open}
 use Rattle.vme_cert.proofs.Following.{or-fails_all, is_at-none}
 use Rattle.vme_cert.proofs.Placing.{rows_in-length}
 use Rattle.vme_cert.proofs.checker.Checker.finish.Goals as goal
@@ -22,7 +22,7 @@ returns g c whole v t taken compared =
     c.finish.ensures whole closed.given (rows_in v (recorded_rows t)) closed.is_given
     (subst (λ (rows : List Row). IsCompared closed.given (rows_in v rows) new.compared.taken (λ n. false)
     new.compared.wrong) e.all
-    (compared-fewer (λ n. false) closed.compared
+    (IsCompared-more_open (λ n. false) closed.compared
     (λ n off. or-fails_all (is_at new.tenure n) (is_at new.cycle n) (is_at new.transfer n)
     (is_at-none new.tenure n none.tenure) (is_at-none new.cycle n none.cycle)
     (is_at-none new.transfer n none.transfer))))

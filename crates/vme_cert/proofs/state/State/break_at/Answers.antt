@@ -7,8 +7,8 @@ use Rattle.std.proofs.Math.Bool.{and-false}
 use Rattle.vme_cert.specs.Vocabulary.{Rule, U1, U2, U4, all_rules, break_at, cycle_starts, is_broken, rule_count}
 use Rattle.vme_cert.specs.Vocabulary.{strobe_falls}
 use Rattle.vme_cert.specs.Instant.{named}
-use Rattle.vme_cert.proofs.Breaks.{break_at-empty, break_at-here, break_at-next, break_at-none, breaks-off}
-use Rattle.vme_cert.proofs.Breaks.{breaks-elsewhere, unbroken}
+use Rattle.vme_cert.proofs.Breaks.{break_at-empty, break_at-here, break_at-next, break_at-none, breaks-fails}
+use Rattle.vme_cert.proofs.Breaks.{breaks-other_line, unbroken}
 use Rattle.vme_cert.proofs.Fields.{cycle_starts-is}
 use Rattle.vme_cert.proofs.state.State.break_at.Goals as goal
 
@@ -29,17 +29,17 @@ returns-then-not-change-transfer c t stretch h =
     (λ l. c.is_broken_within-cycle.ensures t stretch l h two.1
     (λ e. let none : cycle_starts t stretch j ≡ false =
     cycle_starts-is t stretch j h.judged ∙ (sym (c.falls-starts.ensures t h.at) ∙ e) in
-    breaks-off t stretch j l U2 (rw none refl))
-    (λ e. breaks-off t stretch j l U2 (rw (e, and-false) refl))
-    (λ e. sym (breaks-elsewhere t stretch j l U2 h.judged
+    breaks-fails t stretch j l U2 (rw none refl))
+    (λ e. breaks-fails t stretch j l U2 (rw (e, and-false) refl))
+    (λ e. sym (breaks-other_line t stretch j l U2 h.judged
     (ap (λ n. nat_le 5 l && nat_le l n) (sym c.address.ensures) ∙ e))))
     (λ l. c.is_transfer_start_broken-transfer.ensures.direction t stretch l h one.1)
     (λ l. c.is_transfer_start_broken-transfer.ensures.answers t stretch l h one.1)
     (λ l. c.is_broken_within-data.ensures t stretch l h three.1
     (λ e. let none : strobe_falls t j ≡ false = sym (c.strobe_falls-strobed.ensures t h.at) ∙ e in
-    breaks-off t stretch j l U4 (rw (none, and-false) refl))
-    (λ e. breaks-off t stretch j l U4 (rw (e, and-false) refl))
-    (λ e. sym (breaks-elsewhere t stretch j l U4 h.judged (ap (λ n. nat_le n l && nat_le l 190) (sym c.data.ensures)
+    breaks-fails t stretch j l U4 (rw (none, and-false) refl))
+    (λ e. breaks-fails t stretch j l U4 (rw (e, and-false) refl))
+    (λ e. sym (breaks-other_line t stretch j l U4 h.judged (ap (λ n. nat_le n l && nat_le l 190) (sym c.data.ensures)
     ∙ (ap (λ n. nat_le c.data.result l && nat_le l n) (sym c.data-2.ensures) ∙ e)))))) all_rules))
 
 pub loop-place-init : goal.loop-place-init

@@ -4,7 +4,7 @@ use Rattle.std.specs.Prelude.{is_some}
 use Rattle.vme_cert.specs.Vocabulary.{BR, Rule, grant_falls, is_broken, last_before, low, none}
 use Rattle.vme_cert.specs.RulesByLine.{may_be_broken_on}
 use Rattle.vme_cert.proofs.Fields as arms
-use Rattle.vme_cert.proofs.Instant.{granted-near}
+use Rattle.vme_cert.proofs.Instant.{tenure_level-near_grant}
 use Rattle.vme_cert.proofs.Fields.{directs-by_fields, any_since-step}
 use Rattle.vme_cert.proofs.state.State.is_broken.Goals as goal
 
@@ -30,7 +30,7 @@ returns-in-B1 c t stretch h =
     rw c.in-B1.is (arms.and-two_parts (may_be_broken_on-same c.args.line c.in-B1.is c.requires.its_line)
     (c.falls-in-B1.ensures t h.at)
     (arms.not-swapped _ _ c.is_none.ensures ∙ (ap (λ o. not (is_some o)) (c.tenure_level.ensures.level t h.at)
-    ∙ ap not (granted-near t c.args.bus.now.instant))))
+    ∙ ap not (tenure_level-near_grant t c.args.bus.now.instant))))
 
 pub returns-in-S2 : goal.returns-in-S2
 unfolding is_broken
