@@ -30,14 +30,14 @@ use Rattle.vme_audit_command.specs.declared.written_lines.NoOutcome.{NoOutcome}
 use Rattle.vme_audit_command.specs.declared.written_lines.NoOutcome.TheVariants.{CannotRead, NotWritten, Refused}
 use Rattle.vme_audit_command.specs.declared.written_lines.WriteFault.{WriteFault}
 use Rattle.vme_audit_command.specs.declared.written_lines.WriteFault.TheVariants.{Memory, CannotWrite}
-use Rattle.vme_audit_command.proofs.LastLemmas.{prefix-of}
+use Rattle.vme_audit_command.proofs.LastLemmas.{WritesPrefix-nothing}
 use Rattle.vme_audit_command.proofs.BodyPieces.{left_of-known, left_of}
 use Rattle.vme_audit_command.proofs.WriteLemmas.{WritesPrefix-after, WritesPrefix-longer}
 
 -- before the first step there are no lines
-pub no-lines : (head : List ℕ) (audit : GivenSteps) → breaks (read_of audit) ≡ [] → lines_of head audit ≡ []
+pub lines_of-none : (head : List ℕ) (audit : GivenSteps) → breaks (read_of audit) ≡ [] → lines_of head audit ≡ []
 unfolding break_lines
-no-lines head audit none = ap (flat_map (line_of_break audit.allowances audit.stop head)) none
+lines_of-none head audit none = ap (flat_map (line_of_break audit.allowances audit.stop head)) none
 
 -- the options of an audit, by their fields
 abbrev pub options_by : List Allowance → Option ℕ → ℕ → ℕ → Bool → AuditOptions
@@ -45,14 +45,14 @@ options_by allowances stop skew transfers is_quiet =
     record { allowances = allowances; transfers = transfers; stop = stop; skew = skew; is_quiet = is_quiet }
 
 -- an answer begins with the lines of the breaks
-lines-first : (options : AuditOptions) (head lines : List ℕ) (ended : Result Trace Refusal)
+answer_by-lines_first : (options : AuditOptions) (head lines : List ℕ) (ended : Result Trace Refusal)
     → (more : List ℕ) × ((answer_by options head lines ended).out ≡ lines ++ more)
-lines-first options head lines (Ok a) = (last_lines options head a, refl)
-lines-first options head lines (Err refusal) = ([], sym (append-nil lines))
+answer_by-lines_first options head lines (Ok a) = (last_lines options head a, refl)
+answer_by-lines_first options head lines (Err refusal) = ([], sym (append-nil lines))
 
 -- if no lines were written before, the text is all lines
-all-is-text : (all before text : List ℕ) → before ≡ [] → all ≡ before ++ text → all ≡ text
-all-is-text all before text none is = is ∙ ap (λ (l : List ℕ). l ++ text) none
+append-nothing_before : (all before text : List ℕ) → before ≡ [] → all ≡ before ++ text → all ≡ text
+append-nothing_before all before text none is = is ∙ ap (λ (l : List ℕ). l ++ text) none
 
 -- a body, of which `reading` is read: while its steps are audited, the audit goes from `first`, which has no lines, to
 -- `later`, and the output from u to v
@@ -60,46 +60,49 @@ module _ (skew transfers : ℕ) (is_quiet : Bool) (head : List ℕ) (first later
     (none : lines_of head first ≡ [])
     (reading : TextReading) (u v : Writing) where
   -- if the lines of a body end without an outcome, by `why`, so does the answer
-  pub ends-without_outcome : (why : NoOutcome)
+  pub EndsAs-no_outcome : (why : NoOutcome)
       → WritesRest {A = Unit {0}} head first (lines_of head first) reading later.recording u v (Err why)
       → EndsAs (reading_answer (options_by first.allowances first.stop skew transfers is_quiet) head reading) u v
       (Err why)
-  ends-without_outcome (Refused refusal) ends =
+  EndsAs-no_outcome (Refused refusal) ends =
       let options = options_by first.allowances first.stop skew transfers is_quiet in
       let (text, same, (writes, ended)) = ends in
       let lines = break_lines first.allowances first.stop head reading.recorded in
-      let is = all-is-text lines (lines_of head first) text none same in
+      let is = append-nothing_before lines (lines_of head first) text none same in
       let answer : reading_answer options head reading ≡ record { out = text; ended = Err refusal } =
       ap (λ (l : List ℕ). answer_by options head l (ended_at first.allowances first.stop reading.recorded
       reading.fault)) is
       ∙ ap (answer_by options head text) ended in
       subst (λ (a : DumpAnswer). EndsAs a u v (Err (Refused refusal))) (sym answer) (writes, refl)
-  ends-without_outcome CannotRead ends =
+  EndsAs-no_outcome CannotRead ends =
       let options = options_by first.allowances first.stop skew transfers is_quiet in
       let (text, same, some) = ends in
       let lines = break_lines first.allowances first.stop head reading.recorded in
-      let (more, is) = lines-first options head lines (ended_at first.allowances first.stop reading.recorded
+      let (more, is) = answer_by-lines_first options head lines (ended_at first.allowances first.stop reading.recorded
       reading.fault)
       in
-      let all = is ∙ ap (λ (l : List ℕ). l ++ more) (all-is-text lines (lines_of head first) text none same) in
+      let all = is ∙ ap (λ (l : List ℕ). l ++ more)
+      (append-nothing_before lines (lines_of head first) text none same) in
       subst (λ (l : List ℕ). WritesPrefix u v l) (sym all) (WritesPrefix-longer u v text more some)
-  ends-without_outcome (NotWritten CannotWrite) ends =
+  EndsAs-no_outcome (NotWritten CannotWrite) ends =
       let options = options_by first.allowances first.stop skew transfers is_quiet in
       let (text, same, fails) = ends in
       let lines = break_lines first.allowances first.stop head reading.recorded in
-      let (more, is) = lines-first options head lines (ended_at first.allowances first.stop reading.recorded
+      let (more, is) = answer_by-lines_first options head lines (ended_at first.allowances first.stop reading.recorded
       reading.fault)
       in
-      let all = is ∙ ap (λ (l : List ℕ). l ++ more) (all-is-text lines (lines_of head first) text none same) in
+      let all = is ∙ ap (λ (l : List ℕ). l ++ more)
+      (append-nothing_before lines (lines_of head first) text none same) in
       subst (λ (l : List ℕ). FailsToWrite u v l) (sym all) (FailsToWrite-longer u v text more fails)
-  ends-without_outcome (NotWritten Memory) ends =
+  EndsAs-no_outcome (NotWritten Memory) ends =
       let options = options_by first.allowances first.stop skew transfers is_quiet in
       let (text, same, some) = ends in
       let lines = break_lines first.allowances first.stop head reading.recorded in
-      let (more, is) = lines-first options head lines (ended_at first.allowances first.stop reading.recorded
+      let (more, is) = answer_by-lines_first options head lines (ended_at first.allowances first.stop reading.recorded
       reading.fault)
       in
-      let all = is ∙ ap (λ (l : List ℕ). l ++ more) (all-is-text lines (lines_of head first) text none same) in
+      let all = is ∙ ap (λ (l : List ℕ). l ++ more)
+      (append-nothing_before lines (lines_of head first) text none same) in
       subst (λ (l : List ℕ). WritesPrefix u v l) (sym all) (WritesPrefix-longer u v text more some)
 
   -- after the lines of the breaks the last lines are written
@@ -112,21 +115,21 @@ module _ (skew transfers : ℕ) (is_quiet : Bool) (head : List ℕ) (first later
         (outcome_of a.allowances transfers (read_of a)) v w result
 
     -- the last lines are the same by the rules of the first audit
-    writes-by-first : (result : Result ℕ WriteFault) → WritesLast later result
+    WritesLast-by_first : (result : Result ℕ WriteFault) → WritesLast later result
         → WritesLast (record first { recording = later.recording }) result
-    writes-by-first result writes_last = subst (λ (a : GivenSteps). WritesLast a result) kept.same writes_last
+    WritesLast-by_first result writes_last = subst (λ (a : GivenSteps). WritesLast a result) kept.same writes_last
 
     -- the answer has the lines of the breaks, `text`, which were written, and the last lines
-    answer-is : (text : List ℕ)
+    reading_answer-text : (text : List ℕ)
         × (reading_answer (options_by first.allowances first.stop skew transfers is_quiet) head reading
         ≡ answer_by (options_by first.allowances first.stop skew transfers is_quiet) head text
         (Ok (read_by first.allowances first.stop later.recording)))
         × Writes u v text
-    answer-is =
+    reading_answer-text =
         let options = options_by first.allowances first.stop skew transfers is_quiet in
         let (text, same, (writes, ended)) = ends in
         let lines = break_lines first.allowances first.stop head reading.recorded in
-        let is = all-is-text lines (lines_of head first) text none same in (
+        let is = append-nothing_before lines (lines_of head first) text none same in (
           text,
           ap (λ (l : List ℕ). answer_by options head l (ended_at first.allowances first.stop reading.recorded
               reading.fault)) is ∙ ap (answer_by options head text) ended,
@@ -134,27 +137,27 @@ module _ (skew transfers : ℕ) (is_quiet : Bool) (head : List ℕ) (first later
         )
 
     -- once the last lines are written too, the answer is written, with the status `status`
-    pub ends-with_status : (status : ℕ) → WritesLast later (Ok status)
+    pub EndsAs-status : (status : ℕ) → WritesLast later (Ok status)
         → EndsAs (reading_answer (options_by first.allowances first.stop skew transfers is_quiet) head reading) u w
         (Ok status)
-    ends-with_status status writes_last =
-        let (text, answer, writes) = answer-is in
-        let (last, is) = writes-by-first (Ok status) writes_last in
+    EndsAs-status status writes_last =
+        let (text, answer, writes) = reading_answer-text in
+        let (last, is) = WritesLast-by_first (Ok status) writes_last in
         subst (λ (a : DumpAnswer). EndsAs a u w (Ok status)) (sym answer)
         (Writes-append u v w text _ writes last, ap Ok (sym is))
 
     -- if the last lines aren't written, by `fault`, the answer ends without an outcome
-    pub ends-last_unwritten : (fault : WriteFault) → WritesLast later (Err fault)
+    pub EndsAs-last_unwritten : (fault : WriteFault) → WritesLast later (Err fault)
         → EndsAs (reading_answer (options_by first.allowances first.stop skew transfers is_quiet) head reading) u w
         (Err (NotWritten fault))
-    ends-last_unwritten CannotWrite writes_last =
-        let (text, answer, writes) = answer-is in
+    EndsAs-last_unwritten CannotWrite writes_last =
+        let (text, answer, writes) = reading_answer-text in
         subst (λ (a : DumpAnswer). EndsAs a u w (Err (NotWritten CannotWrite))) (sym answer)
-        (FailsToWrite-after u v w text _ writes (writes-by-first (Err CannotWrite) writes_last))
-    ends-last_unwritten Memory writes_last =
-        let (text, answer, writes) = answer-is in
+        (FailsToWrite-after u v w text _ writes (WritesLast-by_first (Err CannotWrite) writes_last))
+    EndsAs-last_unwritten Memory writes_last =
+        let (text, answer, writes) = reading_answer-text in
         subst (λ (a : DumpAnswer). EndsAs a u w (Err (NotWritten Memory))) (sym answer)
-        (WritesPrefix-after u v w text _ writes (writes-by-first (Err Memory) writes_last))
+        (WritesPrefix-after u v w text _ writes (WritesLast-by_first (Err Memory) writes_last))
 
 -- ---- after the definitions
 
@@ -165,11 +168,11 @@ module _ (allowances : List Allowance) (stop : Option ℕ) (skew transfers : ℕ
     (none : lines_of head first ≡ []) (r : StepReading) (held : List ℕ) (is_more : Bool) (source : Reading)
     (u : Writing) where
   -- the rules in the options can be replaced by the equal rules of the audit
-  body-by-rules : (w : Writing) (result : Result ℕ NoOutcome)
+  AnswersBody-by_rules : (w : Writing) (result : Result ℕ NoOutcome)
       → AnswersBody (options_by first.allowances first.stop skew transfers is_quiet) head r held is_more source u w
       result
       → AnswersBody (options_by allowances stop skew transfers is_quiet) head r held is_more source u w result
-  body-by-rules w result answers =
+  AnswersBody-by_rules w result answers =
       subst (λ (s : Option ℕ). AnswersBody (options_by allowances s skew transfers is_quiet) head r held is_more source
       u w result) stops
       (subst (λ (a : List Allowance). AnswersBody (options_by a first.stop skew transfers is_quiet) head r held is_more
@@ -177,50 +180,50 @@ module _ (allowances : List Allowance) (stop : Option ℕ) (skew transfers : ℕ
       u w result) fits answers)
 
   -- a body whose lines end without an outcome, by `why`, is answered so
-  pub body-without-outcome : (v : Writing) (why : NoOutcome)
+  pub AnswersBody-no_outcome : (v : Writing) (why : NoOutcome)
       → AuditsRest {A = Unit {0}} (skew_of skew) head first later r held is_more source u v (Err why)
       → AnswersBody (options_by allowances stop skew transfers is_quiet) head r held is_more source u v (Err why)
-  body-without-outcome v why rest =
+  AnswersBody-no_outcome v why rest =
       let (whole, body, ends) = rest in
-      body-by-rules v (Err why) (
+      AnswersBody-by_rules v (Err why) (
         whole,
         body,
-        ends-without_outcome skew transfers is_quiet head first later none
+        EndsAs-no_outcome skew transfers is_quiet head first later none
             (settled_by (skew_of skew) (whole_reading r whole)) u
             v why ends,
       )
 
   -- a body whose last lines are written is answered with their status
-  pub body-with-outcome : (v w : Writing) (status : ℕ) → IsLater first later
+  pub AnswersBody-outcome : (v w : Writing) (status : ℕ) → IsLater first later
       → AuditsRest {A = Unit {0}} (skew_of skew) head first later r held is_more source u v (Ok tt)
       → WritesOutcome (counts_unless is_quiet later.allowances head (read_of later)
       ++ outcome_line_of head (outcome_of later.allowances transfers (read_of later)))
       (outcome_of later.allowances transfers (read_of later)) v w (Ok status)
       → AnswersBody (options_by allowances stop skew transfers is_quiet) head r held is_more source u w (Ok status)
-  body-with-outcome v w status kept rest writes_last =
+  AnswersBody-outcome v w status kept rest writes_last =
       let (whole, body, ends) = rest in
-      body-by-rules w (Ok status) (
+      AnswersBody-by_rules w (Ok status) (
         whole,
         body,
-        ends-with_status skew transfers is_quiet head first later none
+        EndsAs-status skew transfers is_quiet head first later none
             (settled_by (skew_of skew) (whole_reading r whole)) u v
             w kept ends status writes_last,
       )
 
   -- a body whose last lines aren't written, by `fault`, is answered without an outcome
-  pub body-unwritten : (v w : Writing) (fault : WriteFault) → IsLater first later
+  pub AnswersBody-unwritten : (v w : Writing) (fault : WriteFault) → IsLater first later
       → AuditsRest {A = Unit {0}} (skew_of skew) head first later r held is_more source u v (Ok tt)
       → WritesOutcome (counts_unless is_quiet later.allowances head (read_of later)
       ++ outcome_line_of head (outcome_of later.allowances transfers (read_of later)))
       (outcome_of later.allowances transfers (read_of later)) v w (Err fault)
       → AnswersBody (options_by allowances stop skew transfers is_quiet) head r held is_more source u w
       (Err (NotWritten fault))
-  body-unwritten v w fault kept rest writes_last =
+  AnswersBody-unwritten v w fault kept rest writes_last =
       let (whole, body, ends) = rest in
-      body-by-rules w (Err (NotWritten fault)) (
+      AnswersBody-by_rules w (Err (NotWritten fault)) (
         whole,
         body,
-        ends-last_unwritten skew transfers is_quiet head first later none
+        EndsAs-last_unwritten skew transfers is_quiet head first later none
             (settled_by (skew_of skew) (whole_reading r whole))
             u v w kept ends fault writes_last,
       )
@@ -228,11 +231,11 @@ module _ (allowances : List Allowance) (stop : Option ℕ) (skew transfers : ℕ
 -- ---- a whole dump
 
 -- before its first step an audit was given what the reader has given: nothing
-pub given-first : (skew : Option ℕ) (settler : Option Settling) (first : GivenSteps) (r : StepReading)
+pub HasGiven-first : (skew : Option ℕ) (settler : Option Settling) (first : GivenSteps) (r : StepReading)
     → ComesOut skew settler r.given (whole_reading r []).time r.given
     → first.recording ≡ r.given → r.given.opening.slots ≤ 21 → length r.given.opening.levels ≡ line_count
     → IsBodyBegun r → HasGiven skew settler first r
-given-first skew settler first r comes given few whole begun = record {
+HasGiven-first skew settler first r comes given few whole begun = record {
   comes = subst (ComesOut skew settler r.given (whole_reading r []).time) (sym given) comes;
   few = few;
   whole = whole;
@@ -240,47 +243,47 @@ given-first skew settler first r comes given few whole begun = record {
 }
 
 -- if `done` was read of a source, and what is left, if it is known, is `more`, all of it was `done ++ more`
-all-from-rest : (a b : Option (List ℕ)) (done more : List ℕ) → Consumes a b done → IfSome b (λ told. more ≡ told)
+all_bytes-from_rest : (a b : Option (List ℕ)) (done more : List ℕ) → Consumes a b done → IfSome b (λ told. more ≡ told)
     → IfSome a (λ told. done ++ more ≡ told)
-all-from-rest None b done more read all = tt
-all-from-rest (Some x) None done more read all = absurd read
-all-from-rest (Some x) (Some y) done more read all = ap (λ (l : List ℕ). done ++ l) all ∙ sym read
+all_bytes-from_rest None b done more read all = tt
+all_bytes-from_rest (Some x) None done more read all = absurd read
+all_bytes-from_rest (Some x) (Some y) done more read all = ap (λ (l : List ℕ). done ++ l) all ∙ sym read
 
 module _ (options : AuditOptions) (head : List ℕ) (binding : BoundLines) (source : Reading) (u : Writing) where
   -- without memory nothing is written of a dump
-  pub answers-without_memory : AuditsDump options head binding source u u (Err (NotWritten Memory))
-  answers-without_memory = (left_of source.left, left_of-known source.left, prefix-of u _)
+  pub AuditsDump-no_memory : AuditsDump options head binding source u u (Err (NotWritten Memory))
+  AuditsDump-no_memory = (left_of source.left, left_of-known source.left, WritesPrefix-nothing u _)
 
   -- a dump whose definitions aren't read, by `why`, is answered so, and nothing is written
-  pub answers-without_definitions : (new : Reading) (left : List ℕ) (why : NoOutcome)
+  pub AuditsDump-no_definitions : (new : Reading) (left : List ℕ) (why : NoOutcome)
       → ReadsDefinitions binding source new left (Err why) → AuditsDump options head binding source u u (Err why)
-  answers-without_definitions new left (Refused refusal) reads =
+  AuditsDump-no_definitions new left (Refused refusal) reads =
       let (text, all, (fault, is, same)) = reads in (
         text,
         all,
         subst (λ (x : Result TextReading CaptureFault). EndsAs (dump_answer options head x) u u (Err (Refused refusal)))
             (sym is) (Writes-nothing u, ap Err same),
       )
-  answers-without_definitions new left CannotRead reads =
-      (left_of source.left, left_of-known source.left, prefix-of u _)
-  answers-without_definitions new left (NotWritten CannotWrite) reads = absurd reads.2
-  answers-without_definitions new left (NotWritten Memory) reads =
-      (left_of source.left, left_of-known source.left, prefix-of u _)
+  AuditsDump-no_definitions new left CannotRead reads =
+      (left_of source.left, left_of-known source.left, WritesPrefix-nothing u _)
+  AuditsDump-no_definitions new left (NotWritten CannotWrite) reads = absurd reads.2
+  AuditsDump-no_definitions new left (NotWritten Memory) reads =
+      (left_of source.left, left_of-known source.left, WritesPrefix-nothing u _)
 
   -- a dump with its definitions and its body was audited
-  pub dump-answers : (new : Reading) (left : List ℕ) (r : StepReading) (is_more : Bool) (w : Writing)
+  pub AuditsDump-answers : (new : Reading) (left : List ℕ) (r : StepReading) (is_more : Bool) (w : Writing)
       (result : Result ℕ NoOutcome) → ReadsDefinitions binding source new left (Ok (r, is_more))
       → (IsBodyBegun r → AnswersBody options head r left is_more new u w result)
       → AuditsDump options head binding source u w result
-  dump-answers new left r true w result reads answers =
+  AuditsDump-answers new left r true w result reads answers =
       let (begun, (done, read, whole)) = reads in
       let (all, (more, are, is), ends) = answers begun in (
         done ++ more,
-        all-from-rest source.left new.left done more read are,
+        all_bytes-from_rest source.left new.left done more read are,
         subst (λ (x : Result TextReading CaptureFault). EndsAs (dump_answer options head x) u w result)
             (ap (λ (l : List ℕ). Ok (whole_reading r l)) is ∙ sym (whole more)) ends,
       )
-  dump-answers new left r false w result reads answers =
+  AuditsDump-answers new left r false w result reads answers =
       let (begun, (text, all, whole)) = reads in
       let (body, is, ends) = answers begun in (
         text,

@@ -30,12 +30,12 @@ ReadGoesOn = (allowances : List Allowance) (stop : Option ℕ) (t : Trace) (more
     → BreaksGoOn allowances stop t (with_steps t more)
 
 -- when steps are added to a recording, the lines of its breaks stay
-pub lines-go-on : ReadGoesOn → (head : List ℕ) (allowances : List Allowance) (stop : Option ℕ) (t : Trace)
+pub break_lines-with_steps : ReadGoesOn → (head : List ℕ) (allowances : List Allowance) (stop : Option ℕ) (t : Trace)
     (more : List Step) → malformed_step (with_steps t more) ≡ None → t.opening.slots ≤ 21
     → (text : List ℕ) × (break_lines allowances stop head (with_steps t more) ≡ break_lines allowances stop head t
     ++ text)
 unfolding break_lines
-lines-go-on law head allowances stop t more formed few =
+break_lines-with_steps law head allowances stop t more formed few =
     let on = law allowances stop t more formed few in
     let line = line_of_break allowances stop head in (
       flat_map line on.more,
@@ -52,25 +52,26 @@ pub AuditGoesOn-no_memory : (A : Type 0) → ReadGoesOn
     → malformed_step (with_steps audit.recording steps) ≡ None → audit.recording.opening.slots ≤ 21
     → AuditGoesOn {A = A} head audit steps w w (Err Memory)
 AuditGoesOn-no_memory A law head audit steps w formed few =
-    let (text, same) = lines-go-on law head audit.allowances audit.stop audit.recording steps formed few in
+    let (text, same) = break_lines-with_steps law head audit.allowances audit.stop audit.recording steps formed few in
     (text, same, WritesPrefix-longer w w [] text (WritesPrefix-whole w w [] (Writes-nothing w)))
 
 -- ---- a step
 
--- the added text was written, or in part if there is an error
-pub writes-further-text : {A : Type 0} (before after text : List ℕ) (u v : Writing) (result : Result A WriteFault)
+-- the lines after, which are those before and a text that was written, or in part if there is an error, go on with this
+-- result
+pub GoesOn-written_text : {A : Type 0} (before after text : List ℕ) (u v : Writing) (result : Result A WriteFault)
     → after ≡ before ++ text → WritesText u v result text → GoesOn before after u v result
-writes-further-text before after text u v (Ok x) same tells = (text, same, tells)
-writes-further-text before after text u v (Err CannotWrite) same tells = (text, same, tells)
-writes-further-text before after text u v (Err Memory) same tells = (text, same, tells)
+GoesOn-written_text before after text u v (Ok x) same tells = (text, same, tells)
+GoesOn-written_text before after text u v (Err CannotWrite) same tells = (text, same, tells)
+GoesOn-written_text before after text u v (Err Memory) same tells = (text, same, tells)
 
 -- the line of a break is the text that its step adds
-pub break-written : (head : List ℕ) (audit later : GivenSteps) (steps : List Step) (b : Break) (line : List ℕ)
+pub lines_of-with_break : (head : List ℕ) (audit later : GivenSteps) (steps : List Step) (b : Break) (line : List ℕ)
     → later ≡ given_more audit steps → breaks (read_of later) ≡ breaks (read_of audit) ++ b ∷ []
     → line ≡ line_of_break audit.allowances audit.stop head b
     → lines_of head (given_more audit steps) ≡ lines_of head audit ++ line
 unfolding break_lines
-break-written head audit later steps b line is more told =
+lines_of-with_break head audit later steps b line is more told =
     let f = line_of_break audit.allowances audit.stop head in
     let grown : breaks (read_of (given_more audit steps)) ≡ breaks (read_of audit) ++ b ∷ [] =
     subst (λ (l : GivenSteps). breaks (read_of l) ≡ breaks (read_of audit) ++ b ∷ []) is more in
@@ -78,11 +79,12 @@ break-written head audit later steps b line is more told =
     ∙ ap (λ (l : List ℕ). flat_map f (breaks (read_of audit)) ++ l) (append-nil (f b) ∙ sym told)
 
 -- a step without a break adds no text
-pub nothing-written : (head : List ℕ) (audit later : GivenSteps) (steps : List Step) → later ≡ given_more audit steps
+pub lines_of-without_break : (head : List ℕ) (audit later : GivenSteps) (steps : List Step) → later
+    ≡ given_more audit steps
     → breaks (read_of later) ≡ breaks (read_of audit) ++ []
     → lines_of head (given_more audit steps) ≡ lines_of head audit ++ []
 unfolding break_lines
-nothing-written head audit later steps is more =
+lines_of-without_break head audit later steps is more =
     let f = line_of_break audit.allowances audit.stop head in
     let grown : breaks (read_of (given_more audit steps)) ≡ breaks (read_of audit) ++ [] =
     subst (λ (l : GivenSteps). breaks (read_of l) ≡ breaks (read_of audit) ++ []) is more in
@@ -138,20 +140,20 @@ GoesOn-longer A B before after all u v Memory goes more =
 -- ---- steps one by one
 
 -- the first `n` of some steps are well formed if all of them are
-pub front-formed : (t : Trace) (steps : List Step) (n : ℕ) → malformed_step (with_steps t steps) ≡ None
+pub formed-first_steps : (t : Trace) (steps : List Step) (n : ℕ) → malformed_step (with_steps t steps) ≡ None
     → malformed_step (with_steps t (take n steps)) ≡ None
-front-formed t steps n formed =
+formed-first_steps t steps n formed =
     let split : t.steps ++ steps ≡ (t.steps ++ take n steps) ++ drop n steps =
     ap (λ (x : List Step). t.steps ++ x) (sym (take-append-drop n steps))
     ∙ sym (append_assoc t.steps (take n steps) (drop n steps)) in
     (SoundParts-of_well_formed t.opening (t.steps ++ take n steps) (drop n steps)
     (subst (λ (x : List Step). malformed_step (record { opening = t.opening; steps = x }) ≡ None) split formed)).first
 
--- one more step was given
-pub one-more : (first audit later : GivenSteps) (steps : List Step) (i : ℕ) (step : Step)
+-- an audit that was given the first i steps, and then the step at i, was given the first i + 1
+pub given_more-next_step : (first audit later : GivenSteps) (steps : List Step) (i : ℕ) (step : Step)
     → audit ≡ given_more first (take i steps) → later ≡ given_more audit (step ∷ []) → i < length steps
     → step ≡ get_or steps i step → later ≡ given_more first (take (i + 1) steps)
-one-more first audit later steps i step so_far next lt is =
+given_more-next_step first audit later steps i step so_far next lt is =
     let all : List Step = first.recording.steps in
     next ∙ ap (λ (a : GivenSteps). given_more a (step ∷ [])) so_far
     ∙ ap (λ (x : List Step). record first { recording = record first.recording { steps = x } })
@@ -160,22 +162,22 @@ one-more first audit later steps i step so_far next lt is =
     (ap (λ (d : Step). take i steps ++ d ∷ []) is ∙ sym (take_more steps i step lt)))
 
 -- the next step is well formed if all steps are
-pub next-formed : (first audit later : GivenSteps) (steps : List Step) (i : ℕ) (step : Step)
+pub formed-next_step : (first audit later : GivenSteps) (steps : List Step) (i : ℕ) (step : Step)
     → audit ≡ given_more first (take i steps) → i < length steps → step ≡ get_or steps i step
     → malformed_step (with_steps first.recording steps) ≡ None
     → malformed_step (with_steps audit.recording (step ∷ [])) ≡ None
-next-formed first audit later steps i step so_far lt is formed =
-    let one = one-more first audit (given_more audit (step ∷ [])) steps i step so_far refl lt is in
-    ap (λ (a : GivenSteps). malformed_step a.recording) one ∙ front-formed first.recording steps (i + 1) formed
+formed-next_step first audit later steps i step so_far lt is formed =
+    let one = given_more-next_step first audit (given_more audit (step ∷ [])) steps i step so_far refl lt is in
+    ap (λ (a : GivenSteps). malformed_step a.recording) one ∙ formed-first_steps first.recording steps (i + 1) formed
 
 -- the lines of one more step are written after those so far
-pub lines-next : (head : List ℕ) (first audit later : GivenSteps) (step : Step) (u v w : Writing)
+pub lines_of-next_step : (head : List ℕ) (first audit later : GivenSteps) (step : Step) (u v w : Writing)
     → later ≡ given_more audit (step ∷ [])
     → (text : List ℕ) × (lines_of head audit ≡ lines_of head first ++ text) × Writes u v text
     → (text : List ℕ) × (lines_of head (given_more audit (step ∷ [])) ≡ lines_of head audit ++ text)
     × Writes v w text
     → (text : List ℕ) × (lines_of head later ≡ lines_of head first ++ text) × Writes u w text
-lines-next head first audit later step u v w is one two =
+lines_of-next_step head first audit later step u v w is one two =
     let (text, same, writes) = one in
     let (more, grown, told) = two in (
       text ++ more,
@@ -185,22 +187,23 @@ lines-next head first audit later step u v w is one two =
     )
 
 -- if the audit of a step ends with an error, so does that of all steps
-pub rest-unwritten : (A B : Type 0) → ReadGoesOn → (head : List ℕ) (first audit : GivenSteps) (steps : List Step)
+pub AuditGoesOn-unwritten : (A B : Type 0) → ReadGoesOn → (head : List ℕ) (first audit : GivenSteps) (steps : List Step)
     (i : ℕ) (step : Step) (u v w : Writing) (fault : WriteFault) → audit ≡ given_more first (take i steps)
     → i < length steps → step ≡ get_or steps i step → malformed_step (with_steps first.recording steps) ≡ None
     → first.recording.opening.slots ≤ 21
     → (text : List ℕ) × (lines_of head audit ≡ lines_of head first ++ text) × Writes u v text
     → AuditGoesOn {A = A} head audit (step ∷ []) v w (Err fault)
     → AuditGoesOn {A = B} head first steps u w (Err fault)
-rest-unwritten A B law head first audit steps i step u v w fault so_far lt is formed few one two =
+AuditGoesOn-unwritten A B law head first audit steps i step u v w fault so_far lt is formed few one two =
     let t = first.recording in
     let front = take (i + 1) steps in
     let here : malformed_step (with_steps (with_steps t front) (drop (i + 1) steps)) ≡ None =
     ap malformed_step (with_steps-append t front (drop (i + 1) steps)
     ∙ ap (with_steps t) (take-append-drop (i + 1) steps)) ∙ formed in
-    let (later, grown) = lines-go-on law head first.allowances first.stop (with_steps t front) (drop (i + 1) steps)
+    let (later, grown) = break_lines-with_steps law head first.allowances first.stop (with_steps t front)
+    (drop (i + 1) steps)
     here few in
-    let reached = one-more first audit (given_more audit (step ∷ [])) steps i step so_far refl lt is in
+    let reached = given_more-next_step first audit (given_more audit (step ∷ [])) steps i step so_far refl lt is in
     let all : lines_of head (given_more first steps) ≡ lines_of head (given_more audit (step ∷ [])) ++ later =
     ap (break_lines first.allowances first.stop head) (sym (ap (with_steps t) (take-append-drop (i + 1) steps))
     ∙ sym (with_steps-append t front (drop (i + 1) steps)))

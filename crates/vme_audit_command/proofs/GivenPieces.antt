@@ -68,11 +68,12 @@ module _ (front : GivenIsPrefix) (follows : StepsFollow) (within : StepsWithin) 
       (ap (λ (t : Trace). length t.opening.levels) given ∙ h.whole) formed-after_piece))
 
   -- not all lines of the piece were written
-  pub piece-cut : ReadGoesOn → (head : List ℕ) (u v : Writing) (fault : WriteFault) (t : Trace) (rest : List ℕ)
+  pub WritesRest-piece_cut : ReadGoesOn → (head : List ℕ) (u v : Writing) (fault : WriteFault) (t : Trace)
+      (rest : List ℕ)
       → AuditGoesTo {A = Unit {0}} head audit so_far u v (Err fault)
       → WritesRest {A = Unit {0}} head audit (lines_of head audit) (settled_by skew (whole_reading r (bytes ++ rest)))
       t u v (Err (NotWritten fault))
-  piece-cut law head u v fault t rest goes =
+  WritesRest-piece_cut law head u v fault t rest goes =
       WritesRest-cut (Unit {0}) (Unit {0}) law head audit (settled_by skew (whole_reading r (bytes ++ rest))) so_far u v
       fault
       t (ExtendsTo-after_piece rest) goes
@@ -91,9 +92,9 @@ module _ (front : GivenIsPrefix) (follows : StepsFollow) (within : StepsWithin) 
         ∙ settled_so_far-formed skew time (with_steps r.given steps) h.whole (sym (ap malformed_step given) ∙ formed)
 
     -- the audit continues
-    piece-on : n ≤ length bytes → ComesOut skew settled (with_steps r.given steps) time later.recording
+    TakesPiece-goes_on : n ≤ length bytes → ComesOut skew settled (with_steps r.given steps) time later.recording
         → TakesPiece skew head audit later settled r bytes u v (Ok (Some (next, n)))
-    piece-on fits comes =
+    TakesPiece-goes_on fits comes =
         let (text, grown, writes) = goes in (
           fits,
           taken,
@@ -109,23 +110,23 @@ module _ (front : GivenIsPrefix) (follows : StepsFollow) (within : StepsWithin) 
         )
 
     -- the audit stops
-    piece-final : StopStays → StopIsRead → has_stopped later ≡ true → (rest : List ℕ)
+    WritesRest-piece_stops : StopStays → StopIsRead → has_stopped later ≡ true → (rest : List ℕ)
         → WritesRest {A = Unit {0}} head audit (lines_of head audit)
         (settled_by skew (whole_reading r (bytes ++ rest))) later.recording u v (Ok tt)
-    piece-final stays read stopped rest =
+    WritesRest-piece_stops stays read stopped rest =
         subst (λ (t : Trace). WritesRest {A = Unit {0}} head audit (lines_of head audit)
         (settled_by skew (whole_reading r (bytes ++ rest))) t u v (Ok tt)) (sym recording-later)
         (WritesRest-stopped stays read head audit (settled_by skew (whole_reading r (bytes ++ rest))) so_far u v
         (ExtendsTo-after_piece rest) (ap has_stopped (sym same) ∙ stopped) goes)
 
     -- the audit takes the piece and continues, or it stops in the piece
-    pub piece-taken : StopStays → StopIsRead → (going : Option (StepReading × ℕ)) → n ≤ length bytes
+    pub TakesPiece-taken : StopStays → StopIsRead → (going : Option (StepReading × ℕ)) → n ≤ length bytes
         → ComesOut skew settled (with_steps r.given steps) time later.recording
         → IfSome going (λ p. (p.0 ≡ next) × (p.1 ≡ n))
         → (malformed_step later.recording ≡ None → IfNone going (has_stopped later ≡ true))
         → TakesPiece skew head audit later settled r bytes u v (Ok going)
-    piece-taken stays read None fits comes on stopped = piece-final stays read (stopped formed-later)
-    piece-taken stays read (Some (x, m)) fits comes on stopped =
+    TakesPiece-taken stays read None fits comes on stopped = WritesRest-piece_stops stays read (stopped formed-later)
+    TakesPiece-taken stays read (Some (x, m)) fits comes on stopped =
         subst (λ (k : ℕ). TakesPiece skew head audit later settled r bytes u v (Ok (Some (x, k)))) (sym on.1)
         (subst (λ (y : StepReading). TakesPiece skew head audit later settled r bytes u v (Ok (Some (y, n))))
-        (sym on.0) (piece-on fits comes))
+        (sym on.0) (TakesPiece-goes_on fits comes))

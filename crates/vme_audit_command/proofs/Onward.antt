@@ -35,8 +35,8 @@ pub record ExtendsTo (t u : Trace) : Type 0 where
   pub few : t.opening.slots ≤ 21
 
 -- a recording is itself with no further steps
-pub extends-to-itself : (t : Trace) → malformed_step t ≡ None → t.opening.slots ≤ 21 → ExtendsTo t t
-extends-to-itself t formed few = record {
+pub ExtendsTo-itself : (t : Trace) → malformed_step t ≡ None → t.opening.slots ≤ 21 → ExtendsTo t t
+ExtendsTo-itself t formed few = record {
   more = [];
   is = ap (λ (l : List Step). record t { steps = l }) (sym (append-nil t.steps));
   formed = formed;
@@ -210,7 +210,7 @@ module _ (follows : StepsFollow) (within : StepsWithin) (on : TimeGoesOn) (skew 
     ExtendsTo-stopped =
         let t = settled_so_far skew stopped.time (with_steps r.given stopped.steps.items) in
         subst (λ (x : Trace). ExtendsTo t x) (sym settled_by-stopped)
-        (extends-to-itself t (settled_so_far-formed skew stopped.time (with_steps r.given stopped.steps.items) h.whole
+        (ExtendsTo-itself t (settled_so_far-formed skew stopped.time (with_steps r.given stopped.steps.items) h.whole
         GoOnTo-stopped.go.formed)
         (subst (λ (v : Levels). v.slots ≤ 21) (sym (settled_so_far-opening skew stopped.time
         (with_steps r.given stopped.steps.items)))
@@ -244,7 +244,7 @@ module _ (follows : StepsFollow) (within : StepsWithin) (on : TimeGoesOn) (skew 
     ExtendsTo-last whole =
         let t = settled_whole skew (with_steps r.given steps) in
         subst (λ (x : Trace). ExtendsTo t x) (sym (settled_by-last whole))
-        (extends-to-itself t (settled_whole-formed skew (with_steps r.given steps) h.whole GoOnFrom-last.formed)
+        (ExtendsTo-itself t (settled_whole-formed skew (with_steps r.given steps) h.whole GoOnFrom-last.formed)
         (subst (λ (v : Levels). v.slots ≤ 21) (sym (settled_whole-opening skew (with_steps r.given steps))) h.few))
 
   -- after one more piece

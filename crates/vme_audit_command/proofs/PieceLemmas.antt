@@ -27,7 +27,7 @@ use Rattle.vme_audit_command.specs.declared.written_lines.NoOutcome.{NoOutcome}
 use Rattle.vme_audit_command.specs.declared.written_lines.NoOutcome.TheVariants.{CannotRead, NotWritten, Refused}
 use Rattle.vme_audit_command.specs.declared.written_lines.WriteFault.{WriteFault}
 use Rattle.vme_audit_command.specs.declared.written_lines.WriteFault.TheVariants.{CannotWrite, Memory}
-use Rattle.vme_audit_command.proofs.BodyLemmas.{ReadGoesOn, lines-go-on, AuditGoesOn-no_memory}
+use Rattle.vme_audit_command.proofs.BodyLemmas.{ReadGoesOn, break_lines-with_steps, AuditGoesOn-no_memory}
 use Rattle.vme_audit_command.proofs.Onward.{ExtendsTo}
 use Rattle.vme_audit_command.proofs.WriteLemmas.{WritesPrefix-after, WritesPrefix-longer}
 use Rattle.vme_audit_command.proofs.WriteLemmas.{WritesPrefix-whole}
@@ -80,7 +80,8 @@ pub WritesRest-memory : (A : Type 0) → ReadGoesOn
     → WritesRest {A = A} head audit (lines_of head audit) reading t w w (Err (NotWritten Memory))
 WritesRest-memory A law head audit reading t w on =
     let here : malformed_step (with_steps audit.recording on.more) ≡ None = sym (ap malformed_step on.is) ∙ on.formed in
-    let (text, same) = lines-go-on law head audit.allowances audit.stop audit.recording on.more here on.few in (
+    let (text, same) = break_lines-with_steps law head audit.allowances audit.stop audit.recording on.more here on.few
+    in (
       text,
       ap (break_lines audit.allowances audit.stop head) on.is ∙ same,
       WritesPrefix-longer w w [] text (WritesPrefix-whole w w [] (Writes-nothing w)),
@@ -111,7 +112,7 @@ pub WritesRest-cut : (A B : Type 0) → ReadGoesOn
     → WritesRest {A = B} head audit (lines_of head audit) reading x u v (Err (NotWritten fault))
 WritesRest-cut A B law head audit reading t u v fault x on goes =
     let here : malformed_step (with_steps t on.more) ≡ None = sym (ap malformed_step on.is) ∙ on.formed in
-    let (later, grown) = lines-go-on law head audit.allowances audit.stop t on.more here on.few in
+    let (later, grown) = break_lines-with_steps law head audit.allowances audit.stop t on.more here on.few in
     let all = ap (break_lines audit.allowances audit.stop head) on.is ∙ grown in
     WritesUntil-unwritten A B (ended_at audit.allowances audit.stop reading.recorded reading.fault)
     (read_by audit.allowances audit.stop x) (lines_of head audit) (lines_of head (given_recording audit t))

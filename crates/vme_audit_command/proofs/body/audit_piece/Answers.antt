@@ -2,7 +2,7 @@ use Rattle.std.proofs.Common.{◌++◌, []}
 use Rattle.vme_trace.specs.Followed.{with_steps}
 use Rattle.vme_step_reader.specs.StepReading.{whole_reading}
 use Rattle.vme_dump_input.specs.SettledReadings.{settled_so_far}
-use Rattle.vme_audit_command.proofs.GivenPieces.{piece-cut, GoOnTo-piece, piece-taken}
+use Rattle.vme_audit_command.proofs.GivenPieces.{WritesRest-piece_cut, GoOnTo-piece, TakesPiece-taken}
 use Rattle.vme_audit_command.proofs.Later.{IsLater-given_recording, IfNone-IsLater}
 use Rattle.vme_audit_command.proofs.Onward.{ExtendsTo-next}
 use Rattle.vme_audit_command.proofs.body.audit_piece.Goals as goal
@@ -23,7 +23,8 @@ returns-in-Ok-audit_settled-clause-takes g c = λ skew h.
     let made = c.in-Ok.ensures in
     let to = GoOnTo-piece front law.follows law.within law.on skew settler audit r h next steps n bytes made.taken
     made.given time c.time-time.ensures made.formed in
-    piece-taken front law.follows law.within law.on skew settler audit r h next steps n bytes made.taken made.given time
+    TakesPiece-taken front law.follows law.within law.on skew settler audit r h next steps n bytes made.taken made.given
+    time
     c.time-time.ensures made.formed c.args.head.now c.audit_settled.new.auditor c.audit_settled.new.settler
     (g.O.Sink.writing c.args.out.now) (g.O.Sink.writing c.audit_settled.new.out)
     (c.in-Ok-audit_settled.ensures.given skew r.given from h.comes to)
@@ -47,7 +48,8 @@ returns-in-Err-audit_settled-clause-takes g c = λ skew h rest.
     let made = c.in-Ok.ensures in
     let to = GoOnTo-piece front law.follows law.within law.on skew settler audit r h next steps n bytes made.taken
     made.given time c.time-time.ensures made.formed in
-    piece-cut front law.follows law.within law.on skew settler audit r h next steps n bytes made.taken made.given time
+    WritesRest-piece_cut front law.follows law.within law.on skew settler audit r h next steps n bytes made.taken
+    made.given time
     c.time-time.ensures c.reading_goes_on.ensures.breaks c.args.head.now (g.O.Sink.writing c.args.out.now)
     (g.O.Sink.writing c.audit_settled.new.out) c.in-Err-audit_settled.fault c.audit_settled.new.auditor.recording rest
     (c.in-Err-audit_settled.ensures.writes skew r.given (whole_reading r []).time h.comes to)

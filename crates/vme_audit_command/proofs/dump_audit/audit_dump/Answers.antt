@@ -3,14 +3,14 @@ use Rattle.vme_audit_lines.specs.AuditLines.{head_of}
 use Rattle.vme_step_reader.specs.StepReading.{StepReading}
 use Rattle.vme_audit_command.specs.Definitions.{IsBodyBegun}
 use Rattle.vme_audit_command.specs.DumpAnswers.{AnswersBody}
-use Rattle.vme_audit_command.proofs.AnswerLemmas.{dump-answers, options_by, answers-without_definitions}
-use Rattle.vme_audit_command.proofs.AnswerLemmas.{answers-without_memory}
+use Rattle.vme_audit_command.proofs.AnswerLemmas.{AuditsDump-answers, options_by, AuditsDump-no_definitions}
+use Rattle.vme_audit_command.proofs.AnswerLemmas.{AuditsDump-no_memory}
 use Rattle.vme_audit_command.proofs.ReadLemmas.{CountsUnread-after, CountsUnread-retyped, NoReadFails-refl}
 use Rattle.vme_audit_command.proofs.dump_audit.audit_dump.Goals as goal
 
 pub returns-in_default-clause-audits : goal.returns-in_default-clause-audits
 returns-in_default-clause-audits g c =
-    answers-without_memory (options_by c.args.options.allowances.now c.args.options.stop c.args.options.skew
+    AuditsDump-no_memory (options_by c.args.options.allowances.now c.args.options.stop c.args.options.skew
     c.args.options.transfers c.args.options.is_quiet)
     (head_of c.args.name.now) c.args.binding.now (g.D.Source.reading c.args.dump.now) (g.O.Sink.writing c.args.out.now)
 
@@ -21,7 +21,7 @@ returns-in-Ok-clause-audits g c =
     let u = g.O.Sink.writing c.args.out.now in
     let w = g.O.Sink.writing c.audit_after_definitions.new.out in
     let new = g.D.Source.reading c.read_definitions.new.dump in
-    dump-answers options (head_of c.args.name.now) c.args.binding.now (g.D.Source.reading c.args.dump.now) u new
+    AuditsDump-answers options (head_of c.args.name.now) c.args.binding.now (g.D.Source.reading c.args.dump.now) u new
     c.read_definitions.new.input c.in-Ok.reader c.in-Ok.is_more w c.audit_after_definitions.result c.in-Ok.ensures.reads
     (subst (λ head. IsBodyBegun c.in-Ok.reader → AnswersBody options head c.in-Ok.reader c.read_definitions.new.input
     c.in-Ok.is_more new u w c.audit_after_definitions.result) (c.as_bytes.ensures ∙ c.in-Ok-Ok.ensures)
@@ -29,7 +29,7 @@ returns-in-Ok-clause-audits g c =
 
 pub returns-clause-audits : goal.returns-clause-audits
 returns-clause-audits g c =
-    answers-without_definitions (options_by c.args.options.allowances.now c.args.options.stop c.args.options.skew
+    AuditsDump-no_definitions (options_by c.args.options.allowances.now c.args.options.stop c.args.options.skew
     c.args.options.transfers c.args.options.is_quiet)
     (head_of c.args.name.now) c.args.binding.now (g.D.Source.reading c.args.dump.now) (g.O.Sink.writing c.args.out.now)
     (g.D.Source.reading c.read_definitions.new.dump) c.read_definitions.new.input c.in-Err.why c.in-Err.ensures.reads

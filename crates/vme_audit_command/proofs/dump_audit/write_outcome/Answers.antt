@@ -1,7 +1,7 @@
 use Rattle.std.proofs.Common.{Err, subst}
 use Rattle.std.proofs.lemmas.Result.{err_from_is_err_and}
 use Rattle.vme_audit_command.specs.LastLines.{WritesOutcome, outcome_line_of}
-use Rattle.vme_audit_command.proofs.LastLemmas.{outcome-unwritten, outcome-written}
+use Rattle.vme_audit_command.proofs.LastLemmas.{WritesOutcome-unwritten, WritesOutcome-written}
 use Rattle.vme_audit_command.proofs.dump_audit.write_outcome.Goals as goal
 
 pub returns : goal.returns
@@ -11,7 +11,7 @@ returns g c = λ formed.
     let head = c.args.head.now in
     let o = c.outcome-outcome.result in
     subst (λ p. WritesOutcome (outcome_line_of head p) p old new c.end_case.result) (c.outcome-outcome.ensures formed)
-    (outcome-written o old new (outcome_line_of head o) c.end_case.result c.in_ok-write_outcome_line.ensures
+    (WritesOutcome-written o old new (outcome_line_of head o) c.end_case.result c.in_ok-write_outcome_line.ensures
     c.end_case.ensures.ok c.end_case.ensures.err)
 
 pub returns-in_err-write_outcome_line : goal.returns-in_err-write_outcome_line
@@ -25,4 +25,4 @@ returns-in_err-write_outcome_line g c =
     rw (e.1, e.2)
     (λ formed. subst (λ p. WritesOutcome (outcome_line_of head p) p old new (Err fault))
     (c.outcome-outcome.ensures formed)
-    (outcome-unwritten (Unit {0}) o old new (outcome_line_of head o) fault c.in_err-write_outcome_line.ensures))
+    (WritesOutcome-unwritten (Unit {0}) o old new (outcome_line_of head o) fault c.in_err-write_outcome_line.ensures))

@@ -1,6 +1,6 @@
 use Rattle.std.proofs.Common.{subst, ◌∙◌}
 use Rattle.vme_audit_command.specs.DumpAudits.{WritesText}
-use Rattle.vme_audit_command.proofs.LastLemmas.{prefix-of}
+use Rattle.vme_audit_command.proofs.LastLemmas.{WritesPrefix-nothing}
 use Rattle.vme_audit_command.proofs.dump_audit.write_outcome_line.Goals as goal
 
 pub returns-in-Ok : goal.returns-in-Ok
@@ -9,4 +9,4 @@ returns-in-Ok g c =
     (c.as_bytes.ensures ∙ c.in-Ok.ensures) c.write_text.ensures
 
 pub returns-in-Err : goal.returns-in-Err
-returns-in-Err g c = prefix-of (g.O.Sink.writing c.args.out.now) _
+returns-in-Err g c = WritesPrefix-nothing (g.O.Sink.writing c.args.out.now) _

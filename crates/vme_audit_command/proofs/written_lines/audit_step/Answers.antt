@@ -5,8 +5,8 @@ use Rattle.vme_stream.specs.Texts.{line_of}
 use Rattle.vme_stream.proofs.OutputLemmas.{Writes-nothing}
 use Rattle.vme_audit_lines.specs.AuditLines.{audit_break_text}
 use Rattle.vme_audit_command.specs.DumpAudits.{given_more, line_of_break, lines_of}
-use Rattle.vme_audit_command.proofs.BodyLemmas.{break-written, AuditGoesOn-no_memory, nothing-written}
-use Rattle.vme_audit_command.proofs.BodyLemmas.{writes-further-text}
+use Rattle.vme_audit_command.proofs.BodyLemmas.{lines_of-with_break, AuditGoesOn-no_memory, lines_of-without_break}
+use Rattle.vme_audit_command.proofs.BodyLemmas.{GoesOn-written_text}
 use Rattle.vme_audit_command.proofs.written_lines.audit_step.Goals as goal
 
 pub returns-in-Ok-Some-clause-writes : goal.returns-in-Ok-Some-clause-writes
@@ -23,9 +23,9 @@ returns-in-Ok-Some-clause-writes g c =
     λ formed few.
     let here : malformed_step c.take.new.self.recording ≡ None =
     ap (λ a. malformed_step a.recording) c.in-Ok-Some.ensures.given ∙ formed in
-    writes-further-text (lines_of head audit) (lines_of head (given_more audit steps)) line
+    GoesOn-written_text (lines_of head audit) (lines_of head (given_more audit steps)) line
     (g.O.Sink.writing c.args.out.now) (g.O.Sink.writing c.write_break.new.out) c.write_break.result
-    (break-written head audit c.take.new.self steps b line c.in-Ok-Some.ensures.given
+    (lines_of-with_break head audit c.take.new.self steps b line c.in-Ok-Some.ensures.given
     (rw c.in-Ok-Some.field-0-is at c.in-Ok-Some.ensures.told here) is)
     c.write_break.ensures
 
@@ -38,7 +38,7 @@ returns-in-Ok-None-clause-writes g c =
     let here : malformed_step c.take.new.self.recording ≡ None =
     ap (λ a. malformed_step a.recording) c.in-Ok-None.ensures.given ∙ formed in (
       [],
-      nothing-written head audit c.take.new.self steps c.in-Ok-None.ensures.given
+      lines_of-without_break head audit c.take.new.self steps c.in-Ok-None.ensures.given
           (rw c.in-Ok-None.field-0-is at c.in-Ok-None.ensures.told here),
       Writes-nothing (g.O.Sink.writing c.args.out.now),
     )

@@ -1,5 +1,6 @@
 use Rattle.std.proofs.Common.{◌≤◌, subst, sym}
-use Rattle.vme_audit_command.proofs.BodyLemmas.{lines-next, next-formed, one-more, rest-unwritten}
+use Rattle.vme_audit_command.proofs.BodyLemmas.{lines_of-next_step, formed-next_step, given_more-next_step}
+use Rattle.vme_audit_command.proofs.BodyLemmas.{AuditGoesOn-unwritten}
 use Rattle.vme_audit_command.proofs.written_lines.audit_steps.Goals as goal
 
 pub loop-step-preserved : goal.loop-step-preserved
@@ -13,12 +14,13 @@ loop-step-preserved g c =
     let so_far = c.loop-step.invariant.given in
     let given = c.in-Ok.ensures.given in
     record {
-      given = one-more first audit later steps i step so_far given c.loop-step-test.true c.step-item.is;
+      given = given_more-next_step first audit later steps i step so_far given c.loop-step-test.true c.step-item.is;
       writes = λ formed few.
-          let here = next-formed first audit later steps i step so_far c.loop-step-test.true c.step-item.is formed in
+          let here = formed-next_step first audit later steps i step so_far c.loop-step-test.true c.step-item.is
+          formed in
           let small : audit.recording.opening.slots ≤ 21 = subst (λ a. a.recording.opening.slots ≤ 21) (sym so_far)
           few in
-          lines-next c.args.head.now first audit later step (g.O.Sink.writing c.args.out.now)
+          lines_of-next_step c.args.head.now first audit later step (g.O.Sink.writing c.args.out.now)
           (g.O.Sink.writing c.loop-step.out) (g.O.Sink.writing c.audit_step.new.out) given
           (c.loop-step.invariant.writes formed few) (c.in-Ok.ensures.writes here small);
     }
@@ -32,10 +34,12 @@ returns-in-Err-clause-writes g c =
     let step = c.step-item.result in
     let so_far = c.loop-step.invariant.given in
     λ formed few.
-    let here = next-formed first audit c.audit_step.new.auditor steps i step so_far c.loop-step-test.true c.step-item.is
+    let here = formed-next_step first audit c.audit_step.new.auditor steps i step so_far c.loop-step-test.true
+    c.step-item.is
     formed in
     let small : audit.recording.opening.slots ≤ 21 = subst (λ a. a.recording.opening.slots ≤ 21) (sym so_far) few in
-    rest-unwritten (Unit {0}) (Unit {0}) c.reading_goes_on.ensures.breaks c.args.head.now first audit steps i step
+    AuditGoesOn-unwritten (Unit {0}) (Unit {0}) c.reading_goes_on.ensures.breaks c.args.head.now first audit steps i
+    step
     (g.O.Sink.writing c.args.out.now) (g.O.Sink.writing c.loop-step.out) (g.O.Sink.writing c.audit_step.new.out)
     c.in-Err.fault so_far c.loop-step-test.true c.step-item.is formed few (c.loop-step.invariant.writes formed few)
     (c.in-Err.ensures.writes here small)
