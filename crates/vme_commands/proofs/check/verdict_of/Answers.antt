@@ -1,3 +1,4 @@
+-- The verdict of the judge is that of the recording, and without one the refusal is the recording's.
 use Rattle.std.proofs.Common.{◌∙◌, Result, Ok, refl, sym, ap}
 use Rattle.vcd_read.specs.Header.{◌>>=◌}
 use Rattle.vme_trace.specs.Trace.{Trace}
@@ -10,6 +11,7 @@ use Rattle.vme_commands.specs.Judged.{limited_in_blocks}
 use Rattle.vme_commands.proofs.JudgedLemmas.{limited_in_blocks-judged, limited_in_blocks-refused}
 use Rattle.vme_commands.proofs.check.verdict_of.Goals as goal
 
+-- the verdict on a recording
 abbrev or_verdict : Trace → Result Verdict Refusal
 or_verdict t = Ok (verdict_by rules_in_force t)
 

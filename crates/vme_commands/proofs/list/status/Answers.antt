@@ -1,3 +1,4 @@
+-- The last row of a listing is that of its verdict, whose status is that of the listing.
 use Rattle.std.proofs.Common.{sym, ap, ◌∙◌, ◌-◌, List, length}
 use Rattle.std.specs.Prelude.{Option, slice_get}
 use Rattle.std.specs.Option.{option_copied}
@@ -5,6 +6,7 @@ use Rattle.vme_listing.specs.declared.row.Row.{Row}
 use Rattle.vme_commands.proofs.ListLemmas.{last_or-slice_get, status_of_last}
 use Rattle.vme_commands.proofs.list.status.Goals as goal
 
+-- the last row, if there is one
 abbrev last_in : List Row → Option Row
 last_in rows = slice_get rows (length rows - 1)
 

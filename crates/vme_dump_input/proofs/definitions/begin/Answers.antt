@@ -11,9 +11,10 @@ use Rattle.vme_dump_input.proofs.DefinitionLemmas.{IsAtDefinitions-begun}
 use Rattle.vme_dump_input.proofs.definitions.begin.Goals as goal
 
 -- the body that was found begins within the held bytes, or at their end
-within-held : (found : Option (StepReading × ℕ)) (one : StepReading × ℕ) (bytes held : List ℕ) → found ≡ Some one
+body_start-within_held : (found : Option (StepReading × ℕ)) (one : StepReading × ℕ) (bytes held : List ℕ) → found
+    ≡ Some one
     → bytes ≡ held → IfSome found (λ begun. begun.1 ≤ length bytes) → one.1 ≤ length held
-within-held found one bytes held is same within =
+body_start-within_held found one bytes held is same within =
     subst (λ (l : List ℕ). one.1 ≤ length l) same
     (subst (λ (f : Option (StepReading × ℕ)). IfSome f (λ begun. begun.1 ≤ length bytes)) is within)
 
@@ -22,7 +23,7 @@ returns-in-Ok-Some-clause-held g c =
     let found = c.in-Ok-Some.found in
     let body_is : c.body_after.result ≡ Body found.0 found.1 = rw c.in-Ok-Some.field-0-is at c.body_after.ensures in
     subst (HoldsDefinitions c.args.input.now) (sym body_is)
-    (within-held c.in-Ok-Some.field-0 found c.bytes.result.now c.args.input.now.held c.in-Ok-Some.field-0-is
+    (body_start-within_held c.in-Ok-Some.field-0 found c.bytes.result.now c.args.input.now.held c.in-Ok-Some.field-0-is
     c.bytes.ensures.held c.in-Ok-Some.ensures.within)
 
 pub returns-in-Ok-clause-held : goal.returns-in-Ok-clause-held
@@ -36,7 +37,7 @@ returns-in-Ok-Some-clause-read g c old h limit =
     let input = c.args.input.now in
     let found = c.in-Ok-Some.found in
     let binding = c.args.binding.now in
-    let within = within-held c.in-Ok-Some.field-0 found c.bytes.result.now input.held c.in-Ok-Some.field-0-is
+    let within = body_start-within_held c.in-Ok-Some.field-0 found c.bytes.result.now input.held c.in-Ok-Some.field-0-is
     c.bytes.ensures.held c.in-Ok-Some.ensures.within in
     let begins = subst (λ (f : Option (StepReading × ℕ)). IfSome f (λ begun. (rest : List ℕ)
     → reading_of_text binding (c.bytes.result.now ++ rest)

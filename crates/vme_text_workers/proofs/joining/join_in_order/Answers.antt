@@ -1,3 +1,5 @@
+-- The pieces that were joined so far were taken, and with them their steps were passed on; those after them were read
+-- ahead or again, if at all.
 use Rattle.std.proofs.Common.{◌≡◌, ◌+◌, ◌∷◌, ◌∙◌, [], ap, drop, get_or, arith, refl, subst, sym}
 use Rattle.std.specs.Vec.Iter.{into_iter_items}
 use Rattle.vme_trace.specs.Trace.{Trace, levels_after}
@@ -10,6 +12,7 @@ use Rattle.vme_text_workers.proofs.JoinLemmas.{IsJudgedAhead-either, AreAhead-re
 use Rattle.vme_text_workers.proofs.JoinLemmas.{AreAhead-same_nets, opening-after_passed, AreTaken-none}
 use Rattle.vme_text_workers.proofs.joining.join_in_order.Goals as goal
 
+-- a piece without bytes, which stands for one that isn't there
 abbrev no_piece : DumpPiece
 no_piece = record { bytes = record { ref_ptr = (0, 0); now = [] }; line = 0 }
 

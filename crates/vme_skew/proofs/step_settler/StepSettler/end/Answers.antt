@@ -13,19 +13,19 @@ use Rattle.vme_skew.proofs.step_settler.StepSettler.end.Goals as goal
 
 -- if the step that the last group makes was made, the steps that came out and this one are those of the settled
 -- recording
-made-at_end : {E : Type 0} (s : Settling) (is_begun : Bool) (group : GroupLevels) → KeepsGroup s is_begun group
+steps-at_end : {E : Type 0} (s : Settling) (is_begun : Bool) (group : GroupLevels) → KeepsGroup s is_begun group
     → (r : Result (Option Step) E)
     → IfOk r (λ (made : Option Step). step_in made ≡ step_between group.start group.before group.now)
     → IfOk r (λ (made : Option Step). malformed_step s.given ≡ None → s.in_order ≡ true
     → s.out ++ option_to_list made ≡ (settled s.skew s.given).steps)
-made-at_end s is_begun group h (Ok made) is =
+steps-at_end s is_begun group h (Ok made) is =
     settled-KeepsGroup s.skew s.given.opening s.given.steps s.out s.reached s.in_order is_begun group h made is
-made-at_end s is_begun group h (Err e) is = tt
+steps-at_end s is_begun group h (Err e) is = tt
 
 pub returns : goal.returns
 returns c =
     let i = c.self.inside in
     subst (λ (s : Settling). IfOk c.end.result (λ (made : Option Step). malformed_step s.given ≡ None
     → s.in_order ≡ true → s.out ++ option_to_list made ≡ (settled s.skew s.given).steps)) c.self.view_is
-    (made-at_end (settling i.skew i.opening i.given.items i.out.items i.reached i.in_order) i.is_begun i.group
+    (steps-at_end (settling i.skew i.opening i.given.items i.out.items i.reached i.in_order) i.is_begun i.group
     c.self.invariant c.end.result c.end.ensures.step)
