@@ -38,7 +38,7 @@ use Rattle.vme_parts.proofs.OneFile.{file_stands, first_is}
 use Rattle.vme_parts.proofs.OpenedFile.{opened_few, opened_sound}
 use Rattle.vme_parts.proofs.Runs.{acknowledge_is_run, grant_is_run, handshake_is_run, known_is_run, stability_is_run}
 use Rattle.vme_parts.proofs.Runs.{tables_of_both}
-use Rattle.vme_parts.proofs.Standing.{ends_of_both, numbers_of_both, starts_of_both}
+use Rattle.vme_parts.proofs.Standing.{last_time-joined_times, number-joined_times, first_time-joined_times}
 
 -- ---- what a segment of one file has
 
@@ -156,7 +156,7 @@ module _ (listing : Bool) (s t r : SegmentValue) (number : ℕ) (o : Levels) (x 
   -- the joined segment starts at the first time of x and y
   starts_at-grown : starts_at r.times ≡ first_time (x ++ y)
   starts_at-grown =
-      ap starts_at e.times ∙ starts_of_both s.times t.times
+      ap starts_at e.times ∙ first_time-joined_times s.times t.times
       ∙ ap (λ (u : Option ℕ). option_or u (starts_at t.times)) (starts_at-of_file listing s before a)
       ∙ ap (λ (u : Option ℕ). option_or (first_time x) u) (starts_at-of_file listing t more_steps b)
       ∙ sym (first_time-append x y)
@@ -164,7 +164,7 @@ module _ (listing : Bool) (s t r : SegmentValue) (number : ℕ) (o : Levels) (x 
   -- the joined segment ends at the last time of x and y
   ends_at-grown : ends_at r.times ≡ last_time (x ++ y)
   ends_at-grown =
-      ap ends_at e.times ∙ ends_of_both s.times t.times
+      ap ends_at e.times ∙ last_time-joined_times s.times t.times
       ∙ ap (λ (u : Option ℕ). option_or u (ends_at s.times)) (ends_at-of_file listing t more_steps b)
       ∙ ap (λ (u : Option ℕ). option_or (last_time y) u) (ends_at-of_file listing s before a)
       ∙ sym (last_time-append x y)
@@ -180,7 +180,7 @@ module _ (listing : Bool) (s t r : SegmentValue) (number : ℕ) (o : Levels) (x 
   -- the joined segment has the number of the file in its times, if there are steps
   number_in-grown : number_in r.times ≡ number_at (x ++ y)
   number_in-grown =
-      ap number_in e.times ∙ numbers_of_both s.times t.times
+      ap number_in e.times ∙ number-joined_times s.times t.times
       ∙ ap (λ (u : Option ℕ). option_or u (number_in t.times)) (number-of_file listing s before a)
       ∙ ap (λ (u : Option ℕ). option_or (number_at x) u) (number-of_file listing t more_steps b)
       ∙ sym (option_map-first_of_both number x y)

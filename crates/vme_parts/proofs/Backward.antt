@@ -1,4 +1,4 @@
--- Buddies at the end of segments become one.
+-- Buddies at the end of gathered segments become one, or have too many steps.
 use Rattle.std.proofs.Common.{◌≡◌, ℕ, ◌+◌, ◌≤◌, ◌^◌, List, [], ◌∷◌, ◌++◌, map, take, ap, sym, ◌∙◌, subst, append_assoc}
 use Rattle.std.specs.Prelude.{All}
 use Rattle.std.proofs.lemmas.List.{map-append, map_push, take-map}
@@ -13,57 +13,64 @@ use Rattle.vme_parts.specs.Files.{files_of}
 use Rattle.vme_parts.specs.Gathering.{Gathered, IsSegment}
 use Rattle.vme_parts.specs.Joined.{IsOfBoth}
 use Rattle.vme_parts.specs.Stands.{SegmentStandsFor}
-use Rattle.vme_parts.proofs.Gathering.{all_last, gathered_merged}
+use Rattle.vme_parts.proofs.Gathering.{All-last, Gathered-merged}
 use Rattle.vme_parts.proofs.Merging.{both_too_long}
 
-popped_values : (old new : List Segment) (x : Segment) → old ≡ new ++ x ∷ []
+-- the values of `old` are those of `new` and then that of x, which was popped
+map-popped : (old new : List Segment) (x : Segment) → old ≡ new ++ x ∷ []
     → map segment_value old ≡ map segment_value new ++ segment_value x ∷ []
-popped_values old new x e = ap (map segment_value) e ∙ map_push segment_value new x
+map-popped old new x e = ap (map segment_value) e ∙ map_push segment_value new x
 
-pub popped_front : (old new : List Segment) (x : Segment) → old ≡ new ++ x ∷ [] → All IsSegment (map segment_value old)
+-- the segments that are left when x was popped satisfy `IsSegment` if all did
+pub IsSegment-popped_front : (old new : List Segment) (x : Segment) → old ≡ new ++ x ∷ []
+    → All IsSegment (map segment_value old)
     → All IsSegment (map segment_value new)
-popped_front old new x e all =
+IsSegment-popped_front old new x e all =
     All-front IsSegment (map segment_value new) (segment_value x ∷ [])
     (All-same IsSegment (map segment_value new ++ segment_value x ∷ []) (map segment_value old)
-    (sym (popped_values old new x e)) all)
+    (sym (map-popped old new x e)) all)
 
-pub popped_last : (old new : List Segment) (x : Segment) → old ≡ new ++ x ∷ [] → All IsSegment (map segment_value old)
+-- the segment x that was popped satisfies `IsSegment` if all did
+pub IsSegment-popped_last : (old new : List Segment) (x : Segment) → old ≡ new ++ x ∷ []
+    → All IsSegment (map segment_value old)
     → IsSegment (segment_value x)
-popped_last old new x e all =
-    all_last IsSegment (map segment_value new) (segment_value x)
+IsSegment-popped_last old new x e all =
+    All-last IsSegment (map segment_value new) (segment_value x)
     (All-same IsSegment (map segment_value new ++ segment_value x ∷ []) (map segment_value old)
-    (sym (popped_values old new x e)) all)
+    (sym (map-popped old new x e)) all)
 
 -- the first n segments of a list satisfy `IsSegment` if all do
-pub popped_all : (n : ℕ) (old new : List Segment) → new ≡ take n old → All IsSegment (map segment_value old)
+pub IsSegment-first : (n : ℕ) (old new : List Segment) → new ≡ take n old → All IsSegment (map segment_value old)
     → All IsSegment (map segment_value new)
-popped_all n old new e all =
+IsSegment-first n old new e all =
     All-same IsSegment (map segment_value new) (take n (map segment_value old))
     (ap (map segment_value) e ∙ sym (take-map segment_value n old))
     (All-take IsSegment n (map segment_value old) all)
 
-two_at_end : (old new : List Segment) (x : Segment) (t : SegmentValue) → old ≡ new ++ x ∷ []
+-- the values of `old` and then t are those of `new` and then x and t
+map-popped_and_next : (old new : List Segment) (x : Segment) (t : SegmentValue) → old ≡ new ++ x ∷ []
     → map segment_value old ++ t ∷ [] ≡ map segment_value new ++ segment_value x ∷ t ∷ []
-two_at_end old new x t e =
-    ap (λ (k : List SegmentValue). k ++ t ∷ []) (popped_values old new x e)
+map-popped_and_next old new x t e =
+    ap (λ (k : List SegmentValue). k ++ t ∷ []) (map-popped old new x e)
     ∙ append_assoc (map segment_value new) (segment_value x ∷ []) (t ∷ [])
 
-pub step_gathered : (done : List SegmentValue) (old new : List Segment) (x : Segment) (t r : SegmentValue)
+-- `Gathered` holds if r, joined from the last segment x and its buddy t, replaces both
+pub Gathered-buddies_joined : (done : List SegmentValue) (old new : List Segment) (x : Segment) (t r : SegmentValue)
     → old ≡ new ++ x ∷ [] → IsOfBoth (segment_value x) t r → AreBuddies (segment_value x) t → IsCompact r
     → Gathered done (map segment_value old ++ t ∷ []) → Gathered done (map segment_value new ++ r ∷ [])
-step_gathered done old new x t r e b h few g =
-    gathered_merged done (map segment_value new) (segment_value x) t r
-    (subst (Gathered done) (two_at_end old new x t e) g) b h few
+Gathered-buddies_joined done old new x t r e b h few g =
+    Gathered-merged done (map segment_value new) (segment_value x) t r
+    (subst (Gathered done) (map-popped_and_next old new x t e) g) b h few
 
 -- if the last two of gathered segments are buddies that follow one another and have too many steps, those of which they
 -- were gathered are too long
-pub step_too_long : (done : List SegmentValue) (old new : List Segment) (x : Segment) (t : SegmentValue)
+pub AreTooLong-buddies : (done : List SegmentValue) (old new : List Segment) (x : Segment) (t : SegmentValue)
     → old ≡ new ++ x ∷ [] → AreBuddies (segment_value x) t → SegmentGoesOn (segment_value x) t
     → 2 ^ 64 ≤ x.steps + t.steps → Gathered done (map segment_value old ++ t ∷ []) → AreTooLong done
-step_too_long done old new x t e h goes_on many g =
+AreTooLong-buddies done old new x t e h goes_on many g =
     let front = map segment_value new in
     let s = segment_value x in
-    let two : Gathered done (front ++ s ∷ t ∷ []) = subst (Gathered done) (two_at_end old new x t e) g in
+    let two : Gathered done (front ++ s ∷ t ∷ []) = subst (Gathered done) (map-popped_and_next old new x t e) g in
     λ listing files stand.
     let P : SegmentValue → Type 0 = λ k. SegmentStandsFor listing k (files_of files k) in
     let back = All-back P front (s ∷ t ∷ []) (two.stand listing files stand) in
@@ -71,9 +78,9 @@ step_too_long done old new x t e h goes_on many g =
     (All-head P t [] (All-tail P s (t ∷ []) back))
 
 -- segments are too long if the first of them are
-pub too_long_whole : (all done rest : List Segment) (x : Segment) → done ++ x ∷ rest ≡ all
+pub AreTooLong-append : (all done rest : List Segment) (x : Segment) → done ++ x ∷ rest ≡ all
     → AreTooLong (map segment_value done ++ segment_value x ∷ []) → AreTooLong (map segment_value all)
-too_long_whole all done rest x e long =
+AreTooLong-append all done rest x e long =
     let front = map segment_value done ++ segment_value x ∷ [] in
     let behind = map segment_value rest in
     let whole : front ++ behind ≡ map segment_value all =

@@ -17,33 +17,41 @@ use Rattle.vme_parts.specs.Joined.{IsOfBoth}
 use Rattle.vme_parts.specs.Stands.{SegmentStandsFor}
 use Rattle.vme_parts.proofs.Merging.{both_fit, both_stand, covered_first, covered_second, covers_both}
 
-pub all_last : {X : Type 0} (P : X → Type 0) (xs : List X) (x : X) → All P (xs ++ x ∷ []) → P x
-all_last P xs x all = All-contains P (xs ++ x ∷ []) x all (Contains-push xs x)
+-- what holds of all items of xs ++ x ∷ [] holds of x
+pub All-last : {X : Type 0} (P : X → Type 0) (xs : List X) (x : X) → All P (xs ++ x ∷ []) → P x
+All-last P xs x all = All-contains P (xs ++ x ∷ []) x all (Contains-push xs x)
 
 -- `All` holds if two items at the end are replaced by one for which P follows
-all_merged : {X : Type 0} (P : X → Type 0) (xs : List X) (s t r : X) → (P s → P t → P r) → All P (xs ++ s ∷ t ∷ [])
+All-last_two_merged : {X : Type 0} (P : X → Type 0) (xs : List X) (s t r : X) → (P s → P t → P r)
+    → All P (xs ++ s ∷ t ∷ [])
     → All P (xs ++ r ∷ [])
-all_merged P xs s t r both all =
+All-last_two_merged P xs s t r both all =
     let back = All-back P xs (s ∷ t ∷ []) all in
     All-push P xs r (All-front P xs (s ∷ t ∷ []) all)
     (both (All-head P s (t ∷ []) back) (All-head P t [] (All-tail P s (t ∷ []) back)))
 
-cover_more : (xs : List SegmentValue) (x : SegmentValue) (n : ℕ) → SegmentsCover xs n → SegmentsCover (xs ++ x ∷ []) n
-cover_more xs x n c = (c.0, Contains-append_left xs (x ∷ []) c.0 c.1, c.2)
+-- what xs cover, xs ++ x ∷ [] cover
+SegmentsCover-push : (xs : List SegmentValue) (x : SegmentValue) (n : ℕ) → SegmentsCover xs n
+    → SegmentsCover (xs ++ x ∷ []) n
+SegmentsCover-push xs x n c = (c.0, Contains-append_left xs (x ∷ []) c.0 c.1, c.2)
 
-cover_last : (xs : List SegmentValue) (x : SegmentValue) (n : ℕ) → SegmentCovers x n → SegmentsCover (xs ++ x ∷ []) n
-cover_last xs x n c = (x, Contains-push xs x, c)
+-- what x covers, xs ++ x ∷ [] cover
+SegmentsCover-pushed : (xs : List SegmentValue) (x : SegmentValue) (n : ℕ) → SegmentCovers x n
+    → SegmentsCover (xs ++ x ∷ []) n
+SegmentsCover-pushed xs x n c = (x, Contains-push xs x, c)
 
-cover_cases : (xs : List SegmentValue) (x : SegmentValue) (n : ℕ) → SegmentsCover (xs ++ x ∷ []) n
+-- what xs ++ x ∷ [] cover, xs cover or x covers
+SegmentsCover-push_cases : (xs : List SegmentValue) (x : SegmentValue) (n : ℕ) → SegmentsCover (xs ++ x ∷ []) n
     → SegmentsCover xs n ⊎ SegmentCovers x n
-cover_cases xs x n c = by_place (Contains-push_cases xs x c.0 c.1)
+SegmentsCover-push_cases xs x n c = by_place (Contains-push_cases xs x c.0 c.1)
   where
     by_place : (Contains xs c.0 ⊎ (x ≡ c.0)) → SegmentsCover xs n ⊎ SegmentCovers x n
     by_place (inl h) = inl (c.0, h, c.2)
     by_place (inr e) = inr (subst (λ (s : SegmentValue). SegmentCovers s n) (sym e) c.2)
 
-pub gathered_none : Gathered [] []
-gathered_none =
+-- of no segments none are gathered
+pub Gathered-nothing : Gathered [] []
+Gathered-nothing =
     record {
       order = tt;
       covers = λ n. (λ c. c, λ c. c);
@@ -53,44 +61,44 @@ gathered_none =
     }
 
 -- `Gathered` holds with one more segment at the end of both
-pub gathered_pushed : (done ss : List SegmentValue) (x : SegmentValue) → Gathered done ss → Ascend None (ss ++ x ∷ [])
+pub Gathered-push : (done ss : List SegmentValue) (x : SegmentValue) → Gathered done ss → Ascend None (ss ++ x ∷ [])
     → Gathered (done ++ x ∷ []) (ss ++ x ∷ [])
-gathered_pushed done ss x g order =
+Gathered-push done ss x g order =
     record {
       order = order;
       covers = λ n. (
-        λ c. to n (λ h. (g.covers n).0 h) (cover_cases ss x n c),
-        λ c. back n (λ h. (g.covers n).1 h) (cover_cases done x n c),
+        λ c. to n (λ h. (g.covers n).0 h) (SegmentsCover-push_cases ss x n c),
+        λ c. back n (λ h. (g.covers n).1 h) (SegmentsCover-push_cases done x n c),
       );
       stand = λ listing files all.
           let P : SegmentValue → Type 0 = λ s. SegmentStandsFor listing s (files_of files s) in
-          All-push P ss x (g.stand listing files (All-front P done (x ∷ []) all)) (all_last P done x all);
+          All-push P ss x (g.stand listing files (All-front P done (x ∷ []) all)) (All-last P done x all);
       fits = λ listing all.
           All-push (FitsSegment listing) ss x (g.fits listing (All-front (FitsSegment listing) done (x ∷ []) all))
-          (all_last (FitsSegment listing) done x all);
+          (All-last (FitsSegment listing) done x all);
       compact = λ all.
-          All-push IsCompact ss x (g.compact (All-front IsCompact done (x ∷ []) all)) (all_last IsCompact done x all);
+          All-push IsCompact ss x (g.compact (All-front IsCompact done (x ∷ []) all)) (All-last IsCompact done x all);
     }
   where
     to : (n : ℕ) → (SegmentsCover ss n → SegmentsCover done n) → (SegmentsCover ss n ⊎ SegmentCovers x n)
         → SegmentsCover (done ++ x ∷ []) n
-    to n h (inl c) = cover_more done x n (h c)
-    to n h (inr c) = cover_last done x n c
+    to n h (inl c) = SegmentsCover-push done x n (h c)
+    to n h (inr c) = SegmentsCover-pushed done x n c
 
     back : (n : ℕ) → (SegmentsCover done n → SegmentsCover ss n) → (SegmentsCover done n ⊎ SegmentCovers x n)
         → SegmentsCover (ss ++ x ∷ []) n
-    back n h (inl c) = cover_more ss x n (h c)
-    back n h (inr c) = cover_last ss x n c
+    back n h (inl c) = SegmentsCover-push ss x n (h c)
+    back n h (inr c) = SegmentsCover-pushed ss x n c
 
 -- `Gathered` holds with one more segment in `done` that lies within one of ss
-pub gathered_within : (done ss : List SegmentValue) (x s : SegmentValue) → Gathered done ss → Contains ss s
+pub Gathered-within : (done ss : List SegmentValue) (x s : SegmentValue) → Gathered done ss → Contains ss s
     → ((n : ℕ) → SegmentCovers x n → SegmentCovers s n) → Gathered (done ++ x ∷ []) ss
-gathered_within done ss x s g there within =
+Gathered-within done ss x s g there within =
     record {
       order = g.order;
       covers = λ n. (
-        λ c. cover_more done x n ((g.covers n).0 c),
-        λ c. back n (λ h. (g.covers n).1 h) (cover_cases done x n c),
+        λ c. SegmentsCover-push done x n ((g.covers n).0 c),
+        λ c. back n (λ h. (g.covers n).1 h) (SegmentsCover-push_cases done x n c),
       );
       stand = λ listing files all.
           let P : SegmentValue → Type 0 = λ s. SegmentStandsFor listing s (files_of files s) in
@@ -105,28 +113,28 @@ gathered_within done ss x s g there within =
     back n h (inr c) = (s, there, within n c)
 
 -- if r replaces s and t at the end and begins where s does, the segments still ascend
-order_merged : (before : Option ℕ) (front : List SegmentValue) (s t r : SegmentValue) → r.first ≡ s.first
+Ascend-merged : (before : Option ℕ) (front : List SegmentValue) (s t r : SegmentValue) → r.first ≡ s.first
     → Ascend before (front ++ s ∷ t ∷ []) → Ascend before (front ++ r ∷ [])
-order_merged None [] s t r e a = (tt, tt)
-order_merged (Some l) [] s t r e a = (rw e a.0, tt)
-order_merged before (x ∷ xs) s t r e a = (a.0, order_merged (Some (last_of x.first x.order)) xs s t r e a.1)
+Ascend-merged None [] s t r e a = (tt, tt)
+Ascend-merged (Some l) [] s t r e a = (rw e a.0, tt)
+Ascend-merged before (x ∷ xs) s t r e a = (a.0, Ascend-merged (Some (last_of x.first x.order)) xs s t r e a.1)
 
 -- `Gathered` holds if the buddies s and t at the end are joined to r
-pub gathered_merged : (done front : List SegmentValue) (s t r : SegmentValue) → Gathered done (front ++ s ∷ t ∷ [])
+pub Gathered-merged : (done front : List SegmentValue) (s t r : SegmentValue) → Gathered done (front ++ s ∷ t ∷ [])
     → IsOfBoth s t r → AreBuddies s t → IsCompact r → Gathered done (front ++ r ∷ [])
-gathered_merged done front s t r g b h few =
+Gathered-merged done front s t r g b h few =
     record {
-      order = order_merged None front s t r b.first g.order;
+      order = Ascend-merged None front s t r b.first g.order;
       covers = λ n. (
-        λ c. (g.covers n).0 (to n (cover_cases front r n c)),
+        λ c. (g.covers n).0 (to n (SegmentsCover-push_cases front r n c)),
         λ c. back n ((g.covers n).1 c),
       );
       stand = λ listing files all.
-          all_merged (λ (s : SegmentValue). SegmentStandsFor listing s (files_of files s)) front s t r
+          All-last_two_merged (λ (s : SegmentValue). SegmentStandsFor listing s (files_of files s)) front s t r
           (both_stand s t r b h listing files) (g.stand listing files all);
       fits = λ listing all.
-          all_merged (FitsSegment listing) front s t r (both_fit s t r b h listing) (g.fits listing all);
-      compact = λ all. all_merged IsCompact front s t r (λ p q. few) (g.compact all);
+          All-last_two_merged (FitsSegment listing) front s t r (both_fit s t r b h listing) (g.fits listing all);
+      compact = λ all. All-last_two_merged IsCompact front s t r (λ p q. few) (g.compact all);
     }
   where
     to_two : (n : ℕ) → (SegmentCovers s n ⊎ SegmentCovers t n) → SegmentsCover (front ++ s ∷ t ∷ []) n
@@ -140,22 +148,22 @@ gathered_merged done front s t r g b h few =
     back : (n : ℕ) → SegmentsCover (front ++ s ∷ t ∷ []) n → SegmentsCover (front ++ r ∷ []) n
     back n c =
         let split : (front ++ s ∷ []) ++ t ∷ [] ≡ front ++ s ∷ t ∷ [] = append_assoc front (s ∷ []) (t ∷ []) in
-        by_last n (cover_cases (front ++ s ∷ []) t n (subst (λ xs. SegmentsCover xs n) (sym split) c))
+        by_last n (SegmentsCover-push_cases (front ++ s ∷ []) t n (subst (λ xs. SegmentsCover xs n) (sym split) c))
       where
         by_first : (n : ℕ) → (SegmentsCover front n ⊎ SegmentCovers s n) → SegmentsCover (front ++ r ∷ []) n
-        by_first n (inl c) = cover_more front r n c
-        by_first n (inr c) = cover_last front r n (covered_first s t r b h n c)
+        by_first n (inl c) = SegmentsCover-push front r n c
+        by_first n (inr c) = SegmentsCover-pushed front r n (covered_first s t r b h n c)
 
         by_last : (n : ℕ) → (SegmentsCover (front ++ s ∷ []) n ⊎ SegmentCovers t n) → SegmentsCover (front ++ r ∷ []) n
-        by_last n (inl c) = by_first n (cover_cases front s n c)
-        by_last n (inr c) = cover_last front r n (covered_second s t r b h n c)
+        by_last n (inl c) = by_first n (SegmentsCover-push_cases front s n c)
+        by_last n (inr c) = SegmentsCover-pushed front r n (covered_second s t r b h n c)
 
 -- segments that ascend and can be written each can be written together
-pub fit_together : (listing : Bool) (before : Option ℕ) (ss : List SegmentValue) → Ascend before ss
+pub FitSegments-ascend : (listing : Bool) (before : Option ℕ) (ss : List SegmentValue) → Ascend before ss
     → All (FitsSegment listing) ss → FitSegments listing before ss
-fit_together listing before [] a all = tt
-fit_together listing before (s ∷ ss) a all = (
+FitSegments-ascend listing before [] a all = tt
+FitSegments-ascend listing before (s ∷ ss) a all = (
   All-head (FitsSegment listing) s ss all,
   a.0,
-  fit_together listing (Some (last_of s.first s.order)) ss a.1 (All-tail (FitsSegment listing) s ss all),
+  FitSegments-ascend listing (Some (last_of s.first s.order)) ss a.1 (All-tail (FitsSegment listing) s ss all),
 )

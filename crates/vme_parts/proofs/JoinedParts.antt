@@ -20,7 +20,7 @@ use Rattle.vme_parts.specs.Files.{AllStand, IsPartOf, JoinsParts, SegmentsCover,
 use Rattle.vme_parts.specs.Files.{files_of}
 use Rattle.vme_parts.specs.Gathering.{Gathered, IsSegment, segments_of}
 use Rattle.vme_parts.specs.Stands.{SegmentStandsFor}
-use Rattle.vme_parts.proofs.Gathering.{fit_together}
+use Rattle.vme_parts.proofs.Gathering.{FitSegments-ascend}
 
 pub all_fit : (listing : Bool) (before : Option ℕ) (ss : List SegmentValue) → FitSegments listing before ss
     → All (FitsSegment listing) ss
@@ -65,7 +65,7 @@ module _ (ps : List PartValue) (r : PartValue) (all : List SegmentValue)
       record {
         backplane = sum;
         few = few;
-        segments = fit_together r.listing None r.segments g.order (g.fits r.listing each_fits);
+        segments = FitSegments-ascend r.listing None r.segments g.order (g.fits r.listing each_fits);
       }
 
   each_compact : All IsCompactPart ps → All IsCompact all

@@ -14,21 +14,21 @@ use Rattle.vme_parts.specs.Files.{IsPartOf}
 use Rattle.vme_parts.specs.Gathering.{segments_of}
 use Rattle.vme_parts.specs.declared.join_refusal.JoinRefusal.{JoinRefusal}
 use Rattle.vme_parts.specs.declared.join_refusal.JoinRefusal.TheVariants as refusal
-use Rattle.vme_parts.proofs.Measures.{all_more, all_whole}
+use Rattle.vme_parts.proofs.Measures.{All-take_next, All-take_all}
 
 module _ (backplane : ℕ) (listing : Bool) (xs : List Part) (i : ℕ) where
   pub like_more : (x : Part) → i < length xs → x ≡ get_or xs i x → x.backplane ≡ backplane → x.listing ≡ listing
       → All (IsLike backplane listing) (take i (map part_value xs))
       → All (IsLike backplane listing) (take (i + 1) (map part_value xs))
   like_more x h is p q was =
-      all_more (IsLike backplane listing) (map part_value xs) i (part_value x)
+      All-take_next (IsLike backplane listing) (map part_value xs) i (part_value x)
       (omega (arith, h, length-map xs part_value))
       (ap part_value is ∙ sym (get_or-map part_value xs i x (part_value x) h)) (p, q) was
 
   pub all_like : length xs ≤ i → All (IsLike backplane listing) (take i (map part_value xs))
       → All (IsLike backplane listing) (map part_value xs)
   all_like h was =
-      all_whole (IsLike backplane listing) (map part_value xs) i (omega (arith, h, length-map xs part_value)) was
+      All-take_all (IsLike backplane listing) (map part_value xs) i (omega (arith, h, length-map xs part_value)) was
 
   pub unlike : (Is : PartValue → Type 0) (x : Part) → i < length xs → x ≡ get_or xs i x
       → All (IsLike backplane listing) (take i (map part_value xs)) → Is (part_value x)

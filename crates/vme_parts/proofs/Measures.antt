@@ -1,4 +1,4 @@
--- The tests whether a part can be written.
+-- Lemmas for the loops that test whether a part can be written: one item more, and all items.
 use Rattle.std.proofs.Common.{◌≡◌, ℕ, ◌+◌, ◌^◌, ◌<◌, ◌≤◌, Bool, true, false, List, [], ◌∷◌, ◌++◌, length}
 use Rattle.std.proofs.Common.{map}
 use Rattle.std.proofs.Common.{get_or, take, drop, set, refl, ap, sym, subst, ◌∙◌, arith, Some, None}
@@ -32,9 +32,10 @@ pub record SeesBefore (seen lines : Levels) (n : ℕ) : Type 0 where
   pub many : length seen.levels ≡ line_count
   pub done : take n seen.levels ≡ map (seen_level lines) (range_with_len 0 n)
 
-pub sees_more : (seen new lines : Levels) (n : ℕ) → n < line_count → new ≡ set_level seen n (seen_level lines n)
+-- with the level of the line n set in it, `new` has the levels of the first n + 1 lines
+pub SeesBefore-next : (seen new lines : Levels) (n : ℕ) → n < line_count → new ≡ set_level seen n (seen_level lines n)
     → SeesBefore seen lines n → SeesBefore new lines (n + 1)
-sees_more seen new lines n lt made was =
+SeesBefore-next seen new lines n lt made was =
     let levels : new.levels ≡ set seen.levels n (seen_level lines n) = ap (λ (v : Levels). v.levels) made in
     record {
       slots = ap (λ (v : Levels). v.slots) made ∙ was.slots;
@@ -45,9 +46,10 @@ sees_more seen new lines n lt made was =
           ∙ sym (map-range_with_len_more (seen_level lines) 0 n n (omega arith))));
     }
 
-pub sees_whole : (seen lines : Levels) (n : ℕ) → n ≡ line_count → SeesBefore seen lines n → seen ≡ lines
+-- if the levels are the same with Unknown for all lines that the backplane doesn't have, they can be written
+pub FitsLevels-all_seen : (seen lines : Levels) (n : ℕ) → n ≡ line_count → SeesBefore seen lines n → seen ≡ lines
     → 1 ≤ lines.slots → lines.slots ≤ 21 → FitsLevels lines
-sees_whole seen lines n e was same least most =
+FitsLevels-all_seen seen lines n e was same least most =
     let whole : SeesBefore seen lines line_count = subst (SeesBefore seen lines) e was in
     record {
       slots = (least, most);
@@ -57,77 +59,89 @@ sees_whole seen lines n e was same least most =
 
 -- ---- marks, nodes and entries
 
-pub mark_more : (steps before : ℕ) (ms : List WideMark) (i : ℕ) (m : WideMark) → i < length ms → m ≡ get_or ms i m
+-- if the mark m with the index i fits after `before`, what follows from marks that fit from i on follows from marks
+-- that fit from i + 1 on
+pub FitMarks-next : (steps before : ℕ) (ms : List WideMark) (i : ℕ) (m : WideMark) → i < length ms → m ≡ get_or ms i m
     → FitsMark steps before m → (FitMarks steps before (drop i ms) → FitMarks steps 0 ms)
     → FitMarks steps m.instant (drop (i + 1) ms) → FitMarks steps 0 ms
-mark_more steps before ms i m lt e one was rest =
+FitMarks-next steps before ms i m lt e one was rest =
     let at : drop i ms ≡ m ∷ drop (i + 1) ms
     = drop_more ms i m lt ∙ ap (λ (x : WideMark). x ∷ drop (i + 1) ms) (sym e) in
     was (subst (FitMarks steps before) (sym at) (one, rest))
 
-pub marks_whole : (steps before : ℕ) (ms : List WideMark) (i : ℕ) → length ms ≤ i
+-- after the last mark nothing is left to fit
+pub FitMarks-all : (steps before : ℕ) (ms : List WideMark) (i : ℕ) → length ms ≤ i
     → (FitMarks steps before (drop i ms) → FitMarks steps 0 ms) → FitMarks steps 0 ms
-marks_whole steps before ms i h was = was (subst (FitMarks steps before) (sym (drop_all i ms h)) tt)
+FitMarks-all steps before ms i h was = was (subst (FitMarks steps before) (sym (drop_all i ms h)) tt)
 
-node_drop : (ns : List TableNode) (i : ℕ) (n : TableNode) → i < length ns → n ≡ get_or ns i n
+-- the nodes from the index i on are the node n and those from i + 1 on
+drop-node_values : (ns : List TableNode) (i : ℕ) (n : TableNode) → i < length ns → n ≡ get_or ns i n
     → drop i (map node_value ns) ≡ node_value n ∷ drop (i + 1) (map node_value ns)
-node_drop ns i n h e =
+drop-node_values ns i n h e =
     let vs = map node_value ns in
     let at : get_or vs i (node_value n) ≡ node_value n =
     get_or-map node_value ns i n (node_value n) h ∙ ap node_value (sym e) in
     drop_more vs i (node_value n) (omega (arith, h, length-map ns node_value))
     ∙ ap (λ (x : NodeValue). x ∷ drop (i + 1) vs) at
 
-pub node_more : (memories steps behind : ℕ) (ns : List TableNode) (i : ℕ) (n : TableNode) → i < length ns
+-- if the node n with the index i fits, what follows from nodes that fit from i on follows from nodes that fit from i +
+-- 1 on
+pub FitNodes-next : (memories steps behind : ℕ) (ns : List TableNode) (i : ℕ) (n : TableNode) → i < length ns
     → n ≡ get_or ns i n → behind ≡ length (drop (i + 1) (map node_value ns))
     → FitsNode memories steps behind (node_value n)
     → (FitNodes memories steps (drop i (map node_value ns)) → FitNodes memories steps (map node_value ns))
     → FitNodes memories steps (drop (i + 1) (map node_value ns)) → FitNodes memories steps (map node_value ns)
-node_more memories steps behind ns i n h e many one was rest =
+FitNodes-next memories steps behind ns i n h e many one was rest =
     was
-    (subst (FitNodes memories steps) (sym (node_drop ns i n h e))
+    (subst (FitNodes memories steps) (sym (drop-node_values ns i n h e))
     (subst (λ k. FitsNode memories steps k (node_value n)) many one, rest))
 
-pub nodes_whole : (memories steps : ℕ) (ns : List TableNode) (i : ℕ) → length ns ≤ i
+-- after the last node nothing is left to fit
+pub FitNodes-all : (memories steps : ℕ) (ns : List TableNode) (i : ℕ) → length ns ≤ i
     → (FitNodes memories steps (drop i (map node_value ns)) → FitNodes memories steps (map node_value ns))
     → FitNodes memories steps (map node_value ns)
-nodes_whole memories steps ns i h was =
+FitNodes-all memories steps ns i h was =
     was
     (subst (FitNodes memories steps) (sym (drop_all i (map node_value ns) (omega (arith, h, length-map ns node_value))))
     tt)
 
-pub all_more : {X : Type 0} (P : X → Type 0) (xs : List X) (i : ℕ) (x : X) → i < length xs → x ≡ get_or xs i x → P x
+-- if P holds of the first i items and of the item with the index i, it holds of the first i + 1
+pub All-take_next : {X : Type 0} (P : X → Type 0) (xs : List X) (i : ℕ) (x : X) → i < length xs → x ≡ get_or xs i x
+    → P x
     → All P (take i xs) → All P (take (i + 1) xs)
-all_more P xs i x h is one was =
+All-take_next P xs i x h is one was =
     let more : take (i + 1) xs ≡ take i xs ++ x ∷ []
     = take_more xs i x h ∙ ap (λ y. take i xs ++ y ∷ []) (sym is) in
     subst (All P) (sym more) (All-push P (take i xs) x was one)
 
-pub all_whole : {X : Type 0} (P : X → Type 0) (xs : List X) (i : ℕ) → length xs ≤ i → All P (take i xs) → All P xs
-all_whole P xs i h was = subst (All P) (take_all i xs h) was
+-- if P holds of as many items as there are, it holds of all
+pub All-take_all : {X : Type 0} (P : X → Type 0) (xs : List X) (i : ℕ) → length xs ≤ i → All P (take i xs) → All P xs
+All-take_all P xs i h was = subst (All P) (take_all i xs h) was
 
 -- if the entry with index 2 is `stays`, it is between the first two entries and the others
-pub stands_between : (es : List TableEntry) → slice_get es 2 ≡ Some stays
+pub slice_get-stays : (es : List TableEntry) → slice_get es 2 ≡ Some stays
     → (front : List TableEntry) × (back : List TableEntry) × (length front ≡ 2) × (es ≡ front ++ stays ∷ back)
-stands_between [] e = absurd (cc)
-stands_between (a ∷ []) e = absurd (cc)
-stands_between (a ∷ b ∷ []) e = absurd (cc)
-stands_between (a ∷ b ∷ x ∷ back) e =
+slice_get-stays [] e = absurd (cc)
+slice_get-stays (a ∷ []) e = absurd (cc)
+slice_get-stays (a ∷ b ∷ []) e = absurd (cc)
+slice_get-stays (a ∷ b ∷ x ∷ back) e =
     let same : x ≡ stays = cc in
     (a ∷ b ∷ [], back, refl, ap (λ (y : TableEntry). a ∷ b ∷ y ∷ back) same)
 
 -- ---- a table
 
-pub table_fit : (listing : Bool) (memories steps : ℕ) (t : OutcomeTable) → length t.entries.items ≡ memories
+-- a table whose entries and nodes fit can be written, if it has an entry for each memory, few enough ways, `stays` at
+-- the index 2, and nodes only where marks are kept
+pub FitsTable-of_vectors : (listing : Bool) (memories steps : ℕ) (t : OutcomeTable) → length t.entries.items ≡ memories
     → memories + length t.nodes.items < 2 ^ 32 → (listing ≡ false → length t.nodes.items ≡ 0)
     → slice_get t.entries.items 2 ≡ Some stays
     → All (FitsEntry steps (memories + length t.nodes.items)) t.entries.items
     → FitNodes memories steps (map node_value t.nodes.items) → FitsTable listing memories steps (table_value t)
-table_fit listing memories steps t as_many few none stays_there entries nodes =
+FitsTable-of_vectors listing memories steps t as_many few none stays_there entries nodes =
     let count : length (map node_value t.nodes.items) ≡ length t.nodes.items = length-map t.nodes.items node_value in
     record {
       as_many = as_many;
-      ended = stands_between t.entries.items stays_there;
+      ended = slice_get-stays t.entries.items stays_there;
       entries = subst (λ k. All (FitsEntry steps (memories + k)) t.entries.items) (sym count) entries;
       nodes = nodes;
       few = omega (arith, few, count);
@@ -143,22 +157,23 @@ table_fit listing memories steps t as_many few none stays_there entries nodes =
     by_listing false none = no_nodes t.nodes.items (none refl)
 
 -- two flags that aren't unequal are equal
-pub same_flag : (a b : Bool) → not (beq a b) ≡ false → a ≡ b
-same_flag true true e = refl
-same_flag true false e = absurd (cc)
-same_flag false true e = absurd (cc)
-same_flag false false e = refl
+pub eq-flags : (a b : Bool) → not (beq a b) ≡ false → a ≡ b
+eq-flags true true e = refl
+eq-flags true false e = absurd (cc)
+eq-flags false true e = absurd (cc)
+eq-flags false false e = refl
 
-pub other_flag : (a b : Bool) → not (beq a b) ≡ true → a ≡ b → ⊥
-other_flag true true e f = absurd (cc)
-other_flag true false e f = absurd (cc)
-other_flag false true e f = absurd (cc)
-other_flag false false e f = absurd (cc)
+-- two flags that are unequal aren't equal
+pub not_eq-flags : (a b : Bool) → not (beq a b) ≡ true → a ≡ b → ⊥
+not_eq-flags true true e f = absurd (cc)
+not_eq-flags true false e f = absurd (cc)
+not_eq-flags false true e f = absurd (cc)
+not_eq-flags false false e f = absurd (cc)
 
 -- a part of one segment fits if the segment does
-pub one_fits : (p : Part) (s : Segment) → p.backplane < 2 ^ 64 → length p.segments.items ≡ 1
+pub FitsPart-one_segment : (p : Part) (s : Segment) → p.backplane < 2 ^ 64 → length p.segments.items ≡ 1
     → s ≡ get_or p.segments.items 0 s → FitsSegment p.listing (segment_value s) → FitsPart (part_value p)
-one_fits p s small one is fits =
+FitsPart-one_segment p s small one is fits =
     record {
       backplane = small;
       few = omega (arith, one, length-map p.segments.items segment_value);
@@ -172,10 +187,11 @@ one_fits p s small one is fits =
     all_fit (x ∷ y ∷ xs) n e = absurd (omega (arith, n))
 
 -- a list of one segment is compact if the segment is
-pub one_compact : (xs : List Segment) (s : Segment) → length xs ≡ 1 → s ≡ get_or xs 0 s → IsCompact (segment_value s)
+pub All-one_compact : (xs : List Segment) (s : Segment) → length xs ≡ 1 → s ≡ get_or xs 0 s
+    → IsCompact (segment_value s)
     → All IsCompact (map segment_value xs)
-one_compact [] s one is h = absurd (omega (arith, one))
-one_compact (x ∷ []) s one is h =
+All-one_compact [] s one is h = absurd (omega (arith, one))
+All-one_compact (x ∷ []) s one is h =
     All-cons IsCompact (segment_value x) [] (subst (λ (y : Segment). IsCompact (segment_value y)) is h)
     (All-nil IsCompact)
-one_compact (x ∷ y ∷ ys) s one is h = absurd (omega (arith, one))
+All-one_compact (x ∷ y ∷ ys) s one is h = absurd (omega (arith, one))

@@ -22,7 +22,7 @@ use Rattle.vme_parts.specs.Joined.{IsOfBoth, joined_times}
 use Rattle.vme_parts.specs.Meeting.{ends_at, starts_at}
 use Rattle.vme_parts.specs.Progress.{HaveTooManySteps}
 use Rattle.vme_parts.specs.Stands.{SegmentStandsFor, extent_of}
-use Rattle.vme_parts.proofs.Standing.{both_have_too_many, segment_stands_for_both, twice}
+use Rattle.vme_parts.proofs.Standing.{HaveTooManySteps-both, SegmentStandsFor-both, pow-next}
 
 module _ (s t : SegmentValue) (h : AreBuddies s t) where
   second_begins : t.first ≡ s.first + 2 ^ s.order
@@ -49,7 +49,7 @@ module _ (s t : SegmentValue) (h : AreBuddies s t) where
         s.first,
         2 ^ s.order + 2 ^ s.order,
         subst HaveTooManySteps (files_of_buddies files)
-            (both_have_too_many s t meets many listing (files_of files s) (files_of files t) p q),
+            (HaveTooManySteps-both s t meets many listing (files_of files s) (files_of files t) p q),
       )
 
 module _ (s t r : SegmentValue) (b : IsOfBoth s t r) (h : AreBuddies s t) where
@@ -60,7 +60,7 @@ module _ (s t r : SegmentValue) (b : IsOfBoth s t r) (h : AreBuddies s t) where
   pub files_of_both : (files : List Block) → files_of files s ++ files_of files t ≡ files_of files r
   files_of_both files =
       let size = 2 ^ s.order in
-      let order : 2 ^ r.order ≡ size + size = ap (λ k. 2 ^ k) b.order ∙ twice s.order in
+      let order : 2 ^ r.order ≡ size + size = ap (λ k. 2 ^ k) b.order ∙ pow-next s.order in
       files_of_buddies s t h files
       ∙ (ap (λ k. take k (drop s.first files)) (sym order) ∙ ap (λ k. take (2 ^ r.order) (drop k files)) (sym b.first))
 
@@ -68,14 +68,14 @@ module _ (s t r : SegmentValue) (b : IsOfBoth s t r) (h : AreBuddies s t) where
       → SegmentStandsFor listing t (files_of files t) → SegmentStandsFor listing r (files_of files r)
   both_stand listing files p q =
       subst (SegmentStandsFor listing r) (files_of_both files)
-      (segment_stands_for_both s t r b listing (files_of files s) (files_of files t) p q)
+      (SegmentStandsFor-both s t r b listing (files_of files s) (files_of files t) p q)
 
   -- each file that r covers is covered by s or t
   pub covers_both : (n : ℕ) → SegmentCovers r n → (SegmentCovers s n) ⊎ (SegmentCovers t n)
   covers_both n c = by_place (cases_lt n t.first)
     where
       order : 2 ^ r.order ≡ 2 ^ s.order + 2 ^ s.order
-      order = ap (λ k. 2 ^ k) b.order ∙ twice s.order
+      order = ap (λ k. 2 ^ k) b.order ∙ pow-next s.order
 
       same : 2 ^ t.order ≡ 2 ^ s.order
       same = ap (λ k. 2 ^ k) h.same_order
@@ -86,12 +86,12 @@ module _ (s t r : SegmentValue) (b : IsOfBoth s t r) (h : AreBuddies s t) where
 
   pub covered_first : (n : ℕ) → SegmentCovers s n → SegmentCovers r n
   covered_first n c =
-      let order = ap (λ k. 2 ^ k) b.order ∙ twice s.order in
+      let order = ap (λ k. 2 ^ k) b.order ∙ pow-next s.order in
       (omega (arith, b.first, c.0), omega (arith, c.1, order, b.first, pow_pos s.order))
 
   pub covered_second : (n : ℕ) → SegmentCovers t n → SegmentCovers r n
   covered_second n c =
-      let order = ap (λ k. 2 ^ k) b.order ∙ twice s.order in
+      let order = ap (λ k. 2 ^ k) b.order ∙ pow-next s.order in
       let same = ap (λ k. 2 ^ k) h.same_order in
       (omega (arith, b.first, c.0, begins), omega (arith, c.1, order, same, b.first, begins, pow_pos s.order))
 
@@ -99,7 +99,7 @@ module _ (s t r : SegmentValue) (b : IsOfBoth s t r) (h : AreBuddies s t) where
       → is_later_time (ends_at a) (starts_at c) ≡ true → FitsTimes r.first r.order r.steps (joined_times a c)
   times_fit None None f g l = omega (arith, f, g, b.steps)
   times_fit None (Some c) f g l =
-      let order = ap (λ k. 2 ^ k) b.order ∙ twice s.order in
+      let order = ap (λ k. 2 ^ k) b.order ∙ pow-next s.order in
       let same = ap (λ k. 2 ^ k) h.same_order in (
         omega (arith, f, g.0, b.steps),
         omega (arith, g.1, begins, b.first),
@@ -108,7 +108,7 @@ module _ (s t r : SegmentValue) (b : IsOfBoth s t r) (h : AreBuddies s t) where
         g.4,
       )
   times_fit (Some a) None f g l =
-      let order = ap (λ k. 2 ^ k) b.order ∙ twice s.order in (
+      let order = ap (λ k. 2 ^ k) b.order ∙ pow-next s.order in (
         omega (arith, f.0, b.steps),
         omega (arith, f.1, b.first),
         omega (arith, f.2, order, b.first, pow_pos s.order),
@@ -116,7 +116,7 @@ module _ (s t r : SegmentValue) (b : IsOfBoth s t r) (h : AreBuddies s t) where
         f.4,
       )
   times_fit (Some a) (Some c) f g l =
-      let order = ap (λ k. 2 ^ k) b.order ∙ twice s.order in
+      let order = ap (λ k. 2 ^ k) b.order ∙ pow-next s.order in
       let later = ltb-true a.last c.first l in (
         omega (arith, f.0, b.steps),
         omega (arith, f.1, b.first),

@@ -9,7 +9,7 @@ use Rattle.vme_part_format.specs.Tables.{SegmentValue, TableValue, segment_value
 use Rattle.vme_part_format.specs.declared.segment.Segment.{Segment}
 use Rattle.vme_parts.specs.Alike.{AllAlike, AreAlike, AreTablesAlike, HaveApart, HaveSameFiles}
 use Rattle.vme_parts.specs.Gathering.{IsSegment, Precedes, order_key}
-use Rattle.vme_parts.proofs.Ordering.{precedes_by_key}
+use Rattle.vme_parts.proofs.Ordering.{Precedes-by_key}
 
 -- an element within a list doesn't depend on the default
 elements_same : (xs : List Segment) (i : ℕ) (d e : Segment) → i < length xs → get_or xs i d ≡ get_or xs i e
@@ -135,7 +135,7 @@ module _ (xs : List Segment) (all : All IsSegment (map segment_value xs))
   in_order i j d le h =
       let p = segment_there xs i d (omega (arith, le, h)) all in
       let q = segment_there xs j d h all in
-      precedes_by_key (at i d) (at j d) p.numbers.few q.numbers.few (sorted i j d le h)
+      Precedes-by_key (at i d) (at j d) p.numbers.few q.numbers.few (sorted i j d le h)
 
   -- segments of the same files agree if they are n places apart
   apart_by : (n i : ℕ) (d : Segment) → i + n < length xs → HaveSameFiles (at i d) (at (i + n) d)

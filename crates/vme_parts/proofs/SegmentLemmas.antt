@@ -20,7 +20,7 @@ use Rattle.vme_parts.specs.Progress.{HasJudgedFiles, HasStates, HaveTooManySteps
 use Rattle.vme_parts.specs.Stands.{SegmentStandsFor, extent_of}
 use Rattle.vme_parts.specs.declared.judged_segments.JudgedSegments.{JudgedSegments}
 use Rattle.vme_parts.specs.declared.state.States.{States}
-use Rattle.vme_parts.proofs.Standing.{ends_of_both, starts_of_both}
+use Rattle.vme_parts.proofs.Standing.{last_time-joined_times, first_time-joined_times}
 
 -- if the monitors have the states `before` after `steps` steps, and the tables of s agree with the steps after these,
 -- then the monitors have the states `after` after both
@@ -88,8 +88,9 @@ module _ (j r : JudgedSegments) (s : SegmentValue) (goes_on : FilesGoOn j.left j
         left = left;
         starts =
             ap starts_at times
-            ∙ (starts_of_both j.times s.times ∙ ap (λ (t : Option ℕ). option_or t (starts_at s.times)) was.starts);
-        ends = ap ends_at times ∙ (ends_of_both j.times s.times ∙ ap (option_or (ends_at s.times)) was.ends);
+            ∙ (first_time-joined_times j.times s.times
+            ∙ ap (λ (t : Option ℕ). option_or t (starts_at s.times)) was.starts);
+        ends = ap ends_at times ∙ (last_time-joined_times j.times s.times ∙ ap (option_or (ends_at s.times)) was.ends);
         counted = rw (joined_steps-append bs ys, length-append, ← was.counted, ← p.counted) steps;
         found = rw (joined_steps-append bs ys)
             (past listing e.opening s.opening (joined_steps bs) (joined_steps ys) opens was.counted fits was.found

@@ -27,48 +27,59 @@ use Rattle.vme_parts.specs.Stands.{SegmentStandsFor, extent_of, first_with_step,
 use Rattle.vme_parts.proofs.Runs.{acknowledge_is_run, grant_is_run, handshake_is_run, known_is_run, stability_is_run}
 use Rattle.vme_parts.proofs.Runs.{tables_of_both}
 
-pub twice : (k : ℕ) → 2 ^ (k + 1) ≡ 2 ^ k + 2 ^ k
-twice k = omega (arith, pow-add 2 k 1)
+-- 2 ^ (k + 1) is twice 2 ^ k
+pub pow-next : (k : ℕ) → 2 ^ (k + 1) ≡ 2 ^ k + 2 ^ k
+pow-next k = omega (arith, pow-add 2 k 1)
 
-last_of_both : (first order second : ℕ) → second ≡ last_of first order + 1
+-- a segment of the next order, from the same first file on, ends with the last file of the second half
+last_of-both : (first order second : ℕ) → second ≡ last_of first order + 1
     → last_of first (order + 1) ≡ last_of second order
-last_of_both first order second e = omega (arith, twice order, pow_pos order)
+last_of-both first order second e = omega (arith, pow-next order, pow_pos order)
 
-pub starts_of_both : (a b : Option SegmentTimes) → option_map (λ (t : SegmentTimes). t.first) (joined_times a b)
+-- the first time of joined times is that of a, or else that of b
+pub first_time-joined_times : (a b : Option SegmentTimes)
+    → option_map (λ (t : SegmentTimes). t.first) (joined_times a b)
     ≡ option_or (option_map (λ (t : SegmentTimes). t.first) a) (option_map (λ (t : SegmentTimes). t.first) b)
-starts_of_both None b = refl
-starts_of_both (Some a) None = refl
-starts_of_both (Some a) (Some b) = refl
+first_time-joined_times None b = refl
+first_time-joined_times (Some a) None = refl
+first_time-joined_times (Some a) (Some b) = refl
 
-pub ends_of_both : (a b : Option SegmentTimes) → option_map (λ (t : SegmentTimes). t.last) (joined_times a b)
+-- the last time of joined times is that of b, or else that of a
+pub last_time-joined_times : (a b : Option SegmentTimes) → option_map (λ (t : SegmentTimes). t.last) (joined_times a b)
     ≡ option_or (option_map (λ (t : SegmentTimes). t.last) b) (option_map (λ (t : SegmentTimes). t.last) a)
-ends_of_both None None = refl
-ends_of_both None (Some b) = refl
-ends_of_both (Some a) None = refl
-ends_of_both (Some a) (Some b) = refl
+last_time-joined_times None None = refl
+last_time-joined_times None (Some b) = refl
+last_time-joined_times (Some a) None = refl
+last_time-joined_times (Some a) (Some b) = refl
 
-pub numbers_of_both : (a b : Option SegmentTimes) → option_map (λ (t : SegmentTimes). t.number) (joined_times a b)
+-- the number in joined times is that of a, or else that of b
+pub number-joined_times : (a b : Option SegmentTimes) → option_map (λ (t : SegmentTimes). t.number) (joined_times a b)
     ≡ option_or (option_map (λ (t : SegmentTimes). t.number) a) (option_map (λ (t : SegmentTimes). t.number) b)
-numbers_of_both None b = refl
-numbers_of_both (Some a) None = refl
-numbers_of_both (Some a) (Some b) = refl
+number-joined_times None b = refl
+number-joined_times (Some a) None = refl
+number-joined_times (Some a) (Some b) = refl
 
-number_in : (a b : Option Block) → option_map (λ (k : Block). k.number) (option_or a b)
+-- the number of the block a, or else of b
+number-option_or : (a b : Option Block) → option_map (λ (k : Block). k.number) (option_or a b)
     ≡ option_or (option_map (λ (k : Block). k.number) a) (option_map (λ (k : Block). k.number) b)
-number_in None b = refl
-number_in (Some a) b = refl
+number-option_or None b = refl
+number-option_or (Some a) b = refl
 
-first_of_both : (x y : List Block) → first_with_step (x ++ y) ≡ option_or (first_with_step x) (first_with_step y)
-first_of_both x y =
+-- the first file of x ++ y that has a step is that of x, or else that of y
+first_with_step-append : (x y : List Block) → first_with_step (x ++ y)
+    ≡ option_or (first_with_step x) (first_with_step y)
+first_with_step-append x y =
     let has_step : Block → Bool = λ b. not (is_empty b.steps) in
     ap (option_map (λ (k : Block). k.number)) (find-append has_step x y)
-    ∙ number_in (find has_step x) (find has_step y)
+    ∙ number-option_or (find has_step x) (find has_step y)
 
+-- the segment r is joined from s and t
 module _ (s t r : SegmentValue) (b : IsOfBoth s t r) where
-  extent_of_both : extent_of r ≡ joined_extent (extent_of s) (extent_of t)
-  extent_of_both =
+  -- the extent of r is joined from those of s and t
+  extent_of-both : extent_of r ≡ joined_extent (extent_of s) (extent_of t)
+  extent_of-both =
       let last : last_of s.first (s.order + 1) ≡ last_of t.first t.order
-      = rw b.same_order (last_of_both s.first s.order t.first b.meets.numbered) in
+      = rw b.same_order (last_of-both s.first s.order t.first b.meets.numbered) in
       rw (
         b.first,
         b.order,
@@ -76,14 +87,16 @@ module _ (s t r : SegmentValue) (b : IsOfBoth s t r) where
         b.left,
         b.times,
         last,
-        starts_of_both s.times t.times,
-        ends_of_both s.times t.times,
+        first_time-joined_times s.times t.times,
+        last_time-joined_times s.times t.times,
       ) refl
 
+  -- s stands for the files x, and t for the files y
   module _ (listing : Bool) (x y : List Block) (p : SegmentStandsFor listing s x) (q : SegmentStandsFor listing t y)
     where
-      steps_of_both : joined_steps (x ++ y) ≡ joined_steps x ++ joined_steps y
-      steps_of_both = joined_steps-append x y
+      -- the steps of the files x ++ y are those of x and then those of y
+      joined_steps-both : joined_steps (x ++ y) ≡ joined_steps x ++ joined_steps y
+      joined_steps-both = joined_steps-append x y
 
       opens : t.opening ≡ levels_after s.opening (joined_steps x)
       opens = b.meets.opened ∙ sym (levels_after-extent (extent_of s) x p.extent)
@@ -91,10 +104,11 @@ module _ (s t r : SegmentValue) (b : IsOfBoth s t r) where
       fits : length (joined_steps x) + length (joined_steps y) < 2 ^ 64
       fits = omega (arith, b.counts, b.steps, p.counted, q.counted)
 
-      pub segment_stands_for_both : SegmentStandsFor listing r (x ++ y)
-      segment_stands_for_both =
+      -- r stands for the files x ++ y
+      pub SegmentStandsFor-both : SegmentStandsFor listing r (x ++ y)
+      SegmentStandsFor-both =
           record {
-            extent = subst (λ (e : Extent). IsExtent e (x ++ y)) (sym extent_of_both)
+            extent = subst (λ (e : Extent). IsExtent e (x ++ y)) (sym extent_of-both)
                 (IsExtent-joined (extent_of s) (extent_of t) x y p.extent q.extent b.meets);
             as_many =
                 length-append x y
@@ -105,32 +119,32 @@ module _ (s t r : SegmentValue) (b : IsOfBoth s t r) where
                   b.order,
                   ap (λ k. 2 ^ k) b.order,
                   ap (λ k. 2 ^ k) b.same_order,
-                  twice s.order,
+                  pow-next s.order,
                 );
             numbered =
                 ap (option_map (λ (k : SegmentTimes). k.number)) b.times
-                ∙ (numbers_of_both s.times t.times
-                ∙ rw (p.numbered, q.numbered) (sym (first_of_both x y)));
-            counted = rw (steps_of_both, length-append, ← p.counted, ← q.counted) b.steps;
-            known = rw (b.opening, steps_of_both)
+                ∙ (number-joined_times s.times t.times
+                ∙ rw (p.numbered, q.numbered) (sym (first_with_step-append x y)));
+            counted = rw (joined_steps-both, length-append, ← p.counted, ← q.counted) b.steps;
+            known = rw (b.opening, joined_steps-both)
                 (tables_of_both known_run known_is_run (phase_place nil_place) listing 4 s.opening t.opening
                 (joined_steps x) (joined_steps y) s.known t.known r.known opens fits (rw (← p.counted) b.known) p.known
                 q.known);
-            handshake = rw (b.opening, steps_of_both)
+            handshake = rw (b.opening, joined_steps-both)
                 (tables_of_both handshake_run handshake_is_run
                 (phase_place memory_place) listing 147 s.opening t.opening
                 (joined_steps x) (joined_steps y) s.handshake t.handshake r.handshake opens fits
                 (rw (← p.counted) b.handshake) p.handshake q.handshake);
-            stability = rw (b.opening, steps_of_both)
+            stability = rw (b.opening, joined_steps-both)
                 (tables_of_both stability_run stability_is_run
                 (phase_place holding_place) listing 13 s.opening t.opening
                 (joined_steps x) (joined_steps y) s.stability t.stability r.stability opens fits
                 (rw (← p.counted) b.stability) p.stability q.stability);
-            grant = rw (b.opening, steps_of_both)
+            grant = rw (b.opening, joined_steps-both)
                 (tables_of_both grant_run grant_is_run (phase_place arbitration_place) listing 35 s.opening t.opening
                 (joined_steps x) (joined_steps y) s.grant t.grant r.grant opens fits (rw (← p.counted) b.grant) p.grant
                 q.grant);
-            acknowledge = rw (b.opening, steps_of_both)
+            acknowledge = rw (b.opening, joined_steps-both)
                 (tables_of_both acknowledge_run acknowledge_is_run
                 (phase_place acknowledge_memory_place) listing 11 s.opening
                 t.opening (joined_steps x) (joined_steps y) s.acknowledge t.acknowledge r.acknowledge opens fits
@@ -138,10 +152,10 @@ module _ (s t r : SegmentValue) (b : IsOfBoth s t r) where
           }
 
 -- if the steps of s and t, which continues where s ends, are too many together, the files of both have too many steps
-pub both_have_too_many : (s t : SegmentValue) → Meets (extent_of s) (extent_of t) → 2 ^ 64 ≤ s.steps + t.steps
+pub HaveTooManySteps-both : (s t : SegmentValue) → Meets (extent_of s) (extent_of t) → 2 ^ 64 ≤ s.steps + t.steps
     → (listing : Bool) (x y : List Block) → SegmentStandsFor listing s x → SegmentStandsFor listing t y
     → HaveTooManySteps (x ++ y)
-both_have_too_many s t meets many listing x y p q = (
+HaveTooManySteps-both s t meets many listing x y p q = (
   (extent_joined (extent_of s) (extent_of t) x y p.extent q.extent meets).join,
   rw (joined_steps-append x y, length-append, ← p.counted, ← q.counted) many,
 )

@@ -28,8 +28,9 @@ use Rattle.vme_parts.specs.declared.answers.WideVerdict.{WideVerdict}
 use Rattle.vme_parts.specs.declared.judged_segments.JudgedSegments.{JudgedSegments}
 use Rattle.vme_parts.specs.declared.judged_segments.JudgingFault.{JudgingFault}
 use Rattle.vme_parts.specs.declared.judged_segments.JudgingFault.TheVariants as stop
-use Rattle.vme_parts.proofs.Covered.{all_covered, from_none, gap_missing, last_covered, next_low, next_missing}
-use Rattle.vme_parts.proofs.Covered.{next_whole}
+use Rattle.vme_parts.proofs.Covered.{AllCovered-next, AscendFrom-zero, IsMissing-gap, PartCovers-last}
+use Rattle.vme_parts.proofs.Covered.{AreNext-not_before, IsMissing-end}
+use Rattle.vme_parts.proofs.Covered.{file_count-of_covered}
 use Rattle.vme_parts.proofs.WholeFiles.{HasComeTo, come_first, come_on, files_more, found_all, torn_below, torn_whole}
 
 -- the segments from index i on are the segment x and those from i + 1 on
@@ -114,7 +115,7 @@ module _ (j : JudgedSegments) (s : SegmentValue) (xs : List Segment) (i : ℕ) (
       let many = stops listing c.1.extent (take c.0 files) (files_of files (segment_value x)) c.1.judged
       (stands_here listing files stand) (c.2.0 ∙ sym c.1.last) in (
         last_of x.first x.order + 1,
-        next_low (last_of x.first x.order + 1) (drop (i + 1) (map segment_value xs)) end c.2.1,
+        AreNext-not_before (last_of x.first x.order + 1) (drop (i + 1) (map segment_value xs)) end c.2.1,
         subst HaveTooManySteps (files_more files c.0 (segment_value x) c.2.0) many,
       )
   stops_here (stop.Torn k) stops =
@@ -124,7 +125,7 @@ module _ (j : JudgedSegments) (s : SegmentValue) (xs : List Segment) (i : ℕ) (
       (stands_here listing files stand) (c.2.0 ∙ sym c.1.last) in
       let own : IsTornIn (take c.0 files) (take (2 ^ x.order) (drop c.0 files)) k =
       subst (λ n. IsTornIn (take c.0 files) (take (2 ^ x.order) (drop n files)) k) c.2.0 torn in
-      let low = next_low (last_of x.first x.order + 1) (drop (i + 1) (map segment_value xs)) end c.2.1 in (
+      let low = AreNext-not_before (last_of x.first x.order + 1) (drop (i + 1) (map segment_value xs)) end c.2.1 in (
         torn_whole files c.0 (2 ^ x.order) k are own,
         omega (arith, torn_below files c.0 (2 ^ x.order) k are own, low, c.2.0, pow_pos x.order),
       )
@@ -154,34 +155,36 @@ pub beyond_told : (p : PartValue) (count : Option ℕ) (k : ℕ) → IsBeyond p.
     → JudgesFiles p count (Err (answer.Beyond k))
 beyond_told p count k b files n are part has =
     let own : HasFiles p (Some b.files) n = subst (λ (o : Option ℕ). HasFiles p o n) b.counted has in (
-      subst (PartCovers p) (sym b.at) (last_covered p b.last b.there),
+      subst (PartCovers p) (sym b.at) (PartCovers-last p b.last b.there),
       omega (arith, own.1, b.behind),
     )
 
 pub missing_told : (p : PartValue) (count : Option ℕ) (k : ℕ) → AreWithinFiles p.segments count → HasGap 0 p.segments k
     → JudgesFiles p count (Err (answer.Missing k))
 missing_told p count k w g files n are part has =
-    gap_missing p (from_none p.segments (fit_ascend p.listing None p.segments part.fits.segments)) count n k w has g
+    IsMissing-gap p (AscendFrom-zero p.segments (fit_ascend p.listing None p.segments part.fits.segments)) count n k w
+    has g
 
 module _ (p : PartValue) (count : Option ℕ) (end : ℕ) (w : AreWithinFiles p.segments count)
     (next : AreNext 0 p.segments end)
   where
     pub lacking_told : LacksFrom count end → JudgesFiles p count (Err (answer.Missing end))
     lacking_told l files n are part has =
-        next_missing p (from_none p.segments
+        IsMissing-end p (AscendFrom-zero p.segments
         (fit_ascend p.listing None p.segments part.fits.segments)) end next count n has
         l
 
     module _ (whole : LacksFrom count end → ⊥) where
       has_all : (files : List Block) (n : ℕ) → IsPartOf files p → HasFiles p count n → n ≡ end
       has_all files n part has =
-          next_whole p (from_none p.segments
+          file_count-of_covered p (AscendFrom-zero p.segments
           (fit_ascend p.listing None p.segments part.fits.segments)) end next count n w
           has whole
 
       covers_all : (files : List Block) (n : ℕ) → IsPartOf files p → HasFiles p count n → AllCovered p n
       covers_all files n part has =
-          all_covered p (from_none p.segments (fit_ascend p.listing None p.segments part.fits.segments)) end next n
+          AllCovered-next p (AscendFrom-zero p.segments (fit_ascend p.listing None p.segments part.fits.segments)) end
+          next n
           (has_all files n part has)
 
       few_slots : (ss : List SegmentValue) (listing : Bool) (v : Levels) → FitSegments listing None ss

@@ -9,7 +9,7 @@ use Rattle.vme_part_format.specs.Tables.{segment_value}
 use Rattle.vme_part_listing.specs.Late.{HasLateMark}
 use Rattle.vme_part_listing.specs.Marks.{ShowLate, ShowsFiles, marks_of_ways}
 use Rattle.vme_part_listing.proofs.MarkedFiles.{late_whole, marks_first, marks_on, marks_whole, stops_late}
-use Rattle.vme_parts.proofs.Ordering.{segment_at}
+use Rattle.vme_parts.proofs.Ordering.{IsSegment-item_at}
 use Rattle.vme_part_listing.proofs.listing.marks_from.Goals as goal
 
 pub of-judging-requires : goal.of-judging-requires
@@ -20,12 +20,14 @@ go_past-requires-clause-tables c = c.requires.first.tables
 
 pub go_past-requires-in-loop-segment-clause-tables : goal.go_past-requires-in-loop-segment-clause-tables
 go_past-requires-in-loop-segment-clause-tables c =
-    (segment_at c.args.rest.now c.loop-segment.segment-index c.segment-item.result (omega arith) c.segment-item.is
+    (IsSegment-item_at c.args.rest.now c.loop-segment.segment-index c.segment-item.result (omega arith)
+    c.segment-item.is
     c.requires.rest).tables
 
 pub go_past-requires-in-Ok-clause-tables : goal.go_past-requires-in-Ok-clause-tables
 go_past-requires-in-Ok-clause-tables c =
-    (segment_at c.args.rest.now c.loop-segment.segment-index c.segment-item.result (omega arith) c.segment-item.is
+    (IsSegment-item_at c.args.rest.now c.loop-segment.segment-index c.segment-item.result (omega arith)
+    c.segment-item.is
     c.requires.rest).tables
 
 pub loop-segment-init : goal.loop-segment-init

@@ -2,13 +2,14 @@ use Rattle.std.proofs.Common.{inl, inr, ◌≡◌, List, [], map, drop, refl, sy
 use Rattle.std.proofs.lemmas.List.{drop_all, length-map}
 use Rattle.vme_part_format.specs.Tables.{SegmentValue, segment_value}
 use Rattle.vme_parts.specs.Covering.{AreNext, HasGap}
-use Rattle.vme_parts.proofs.Ordering.{segment_at}
+use Rattle.vme_parts.proofs.Ordering.{IsSegment-item_at}
 use Rattle.vme_parts.proofs.ToldFiles.{drop_value}
 use Rattle.vme_parts.proofs.cover.covered.Goals as goal
 
 pub end_of-next-requires : goal.end_of-next-requires
 end_of-next-requires c =
-    (segment_at c.args.segments.now c.loop-segment.segment-index c.segment-item.result (omega arith) c.segment-item.is
+    (IsSegment-item_at c.args.segments.now c.loop-segment.segment-index c.segment-item.result (omega arith)
+    c.segment-item.is
     c.requires).numbers
 
 pub returns-then-segment-next-clause-gap : goal.returns-then-segment-next-clause-gap

@@ -2,7 +2,7 @@ use Rattle.std.proofs.Common.{◌≡◌, arith}
 use Rattle.vme_trace.specs.Levels.{set_level}
 use Rattle.vme_trace.proofs.LevelsEquality.{levels_eq-Decides}
 use Rattle.vme_part_format.specs.PartText.{seen_level}
-use Rattle.vme_parts.proofs.Measures.{sees_more, sees_whole}
+use Rattle.vme_parts.proofs.Measures.{SeesBefore-next, FitsLevels-all_seen}
 use Rattle.vme_parts.proofs.fits.levels_fit.Goals as goal
 
 pub loop-number-preserved : goal.loop-number-preserved
@@ -10,12 +10,12 @@ loop-number-preserved c =
     let l = c.loop-number in
     let made : c.put_level.new.lines ≡ set_level l.seen l.number (seen_level c.args.lines.now l.number)
     = rw c.level_at.ensures at c.put_level.ensures in
-    sees_more l.seen c.put_level.new.lines c.args.lines.now l.number c.loop-number-test.true made l.invariant
+    SeesBefore-next l.seen c.put_level.new.lines c.args.lines.now l.number c.loop-number-test.true made l.invariant
 
 pub returns : goal.returns
 returns c =
     let l = c.loop-number in
-    λ t. sees_whole l.seen c.args.lines.now l.number (omega (arith, c.loop-number-test.false)) l.invariant
+    λ t. FitsLevels-all_seen l.seen c.args.lines.now l.number (omega (arith, c.loop-number-test.false)) l.invariant
     ((levels_eq-Decides l.seen c.args.lines.now c.eq.result c.eq.ensures).0 t)
     (omega (arith, c.slots.ensures.slots, c.slots.ensures.least))
     (omega (arith, c.slots.ensures.slots, c.slots.ensures.most))

@@ -1,7 +1,7 @@
 use Rattle.std.proofs.Common.{◌≡◌, ◌+◌, ◌-◌, ◌<◌, length, map, drop, arith}
 use Rattle.std.proofs.lemmas.List.{length-drop, length-map}
 use Rattle.vme_part_format.specs.Tables.{node_value}
-use Rattle.vme_parts.proofs.Measures.{node_more, nodes_whole}
+use Rattle.vme_parts.proofs.Measures.{FitNodes-next, FitNodes-all}
 use Rattle.vme_parts.proofs.fits.nodes_fit.Goals as goal
 
 pub loop-node-preserved : goal.loop-node-preserved
@@ -17,11 +17,11 @@ loop-node-preserved c =
     = omega (arith, l.invariant.behind, here, rest, all, lt) in
     record {
       behind = behind;
-      fit = node_more c.args.memories c.args.steps (l.behind - 1) ns i c.node-item.result lt c.node-item.is behind
+      fit = FitNodes-next c.args.memories c.args.steps (l.behind - 1) ns i c.node-item.result lt c.node-item.is behind
           (c.node_fits.ensures c.if-not-node_fits.false) l.invariant.fit;
     }
 
 pub returns : goal.returns
 returns c =
-    λ t. nodes_whole c.args.memories c.args.steps c.args.nodes.now c.loop-node.node-index
+    λ t. FitNodes-all c.args.memories c.args.steps c.args.nodes.now c.loop-node.node-index
     (omega (arith, c.loop-node-test.false)) c.loop-node.invariant.fit

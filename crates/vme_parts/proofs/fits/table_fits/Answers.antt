@@ -4,7 +4,7 @@ use Rattle.vme_part_format.specs.Bounds.{FitNodes, FitsEntry, stays}
 use Rattle.vme_part_format.specs.Tables.{node_value}
 use Rattle.vme_part_format.specs.declared.table.TableEntry.{TableEntry}
 use Rattle.vme_part_format.specs.declared.table.TableNode.{TableNode}
-use Rattle.vme_parts.proofs.Measures.{table_fit}
+use Rattle.vme_parts.proofs.Measures.{FitsTable-of_vectors}
 use Rattle.vme_parts.proofs.fits.table_fits.Goals as goal
 
 pub returns : goal.returns
@@ -13,7 +13,7 @@ returns c =
     let n = c.args.memories in
     let few : n + length t.nodes.items < 2 ^ 32 = omega (arith, c.if-room-nodes.false) in
     let many : c.len-nodes.result ≡ length t.nodes.items = omega (arith, c.len-nodes.ensures) in
-    λ fit. table_fit c.args.listing n c.args.steps t (omega (arith, c.if-len-memories.false)) few
+    λ fit. FitsTable-of_vectors c.args.listing n c.args.steps t (omega (arith, c.if-len-memories.false)) few
     (λ e. let none = c.may_have.ensures c.if-not-may_have.false e in omega (arith, none, c.len-nodes.ensures))
     (subst (λ (es : List TableEntry). slice_get es 2 ≡ Some stays) c.as_slice.ensures.value
     (c.memory_stays.ensures c.if-not-memory_stays.false))

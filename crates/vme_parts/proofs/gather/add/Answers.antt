@@ -7,13 +7,13 @@ use Rattle.vme_part_format.specs.Tables.{SegmentValue, segment_value}
 use Rattle.vme_parts.specs.Alike.{AreTooLong}
 use Rattle.vme_parts.specs.Gathering.{Gathered, IsSegment, Precedes}
 use Rattle.vme_parts.proofs.Likeness.{no_difference_on}
-use Rattle.vme_parts.proofs.Ordering.{gathered_behind, gathered_in_last, last_pushed}
+use Rattle.vme_parts.proofs.Ordering.{Gathered-after_last, Gathered-in_last, last_or-push}
 use Rattle.vme_parts.proofs.gather.add.Goals as goal
 
 pub returns-then-begins_in_last-clause-gathered : goal.returns-then-begins_in_last-clause-gathered
 returns-then-begins_in_last-clause-gathered c =
     λ done g.
-    gathered_in_last done (map segment_value c.args.segments.now.items) (segment_value c.args.next)
+    Gathered-in_last done (map segment_value c.args.segments.now.items) (segment_value c.args.next)
     (rw c.as_slice.ensures.value at (c.begins_in_last.ensures.within c.if-begins_in_last.true)) c.requires.segments
     c.requires.next c.requires.order g
 
@@ -33,7 +33,7 @@ returns-clause-last c =
     subst (λ (o : Option SegmentValue). IfSome o (λ last. Precedes last (segment_value c.args.next)))
     (sym (ap (λ xs. last_or None (map segment_value xs)) c.in_ok-push.ensures.items
     ∙ (ap (last_or None) (map_push segment_value mid whole)
-    ∙ last_pushed (map segment_value mid) (segment_value whole))))
+    ∙ last_or-push (map segment_value mid) (segment_value whole))))
     c.in-Ok.ensures.first
 
 pub returns-clause-gathered : goal.returns-clause-gathered
@@ -46,7 +46,7 @@ returns-clause-gathered c =
     subst (Gathered (done ++ next ∷ []))
     (sym (ap (map segment_value) c.in_ok-push.ensures.items ∙ map_push segment_value mid whole))
     (c.in-Ok.ensures.gathered (done ++ next ∷ [])
-    (gathered_behind done (map segment_value c.args.segments.now.items) next behind g))
+    (Gathered-after_last done (map segment_value c.args.segments.now.items) next behind g))
 
 pub returns-in-Err-clause-refused : goal.returns-in-Err-clause-refused
 returns-in-Err-clause-refused c =
@@ -55,4 +55,4 @@ returns-in-Err-clause-refused c =
     let behind = rw c.as_slice.ensures.value at (c.begins_in_last.ensures.behind c.if-begins_in_last.false) in
     no_difference_on ((done : List SegmentValue) → Gathered done (old ++ next ∷ []) → AreTooLong done)
     ((done : List SegmentValue) → Gathered done old → AreTooLong (done ++ next ∷ [])) c.in-Err.why
-    (λ many done g. many (done ++ next ∷ []) (gathered_behind done old next behind g)) c.in-Err.ensures.refused
+    (λ many done g. many (done ++ next ∷ []) (Gathered-after_last done old next behind g)) c.in-Err.ensures.refused

@@ -10,10 +10,10 @@ use Rattle.vme_part_format.specs.Tables.{SegmentValue, segment_value}
 use Rattle.vme_part_format.specs.declared.segment.Segment.{Segment}
 use Rattle.vme_parts.specs.Alike.{AreTooLong}
 use Rattle.vme_parts.specs.Gathering.{Gathered, IsSegment, Precedes}
-use Rattle.vme_parts.proofs.Backward.{too_long_whole}
-use Rattle.vme_parts.proofs.Gathering.{gathered_none}
+use Rattle.vme_parts.proofs.Backward.{AreTooLong-append}
+use Rattle.vme_parts.proofs.Gathering.{Gathered-nothing}
 use Rattle.vme_parts.proofs.Likeness.{no_difference_on}
-use Rattle.vme_parts.proofs.Ordering.{comes_next, precede_all, precede_head}
+use Rattle.vme_parts.proofs.Ordering.{Precedes-next_of_sorted, Precedes-last_and_all, Precedes-last_and_head}
 use Rattle.vme_parts.proofs.gather.gather.Goals as goal
 
 pub loop-segment-init : goal.loop-segment-init
@@ -26,7 +26,7 @@ loop-segment-init c =
       all = c.into_iter-segment-iterator.ensures.into_iter_gives.0;
       segments = rw none (All-nil IsSegment);
       order = rw none tt;
-      gathered = rw none gathered_none;
+      gathered = rw none Gathered-nothing;
     }
 
 pub add-requires-clause-next : goal.add-requires-clause-next
@@ -34,7 +34,8 @@ add-requires-clause-next c =
     let at = c.loop-segment in
     let more = into_iter_items c.next.new.self in
     let steps : into_iter_items at.segment-iterator ≡ c.in-Some.segment ∷ more = c.in-Some.ensures.steps.0 in
-    (comes_next c.args.all.items at.yielded more c.in-Some.segment (rw (← steps) at.invariant.all) c.requires.segments
+    (Precedes-next_of_sorted c.args.all.items at.yielded more c.in-Some.segment (rw (← steps) at.invariant.all)
+    c.requires.segments
     c.requires.order).0
 
 pub add-requires-clause-order : goal.add-requires-clause-order
@@ -43,7 +44,7 @@ add-requires-clause-order c =
     let more = into_iter_items c.next.new.self in
     let steps : into_iter_items at.segment-iterator ≡ c.in-Some.segment ∷ more = c.in-Some.ensures.steps.0 in
     let last = last_or None (map segment_value at.segments.items) in
-    precede_head last (segment_value c.in-Some.segment) (map segment_value more)
+    Precedes-last_and_head last (segment_value c.in-Some.segment) (map segment_value more)
     (subst (λ (xs : List Segment). IfSome last (λ l. All (Precedes l) (map segment_value xs))) steps at.invariant.order)
 
 pub loop-segment-preserved : goal.loop-segment-preserved
@@ -52,7 +53,8 @@ loop-segment-preserved c =
     let x = c.in-Some.segment in
     let more = into_iter_items c.next.new.self in
     let steps : into_iter_items at.segment-iterator ≡ x ∷ more = c.in-Some.ensures.steps.0 in
-    let next = comes_next c.args.all.items at.yielded more x (rw (← steps) at.invariant.all) c.requires.segments
+    let next = Precedes-next_of_sorted c.args.all.items at.yielded more x (rw (← steps) at.invariant.all)
+    c.requires.segments
     c.requires.order in
     record {
       next = tt;
@@ -64,7 +66,7 @@ loop-segment-preserved c =
           omega (arith, was, gone, short);
       all = append_assoc at.yielded (x ∷ []) more ∙ rw (← steps) at.invariant.all;
       segments = c.in-Ok.ensures.segments;
-      order = precede_all (last_or None (map segment_value c.add.new.segments.items)) (segment_value x)
+      order = Precedes-last_and_all (last_or None (map segment_value c.add.new.segments.items)) (segment_value x)
           (map segment_value more) c.in-Ok.ensures.last next.1;
       gathered = subst (λ (done : List SegmentValue). Gathered done (map segment_value c.add.new.segments.items))
           (sym (map_push segment_value at.yielded x))
@@ -91,6 +93,6 @@ returns-in-Err-clause-refused c =
     no_difference_on ((done : List SegmentValue) → Gathered done old → AreTooLong (done ++ segment_value x ∷ []))
     (AreTooLong (map segment_value c.args.all.items)) c.in-Err.why
     (λ many.
-    too_long_whole c.args.all.items at.yielded more x (rw (← steps) at.invariant.all)
+    AreTooLong-append c.args.all.items at.yielded more x (rw (← steps) at.invariant.all)
     (many (map segment_value at.yielded) at.invariant.gathered))
     c.in-Err.ensures.refused

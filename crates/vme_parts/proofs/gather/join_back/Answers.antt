@@ -4,10 +4,11 @@ use Rattle.vme_part_format.specs.Tables.{SegmentValue, segment_value}
 use Rattle.vme_part_format.specs.declared.segment.Segment.{Segment}
 use Rattle.vme_parts.specs.Alike.{AreTooLong}
 use Rattle.vme_parts.specs.Gathering.{Gathered, IsSegment}
-use Rattle.vme_parts.proofs.Backward.{popped_all, popped_front, popped_last, step_gathered, step_too_long}
+use Rattle.vme_parts.proofs.Backward.{IsSegment-first, IsSegment-popped_front, IsSegment-popped_last}
+use Rattle.vme_parts.proofs.Backward.{Gathered-buddies_joined, AreTooLong-buddies}
 use Rattle.vme_parts.proofs.Halves.{first_of_both, segment_of_both}
 use Rattle.vme_parts.proofs.Likeness.{no_difference_on}
-use Rattle.vme_parts.proofs.Ordering.{precedes_itself}
+use Rattle.vme_parts.proofs.Ordering.{Precedes-reflexive}
 use Rattle.vme_parts.proofs.gather.join_back.Goals as goal
 
 pub loop-last-init : goal.loop-last-init
@@ -15,13 +16,13 @@ loop-last-init c =
     record {
       segments = c.requires.segments;
       next = c.requires.next;
-      first = precedes_itself (segment_value c.args.next);
+      first = Precedes-reflexive (segment_value c.args.next);
       gathered = λ done g. g;
     }
 
 pub are_joinable-requires : goal.are_joinable-requires
 are_joinable-requires c =
-    (popped_last c.loop-last.segments.items c.pop.new.self.items c.in-Some.last c.in-Some.ensures.items
+    (IsSegment-popped_last c.loop-last.segments.items c.pop.new.self.items c.in-Some.last c.in-Some.ensures.items
     c.loop-last.invariant.segments).numbers
 
 pub returns-then-not-are_joinable-clause-segments : goal.returns-then-not-are_joinable-clause-segments
@@ -39,7 +40,7 @@ returns-then-not-are_joinable-clause-gathered c =
 
 pub joined-requires-clause-first : goal.joined-requires-clause-first
 joined-requires-clause-first c =
-    (popped_last c.loop-last.segments.items c.pop.new.self.items c.in-Some.last c.in-Some.ensures.items
+    (IsSegment-popped_last c.loop-last.segments.items c.pop.new.self.items c.in-Some.last c.in-Some.ensures.items
     c.loop-last.invariant.segments).tables
 
 pub loop-last-preserved : goal.loop-last-preserved
@@ -50,21 +51,22 @@ loop-last-preserved c =
     let buddies = c.are_joinable.ensures.buddies c.if-not-are_joinable.false in
     let was = c.in-Some.ensures.items in
     record {
-      segments = popped_front c.loop-last.segments.items c.pop.new.self.items c.in-Some.last was
+      segments = IsSegment-popped_front c.loop-last.segments.items c.pop.new.self.items c.in-Some.last was
           c.loop-last.invariant.segments;
       next = segment_of_both s t r c.in-Ok.ensures.both buddies
-          (popped_last c.loop-last.segments.items c.pop.new.self.items c.in-Some.last was
+          (IsSegment-popped_last c.loop-last.segments.items c.pop.new.self.items c.in-Some.last was
           c.loop-last.invariant.segments);
       first = first_of_both s t r (segment_value c.args.next) c.in-Ok.ensures.both buddies
           c.loop-last.invariant.first;
       gathered = λ done g.
-          step_gathered done c.loop-last.segments.items c.pop.new.self.items c.in-Some.last t r was
+          Gathered-buddies_joined done c.loop-last.segments.items c.pop.new.self.items c.in-Some.last t r was
           c.in-Ok.ensures.both buddies c.in-Ok.ensures.compact (c.loop-last.invariant.gathered done g);
     }
 
 pub returns-clause-segments : goal.returns-clause-segments
 returns-clause-segments c =
-    popped_all (vec_len c.loop-last.segments - 1) c.loop-last.segments.items c.pop.new.self.items c.pop.ensures.rest
+    IsSegment-first (vec_len c.loop-last.segments - 1) c.loop-last.segments.items c.pop.new.self.items
+    c.pop.ensures.rest
     c.loop-last.invariant.segments
 
 pub returns-clause-gathered : goal.returns-clause-gathered
@@ -92,7 +94,7 @@ returns-in-Err-clause-refused c =
     no_difference_on (2 ^ 64 ≤ s.steps + t.steps) ((done : List SegmentValue) → Gathered done all → AreTooLong done)
     c.in-Err.why
     (λ many done g.
-    step_too_long done c.loop-last.segments.items c.pop.new.self.items c.in-Some.last t c.in-Some.ensures.items
+    AreTooLong-buddies done c.loop-last.segments.items c.pop.new.self.items c.in-Some.last t c.in-Some.ensures.items
     (c.are_joinable.ensures.buddies c.if-not-are_joinable.false)
     (c.are_joinable.ensures.goes_on c.if-not-are_joinable.false) many (c.loop-last.invariant.gathered done g))
     c.in-Err.ensures.refused

@@ -1,7 +1,7 @@
 use Rattle.std.proofs.Common.{◌≡◌, arith}
 use Rattle.vme_part_format.specs.Tables.{PartValue}
 use Rattle.vme_parts.proofs.Likeness.{all_like, like_more, unlike}
-use Rattle.vme_parts.proofs.Measures.{other_flag, same_flag}
+use Rattle.vme_parts.proofs.Measures.{not_eq-flags, eq-flags}
 use Rattle.vme_parts.proofs.join.check_alike.Goals as goal
 
 pub loop-place-preserved : goal.loop-place-preserved
@@ -9,7 +9,7 @@ loop-place-preserved c =
     let l = c.loop-place in
     like_more c.args.backplane c.args.listing c.args.parts.now l.place c.index-parts-place.result c.loop-place-test.true
     c.index-parts-place.is c.if-part-backplane.false
-    (same_flag c.index-parts-place.result.listing c.args.listing c.if-part-listing.false) l.invariant
+    (eq-flags c.index-parts-place.result.listing c.args.listing c.if-part-listing.false) l.invariant
 
 pub returns-then-part-backplane-clause-refused : goal.returns-then-part-backplane-clause-refused
 returns-then-part-backplane-clause-refused c =
@@ -25,7 +25,7 @@ returns-then-part-listing-clause-refused c =
     (λ (p : PartValue). (p.backplane ≡ c.args.backplane) × (p.listing ≡ c.args.listing → ⊥))
     c.index-parts-place.result c.loop-place-test.true c.index-parts-place.is l.invariant (
       c.if-part-backplane.false,
-      other_flag c.index-parts-place.result.listing c.args.listing c.if-part-listing.true,
+      not_eq-flags c.index-parts-place.result.listing c.args.listing c.if-part-listing.true,
     )
 
 pub returns-clause-like : goal.returns-clause-like

@@ -1,5 +1,5 @@
 use Rattle.std.proofs.Common.{◌-◌, arith}
-use Rattle.vme_parts.proofs.Ordering.{segment_at}
+use Rattle.vme_parts.proofs.Ordering.{IsSegment-item_at}
 use Rattle.vme_parts.proofs.SameFiles.{all_alike, have_apart, next_alike_more}
 use Rattle.vme_parts.proofs.same.compare_all.Goals as goal
 
@@ -8,12 +8,12 @@ loop-place-init c i d lt same = absurd (omega (arith, lt))
 
 pub compare-requires-clause-first : goal.compare-requires-clause-first
 compare-requires-clause-first c =
-    (segment_at c.args.segments.now (c.loop-place.place - 1) c.index-segments-place.result
+    (IsSegment-item_at c.args.segments.now (c.loop-place.place - 1) c.index-segments-place.result
     (omega (arith, c.loop-place-test.true)) c.index-segments-place.is c.requires.segments).tables
 
 pub compare-requires-clause-second : goal.compare-requires-clause-second
 compare-requires-clause-second c =
-    (segment_at c.args.segments.now c.loop-place.place c.index-segments-place-in-loop-place.result
+    (IsSegment-item_at c.args.segments.now c.loop-place.place c.index-segments-place-in-loop-place.result
     c.loop-place-test.true c.index-segments-place-in-loop-place.is c.requires.segments).tables
 
 pub returns-in-Err-clause-apart : goal.returns-in-Err-clause-apart

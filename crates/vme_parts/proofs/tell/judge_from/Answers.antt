@@ -1,6 +1,6 @@
 use Rattle.std.proofs.Common.{◌<◌, length, map, arith}
 use Rattle.vme_part_format.specs.Tables.{segment_value}
-use Rattle.vme_parts.proofs.Ordering.{segment_at}
+use Rattle.vme_parts.proofs.Ordering.{IsSegment-item_at}
 use Rattle.vme_parts.proofs.ToldFiles.{comes_first, comes_on, judges_whole, stops_here}
 use Rattle.vme_parts.proofs.tell.judge_from.Goals as goal
 
@@ -9,7 +9,8 @@ of-judging-requires c = c.requires.first.tables
 
 pub go_past-requires-clause-tables : goal.go_past-requires-clause-tables
 go_past-requires-clause-tables c =
-    (segment_at c.args.rest.now c.loop-segment.segment-index c.segment-item.result (omega arith) c.segment-item.is
+    (IsSegment-item_at c.args.rest.now c.loop-segment.segment-index c.segment-item.result (omega arith)
+    c.segment-item.is
     c.requires.rest).tables
 
 pub loop-segment-init : goal.loop-segment-init

@@ -4,7 +4,7 @@ use Rattle.vme_part_format.specs.Tables.{part_value, segment_value}
 use Rattle.vme_part_format.specs.declared.segment.Segment.{Segment}
 use Rattle.vme_parts.specs.Telling.{JudgesAll, JudgesFiles}
 use Rattle.vme_parts.specs.declared.answers.RecordingAnswer.{RecordingAnswer}
-use Rattle.vme_parts.proofs.Covered.{none_lacks}
+use Rattle.vme_parts.proofs.Covered.{LacksFrom-no_segments}
 use Rattle.vme_parts.proofs.JoinedParts.{part_segments}
 use Rattle.vme_parts.proofs.ToldFiles.{beyond_told, judged_told, lacking_told, missing_told, stop_told}
 use Rattle.vme_parts.proofs.tell.judged.Goals as goal
@@ -23,7 +23,7 @@ judge_all-requires-clause-segments c =
 pub judge_all-requires-clause-some : goal.judge_all-requires-clause-some
 judge_all-requires-clause-some c =
     λ none. c.lacks.ensures.whole c.if-lacks.false
-    (none_lacks c.args.files c.in-Ok.end c.as_slice-segments.result.now none c.in-Ok.ensures.next)
+    (LacksFrom-no_segments c.args.files c.in-Ok.end c.as_slice-segments.result.now none c.in-Ok.ensures.next)
 
 pub returns-in-Some-clause-judges : goal.returns-in-Some-clause-judges
 returns-in-Some-clause-judges c =
