@@ -34,10 +34,10 @@ use Rattle.vme_file_part.specs.Growing.{IsExtended, FileMayGoOn, StandsForFile}
 use Rattle.vme_parts.specs.Meeting.{ends_at, starts_at}
 use Rattle.vme_file_part.specs.FileOf.{file_of}
 use Rattle.vme_parts.specs.Opened.{opening_of, opens, steps_of}
-use Rattle.vme_parts.proofs.OneFile.{file_stands, first_is}
-use Rattle.vme_parts.proofs.OpenedFile.{opened_few, opened_sound}
-use Rattle.vme_parts.proofs.Runs.{acknowledge_is_run, grant_is_run, handshake_is_run, known_is_run, stability_is_run}
-use Rattle.vme_parts.proofs.Runs.{tables_of_both}
+use Rattle.vme_parts.proofs.OneFile.{SegmentStandsFor-one_file, first_with_step-one_file}
+use Rattle.vme_parts.proofs.OpenedFile.{length-steps_of, malformed_step-of_file}
+use Rattle.vme_parts.proofs.Runs.{IsRun-acknowledge, IsRun-grant, IsRun-handshake, IsRun-known, IsRun-stability}
+use Rattle.vme_parts.proofs.Runs.{AgreesWithRuns-of_both}
 use Rattle.vme_parts.proofs.Standing.{last_time-joined_times, number-joined_times, first_time-joined_times}
 
 -- ---- what a segment of one file has
@@ -71,7 +71,7 @@ module _ (listing : Bool) (s : SegmentValue) (b : Block) (a : StandsForFile list
   -- the number in the times of the segment, if it has steps, is that of the block
   number-of_file : option_map (λ (t : SegmentTimes). t.number) s.times
       ≡ option_map (λ (x : Step). b.number) (slice_get b.steps 0)
-  number-of_file = a.stands.numbered ∙ sym (first_is b.number b refl)
+  number-of_file = a.stands.numbered ∙ sym (first_with_step-one_file b.number b refl)
 
   -- the segment has the tables that a segment has
   pub HasTables-of_file : HasTables s
@@ -194,27 +194,30 @@ module _ (listing : Bool) (s t r : SegmentValue) (number : ℕ) (o : Levels) (x 
   StandsForFile-grown = record {
     first = first-is_number;
     order = e.order ∙ a.order;
-    stands = file_stands listing r (block_of number o (x ++ y)) sound first-is_number (e.order ∙ a.order)
+    stands = SegmentStandsFor-one_file listing r (block_of number o (x ++ y)) sound first-is_number (e.order ∙ a.order)
         (omega (arith, e.steps, length-first_steps, steps-of_file listing t more_steps b, length-append x y))
         (e.opening ∙ opening-of_file listing s before a) left-grown starts_at-grown ends_at-grown
         (number_in-grown ∙ ap (λ (n : ℕ). option_map (λ (k : Step). n) (slice_get (x ++ y) 0)) (sym first-is_number))
-        (tables_of_both known_run known_is_run (phase_place nil_place) listing 4 o (levels_after o x) x y s.known
+        (AgreesWithRuns-of_both known_run IsRun-known (phase_place nil_place) listing 4 o (levels_after o x) x y s.known
         t.known r.known refl length-fits_64_bits
         (subst (λ (n : ℕ). IsComposition n s.known t.known r.known) length-first_steps e.known)
         (AgreesWithRuns-known listing s before a) (AgreesWithRuns-known listing t more_steps b))
-        (tables_of_both handshake_run handshake_is_run (phase_place memory_place) listing 147 o (levels_after o x) x y
+        (AgreesWithRuns-of_both handshake_run IsRun-handshake (phase_place memory_place) listing 147 o
+        (levels_after o x) x y
         s.handshake t.handshake r.handshake refl length-fits_64_bits
         (subst (λ (n : ℕ). IsComposition n s.handshake t.handshake r.handshake) length-first_steps e.handshake)
         (AgreesWithRuns-handshake listing s before a) (AgreesWithRuns-handshake listing t more_steps b))
-        (tables_of_both stability_run stability_is_run (phase_place holding_place) listing 13 o (levels_after o x) x y
+        (AgreesWithRuns-of_both stability_run IsRun-stability (phase_place holding_place) listing 13 o
+        (levels_after o x) x y
         s.stability t.stability r.stability refl length-fits_64_bits
         (subst (λ (n : ℕ). IsComposition n s.stability t.stability r.stability) length-first_steps e.stability)
         (AgreesWithRuns-stability listing s before a) (AgreesWithRuns-stability listing t more_steps b))
-        (tables_of_both grant_run grant_is_run (phase_place arbitration_place) listing 35 o (levels_after o x) x y
+        (AgreesWithRuns-of_both grant_run IsRun-grant (phase_place arbitration_place) listing 35 o (levels_after o x) x
+        y
         s.grant t.grant r.grant refl length-fits_64_bits
         (subst (λ (n : ℕ). IsComposition n s.grant t.grant r.grant) length-first_steps e.grant)
         (AgreesWithRuns-grant listing s before a) (AgreesWithRuns-grant listing t more_steps b))
-        (tables_of_both acknowledge_run acknowledge_is_run (phase_place acknowledge_memory_place) listing 11 o
+        (AgreesWithRuns-of_both acknowledge_run IsRun-acknowledge (phase_place acknowledge_memory_place) listing 11 o
         (levels_after o x) x y s.acknowledge t.acknowledge r.acknowledge refl length-fits_64_bits
         (subst (λ (n : ℕ). IsComposition n s.acknowledge t.acknowledge r.acknowledge) length-first_steps e.acknowledge)
         (AgreesWithRuns-acknowledge listing s before a) (AgreesWithRuns-acknowledge listing t more_steps b));
@@ -266,8 +269,8 @@ module _ (number : ℕ) (start : Option ℕ) (t : Trace) (y : List Step) (some :
   pub FileMayGoOn-append : FileMayGoOn t y → FileMayGoOn (record { opening = o; steps = x }) y
   FileMayGoOn-append may = record {
     formed = subst (λ (b : Block). malformed_step (record { opening = b.opening; steps = b.steps }) ≡ None)
-        file_of-append (opened_sound number start t.opening (t.steps ++ y) may.formed);
-    few = omega (arith, may.few, opened_few number start t.steps);
+        file_of-append (malformed_step-of_file number start t.opening (t.steps ++ y) may.formed);
+    few = omega (arith, may.few, length-steps_of number start t.steps);
   }
 
 -- a recording with no more steps is the same

@@ -43,9 +43,10 @@ use Rattle.vme_parts.specs.declared.judged_segments.JudgingFault.{JudgingFault}
 use Rattle.vme_parts.specs.declared.judged_segments.JudgingFault.TheVariants as stop
 use Rattle.vme_part_listing.specs.declared.listing.Ways.{Ways}
 use Rattle.vme_part_listing.proofs.MarkedWays.{opened_so}
-use Rattle.vme_parts.proofs.SegmentLemmas.{tells_all}
-use Rattle.vme_parts.proofs.ToldFiles.{contained_at, drop_value}
-use Rattle.vme_parts.proofs.WholeFiles.{HasComeTo, come_first, come_on, files_more, found_all}
+use Rattle.vme_parts.proofs.SegmentLemmas.{TellsAll-stands_for}
+use Rattle.vme_parts.proofs.ToldFiles.{Contains-segment_at, drop-segment_values}
+use Rattle.vme_parts.proofs.WholeFiles.{HasComeTo, HasComeTo-first, HasComeTo-next, take-and_files_of}
+use Rattle.vme_parts.proofs.WholeFiles.{FoundAll-judged_files}
 
 -- if the runs are `before` after `steps` steps, and the tables of s agree with the steps after these, then the runs are
 -- `after` after both
@@ -71,11 +72,12 @@ marks_first j begun w s ss small judged none past =
           let count = (judged true (files_of files s) p).counted in
           let own = past s.opening s.opening [] (joined_steps (files_of files s)) refl refl
           (omega (arith, small, count))
-          none (tells_all true s (files_of files s) p) in (
+          none (TellsAll-stands_for true s (files_of files s) p) in (
             last_of s.first s.order + 1,
-            come_first j s true files next.0 p judged,
+            HasComeTo-first j s true files next.0 p judged,
             next.1,
-            subst (λ (bs : List Block). HasMarks w s.opening (joined_steps bs)) (files_more files 0 s next.0) own,
+            subst (λ (bs : List Block). HasMarks w s.opening (joined_steps bs)) (take-and_files_of files 0 s next.0)
+                own,
           );
     }
 
@@ -124,10 +126,10 @@ module _ (j : JudgedSegments) (w : Ways) (s : SegmentValue) (xs : List Segment) 
       let P : SegmentValue → Type 0 = λ s. SegmentStandsFor true s (files_of files s) in
       let c = was.come files end are stand next in
       let n = c.0 in
-      let to = subst (λ (left : List SegmentValue). AreNext n left end) (drop_value xs i x h e) c.2 in
+      let to = subst (λ (left : List SegmentValue). AreNext n left end) (drop-segment_values xs i x h e) c.2 in
       let v = segment_value x in
       let p = All-contains P (map segment_value xs) v (All-tail P s (map segment_value xs) stand)
-      (contained_at xs i x h e) in
+      (Contains-segment_at xs i x h e) in
       let bs = take n files in
       let ys = files_of files v in
       let m = last_of x.first x.order + 1 in
@@ -136,7 +138,7 @@ module _ (j : JudgedSegments) (w : Ways) (s : SegmentValue) (xs : List Segment) 
       let size : m + (end - m) ≡ end = omega (arith, low) in
       let whole : take end files ≡ (bs ++ ys) ++ rest =
       ap (λ (k : ℕ). take k files) (sym size)
-      ∙ (take-add m (end - m) files ∙ ap (λ (zs : List Block). zs ++ rest) (sym (files_more files n v to.0))) in
+      ∙ (take-add m (end - m) files ∙ ap (λ (zs : List Block). zs ++ rest) (sym (take-and_files_of files n v to.0))) in
       let stops_there : (listing : Bool) (e : Extent) (bs ys : List Block) → HasJudgedFiles j e bs
       → SegmentStandsFor listing v ys → x.first ≡ e.last + 1 → StopsAt bs ys why =
       subst (λ (q : Result A JudgingFault). IfErr q (λ (fault : JudgingFault). (listing : Bool) (e : Extent)
@@ -158,10 +160,10 @@ module _ (j : JudgedSegments) (w : Ways) (s : SegmentValue) (xs : List Segment) 
             let P : SegmentValue → Type 0 = λ s. SegmentStandsFor true s (files_of files s) in
             let c = was.come files end are stand next in
             let n = c.0 in
-            let to = subst (λ (left : List SegmentValue). AreNext n left end) (drop_value xs i x h e) c.2 in
+            let to = subst (λ (left : List SegmentValue). AreNext n left end) (drop-segment_values xs i x h e) c.2 in
             let t = segment_value x in
             let p = All-contains P (map segment_value xs) t (All-tail P s (map segment_value xs) stand)
-            (contained_at xs i x h e) in
+            (Contains-segment_at xs i x h e) in
             let bs = take n files in
             let ys = files_of files t in
             let f = c.1.extent in
@@ -180,11 +182,11 @@ module _ (j : JudgedSegments) (w : Ways) (s : SegmentValue) (xs : List Segment) 
               length-append (joined_steps bs) (joined_steps ys),
             ) in
             let own = past s.opening t.opening (joined_steps bs) (joined_steps ys) opens c.1.judged.counted fits c.3
-            (tells_all true t ys p) in (
+            (TellsAll-stands_for true t ys p) in (
               last_of x.first x.order + 1,
-              come_on j r s.opening t true files n to.0 p judged c.1,
+              HasComeTo-next j r s.opening t true files n to.0 p judged c.1,
               to.1,
-              subst (λ (z : List Block). HasMarks v s.opening (joined_steps z)) (files_more files n t to.0)
+              subst (λ (z : List Block). HasMarks v s.opening (joined_steps z)) (take-and_files_of files n t to.0)
                   (subst (HasMarks v s.opening) (sym (joined_steps-append bs ys)) own),
             );
       }
@@ -255,7 +257,7 @@ listing_told p count j (listed.Listing l) marked judges lists files n are part h
         r.2.1.extent.join,
         λ t is.
             lists files n are (subst (λ (b : Bool). AllStand b files p.segments) marked part.stands) r.1 t is
-            (found_all j r.2.0 (take n files) t r.2.1 r.2.2 is),
+            (FoundAll-judged_files j r.2.0 (take n files) t r.2.1 r.2.2 is),
       ),
     )
 listing_told p count j listed.TooLong marked judges lists files n are part has =
@@ -266,7 +268,7 @@ listing_told p count j listed.TooLong marked judges lists files n are part has =
         r.2.1.extent.join,
         λ t is.
             lists files n are (subst (λ (b : Bool). AllStand b files p.segments) marked part.stands) r.1 r.2.0 r.2.1 t
-            is (found_all j r.2.0 (take n files) t r.2.1 r.2.2 is),
+            is (FoundAll-judged_files j r.2.0 (take n files) t r.2.1 r.2.2 is),
       ),
     )
 listing_told p count j listed.Unmarked marked judges lists files n are part has = absurd lists

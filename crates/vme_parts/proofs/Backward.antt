@@ -14,7 +14,7 @@ use Rattle.vme_parts.specs.Gathering.{Gathered, IsSegment}
 use Rattle.vme_parts.specs.Joined.{IsOfBoth}
 use Rattle.vme_parts.specs.Stands.{SegmentStandsFor}
 use Rattle.vme_parts.proofs.Gathering.{All-last, Gathered-merged}
-use Rattle.vme_parts.proofs.Merging.{both_too_long}
+use Rattle.vme_parts.proofs.Merging.{SomeHaveTooManySteps-buddies}
 
 -- the values of `old` are those of `new` and then that of x, which was popped
 map-popped : (old new : List Segment) (x : Segment) → old ≡ new ++ x ∷ []
@@ -74,7 +74,7 @@ AreTooLong-buddies done old new x t e h goes_on many g =
     λ listing files stand.
     let P : SegmentValue → Type 0 = λ k. SegmentStandsFor listing k (files_of files k) in
     let back = All-back P front (s ∷ t ∷ []) (two.stand listing files stand) in
-    both_too_long s t h goes_on many listing files (All-head P s (t ∷ []) back)
+    SomeHaveTooManySteps-buddies s t h goes_on many listing files (All-head P s (t ∷ []) back)
     (All-head P t [] (All-tail P s (t ∷ []) back))
 
 -- segments are too long if the first of them are

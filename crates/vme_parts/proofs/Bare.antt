@@ -13,18 +13,21 @@ use Rattle.vme_part_format.specs.declared.table.TableEntry.{TableEntry}
 use Rattle.vme_part_tables.specs.Runs.{AgreesWithRun, AgreesWithRuns, break_of}
 use Rattle.vme_part_tables.specs.Ways.{WideOutcome, ended_in, entry_outcome, outcome_in}
 
-get_before : {X : Type 0} (xs : List X) (x y : X) (k : ℕ) → slice_get xs k ≡ Some x → slice_get (xs ++ y ∷ []) k
+-- an item of xs stands at its index in xs ++ y ∷ [] too
+slice_get-push : {X : Type 0} (xs : List X) (x y : X) (k : ℕ) → slice_get xs k ≡ Some x → slice_get (xs ++ y ∷ []) k
     ≡ Some x
-get_before [] x y k e = absurd (cc)
-get_before (z ∷ zs) x y zero e = e
-get_before (z ∷ zs) x y (suc k) e = get_before zs x y k e
+slice_get-push [] x y k e = absurd (cc)
+slice_get-push (z ∷ zs) x y zero e = e
+slice_get-push (z ∷ zs) x y (suc k) e = slice_get-push zs x y k e
 
-get_last : {X : Type 0} (xs : List X) (x : X) (k : ℕ) → k ≡ length xs → slice_get (xs ++ x ∷ []) k ≡ Some x
-get_last [] x zero e = refl
-get_last [] x (suc k) e = absurd (omega arith)
-get_last (z ∷ zs) x zero e = absurd (omega arith)
-get_last (z ∷ zs) x (suc k) e = get_last zs x k (omega arith)
+-- x stands in xs ++ x ∷ [] at the index after those of xs
+slice_get-pushed : {X : Type 0} (xs : List X) (x : X) (k : ℕ) → k ≡ length xs → slice_get (xs ++ x ∷ []) k ≡ Some x
+slice_get-pushed [] x zero e = refl
+slice_get-pushed [] x (suc k) e = absurd (omega arith)
+slice_get-pushed (z ∷ zs) x zero e = absurd (omega arith)
+slice_get-pushed (z ∷ zs) x (suc k) e = slice_get-pushed zs x k (omega arith)
 
+-- `place` is the number of a memory, `nth` the memory with a number, and `says` the run from a memory
 module _ {P : Type 0} (place : P → ℕ) (nth : ℕ → P) (says : P → Outcome P) where
   -- the entry e agrees with the run from the memory with the number k
   pub record IsRow (k : ℕ) (e : TableEntry) : Type 0 where
@@ -35,20 +38,23 @@ module _ {P : Type 0} (place : P → ℕ) (nth : ℕ → P) (says : P → Outcom
   abbrev pub AreRows : List TableEntry → ℕ → Type 0
   AreRows es n = (k : ℕ) → k < n → (e : TableEntry) × (slice_get es k ≡ Some e) × IsRow k e
 
-  pub rows_more : (es : List TableEntry) (e : TableEntry) (n : ℕ) → length es ≡ n → IsRow n e → AreRows es n
+  -- if n entries agree with the runs from their memories, and so does the entry e, they agree all n + 1
+  pub AreRows-push : (es : List TableEntry) (e : TableEntry) (n : ℕ) → length es ≡ n → IsRow n e → AreRows es n
       → AreRows (es ++ e ∷ []) (n + 1)
-  rows_more es e n count row rows k h = by_place (cases_lt k n)
+  AreRows-push es e n count row rows k h = by_place (cases_lt k n)
     where
       by_place : ((k < n) ⊎ (n ≤ k)) → (x : TableEntry) × (slice_get (es ++ e ∷ []) k ≡ Some x) × IsRow k x
-      by_place (inl i) = let r = rows k i in (r.0, get_before es r.0 e k r.1, r.2)
+      by_place (inl i) = let r = rows k i in (r.0, slice_get-push es r.0 e k r.1, r.2)
       by_place (inr i) =
           let same : n ≡ k = omega arith in
-          (e, get_last es e k (omega arith), subst (λ j. IsRow j e) same row)
+          (e, slice_get-pushed es e k (omega arith), subst (λ j. IsRow j e) same row)
 
-  pub bare_tells : (count : ℕ) (es : List TableEntry) → count < 2 ^ 32 → length es ≡ count → AreRows es count
+  -- a table without nodes, with one entry for each of the `count` memories that agrees with the run from it, agrees
+  -- with the runs
+  pub AgreesWithRuns-bare : (count : ℕ) (es : List TableEntry) → count < 2 ^ 32 → length es ≡ count → AreRows es count
       → ((p : P) → place p < count) → ((p : P) → nth (place p) ≡ p)
       → AgreesWithRuns false count place (record { entries = es; nodes = [] }) says
-  bare_tells count es few many rows placed found =
+  AgreesWithRuns-bare count es few many rows placed found =
       record {
         counted = many;
         ways = record {
@@ -77,9 +83,10 @@ module _ {P : Type 0} (place : P → ℕ) (nth : ℕ → P) (says : P → Outcom
       }
 
 -- a table that agrees with the runs f agrees with equal runs g
-pub tells_same : {P : Type 0} (listing : Bool) (count : ℕ) (place : P → ℕ) (t : TableValue) (f g : P → Outcome P)
+pub AgreesWithRuns-same_runs : {P : Type 0} (listing : Bool) (count : ℕ) (place : P → ℕ) (t : TableValue)
+    (f g : P → Outcome P)
     → ((p : P) → f p ≡ g p) → AgreesWithRuns listing count place t f → AgreesWithRuns listing count place t g
-tells_same listing count place t f g e s =
+AgreesWithRuns-same_runs listing count place t f g e s =
     record {
       counted = s.counted;
       ways = s.ways;

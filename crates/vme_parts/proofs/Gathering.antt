@@ -15,7 +15,8 @@ use Rattle.vme_parts.specs.Files.{SegmentCovers, SegmentsCover, files_of}
 use Rattle.vme_parts.specs.Gathering.{Ascend, Gathered}
 use Rattle.vme_parts.specs.Joined.{IsOfBoth}
 use Rattle.vme_parts.specs.Stands.{SegmentStandsFor}
-use Rattle.vme_parts.proofs.Merging.{both_fit, both_stand, covered_first, covered_second, covers_both}
+use Rattle.vme_parts.proofs.Merging.{FitsSegment-both, SegmentStandsFor-merged, SegmentCovers-of_first}
+use Rattle.vme_parts.proofs.Merging.{SegmentCovers-of_second, SegmentCovers-cases}
 
 -- what holds of all items of xs ++ x ∷ [] holds of x
 pub All-last : {X : Type 0} (P : X → Type 0) (xs : List X) (x : X) → All P (xs ++ x ∷ []) → P x
@@ -131,9 +132,10 @@ Gathered-merged done front s t r g b h few =
       );
       stand = λ listing files all.
           All-last_two_merged (λ (s : SegmentValue). SegmentStandsFor listing s (files_of files s)) front s t r
-          (both_stand s t r b h listing files) (g.stand listing files all);
+          (SegmentStandsFor-merged s t r b h listing files) (g.stand listing files all);
       fits = λ listing all.
-          All-last_two_merged (FitsSegment listing) front s t r (both_fit s t r b h listing) (g.fits listing all);
+          All-last_two_merged (FitsSegment listing) front s t r (FitsSegment-both s t r b h listing)
+          (g.fits listing all);
       compact = λ all. All-last_two_merged IsCompact front s t r (λ p q. few) (g.compact all);
     }
   where
@@ -143,7 +145,7 @@ Gathered-merged done front s t r g b h few =
 
     to : (n : ℕ) → (SegmentsCover front n ⊎ SegmentCovers r n) → SegmentsCover (front ++ s ∷ t ∷ []) n
     to n (inl c) = (c.0, Contains-append_left front (s ∷ t ∷ []) c.0 c.1, c.2)
-    to n (inr c) = to_two n (covers_both s t r b h n c)
+    to n (inr c) = to_two n (SegmentCovers-cases s t r b h n c)
 
     back : (n : ℕ) → SegmentsCover (front ++ s ∷ t ∷ []) n → SegmentsCover (front ++ r ∷ []) n
     back n c =
@@ -152,11 +154,11 @@ Gathered-merged done front s t r g b h few =
       where
         by_first : (n : ℕ) → (SegmentsCover front n ⊎ SegmentCovers s n) → SegmentsCover (front ++ r ∷ []) n
         by_first n (inl c) = SegmentsCover-push front r n c
-        by_first n (inr c) = SegmentsCover-pushed front r n (covered_first s t r b h n c)
+        by_first n (inr c) = SegmentsCover-pushed front r n (SegmentCovers-of_first s t r b h n c)
 
         by_last : (n : ℕ) → (SegmentsCover (front ++ s ∷ []) n ⊎ SegmentCovers t n) → SegmentsCover (front ++ r ∷ []) n
         by_last n (inl c) = by_first n (SegmentsCover-push_cases front s n c)
-        by_last n (inr c) = SegmentsCover-pushed front r n (covered_second s t r b h n c)
+        by_last n (inr c) = SegmentsCover-pushed front r n (SegmentCovers-of_second s t r b h n c)
 
 -- segments that ascend and can be written each can be written together
 pub FitSegments-ascend : (listing : Bool) (before : Option ℕ) (ss : List SegmentValue) → Ascend before ss

@@ -13,8 +13,8 @@ use Rattle.vme_parts.specs.Gathering.{IsSegment, Precedes}
 use Rattle.vme_parts.specs.Joined.{IsOfBoth}
 
 -- `are_buddies` implies `AreBuddies`
-pub buddies_are : (s t : SegmentValue) → are_buddies s t ≡ true → AreBuddies s t
-buddies_are s t e =
+pub AreBuddies-by_test : (s t : SegmentValue) → are_buddies s t ≡ true → AreBuddies s t
+AreBuddies-by_test s t e =
     let all = and_parts (s.order == t.order && nat_lt s.order 62 && t.first == s.first + 2 ^ s.order)
     (s.first % 2 ^ (s.order + 1) == 0) e in
     let more = and_parts (s.order == t.order && nat_lt s.order 62) (t.first == s.first + 2 ^ s.order) all.0 in
@@ -28,21 +28,23 @@ buddies_are s t e =
     }
 
 -- if the test says that there is no value, the option is `None`
-pub none_by_test : (o : Option ℕ) (r : Bool) → is_some o ≡ not r → r ≡ true → o ≡ None
-none_by_test None r e t = refl
-none_by_test (Some x) true e t = absurd (cc)
-none_by_test (Some x) false e t = absurd (cc)
+pub None-by_test : (o : Option ℕ) (r : Bool) → is_some o ≡ not r → r ≡ true → o ≡ None
+None-by_test None r e t = refl
+None-by_test (Some x) true e t = absurd (cc)
+None-by_test (Some x) false e t = absurd (cc)
 
-pub can_compose : (n : ℕ) (a b : TableValue) → IsTableOf n a → IsTableOf n b → FewNodes a b → CanCompose a b
-can_compose n a b p q few =
+-- tables of n memories can be composed if they have few enough nodes together
+pub CanCompose-few_nodes : (n : ℕ) (a b : TableValue) → IsTableOf n a → IsTableOf n b → FewNodes a b → CanCompose a b
+CanCompose-few_nodes n a b p q few =
     record { first = p.ways; second = q.ways; as_many = q.counted ∙ sym p.counted; few = few }
 
-table_of_both : (n steps : ℕ) (a b c : TableValue) → IsComposition steps a b c → IsTableOf n a → IsTableOf n c
-table_of_both n steps a b c s p = record { ways = s.ways; counted = s.counted ∙ p.counted }
+-- the composition of tables is a table of as many memories as the first
+IsTableOf-composition : (n steps : ℕ) (a b c : TableValue) → IsComposition steps a b c → IsTableOf n a → IsTableOf n c
+IsTableOf-composition n steps a b c s p = record { ways = s.ways; counted = s.counted ∙ p.counted }
 
 -- r, joined from s and t, satisfies `IsSegment` if s does
-pub segment_of_both : (s t r : SegmentValue) → IsOfBoth s t r → AreBuddies s t → IsSegment s → IsSegment r
-segment_of_both s t r b h p =
+pub IsSegment-of_both : (s t r : SegmentValue) → IsOfBoth s t r → AreBuddies s t → IsSegment s → IsSegment r
+IsSegment-of_both s t r b h p =
     record {
       numbers = record {
         low = rw b.first p.numbers.low;
@@ -50,16 +52,17 @@ segment_of_both s t r b h p =
         aligned = rw (b.first, b.order) h.aligned;
       };
       tables = record {
-        known = table_of_both 4 s.steps s.known t.known r.known b.known p.tables.known;
-        handshake = table_of_both 147 s.steps s.handshake t.handshake r.handshake b.handshake p.tables.handshake;
-        stability = table_of_both 13 s.steps s.stability t.stability r.stability b.stability p.tables.stability;
-        grant = table_of_both 35 s.steps s.grant t.grant r.grant b.grant p.tables.grant;
-        acknowledge = table_of_both 11 s.steps s.acknowledge t.acknowledge r.acknowledge b.acknowledge
+        known = IsTableOf-composition 4 s.steps s.known t.known r.known b.known p.tables.known;
+        handshake = IsTableOf-composition 147 s.steps s.handshake t.handshake r.handshake b.handshake
+            p.tables.handshake;
+        stability = IsTableOf-composition 13 s.steps s.stability t.stability r.stability b.stability p.tables.stability;
+        grant = IsTableOf-composition 35 s.steps s.grant t.grant r.grant b.grant p.tables.grant;
+        acknowledge = IsTableOf-composition 11 s.steps s.acknowledge t.acknowledge r.acknowledge b.acknowledge
             p.tables.acknowledge;
       };
     }
 
 -- r, joined from s and t, precedes each segment that t precedes
-pub first_of_both : (s t r n : SegmentValue) → IsOfBoth s t r → AreBuddies s t → Precedes t n → Precedes r n
-first_of_both s t r n b h (inl k) = inl (omega (arith, b.first, h.behind, k))
-first_of_both s t r n b h (inr k) = inl (omega (arith, b.first, h.behind, k.0))
+pub Precedes-of_both : (s t r n : SegmentValue) → IsOfBoth s t r → AreBuddies s t → Precedes t n → Precedes r n
+Precedes-of_both s t r n b h (inl k) = inl (omega (arith, b.first, h.behind, k))
+Precedes-of_both s t r n b h (inr k) = inl (omega (arith, b.first, h.behind, k.0))

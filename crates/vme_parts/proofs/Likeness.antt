@@ -1,4 +1,4 @@
--- Parts of one backplane, with marks or without.
+-- Parts of one backplane, all with marks or all without, and why parts can't be joined.
 use Rattle.std.proofs.Common.{◌≡◌, ℕ, ◌+◌, ◌<◌, ◌≤◌, Bool, List, length, map, get_or, take, ap, sym, subst, ◌∙◌, arith}
 use Rattle.std.proofs.Common.{Some}
 use Rattle.std.specs.Prelude.{All}
@@ -16,24 +16,28 @@ use Rattle.vme_parts.specs.declared.join_refusal.JoinRefusal.{JoinRefusal}
 use Rattle.vme_parts.specs.declared.join_refusal.JoinRefusal.TheVariants as refusal
 use Rattle.vme_parts.proofs.Measures.{All-take_next, All-take_all}
 
+-- of the parts xs, the first i have been compared with `backplane` and `listing`
 module _ (backplane : ℕ) (listing : Bool) (xs : List Part) (i : ℕ) where
-  pub like_more : (x : Part) → i < length xs → x ≡ get_or xs i x → x.backplane ≡ backplane → x.listing ≡ listing
+  -- if the first i parts are alike, and the part x with the index i is like them, the first i + 1 are alike
+  pub IsLike-take_next : (x : Part) → i < length xs → x ≡ get_or xs i x → x.backplane ≡ backplane → x.listing ≡ listing
       → All (IsLike backplane listing) (take i (map part_value xs))
       → All (IsLike backplane listing) (take (i + 1) (map part_value xs))
-  like_more x h is p q was =
+  IsLike-take_next x h is p q was =
       All-take_next (IsLike backplane listing) (map part_value xs) i (part_value x)
       (omega (arith, h, length-map xs part_value))
       (ap part_value is ∙ sym (get_or-map part_value xs i x (part_value x) h)) (p, q) was
 
-  pub all_like : length xs ≤ i → All (IsLike backplane listing) (take i (map part_value xs))
+  -- if as many parts are alike as there are, all are
+  pub IsLike-take_all : length xs ≤ i → All (IsLike backplane listing) (take i (map part_value xs))
       → All (IsLike backplane listing) (map part_value xs)
-  all_like h was =
+  IsLike-take_all h was =
       All-take_all (IsLike backplane listing) (map part_value xs) i (omega (arith, h, length-map xs part_value)) was
 
-  pub unlike : (Is : PartValue → Type 0) (x : Part) → i < length xs → x ≡ get_or xs i x
+  -- if the first i parts are alike, and `Is` holds of the part x with the index i, then `HasUnlikeAt` holds
+  pub HasUnlikeAt-next : (Is : PartValue → Type 0) (x : Part) → i < length xs → x ≡ get_or xs i x
       → All (IsLike backplane listing) (take i (map part_value xs)) → Is (part_value x)
       → HasUnlikeAt backplane listing (map part_value xs) i Is
-  unlike Is x h is was one = (
+  HasUnlikeAt-next Is x h is was one = (
     part_value x,
     slice_get-map part_value xs i ∙ ap (option_map part_value) (slice_get-get_or xs i x h ∙ ap Some (sym is)),
     was,
@@ -42,33 +46,37 @@ module _ (backplane : ℕ) (listing : Bool) (xs : List Part) (i : ℕ) where
 
 -- ---- why parts can't be joined
 
-pub refused_by : (backplane : ℕ) (listing : Bool) (ps : List PartValue) (why : JoinRefusal)
+-- a refusal by the backplane and the listing of the first part is one of the parts
+pub AreRefused-by_first : (backplane : ℕ) (listing : Bool) (ps : List PartValue) (why : JoinRefusal)
     → backplane ≡ first_backplane ps → listing ≡ first_listing ps → AreRefusedBy backplane listing ps why
     → AreRefused ps why
-refused_by backplane listing ps why e f h =
+AreRefused-by_first backplane listing ps why e f h =
     subst (λ b. AreRefusedBy b (first_listing ps) ps why) e (subst (λ l. AreRefusedBy backplane l ps why) f h)
 
-pub refused_apart : (ps : List PartValue) (why : JoinRefusal) (number : ℕ) → why ≡ refusal.Differs number
+-- parts are refused truly for a difference if two of their segments of the same files differ
+pub AreRefused-differs : (ps : List PartValue) (why : JoinRefusal) (number : ℕ) → why ≡ refusal.Differs number
     → HaveApart (segments_of ps) number → AreRefused ps why
-refused_apart ps why number e h = subst (AreRefused ps) (sym e) h
+AreRefused-differs ps why number e h = subst (AreRefused ps) (sym e) h
 
 -- a refusal that isn't for a difference stays one if `Q` follows from `P`
-pub no_difference_on : (P Q : Type 0) (why : JoinRefusal) → (P → Q) → IsNoDifference P why → IsNoDifference Q why
-no_difference_on P Q refusal.Memory f h = tt
-no_difference_on P Q (refusal.Backplane place) f h = absurd h
-no_difference_on P Q (refusal.Marks place) f h = absurd h
-no_difference_on P Q (refusal.Differs number) f h = absurd h
-no_difference_on P Q refusal.TooManySteps f h = f h
-no_difference_on P Q refusal.TooManyNodes f h = tt
-no_difference_on P Q refusal.TooManySegments f h = tt
+pub IsNoDifference-map : (P Q : Type 0) (why : JoinRefusal) → (P → Q) → IsNoDifference P why → IsNoDifference Q why
+IsNoDifference-map P Q refusal.Memory f h = tt
+IsNoDifference-map P Q (refusal.Backplane place) f h = absurd h
+IsNoDifference-map P Q (refusal.Marks place) f h = absurd h
+IsNoDifference-map P Q (refusal.Differs number) f h = absurd h
+IsNoDifference-map P Q refusal.TooManySteps f h = f h
+IsNoDifference-map P Q refusal.TooManyNodes f h = tt
+IsNoDifference-map P Q refusal.TooManySegments f h = tt
 
-pub refused_else : (ps : List PartValue) (why : JoinRefusal)
+-- parts are refused truly if the refusal isn't for a difference, and if some files have too many steps where it is for
+-- these
+pub AreRefused-no_difference : (ps : List PartValue) (why : JoinRefusal)
     → IsNoDifference ((files : List Block) → All (IsPartOf files) ps → SomeHaveTooManySteps files) why
     → AreRefused ps why
-refused_else ps refusal.Memory h = tt
-refused_else ps (refusal.Backplane place) h = absurd h
-refused_else ps (refusal.Marks place) h = absurd h
-refused_else ps (refusal.Differs number) h = absurd h
-refused_else ps refusal.TooManySteps h = h
-refused_else ps refusal.TooManyNodes h = tt
-refused_else ps refusal.TooManySegments h = tt
+AreRefused-no_difference ps refusal.Memory h = tt
+AreRefused-no_difference ps (refusal.Backplane place) h = absurd h
+AreRefused-no_difference ps (refusal.Marks place) h = absurd h
+AreRefused-no_difference ps (refusal.Differs number) h = absurd h
+AreRefused-no_difference ps refusal.TooManySteps h = h
+AreRefused-no_difference ps refusal.TooManyNodes h = tt
+AreRefused-no_difference ps refusal.TooManySegments h = tt

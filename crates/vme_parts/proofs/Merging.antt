@@ -24,55 +24,61 @@ use Rattle.vme_parts.specs.Progress.{HaveTooManySteps}
 use Rattle.vme_parts.specs.Stands.{SegmentStandsFor, extent_of}
 use Rattle.vme_parts.proofs.Standing.{HaveTooManySteps-both, SegmentStandsFor-both, pow-next}
 
+-- s and t are buddies
 module _ (s t : SegmentValue) (h : AreBuddies s t) where
-  second_begins : t.first ≡ s.first + 2 ^ s.order
-  second_begins = omega (arith, h.behind, pow_pos s.order)
+  -- t begins as many files after the first of s as s has
+  first-of_buddy : t.first ≡ s.first + 2 ^ s.order
+  first-of_buddy = omega (arith, h.behind, pow_pos s.order)
 
   -- the files of t come right after those of s
-  files_of_buddies : (files : List Block) → files_of files s ++ files_of files t
+  files_of-buddies : (files : List Block) → files_of files s ++ files_of files t
       ≡ take (2 ^ s.order + 2 ^ s.order) (drop s.first files)
-  files_of_buddies files =
+  files_of-buddies files =
       let size = 2 ^ s.order in
       let second : files_of files t ≡ take size (drop size (drop s.first files)) =
       ap (λ k. take (2 ^ k) (drop t.first files)) h.same_order
-      ∙ (ap (λ k. take size (drop k files)) second_begins
+      ∙ (ap (λ k. take size (drop k files)) first-of_buddy
       ∙ ap (take size) (sym (drop-drop size s.first files))) in
       ap (λ x. files_of files s ++ x) second ∙ sym (take-add size size (drop s.first files))
 
   -- if t continues where s ends, and both have too many steps, so have some of the files that they stand for
-  pub both_too_long : SegmentGoesOn s t → 2 ^ 64 ≤ s.steps + t.steps → (listing : Bool) (files : List Block)
+  pub SomeHaveTooManySteps-buddies : SegmentGoesOn s t → 2 ^ 64 ≤ s.steps + t.steps
+      → (listing : Bool) (files : List Block)
       → SegmentStandsFor listing s (files_of files s) → SegmentStandsFor listing t (files_of files t)
       → SomeHaveTooManySteps files
-  both_too_long goes_on many listing files p q =
+  SomeHaveTooManySteps-buddies goes_on many listing files p q =
       let meets : Meets (extent_of s) (extent_of t)
       = record { numbered = h.behind; opened = goes_on.opened; later = goes_on.later } in (
         s.first,
         2 ^ s.order + 2 ^ s.order,
-        subst HaveTooManySteps (files_of_buddies files)
+        subst HaveTooManySteps (files_of-buddies files)
             (HaveTooManySteps-both s t meets many listing (files_of files s) (files_of files t) p q),
       )
 
+-- r is joined from the buddies s and t
 module _ (s t r : SegmentValue) (b : IsOfBoth s t r) (h : AreBuddies s t) where
-  begins : t.first ≡ s.first + 2 ^ s.order
-  begins = second_begins s t h
+  -- t begins as many files after the first of s as s has
+  first-of_second : t.first ≡ s.first + 2 ^ s.order
+  first-of_second = first-of_buddy s t h
 
   -- the files of r are those of s and then those of t
-  pub files_of_both : (files : List Block) → files_of files s ++ files_of files t ≡ files_of files r
-  files_of_both files =
+  pub files_of-both : (files : List Block) → files_of files s ++ files_of files t ≡ files_of files r
+  files_of-both files =
       let size = 2 ^ s.order in
       let order : 2 ^ r.order ≡ size + size = ap (λ k. 2 ^ k) b.order ∙ pow-next s.order in
-      files_of_buddies s t h files
+      files_of-buddies s t h files
       ∙ (ap (λ k. take k (drop s.first files)) (sym order) ∙ ap (λ k. take (2 ^ r.order) (drop k files)) (sym b.first))
 
-  pub both_stand : (listing : Bool) (files : List Block) → SegmentStandsFor listing s (files_of files s)
+  -- if s and t stand for their files, r does for its own
+  pub SegmentStandsFor-merged : (listing : Bool) (files : List Block) → SegmentStandsFor listing s (files_of files s)
       → SegmentStandsFor listing t (files_of files t) → SegmentStandsFor listing r (files_of files r)
-  both_stand listing files p q =
-      subst (SegmentStandsFor listing r) (files_of_both files)
+  SegmentStandsFor-merged listing files p q =
+      subst (SegmentStandsFor listing r) (files_of-both files)
       (SegmentStandsFor-both s t r b listing (files_of files s) (files_of files t) p q)
 
   -- each file that r covers is covered by s or t
-  pub covers_both : (n : ℕ) → SegmentCovers r n → (SegmentCovers s n) ⊎ (SegmentCovers t n)
-  covers_both n c = by_place (cases_lt n t.first)
+  pub SegmentCovers-cases : (n : ℕ) → SegmentCovers r n → (SegmentCovers s n) ⊎ (SegmentCovers t n)
+  SegmentCovers-cases n c = by_place (cases_lt n t.first)
     where
       order : 2 ^ r.order ≡ 2 ^ s.order + 2 ^ s.order
       order = ap (λ k. 2 ^ k) b.order ∙ pow-next s.order
@@ -81,33 +87,39 @@ module _ (s t r : SegmentValue) (b : IsOfBoth s t r) (h : AreBuddies s t) where
       same = ap (λ k. 2 ^ k) h.same_order
 
       by_place : ((n < t.first) ⊎ (t.first ≤ n)) → (SegmentCovers s n) ⊎ (SegmentCovers t n)
-      by_place (inl k) = inl (omega (arith, b.first, c.0), omega (arith, begins, pow_pos s.order))
-      by_place (inr k) = inr (k, omega (arith, c.1, order, same, b.first, begins, pow_pos s.order))
+      by_place (inl k) = inl (omega (arith, b.first, c.0), omega (arith, first-of_second, pow_pos s.order))
+      by_place (inr k) = inr (k, omega (arith, c.1, order, same, b.first, first-of_second, pow_pos s.order))
 
-  pub covered_first : (n : ℕ) → SegmentCovers s n → SegmentCovers r n
-  covered_first n c =
+  -- r covers each file that s covers
+  pub SegmentCovers-of_first : (n : ℕ) → SegmentCovers s n → SegmentCovers r n
+  SegmentCovers-of_first n c =
       let order = ap (λ k. 2 ^ k) b.order ∙ pow-next s.order in
       (omega (arith, b.first, c.0), omega (arith, c.1, order, b.first, pow_pos s.order))
 
-  pub covered_second : (n : ℕ) → SegmentCovers t n → SegmentCovers r n
-  covered_second n c =
+  -- r covers each file that t covers
+  pub SegmentCovers-of_second : (n : ℕ) → SegmentCovers t n → SegmentCovers r n
+  SegmentCovers-of_second n c =
       let order = ap (λ k. 2 ^ k) b.order ∙ pow-next s.order in
-      let same = ap (λ k. 2 ^ k) h.same_order in
-      (omega (arith, b.first, c.0, begins), omega (arith, c.1, order, same, b.first, begins, pow_pos s.order))
+      let same = ap (λ k. 2 ^ k) h.same_order in (
+        omega (arith, b.first, c.0, first-of_second),
+        omega (arith, c.1, order, same, b.first, first-of_second, pow_pos s.order),
+      )
 
-  times_fit : (a c : Option SegmentTimes) → FitsTimes s.first s.order s.steps a → FitsTimes t.first t.order t.steps c
+  -- if the times of s and t can be written, and those of t are later, the joined times can be written in r
+  FitsTimes-joined : (a c : Option SegmentTimes) → FitsTimes s.first s.order s.steps a
+      → FitsTimes t.first t.order t.steps c
       → is_later_time (ends_at a) (starts_at c) ≡ true → FitsTimes r.first r.order r.steps (joined_times a c)
-  times_fit None None f g l = omega (arith, f, g, b.steps)
-  times_fit None (Some c) f g l =
+  FitsTimes-joined None None f g l = omega (arith, f, g, b.steps)
+  FitsTimes-joined None (Some c) f g l =
       let order = ap (λ k. 2 ^ k) b.order ∙ pow-next s.order in
       let same = ap (λ k. 2 ^ k) h.same_order in (
         omega (arith, f, g.0, b.steps),
-        omega (arith, g.1, begins, b.first),
-        omega (arith, g.2, order, same, b.first, begins, pow_pos s.order),
+        omega (arith, g.1, first-of_second, b.first),
+        omega (arith, g.2, order, same, b.first, first-of_second, pow_pos s.order),
         g.3,
         g.4,
       )
-  times_fit (Some a) None f g l =
+  FitsTimes-joined (Some a) None f g l =
       let order = ap (λ k. 2 ^ k) b.order ∙ pow-next s.order in (
         omega (arith, f.0, b.steps),
         omega (arith, f.1, b.first),
@@ -115,7 +127,7 @@ module _ (s t r : SegmentValue) (b : IsOfBoth s t r) (h : AreBuddies s t) where
         f.3,
         f.4,
       )
-  times_fit (Some a) (Some c) f g l =
+  FitsTimes-joined (Some a) (Some c) f g l =
       let order = ap (λ k. 2 ^ k) b.order ∙ pow-next s.order in
       let later = ltb-true a.last c.first l in (
         omega (arith, f.0, b.steps),
@@ -125,8 +137,9 @@ module _ (s t r : SegmentValue) (b : IsOfBoth s t r) (h : AreBuddies s t) where
         g.4,
       )
 
-  pub both_fit : (listing : Bool) → FitsSegment listing s → FitsSegment listing t → FitsSegment listing r
-  both_fit listing f g =
+  -- if s and t can be written, so can r
+  pub FitsSegment-both : (listing : Bool) → FitsSegment listing s → FitsSegment listing t → FitsSegment listing r
+  FitsSegment-both listing f g =
       let small : s.steps + t.steps < 2 ^ 64 = rw (← b.steps) b.counts in
       record {
         numbers = record {
@@ -138,7 +151,7 @@ module _ (s t r : SegmentValue) (b : IsOfBoth s t r) (h : AreBuddies s t) where
         opening = rw b.opening f.opening;
         left = rw b.left g.left;
         slots = rw (b.left, b.opening) (g.slots ∙ (ap (λ (v : Levels). v.slots) b.meets.opened ∙ f.slots));
-        times = rw b.times (times_fit s.times t.times f.times g.times b.meets.later);
+        times = rw b.times (FitsTimes-joined s.times t.times f.times g.times b.meets.later);
         known = rw b.steps (b.known.fits listing 4 t.steps small f.known g.known);
         handshake = rw b.steps (b.handshake.fits listing 147 t.steps small f.handshake g.handshake);
         stability = rw b.steps (b.stability.fits listing 13 t.steps small f.stability g.stability);

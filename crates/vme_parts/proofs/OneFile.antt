@@ -32,41 +32,47 @@ use Rattle.vme_parts.specs.Meeting.{ends_at, starts_at}
 use Rattle.vme_parts.specs.Stands.{SegmentStandsFor, extent_of, first_with_step}
 
 -- the time of the step with the last index is the last time
-pub last_time_is : (xs : List Step) (x : Step) → slice_get xs (length xs - 1) ≡ Some x → Some x.time ≡ last_time xs
-last_time_is xs x e = ap (option_map (λ (s : Step). s.time)) (sym e ∙ sym (last_or-slice_get xs))
+pub last_time-last_step : (xs : List Step) (x : Step) → slice_get xs (length xs - 1) ≡ Some x → Some x.time
+    ≡ last_time xs
+last_time-last_step xs x e = ap (option_map (λ (s : Step). s.time)) (sym e ∙ sym (last_or-slice_get xs))
 
-pub no_last_time : (xs : List Step) → slice_get xs 0 ≡ None → None ≡ last_time xs
-no_last_time [] e = refl
-no_last_time (x ∷ xs) e = absurd (cc)
+-- without a first step there is no last time
+pub last_time-no_steps : (xs : List Step) → slice_get xs 0 ≡ None → None ≡ last_time xs
+last_time-no_steps [] e = refl
+last_time-no_steps (x ∷ xs) e = absurd (cc)
 
 -- if there is a first step, there is a last one
-pub some_last : (xs : List Step) (x : Step) → slice_get xs 0 ≡ Some x → slice_get xs (length xs - 1) ≡ None → ⊥
-some_last [] x e n = absurd (cc)
-some_last (y ∷ ys) x e n =
+pub last_step-exists : (xs : List Step) (x : Step) → slice_get xs 0 ≡ Some x → slice_get xs (length xs - 1) ≡ None → ⊥
+last_step-exists [] x e n = absurd (cc)
+last_step-exists (y ∷ ys) x e n =
     let last : ℕ = length (y ∷ ys) - 1 in
     let bad : Some (get_or (y ∷ ys) last y) ≡ None = sym (slice_get-get_or (y ∷ ys) last y (omega arith)) ∙ n in
     absurd (cc)
 
 -- the levels after k + 1 steps are those after k steps with the changes of the step k
-pub left_more : (o : Levels) (xs : List Step) (k : ℕ) (x : Step) → k < length xs → take (k + 1) xs ≡ take k xs ++ x ∷ []
+pub levels_after-take_next : (o : Levels) (xs : List Step) (k : ℕ) (x : Step) → k < length xs → take (k + 1) xs
+    ≡ take k xs ++ x ∷ []
     → changed (levels_after o (take k xs)) x.changes ≡ levels_after o (take (k + 1) xs)
-left_more o xs k x h e =
+levels_after-take_next o xs k x h e =
     sym (ap (levels_after o) e ∙ levels_after-append (take k xs) (x ∷ []) o)
 
 -- an empty list to which x is pushed has the one value of x
-pub pushed_alone : (old new : List Segment) (x : Segment) → old ≡ [] → new ≡ old ++ x ∷ []
+pub map-pushed_alone : (old new : List Segment) (x : Segment) → old ≡ [] → new ≡ old ++ x ∷ []
     → map segment_value new ≡ segment_value x ∷ []
-pushed_alone old new x e p = ap (map segment_value) p ∙ ap (λ (xs : List Segment). map segment_value (xs ++ x ∷ [])) e
+map-pushed_alone old new x e p = ap (map segment_value) p
+    ∙ ap (λ (xs : List Segment). map segment_value (xs ++ x ∷ [])) e
 
-pub first_is : (number : ℕ) (b : Block) → b.number ≡ number
+-- the file b is the first with a step if it has one
+pub first_with_step-one_file : (number : ℕ) (b : Block) → b.number ≡ number
     → option_map (λ (s : Step). number) (slice_get b.steps 0) ≡ first_with_step (b ∷ [])
-first_is number b e = by_steps b.steps refl
+first_with_step-one_file number b e = by_steps b.steps refl
   where
     by_steps : (xs : List Step) → b.steps ≡ xs → option_map (λ (s : Step). number) (slice_get b.steps 0)
         ≡ first_with_step (b ∷ [])
     by_steps [] f = rw f refl
     by_steps (x ∷ xs) f = rw f (ap Some (sym e))
 
+-- s has the number, the levels, the times and the count of the steps of the well-formed file b
 module _ (listing : Bool) (s : SegmentValue) (b : Block) (accepted : malformed_step (trace_of b) ≡ None)
     (first : s.first ≡ b.number) (order : s.order ≡ 0) (steps : s.steps ≡ length b.steps)
     (opening : s.opening ≡ b.opening)
@@ -74,11 +80,13 @@ module _ (listing : Bool) (s : SegmentValue) (b : Block) (accepted : malformed_s
     (ends : ends_at s.times ≡ last_time b.steps)
     (numbered : option_map (λ (t : SegmentTimes). t.number) s.times
     ≡ option_map (λ (x : Step). s.first) (slice_get b.steps 0)) where
-  own : joined_steps (b ∷ []) ≡ b.steps
-  own = append-nil b.steps
+  -- the steps of one file are its own
+  joined_steps-one_file : joined_steps (b ∷ []) ≡ b.steps
+  joined_steps-one_file = append-nil b.steps
 
-  one_extent : IsExtent (extent_of s) (b ∷ [])
-  one_extent =
+  -- the extent of s is that of the file b
+  IsExtent-one_file : IsExtent (extent_of s) (b ∷ [])
+  IsExtent-one_file =
       let last : last_of s.first s.order ≡ b.number = rw order (omega (arith, first)) in
       record {
         join = BlocksJoin-one b;
@@ -87,26 +95,27 @@ module _ (listing : Bool) (s : SegmentValue) (b : Block) (accepted : malformed_s
         last = ap Some (sym last);
         opening = ap Some (sym opening);
         left = ap Some (sym left);
-        starts = starts ∙ ap first_time (sym own);
-        ends = ends ∙ ap last_time (sym own);
+        starts = starts ∙ ap first_time (sym joined_steps-one_file);
+        ends = ends ∙ ap last_time (sym joined_steps-one_file);
       }
 
-  pub file_stands :
+  -- if the tables of s agree with the monitors' runs over the steps of b, s stands for b
+  pub SegmentStandsFor-one_file :
       AgreesWithRuns listing 4 (phase_place nil_place) s.known (λ p. known_run p b.opening b.steps)
       → AgreesWithRuns listing 147 (phase_place memory_place) s.handshake (λ p. handshake_run p b.opening b.steps)
       → AgreesWithRuns listing 13 (phase_place holding_place) s.stability (λ p. stability_run p b.opening b.steps)
       → AgreesWithRuns listing 35 (phase_place arbitration_place) s.grant (λ p. grant_run p b.opening b.steps)
       → AgreesWithRuns listing 11 (phase_place acknowledge_memory_place) s.acknowledge
       (λ p. acknowledge_run p b.opening b.steps) → SegmentStandsFor listing s (b ∷ [])
-  file_stands known handshake stability grant acknowledge =
+  SegmentStandsFor-one_file known handshake stability grant acknowledge =
       record {
-        extent = one_extent;
+        extent = IsExtent-one_file;
         as_many = rw order refl;
-        numbered = numbered ∙ first_is s.first b (sym first);
-        counted = steps ∙ ap (λ (xs : List Step). length xs) (sym own);
-        known = rw (opening, own) known;
-        handshake = rw (opening, own) handshake;
-        stability = rw (opening, own) stability;
-        grant = rw (opening, own) grant;
-        acknowledge = rw (opening, own) acknowledge;
+        numbered = numbered ∙ first_with_step-one_file s.first b (sym first);
+        counted = steps ∙ ap (λ (xs : List Step). length xs) (sym joined_steps-one_file);
+        known = rw (opening, joined_steps-one_file) known;
+        handshake = rw (opening, joined_steps-one_file) handshake;
+        stability = rw (opening, joined_steps-one_file) stability;
+        grant = rw (opening, joined_steps-one_file) grant;
+        acknowledge = rw (opening, joined_steps-one_file) acknowledge;
       }

@@ -28,47 +28,54 @@ pub record IsRun {P : Type 0} (run : P → Levels → List Step → Outcome P) :
       → run p o (x ++ y) ≡ composed_outcome (length x) (run p o x) (run (run p o x).leaving (levels_after o x) y)
   pub within : (p : P) (o : Levels) (x : List Step) → IsWithin (length x) (run p o x)
 
-pub known_is_run : IsRun known_run
+-- `IsRun` holds of the runs of the monitor of U1
+pub IsRun-known : IsRun known_run
 unfolding known_run
-known_is_run =
+IsRun-known =
     let next = machine_step (observed known_observation)
     (phase_step known_begin known_start_marks known_reset_marks known_end_fault known_next) in
     record { joined = λ p o x y. run_joined next x y p o; within = λ p o x. run_within next x p o }
 
-pub handshake_is_run : IsRun handshake_run
+-- `IsRun` holds of the runs of the monitor of the handshake
+pub IsRun-handshake : IsRun handshake_run
 unfolding handshake_run
-handshake_is_run =
+IsRun-handshake =
     let next = machine_step (observed dtb_observation) (phase_step dtb_begin dtb_start_marks no_step_marks dtb_end_fault
     dtb_step) in
     record { joined = λ p o x y. run_joined next x y p o; within = λ p o x. run_within next x p o }
 
-pub stability_is_run : IsRun stability_run
+-- `IsRun` holds of the runs of the monitor of the lines that have to be stable
+pub IsRun-stability : IsRun stability_run
 unfolding stability_run
-stability_is_run =
+IsRun-stability =
     let next = machine_step (observed stability_observation)
     (phase_step stability_begin stability_start_marks no_step_marks stability_end_fault stability_next) in
     record { joined = λ p o x y. run_joined next x y p o; within = λ p o x. run_within next x p o }
 
-pub grant_is_run : IsRun grant_run
+-- `IsRun` holds of the runs of the monitor of the arbitration
+pub IsRun-grant : IsRun grant_run
 unfolding grant_run
-grant_is_run =
+IsRun-grant =
     let next = machine_step (observed grant_observation)
     (phase_step grant_begin grant_start_marks no_step_marks grant_end_fault grant_next) in
     record { joined = λ p o x y. run_joined next x y p o; within = λ p o x. run_within next x p o }
 
-pub acknowledge_is_run : IsRun acknowledge_run
+-- `IsRun` holds of the runs of the monitor of the interrupt acknowledge
+pub IsRun-acknowledge : IsRun acknowledge_run
 unfolding acknowledge_run
-acknowledge_is_run =
+IsRun-acknowledge =
     let next = machine_step (observed acknowledge_observation)
     (phase_step acknowledge_begin acknowledge_start_marks no_step_marks acknowledge_end_fault acknowledge_next) in
     record { joined = λ p o x y. run_joined next x y p o; within = λ p o x. run_within next x p o }
 
-pub tables_of_both : {P : Type 0} (run : P → Levels → List Step → Outcome P) → IsRun run → (place : P → ℕ)
+-- the composition c of the tables a and b agrees with the runs over x and then y, if a agrees with those over x, and b
+-- with those over y from the levels after x
+pub AgreesWithRuns-of_both : {P : Type 0} (run : P → Levels → List Step → Outcome P) → IsRun run → (place : P → ℕ)
     (listing : Bool) (count : ℕ) (o v : Levels) (x y : List Step) (a b c : TableValue) → v ≡ levels_after o x
     → length x + length y < 2 ^ 64 → IsComposition (length x) a b c
     → AgreesWithRuns listing count place a (λ p. run p o x) → AgreesWithRuns listing count place b (λ p. run p v y)
     → AgreesWithRuns listing count place c (λ p. run p o (x ++ y))
-tables_of_both run law place listing count o v x y a b c e fits s p q =
+AgreesWithRuns-of_both run law place listing count o v x y a b c e fits s p q =
     AgreesWithRuns-composition (length x) (length y) fits place listing count a b c (λ k. run k o x) (λ k. run k v y)
     (λ k. run k o (x ++ y)) s p q (λ k. law.within k v y)
     (λ k. rw e (law.joined k o x y))

@@ -24,8 +24,8 @@ use Rattle.vme_part_format.specs.declared.segment.SegmentTimes.{SegmentTimes}
 use Rattle.vme_parts.specs.Joined.{IsOfBoth, joined_times}
 use Rattle.vme_parts.specs.Progress.{HaveTooManySteps}
 use Rattle.vme_parts.specs.Stands.{SegmentStandsFor, extent_of, first_with_step, is_empty}
-use Rattle.vme_parts.proofs.Runs.{acknowledge_is_run, grant_is_run, handshake_is_run, known_is_run, stability_is_run}
-use Rattle.vme_parts.proofs.Runs.{tables_of_both}
+use Rattle.vme_parts.proofs.Runs.{IsRun-acknowledge, IsRun-grant, IsRun-handshake, IsRun-known, IsRun-stability}
+use Rattle.vme_parts.proofs.Runs.{AgreesWithRuns-of_both}
 
 -- 2 ^ (k + 1) is twice 2 ^ k
 pub pow-next : (k : ℕ) → 2 ^ (k + 1) ≡ 2 ^ k + 2 ^ k
@@ -127,25 +127,26 @@ module _ (s t r : SegmentValue) (b : IsOfBoth s t r) where
                 ∙ rw (p.numbered, q.numbered) (sym (first_with_step-append x y)));
             counted = rw (joined_steps-both, length-append, ← p.counted, ← q.counted) b.steps;
             known = rw (b.opening, joined_steps-both)
-                (tables_of_both known_run known_is_run (phase_place nil_place) listing 4 s.opening t.opening
+                (AgreesWithRuns-of_both known_run IsRun-known (phase_place nil_place) listing 4 s.opening t.opening
                 (joined_steps x) (joined_steps y) s.known t.known r.known opens fits (rw (← p.counted) b.known) p.known
                 q.known);
             handshake = rw (b.opening, joined_steps-both)
-                (tables_of_both handshake_run handshake_is_run
+                (AgreesWithRuns-of_both handshake_run IsRun-handshake
                 (phase_place memory_place) listing 147 s.opening t.opening
                 (joined_steps x) (joined_steps y) s.handshake t.handshake r.handshake opens fits
                 (rw (← p.counted) b.handshake) p.handshake q.handshake);
             stability = rw (b.opening, joined_steps-both)
-                (tables_of_both stability_run stability_is_run
+                (AgreesWithRuns-of_both stability_run IsRun-stability
                 (phase_place holding_place) listing 13 s.opening t.opening
                 (joined_steps x) (joined_steps y) s.stability t.stability r.stability opens fits
                 (rw (← p.counted) b.stability) p.stability q.stability);
             grant = rw (b.opening, joined_steps-both)
-                (tables_of_both grant_run grant_is_run (phase_place arbitration_place) listing 35 s.opening t.opening
+                (AgreesWithRuns-of_both grant_run IsRun-grant (phase_place arbitration_place) listing 35 s.opening
+                t.opening
                 (joined_steps x) (joined_steps y) s.grant t.grant r.grant opens fits (rw (← p.counted) b.grant) p.grant
                 q.grant);
             acknowledge = rw (b.opening, joined_steps-both)
-                (tables_of_both acknowledge_run acknowledge_is_run
+                (AgreesWithRuns-of_both acknowledge_run IsRun-acknowledge
                 (phase_place acknowledge_memory_place) listing 11 s.opening
                 t.opening (joined_steps x) (joined_steps y) s.acknowledge t.acknowledge r.acknowledge opens fits
                 (rw (← p.counted) b.acknowledge) p.acknowledge q.acknowledge);

@@ -20,16 +20,18 @@ use Rattle.vme_parts.specs.declared.state.State.{State}
 use Rattle.vme_parts.proofs.Runs.{IsRun}
 
 -- the outcome w without its marks
-abbrev bare : WideOutcome → WideOutcome
-bare w = record { leaving = w.leaving; first_break = w.first_break; marks = [] }
+abbrev without_marks : WideOutcome → WideOutcome
+without_marks w = record { leaving = w.leaving; first_break = w.first_break; marks = [] }
 
-tells_bare : {P : Type 0} (listing : Bool) (place : P → ℕ) (w : WideOutcome) (r : Outcome P)
-    → AgreesWithRun listing place w r → AgreesWithRun false place (bare w) r
-tells_bare listing place w r t = record { leaving = t.leaving; first_break = t.first_break; marks = refl }
+-- if w agrees with a run, w without its marks agrees with it where marks aren't kept
+AgreesWithRun-without_marks : {P : Type 0} (listing : Bool) (place : P → ℕ) (w : WideOutcome) (r : Outcome P)
+    → AgreesWithRun listing place w r → AgreesWithRun false place (without_marks w) r
+AgreesWithRun-without_marks listing place w r t =
+    record { leaving = t.leaving; first_break = t.first_break; marks = refl }
 
 -- a run of a table of n memories ends in one of them
-pub leaves_memory : (n : ℕ) (t : TableValue) (k : ℕ) → IsTableOf n t → k < n → (outcome_in t k).leaving < n
-leaves_memory n t k p h =
+pub leaving-below : (n : ℕ) (t : TableValue) (k : ℕ) → IsTableOf n t → k < n → (outcome_in t k).leaving < n
+leaving-below n t k p h =
     let below : k < length t.entries = omega (arith, p.counted, h) in
     let d : TableEntry = record { next = 0; first_break = None } in
     let e : TableEntry = get_or t.entries k d in
@@ -41,26 +43,27 @@ leaves_memory n t k p h =
 
 -- if a monitor has the state s after the steps x, and the table t agrees with its runs over y, it has the state r after
 -- both
-pub past_state : {P : Type 0} (run : P → Levels → List Step → Outcome P) → IsRun run → (begin : Levels → P)
+pub HasState-next : {P : Type 0} (run : P → Levels → List Step → Outcome P) → IsRun run → (begin : Levels → P)
     (place : P → ℕ) (listing : Bool) (count : ℕ) (t : TableValue) (s r : State) (o v : Levels) (x y : List Step)
     (steps : ℕ) → r.memory ≡ (outcome_in t s.memory).leaving
     → r.first_break ≡ option_or s.first_break (option_map (later_break steps) (outcome_in t s.memory).first_break) → v
     ≡ levels_after o x
     → steps ≡ length x → length x + length y < 2 ^ 64 → HasState run begin place s o x
     → AgreesWithRuns listing count place t (λ p. run p v y) → HasState run begin place r o (x ++ y)
-past_state {P} run law begin place listing count t s r o v x y steps memory first_break opens counted fits was agrees =
+HasState-next {P} run law begin place listing count t s r o v x y steps memory first_break opens counted fits was
+    agrees =
     let p = (run (begin o) o x).leaving in
     let a = was in
-    let b : AgreesWithRun false place (bare (outcome_in t s.memory)) (run p v y) =
-    tells_bare listing place (outcome_in t s.memory) (run p v y) (rw a.leaving (agrees.agrees p)) in
+    let b : AgreesWithRun false place (without_marks (outcome_in t s.memory)) (run p v y) =
+    AgreesWithRun-without_marks listing place (outcome_in t s.memory) (run p v y) (rw a.leaving (agrees.agrees p)) in
     let both = AgreesWithRun-followed_by (length x) (length y) fits place false (way_of s)
-    (bare (outcome_in t s.memory))
+    (without_marks (outcome_in t s.memory))
     (run (begin o) o x) (run p v y) a b (law.within p v y) in
-    let way : way_of r ≡ followed_by (length x) (way_of s) (bare (outcome_in t s.memory)) =
+    let way : way_of r ≡ followed_by (length x) (way_of s) (without_marks (outcome_in t s.memory)) =
     rw (memory, first_break, counted) refl in
     let whole : run (begin o) o (x ++ y) ≡ composed_outcome (length x) (run (begin o) o x) (run p v y) =
     rw opens (law.joined (begin o) o x y) in
     subst (λ (w : WideOutcome). AgreesWithRun false place w (run (begin o) o (x ++ y))) (sym way)
     (subst (λ (q : Outcome P). AgreesWithRun false place
-    (followed_by (length x) (way_of s) (bare (outcome_in t s.memory))) q)
+    (followed_by (length x) (way_of s) (without_marks (outcome_in t s.memory))) q)
     (sym whole) both)

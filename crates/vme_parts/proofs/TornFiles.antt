@@ -26,8 +26,8 @@ use Rattle.vme_parts.specs.Stands.{SegmentStandsFor, extent_of, first_with_step}
 use Rattle.vme_parts.specs.declared.judged_segments.JudgedSegments.{JudgedSegments}
 
 -- the extent of one block
-abbrev extent_alone : Block → Extent
-extent_alone b =
+abbrev extent_of_block : Block → Extent
+extent_of_block b =
     record {
       first = b.number;
       last = b.number;
@@ -37,8 +37,9 @@ extent_alone b =
       ends = last_time b.steps;
     }
 
-alone : (b : Block) → malformed_step (trace_of b) ≡ None → IsExtent (extent_alone b) (b ∷ [])
-alone b sound =
+-- a well-formed block has its extent
+IsExtent-one_block : (b : Block) → malformed_step (trace_of b) ≡ None → IsExtent (extent_of_block b) (b ∷ [])
+IsExtent-one_block b sound =
     record {
       join = BlocksJoin-one b;
       sound = AreSound-one b sound;
@@ -51,7 +52,7 @@ alone b sound =
     }
 
 -- the files before the first one that has a step, this one, and those after it
-record Split (ys : List Block) (n : ℕ) : Type 0 where
+record SplitAtFirstStep (ys : List Block) (n : ℕ) : Type 0 where
   front : List Block
   one : Block
   back : List Block
@@ -60,8 +61,10 @@ record Split (ys : List Block) (n : ℕ) : Type 0 where
   still : joined_steps front ≡ []
   starts : first_time one.steps ≡ first_time (joined_steps ys)
 
-split_more : (y : Block) (ys : List Block) (n : ℕ) → y.steps ≡ [] → Split ys n → Split (y ∷ ys) n
-split_more y ys n e r =
+-- a file without steps before ys goes to those before the first with a step
+SplitAtFirstStep-cons : (y : Block) (ys : List Block) (n : ℕ) → y.steps ≡ [] → SplitAtFirstStep ys n
+    → SplitAtFirstStep (y ∷ ys) n
+SplitAtFirstStep-cons y ys n e r =
     record {
       front = y ∷ r.front;
       one = r.one;
@@ -72,9 +75,11 @@ split_more y ys n e r =
       starts = r.starts ∙ ap (λ (xs : List Step). first_time (xs ++ joined_steps ys)) (sym e);
     }
 
-split_here : (y : Block) (ys : List Block) (n : ℕ) (x : Step) (xs : List Step) → y.steps ≡ x ∷ xs → y.number ≡ n
-    → Split (y ∷ ys) n
-split_here y ys n x xs e number =
+-- a file with a step before ys is the first with a step
+SplitAtFirstStep-here : (y : Block) (ys : List Block) (n : ℕ) (x : Step) (xs : List Step) → y.steps ≡ x ∷ xs → y.number
+    ≡ n
+    → SplitAtFirstStep (y ∷ ys) n
+SplitAtFirstStep-here y ys n x xs e number =
     record {
       front = [];
       one = y;
@@ -85,22 +90,26 @@ split_here y ys n x xs e number =
       starts = rw e refl;
     }
 
-split : (ys : List Block) (n : ℕ) → Some n ≡ first_with_step ys → Split ys n
-split [] n e = absurd (cc)
-split (y ∷ ys) n e = by_steps y.steps refl (split ys n)
+-- if a file of ys has a step, ys are split at the first of these
+SplitAtFirstStep-of_number : (ys : List Block) (n : ℕ) → Some n ≡ first_with_step ys → SplitAtFirstStep ys n
+SplitAtFirstStep-of_number [] n e = absurd (cc)
+SplitAtFirstStep-of_number (y ∷ ys) n e = by_steps y.steps refl (SplitAtFirstStep-of_number ys n)
   where
-    by_steps : (xs : List Step) → y.steps ≡ xs → (Some n ≡ first_with_step ys → Split ys n) → Split (y ∷ ys) n
-    by_steps [] f rest = split_more y ys n f (rest (rw f at e))
+    by_steps : (xs : List Step) → y.steps ≡ xs → (Some n ≡ first_with_step ys → SplitAtFirstStep ys n)
+        → SplitAtFirstStep (y ∷ ys) n
+    by_steps [] f rest = SplitAtFirstStep-cons y ys n f (rest (rw f at e))
     by_steps (x ∷ xs) f rest =
         let own : Some n ≡ Some y.number = rw f at e in
-        split_here y ys n x xs f cc
+        SplitAtFirstStep-here y ys n x xs f cc
 
+-- j is the state after judging the files bs, and s stands for the files ys that come next
 module _ (j : JudgedSegments) (s : SegmentValue) (listing : Bool) (e : Extent) (bs ys : List Block) (k : ℕ)
     (was : HasJudgedFiles j e bs) (p : SegmentStandsFor listing s ys) (n : s.first ≡ e.last + 1) where
   -- if the segment opens with other levels than those before leave, its first file is torn
-  torn_first : (zs : List Block) → IsExtent (extent_of s) zs → (s.opening ≡ j.left → ⊥) → k ≡ s.first → IsTornIn bs zs k
-  torn_first [] q other at = let none : None ≡ Some s.first = q.first in absurd (cc)
-  torn_first (z ∷ zs) q other at =
+  IsTornIn-other_levels : (zs : List Block) → IsExtent (extent_of s) zs → (s.opening ≡ j.left → ⊥) → k ≡ s.first
+      → IsTornIn bs zs k
+  IsTornIn-other_levels [] q other at = let none : None ≡ Some s.first = q.first in absurd (cc)
+  IsTornIn-other_levels (z ∷ zs) q other at =
       let opens : Some z.opening ≡ Some s.opening = q.opening in
       let number : Some z.number ≡ Some s.first = q.first in
       let same : z.opening ≡ s.opening = cc in
@@ -114,7 +123,7 @@ module _ (j : JudgedSegments) (s : SegmentValue) (listing : Bool) (e : Extent) (
         numbered = first ∙ sym at;
         before = subst BlocksJoin (sym (append-nil bs)) was.extent.join;
         there = λ joined.
-            let meets = Meets-from_join e (extent_alone z) bs (z ∷ []) was.extent (alone z sound)
+            let meets = Meets-from_join e (extent_of_block z) bs (z ∷ []) was.extent (IsExtent-one_block z sound)
             (subst (λ (xs : List Block). BlocksJoin (xs ++ z ∷ [])) (append-nil bs) joined) in
             other (sym same ∙ (meets.opened ∙ sym was.left));
       }
@@ -123,8 +132,9 @@ module _ (j : JudgedSegments) (s : SegmentValue) (listing : Bool) (e : Extent) (
   module _ (a : Block) (rest front back : List Block) (one : Block) (first : bs ≡ a ∷ rest)
       (parts : ys ≡ front ++ one ∷ back) (still : joined_steps front ≡ []) where
     -- the files before `one` join: `front` has no step that could be early
-    still_joins : GoOn (number_after a.number rest) (left_after (left_by a) rest) None ys → BlocksJoin (bs ++ front)
-    still_joins g =
+    BlocksJoin-still_files : GoOn (number_after a.number rest) (left_after (left_by a) rest) None ys
+        → BlocksJoin (bs ++ front)
+    BlocksJoin-still_files g =
         let own = GoOn-split front (one ∷ back) (number_after a.number rest) (left_after (left_by a) rest) None
         (subst (GoOn (number_after a.number rest) (left_after (left_by a) rest) None) parts g) in
         let t = option_or (last_time (joined_steps rest)) (last_time a.steps) in
@@ -135,33 +145,38 @@ module _ (j : JudgedSegments) (s : SegmentValue) (listing : Bool) (e : Extent) (
         (GoOn-append rest front a.number (left_by a) (last_time a.steps) (GoOn-of_joined a rest j)
         (GoOn-after_time front (number_after a.number rest) (left_after (left_by a) rest) t own.0 later)))
 
-    steps_before : joined_steps (rest ++ front) ≡ joined_steps rest
-    steps_before = joined_steps-append rest front ∙ (ap (λ (x : List Step). joined_steps rest ++ x) still
+    -- the files `front` add no steps
+    joined_steps-still_files : joined_steps (rest ++ front) ≡ joined_steps rest
+    joined_steps-still_files = joined_steps-append rest front ∙ (ap (λ (x : List Step). joined_steps rest ++ x) still
         ∙ append-nil (joined_steps rest))
 
-    time_before : option_or (last_time (joined_steps (rest ++ front))) (last_time a.steps) ≡ e.ends
-    time_before =
-        ap (λ (x : List Step). option_or (last_time x) (last_time a.steps)) steps_before
+    -- the last time before `one` is the last one of the files bs
+    last_time-still_files : option_or (last_time (joined_steps (rest ++ front))) (last_time a.steps) ≡ e.ends
+    last_time-still_files =
+        ap (λ (x : List Step). option_or (last_time x) (last_time a.steps)) joined_steps-still_files
         ∙ (sym (last_time-append a.steps (joined_steps rest))
         ∙ (ap (λ (x : List Block). last_time (joined_steps x)) (sym first) ∙ sym was.extent.ends))
 
-    early_torn : (last : ℕ) (start : ℕ) → e.ends ≡ Some last → first_time one.steps ≡ Some start → start ≤ last
+    -- if the first step of `one` isn't later than the last step before it, `one` doesn't follow the files before it
+    not_joined-early_step : (last : ℕ) (start : ℕ) → e.ends ≡ Some last → first_time one.steps ≡ Some start
+        → start ≤ last
         → BlocksJoin ((bs ++ front) ++ one ∷ []) → ⊥
-    early_torn last start ends starts early joined =
+    not_joined-early_step last start ends starts early joined =
         let j : BlocksJoin (((a ∷ rest) ++ front) ++ one ∷ [])
         = subst (λ (x : List Block). BlocksJoin ((x ++ front) ++ one ∷ [])) first joined in
         let g = GoOn-split (rest ++ front) (one ∷ []) a.number (left_by a) (last_time a.steps)
         (GoOn-of_joined a ((rest ++ front) ++ one ∷ []) j) in
         let t = option_or (last_time (joined_steps (rest ++ front))) (last_time a.steps) in
         let later : is_later_time (Some last) (Some start) ≡ true =
-        subst (λ (u : Option ℕ). is_later_time u (Some start) ≡ true) (time_before ∙ ends)
+        subst (λ (u : Option ℕ). is_later_time u (Some start) ≡ true) (last_time-still_files ∙ ends)
         (subst (λ (u : Option ℕ). is_later_time t u ≡ true) starts g.1.2) in
         absurd (omega (arith, ltb-true last start later, early))
 
-  goes_from : (a : Block) (rest : List Block) → bs ≡ a ∷ rest → s.opening ≡ j.left → (zs : List Block)
+  -- if the segment opens with the levels before it, its files follow those before it in all but the time
+  GoOn-segment : (a : Block) (rest : List Block) → bs ≡ a ∷ rest → s.opening ≡ j.left → (zs : List Block)
       → IsExtent (extent_of s) zs → GoOn (number_after a.number rest) (left_after (left_by a) rest) None zs
-  goes_from a rest first same [] q = tt
-  goes_from a rest first same (z ∷ zs) q =
+  GoOn-segment a rest first same [] q = tt
+  GoOn-segment a rest first same (z ∷ zs) q =
       let was' : IsExtent e (a ∷ rest) = subst (IsExtent e) first was.extent in
       let number : Some (number_after a.number rest) ≡ Some e.last = sym (number_after-last a rest) ∙ was'.last in
       let left : Some (left_after (left_by a) rest) ≡ Some e.left = sym (left_after-last a rest) ∙ was'.left in
@@ -178,12 +193,14 @@ module _ (j : JudgedSegments) (s : SegmentValue) (listing : Bool) (e : Extent) (
             (GoOn-of_joined z zs q.join),
       )
 
-  torn_early : (a : Block) (rest : List Block) → bs ≡ a ∷ rest → s.opening ≡ j.left → IsEarlyFile j.times s.times k
+  -- if the segment opens with the levels before it, and its first step is early, the file with that step is torn
+  IsTornIn-early_step : (a : Block) (rest : List Block) → bs ≡ a ∷ rest → s.opening ≡ j.left
+      → IsEarlyFile j.times s.times k
       → IsTornIn bs ys k
-  torn_early a rest first same early =
+  IsTornIn-early_step a rest first same early =
       let number : Some early.first.number ≡ first_with_step ys
       = sym (ap (option_map (λ (t : SegmentTimes). t.number)) early.behind) ∙ p.numbered in
-      let r = split ys early.first.number number in
+      let r = SplitAtFirstStep-of_number ys early.first.number number in
       let ends : e.ends ≡ Some early.last.last = sym was.ends ∙ ap ends_at early.there in
       let starts : first_time r.one.steps ≡ Some early.first.first
       = r.starts ∙ (sym p.extent.starts ∙ ap starts_at early.behind) in
@@ -193,19 +210,21 @@ module _ (j : JudgedSegments) (s : SegmentValue) (listing : Bool) (e : Extent) (
         back = r.back;
         parts = r.parts;
         numbered = r.numbered ∙ sym early.numbered;
-        before = still_joins a rest r.front r.back r.one first r.parts r.still
-            (goes_from a rest first same ys p.extent);
-        there = early_torn a rest r.front r.back r.one first r.parts r.still early.last.last early.first.first ends
+        before = BlocksJoin-still_files a rest r.front r.back r.one first r.parts r.still
+            (GoOn-segment a rest first same ys p.extent);
+        there = not_joined-early_step a rest r.front r.back r.one first r.parts r.still early.last.last
+            early.first.first ends
             starts
             early.early;
       }
 
-  pub torn_in : IsTornAt j.left j.times s.first s.opening s.times k → IsTornIn bs ys k
-  torn_in (inl t) = torn_first ys p.extent t.0 t.1
-  torn_in (inr t) = by_files bs refl
+  -- the file that `IsTornAt` says of the segment is the first of its files that doesn't follow those before it
+  pub IsTornIn-torn_at : IsTornAt j.left j.times s.first s.opening s.times k → IsTornIn bs ys k
+  IsTornIn-torn_at (inl t) = IsTornIn-other_levels ys p.extent t.0 t.1
+  IsTornIn-torn_at (inr t) = by_files bs refl
     where
       by_files : (zs : List Block) → bs ≡ zs → IsTornIn bs ys k
       by_files [] f =
           let none : None ≡ Some e.first = rw f at was.extent.first in
           absurd (cc)
-      by_files (a ∷ rest) f = torn_early a rest f t.0 t.1
+      by_files (a ∷ rest) f = IsTornIn-early_step a rest f t.0 t.1

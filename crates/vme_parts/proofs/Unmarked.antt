@@ -9,13 +9,14 @@ use Rattle.vme_monitor.specs.WithoutMarks.{unmarked_step, unmarked_run}
 use Rattle.vme_monitor.specs.declared.mark.Next.{Next}
 use Rattle.vme_part_format.specs.Tables.{TableValue}
 use Rattle.vme_part_tables.specs.Runs.{AgreesWithRuns}
-use Rattle.vme_parts.proofs.Bare.{tells_same}
+use Rattle.vme_parts.proofs.Bare.{AgreesWithRuns-same_runs}
 
-pub unmarked_tells : {P S : Type 0} (observation : Levels → Levels → List Change → Option S)
+-- a table without marks that agrees with the runs of the steps without marks agrees with the runs
+pub AgreesWithRuns-unmarked : {P S : Type 0} (observation : Levels → Levels → List Change → Option S)
     (next : P → Levels → Levels → S → Next P) (count : ℕ) (place : P → ℕ) (t : TableValue) (o : Levels) (x : List Step)
     → AgreesWithRuns false count place t (λ p. run_of (machine_step observation (unmarked_step next)) p o x)
     → AgreesWithRuns false count place t (λ p. run_of (machine_step observation next) p o x)
-unmarked_tells {P} observation next count place t o x s =
+AgreesWithRuns-unmarked {P} observation next count place t o x s =
     record {
       counted = s.counted;
       ways = s.ways;
@@ -29,11 +30,12 @@ unmarked_tells {P} observation next count place t o x s =
     }
 
 -- a table without marks that agrees with a summary of runs without marks agrees with the runs
-pub summary_tells : {P S : Type 0} (observation : Levels → Levels → List Change → Option S)
+pub AgreesWithRuns-unmarked_summary : {P S : Type 0} (observation : Levels → Levels → List Change → Option S)
     (next : P → Levels → Levels → S → Next P) (count : ℕ) (place : P → ℕ) (t : TableValue) (says : P → Outcome P)
     (o : Levels) (x : List Step) → ((p : P) → says p ≡ run_of (machine_step observation (unmarked_step next)) p o x)
     → AgreesWithRuns false count place t says
     → AgreesWithRuns false count place t (λ p. run_of (machine_step observation next) p o x)
-summary_tells observation next count place t says o x e s =
-    unmarked_tells observation next count place t o x
-    (tells_same false count place t says (λ p. run_of (machine_step observation (unmarked_step next)) p o x) e s)
+AgreesWithRuns-unmarked_summary observation next count place t says o x e s =
+    AgreesWithRuns-unmarked observation next count place t o x
+    (AgreesWithRuns-same_runs false count place t says
+    (λ p. run_of (machine_step observation (unmarked_step next)) p o x) e s)

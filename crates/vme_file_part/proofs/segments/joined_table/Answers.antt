@@ -1,7 +1,7 @@
 use Rattle.std.proofs.Common.{arith}
 use Rattle.std.proofs.lemmas.List.{length-map}
 use Rattle.vme_part_format.specs.Tables.{node_value, table_value}
-use Rattle.vme_parts.proofs.Halves.{can_compose}
+use Rattle.vme_parts.proofs.Halves.{CanCompose-few_nodes}
 use Rattle.vme_file_part.proofs.segments.joined_table.Goals as goal
 
 pub are_few_together-requires : goal.are_few_together-requires
@@ -10,7 +10,7 @@ are_few_together-requires c = let (n, p, q) = c.requires in omega (arith, p.ways
 pub composed-requires : goal.composed-requires
 composed-requires c =
     let (n, p, q) = c.requires in
-    can_compose n (table_value c.args.first) (table_value c.args.second) p q
+    CanCompose-few_nodes n (table_value c.args.first) (table_value c.args.second) p q
     (omega (
       arith,
       c.are_few_together.ensures.0 c.if-not-are_few_together.false,

@@ -1,12 +1,12 @@
 use Rattle.std.proofs.lemmas.Result.{IfOk-weaker}
 use Rattle.vme_part_format.specs.Tables.{part_value}
-use Rattle.vme_parts.proofs.JoinedParts.{part_segments}
+use Rattle.vme_parts.proofs.JoinedParts.{IsSegment-of_part}
 use Rattle.vme_part_listing.proofs.MarkedFiles.{listing_told, refused_told, unmarked_told}
 use Rattle.vme_part_listing.proofs.listing.tell_listing.Goals as goal
 
 pub list_all-requires-clause-segments : goal.list_all-requires-clause-segments
 list_all-requires-clause-segments c =
-    rw c.as_slice.ensures.value (part_segments (part_value c.args.part.now) c.requires)
+    rw c.as_slice.ensures.value (IsSegment-of_part (part_value c.args.part.now) c.requires)
 
 pub returns-in-Err : goal.returns-in-Err
 returns-in-Err c = refused_told (part_value c.args.part.now) c.args.files c.in-Err.told c.in-Err.ensures.judges

@@ -1,31 +1,31 @@
 use Rattle.std.proofs.Common.{arith, refl}
 use Rattle.vme_part_format.specs.Tables.{table_value}
-use Rattle.vme_parts.proofs.Halves.{can_compose}
+use Rattle.vme_parts.proofs.Halves.{CanCompose-few_nodes}
 use Rattle.vme_parts.proofs.buddies.joined_in.Goals as goal
 
 pub composed-requires : goal.composed-requires
 composed-requires c =
-    can_compose 4 (table_value c.args.first.known) (table_value c.args.second.known) c.requires.first.known
+    CanCompose-few_nodes 4 (table_value c.args.first.known) (table_value c.args.second.known) c.requires.first.known
     c.requires.second.known c.requires.few.known
 
 pub composed-requires-2 : goal.composed-requires-2
 composed-requires-2 c =
-    can_compose 147 (table_value c.args.first.handshake) (table_value c.args.second.handshake)
+    CanCompose-few_nodes 147 (table_value c.args.first.handshake) (table_value c.args.second.handshake)
     c.requires.first.handshake c.requires.second.handshake c.requires.few.handshake
 
 pub composed-requires-3 : goal.composed-requires-3
 composed-requires-3 c =
-    can_compose 13 (table_value c.args.first.stability) (table_value c.args.second.stability)
+    CanCompose-few_nodes 13 (table_value c.args.first.stability) (table_value c.args.second.stability)
     c.requires.first.stability c.requires.second.stability c.requires.few.stability
 
 pub composed-requires-4 : goal.composed-requires-4
 composed-requires-4 c =
-    can_compose 35 (table_value c.args.first.grant) (table_value c.args.second.grant) c.requires.first.grant
+    CanCompose-few_nodes 35 (table_value c.args.first.grant) (table_value c.args.second.grant) c.requires.first.grant
     c.requires.second.grant c.requires.few.grant
 
 pub composed-requires-5 : goal.composed-requires-5
 composed-requires-5 c =
-    can_compose 11 (table_value c.args.first.acknowledge) (table_value c.args.second.acknowledge)
+    CanCompose-few_nodes 11 (table_value c.args.first.acknowledge) (table_value c.args.second.acknowledge)
     c.requires.first.acknowledge c.requires.second.acknowledge c.requires.few.acknowledge
 
 pub returns : goal.returns

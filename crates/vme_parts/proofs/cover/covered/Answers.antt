@@ -3,7 +3,7 @@ use Rattle.std.proofs.lemmas.List.{drop_all, length-map}
 use Rattle.vme_part_format.specs.Tables.{SegmentValue, segment_value}
 use Rattle.vme_parts.specs.Covering.{AreNext, HasGap}
 use Rattle.vme_parts.proofs.Ordering.{IsSegment-item_at}
-use Rattle.vme_parts.proofs.ToldFiles.{drop_value}
+use Rattle.vme_parts.proofs.ToldFiles.{drop-segment_values}
 use Rattle.vme_parts.proofs.cover.covered.Goals as goal
 
 pub end_of-next-requires : goal.end_of-next-requires
@@ -17,7 +17,7 @@ returns-then-segment-next-clause-gap c =
     let x = c.segment-item.result in
     let i = c.loop-segment.segment-index in
     let n = c.loop-segment.next in
-    let at = drop_value c.args.segments.now i x (omega arith) c.segment-item.is in
+    let at = drop-segment_values c.args.segments.now i x (omega arith) c.segment-item.is in
     c.loop-segment.invariant.gap n
     (subst (λ (left : List SegmentValue). HasGap n left n) (sym at) (inl (c.if-segment-next.true, refl)))
 
@@ -26,7 +26,7 @@ loop-segment-preserved c =
     let x = c.segment-item.result in
     let i = c.loop-segment.segment-index in
     let n = c.loop-segment.next in
-    let at = drop_value c.args.segments.now i x (omega arith) c.segment-item.is in
+    let at = drop-segment_values c.args.segments.now i x (omega arith) c.segment-item.is in
     let same : x.first ≡ n = c.if-segment-next.false in
     record {
       next = λ end a.

@@ -6,8 +6,8 @@ use Rattle.vme_parts.specs.Alike.{AreTooLong}
 use Rattle.vme_parts.specs.Gathering.{Gathered, IsSegment}
 use Rattle.vme_parts.proofs.Backward.{IsSegment-first, IsSegment-popped_front, IsSegment-popped_last}
 use Rattle.vme_parts.proofs.Backward.{Gathered-buddies_joined, AreTooLong-buddies}
-use Rattle.vme_parts.proofs.Halves.{first_of_both, segment_of_both}
-use Rattle.vme_parts.proofs.Likeness.{no_difference_on}
+use Rattle.vme_parts.proofs.Halves.{Precedes-of_both, IsSegment-of_both}
+use Rattle.vme_parts.proofs.Likeness.{IsNoDifference-map}
 use Rattle.vme_parts.proofs.Ordering.{Precedes-reflexive}
 use Rattle.vme_parts.proofs.gather.join_back.Goals as goal
 
@@ -53,10 +53,10 @@ loop-last-preserved c =
     record {
       segments = IsSegment-popped_front c.loop-last.segments.items c.pop.new.self.items c.in-Some.last was
           c.loop-last.invariant.segments;
-      next = segment_of_both s t r c.in-Ok.ensures.both buddies
+      next = IsSegment-of_both s t r c.in-Ok.ensures.both buddies
           (IsSegment-popped_last c.loop-last.segments.items c.pop.new.self.items c.in-Some.last was
           c.loop-last.invariant.segments);
-      first = first_of_both s t r (segment_value c.args.next) c.in-Ok.ensures.both buddies
+      first = Precedes-of_both s t r (segment_value c.args.next) c.in-Ok.ensures.both buddies
           c.loop-last.invariant.first;
       gathered = λ done g.
           Gathered-buddies_joined done c.loop-last.segments.items c.pop.new.self.items c.in-Some.last t r was
@@ -91,7 +91,7 @@ returns-in-Err-clause-refused c =
     let s = segment_value c.in-Some.last in
     let t = segment_value c.loop-last.next in
     let all = map segment_value c.args.segments.now.items ++ segment_value c.args.next ∷ [] in
-    no_difference_on (2 ^ 64 ≤ s.steps + t.steps) ((done : List SegmentValue) → Gathered done all → AreTooLong done)
+    IsNoDifference-map (2 ^ 64 ≤ s.steps + t.steps) ((done : List SegmentValue) → Gathered done all → AreTooLong done)
     c.in-Err.why
     (λ many done g.
     AreTooLong-buddies done c.loop-last.segments.items c.pop.new.self.items c.in-Some.last t c.in-Some.ensures.items

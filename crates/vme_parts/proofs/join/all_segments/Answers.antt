@@ -6,7 +6,7 @@ use Rattle.std.proofs.lemmas.List.{map-append, nil_from_length}
 use Rattle.vme_part_format.specs.Tables.{SegmentValue, part_value, segment_value}
 use Rattle.vme_part_format.specs.declared.part.Part.{Part}
 use Rattle.vme_parts.specs.Gathering.{segments_of}
-use Rattle.vme_parts.proofs.JoinedParts.{segments_more}
+use Rattle.vme_parts.proofs.JoinedParts.{segments_of-push}
 use Rattle.vme_parts.proofs.join.all_segments.Goals as goal
 
 pub loop-part-init : goal.loop-part-init
@@ -38,7 +38,7 @@ loop-part-preserved c =
           ap (map segment_value) c.in_ok-append.ensures.items
           ∙ (map-append segment_value at.all.items x.segments.items
           ∙ (ap (λ (ss : List SegmentValue). ss ++ map segment_value x.segments.items) at.invariant.made
-          ∙ segments_more at.yielded x));
+          ∙ segments_of-push at.yielded x));
     }
 
 pub returns : goal.returns

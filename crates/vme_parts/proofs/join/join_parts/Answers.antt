@@ -8,14 +8,15 @@ use Rattle.vme_part_format.specs.Bounds.{FitsPart}
 use Rattle.vme_part_format.specs.Tables.{PartValue, part_value, segment_value}
 use Rattle.vme_parts.specs.Alike.{AreTooLong, IsLike, SomeHaveTooManySteps}
 use Rattle.vme_parts.specs.Files.{IsPartOf}
-use Rattle.vme_parts.proofs.JoinedParts.{joins_alike, joins_all, joins_apart, joins_compact, joins_fit, joins_long}
-use Rattle.vme_parts.proofs.JoinedParts.{sorted_are_segments}
-use Rattle.vme_parts.proofs.Likeness.{no_difference_on, refused_apart, refused_else}
+use Rattle.vme_parts.proofs.JoinedParts.{AllAlike-unsorted, JoinsParts-sorted, HaveApart-unsorted, IsCompactPart-sorted}
+use Rattle.vme_parts.proofs.JoinedParts.{FitsPart-sorted, SomeHaveTooManySteps-sorted}
+use Rattle.vme_parts.proofs.JoinedParts.{IsSegment-sorted}
+use Rattle.vme_parts.proofs.Likeness.{IsNoDifference-map, AreRefused-differs, AreRefused-no_difference}
 use Rattle.vme_parts.proofs.join.join_parts.Goals as goal
 
 pub gather-requires-clause-segments : goal.gather-requires-clause-segments
 gather-requires-clause-segments c =
-    sorted_are_segments (map part_value c.args.parts.items) (map segment_value c.in_ok-all.all.items)
+    IsSegment-sorted (map part_value c.args.parts.items) (map segment_value c.in_ok-all.all.items)
     (map segment_value c.sort_segments.new.segments.items) c.in_ok-all.ensures
     (IsPermutation-map segment_value c.in_ok-all.all.items c.sort_segments.new.segments.items
     c.sort_segments.ensures.same)
@@ -30,7 +31,7 @@ returns-clause-joins c =
       listing = c.has_marks-listing.result;
       segments = map segment_value segments.items;
     } in
-    joins_all (map part_value parts) r (map segment_value c.in_ok-all.all.items)
+    JoinsParts-sorted (map part_value parts) r (map segment_value c.in_ok-all.all.items)
     (map segment_value c.sort_segments.new.segments.items) c.in_ok-all.ensures
     (IsPermutation-map segment_value c.in_ok-all.all.items c.sort_segments.new.segments.items
     c.sort_segments.ensures.same)
@@ -50,7 +51,7 @@ returns-clause-fits c =
       listing = c.has_marks-listing.result;
       segments = map segment_value segments.items;
     } in
-    joins_fit (map part_value parts) r (map segment_value c.in_ok-all.all.items)
+    FitsPart-sorted (map part_value parts) r (map segment_value c.in_ok-all.all.items)
     (map segment_value c.sort_segments.new.segments.items) c.in_ok-all.ensures
     (IsPermutation-map segment_value c.in_ok-all.all.items c.sort_segments.new.segments.items
     c.sort_segments.ensures.same)
@@ -65,7 +66,7 @@ pub returns-clause-one : goal.returns-clause-one
 returns-clause-one c =
     record {
       like = rw c.as_slice-3.ensures.value at c.in_ok-check_alike.ensures.like;
-      alike = joins_alike (map part_value c.args.parts.items) (map segment_value c.in_ok-all.all.items)
+      alike = AllAlike-unsorted (map part_value c.args.parts.items) (map segment_value c.in_ok-all.all.items)
           (map segment_value c.sort_segments.new.segments.items) c.in_ok-all.ensures
           (IsPermutation-map segment_value c.in_ok-all.all.items c.sort_segments.new.segments.items
           c.sort_segments.ensures.same)
@@ -81,7 +82,7 @@ returns-clause-compact c =
       listing = c.has_marks-listing.result;
       segments = map segment_value segments.items;
     } in
-    joins_compact (map part_value parts) r (map segment_value c.in_ok-all.all.items)
+    IsCompactPart-sorted (map part_value parts) r (map segment_value c.in_ok-all.all.items)
     (map segment_value c.sort_segments.new.segments.items) c.in_ok-all.ensures
     (IsPermutation-map segment_value c.in_ok-all.all.items c.sort_segments.new.segments.items
     c.sort_segments.ensures.same)
@@ -95,7 +96,7 @@ returns-clause-compact c =
 pub compare_all-requires-clause-segments : goal.compare_all-requires-clause-segments
 compare_all-requires-clause-segments c =
     rw c.as_slice-4.ensures.value
-    (sorted_are_segments (map part_value c.args.parts.items) (map segment_value c.in_ok-all.all.items)
+    (IsSegment-sorted (map part_value c.args.parts.items) (map segment_value c.in_ok-all.all.items)
     (map segment_value c.sort_segments.new.segments.items) c.in_ok-all.ensures
     (IsPermutation-map segment_value c.in_ok-all.all.items c.sort_segments.new.segments.items
     c.sort_segments.ensures.same)
@@ -108,8 +109,8 @@ pub returns-in-Err-clause-refused : goal.returns-in-Err-clause-refused
 returns-in-Err-clause-refused c =
     let parts = map part_value c.args.parts.items in
     let (number, same, apart) = c.in-Err.ensures.apart in
-    refused_apart parts c.in-Err.why number same
-    (joins_apart parts (map segment_value c.in_ok-all.all.items)
+    AreRefused-differs parts c.in-Err.why number same
+    (HaveApart-unsorted parts (map segment_value c.in_ok-all.all.items)
     (map segment_value c.sort_segments.new.segments.items) c.in_ok-all.ensures
     (IsPermutation-map segment_value c.in_ok-all.all.items c.sort_segments.new.segments.items
     c.sort_segments.ensures.same) number (rw c.as_slice-4.ensures.value at apart))
@@ -123,11 +124,11 @@ returns-in-Err-gather-clause-refused c =
     let listed : All (λ (p : PartValue). p.listing ≡ listing) parts =
     All-weaker (IsLike backplane listing) (λ (p : PartValue). p.listing ≡ listing) (λ p like. like.1) parts
     (rw c.as_slice-3.ensures.value at c.in_ok-check_alike.ensures.like) in
-    refused_else parts c.in-Err-gather.why
-    (no_difference_on (AreTooLong sorted)
+    AreRefused-no_difference parts c.in-Err-gather.why
+    (IsNoDifference-map (AreTooLong sorted)
     ((files : List Block) → All (IsPartOf files) parts → SomeHaveTooManySteps files) c.in-Err-gather.why
     (λ long.
-    joins_long parts (map segment_value c.in_ok-all.all.items) sorted c.in_ok-all.ensures
+    SomeHaveTooManySteps-sorted parts (map segment_value c.in_ok-all.all.items) sorted c.in_ok-all.ensures
     (IsPermutation-map segment_value c.in_ok-all.all.items c.sort_segments.new.segments.items
     c.sort_segments.ensures.same) listing listed long)
     c.in-Err-gather.ensures.refused)

@@ -2,7 +2,7 @@ use Rattle.std.proofs.Common.{rules, ◌≡◌, ◌+◌, false, List, [], map, a
 use Rattle.vme_part_format.specs.Tables.{NodeValue, node_value}
 use Rattle.vme_part_format.specs.declared.table.TableEntry.{TableEntry}
 use Rattle.vme_part_tables.specs.Runs.{AgreesWithRuns}
-use Rattle.vme_parts.proofs.Bare.{AreRows, bare_tells, rows_more}
+use Rattle.vme_parts.proofs.Bare.{AreRows, AgreesWithRuns-bare, AreRows-push}
 use Rattle.vme_parts.proofs.made.bare_table.Goals as goal
 
 pub overflow_cast-next : goal.overflow_cast-next
@@ -18,7 +18,7 @@ loop-place-preserved g c =
       rows = subst
           (λ (es : List TableEntry). AreRows g.M.Finite.place_of g.M.Finite.nth_of says es (c.loop-place.place + 1))
           (sym c.in_ok-push.ensures.items)
-          (rows_more g.M.Finite.place_of g.M.Finite.nth_of says c.loop-place.entries.items e c.loop-place.place
+          (AreRows-push g.M.Finite.place_of g.M.Finite.nth_of says c.loop-place.entries.items e c.loop-place.place
           (search rules)
           (record {
             next = rw (← c.nth-memory.ensures, ← c.leaving-left.ensures) c.place-next.ensures;
@@ -38,5 +38,5 @@ returns g c =
     let none : map node_value c.new-nodes.result.items ≡ [] = ap (map node_value) c.new-nodes.ensures.items in
     subst (λ (ns : List NodeValue). AgreesWithRuns false count place (record { entries = es; nodes = ns }) says)
     (sym none)
-    (bare_tells place nth says count es (omega (arith, g.met.M.Finite.few)) (search rules)
+    (AgreesWithRuns-bare place nth says count es (omega (arith, g.met.M.Finite.few)) (search rules)
     (subst (AreRows place nth says es) whole c.loop-place.invariant.rows) g.met.M.Finite.placed g.met.M.Finite.found)

@@ -14,7 +14,7 @@ use Rattle.vme_chains.specs.AcknowledgeRules.{acknowledge_begin, acknowledge_end
 use Rattle.vme_chains.specs.AcknowledgeRules.{acknowledge_start_marks, acknowledge_observation}
 use Rattle.vme_chains.specs.AcknowledgeRules.{acknowledge_memory_place}
 use Rattle.vme_summary.specs.Runs.{known_run, handshake_run, stability_run, grant_run, acknowledge_run}
-use Rattle.vme_parts.proofs.Unmarked.{summary_tells}
+use Rattle.vme_parts.proofs.Unmarked.{AgreesWithRuns-unmarked_summary}
 use Rattle.vme_parts.proofs.made.bare_tables.Goals as goal
 
 pub returns : goal.returns
@@ -24,19 +24,19 @@ returns c =
     let x = c.args.steps.now in
     let all = c.in_ok-summaries.ensures in
     record {
-      known = summary_tells (observed known_observation)
+      known = AgreesWithRuns-unmarked_summary (observed known_observation)
           (phase_step known_begin known_start_marks known_reset_marks known_end_fault known_next) 4
           (phase_place nil_place) _ _ o x all.known.outcomes c.in_ok-known.ensures;
-      handshake = summary_tells (observed dtb_observation)
+      handshake = AgreesWithRuns-unmarked_summary (observed dtb_observation)
           (phase_step dtb_begin dtb_start_marks no_step_marks dtb_end_fault dtb_step) 147 (phase_place memory_place) _ _
           o x all.handshake.outcomes c.in_ok-handshake.ensures;
-      stability = summary_tells (observed stability_observation)
+      stability = AgreesWithRuns-unmarked_summary (observed stability_observation)
           (phase_step stability_begin stability_start_marks no_step_marks stability_end_fault stability_next) 13
           (phase_place holding_place) _ _ o x all.stability.outcomes c.in_ok-stability.ensures;
-      grant = summary_tells (observed grant_observation)
+      grant = AgreesWithRuns-unmarked_summary (observed grant_observation)
           (phase_step grant_begin grant_start_marks no_step_marks grant_end_fault grant_next) 35
           (phase_place arbitration_place) _ _ o x all.grant.outcomes c.in_ok-grant.ensures;
-      acknowledge = summary_tells (observed acknowledge_observation)
+      acknowledge = AgreesWithRuns-unmarked_summary (observed acknowledge_observation)
           (phase_step acknowledge_begin acknowledge_start_marks no_step_marks acknowledge_end_fault acknowledge_next) 11
           (phase_place acknowledge_memory_place) _ _ o x all.acknowledge.outcomes c.in_ok-acknowledge.ensures;
       left = all.left;

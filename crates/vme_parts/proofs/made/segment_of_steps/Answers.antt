@@ -1,12 +1,12 @@
 use Rattle.std.proofs.Common.{rules, refl}
 use Rattle.vme_summary.specs.Joins.{block_of}
-use Rattle.vme_parts.proofs.OneFile.{file_stands}
+use Rattle.vme_parts.proofs.OneFile.{SegmentStandsFor-one_file}
 use Rattle.vme_parts.proofs.made.segment_of_steps.Goals as goal
 
 pub returns-clause-stands : goal.returns-clause-stands
 returns-clause-stands c =
     let all = c.in_ok-tables.ensures in
-    file_stands _ _ (block_of c.args.number c.args.opening.now c.args.steps.now) c.requires.accepted
+    SegmentStandsFor-one_file _ _ (block_of c.args.number c.args.opening.now c.args.steps.now) c.requires.accepted
     c.from-first.ensures refl (search rules) refl all.left
     c.times_of-times.ensures.starts c.times_of-times.ensures.ends c.times_of-times.ensures.numbered all.known
     all.handshake all.stability all.grant all.acknowledge

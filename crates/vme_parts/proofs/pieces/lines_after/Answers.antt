@@ -3,7 +3,7 @@ use Rattle.std.proofs.lemmas.List.{take_all, take_more}
 use Rattle.vme_trace.specs.Levels.{Levels}
 use Rattle.vme_trace.specs.Trace.{changed, levels_after}
 use Rattle.vme_trace.specs.declared.step.Step.{Step}
-use Rattle.vme_parts.proofs.OneFile.{left_more}
+use Rattle.vme_parts.proofs.OneFile.{levels_after-take_next}
 use Rattle.vme_parts.proofs.pieces.lines_after.Goals as goal
 
 pub loop-step-preserved : goal.loop-step-preserved
@@ -16,7 +16,7 @@ loop-step-preserved c =
     = take_more steps k step lt ∙ ap (λ (x : Step). take k steps ++ x ∷ []) (sym c.step-item.is) in
     c.apply.ensures
     ∙ (rw c.as_slice.ensures (ap (λ (v : Levels). changed v step.changes) c.loop-step.invariant)
-    ∙ left_more c.args.opening.now steps k step lt more)
+    ∙ levels_after-take_next c.args.opening.now steps k step lt more)
 
 pub returns : goal.returns
 returns c =

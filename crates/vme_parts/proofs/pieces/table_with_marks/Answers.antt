@@ -7,11 +7,13 @@ use Rattle.vme_trace.specs.WellFormed.{malformed_step}
 use Rattle.vme_trace.specs.declared.step.Step.{Step}
 use Rattle.vme_part_format.specs.Tables.{table_value}
 use Rattle.vme_part_tables.specs.Runs.{AgreesWithRuns}
-use Rattle.vme_parts.proofs.PieceLemmas.{none_needed, none_sound, piece_lines, piece_more, piece_sound}
+use Rattle.vme_parts.proofs.PieceLemmas.{AgreesWithRuns-no_steps, malformed_step-no_steps, levels_after-piece}
+use Rattle.vme_parts.proofs.PieceLemmas.{take-piece, malformed_step-piece}
 use Rattle.vme_parts.proofs.pieces.table_with_marks.Goals as goal
 
 pub piece_table-requires-clause-accepted : goal.piece_table-requires-clause-accepted
-piece_table-requires-clause-accepted g c = none_sound c.args.opening.now c.args.steps.now c.requires.accepted
+piece_table-requires-clause-accepted g c =
+    malformed_step-no_steps c.args.opening.now c.args.steps.now c.requires.accepted
 
 pub with_piece-requires-clause-accepted : goal.with_piece-requires-clause-accepted
 with_piece-requires-clause-accepted g c =
@@ -19,7 +21,7 @@ with_piece-requires-clause-accepted g c =
     let k = c.min-end.result - n in
     subst (λ (v : Levels). malformed_step
     (record { opening = v; steps = take k (drop n c.args.steps.now) }) ≡ None) (sym c.loop-done.invariant.lines)
-    (piece_sound c.args.opening.now c.args.steps.now n k c.requires.accepted)
+    (malformed_step-piece c.args.opening.now c.args.steps.now n k c.requires.accepted)
 
 pub loop-done-init : goal.loop-done-init
 loop-done-init g c =
@@ -27,7 +29,7 @@ loop-done-init g c =
     record {
       within = omega arith;
       lines = refl;
-      agrees = none_needed g.M.Finite.place_of g.M.Finite.COUNT (table_value c.in_ok-table.table) []
+      agrees = AgreesWithRuns-no_steps g.M.Finite.place_of g.M.Finite.COUNT (table_value c.in_ok-table.table) []
           (λ p. g.M.Monitor.run p o []) (λ p. g.met.M.Monitor.nothing p o) c.in_ok-table.ensures;
     }
 
@@ -44,10 +46,10 @@ loop-done-preserved g c =
       within = within;
       lines = c.lines_after-lines.ensures
           ∙ (ap (λ (v : Levels). levels_after v (take k (drop n xs))) c.loop-done.invariant.lines
-          ∙ piece_lines o xs n k c.min-end.result up);
+          ∙ levels_after-piece o xs n k c.min-end.result up);
       agrees = subst
           (λ (ys : List Step). AgreesWithRuns true g.M.Finite.COUNT g.M.Finite.place_of
           (table_value c.in_ok-table-2.table)
-          (λ p. g.M.Monitor.run p o ys)) (piece_more xs n k c.min-end.result up)
+          (λ p. g.M.Monitor.run p o ys)) (take-piece xs n k c.min-end.result up)
           (c.in_ok-table-2.ensures o (take n xs) c.loop-done.invariant.lines (sym many) c.loop-done.invariant.agrees);
     }

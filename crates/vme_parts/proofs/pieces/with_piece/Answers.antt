@@ -1,13 +1,13 @@
 use Rattle.std.proofs.Common.{subst, arith}
 use Rattle.vme_part_format.specs.Tables.{table_value}
 use Rattle.vme_part_tables.specs.Runs.{IsComposition}
-use Rattle.vme_parts.proofs.Halves.{can_compose}
-use Rattle.vme_parts.proofs.PieceLemmas.{needed_of_both}
+use Rattle.vme_parts.proofs.Halves.{CanCompose-few_nodes}
+use Rattle.vme_parts.proofs.PieceLemmas.{AgreesWithRuns-needed}
 use Rattle.vme_parts.proofs.pieces.with_piece.Goals as goal
 
 pub composed-requires : goal.composed-requires
 composed-requires g c =
-    can_compose g.M.Finite.COUNT (table_value c.args.table) (table_value c.in_ok-next.next) c.requires.table
+    CanCompose-few_nodes g.M.Finite.COUNT (table_value c.args.table) (table_value c.in_ok-next.next) c.requires.table
     (record { ways = c.in_ok-next.ensures.ways; counted = c.in_ok-next.ensures.counted })
     (c.nodes_are_few.ensures c.if-not-nodes_are_few.false)
 
@@ -16,7 +16,7 @@ left_memories-requires g c = c.requires.table.ways
 
 pub returns : goal.returns
 returns g c = λ o x opens count agrees.
-    needed_of_both g.M.Monitor.run
+    AgreesWithRuns-needed g.M.Monitor.run
     (record { joined = g.met.M.Monitor.joined; within = g.met.M.Monitor.within }) g.M.Finite.place_of
     g.M.Finite.COUNT c.in_ok-needs.needs.items o c.args.opening.now x c.args.piece.now (table_value c.args.table)
     (table_value c.in_ok-next.next) (table_value c.in_ok-table.table) g.met.M.Finite.placed opens

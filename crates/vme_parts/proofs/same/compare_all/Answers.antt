@@ -1,6 +1,6 @@
 use Rattle.std.proofs.Common.{◌-◌, arith}
 use Rattle.vme_parts.proofs.Ordering.{IsSegment-item_at}
-use Rattle.vme_parts.proofs.SameFiles.{all_alike, have_apart, next_alike_more}
+use Rattle.vme_parts.proofs.SameFiles.{AllAlike-neighbours, HaveApart-neighbours, NextAlike-next}
 use Rattle.vme_parts.proofs.same.compare_all.Goals as goal
 
 pub loop-place-init : goal.loop-place-init
@@ -23,18 +23,18 @@ returns-in-Err-clause-apart c =
     let (same, files, apart) = c.in-Err.ensures.apart in (
       a.first,
       same,
-      have_apart c.args.segments.now c.loop-place.place a b (omega arith) c.loop-place-test.true
+      HaveApart-neighbours c.args.segments.now c.loop-place.place a b (omega arith) c.loop-place-test.true
           c.index-segments-place.is
           c.index-segments-place-in-loop-place.is files apart,
     )
 
 pub loop-place-preserved : goal.loop-place-preserved
 loop-place-preserved c =
-    next_alike_more c.args.segments.now c.loop-place.place c.index-segments-place.result
+    NextAlike-next c.args.segments.now c.loop-place.place c.index-segments-place.result
     c.index-segments-place-in-loop-place.result (omega arith) c.loop-place-test.true c.index-segments-place.is
     c.index-segments-place-in-loop-place.is c.in_default.ensures.alike c.loop-place.invariant
 
 pub returns-clause-alike : goal.returns-clause-alike
 returns-clause-alike c =
-    all_alike c.args.segments.now c.requires.segments c.requires.order
+    AllAlike-neighbours c.args.segments.now c.requires.segments c.requires.order
     (λ i d lt same. c.loop-place.invariant i d (omega (arith, lt, c.loop-place-test.false)) same)

@@ -1,7 +1,7 @@
 use Rattle.std.proofs.Common.{◌<◌, length, map, arith}
 use Rattle.vme_part_format.specs.Tables.{segment_value}
 use Rattle.vme_parts.proofs.Ordering.{IsSegment-item_at}
-use Rattle.vme_parts.proofs.ToldFiles.{comes_first, comes_on, judges_whole, stops_here}
+use Rattle.vme_parts.proofs.ToldFiles.{ComesTo-first, ComesTo-next, JudgesAll-none_left, JudgesAll-stops}
 use Rattle.vme_parts.proofs.tell.judge_from.Goals as goal
 
 pub of-judging-requires : goal.of-judging-requires
@@ -17,7 +17,7 @@ pub loop-segment-init : goal.loop-segment-init
 loop-segment-init c =
     record {
       fit = c.of-judging.ensures.fit;
-      come = comes_first c.of-judging.result (segment_value c.args.first.now) (map segment_value c.args.rest.now)
+      come = ComesTo-first c.of-judging.result (segment_value c.args.first.now) (map segment_value c.args.rest.now)
           c.of-judging.ensures.judged;
     }
 
@@ -26,7 +26,7 @@ loop-segment-preserved c =
     let lt : c.loop-segment.segment-index < length c.args.rest.now = omega arith in
     record {
       fit = c.go_past.ensures.fit;
-      come = comes_on c.loop-segment.judging (segment_value c.args.first.now) c.args.rest.now
+      come = ComesTo-next c.loop-segment.judging (segment_value c.args.first.now) c.args.rest.now
           c.loop-segment.segment-index c.segment-item.result lt c.segment-item.is c.loop-segment.invariant.come
           c.go_past.new.self c.in-Ok.ensures.judged;
     }
@@ -34,10 +34,11 @@ loop-segment-preserved c =
 pub returns-in-Err-clause-judges : goal.returns-in-Err-clause-judges
 returns-in-Err-clause-judges c =
     let lt : c.loop-segment.segment-index < length c.args.rest.now = omega arith in
-    stops_here c.loop-segment.judging (segment_value c.args.first.now) c.args.rest.now c.loop-segment.segment-index
+    JudgesAll-stops c.loop-segment.judging (segment_value c.args.first.now) c.args.rest.now c.loop-segment.segment-index
     c.segment-item.result lt c.segment-item.is c.loop-segment.invariant.come c.in-Err.stop c.in-Err.ensures.stops
 
 pub returns-clause-judges : goal.returns-clause-judges
 returns-clause-judges c =
-    judges_whole c.loop-segment.judging (segment_value c.args.first.now) c.args.rest.now c.loop-segment.segment-index
+    JudgesAll-none_left c.loop-segment.judging (segment_value c.args.first.now) c.args.rest.now
+    c.loop-segment.segment-index
     (omega (arith, c.loop-segment-test.false)) c.loop-segment.invariant.come

@@ -5,19 +5,20 @@ use Rattle.vme_part_format.specs.declared.segment.Segment.{Segment}
 use Rattle.vme_parts.specs.Telling.{JudgesAll, JudgesFiles}
 use Rattle.vme_parts.specs.declared.answers.RecordingAnswer.{RecordingAnswer}
 use Rattle.vme_parts.proofs.Covered.{LacksFrom-no_segments}
-use Rattle.vme_parts.proofs.JoinedParts.{part_segments}
-use Rattle.vme_parts.proofs.ToldFiles.{beyond_told, judged_told, lacking_told, missing_told, stop_told}
+use Rattle.vme_parts.proofs.JoinedParts.{IsSegment-of_part}
+use Rattle.vme_parts.proofs.ToldFiles.{JudgesFiles-beyond, JudgesFiles-judged, JudgesFiles-lacking, JudgesFiles-missing}
+use Rattle.vme_parts.proofs.ToldFiles.{JudgesFiles-stopped}
 use Rattle.vme_parts.proofs.tell.judged.Goals as goal
 
 pub beyond-requires : goal.beyond-requires
-beyond-requires c = rw c.as_slice-segments.ensures.value (part_segments (part_value c.args.part.now) c.requires)
+beyond-requires c = rw c.as_slice-segments.ensures.value (IsSegment-of_part (part_value c.args.part.now) c.requires)
 
 pub covered-requires : goal.covered-requires
-covered-requires c = rw c.as_slice-segments.ensures.value (part_segments (part_value c.args.part.now) c.requires)
+covered-requires c = rw c.as_slice-segments.ensures.value (IsSegment-of_part (part_value c.args.part.now) c.requires)
 
 pub judge_all-requires-clause-segments : goal.judge_all-requires-clause-segments
 judge_all-requires-clause-segments c =
-    rw c.as_slice-segments.ensures.value (part_segments (part_value c.args.part.now) c.requires)
+    rw c.as_slice-segments.ensures.value (IsSegment-of_part (part_value c.args.part.now) c.requires)
 
 -- if there is no segment, `end` is 0, and the recording has more files
 pub judge_all-requires-clause-some : goal.judge_all-requires-clause-some
@@ -27,24 +28,24 @@ judge_all-requires-clause-some c =
 
 pub returns-in-Some-clause-judges : goal.returns-in-Some-clause-judges
 returns-in-Some-clause-judges c =
-    beyond_told (part_value c.args.part.now) c.args.files c.in-Some.file
+    JudgesFiles-beyond (part_value c.args.part.now) c.args.files c.in-Some.file
     (rw c.as_slice-segments.ensures.value at c.in-Some.ensures.beyond)
 
 pub returns-in-Err-clause-judges : goal.returns-in-Err-clause-judges
 returns-in-Err-clause-judges c =
-    missing_told (part_value c.args.part.now) c.args.files c.in-Err.file
+    JudgesFiles-missing (part_value c.args.part.now) c.args.files c.in-Err.file
     (rw c.as_slice-segments.ensures.value at (c.beyond.ensures.within c.in_default.is))
     (rw c.as_slice-segments.ensures.value at c.in-Err.ensures.gap)
 
 pub returns-then-lacks-clause-judges : goal.returns-then-lacks-clause-judges
 returns-then-lacks-clause-judges c =
-    lacking_told (part_value c.args.part.now) c.args.files c.in-Ok.end
+    JudgesFiles-lacking (part_value c.args.part.now) c.args.files c.in-Ok.end
     (rw c.as_slice-segments.ensures.value at (c.beyond.ensures.within c.in_default.is))
     (rw c.as_slice-segments.ensures.value at c.in-Ok.ensures.next) (c.lacks.ensures.lacks c.if-lacks.true)
 
 pub returns-in-Ok-judge_all-clause-judges : goal.returns-in-Ok-judge_all-clause-judges
 returns-in-Ok-judge_all-clause-judges c =
-    judged_told (part_value c.args.part.now) c.args.files c.in-Ok.end
+    JudgesFiles-judged (part_value c.args.part.now) c.args.files c.in-Ok.end
     (rw c.as_slice-segments.ensures.value at (c.beyond.ensures.within c.in_default.is))
     (rw c.as_slice-segments.ensures.value at c.in-Ok.ensures.next) (c.lacks.ensures.whole c.if-lacks.false)
     c.in-Ok-judge_all.judging (rw c.as_slice-segments.ensures.value at c.in-Ok-judge_all.ensures.judges)
@@ -57,7 +58,7 @@ returns-in-Err-judge_all-clause-judges c =
     subst (λ (xs : List Segment). JudgesAll (map segment_value xs) (Err why)) c.as_slice-segments.ensures.value
     c.in-Err-judge_all.ensures.judges in
     subst (λ (what : RecordingAnswer). JudgesFiles p c.args.files (Err what)) (sym c.answer_of.ensures)
-    (stop_told p c.args.files c.in-Ok.end
+    (JudgesFiles-stopped p c.args.files c.in-Ok.end
     (rw c.as_slice-segments.ensures.value at (c.beyond.ensures.within c.in_default.is))
     (rw c.as_slice-segments.ensures.value at c.in-Ok.ensures.next) (c.lacks.ensures.whole c.if-lacks.false) why
     judges)

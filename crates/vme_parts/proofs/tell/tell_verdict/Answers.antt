@@ -1,11 +1,13 @@
 use Rattle.vme_part_format.specs.Tables.{part_value}
-use Rattle.vme_parts.proofs.ToldFiles.{refusal_told, verdict_told}
+use Rattle.vme_parts.proofs.ToldFiles.{DeterminesRecordingAnswer-refused, DeterminesRecordingAnswer-verdict}
 use Rattle.vme_parts.proofs.tell.tell_verdict.Goals as goal
 
 pub returns-in-Ok : goal.returns-in-Ok
 returns-in-Ok c =
-    verdict_told (part_value c.args.part.now) c.args.files c.in-Ok.judging c.verdict.result c.in-Ok.ensures.judges
+    DeterminesRecordingAnswer-verdict (part_value c.args.part.now) c.args.files c.in-Ok.judging c.verdict.result
+    c.in-Ok.ensures.judges
     c.verdict.ensures
 
 pub returns-in-Err : goal.returns-in-Err
-returns-in-Err c = refusal_told (part_value c.args.part.now) c.args.files c.in-Err.answer c.in-Err.ensures.judges
+returns-in-Err c = DeterminesRecordingAnswer-refused (part_value c.args.part.now) c.args.files c.in-Err.answer
+    c.in-Err.ensures.judges

@@ -11,8 +11,8 @@ use Rattle.vme_chains.specs.GrantRules.{grant_begin}
 use Rattle.vme_chains.specs.AcknowledgeRules.{acknowledge_begin, acknowledge_memory_place}
 use Rattle.vme_summary.specs.Runs.{known_run, handshake_run, stability_run, grant_run, acknowledge_run}
 use Rattle.vme_part_format.specs.Tables.{table_value}
-use Rattle.vme_parts.proofs.Runs.{acknowledge_is_run, grant_is_run, handshake_is_run, known_is_run, stability_is_run}
-use Rattle.vme_parts.proofs.StateLemmas.{leaves_memory, past_state}
+use Rattle.vme_parts.proofs.Runs.{IsRun-acknowledge, IsRun-grant, IsRun-handshake, IsRun-known, IsRun-stability}
+use Rattle.vme_parts.proofs.StateLemmas.{leaving-below, HasState-next}
 use Rattle.vme_parts.proofs.state.States.past.Goals as goal
 
 pub past-requires-clause-memory : goal.past-requires-clause-memory
@@ -34,21 +34,21 @@ pub returns-clause-fit : goal.returns-clause-fit
 returns-clause-fit c =
     record {
       known = rw c.past.ensures.memory
-          (leaves_memory 4 (table_value c.args.segment.now.known) c.args.self.now.known.memory c.requires.tables.known
+          (leaving-below 4 (table_value c.args.segment.now.known) c.args.self.now.known.memory c.requires.tables.known
           c.requires.fit.known);
       handshake = rw c.past-2.ensures.memory
-          (leaves_memory 147 (table_value c.args.segment.now.handshake) c.args.self.now.handshake.memory
+          (leaving-below 147 (table_value c.args.segment.now.handshake) c.args.self.now.handshake.memory
           c.requires.tables.handshake
           c.requires.fit.handshake);
       stability = rw c.past-3.ensures.memory
-          (leaves_memory 13 (table_value c.args.segment.now.stability) c.args.self.now.stability.memory
+          (leaving-below 13 (table_value c.args.segment.now.stability) c.args.self.now.stability.memory
           c.requires.tables.stability
           c.requires.fit.stability);
       grant = rw c.past-4.ensures.memory
-          (leaves_memory 35 (table_value c.args.segment.now.grant) c.args.self.now.grant.memory c.requires.tables.grant
+          (leaving-below 35 (table_value c.args.segment.now.grant) c.args.self.now.grant.memory c.requires.tables.grant
           c.requires.fit.grant);
       acknowledge = rw c.past-5.ensures.memory
-          (leaves_memory 11 (table_value c.args.segment.now.acknowledge) c.args.self.now.acknowledge.memory
+          (leaving-below 11 (table_value c.args.segment.now.acknowledge) c.args.self.now.acknowledge.memory
           c.requires.tables.acknowledge
           c.requires.fit.acknowledge);
     }
@@ -57,20 +57,21 @@ pub returns-clause-found : goal.returns-clause-found
 returns-clause-found c =
     λ listing o v x y opens counted fits was agrees.
     record {
-      known = past_state known_run known_is_run (start_in known_begin) (phase_place nil_place) listing 4
+      known = HasState-next known_run IsRun-known (start_in known_begin) (phase_place nil_place) listing 4
           (table_value c.args.segment.now.known) c.args.self.now.known c.past.result o v x y c.args.steps
           c.past.ensures.memory c.past.ensures.first_break opens counted fits was.known agrees.known;
-      handshake = past_state handshake_run handshake_is_run (start_in dtb_begin) (phase_place memory_place) listing 147
+      handshake = HasState-next handshake_run IsRun-handshake (start_in dtb_begin) (phase_place memory_place) listing
+          147
           (table_value c.args.segment.now.handshake) c.args.self.now.handshake c.past-2.result o v x y c.args.steps
           c.past-2.ensures.memory c.past-2.ensures.first_break opens counted fits was.handshake agrees.handshake;
-      stability = past_state stability_run stability_is_run (start_in stability_begin)
+      stability = HasState-next stability_run IsRun-stability (start_in stability_begin)
           (phase_place holding_place) listing 13
           (table_value c.args.segment.now.stability) c.args.self.now.stability c.past-3.result o v x y c.args.steps
           c.past-3.ensures.memory c.past-3.ensures.first_break opens counted fits was.stability agrees.stability;
-      grant = past_state grant_run grant_is_run (start_in grant_begin) (phase_place arbitration_place) listing 35
+      grant = HasState-next grant_run IsRun-grant (start_in grant_begin) (phase_place arbitration_place) listing 35
           (table_value c.args.segment.now.grant) c.args.self.now.grant c.past-4.result o v x y c.args.steps
           c.past-4.ensures.memory c.past-4.ensures.first_break opens counted fits was.grant agrees.grant;
-      acknowledge = past_state acknowledge_run acknowledge_is_run (start_in acknowledge_begin)
+      acknowledge = HasState-next acknowledge_run IsRun-acknowledge (start_in acknowledge_begin)
           (phase_place acknowledge_memory_place) listing 11
           (table_value c.args.segment.now.acknowledge) c.args.self.now.acknowledge c.past-5.result o v x y c.args.steps
           c.past-5.ensures.memory c.past-5.ensures.first_break opens counted fits was.acknowledge agrees.acknowledge;
