@@ -42,7 +42,7 @@ use Rattle.vme_parts.specs.declared.judged_segments.JudgedSegments.{JudgedSegmen
 use Rattle.vme_parts.specs.declared.judged_segments.JudgingFault.{JudgingFault}
 use Rattle.vme_parts.specs.declared.judged_segments.JudgingFault.TheVariants as stop
 use Rattle.vme_part_listing.specs.declared.listing.Ways.{Ways}
-use Rattle.vme_part_listing.proofs.MarkedWays.{opened_so}
+use Rattle.vme_part_listing.proofs.MarkedWays.{opening-of_recording}
 use Rattle.vme_parts.proofs.SegmentLemmas.{TellsAll-stands_for}
 use Rattle.vme_parts.proofs.ToldFiles.{Contains-segment_at, drop-segment_values}
 use Rattle.vme_parts.proofs.WholeFiles.{HasComeTo, HasComeTo-first, HasComeTo-next, take-and_files_of}
@@ -61,10 +61,12 @@ pub record MarksTo (j : JudgedSegments) (w : Ways) (s : SegmentValue) (ss left :
       → (n : ℕ) × HasComeTo j s.opening files n × AreNext n left end × HasMarks w s.opening
       (joined_steps (take n files))
 
-pub marks_first : (j : JudgedSegments) (begun w : Ways) (s : SegmentValue) (ss : List SegmentValue) → j.steps < 2 ^ 64
+-- if j is the state after judging the files of s, and w are the runs after the tables of s, both are those after the
+-- first of s ∷ ss
+pub MarksTo-first : (j : JudgedSegments) (begun w : Ways) (s : SegmentValue) (ss : List SegmentValue) → j.steps < 2 ^ 64
     → ((listing : Bool) (bs : List Block) → SegmentStandsFor listing s bs → HasJudgedFiles j (extent_of s) bs)
     → HasMarks begun s.opening [] → PastMarks begun w 0 s → MarksTo j w s ss ss
-marks_first j begun w s ss small judged none past =
+MarksTo-first j begun w s ss small judged none past =
     record {
       come = λ files end are stand next.
           let P : SegmentValue → Type 0 = λ s. SegmentStandsFor true s (files_of files s) in
@@ -82,30 +84,31 @@ marks_first j begun w s ss small judged none past =
     }
 
 -- the first of some blocks that join join, too
-front_joins : (xs ys : List Block) → BlocksJoin (xs ++ ys) → BlocksJoin xs
-front_joins xs ys j =
+BlocksJoin-front : (xs ys : List Block) → BlocksJoin (xs ++ ys) → BlocksJoin xs
+BlocksJoin-front xs ys j =
     record {
       follow = λ before after a b e.
           j.follow before (after ++ ys) a b (ap (λ l. l ++ ys) e ∙ append_assoc before (a ∷ b ∷ after) ys);
     }
 
-next_behind : (n : ℕ) (ss : List SegmentValue) (end : ℕ) → AreNext n ss end → n ≤ end
-next_behind n [] end a = omega (arith, a)
-next_behind n (s ∷ ss) end a =
-    omega (arith, a.0, pow_pos s.order, next_behind (last_of s.first s.order + 1) ss end a.1)
+-- segments that follow one another from the file n to end - 1 don't end before n
+AreNext-not_before : (n : ℕ) (ss : List SegmentValue) (end : ℕ) → AreNext n ss end → n ≤ end
+AreNext-not_before n [] end a = omega (arith, a)
+AreNext-not_before n (s ∷ ss) end a =
+    omega (arith, a.0, pow_pos s.order, AreNext-not_before (last_of s.first s.order + 1) ss end a.1)
 
 -- if the files bs, ys and `rest` follow one another, and 64 bits count their steps, judging doesn't stop at ys
-goes_past : (bs ys rest : List Block) (why : JudgingFault) → BlocksJoin ((bs ++ ys) ++ rest)
+not_StopsAt-joined : (bs ys rest : List Block) (why : JudgingFault) → BlocksJoin ((bs ++ ys) ++ rest)
     → length (joined_steps ((bs ++ ys) ++ rest)) < 2 ^ 64 → StopsAt bs ys why → ⊥
-goes_past bs ys rest (stop.Torn k) joins small t =
+not_StopsAt-joined bs ys rest (stop.Torn k) joins small t =
     let behind : (bs ++ ys) ++ rest ≡ ((bs ++ t.front) ++ t.torn ∷ []) ++ (t.back ++ rest) =
     ap (λ zs. (bs ++ zs) ++ rest) t.parts
     ∙ (append_assoc bs (t.front ++ t.torn ∷ t.back) rest
     ∙ (ap (λ zs. bs ++ zs) (append_assoc t.front (t.torn ∷ t.back) rest)
     ∙ (sym (append_assoc bs t.front (t.torn ∷ (t.back ++ rest)))
     ∙ sym (append_assoc (bs ++ t.front) (t.torn ∷ []) (t.back ++ rest))))) in
-    t.there (front_joins ((bs ++ t.front) ++ t.torn ∷ []) (t.back ++ rest) (subst BlocksJoin behind joins))
-goes_past bs ys rest stop.TooManySteps joins small many =
+    t.there (BlocksJoin-front ((bs ++ t.front) ++ t.torn ∷ []) (t.back ++ rest) (subst BlocksJoin behind joins))
+not_StopsAt-joined bs ys rest stop.TooManySteps joins small many =
     absurd (omega (
       arith,
       many.1,
@@ -114,15 +117,17 @@ goes_past bs ys rest stop.TooManySteps joins small many =
       length-append (joined_steps (bs ++ ys)) (joined_steps rest),
     ))
 
+-- j and w are the states of judging and of the runs after the segments before x, which has the index i
 module _ (j : JudgedSegments) (w : Ways) (s : SegmentValue) (xs : List Segment) (i : ℕ) (x : Segment)
     (h : i < length xs) (e : x ≡ get_or xs i x)
     (was : MarksTo j w s (map segment_value xs) (drop i (map segment_value xs))) where
-  -- judging doesn't stop at a segment of files that follow one another and have few steps
-  pub stops_late : {A : Type 0} (r : Result A JudgingFault) (why : JudgingFault) → r ≡ Err why
+  -- if judging stops at x, the files don't follow one another or have more steps than 64 bits count, so `ShowLate`
+  -- holds
+  pub ShowLate-stops : {A : Type 0} (r : Result A JudgingFault) (why : JudgingFault) → r ≡ Err why
       → IfErr r (λ (fault : JudgingFault). (listing : Bool) (e : Extent) (bs ys : List Block) → HasJudgedFiles j e bs
       → SegmentStandsFor listing (segment_value x) ys → x.first ≡ e.last + 1 → StopsAt bs ys fault)
       → ShowLate (s ∷ map segment_value xs)
-  stops_late {A} r why stopped stops files end are stand next t made few joins small =
+  ShowLate-stops {A} r why stopped stops files end are stand next t made few joins small =
       let P : SegmentValue → Type 0 = λ s. SegmentStandsFor true s (files_of files s) in
       let c = was.come files end are stand next in
       let n = c.0 in
@@ -134,7 +139,7 @@ module _ (j : JudgedSegments) (w : Ways) (s : SegmentValue) (xs : List Segment) 
       let ys = files_of files v in
       let m = last_of x.first x.order + 1 in
       let rest = take (end - m) (drop m files) in
-      let low : m ≤ end = next_behind m (drop (i + 1) (map segment_value xs)) end to.1 in
+      let low : m ≤ end = AreNext-not_before m (drop (i + 1) (map segment_value xs)) end to.1 in
       let size : m + (end - m) ≡ end = omega (arith, low) in
       let whole : take end files ≡ (bs ++ ys) ++ rest =
       ap (λ (k : ℕ). take k files) (sym size)
@@ -144,17 +149,18 @@ module _ (j : JudgedSegments) (w : Ways) (s : SegmentValue) (xs : List Segment) 
       subst (λ (q : Result A JudgingFault). IfErr q (λ (fault : JudgingFault). (listing : Bool) (e : Extent)
       (bs ys : List Block) → HasJudgedFiles j e bs → SegmentStandsFor listing v ys → x.first ≡ e.last + 1
       → StopsAt bs ys fault)) stopped stops in
-      absurd (goes_past bs ys rest why (subst BlocksJoin whole joins)
+      absurd (not_StopsAt-joined bs ys rest why (subst BlocksJoin whole joins)
       (subst (λ (zs : List Block). length (joined_steps zs) < 2 ^ 64) whole small)
       (stops_there true c.1.extent bs ys c.1.judged p (to.0 ∙ sym c.1.last)))
 
-  pub marks_on : (r : JudgedSegments) (v : Ways) → r.steps < 2 ^ 64
+  -- if r and v are j and w after the files of x as well, they are those after the segments up to x
+  pub MarksTo-next : (r : JudgedSegments) (v : Ways) → r.steps < 2 ^ 64
       → ((listing : Bool) (e : Extent) (bs ys : List Block) → HasJudgedFiles j e bs
       → SegmentStandsFor listing (segment_value x) ys → x.first ≡ e.last + 1
       → HasJudgedFiles r (joined_extent e (extent_of (segment_value x))) (bs ++ ys))
       → PastMarks w v j.steps (segment_value x)
       → MarksTo r v s (map segment_value xs) (drop (i + 1) (map segment_value xs))
-  marks_on r v small judged past =
+  MarksTo-next r v small judged past =
       record {
         come = λ files end are stand next.
             let P : SegmentValue → Type 0 = λ s. SegmentStandsFor true s (files_of files s) in
@@ -191,19 +197,21 @@ module _ (j : JudgedSegments) (w : Ways) (s : SegmentValue) (xs : List Segment) 
             );
       }
 
-steps_of_recording : (bs : List Block) (t : Trace) → joined_trace bs ≡ Some t → joined_steps bs ≡ t.steps
-steps_of_recording [] t is = absurd (cc)
-steps_of_recording (b ∷ bs) t is =
+-- the steps of the files are those of the recording that they make
+joined_steps-of_recording : (bs : List Block) (t : Trace) → joined_trace bs ≡ Some t → joined_steps bs ≡ t.steps
+joined_steps-of_recording [] t is = absurd (cc)
+joined_steps-of_recording (b ∷ bs) t is =
     let whole : record { opening = b.opening; steps = joined_steps (b ∷ bs) } ≡ t = cc in
     ap (λ (k : Trace). k.steps) whole
 
 -- if no segments are left, the marks of the runs are those of the recording
-pub marks_whole : (j : JudgedSegments) (w : Ways) (s : SegmentValue) (xs : List Segment) (i : ℕ) → length xs ≤ i
+pub ShowsFiles-none_left : (j : JudgedSegments) (w : Ways) (s : SegmentValue) (xs : List Segment) (i : ℕ)
+    → length xs ≤ i
     → ((t : Trace) → malformed_step t ≡ None → t.opening.slots ≤ 21 → HasMarks w t.opening t.steps
     → marks_of_ways w ≡ all_marks t)
     → MarksTo j w s (map segment_value xs) (drop i (map segment_value xs))
     → ShowsFiles s.opening (s ∷ map segment_value xs) (marks_of_ways w)
-marks_whole j w s xs i h law was files end are stand next t is few =
+ShowsFiles-none_left j w s xs i h law was files end are stand next t is few =
     let c = was.come files end are stand next in
     let none : drop i (map segment_value xs) ≡ []
     = drop_all i (map segment_value xs) (omega (arith, h, length-map xs segment_value)) in
@@ -211,8 +219,8 @@ marks_whole j w s xs i h law was files end are stand next t is few =
     let bs = take end files in
     let judged : HasJudgedFiles j c.1.extent bs =
     subst (λ n. HasJudgedFiles j c.1.extent (take n files)) at c.1.judged in
-    let opens : s.opening ≡ t.opening = opened_so j c.1.extent bs t s.opening judged c.1.opened is in
-    let steps : joined_steps bs ≡ t.steps = steps_of_recording bs t is in
+    let opens : s.opening ≡ t.opening = opening-of_recording j c.1.extent bs t s.opening judged c.1.opened is in
+    let steps : joined_steps bs ≡ t.steps = joined_steps-of_recording bs t is in
     let marks : HasMarks w s.opening (joined_steps bs)
     = subst (λ n. HasMarks w s.opening (joined_steps (take n files))) at c.3 in (
       law t (joined_trace-well_formed bs t judged.extent.join judged.extent.sound is) few
@@ -221,35 +229,38 @@ marks_whole j w s xs i h law was files end are stand next t is few =
     )
 
 -- if no segments are left, and a mark of the runs comes too late, so does one of the recording
-pub late_whole : (o : Levels) (ss : List SegmentValue) (ms : List Mark) → ShowsFiles o ss ms → HasLateMark ms
+pub ShowLate-shown : (o : Levels) (ss : List SegmentValue) (ms : List Mark) → ShowsFiles o ss ms → HasLateMark ms
     → ShowLate ss
-late_whole o ss ms shows late files end are stand next t is few joins small =
+ShowLate-shown o ss ms shows late files end are stand next t is few joins small =
     subst HasLateMark (shows files end are stand next t is few).0 late
 
-no_recording : (t : Trace) → None ≡ Some t → ⊥
-no_recording t e = absurd (cc)
+-- where there is no recording, there is none
+None-not_Some : (t : Trace) → None ≡ Some t → ⊥
+None-not_Some t e = absurd (cc)
 
 -- without segments there is no recording
-pub none_listed : (j : JudgedSegments) → ListsFiles j [] listed.TooLong
-none_listed j files end are stand next e was t is all =
-    absurd (no_recording t (subst (λ (n : ℕ). joined_trace (take n files) ≡ Some t) next is))
+pub ListsFiles-no_segments : (j : JudgedSegments) → ListsFiles j [] listed.TooLong
+ListsFiles-no_segments j files end are stand next e was t is all =
+    absurd (None-not_Some t (subst (λ (n : ℕ). joined_trace (take n files) ≡ Some t) next is))
 
--- a recording whose first break or a mark comes too late is too long for a listing
-pub late_break : (j : JudgedSegments) (ss : List SegmentValue) (found : Option WideBreak) (b : WideBreak)
+-- a recording whose first break comes too late is too long for a listing
+pub ListsFiles-late_break : (j : JudgedSegments) (ss : List SegmentValue) (found : Option WideBreak) (b : WideBreak)
     → ((t : Trace) → FoundAll j.states t → option_map break_of found ≡ first_break_of t) → found ≡ Some b
     → 2 ^ 32 ≤ b.instant → ListsFiles j ss listed.TooLong
-late_break j ss found b first e late files end are stand next f was t is all =
+ListsFiles-late_break j ss found b first e late files end are stand next f was t is all =
     inl (break_of b, sym (first t all) ∙ ap (option_map break_of) e, late)
 
-pub late_mark : (j : JudgedSegments) (ss : List SegmentValue) → j.steps < 2 ^ 64 → ShowLate ss
+-- a recording of which a mark comes too late is too long for a listing
+pub ListsFiles-late_mark : (j : JudgedSegments) (ss : List SegmentValue) → j.steps < 2 ^ 64 → ShowLate ss
     → ListsFiles j ss listed.TooLong
-late_mark j ss small late files end are stand next f was t is all =
+ListsFiles-late_mark j ss small late files end are stand next f was t is all =
     inr (late files end are stand next t is all.few was.extent.join (omega (arith, small, was.counted)))
 
 -- if all files are judged, an answer by `ListsFiles` is true
-pub listing_told : (p : PartValue) (count : Option ℕ) (j : JudgedSegments) (what : ListingAnswer) → p.listing ≡ true
+pub DeterminesListingAnswer-listing : (p : PartValue) (count : Option ℕ) (j : JudgedSegments) (what : ListingAnswer)
+    → p.listing ≡ true
     → JudgesFiles p count (Ok j) → ListsFiles j p.segments what → DeterminesListingAnswer p count what
-listing_told p count j (listed.Listing l) marked judges lists files n are part has =
+DeterminesListingAnswer-listing p count j (listed.Listing l) marked judges lists files n are part has =
     let r = judges files n are part has in (
       r.0,
       marked,
@@ -260,7 +271,7 @@ listing_told p count j (listed.Listing l) marked judges lists files n are part h
             (FoundAll-judged_files j r.2.0 (take n files) t r.2.1 r.2.2 is),
       ),
     )
-listing_told p count j listed.TooLong marked judges lists files n are part has =
+DeterminesListingAnswer-listing p count j listed.TooLong marked judges lists files n are part has =
     let r = judges files n are part has in (
       r.0,
       marked,
@@ -271,13 +282,16 @@ listing_told p count j listed.TooLong marked judges lists files n are part has =
             is (FoundAll-judged_files j r.2.0 (take n files) t r.2.1 r.2.2 is),
       ),
     )
-listing_told p count j listed.Unmarked marked judges lists files n are part has = absurd lists
-listing_told p count j (listed.Refused what) marked judges lists files n are part has = absurd lists
+DeterminesListingAnswer-listing p count j listed.Unmarked marked judges lists files n are part has = absurd lists
+DeterminesListingAnswer-listing p count j (listed.Refused what) marked judges lists files n are part has = absurd lists
 
-pub unmarked_told : (p : PartValue) (count : Option ℕ) → p.listing ≡ false
+-- for a part without marks the answer `Unmarked` is true
+pub DeterminesListingAnswer-unmarked : (p : PartValue) (count : Option ℕ) → p.listing ≡ false
     → DeterminesListingAnswer p count listed.Unmarked
-unmarked_told p count e files n are part has = e
+DeterminesListingAnswer-unmarked p count e files n are part has = e
 
-pub refused_told : (p : PartValue) (count : Option ℕ) (what : RecordingAnswer) → JudgesFiles p count (Err what)
+-- the answer in place of judging all files is true
+pub DeterminesListingAnswer-refused : (p : PartValue) (count : Option ℕ) (what : RecordingAnswer)
+    → JudgesFiles p count (Err what)
     → DeterminesListingAnswer p count (listed.Refused what)
-refused_told p count what judges files n are part has = judges files n are part has
+DeterminesListingAnswer-refused p count what judges files n are part has = judges files n are part has

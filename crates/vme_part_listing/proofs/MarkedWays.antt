@@ -31,13 +31,13 @@ use Rattle.vme_summary.specs.declared.extent.Extent.{Extent}
 use Rattle.vme_parts.proofs.Runs.{IsRun}
 
 -- if a monitor has the run w over the steps x, and the table t agrees with its runs over y, it has the run r over both
-pub past_way : {P : Type 0} (run : P → Levels → List Step → Outcome P) → IsRun run → (begin : Levels → P)
+pub HasWay-next : {P : Type 0} (run : P → Levels → List Step → Outcome P) → IsRun run → (begin : Levels → P)
     (place : P → ℕ) (count : ℕ) (t : TableValue) (w r : Way) (o v : Levels) (x y : List Step) (steps : ℕ)
     → r.memory ≡ (outcome_in t w.memory).leaving
     → r.marks.items ≡ w.marks.items ++ map (later_mark steps) (outcome_in t w.memory).marks → v ≡ levels_after o x
     → steps ≡ length x → length x + length y < 2 ^ 64 → HasWay run begin place w o x
     → AgreesWithRuns true count place t (λ p. run p v y) → HasWay run begin place r o (x ++ y)
-past_way {P} run law begin place count t w r o v x y steps memory marks opens counted fits was agrees =
+HasWay-next {P} run law begin place count t w r o v x y steps memory marks opens counted fits was agrees =
     let p = (run (begin o) o x).leaving in
     let a : WideOutcome = record { leaving = w.memory; first_break = None; marks = w.marks.items } in
     let b : AgreesWithRun true place (outcome_in t w.memory) (run p v y) = rw was.leaving (agrees.agrees p) in
@@ -54,21 +54,23 @@ past_way {P} run law begin place count t w r o v x y steps memory marks opens co
     }
 
 -- the opening of the judged files is that of the recording that they make
-pub opened_so : (j : JudgedSegments) (e : Extent) (bs : List Block) (t : Trace) (o : Levels) → HasJudgedFiles j e bs → o
+pub opening-of_recording : (j : JudgedSegments) (e : Extent) (bs : List Block) (t : Trace) (o : Levels)
+    → HasJudgedFiles j e bs → o
     ≡ e.opening
     → joined_trace bs ≡ Some t → o ≡ t.opening
-opened_so j e [] t o was same is = absurd (cc)
-opened_so j e (b ∷ bs) t o was same is =
+opening-of_recording j e [] t o was same is = absurd (cc)
+opening-of_recording j e (b ∷ bs) t o was same is =
     let opens : Some b.opening ≡ Some e.opening = was.extent.opening in
     let own : b.opening ≡ e.opening = cc in
     let whole : record { opening = b.opening; steps = joined_steps (b ∷ bs) } ≡ t = cc in
     same ∙ (sym own ∙ ap (λ (k : Trace). k.opening) whole)
 
 -- the listing from the opening, the first break and the marks of a recording is its listing
-pub listed_so : (t : Trace) (judged : Bool) (first_break : Option Break) (o : Levels) (ms : List Mark) (l : Listed)
+pub listing_of-of_parts : (t : Trace) (judged : Bool) (first_break : Option Break) (o : Levels) (ms : List Mark)
+    (l : Listed)
     → judged ≡ has_any_stretch (judged_stretches t) → first_break ≡ first_break_of t → o ≡ t.opening → ms ≡ all_marks t
     → l ≡ in_newest_version (listed o judged first_break ms) → listing_of t ≡ l
-listed_so t judged first_break o ms l started first opens seen is =
+listing_of-of_parts t judged first_break o ms l started first opens seen is =
     let whole = listed-recorded_rows t in
     let rows : recorded_rows t ≡ listed o judged first_break ms = cc in
     ap in_newest_version rows ∙ sym is

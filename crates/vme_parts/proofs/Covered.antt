@@ -129,7 +129,7 @@ HasGap-not_covered n (s ∷ ss) k f (inr g) c =
 -- a file after k is covered
 record CoversAfter (ss : List SegmentValue) (k : ℕ) : Type 0 where
   pub at : ℕ
-  pub behind : k < at
+  pub is_after : k < at
   pub there : SegmentsCover ss at
 
 -- a file after the gap is covered
@@ -143,12 +143,12 @@ HasGap-covers_after n (s ∷ ss) k f (inl g) = by_order (cases_order s.first n)
     by_order (inr (inr h)) =
         record {
           at = s.first;
-          behind = omega (arith, h, g.1);
+          is_after = omega (arith, h, g.1);
           there = SegmentsCover-head s ss s.first (omega arith, omega (arith, pow_pos s.order));
         }
 HasGap-covers_after n (s ∷ ss) k f (inr g) =
     let r = HasGap-covers_after (last_of s.first s.order + 1) ss k f.1 g.1 in
-    record { at = r.at; behind = r.behind; there = SegmentsCover-tail s ss r.at r.there }
+    record { at = r.at; is_after = r.is_after; there = SegmentsCover-tail s ss r.at r.there }
 
 -- a file up to the last of s isn't after the last file of the last segment of s ∷ ss
 last_or-up_to_head : (s : SegmentValue) (ss : List SegmentValue) (k : ℕ) → AscendFrom (last_of s.first s.order + 1) ss
@@ -211,11 +211,11 @@ module _ (p : PartValue) (up : AscendFrom 0 p.segments) where
     where
       by_count : (count : Option ℕ) → AreWithinFiles p.segments count → HasFiles p count n → CoversAfter p.segments k
           → k < n
-      by_count (Some c) w h b = omega (arith, h.1, b.behind, covered-within_files p.segments c b.at up w b.there)
+      by_count (Some c) w h b = omega (arith, h.1, b.is_after, covered-within_files p.segments c b.at up w b.there)
       by_count None w h b = by_place (cases_lt b.at n)
         where
           by_place : ((b.at < n) ⊎ (n ≤ b.at)) → k < n
-          by_place (inl i) = omega (arith, i, b.behind)
+          by_place (inl i) = omega (arith, i, b.is_after)
           by_place (inr i) = absurd (h.1 (b.at, i, b.there))
 
   -- the part's segments follow one another and cover the files from 0 to end - 1

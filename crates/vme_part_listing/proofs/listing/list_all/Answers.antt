@@ -5,7 +5,7 @@ use Rattle.vme_part_format.specs.Tables.{SegmentValue, segment_value}
 use Rattle.vme_part_format.specs.declared.segment.Segment.{Segment}
 use Rattle.vme_part_listing.specs.Marks.{ListsFiles}
 use Rattle.vme_part_listing.specs.declared.answers.ListingAnswer.TheVariants as listed
-use Rattle.vme_part_listing.proofs.MarkedFiles.{none_listed}
+use Rattle.vme_part_listing.proofs.MarkedFiles.{ListsFiles-no_segments}
 use Rattle.vme_parts.proofs.Ordering.{map-first_and_rest, IsSegment-rest, IsSegment-item_at}
 use Rattle.vme_part_listing.proofs.listing.list_all.Goals as goal
 
@@ -29,4 +29,4 @@ pub returns-in-empty : goal.returns-in-empty
 returns-in-empty c =
     let none : c.args.segments.now ≡ [] = nil_from_length c.args.segments.now (omega (arith, c.in-empty.len_below)) in
     subst (λ (xs : List Segment). ListsFiles c.args.judging.now (map segment_value xs) listed.TooLong) (sym none)
-    (none_listed c.args.judging.now)
+    (ListsFiles-no_segments c.args.judging.now)

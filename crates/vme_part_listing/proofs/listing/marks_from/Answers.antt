@@ -8,7 +8,8 @@ use Rattle.vme_summary.proofs.Together.{merged-marks_of_monitors}
 use Rattle.vme_part_format.specs.Tables.{segment_value}
 use Rattle.vme_part_listing.specs.Late.{HasLateMark}
 use Rattle.vme_part_listing.specs.Marks.{ShowLate, ShowsFiles, marks_of_ways}
-use Rattle.vme_part_listing.proofs.MarkedFiles.{late_whole, marks_first, marks_on, marks_whole, stops_late}
+use Rattle.vme_part_listing.proofs.MarkedFiles.{ShowLate-shown, MarksTo-first, MarksTo-next, ShowsFiles-none_left}
+use Rattle.vme_part_listing.proofs.MarkedFiles.{ShowLate-stops}
 use Rattle.vme_parts.proofs.Ordering.{IsSegment-item_at}
 use Rattle.vme_part_listing.proofs.listing.marks_from.Goals as goal
 
@@ -35,7 +36,7 @@ loop-segment-init c =
     record {
       fit = c.of-judging.ensures.fit;
       ways = c.in_ok-go_past.ensures.fit;
-      come = marks_first c.of-judging.result c.at-ways.result c.go_past.new.self (segment_value c.args.first.now)
+      come = MarksTo-first c.of-judging.result c.at-ways.result c.go_past.new.self (segment_value c.args.first.now)
           (map segment_value c.args.rest.now) (omega arith) c.of-judging.ensures.judged c.at-ways.ensures.shows
           c.in_ok-go_past.ensures.shows;
     }
@@ -46,7 +47,7 @@ loop-segment-preserved c =
     record {
       fit = c.go_past-in-loop-segment.ensures.fit;
       ways = c.in_ok-go_past-in-Ok.ensures.fit;
-      come = marks_on c.loop-segment.judging c.loop-segment.ways (segment_value c.args.first.now) c.args.rest.now
+      come = MarksTo-next c.loop-segment.judging c.loop-segment.ways (segment_value c.args.first.now) c.args.rest.now
           c.loop-segment.segment-index c.segment-item.result lt c.segment-item.is c.loop-segment.invariant.come
           c.go_past-in-loop-segment.new.self c.go_past-in-Ok.new.self (omega arith) c.in-Ok.ensures.judged
           c.in_ok-go_past-in-Ok.ensures.shows;
@@ -58,7 +59,8 @@ returns c =
     let s = segment_value c.args.first.now in
     let ss = s ∷ map segment_value c.args.rest.now in
     let ms = marks_of_ways c.loop-segment.ways in
-    let whole = marks_whole c.loop-segment.judging c.loop-segment.ways s c.args.rest.now c.loop-segment.segment-index
+    let whole = ShowsFiles-none_left c.loop-segment.judging c.loop-segment.ways s c.args.rest.now
+    c.loop-segment.segment-index
     (omega (arith, c.loop-segment-test.false))
     (λ t sound few has.
     merged-marks_of_monitors t _ _ _ _ _ (has.known.marks ∙ c.known_over_recordings.ensures.marks t sound few)
@@ -75,13 +77,13 @@ returns c =
           (λ v e. subst (λ (zs : List Mark). ShowsFiles s.opening ss zs) (sym e) whole))
           c.together.ensures.same;
       late = IfOk-weaker c.together.result P Q
-          (λ found given none. late_whole s.opening ss ms whole (given none)) c.together.ensures.late;
+          (λ found given none. ShowLate-shown s.opening ss ms whole (given none)) c.together.ensures.late;
     }
 
 pub returns-in-Err-clause-late : goal.returns-in-Err-clause-late
 returns-in-Err-clause-late c =
     λ none.
     let lt : c.loop-segment.segment-index < length c.args.rest.now = omega arith in
-    stops_late c.loop-segment.judging c.loop-segment.ways (segment_value c.args.first.now) c.args.rest.now
+    ShowLate-stops c.loop-segment.judging c.loop-segment.ways (segment_value c.args.first.now) c.args.rest.now
     c.loop-segment.segment-index c.segment-item.result lt c.segment-item.is c.loop-segment.invariant.come
     c.go_past-in-loop-segment.result _ c.in-Err.is c.go_past-in-loop-segment.ensures.stops
