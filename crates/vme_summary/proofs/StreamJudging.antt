@@ -5,6 +5,7 @@ use Rattle.vme_trace.specs.WellFormed.{capture_limit}
 use Rattle.vme_trace.specs.declared.step.Step.{Step}
 use Rattle.vme_summary.specs.JudgedSoFar.{KeepsUp}
 
+-- of the `count` steps that were taken all but the waiting ones have been judged
 module _ (IsPast : Levels → List Step → Type 0) (count : ℕ) (o : Levels) (taken waiting : List Step)
     (k : KeepsUp IsPast count o taken waiting) (le : count ≤ capture_limit) where
   -- the steps taken are within the limit of a recording

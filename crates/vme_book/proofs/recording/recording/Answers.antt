@@ -11,20 +11,24 @@ use Rattle.vme_book.proofs.Prefixes.{prefix-of_all, length-places, length-joined
 use Rattle.vme_book.proofs.Prefixes.{prefix-value_at, recording-next_block, read-of_get_or, joined_trace-of_all}
 use Rattle.vme_book.proofs.recording.recording.Goals as goal
 
-no_length : {A : Type 0} (xs : List A) → length xs ≡ 0 → xs ≡ []
-no_length [] e = refl
-no_length (x ∷ xs) e = absurd (omega arith)
+-- a list of length 0 is empty
+nil-no_length : {A : Type 0} (xs : List A) → length xs ≡ 0 → xs ≡ []
+nil-no_length [] e = refl
+nil-no_length (x ∷ xs) e = absurd (omega arith)
 
 -- where no block is left, the steps so far are all steps
-last_part : (items : List (Option Block)) (bs : List Block) (steps all : List Step) → length items ≡ 0 → items
+steps-none_left : (items : List (Option Block)) (bs : List Block) (steps all : List Step) → length items ≡ 0 → items
     ≡ map Some bs → steps ++ joined_steps bs ≡ all → steps ≡ all
-last_part items [] steps all n e s = sym (append-nil steps) ∙ s
-last_part items (b ∷ bs) steps all n e s = let more = ap length e in absurd (omega arith)
+steps-none_left items [] steps all n e s = sym (append-nil steps) ∙ s
+steps-none_left items (b ∷ bs) steps all n e s = let more = ap length e in absurd (omega arith)
 
-no_place : (items rest : List (Option Block)) (place : Option Block) (bs : List Block) → items ≡ place ∷ rest → items
+-- where all places have blocks, the first place isn't empty
+not_None-first_place : (items rest : List (Option Block)) (place : Option Block) (bs : List Block) → items
+    ≡ place ∷ rest → items
     ≡ map Some bs → place ≡ None → ⊥
-no_place items rest place [] e m n = let none : place ∷ rest ≡ [] = sym e ∙ m in absurd (cc)
-no_place items rest place (b ∷ bs) e m n = let whole : place ∷ rest ≡ Some b ∷ map Some bs = sym e ∙ m in absurd (cc)
+not_None-first_place items rest place [] e m n = let none : place ∷ rest ≡ [] = sym e ∙ m in absurd (cc)
+not_None-first_place items rest place (b ∷ bs) e m n =
+    let whole : place ∷ rest ≡ Some b ∷ map Some bs = sym e ∙ m in absurd (cc)
 
 pub unreachable-requires : goal.unreachable-requires
 unreachable-requires c =
@@ -42,7 +46,7 @@ unreachable-requires-in_default c =
     let bs = c.requires.join.0 in
     let all = c.requires.join.1 in
     let part = c.loop-place.invariant.parts bs all.all in
-    no_place _ _ c.in-Some-place.place part.0 c.in-Some-place.ensures.steps.0 part.1 c.in_default.is
+    not_None-first_place _ _ c.in-Some-place.place part.0 c.in-Some-place.ensures.steps.0 part.1 c.in_default.is
 
 pub unreachable-requires-in_default-append : goal.unreachable-requires-in_default-append
 unreachable-requires-in_default-append c =
@@ -90,7 +94,8 @@ from_well_formed-requires c =
     let all = c.requires.join.1 in
     let part = c.loop-place.invariant.parts bs all.all in
     let none = c.in-None-place.ensures.steps.0 in
-    let steps : c.loop-place.steps.items ≡ joined_steps bs = last_part (into_iter_items c.loop-place.place-iterator)
+    let steps : c.loop-place.steps.items ≡ joined_steps bs =
+    steps-none_left (into_iter_items c.loop-place.place-iterator)
     part.0 _ _ (c.loop-place.invariant.counted ∙ none) part.1 part.2 in
     let first = get_or-of_read items 0 c.index.result.now c.in-Some.first c.requires.some c.index.ensures
     c.in-Some.is in
@@ -105,7 +110,8 @@ unreachable-requires-in-None-from_well_formed c =
     let all = c.requires.join.1 in
     let part = c.loop-place.invariant.parts bs all.all in
     let none = c.in-None-place.ensures.steps.0 in
-    let steps : c.loop-place.steps.items ≡ joined_steps bs = last_part (into_iter_items c.loop-place.place-iterator)
+    let steps : c.loop-place.steps.items ≡ joined_steps bs =
+    steps-none_left (into_iter_items c.loop-place.place-iterator)
     part.0 _ _ (c.loop-place.invariant.counted ∙ none) part.1 part.2 in
     let long = length-places items bs all.all in
     let few = c.requires.placed.few in

@@ -1,3 +1,4 @@
+-- The report at the end of a run: its answers, its recording, what was taken early, and why there is none.
 use Rattle.std.proofs.Common.{◌≡◌, ℕ, List, Option, sym, subst, arith}
 use Rattle.vme_trace.specs.declared.block.Block.{Block}
 use Rattle.vme_core.specs.Counting.{occurrences}
@@ -14,41 +15,42 @@ use Rattle.vme_floor.proofs.Accounts.{count-all_early, HasAnswers-work, HasBlock
 use Rattle.vme_floor.proofs.Accounts.{IsLeastUnfiled-missing, IsRecorded-whole}
 use Rattle.vme_floor.proofs.finish_run.finish_run.Goals as goal
 
-are_all : (lent replies : List Reply) (answers : List Answer) → lent ≡ replies → AreReplies lent answers
+-- the answers to replies are those to the same replies
+AreReplies-same : (lent replies : List Reply) (answers : List Answer) → lent ≡ replies → AreReplies lent answers
     → AreReplies replies answers
-are_all lent replies answers is are = subst (λ (rs : List Reply). AreReplies rs answers) is are
+AreReplies-same lent replies answers is are = subst (λ (rs : List Reply). AreReplies rs answers) is are
 
 pub insert_all-requires-clause-apart : goal.insert_all-requires-clause-apart
 insert_all-requires-clause-apart c n b d at left =
     HasBlock-apart c.args.total c.args.deliveries.now c.requires.account.0
     c.args.replies.items c.args.collection c.args.closed c.requires.account.1 n b d at left
 
--- the first claim
+-- the answers are those to all replies
 pub returns-in-Ok-close-clause-answers : goal.returns-in-Ok-close-clause-answers
 returns-in-Ok-close-clause-answers c =
-    let are = are_all c.as_slice.result.now c.args.replies.items c.in-Ok.answers c.as_slice.ensures.value
+    let are = AreReplies-same c.as_slice.result.now c.args.replies.items c.in-Ok.answers c.as_slice.ensures.value
     c.in-Ok.ensures.replies in
     HasAnswers-work c.args.total c.args.deliveries.now c.requires.account.0 c.args.replies.items c.in-Ok.answers
     c.requires.account.1.work are c.in-Ok.ensures.count c.requires.account.1.did
 
 pub returns-in-Err-default-Missing-clause-answers : goal.returns-in-Err-default-Missing-clause-answers
 returns-in-Err-default-Missing-clause-answers c =
-    let are = are_all c.as_slice.result.now c.args.replies.items c.in-Ok.answers c.as_slice.ensures.value
+    let are = AreReplies-same c.as_slice.result.now c.args.replies.items c.in-Ok.answers c.as_slice.ensures.value
     c.in-Ok.ensures.replies in
     HasAnswers-work c.args.total c.args.deliveries.now c.requires.account.0 c.args.replies.items c.in-Ok.answers
     c.requires.account.1.work are c.in-Ok.ensures.count c.requires.account.1.did
 
 pub returns-in-Err-default-Torn-clause-answers : goal.returns-in-Err-default-Torn-clause-answers
 returns-in-Err-default-Torn-clause-answers c =
-    let are = are_all c.as_slice.result.now c.args.replies.items c.in-Ok.answers c.as_slice.ensures.value
+    let are = AreReplies-same c.as_slice.result.now c.args.replies.items c.in-Ok.answers c.as_slice.ensures.value
     c.in-Ok.ensures.replies in
     HasAnswers-work c.args.total c.args.deliveries.now c.requires.account.0 c.args.replies.items c.in-Ok.answers
     c.requires.account.1.work are c.in-Ok.ensures.count c.requires.account.1.did
 
--- the second claim
+-- the filed blocks join, and make the recording
 pub returns-in-Ok-close-clause-recorded : goal.returns-in-Ok-close-clause-recorded
 returns-in-Ok-close-clause-recorded c =
-    let are = are_all c.as_slice.result.now c.args.replies.items c.in-Ok.answers c.as_slice.ensures.value
+    let are = AreReplies-same c.as_slice.result.now c.args.replies.items c.in-Ok.answers c.as_slice.ensures.value
     c.in-Ok.ensures.replies in let v : View = c.requires.account.0 in let k = c.requires.account.1 in
     let all : List (Option Block) = c.in-Ok-insert_all.book in let whole = c.in-Ok-close.ensures.whole in
     let closed : IsClosed c.args.total v all = IsClosed-union c.args.total c.args.deliveries.now v c.args.replies.items
@@ -72,10 +74,10 @@ returns-in-Ok-close-clause-own c v k own =
     k.no_taken all union own
     (λ n low. HasBlock-contents whole.0 all (sym whole.1.all) n (omega (arith, low, long, held)))
 
--- the third claim
+-- a refusal names the least number that is missing, or the first block that is torn
 pub returns-in-Err-default-Missing-clause-refusals : goal.returns-in-Err-default-Missing-clause-refusals
 returns-in-Err-default-Missing-clause-refusals c =
-    let are = are_all c.as_slice.result.now c.args.replies.items c.in-Ok.answers c.as_slice.ensures.value
+    let are = AreReplies-same c.as_slice.result.now c.args.replies.items c.in-Ok.answers c.as_slice.ensures.value
     c.in-Ok.ensures.replies in let v : View = c.requires.account.0 in let k = c.requires.account.1 in
     let all : List (Option Block) = c.in-Ok-insert_all.book in
     let closed : IsClosed c.args.total v all = IsClosed-union c.args.total c.args.deliveries.now v c.args.replies.items
@@ -87,7 +89,7 @@ returns-in-Err-default-Missing-clause-refusals c =
 
 pub returns-in-Err-default-Torn-clause-refusals : goal.returns-in-Err-default-Torn-clause-refusals
 returns-in-Err-default-Torn-clause-refusals c =
-    let are = are_all c.as_slice.result.now c.args.replies.items c.in-Ok.answers c.as_slice.ensures.value
+    let are = AreReplies-same c.as_slice.result.now c.args.replies.items c.in-Ok.answers c.as_slice.ensures.value
     c.in-Ok.ensures.replies in let v : View = c.requires.account.0 in let k = c.requires.account.1 in
     let all : List (Option Block) = c.in-Ok-insert_all.book in
     let closed : IsClosed c.args.total v all = IsClosed-union c.args.total c.args.deliveries.now v c.args.replies.items

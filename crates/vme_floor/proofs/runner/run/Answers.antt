@@ -13,22 +13,27 @@ use Rattle.vme_floor.specs.declared.report.RunFault.TheVariants.{Stray}
 use Rattle.vme_floor.proofs.Cutting.{IsOutcomeOf-result}
 use Rattle.vme_floor.proofs.runner.run.Goals as goal
 
-split_of : (r : Result Report RunFault) → IfOk r (λ x. x.verdict ≡ verdict_by rules_in_force x.capture)
+-- if the verdict of a report is that of its recording, the recording's rows split its edges
+Splits-of_report : (r : Result Report RunFault) → IfOk r (λ x. x.verdict ≡ verdict_by rules_in_force x.capture)
     → IfOk r (λ x. Splits x.capture x.verdict (recorded_rows x.capture))
-split_of (Ok x) is = subst (λ v. Splits x.capture v (recorded_rows x.capture)) (sym is) (Splits-listing x.capture)
-split_of (Err fault) is = tt
+Splits-of_report (Ok x) is = subst (λ v. Splits x.capture v (recorded_rows x.capture)) (sym is)
+    (Splits-listing x.capture)
+Splits-of_report (Err fault) is = tt
 
 pub returns-clause-split : goal.returns-clause-split
-returns-clause-split g c = split_of c.run_deliveries.result c.run_deliveries.ensures.verdict
+returns-clause-split g c = Splits-of_report c.run_deliveries.result c.run_deliveries.ensures.verdict
 
-not_stray : (total : ℕ) (deliveries : List Block) (workers : ℕ) (r : Result Report RunFault)
+-- a fault that satisfies `IsFault` isn't `Stray`
+not_Stray-of_fault : (total : ℕ) (deliveries : List Block) (workers : ℕ) (r : Result Report RunFault)
     → IfErr r (λ f. IsFault total deliveries workers f) → IfErr r (λ f. f ≢ Stray)
-not_stray total deliveries workers (Ok x) is = tt
-not_stray total deliveries workers (Err f) is = λ stray. subst (λ (f : RunFault). IsFault total deliveries workers f)
+not_Stray-of_fault total deliveries workers (Ok x) is = tt
+not_Stray-of_fault total deliveries workers (Err f) is =
+    λ stray. subst (λ (f : RunFault). IsFault total deliveries workers f)
     stray is
 
 pub returns-clause-accounted : goal.returns-clause-accounted
-returns-clause-accounted g c = not_stray c.args.total c.args.deliveries.now c.args.workers c.run_deliveries.result
+returns-clause-accounted g c = not_Stray-of_fault c.args.total c.args.deliveries.now c.args.workers
+    c.run_deliveries.result
     c.run_deliveries.ensures.refusals
 
 pub returns-clause-cut : goal.returns-clause-cut

@@ -1,3 +1,4 @@
+-- The threads begin with a share of the board each, and the work of all together has the whole of it.
 use Rattle.std.proofs.Common.{rules, ◌≡◌, ℕ, suc, IfOk, Ok, Err, refl, le_refl, get_or, length, length-append, vec_len}
 use Rattle.std.proofs.Common.{vec_items, None, ◌+◌, ◌++◌, [], ◌∷◌, List, Result, ◌∙◌, sym, ap, subst, arith}
 use Rattle.std.proofs.lemmas.Option.{none-some}
@@ -20,16 +21,17 @@ use Rattle.vme_floor.proofs.threads.work_in_scope.Goals.{else-loop-worker-test, 
 use Rattle.vme_floor.proofs.threads.work_in_scope.Goals.{then-loop-worker-test+else-is_err+in-Err}
 use Rattle.vme_floor.proofs.threads.work_in_scope.Goals as goal
 
+-- the handle of a thread, which promises a worker's work
 abbrev Handle : Type 0
 Handle = PromisedHandle (Result Work AllocError) WorkContext
 
 -- the share of a thread's work, by its worker's number
-one_share : (r : Result Work AllocError) (P : Work → Type 0) (m n : ℕ)
+share-of_work : (r : Result Work AllocError) (P : Work → Type 0) (m n : ℕ)
     → IfOk r (λ work. P work × ((view_of work.bench).share ≡ m ∷ [])) → m ≡ n
     → IfOk r (λ work. (view_of work.bench).share
     ≡ n ∷ [])
-one_share (Ok work) P m n k is = k.1 ∙ ap (λ (x : ℕ). x ∷ []) is
-one_share (Err e) P m n k is = tt
+share-of_work (Ok work) P m n k is = k.1 ∙ ap (λ (x : ℕ). x ∷ []) is
+share-of_work (Err e) P m n k is = tt
 
 pub loop-handle-preserved : goal.loop-handle-preserved
 loop-handle-preserved g c = record {
@@ -48,7 +50,7 @@ loop-handle-preserved g c = record {
             ∙ (was.3 (suc k) d (omega (arith, below, steps)) ∙ (let e : t + suc k + 1 ≡ suc t + k + 1 = omega arith in
             e))),
         c.with_other-all.ensures.share (m ∷ upto t) (suc t ∷ []) was.4
-            (one_share c.join.result _ c.in-Some.handle.promise.worker (suc t) c.join.ensures
+            (share-of_work c.join.result _ c.in-Some.handle.promise.worker (suc t) c.join.ensures
             (ap (λ (l : List Handle). (get_or l 0 c.in-Some.handle).promise.worker) (sym step.0)
             ∙ (was.3 0 c.in-Some.handle (omega (arith, steps)) ∙ (let e : t + 0 + 1 ≡ suc t = omega arith in e)))),
       );
@@ -108,10 +110,11 @@ loop-worker-preserved g c =
     }
 
 -- a share may be replaced by an equal one
-share_as : (r : Result CollectingWorker AllocError) (s u : List ℕ) → IfOk r (λ all. (view_of all.work.bench).share ≡ s)
+share-same : (r : Result CollectingWorker AllocError) (s u : List ℕ)
+    → IfOk r (λ all. (view_of all.work.bench).share ≡ s)
     → s ≡ u → IfOk r (λ all. (view_of all.work.bench).share ≡ u)
-share_as (Ok all) s u a is = a ∙ is
-share_as (Err e) s u a is = tt
+share-same (Ok all) s u a is = a ∙ is
+share-same (Err e) s u a is = tt
 
 pub loop-handle-init : goal.loop-handle-init
 loop-handle-init g c =
@@ -138,7 +141,7 @@ loop-handle-init g c =
           omega (arith, count),
           (λ k d below. ap (λ (l : List Handle). (get_or l k d).promise.worker) all_same
               ∙ (was.workers k d (omega (arith, below, count)) ∙ (let e : k + 1 ≡ 0 + k + 1 = omega arith in e))),
-          share_as c.deliver_and_collect-all.result (view_of c.loop-worker-test.bench).share
+          share-same c.deliver_and_collect-all.result (view_of c.loop-worker-test.bench).share
               (vec_len c.loop-worker.handles ∷ []) c.deliver_and_collect-all.ensures.share
               (ap (λ (b : Bench). (view_of b).share) w.bench-is ∙ was.share),
         )

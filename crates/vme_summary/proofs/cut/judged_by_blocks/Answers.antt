@@ -5,16 +5,17 @@ use Rattle.std.proofs.lemmas.List.{nil_from_length}
 use Rattle.vme_trace.specs.Levels.{Levels}
 use Rattle.vme_summary.proofs.cut.judged_by_blocks.Goals as goal
 
-not_zero : (n : ℕ) → (n ≡ 0 → ⊥) → 0 < n
-not_zero n h = grind arith
+-- a number other than 0 is more than 0
+positive-not_zero : (n : ℕ) → (n ≡ 0 → ⊥) → 0 < n
+positive-not_zero n h = grind arith
 
 pub chunks-block-items-requires : goal.chunks-block-items-requires
-chunks-block-items-requires g c = not_zero c.args.size (λ none. let bad = c.in_ok-check_size.ensures.bad_size.1
+chunks-block-items-requires g c = positive-not_zero c.args.size (λ none. let bad = c.in_ok-check_size.ensures.bad_size.1
     (inl none) in absurd (cc))
 
 pub loop-block-init : goal.loop-block-init
 loop-block-init g c =
-    let some : 0 < c.args.size = not_zero c.args.size (λ none. let bad = c.in_ok-check_size.ensures.bad_size.1
+    let some : 0 < c.args.size = positive-not_zero c.args.size (λ none. let bad = c.in_ok-check_size.ensures.bad_size.1
     (inl none) in absurd (cc)) in
     let from = c.into_iter-block-iterator.ensures.into_iter_gives in (
       rw (from, c.chunks-block-items.ensures.size) some,

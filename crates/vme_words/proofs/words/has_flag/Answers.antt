@@ -1,3 +1,4 @@
+-- Whether a flag is given, by the text that is found for it.
 use Rattle.std.proofs.Common.{◌≡◌, ℕ, List, rules, ap, refl, sym, ◌∙◌}
 use Rattle.std.specs.Prelude.{Option, Some, None, option_map}
 use Rattle.std.specs.Borrow.{Bor}
@@ -5,19 +6,20 @@ use Rattle.clap.specs.Words.{first_of, found_of, rows_of}
 use Rattle.clap.proofs.WalkLemmas.{first_value-rows}
 use Rattle.vme_words.proofs.words.has_flag.Goals as goal
 
-abbrev text_of : Option (Bor (List ℕ)) → Option (List ℕ)
-text_of o = option_map (λ (s : Bor (List ℕ)). s.now) o
+-- the text that is found, if any
+abbrev found_text : Option (Bor (List ℕ)) → Option (List ℕ)
+found_text o = option_map (λ (s : Bor (List ℕ)). s.now) o
 
 pub returns-in-Some : goal.returns-in-Some
 returns-in-Some c =
     let found = found_of c.args.found.now in
     let given : first_of c.args.name.now (rows_of found) ≡ Some c.in-Some.text.now =
-    sym (first_value-rows found c.args.name.now) ∙ sym c.get_str.ensures ∙ ap text_of c.in-Some.is in
+    sym (first_value-rows found c.args.name.now) ∙ sym c.get_str.ensures ∙ ap found_text c.in-Some.is in
     rw given (search rules)
 
 pub returns-in-None : goal.returns-in-None
 returns-in-None c =
     let found = found_of c.args.found.now in
     let given : first_of c.args.name.now (rows_of found) ≡ None =
-    sym (first_value-rows found c.args.name.now) ∙ sym c.get_str.ensures ∙ ap text_of c.in-None.is in
+    sym (first_value-rows found c.args.name.now) ∙ sym c.get_str.ensures ∙ ap found_text c.in-None.is in
     rw given refl

@@ -1,14 +1,17 @@
+-- The number of an option is the one that is read from its text, if it is from `least` on.
 use Rattle.std.proofs.Common.{◌≡◌, ◌∙◌, ℕ, Option, Some, None, ap, sym, arith}
 use Rattle.std.specs.Prelude.{unwrap_or}
 use Rattle.std.specs.Str.Parse.{ParsesUnsigned, ExplainsUnsignedError, HasUnsignedDigitsIfOk}
 use Rattle.vme_words.proofs.OrderLemmas.{number_in-read, HasUnsignedFrom-read}
 use Rattle.vme_words.proofs.words.unsigned.Goals as goal
 
-number_is : (r : Option ℕ) (n m : ℕ) → r ≡ Some n → r ≡ Some m → n ≡ m
-number_is r n m is same = ap (λ (o : Option ℕ). unwrap_or o 0) (sym is ∙ same)
+-- an option that is `Some n` and `Some m` has n equal to m
+Some-injective : (r : Option ℕ) (n m : ℕ) → r ≡ Some n → r ≡ Some m → n ≡ m
+Some-injective r n m is same = ap (λ (o : Option ℕ). unwrap_or o 0) (sym is ∙ same)
 
-none_is : (r : Option ℕ) (n : ℕ) → r ≡ Some n → r ≡ None → ⊥
-none_is r n is none =
+-- an option that is `Some n` isn't `None`
+not_None-of_Some : (r : Option ℕ) (n : ℕ) → r ≡ Some n → r ≡ None → ⊥
+not_None-of_Some r n is none =
     let bad : Some n ≡ None = sym is ∙ none in
     cc
 
@@ -23,7 +26,7 @@ returns-in_default-clause-found c has =
     let got = HasUnsignedFrom-read _ (λ bs r. ParsesUnsigned 64 10 bs r × ExplainsUnsignedError 10 bs r
     × HasUnsignedDigitsIfOk bs r) c.args.found.now c.args.name.now
     c.args.least c.get_one.result has c.get_one.ensures.value (λ t x h. h.0) in
-    let same = number_is c.get_one.result got.0 c.in-Some.number got.1 c.in-Some.is in
+    let same = Some-injective c.get_one.result got.0 c.in-Some.number got.1 c.in-Some.is in
     absurd (omega (arith, got.2, same, c.if-least-number.false))
 
 pub returns-in_default-2-clause-found : goal.returns-in_default-2-clause-found
@@ -31,4 +34,4 @@ returns-in_default-2-clause-found c has =
     let got = HasUnsignedFrom-read _ (λ bs r. ParsesUnsigned 64 10 bs r × ExplainsUnsignedError 10 bs r
     × HasUnsignedDigitsIfOk bs r) c.args.found.now c.args.name.now
     c.args.least c.get_one.result has c.get_one.ensures.value (λ t x h. h.0) in
-    absurd (none_is c.get_one.result got.0 got.1 c.in_default.is)
+    absurd (not_None-of_Some c.get_one.result got.0 got.1 c.in_default.is)

@@ -34,29 +34,37 @@ use Rattle.vme_summary.proofs.ghost_steps.GhostSteps.and.Statement as stated
 use Rattle.vme_summary.proofs.ghost_steps.GhostSteps.and.Code as code
 use Rattle.vme_summary.specs.contracts.ghost_steps.GhostSteps as made
 
+-- the two parameters are references, which stay as they are
 abbrev stayed : Stays (f.ended).signature.params (f.ended).kept
 stayed = (
   stay_none_ref (0 ∷ []) tt (plain (λ _. made.the_row)) yes,
   (stay_none_ref (1 ∷ []) tt (plain (λ _. Step.the_row)) yes, tt),
 )
 
+-- in a program logic 𝓛, with its memory, routines, calls and loops
 module _ {M : Type 1} {𝓤 : Ura M} (𝓛 : Logic 𝓤) (mem : Memory → SProp 𝓤) (run : Routine → Fun 𝓤) (C : Calls 𝓤 𝓛.H)
     (Λ : Loops 𝓤 𝓛.H) where
   open 𝓛 use {H}
 
+  -- one call, with the arguments a
   module _ (κs : Lfts 2) (qs : Shares 2) (a : Args f.signature κs) where
+    -- the pointer to the steps so far
     abbrev before : Val
     before = vptr a.0.ref_ptr.0 a.0.ref_ptr.1
 
+    -- the pointer to the step that is added
     abbrev more : Val
     more = vptr a.1.0.ref_ptr.0 a.1.0.ref_ptr.1
 
+    -- what the clauses speak of: the arguments and their values
     abbrev bound : (walk_of 𝓛 f.ended stayed (f.clauses 𝓛 mem run)).Ghost
     bound = ((κs, qs, tt, a, (before ∷ [], (more ∷ [], tt))), tt)
 
+    -- the arguments are owned at the entry
     abbrev passed : Fml
     passed = owns (types_at f.signature.params κs) a (before ∷ [], (more ∷ [], tt))
 
+    -- run from the entry, step by step, the function ends as its clauses say
     walk : ent 𝓤 (on_entry 𝓛 f.signature κs qs a (before ∷ [], (more ∷ [], tt)))
         (WpFn 𝓤 H C Λ code.function (before ∷ more ∷ []) ((walk_of 𝓛 f.ended stayed (f.clauses 𝓛 mem run)).post bound))
     walk =
@@ -69,12 +77,14 @@ module _ {M : Type 1} {𝓤 : Ura M} (𝓛 : Logic 𝓤) (mem : Memory → SProp
         (vstruct vnil ∷ [])) ((λ vss. (tt, tt)), tt) ((tt, (refl, tt)), tt) $
         move ! (1 ∷ 2 ∷ 0 ∷ []) $ done !)
 
+  -- it does so for all arguments
   walks : Walks 𝓛 f.ended stayed (WpFn 𝓤 H C Λ code.function) (f.clauses 𝓛 mem run)
   walks =
       walked 𝓛 f.ended stayed (f.clauses 𝓛 mem run) (WpFn 𝓤 H C Λ code.function) (λ κs. (shr_vals, (shr_vals, tt)))
       (λ κs. (shr_Tells (named 0) κs.0 made.the_row, (shr_Tells (named 1) κs.1.0 Step.the_row, tt)))
       (λ κs qs bounds a g are. via 𝓤 _ (fst∗ 𝓤 _ (emp 𝓤)) (walk κs qs a))
 
+-- the function meets the specification that its clauses make
 meets : {M : Type 1} {𝓤 : Ura M} (𝓛 : Logic 𝓤) (mem : Memory → SProp 𝓤) (run : Routine → Fun 𝓤) (𝓣 : Tables 𝓤 𝓛.H)
     → Meets 𝓛 f.signature (WpFn 𝓤 𝓛.H 𝓣.C 𝓣.Λ code.function) (f.spec 𝓛 mem run)
 meets {𝓤 = 𝓤} 𝓛 mem run 𝓣 =
@@ -85,6 +95,7 @@ meets {𝓤 = 𝓤} 𝓛 mem run 𝓣 =
     (WpFn 𝓤 𝓛.H 𝓣.C 𝓣.Λ code.function)
     (WpFn-mono 𝓤 𝓛.H 𝓛.laws 𝓣 code.function) (walks 𝓛 mem run 𝓣.C 𝓣.Λ)
 
+-- the function of the program meets its contract
 pub and_spec : {M : Type 1} → stated.statement M
 unfolding tables_of
 and_spec 𝓤 𝓛 𝓜 𝓡 wired =

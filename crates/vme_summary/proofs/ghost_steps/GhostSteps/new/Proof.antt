@@ -27,16 +27,20 @@ use Rattle.vme_summary.proofs.ghost_steps.GhostSteps.new.Statement as stated
 use Rattle.vme_summary.proofs.ghost_steps.GhostSteps.new.Code as code
 use Rattle.vme_summary.specs.contracts.ghost_steps.GhostSteps as made
 
+-- there are no parameters that could stay as they are
 abbrev stayed : Stays (f.ended).signature.params (f.ended).kept
 stayed = tt
 
+-- in a program logic 𝓛, with its memory, routines, calls and loops
 module _ {M : Type 1} {𝓤 : Ura M} (𝓛 : Logic 𝓤) (mem : Memory → SProp 𝓤) (run : Routine → Fun 𝓤) (C : Calls 𝓤 𝓛.H)
     (Λ : Loops 𝓤 𝓛.H) where
   open 𝓛 use {H}
 
+  -- what the clauses speak of: there are no arguments
   abbrev bound : (walk_of 𝓛 f.ended stayed (f.clauses 𝓛 mem run)).Ghost
   bound = ((tt, tt, tt, tt, tt), tt)
 
+  -- run from the entry, step by step, the function ends as its clauses say
   walk : ent 𝓤 (on_entry 𝓛 f.signature tt tt tt tt)
       (WpFn 𝓤 H C Λ code.function [] ((walk_of 𝓛 f.ended stayed (f.clauses 𝓛 mem run)).post bound))
   walk =
@@ -48,17 +52,20 @@ module _ {M : Type 1} {𝓤 : Ura M} (𝓛 : Logic 𝓤) (mem : Memory → SProp
       ((tt, (refl, tt)), tt) $
       move ! (1 ∷ 2 ∷ 0 ∷ []) $ done !)
 
+  -- it does so at each call
   walks : Walks 𝓛 f.ended stayed (WpFn 𝓤 H C Λ code.function) (f.clauses 𝓛 mem run)
   walks =
       walked 𝓛 f.ended stayed (f.clauses 𝓛 mem run) (WpFn 𝓤 H C Λ code.function) (λ κs. tt) (λ κs. tt)
       (λ κs qs bounds a g are. via 𝓤 _ (fst∗ 𝓤 _ (emp 𝓤)) walk)
 
+-- the function meets the specification that its clauses make
 meets : {M : Type 1} {𝓤 : Ura M} (𝓛 : Logic 𝓤) (mem : Memory → SProp 𝓤) (run : Routine → Fun 𝓤) (𝓣 : Tables 𝓤 𝓛.H)
     → Meets 𝓛 f.signature (WpFn 𝓤 𝓛.H 𝓣.C 𝓣.Λ code.function) (f.spec 𝓛 mem run)
 meets {𝓤 = 𝓤} 𝓛 mem run 𝓣 =
     walk_Meets 𝓛 f.ended stayed tt (f.clauses 𝓛 mem run) (WpFn 𝓤 𝓛.H 𝓣.C 𝓣.Λ code.function)
     (WpFn-mono 𝓤 𝓛.H 𝓛.laws 𝓣 code.function) (walks 𝓛 mem run 𝓣.C 𝓣.Λ)
 
+-- the function of the program meets its contract
 pub new_spec : {M : Type 1} → stated.statement M
 unfolding tables_of
 new_spec 𝓤 𝓛 𝓜 𝓡 wired =

@@ -1,4 +1,4 @@
--- The summary gives the listing.
+-- The listing that is made of a span is that of its recording, splits its edges, and is well placed.
 use Rattle.std.proofs.Common.{◌≡◌, ◌≤◌, sym, ◌∙◌, ap, subst, arith, Some, option_map}
 use Rattle.vme_trace.specs.Verdict.{verdict}
 use Rattle.vme_listing.specs.Listed.{Listed}
@@ -21,8 +21,8 @@ returns-clause-listing c =
     IfOk-weaker c.listing.result _ _ (λ rows is. IsListingOf-of_summary s few rows is) c.listing.ensures.listing
 
 -- the edges of the recording split into what its listing lists
-split_of : (s : Span) (listing : Listed) → IsListingOf s listing → SplitsItsRecording s listing
-split_of s listing is blocks t stands joins =
+SplitsItsRecording-listing : (s : Span) (listing : Listed) → IsListingOf s listing → SplitsItsRecording s listing
+SplitsItsRecording-listing s listing is blocks t stands joins =
     let same : Some (listing_of t) ≡ Some listing = sym (ap (option_map listing_of) joins) ∙ is blocks stands in
     let told : listing_of t ≡ listing = cc in
     subst (λ (l : Listed). Splits t (verdict t) l.rows) told (Splits-listing t)
@@ -31,7 +31,8 @@ pub returns-clause-split : goal.returns-clause-split
 returns-clause-split c =
     let s = c.args.self.now in
     let few : s.extent.opening.slots ≤ 21 = omega arith in
-    IfOk-weaker c.listing.result _ _ (λ rows is. split_of s rows (IsListingOf-of_summary s few rows is))
+    IfOk-weaker c.listing.result _ _ (λ rows is. SplitsItsRecording-listing s rows
+    (IsListingOf-of_summary s few rows is))
     c.listing.ensures.listing
 
 pub returns-clause-placed : goal.returns-clause-placed
