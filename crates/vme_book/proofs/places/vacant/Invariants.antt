@@ -1,3 +1,4 @@
+-- The loop over the places: those so far are empty, and there is room for all.
 use Rattle.std.proofs.Common.{◌≡◌, ◌≤◌, replicate, None, vec_capacity}
 use Rattle.vme_book.proofs.places.vacant.Given as goal
 

@@ -1,10 +1,11 @@
+-- The loop over the blocks: the steps so far and those of the blocks that are left are all steps, for which there is
+-- room.
 use Rattle.std.proofs.Common.{◌≡◌, ◌≤◌, ◌++◌, List, length, map, Some, vec_capacity}
 use Rattle.std.specs.Vec.Iter.{into_iter_items, into_iter_len}
 use Rattle.vme_trace.specs.Blocks.{joined_steps}
 use Rattle.vme_trace.specs.declared.block.Block.{Block}
 use Rattle.vme_book.proofs.recording.recording.Given as goal
 
--- the steps so far and those of the blocks that are left are all steps, for which there is room
 abbrev pub invariant-loop-place : goal.invariant-loop-place
 invariant-loop-place l = record {
   next : (goal.iterator-loop-place).can_next l.place-iterator;

@@ -1,3 +1,4 @@
+-- The loop over the changed lines: none so far is an acknowledge output that falls.
 use Rattle.std.proofs.Common.{◌≡◌, drop}
 use Rattle.vme_chains.specs.AcknowledgeRules.{first_changed, passes_on}
 use Rattle.vme_chains.proofs.acknowledge.first_passing.Given as goal

@@ -1,3 +1,4 @@
+-- The loop over the levels: none so far is granted without being requested.
 use Rattle.std.proofs.Common.{◌≡◌, false}
 use Rattle.std.specs.Prelude.{not, ◌&&◌}
 use Rattle.vme_trace.specs.Instants.{any}

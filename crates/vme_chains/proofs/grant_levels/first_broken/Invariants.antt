@@ -1,3 +1,4 @@
+-- The loop over the changed lines: none so far breaks the rule.
 use Rattle.std.proofs.Common.{◌≡◌, drop}
 use Rattle.vme_chains.specs.GrantLevels.{first_changed, is_net_broken}
 use Rattle.vme_chains.proofs.grant_levels.first_broken.Given as goal

@@ -1,3 +1,4 @@
+-- The loop over the levels: the arbiter begins to grant none so far.
 use Rattle.std.proofs.Common.{◌≡◌, false}
 use Rattle.vme_trace.specs.Instants.{any}
 use Rattle.vme_trace.specs.LineNumbers.{grant}

@@ -1,3 +1,4 @@
+-- The loop over the levels: the arbiter grants none so far on another net than the line.
 use Rattle.std.proofs.Common.{◌≡◌, false}
 use Rattle.std.specs.Prelude.{not, ◌==◌, ◌&&◌}
 use Rattle.vme_trace.specs.Instants.{any}

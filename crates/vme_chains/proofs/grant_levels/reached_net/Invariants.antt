@@ -1,3 +1,4 @@
+-- The loop over the nets of a level's chain: those so far are Low.
 use Rattle.std.proofs.Common.{◌≡◌, true}
 use Rattle.vme_trace.specs.Instants.{every}
 use Rattle.vme_trace.specs.LineNumbers.{grant}

@@ -1,3 +1,4 @@
+-- The loop over the changed lines: none so far is a net of a grant, so a search among the nets may begin with the rest.
 use Rattle.std.proofs.Common.{◌≡◌, ℕ, Bool, false, drop}
 use Rattle.vme_trace.specs.LineNumbers.{is_grant}
 use Rattle.vme_chains.specs.GrantLevels.{first_changed}

@@ -1,3 +1,5 @@
+-- The loop over the deliveries: there is one answer for each so far, which is that of the table, and there is room for
+-- all.
 use Rattle.std.proofs.Common.{◌≡◌, ℕ, ◌≤◌, length, slice_get, Some}
 use Rattle.std.specs.Prelude.{vec_capacity}
 use Rattle.vme_floor.specs.declared.answer.Answer.{Answer}

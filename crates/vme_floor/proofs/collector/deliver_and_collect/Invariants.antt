@@ -1,3 +1,5 @@
+-- The loop over draws: the work and the collection hold what they should, each block that the bench filed was taken,
+-- and its share is the same. After each round fewer draws are still to be found won.
 use Rattle.std.proofs.Common.{◌≡◌}
 use Rattle.vme_board.specs.Benches.{draws_of, total_of, view_of}
 use Rattle.vme_floor.specs.Collecting.{IsCollected, OwnAreTaken}

@@ -1,3 +1,5 @@
+-- The loop over the blocks that were left on the board: those so far are in the book, and the others are still to be
+-- inserted.
 use Rattle.std.proofs.Common.{◌≡◌, ℕ, length}
 use Rattle.std.specs.Vec.Iter.{into_iter_items, into_iter_len}
 use Rattle.vme_floor.proofs.Uniting.{IsPart}

@@ -1,3 +1,5 @@
+-- Two loops. While threads are started, no fault is there, the bench is new, and each thread so far is a worker with
+-- its number. While they are joined, the work of those so far is collected, and has their shares.
 use Rattle.std.proofs.Common.{◌≡◌, ℕ, ◌+◌, ◌<◌, [], ◌∷◌, vec_len, vec_items, get_or, None, IfOk}
 use Rattle.std.specs.Vec.Iter.{into_iter_items, into_iter_len}
 use Rattle.vme_board.specs.Benches.{total_of, view_of}

@@ -1,3 +1,5 @@
+-- The loop over draws: the work holds what it should, and the bench's share is the same. After each round fewer draws
+-- are still to be found won.
 use Rattle.std.proofs.Common.{◌≡◌}
 use Rattle.vme_board.specs.Benches.{draws_of, view_of}
 use Rattle.vme_floor.specs.Works.{IsOtherWorkOf, unfound_below}

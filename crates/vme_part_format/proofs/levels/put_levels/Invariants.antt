@@ -1,3 +1,5 @@
+-- The loop over the bytes of the levels, four lines in each: what is written, and then the bytes that are left, is all
+-- that is to be written.
 use Rattle.std.proofs.Common.{◌≡◌, ◌++◌, ◌*◌, drop}
 use Rattle.vme_part_format.specs.PartText.{packed, seen_levels}
 use Rattle.vme_part_format.proofs.levels.put_levels.Given as goal

@@ -1,3 +1,5 @@
+-- The loop over the bytes of the levels, four lines in each: the levels read so far, before those of the rest, are all
+-- levels.
 use Rattle.std.proofs.Common.{◌≡◌, ◌-◌, ◌*◌, length, take}
 use Rattle.vme_trace.specs.LineNumbers.{line_count}
 use Rattle.vme_part_format.specs.Reading.{after_items, packed_at}

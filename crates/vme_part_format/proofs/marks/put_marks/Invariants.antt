@@ -1,3 +1,5 @@
+-- The loop over the marks: what is written, and then the bytes of those that are left, is all that is to be written,
+-- and the instants of those that are left ascend from the last one so far.
 use Rattle.std.proofs.Common.{◌≡◌, ◌++◌, drop}
 use Rattle.vme_part_format.specs.Bounds.{AreAscending}
 use Rattle.vme_part_format.specs.PartText.{marks_bytes}

@@ -1,3 +1,4 @@
+-- The loop over the segments: those read so far, before what is read of the rest, are what is read of all.
 use Rattle.std.proofs.Common.{◌≡◌, ◌-◌, None, map}
 use Rattle.vme_part_format.specs.Reading.{after_items, segments_at}
 use Rattle.vme_part_format.specs.Tables.{segment_value}

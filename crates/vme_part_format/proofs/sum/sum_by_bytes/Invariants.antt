@@ -1,3 +1,4 @@
+-- The loop over the bytes: the sum so far, summed with the bytes that are left, is the sum of all.
 use Rattle.std.proofs.Common.{◌≡◌, drop}
 use Rattle.std.specs.List.{fold}
 use Rattle.vme_part_format.specs.Sums.{sum_of, summed}

@@ -1,3 +1,4 @@
+-- The loop over the nodes: what is written, and then the bytes of those that are left, is all that is to be written.
 use Rattle.std.proofs.Common.{◌≡◌, ◌++◌, drop, map}
 use Rattle.std.specs.Prelude.{flat_map}
 use Rattle.vme_part_format.specs.PartText.{node_bytes}

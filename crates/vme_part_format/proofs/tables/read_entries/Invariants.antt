@@ -1,3 +1,4 @@
+-- The loop over the entries: those read so far, before what is read of the rest, are what is read of all.
 use Rattle.std.proofs.Common.{◌≡◌, ◌-◌}
 use Rattle.vme_part_format.specs.Reading.{after_items, entries_at}
 use Rattle.vme_part_format.proofs.tables.read_entries.Given as goal

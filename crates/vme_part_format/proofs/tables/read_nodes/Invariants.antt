@@ -1,3 +1,4 @@
+-- The loop over the nodes: those read so far, before what is read of the rest, are what is read of all.
 use Rattle.std.proofs.Common.{◌≡◌, ◌-◌, map}
 use Rattle.vme_part_format.specs.Reading.{after_items, nodes_at}
 use Rattle.vme_part_format.specs.Tables.{node_value}

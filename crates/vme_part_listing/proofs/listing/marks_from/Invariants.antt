@@ -1,3 +1,5 @@
+-- The loop over the segments after the first: the state of judging and the runs with their marks are those after the
+-- first segment and those so far, and each monitor's memory is one that it has.
 use Rattle.std.proofs.Common.{drop, map}
 use Rattle.vme_part_format.specs.Tables.{segment_value}
 use Rattle.vme_part_listing.specs.Marks.{FitWays}

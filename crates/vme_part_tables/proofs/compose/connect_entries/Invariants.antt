@@ -1,3 +1,5 @@
+-- The loop over the entries of the first table: those so far are continued in the second table, and the others are as
+-- they were.
 use Rattle.std.proofs.Common.{◌≡◌, drop, map, take}
 use Rattle.vme_part_tables.specs.Composed.{entry_on}
 use Rattle.vme_part_tables.proofs.compose.connect_entries.Given as goal

@@ -1,3 +1,5 @@
+-- The loop over the nodes of the first table: those so far are continued in the second table, the others are as they
+-- were, and `between` counts these.
 use Rattle.std.proofs.Common.{◌≡◌, ◌+◌, drop, length, map, take}
 use Rattle.vme_part_format.specs.Tables.{node_value}
 use Rattle.vme_part_tables.specs.Composed.{nodes_on}

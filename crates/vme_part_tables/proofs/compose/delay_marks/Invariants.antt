@@ -1,3 +1,4 @@
+-- The loop over marks: those so far are `by` later, and the others are as they were.
 use Rattle.std.proofs.Common.{◌≡◌, drop, map, take}
 use Rattle.vme_part_tables.specs.Ways.{later_mark}
 use Rattle.vme_part_tables.proofs.compose.delay_marks.Given as goal

@@ -1,3 +1,4 @@
+-- The loop over nodes: those so far are `by` later, and the others are as they were.
 use Rattle.std.proofs.Common.{◌≡◌, drop, map, take}
 use Rattle.vme_part_format.specs.Tables.{node_value}
 use Rattle.vme_part_tables.specs.Composed.{later_node}

@@ -1,3 +1,4 @@
+-- The loop over the memories: for each one so far, the memory in which its run ends is marked as needed.
 use Rattle.std.proofs.Common.{◌≡◌, ℕ, ◌<◌, false, get_or, length, true}
 use Rattle.vme_part_format.specs.Tables.{table_value}
 use Rattle.vme_part_tables.specs.Ways.{outcome_in}

@@ -1,3 +1,4 @@
+-- The loop over the memories: there is one entry for each memory so far, made of its item of `onward`.
 use Rattle.std.proofs.Common.{◌≡◌, ℕ, ◌<◌, length, vec_len}
 use Rattle.std.specs.Prelude.{Some, slice_get}
 use Rattle.vme_part_tables.specs.Marked.{entry_made, onward_at}

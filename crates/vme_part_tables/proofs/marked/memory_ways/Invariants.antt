@@ -1,3 +1,5 @@
+-- The loop over the memories of a monitor: each one so far has a way into the nodes made so far, and the outcome from
+-- it agrees with the run from the memory, whose marks are left out where they aren't needed.
 use Rattle.std.proofs.Common.{◌≡◌, ◌≤◌, length, map, vec_len}
 use Rattle.vme_part_format.specs.Tables.{node_value}
 use Rattle.vme_part_tables.specs.Marked.{AgreeBelow, AreMade, MadeGoOn, if_needed, is_needed}

@@ -1,3 +1,4 @@
+-- The loop over the entries: each one so far continues with a memory or a kept node.
 use Rattle.std.proofs.Common.{◌≡◌, ℕ, ◌<◌, get_or, length}
 use Rattle.vme_part_format.specs.declared.table.TableEntry.{TableEntry}
 use Rattle.vme_part_tables.specs.Pruned.{IsKept}

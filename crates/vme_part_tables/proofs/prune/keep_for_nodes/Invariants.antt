@@ -1,3 +1,4 @@
+-- The loop over the nodes: what was kept stays so, and each kept node so far continues with a memory or a kept node.
 use Rattle.std.proofs.Common.{◌≡◌, ℕ, suc, ◌<◌, drop, false, get_or, length, true}
 use Rattle.vme_part_format.specs.declared.table.TableNode.{TableNode}
 use Rattle.vme_part_tables.specs.Pruned.{IsKept}

@@ -1,3 +1,5 @@
+-- The loop over the nodes: `count` is the number of kept nodes so far, and for each node so far there is the number of
+-- those before it.
 use Rattle.std.proofs.Common.{◌≡◌, ℕ, ◌<◌, get_or, take, vec_len}
 use Rattle.vme_part_tables.specs.Pruned.{kept_count}
 use Rattle.vme_part_tables.proofs.prune.kept_before.Given as goal

@@ -1,3 +1,5 @@
+-- The loop over the nodes from the last one back: the nodes that are left are the first ones, and those that were
+-- collected are, in reverse, the kept ones of the others. Fewer nodes are left after each round.
 use Rattle.std.proofs.Common.{◌≡◌, ◌≤◌, drop, length, map, reverse, take, vec_len}
 use Rattle.vme_part_format.specs.Tables.{node_value}
 use Rattle.vme_part_tables.specs.Pruned.{nodes_kept}

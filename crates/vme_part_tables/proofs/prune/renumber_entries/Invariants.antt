@@ -1,3 +1,4 @@
+-- The loop over the entries: the ways of those so far count the kept nodes alone, and the others are as they were.
 use Rattle.std.proofs.Common.{◌≡◌, drop, map, take}
 use Rattle.vme_part_tables.specs.Pruned.{entry_kept}
 use Rattle.vme_part_tables.proofs.prune.renumber_entries.Given as goal

@@ -1,3 +1,4 @@
+-- The loop over marks: those so far are copied.
 use Rattle.std.proofs.Common.{◌≡◌, take}
 use Rattle.vme_part_tables.proofs.shorten.copied.Given as goal
 

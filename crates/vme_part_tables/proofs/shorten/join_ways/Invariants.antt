@@ -1,3 +1,4 @@
+-- The loop over the nodes: the nodes as they are give the same outcomes as before.
 use Rattle.std.proofs.Common.{map}
 use Rattle.vme_part_format.specs.Tables.{node_value}
 use Rattle.vme_part_tables.specs.Shortened.{SayTheSame}

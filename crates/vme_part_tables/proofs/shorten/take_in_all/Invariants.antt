@@ -1,3 +1,5 @@
+-- The loop that merges into one node those that it continues with: the nodes as they are give the same outcomes as
+-- before.
 use Rattle.std.proofs.Common.{map}
 use Rattle.vme_part_format.specs.Tables.{node_value}
 use Rattle.vme_part_tables.specs.Shortened.{SayTheSame}

@@ -1,3 +1,5 @@
+-- The loop over the nodes: the run from `way` through the nodes that are left ends where the whole run does, and the
+-- break so far, or else its first break, is that of the whole run.
 use Rattle.std.proofs.Common.{◌≡◌, drop, length, map}
 use Rattle.std.specs.Option.{option_or}
 use Rattle.vme_part_format.specs.Tables.{node_value, table_value}

@@ -1,3 +1,5 @@
+-- The loop over the nodes: the marks so far and those of the run from `way` through the nodes that are left, `by`
+-- later, are the marks of the whole run.
 use Rattle.std.proofs.Common.{◌≡◌, ◌++◌, drop, length, map}
 use Rattle.vme_part_format.specs.Tables.{node_value, table_value}
 use Rattle.vme_part_tables.specs.Ways.{later_mark, outcome_in, run_from}

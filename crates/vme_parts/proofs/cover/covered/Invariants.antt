@@ -1,3 +1,5 @@
+-- The loop over the segments: where those that are left, from the file `next` on, follow one another or have a gap, all
+-- segments do so from the file 0 on.
 use Rattle.std.proofs.Common.{ℕ, drop, map}
 use Rattle.vme_part_format.specs.Tables.{segment_value}
 use Rattle.vme_parts.specs.Covering.{AreNext, HasGap}

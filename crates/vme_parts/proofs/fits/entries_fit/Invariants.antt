@@ -1,3 +1,4 @@
+-- The loop over the entries of a table: those so far are within their bounds.
 use Rattle.std.proofs.Common.{take}
 use Rattle.std.specs.Prelude.{All}
 use Rattle.vme_part_format.specs.Bounds.{FitsEntry}

@@ -1,3 +1,5 @@
+-- The loop over the numbers of lines: `seen` has the levels of the lines so far, with Unknown for those that the
+-- backplane doesn't have.
 use Rattle.vme_parts.proofs.Measures.{SeesBefore}
 use Rattle.vme_parts.proofs.fits.levels_fit.Given as goal
 

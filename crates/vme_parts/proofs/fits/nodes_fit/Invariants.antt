@@ -1,3 +1,4 @@
+-- The loop over the nodes of a table: `behind` counts the nodes that are left, and if these fit, all fit.
 use Rattle.std.proofs.Common.{◌≡◌, drop, length, map}
 use Rattle.vme_part_format.specs.Bounds.{FitNodes}
 use Rattle.vme_part_format.specs.Tables.{node_value}

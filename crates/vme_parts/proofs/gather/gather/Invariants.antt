@@ -1,3 +1,5 @@
+-- The loop over the segments in order: those so far are gathered, and the last of the gathered ones precedes each that
+-- is left.
 use Rattle.std.proofs.Common.{◌≡◌, ◌++◌, length, map}
 use Rattle.std.specs.Prelude.{All, IfSome, None}
 use Rattle.std.specs.List.{last_or}

@@ -1,3 +1,5 @@
+-- The loop over the segments from the last one back: what was gathered with the segments and `next` as they were is
+-- gathered with them as they are, and `next` begins where it did or before. Fewer segments are left after each round.
 use Rattle.std.proofs.Common.{List, [], ◌∷◌, ◌++◌, map, vec_len}
 use Rattle.std.specs.Prelude.{All}
 use Rattle.vme_part_format.specs.Tables.{SegmentValue, segment_value}

@@ -1,3 +1,4 @@
+-- The loop over the parts: the segments so far are those of the parts so far.
 use Rattle.std.proofs.Common.{◌≡◌, ◌++◌, length, map}
 use Rattle.std.specs.Vec.Iter.{into_iter_items, into_iter_len}
 use Rattle.vme_part_format.specs.Tables.{part_value, segment_value}

@@ -1,3 +1,4 @@
+-- The loop over the parts: those so far are of the backplane, and have marks exactly if `listing` says so.
 use Rattle.std.proofs.Common.{map, take}
 use Rattle.std.specs.Prelude.{All}
 use Rattle.vme_part_format.specs.Tables.{part_value}

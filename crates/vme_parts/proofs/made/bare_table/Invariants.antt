@@ -1,3 +1,5 @@
+-- The loop over the memories of a monitor: there is one entry for each memory so far, and it agrees with the run from
+-- it.
 use Rattle.std.proofs.Common.{◌≡◌, vec_len}
 use Rattle.vme_parts.proofs.Bare.{AreRows}
 use Rattle.vme_parts.proofs.made.bare_table.Given as goal

@@ -1,3 +1,5 @@
+-- The loop over pieces of the steps: the levels are those after the steps done, and the table, with its marks, agrees
+-- with the monitor's runs over these. Fewer steps are left after each round.
 use Rattle.std.proofs.Common.{◌≡◌, ◌-◌, ◌≤◌, length, take, true}
 use Rattle.vme_trace.specs.Trace.{levels_after}
 use Rattle.vme_part_format.specs.Tables.{table_value}

@@ -1,3 +1,5 @@
+-- The loop over the memories of two tables: the runs from the memories so far end in the same memories and have the
+-- same first breaks.
 use Rattle.std.proofs.Common.{◌≡◌, ℕ, ◌<◌}
 use Rattle.vme_part_format.specs.Tables.{table_value}
 use Rattle.vme_part_tables.specs.Ways.{outcome_in}

@@ -1,3 +1,5 @@
+-- The loop over the segments after the first: the state is the one after judging the first and those so far, and each
+-- monitor's memory is one that it has.
 use Rattle.std.proofs.Common.{drop, map}
 use Rattle.vme_part_format.specs.Tables.{segment_value}
 use Rattle.vme_parts.specs.Progress.{FitStates}

@@ -1,3 +1,4 @@
+-- The loop over the blocks: the steps so far were judged, and with those that are left they are all steps.
 use Rattle.std.proofs.Common.{◌≡◌, List, ◌++◌}
 use Rattle.std.specs.Slice.Iter.{chunks_rest}
 use Rattle.vme_trace.specs.declared.step.Step.{Step}

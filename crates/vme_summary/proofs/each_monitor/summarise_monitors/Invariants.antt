@@ -1,3 +1,5 @@
+-- The loop over the steps: the view has the levels after the steps so far, and each monitor's summary gives its runs
+-- over these.
 use Rattle.std.proofs.Common.{◌≡◌, take}
 use Rattle.vme_trace.specs.Trace.{levels_after}
 use Rattle.vme_summary.proofs.each_monitor.summarise_monitors.Given as goal

@@ -1,3 +1,4 @@
+-- The loop over the steps: the levels so far, changed by the steps that are left, are those after all steps.
 use Rattle.std.proofs.Common.{◌≡◌, drop}
 use Rattle.vme_trace.specs.Trace.{levels_after}
 use Rattle.vme_summary.proofs.judged_chunk.left_by.Given as goal

@@ -1,3 +1,4 @@
+-- The loop over the texts: those so far are copied.
 use Rattle.std.proofs.Common.{◌≡◌, map, string_bytes, take}
 use Rattle.vme_words.proofs.words.owned_texts.Given as goal
 

@@ -1,3 +1,4 @@
+-- The loop over the numbers: the blocks so far are joined to those before, and the blocks after them have their spans.
 use Rattle.std.proofs.Common.{◌≡◌, List}
 use Rattle.vme_trace.specs.declared.block.Block.{Block}
 use Rattle.vme_book.specs.BookState.{AreJoinedTo, HaveSpans}

@@ -1,3 +1,5 @@
+-- The loop over the numbers: the blocks so far are inserted and join, and `progress` is the state of judging after
+-- them.
 use Rattle.std.proofs.Common.{List}
 use Rattle.vme_trace.specs.declared.block.Block.{Block}
 use Rattle.vme_book.specs.BookState.{IsJudgedPrefix}

@@ -1,3 +1,5 @@
+-- The loop over the numbers from `next` on: the bench only took blocks, those that it took are in the collection, and a
+-- number that was filed is known to be taken.
 use Rattle.std.proofs.Common.{◌≡◌}
 use Rattle.vme_board.specs.Benches.{IsOf, total_of, view_of}
 use Rattle.vme_floor.specs.Collecting.{IsCollected, IsKnownTaken, TakesOnly}

@@ -1,3 +1,4 @@
+-- The loop over the steps: those so far were taken.
 use Rattle.std.proofs.Common.{◌≡◌, take}
 use Rattle.vme_summary.proofs.ghost_steps.GhostSteps.of.Given as goal
 

@@ -1,3 +1,4 @@
+-- The loop over the steps: the view has the levels after the steps so far, and the states are those after these.
 use Rattle.std.proofs.Common.{◌≡◌, ◌+◌, ◌++◌, List, length, take}
 use Rattle.vme_trace.specs.Levels.{Levels}
 use Rattle.vme_trace.specs.Trace.{levels_after}

@@ -1,3 +1,4 @@
+-- The loop over the marks: none so far ends the interval.
 use Rattle.std.proofs.Common.{◌≡◌, drop}
 use Rattle.vme_summary.specs.Endings.{ends}
 use Rattle.vme_summary.specs.MarkedRows.{first_instant}
