@@ -111,8 +111,8 @@ module _ (left : Rest) (more : List ℕ) where
       by_test false e = e
 
 -- what follows the first word of a line is unique
-line-unique : (left : Rest) (line said : List ℕ) → left ≡ Some line → left ≡ Some said → line ≡ said
-line-unique left line said h e = same_Some line said (sym h ∙ e)
+line-unique : (left : Rest) (line other : List ℕ) → left ≡ Some line → left ≡ Some other → line ≡ other
+line-unique left line other h e = same_Some line other (sym h ∙ e)
 
 -- `line` is what follows the first word of a line, and is read whole
 module _ (left : Rest) (line : List ℕ) (h : left ≡ Some line) where
@@ -242,8 +242,8 @@ module _ (kind : Rule → ℕ → ℕ → ListedVerdict) (word : List ℕ)
       → verdict_text verdict ≡ codes "verdict " ++ (word ++ line)
   verdict_text-rule None line verdict o e = absurd (none-some verdict e)
   verdict_text-rule (Some r) line verdict o e =
-      let (name, left, said) = verdict_text-line r (Some (drop 2 line)) _ verdict refl e in
-      said ∙ ap (λ a. codes "verdict " ++ (word ++ a))
+      let (name, left, line_text) = verdict_text-line r (Some (drop 2 line)) _ verdict refl e in
+      line_text ∙ ap (λ a. codes "verdict " ++ (word ++ a))
       (ap (λ a. a ++ name) (rule_named-found r (take 2 line) (sym o))
       ∙ ap (λ a. take 2 line ++ a) (sym (same_Some (drop 2 line) name left)) ∙ take-append-drop 2 line)
 
@@ -277,10 +277,12 @@ unfolding outcome_in
 verdict_text-outcome line verdict e = by_tests (bytes_eq line (codes "conforming")) (bytes_eq line (codes "never-idle"))
     (starts_with (codes "broken ") (Some line)) refl refl e
   where
-    said : (kind : Rule → ℕ → ℕ → ListedVerdict) (word : List ℕ)
+    -- a break that is read after its word has the line as its text
+    verdict_text-after_word : (kind : Rule → ℕ → ℕ → ListedVerdict) (word : List ℕ)
         (b : (l : List ℕ) × (after_word word line ≡ Some l) × (verdict_text verdict ≡ codes "verdict " ++ (word ++ l)))
         → verdict_text verdict ≡ codes "verdict " ++ line
-    said kind word b = b.2 ∙ ap (λ l. codes "verdict " ++ l) (sym (after_word-text word line b.0 b.1))
+    verdict_text-after_word kind word b =
+        b.2 ∙ ap (λ l. codes "verdict " ++ l) (sym (after_word-text word line b.0 b.1))
 
     by_tests : (a b c : Bool) → bytes_eq line (codes "conforming") ≡ a → bytes_eq line (codes "never-idle") ≡ b
         → (if a then Some Conforming else if b then Some NeverIdle
@@ -294,9 +296,10 @@ verdict_text-outcome line verdict e = by_tests (bytes_eq line (codes "conforming
         ap verdict_text (sym (same_Some NeverIdle verdict e))
         ∙ ap (λ l. codes "verdict " ++ l) (sym (bytes_eq-same _ _ g))
     by_tests false false true f g e =
-        said Broken (codes "broken ") (verdict_text-break Broken (codes "broken ") verdict_text-broken _ verdict e)
+        verdict_text-after_word Broken (codes "broken ")
+        (verdict_text-break Broken (codes "broken ") verdict_text-broken _ verdict e)
     by_tests false false false f g e =
-        said Unreadable (codes "unreadable ")
+        verdict_text-after_word Unreadable (codes "unreadable ")
         (verdict_text-break Unreadable (codes "unreadable ") verdict_text-unreadable _ verdict e)
 
 -- a row is read only where nothing is left of the line
@@ -311,14 +314,14 @@ row_text-by_first_word : (word line : List ℕ) (at : Rest → Row) (past : Rest
     → ((left : Rest) (l : List ℕ) → left ≡ Some l → past left ≡ Some [] → word ++ l ≡ row_text (at left))
     → starts_with word (Some line) ≡ true → whole (at (after_word word line)) (past (after_word word line)) ≡ Some row
     → row_text row ≡ line
-row_text-by_first_word word line at past row said b e = by_left (after_word word line) refl b e
+row_text-by_first_word word line at past row row_says b e = by_left (after_word word line) refl b e
   where
     by_left : (o : Rest) → after_word word line ≡ o → starts_with word (Some line) ≡ true
         → whole (at o) (past o) ≡ Some row → row_text row ≡ line
     by_left None s b e = absurd (cc)
     by_left (Some l) s b e =
         let w = whole-at_end (at (Some l)) (past (Some l)) row e in
-        ap row_text (sym w.1) ∙ (sym (said (Some l) l refl w.0) ∙ sym (after_word-text word line l s))
+        ap row_text (sym w.1) ∙ (sym (row_says (Some l) l refl w.0) ∙ sym (after_word-text word line l s))
 
 -- the row that is read after the word `start` has the line as its text
 row_text-start : (left : Rest) (line : List ℕ) → left ≡ Some line → past_number left ≡ Some [] → codes "start " ++ line

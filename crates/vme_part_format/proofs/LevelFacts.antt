@@ -199,9 +199,9 @@ LevelsTaken-four_more : (slots l byte n : ℕ) (bytes : List ℕ) (ls others : L
     → IsUnpacked slots l byte ls
     → Takes (byte ∷ bytes) (byte ∷ []) bytes → LevelsTaken slots (l + 4) n bytes (others, rest)
     → LevelsTaken slots l (suc n) (byte ∷ bytes) (ls ++ others, rest)
-LevelsTaken-four_more slots l byte n bytes ls others rest u t more =
+LevelsTaken-four_more slots l byte n bytes ls others rest u t others_taken =
     let took : Takes (byte ∷ bytes) (byte ∷ packed others) rest =
-    Takes-append (byte ∷ bytes) (byte ∷ []) bytes (packed others) rest t more.0 in
+    Takes-append (byte ∷ bytes) (byte ∷ []) bytes (packed others) rest t others_taken.0 in
     let back : (k j : ℕ) → k ≡ j → AreSeen slots k others → AreSeen slots j others =
     λ k j h s. subst (λ (m : ℕ). AreSeen slots m others) h s in
     subst (λ (xs : List Level). LevelsTaken slots l (suc n) (byte ∷ bytes) (xs ++ others, rest)) u.all (
@@ -214,12 +214,12 @@ LevelsTaken-four_more slots l byte n bytes ls others rest u t more =
             λ h. u.c-seen (ap (λ (k : ℕ). has_line slots k) (add-one_more (l + 1) l 1 refl) ∙ h),
             (
               λ h. u.d-seen (ap (λ (k : ℕ). has_line slots k) (add-one_more (l + 1 + 1) l 2 (omega arith)) ∙ h),
-              back (l + 4) (l + 1 + 1 + 1 + 1) (omega arith) more.1,
+              back (l + 4) (l + 1 + 1 + 1 + 1) (omega arith) others_taken.1,
             ),
           ),
         ),
       ),
-      omega (arith, more.2),
+      omega (arith, others_taken.2),
     )
 
 -- the levels of 4 n lines that are read are packed in the bytes that stand there
@@ -237,10 +237,10 @@ packed_at-ok slots l (suc n) (byte ∷ bytes) x fits e =
     let b = bind_ok (packed_at slots (l + 4) n bytes) (λ others. Ok (a.0 ++ others.0, others.1)) x a.2 in
     let t0 = byte_at-ok (byte ∷ bytes) (byte, bytes) fits refl in
     let u = unpacked-ok slots l byte a.0 t0.1 (or_fault-ok bad (unpacked slots l byte) a.0 a.1) in
-    let more = packed_at-ok slots (l + 4) n bytes b.0 t0.0.rest_fits b.1 in
+    let others_taken = packed_at-ok slots (l + 4) n bytes b.0 t0.0.rest_fits b.1 in
     subst (λ (y : List Level × List ℕ). LevelsTaken slots l (suc n) (byte ∷ bytes) y)
     (Ok-injective (a.0 ++ b.0.0, b.0.1) x b.2)
-    (LevelsTaken-four_more slots l byte n bytes a.0 b.0.0 b.0.1 u t0.0 more)
+    (LevelsTaken-four_more slots l byte n bytes a.0 b.0.0 b.0.1 u t0.0 others_taken)
 
 -- the bytes of the levels of 4 n lines are read as these levels
 pub packed_at-of_bytes : (slots l n : ℕ) (ls : List Level) (rest : List ℕ) → length ls ≡ 4 * n → AreSeen slots l ls

@@ -72,14 +72,14 @@ MarksTo-first j begun w s ss small judged none past =
           let P : SegmentValue → Type 0 = λ s. SegmentStandsFor true s (files_of files s) in
           let p = All-head P s ss stand in
           let count = (judged true (files_of files s) p).counted in
-          let own = past s.opening s.opening [] (joined_steps (files_of files s)) refl refl
+          let marks_after = past s.opening s.opening [] (joined_steps (files_of files s)) refl refl
           (omega (arith, small, count))
           none (TellsAll-stands_for true s (files_of files s) p) in (
             last_of s.first s.order + 1,
             HasComeTo-first j s true files next.0 p judged,
             next.1,
             subst (λ (bs : List Block). HasMarks w s.opening (joined_steps bs)) (take-and_files_of files 0 s next.0)
-                own,
+                marks_after,
           );
     }
 
@@ -101,13 +101,13 @@ AreNext-not_before n (s ∷ ss) end a =
 not_StopsAt-joined : (bs ys rest : List Block) (why : JudgingFault) → BlocksJoin ((bs ++ ys) ++ rest)
     → length (joined_steps ((bs ++ ys) ++ rest)) < 2 ^ 64 → StopsAt bs ys why → ⊥
 not_StopsAt-joined bs ys rest (stop.Torn k) joins small t =
-    let behind : (bs ++ ys) ++ rest ≡ ((bs ++ t.front) ++ t.torn ∷ []) ++ (t.back ++ rest) =
+    let parts_torn : (bs ++ ys) ++ rest ≡ ((bs ++ t.front) ++ t.torn ∷ []) ++ (t.back ++ rest) =
     ap (λ zs. (bs ++ zs) ++ rest) t.parts
     ∙ (append_assoc bs (t.front ++ t.torn ∷ t.back) rest
     ∙ (ap (λ zs. bs ++ zs) (append_assoc t.front (t.torn ∷ t.back) rest)
     ∙ (sym (append_assoc bs t.front (t.torn ∷ (t.back ++ rest)))
     ∙ sym (append_assoc (bs ++ t.front) (t.torn ∷ []) (t.back ++ rest))))) in
-    t.there (BlocksJoin-front ((bs ++ t.front) ++ t.torn ∷ []) (t.back ++ rest) (subst BlocksJoin behind joins))
+    t.there (BlocksJoin-front ((bs ++ t.front) ++ t.torn ∷ []) (t.back ++ rest) (subst BlocksJoin parts_torn joins))
 not_StopsAt-joined bs ys rest stop.TooManySteps joins small many =
     absurd (omega (
       arith,
@@ -187,13 +187,14 @@ module _ (j : JudgedSegments) (w : Ways) (s : SegmentValue) (xs : List Segment) 
               ap (λ (z : List Step). length z) (joined_steps-append bs ys),
               length-append (joined_steps bs) (joined_steps ys),
             ) in
-            let own = past s.opening t.opening (joined_steps bs) (joined_steps ys) opens c.1.judged.counted fits c.3
+            let marks_after = past s.opening t.opening (joined_steps bs) (joined_steps ys) opens c.1.judged.counted fits
+            c.3
             (TellsAll-stands_for true t ys p) in (
               last_of x.first x.order + 1,
               HasComeTo-next j r s.opening t true files n to.0 p judged c.1,
               to.1,
               subst (λ (z : List Block). HasMarks v s.opening (joined_steps z)) (take-and_files_of files n t to.0)
-                  (subst (HasMarks v s.opening) (sym (joined_steps-append bs ys)) own),
+                  (subst (HasMarks v s.opening) (sym (joined_steps-append bs ys)) marks_after),
             );
       }
 

@@ -61,9 +61,9 @@ pub opening-of_recording : (j : JudgedSegments) (e : Extent) (bs : List Block) (
 opening-of_recording j e [] t o was same is = absurd (cc)
 opening-of_recording j e (b ∷ bs) t o was same is =
     let opens : Some b.opening ≡ Some e.opening = was.extent.opening in
-    let own : b.opening ≡ e.opening = cc in
+    let same_opening : b.opening ≡ e.opening = cc in
     let whole : record { opening = b.opening; steps = joined_steps (b ∷ bs) } ≡ t = cc in
-    same ∙ (sym own ∙ ap (λ (k : Trace). k.opening) whole)
+    same ∙ (sym same_opening ∙ ap (λ (k : Trace). k.opening) whole)
 
 -- the listing from the opening, the first break and the marks of a recording is its listing
 pub listing_of-of_parts : (t : Trace) (judged : Bool) (first_break : Option Break) (o : Levels) (ms : List Mark)

@@ -104,7 +104,7 @@ module _ (steps more : ℕ) (fits : steps + more < 2 ^ 64) where
   marks_of_second before start (m ∷ ms) h f =
       let i = f.0.instant in
       let positive = i.0 in
-      let behind = i.1 in
+      let not_before = i.1 in
       let low = i.2 in (
         record { kind = f.0.kind; instant = (omega arith, omega arith, omega arith, omega arith) },
         marks_of_second m.instant (later steps m.instant) ms (omega arith) f.1,

@@ -186,7 +186,7 @@ module _ (m : ℕ) (keeps : List Bool) (xs ys : List TableNode) (l p q : ℕ) (n
       → map node_value (reverse kept) ≡ nodes_kept m (drop l keeps) (map node_value (drop l xs))
       → map node_value (reverse items) ≡ nodes_kept m (drop p keeps) (map node_value (drop p xs))
   nodes_kept-last_kept kept items new e more same done =
-      let behind : suc q ≡ l = omega arith in
+      let next_is : suc q ≡ l = omega arith in
       ap (λ k. map node_value (reverse k)) more
       ∙ (ap (map node_value) (reverse-append kept (new ∷ []))
       ∙ (ap (λ k. k ∷ map node_value (reverse kept)) same
@@ -194,7 +194,7 @@ module _ (m : ℕ) (keeps : List Bool) (xs ys : List TableNode) (l p q : ℕ) (n
       ∙ (ap (λ k. node_kept m (drop k keeps) (node_value n) ∷ nodes_kept m (drop l keeps) (map node_value (drop l xs)))
       (add-one q)
       ∙ (ap (λ k. node_kept m (drop (suc q) keeps) (node_value n) ∷ nodes_kept m (drop k keeps)
-      (map node_value (drop k xs))) (sym behind)
+      (map node_value (drop k xs))) (sym next_is)
       ∙ (sym (nodes_kept-kept_node m keeps xs q n (omega arith) as_many get_or-last e)
       ∙ ap (λ k. nodes_kept m (drop k keeps) (map node_value (drop k xs))) place))))))
 
@@ -203,8 +203,8 @@ module _ (m : ℕ) (keeps : List Bool) (xs ys : List TableNode) (l p q : ℕ) (n
       → map node_value (reverse kept) ≡ nodes_kept m (drop l keeps) (map node_value (drop l xs))
       → map node_value (reverse kept) ≡ nodes_kept m (drop p keeps) (map node_value (drop p xs))
   nodes_kept-last_dropped kept e done =
-      let behind : suc q ≡ l = omega arith in
+      let next_is : suc q ≡ l = omega arith in
       done
-      ∙ (ap (λ k. nodes_kept m (drop k keeps) (map node_value (drop k xs))) (sym behind)
+      ∙ (ap (λ k. nodes_kept m (drop k keeps) (map node_value (drop k xs))) (sym next_is)
       ∙ (sym (nodes_kept-dropped_node m keeps xs q n (omega arith) as_many get_or-last e)
       ∙ ap (λ k. nodes_kept m (drop k keeps) (map node_value (drop k xs))) place))

@@ -225,9 +225,9 @@ FitNodes-merged : (m steps : ℕ) (ns : List NodeValue) (i k d : ℕ) (n j : Nod
 FitNodes-merged m steps [] i k d n j at e h f order few go_on g = absurd (omega (arith, h))
 FitNodes-merged m steps (x ∷ xs) zero zero d n j at e h f order few go_on g = absurd (omega (arith, at))
 FitNodes-merged m steps (x ∷ xs) zero (suc k) d n j at e h f order few go_on g =
-    let own : FitsNode m steps (length xs) n = subst (λ (y : NodeValue). FitsNode m steps (length xs) y) e g.0 in
+    let node_fits : FitsNode m steps (length xs) n = subst (λ (y : NodeValue). FitsNode m steps (length xs) y) e g.0 in
     let there = FitNodes-at m steps xs k j g.1 (omega (arith, h)) f in
-    (FitsNode-merged m steps d (length xs) there.0 n j own there.1 order few go_on.0, g.1)
+    (FitsNode-merged m steps d (length xs) there.0 n j node_fits there.1 order few go_on.0, g.1)
 FitNodes-merged m steps (x ∷ xs) (suc i) zero d n j at e h f order few go_on g = absurd (omega (arith, at))
 FitNodes-merged m steps (x ∷ xs) (suc i) (suc k) d n j at e h f order few go_on g = (
   record { next = go_on.0; first_break = g.0.first_break; some = g.0.some; marks = g.0.marks },

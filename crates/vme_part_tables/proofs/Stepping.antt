@@ -53,10 +53,10 @@ take-map_rest_set f g xs ys i j x y h n r b e done rest =
     let k : i < length (map f ys) = rw (length-map ys f, ← n) h in
     let there : get_or (map f ys) i (f x) ≡ f x
     = get_or-map f ys i x ∙ ap f (get_or-same_from xs ys i x rest ∙ sym r) in
-    let behind : length (map f ys) - suc i ≡ j = omega (arith, length-map ys f) in
+    let count_after : length (map f ys) - suc i ≡ j = omega (arith, length-map ys f) in
     let to : take (i + 1) m ≡ take i m ++ g j (f x) ∷ [] =
     ap (λ n. take n m) (add-one i)
     ∙ (take-map_rest_one_more g (map f ys) i (f x) k
-    ∙ (ap (λ n. take i m ++ g n (get_or (map f ys) i (f x)) ∷ []) behind
+    ∙ (ap (λ n. take i m ++ g n (get_or (map f ys) i (f x)) ∷ []) count_after
     ∙ ap (λ z. take i m ++ g j z ∷ []) there)) in
     rw (take_more_set xs i y h, map-append f (take i xs) (y ∷ []), done, e) (sym to)

@@ -82,10 +82,11 @@ pub AreTooLong-append : (all done rest : List Segment) (x : Segment) → done ++
     → AreTooLong (map segment_value done ++ segment_value x ∷ []) → AreTooLong (map segment_value all)
 AreTooLong-append all done rest x e long =
     let front = map segment_value done ++ segment_value x ∷ [] in
-    let behind = map segment_value rest in
-    let whole : front ++ behind ≡ map segment_value all =
-    append_assoc (map segment_value done) (segment_value x ∷ []) behind
+    let left_values = map segment_value rest in
+    let whole : front ++ left_values ≡ map segment_value all =
+    append_assoc (map segment_value done) (segment_value x ∷ []) left_values
     ∙ (sym (map-append segment_value done (x ∷ rest)) ∙ ap (map segment_value) e) in
     λ listing files stand.
     let P : SegmentValue → Type 0 = λ k. SegmentStandsFor listing k (files_of files k) in
-    long listing files (All-front P front behind (All-same P (front ++ behind) (map segment_value all) whole stand))
+    long listing files (All-front P front left_values
+    (All-same P (front ++ left_values) (map segment_value all) whole stand))

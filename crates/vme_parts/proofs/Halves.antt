@@ -17,12 +17,12 @@ pub AreBuddies-by_test : (s t : SegmentValue) → are_buddies s t ≡ true → A
 AreBuddies-by_test s t e =
     let all = and_parts (s.order == t.order && nat_lt s.order 62 && t.first == s.first + 2 ^ s.order)
     (s.first % 2 ^ (s.order + 1) == 0) e in
-    let more = and_parts (s.order == t.order && nat_lt s.order 62) (t.first == s.first + 2 ^ s.order) all.0 in
-    let two = and_parts (s.order == t.order) (nat_lt s.order 62) more.0 in
-    let begins = eqb-true t.first (s.first + 2 ^ s.order) more.1 in
+    let three_tests = and_parts (s.order == t.order && nat_lt s.order 62) (t.first == s.first + 2 ^ s.order) all.0 in
+    let two_tests = and_parts (s.order == t.order) (nat_lt s.order 62) three_tests.0 in
+    let begins = eqb-true t.first (s.first + 2 ^ s.order) three_tests.1 in
     record {
-      same_order = sym (eqb-true s.order t.order two.0);
-      low = ltb-true s.order 62 two.1;
+      same_order = sym (eqb-true s.order t.order two_tests.0);
+      low = ltb-true s.order 62 two_tests.1;
       behind = omega (arith, begins, pow_pos s.order);
       aligned = eqb-true (s.first % 2 ^ (s.order + 1)) 0 all.1;
     }

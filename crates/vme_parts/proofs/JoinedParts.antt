@@ -41,10 +41,10 @@ module _ (ps : List PartValue) (r : PartValue) (all : List SegmentValue)
       let s = get_or all k d in
       let there = from s (Contains-get_or all k d h) in
       let p = there.0 in
-      let own = All-contains FitsPart ps p fits there.1 in
+      let part_fits = All-contains FitsPart ps p fits there.1 in
       let same = All-contains (λ (p : PartValue). p.listing ≡ r.listing) ps p listed there.1 in
       subst (λ l. FitsSegment l s) same
-      (All-contains (FitsSegment p.listing) p.segments s (FitsSegment-each p.listing None p.segments own.segments)
+      (All-contains (FitsSegment p.listing) p.segments s (FitsSegment-each p.listing None p.segments part_fits.segments)
       there.2)
 
   -- if ps are parts of the recording of `files`, each of their segments stands for its files
@@ -53,10 +53,10 @@ module _ (ps : List PartValue) (r : PartValue) (all : List SegmentValue)
       let s = get_or all k d in
       let there = from s (Contains-get_or all k d h) in
       let p = there.0 in
-      let own = All-contains (IsPartOf files) ps p parts there.1 in
+      let is_part = All-contains (IsPartOf files) ps p parts there.1 in
       let same = All-contains (λ (p : PartValue). p.listing ≡ r.listing) ps p listed there.1 in
       subst (λ l. SegmentStandsFor l s (files_of files s)) same
-      (All-contains (λ (s : SegmentValue). SegmentStandsFor p.listing s (files_of files s)) p.segments s own.stands
+      (All-contains (λ (s : SegmentValue). SegmentStandsFor p.listing s (files_of files s)) p.segments s is_part.stands
       there.2)
 
   -- what the segments cover, one of the parts covers
@@ -65,7 +65,7 @@ module _ (ps : List PartValue) (r : PartValue) (all : List SegmentValue)
 
   -- what one of the parts covers, the segments cover
   SegmentsCover-of_parts : (n : ℕ) → SomeCovers ps n → SegmentsCover all n
-  SegmentsCover-of_parts n c = let own = c.2 in (own.0, into c.0 own.0 c.1 own.1, own.2)
+  SegmentsCover-of_parts n c = let segment = c.2 in (segment.0, into c.0 segment.0 c.1 segment.1, segment.2)
 
   -- r can be written
   pub FitsPart-joined : FitsPart r
@@ -163,10 +163,10 @@ Contains-segments_of (q ∷ qs) p s c h = by_place (λ d. Contains-segments_of q
 IsSegment-segments_of : (ps : List PartValue) → All FitsPart ps → All IsSegment (segments_of ps)
 IsSegment-segments_of [] fits = All-nil IsSegment
 IsSegment-segments_of (p ∷ ps) fits =
-    let own = All-head FitsPart p ps fits in
+    let first_fits = All-head FitsPart p ps fits in
     All-append IsSegment p.segments (segments_of ps)
     (All-weaker (FitsSegment p.listing) IsSegment (IsSegment-fits p.listing) p.segments
-    (FitsSegment-each p.listing None p.segments own.segments))
+    (FitsSegment-each p.listing None p.segments first_fits.segments))
     (IsSegment-segments_of ps (All-tail FitsPart p ps fits))
 
 -- if the parts can be written, all of their sorted segments satisfy `IsSegment`
@@ -201,10 +201,10 @@ module _ (ps : List PartValue) (made sorted : List SegmentValue) (e : made ≡ s
       let s = get_or sorted k d in
       let there = Contains-of_part ps s (Contains-unsorted s (Contains-get_or sorted k d h)) in
       let p = there.0 in
-      let own = All-contains (IsPartOf files) ps p parts there.1 in
+      let is_part = All-contains (IsPartOf files) ps p parts there.1 in
       let like = All-contains (λ (p : PartValue). p.listing ≡ listing) ps p listed there.1 in
       subst (λ l. SegmentStandsFor l s (files_of files s)) like
-      (All-contains (λ (s : SegmentValue). SegmentStandsFor p.listing s (files_of files s)) p.segments s own.stands
+      (All-contains (λ (s : SegmentValue). SegmentStandsFor p.listing s (files_of files s)) p.segments s is_part.stands
       there.2)
 
   -- if the sorted segments are too long, some of the files that the parts are of have too many steps

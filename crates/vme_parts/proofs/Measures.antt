@@ -110,9 +110,9 @@ pub All-take_next : {X : Type 0} (P : X → Type 0) (xs : List X) (i : ℕ) (x :
     → P x
     → All P (take i xs) → All P (take (i + 1) xs)
 All-take_next P xs i x h is one was =
-    let more : take (i + 1) xs ≡ take i xs ++ x ∷ []
+    let next_taken : take (i + 1) xs ≡ take i xs ++ x ∷ []
     = take_more xs i x h ∙ ap (λ y. take i xs ++ y ∷ []) (sym is) in
-    subst (All P) (sym more) (All-push P (take i xs) x was one)
+    subst (All P) (sym next_taken) (All-push P (take i xs) x was one)
 
 -- if P holds of as many items as there are, it holds of all
 pub All-take_all : {X : Type 0} (P : X → Type 0) (xs : List X) (i : ℕ) → length xs ≤ i → All P (take i xs) → All P xs

@@ -138,12 +138,12 @@ Precedes-head_of_sorted : (x : Segment) (xs : List Segment) → All IsSegment (m
     → IsNonDecreasingBy (λ (s : Segment). order_key (segment_value s)) (x ∷ xs)
     → All (Precedes (segment_value x)) (map segment_value xs)
 Precedes-head_of_sorted x xs all sorted =
-    let own = IsSegment-item (x ∷ xs) 0 x (omega arith) all in
+    let first_is_segment = IsSegment-item (x ∷ xs) 0 x (omega arith) all in
     let others = All-tail IsSegment (segment_value x) (map segment_value xs) all in
     All-map (Precedes (segment_value x)) segment_value xs
     (λ k d h.
     let there = IsSegment-item xs k d h others in
-    Precedes-by_key (segment_value x) (segment_value (get_or xs k d)) own.numbers.few there.numbers.few
+    Precedes-by_key (segment_value x) (segment_value (get_or xs k d)) first_is_segment.numbers.few there.numbers.few
     (sorted 0 (suc k) d (omega arith) (omega (arith, h))))
 
 -- the segment x after the first sorted segments, `done`, satisfies `IsSegment` and precedes those after it
@@ -152,14 +152,17 @@ pub Precedes-next_of_sorted : (all done rest : List Segment) (x : Segment) → d
     → IsSegment (segment_value x) × All (Precedes (segment_value x)) (map segment_value rest)
 Precedes-next_of_sorted all done rest x e every sorted =
     let left : drop (length done) all ≡ x ∷ rest = ap (drop (length done)) (sym e) ∙ drop-append_seam done (x ∷ rest) in
-    let own : All IsSegment (map segment_value (x ∷ rest)) =
+    let left_are_segments : All IsSegment (map segment_value (x ∷ rest)) =
     All-same IsSegment (map segment_value (x ∷ rest)) (drop (length done) (map segment_value all))
     (sym (drop-map segment_value (length done) all ∙ ap (map segment_value) left))
     (All-drop IsSegment (length done) (map segment_value all) every) in
-    let up : IsNonDecreasingBy (λ (s : Segment). order_key (segment_value s)) (x ∷ rest) =
+    let left_sorted : IsNonDecreasingBy (λ (s : Segment). order_key (segment_value s)) (x ∷ rest) =
     subst (IsNonDecreasingBy (λ (s : Segment). order_key (segment_value s))) left
-    (IsNonDecreasingBy-drop (λ (s : Segment). order_key (segment_value s)) (length done) all sorted) in
-    (IsSegment-item (x ∷ rest) 0 x (omega arith) own, Precedes-head_of_sorted x rest own up)
+    (IsNonDecreasingBy-drop (λ (s : Segment). order_key (segment_value s)) (length done) all sorted) in (
+      IsSegment-item (x ∷ rest) 0 x (omega arith) left_are_segments,
+      Precedes-head_of_sorted x rest left_are_segments
+          left_sorted,
+    )
 
 -- if the last segment precedes s, and s precedes all of ss, then the last precedes all of ss
 pub Precedes-last_and_all : (o : Option SegmentValue) (s : SegmentValue) (ss : List SegmentValue)

@@ -35,10 +35,10 @@ pub malformed_step-piece : (o : Levels) (xs : List Step) (n k : ℕ)
 malformed_step-piece o xs n k e =
     let whole = subst (λ (l : List Step). malformed_step (record { opening = o; steps = l }) ≡ None)
     (sym (take-append-drop n xs)) e in
-    let behind = (SoundParts-of_well_formed o (take n xs) (drop n xs) whole).second in
+    let well_formed_after = (SoundParts-of_well_formed o (take n xs) (drop n xs) whole).second in
     let again =
     subst (λ (l : List Step). malformed_step (record { opening = levels_after o (take n xs); steps = l }) ≡ None)
-    (sym (take-append-drop k (drop n xs))) behind in
+    (sym (take-append-drop k (drop n xs))) well_formed_after in
     (SoundParts-of_well_formed (levels_after o (take n xs)) (take k (drop n xs)) (drop k (drop n xs)) again).first
 
 -- the empty list of steps is well-formed

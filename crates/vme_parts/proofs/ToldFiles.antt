@@ -131,11 +131,11 @@ module _ (j : JudgedSegments) (s : SegmentValue) (xs : List Segment) (i : ℕ) (
       let c = HasComeTo-before listing files end are stand next in
       let torn = stops listing c.1.extent (take c.0 files) (files_of files (segment_value x)) c.1.judged
       (SegmentStandsFor-at listing files stand) (c.2.0 ∙ sym c.1.last) in
-      let own : IsTornIn (take c.0 files) (take (2 ^ x.order) (drop c.0 files)) k =
+      let torn_in_segment : IsTornIn (take c.0 files) (take (2 ^ x.order) (drop c.0 files)) k =
       subst (λ n. IsTornIn (take c.0 files) (take (2 ^ x.order) (drop n files)) k) c.2.0 torn in
       let low = AreNext-not_before (last_of x.first x.order + 1) (drop (i + 1) (map segment_value xs)) end c.2.1 in (
-        IsTornFile-in_segment files c.0 (2 ^ x.order) k are own,
-        omega (arith, torn_number-below files c.0 (2 ^ x.order) k are own, low, c.2.0, pow_pos x.order),
+        IsTornFile-in_segment files c.0 (2 ^ x.order) k are torn_in_segment,
+        omega (arith, torn_number-below files c.0 (2 ^ x.order) k are torn_in_segment, low, c.2.0, pow_pos x.order),
       )
 
 -- if no segments are left, all are judged
@@ -164,9 +164,9 @@ Ascend-fits listing before (s ∷ ss) f = (f.1, Ascend-fits listing (Some (last_
 pub JudgesFiles-beyond : (p : PartValue) (count : Option ℕ) (k : ℕ) → IsBeyond p.segments count k
     → JudgesFiles p count (Err (answer.Beyond k))
 JudgesFiles-beyond p count k b files n are part has =
-    let own : HasFiles p (Some b.files) n = subst (λ (o : Option ℕ). HasFiles p o n) b.counted has in (
+    let has_count : HasFiles p (Some b.files) n = subst (λ (o : Option ℕ). HasFiles p o n) b.counted has in (
       subst (PartCovers p) (sym b.at) (PartCovers-last p b.last b.there),
-      omega (arith, own.1, b.behind),
+      omega (arith, has_count.1, b.behind),
     )
 
 -- if there is a gap between the segments, the answer is that the file there is missing

@@ -99,7 +99,7 @@ SplitAtFirstStep-of_number (y ∷ ys) n e = by_steps y.steps refl (SplitAtFirstS
         → SplitAtFirstStep (y ∷ ys) n
     by_steps [] f rest = SplitAtFirstStep-cons y ys n f (rest (rw f at e))
     by_steps (x ∷ xs) f rest =
-        let own : Some n ≡ Some y.number = rw f at e in
+        let same_number : Some n ≡ Some y.number = rw f at e in
         SplitAtFirstStep-here y ys n x xs f cc
 
 -- j is the state after judging the files bs, and s stands for the files ys that come next
@@ -135,7 +135,7 @@ module _ (j : JudgedSegments) (s : SegmentValue) (listing : Bool) (e : Extent) (
     BlocksJoin-still_files : GoOn (number_after a.number rest) (left_after (left_by a) rest) None ys
         → BlocksJoin (bs ++ front)
     BlocksJoin-still_files g =
-        let own = GoOn-split front (one ∷ back) (number_after a.number rest) (left_after (left_by a) rest) None
+        let split_joins = GoOn-split front (one ∷ back) (number_after a.number rest) (left_after (left_by a) rest) None
         (subst (GoOn (number_after a.number rest) (left_after (left_by a) rest) None) parts g) in
         let t = option_or (last_time (joined_steps rest)) (last_time a.steps) in
         let later : is_later_time t (first_time (joined_steps front)) ≡ true = rw still (is_later_time-none t) in
@@ -143,7 +143,7 @@ module _ (j : JudgedSegments) (s : SegmentValue) (listing : Bool) (e : Extent) (
         rw first
         (BlocksJoin-from_GoOn a (rest ++ front)
         (GoOn-append rest front a.number (left_by a) (last_time a.steps) (GoOn-of_joined a rest j)
-        (GoOn-after_time front (number_after a.number rest) (left_after (left_by a) rest) t own.0 later)))
+        (GoOn-after_time front (number_after a.number rest) (left_after (left_by a) rest) t split_joins.0 later)))
 
     -- the files `front` add no steps
     joined_steps-still_files : joined_steps (rest ++ front) ≡ joined_steps rest
@@ -180,7 +180,7 @@ module _ (j : JudgedSegments) (s : SegmentValue) (listing : Bool) (e : Extent) (
       let was' : IsExtent e (a ∷ rest) = subst (IsExtent e) first was.extent in
       let number : Some (number_after a.number rest) ≡ Some e.last = sym (number_after-last a rest) ∙ was'.last in
       let left : Some (left_after (left_by a) rest) ≡ Some e.left = sym (left_after-last a rest) ∙ was'.left in
-      let own : Some z.number ≡ Some s.first = q.first in
+      let same_number : Some z.number ≡ Some s.first = q.first in
       let opens : Some z.opening ≡ Some s.opening = q.opening in
       let last : number_after a.number rest ≡ e.last = cc in
       let lines : left_after (left_by a) rest ≡ e.left = cc in

@@ -78,11 +78,11 @@ pub IsTornFile-in_segment : (files : List Block) (n size k : ℕ) → AreFiles f
     → IsTornIn (take n files) (take size (drop n files)) k → IsTornFile files k
 IsTornFile-in_segment files n size k are t =
     let rest = drop size (drop n files) in
-    let behind : take size (drop n files) ++ rest ≡ drop n files = take-append-drop size (drop n files) in
+    let with_rest : take size (drop n files) ++ rest ≡ drop n files = take-append-drop size (drop n files) in
     let whole : take n files ++ drop n files ≡ files = take-append-drop n files in
     let parts : files ≡ (take n files ++ t.front) ++ t.torn ∷ (t.back ++ rest) =
     sym whole
-    ∙ (ap (λ k. take n files ++ k) (sym behind)
+    ∙ (ap (λ k. take n files ++ k) (sym with_rest)
     ∙ (ap (λ k. take n files ++ (k ++ rest)) t.parts
     ∙ (ap (λ k. take n files ++ k) (append_assoc t.front (t.torn ∷ t.back) rest)
     ∙ sym (append_assoc (take n files) t.front (t.torn ∷ (t.back ++ rest)))))) in
@@ -93,11 +93,11 @@ pub torn_number-below : (files : List Block) (n size k : ℕ) → AreFiles files
     → IsTornIn (take n files) (take size (drop n files)) k → k < n + size
 torn_number-below files n size k are t =
     let rest = drop size (drop n files) in
-    let behind : take size (drop n files) ++ rest ≡ drop n files = take-append-drop size (drop n files) in
+    let with_rest : take size (drop n files) ++ rest ≡ drop n files = take-append-drop size (drop n files) in
     let whole : take n files ++ drop n files ≡ files = take-append-drop n files in
     let parts : files ≡ (take n files ++ t.front) ++ t.torn ∷ (t.back ++ rest) =
     sym whole
-    ∙ (ap (λ k. take n files ++ k) (sym behind)
+    ∙ (ap (λ k. take n files ++ k) (sym with_rest)
     ∙ (ap (λ k. take n files ++ (k ++ rest)) t.parts
     ∙ (ap (λ k. take n files ++ k) (append_assoc t.front (t.torn ∷ t.back) rest)
     ∙ sym (append_assoc (take n files) t.front (t.torn ∷ (t.back ++ rest)))))) in

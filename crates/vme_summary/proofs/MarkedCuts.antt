@@ -83,15 +83,15 @@ module _ (stretch : Stretch) (shown : ℕ → StepMarks) where
       none : 0 + end ≡ end
       none = omega arith
   marks_until-cut_after end (suc k) =
-      ap (λ n. marks_before end (marks_until stretch shown n)) more
+      ap (λ n. marks_before end (marks_until stretch shown n)) suc_moved
       ∙ (marks_before-first_part end (marks_until stretch shown (k + end)) (marks_on stretch shown (k + end))
       (marks_before-shown_after end (k + end)
       (nat_lt 0 (k + end) && nat_le stretch.start (k + end) && nat_le (k + end) stretch.end)
       (omega arith))
       ∙ marks_until-cut_after end k)
     where
-      more : suc k + end ≡ suc (k + end)
-      more = omega arith
+      suc_moved : suc k + end ≡ suc (k + end)
+      suc_moved = omega arith
 
   -- of the marks up to an instant from the end on, those before the end are the ones up to it
   pub marks_until-cut : (end n : ℕ) → end ≤ n → marks_before end (marks_until stretch shown n)
@@ -127,14 +127,14 @@ module _ (stretch : Stretch) (shown : ℕ → StepMarks) where
       none : 0 + suc stretch.end ≡ suc stretch.end
       none = omega arith
   marks_until-past_end (suc k) =
-      ap (marks_until stretch shown) more
+      ap (marks_until stretch shown) suc_moved
       ∙ (ap (λ ms. marks_until stretch shown (k + suc stretch.end) ++ ms)
       (marks_on-after_end (k + suc stretch.end) (omega arith))
       ∙ (append-nil (marks_until stretch shown (k + suc stretch.end))
       ∙ marks_until-past_end k))
     where
-      more : suc k + suc stretch.end ≡ suc (k + suc stretch.end)
-      more = omega arith
+      suc_moved : suc k + suc stretch.end ≡ suc (k + suc stretch.end)
+      suc_moved = omega arith
 
   -- the marks up to any instant after the end of a stretch are those up to the instant after its end
   pub marks_until-after_end : (n : ℕ) → stretch.end < n → marks_until stretch shown n

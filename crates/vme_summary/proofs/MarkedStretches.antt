@@ -65,10 +65,10 @@ module _ (shown : ℕ → StepMarks) (unreset : (j : ℕ) → (shown j).reset �
   marks_from-last (suc n) i =
       ap (all_put i (shown i)) (marks_from-last n (suc i))
       ∙ (all_put-append i (marks_from shown (suc i) n) (pieces shown (suc i + n))
-      ∙ ap (λ j. marks_from shown i (suc n) ++ pieces shown j) more)
+      ∙ ap (λ j. marks_from shown i (suc n) ++ pieces shown j) suc_moved)
     where
-      more : suc i + n ≡ i + suc n
-      more = omega arith
+      suc_moved : suc i + n ≡ i + suc n
+      suc_moved = omega arith
 
 module _ (t : Trace) (stretch : Stretch) where
   -- the marks of the opening, by whether judging starts there (b) and the bus is busy (c)
@@ -275,10 +275,10 @@ module _ (t : Trace) (stretch : Stretch) where
         ∙ (append-regrouped (rows_before t stretch end i) (tenure_rows t stretch end i) (cycle_rows t stretch end i)
         (transfer_rows t stretch end i) (rows_from (suc i) n)
         ∙ (rows_before-and_from n (suc i) (omega arith)
-        ∙ ap (rows_before t stretch end) more))
+        ∙ ap (rows_before t stretch end) suc_moved))
       where
-        more : suc i + n ≡ i + suc n
-        more = omega arith
+        suc_moved : suc i + n ≡ i + suc n
+        suc_moved = omega arith
 
     -- no row begins before the start of the stretch
     rows_before-none_early : (i : ℕ) → i ≤ stretch.start → rows_before t stretch end i ≡ []

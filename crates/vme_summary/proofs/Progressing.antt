@@ -72,11 +72,11 @@ HasCome-append p s e n f same count m found x y c q =
     (λ v. SummaryStandsFor s.summary v (joined_steps y)) opens q.summary in
     let whole = found p.extent.opening (joined_steps x) (joined_steps y) c.steps c.found (stands_finds_all second) in
     let steps = joined_steps-append x y in
-    let more : summary_steps s.summary ≡ length (joined_steps y) = q.summary.known.counted in
+    let added_steps : summary_steps s.summary ≡ length (joined_steps y) = q.summary.known.counted in
     record {
       extent = subst (λ (k : Extent). IsExtent k (x ++ y)) (sym same) (IsExtent-joined p.extent s.extent x y c.extent
           q.extent m);
-      steps = count ∙ ap (λ k. k + summary_steps s.summary) c.steps ∙ ap (λ k. length (joined_steps x) + k) more
+      steps = count ∙ ap (λ k. k + summary_steps s.summary) c.steps ∙ ap (λ k. length (joined_steps x) + k) added_steps
           ∙ sym (ap length steps ∙ length-append (joined_steps x) (joined_steps y));
       found = subst (λ (k : Extent). HasFound f k.opening (joined_steps (x ++ y))) (sym same)
           (subst (λ (steps : List Step). HasFound f p.extent.opening steps) (sym steps) whole);

@@ -71,15 +71,15 @@ malformed_step-of_joined : (b : Block) (bs : List Block) → BlocksJoin (b ∷ b
 malformed_step-of_joined b bs j all =
     let g = GoOn-of_joined b bs j in
     let h : GoOn b.number (left_by b) (option_or (last_time b.steps) None) bs = subst
-    (λ k. GoOn b.number (left_by b) k bs) (own (last_time b.steps)) g in
+    (λ k. GoOn b.number (left_by b) k bs) (option_or-no_default (last_time b.steps)) g in
     well_formed-append b.opening b.steps (joined_steps bs) (IsSound-first b bs all)
     (malformed_step-of_GoOn bs b.number (left_by b)
     (option_or (last_time b.steps) None) h (AreSound-rest b bs all))
     (is_later_time-of_GoOn b.steps None bs b.number (left_by b) h)
   where
-    own : (l : Option ℕ) → l ≡ option_or l None
-    own None = refl
-    own (Some s) = refl
+    option_or-no_default : (l : Option ℕ) → l ≡ option_or l None
+    option_or-no_default None = refl
+    option_or-no_default (Some s) = refl
 
 -- well-formed blocks that join make a well-formed recording
 pub joined_trace-well_formed : (blocks : List Block) (t : Trace) → BlocksJoin blocks → All IsSound blocks

@@ -24,8 +24,8 @@ returns-clause-listing c =
 SplitsItsRecording-listing : (s : Span) (listing : Listed) → IsListingOf s listing → SplitsItsRecording s listing
 SplitsItsRecording-listing s listing is blocks t stands joins =
     let same : Some (listing_of t) ≡ Some listing = sym (ap (option_map listing_of) joins) ∙ is blocks stands in
-    let told : listing_of t ≡ listing = cc in
-    subst (λ (l : Listed). Splits t (verdict t) l.rows) told (Splits-listing t)
+    let same_listing : listing_of t ≡ listing = cc in
+    subst (λ (l : Listed). Splits t (verdict t) l.rows) same_listing (Splits-listing t)
 
 pub returns-clause-split : goal.returns-clause-split
 returns-clause-split c =
