@@ -72,6 +72,7 @@ pub option_or-both_none : (o p : Option Break) → option_or o p ≡ None → (o
 option_or-both_none None p e = (refl, e)
 option_or-both_none (Some a) p e = absurd (cc)
 
+-- a stretch of the recording t
 module _ (t : Trace) (stretch : Stretch) where
   -- the break of a rule at instant j, if there is one, is there, on one of the lines
   rule_break-at : (r : Rule) (j : ℕ) (b : Break) → rule_break t stretch j r ≡ Some b → IsAt stretch b j

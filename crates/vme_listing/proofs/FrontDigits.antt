@@ -163,12 +163,14 @@ module _ (text : List ℕ) (count : ℕ) (few : count ≤ 10) (within : count �
       (omega (arith, many, length-take-le count text within))
       (get_or-take count text 0 0 (omega (arith, many)) ∙ eqb-true (get_or text 0 0) 48 parts.1))
 
+  -- `number` is the value of the digits
   module _ (number : ℕ) (value : number ≡ digits_value 10 (take count text)) where
     -- if the value is 2^32 or more, there is no number
     pub number_in-large : 2 ^ 32 ≤ number → number_in text ≡ None
     unfolding number_in
     number_in-large large = rw (digits_at-take, sym value, le-ltb number (2 ^ 32) large) refl
 
+    -- there is a digit, and the first is 0 only if it is the only one
     module _ (some : 0 < count) (no_lead : (nat_lt 1 count && (get_or text 0 0 == 48)) ≡ false) where
       -- the decimal text of the value is these digits
       decimal-of_front : decimal (digits_value 10 (take count text)) ≡ take count text

@@ -261,6 +261,7 @@ module _ (text : List ℕ) (rows : List Row) (old : Unread) (has : HasRead text 
       let whole = listed-of_read text old.version rows old.rest has.read end (has.closed end) in
       (whole.0, whole.1, IsOnlyListing-of_AllBegin text old.version rows old.rest has.begin (has.closed end))
 
+  -- the rows so far aren't a whole listing
   module _ (unfinished : ends_listing old.last ≡ false) where
     -- one more row was read, where no other row that may follow is at the start of the rest
     pub HasRead-append : (row : Row) (more : List ℕ) → follows old.version old.last row ≡ true

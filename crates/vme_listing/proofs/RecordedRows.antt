@@ -120,6 +120,7 @@ unfolding data_at
 data_form t stretch end i r = has_data-by_direction (is_write t stretch i) (data_at t stretch r)
     (is_allowed_data-lanes_at (levels_at t (if transfer_starts t stretch r then r else r - 1)))
 
+-- the instant i of a stretch, before `end`
 module _ (t : Trace) (stretch : Stretch) (end : ℕ) (few : end ≤ 2 ^ 32) (i : ℕ) (listed : i < end) where
   -- at instant i at most one tenure has a row, if B4 isn't broken there
   pub tenure_one : t.opening.slots ≤ 21 → breaks t stretch B4 i BBSY ≡ false

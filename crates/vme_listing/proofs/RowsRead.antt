@@ -73,6 +73,7 @@ lanes_in-is a more h =
 abbrev Piece : {A : Type 0} → (Rest → A) → (Rest → Rest) → List ℕ → A → List ℕ → Type 0
 Piece at past line x more = (at (Some line) ≡ x) × (past (Some line) ≡ Some more)
 
+-- the number n, and the text `more` after it, with which a word may end
 module _ (n : ℕ) (more : List ℕ) (end : is_end more ≡ true) where
   -- a number below 2^32 is read from its decimal text, if no digit follows
   Piece-number : n < 2 ^ 32 → Piece number_at past_number (decimal n ++ more) n more
@@ -371,6 +372,7 @@ length-front_and_back front back h =
     let size : 2 ≤ length (front ++ back) = omega (arith, h, length-append front back) in
     grind (arith, nat_tests)
 
+-- a break of the rule r, as a verdict of its kind
 module _ (kind : Rule → ℕ → ℕ → ListedVerdict) (r : Rule) (instant line : ℕ) where
   -- a break is read from its text: its rule, its instant and its line
   break_in-text : instant < 2 ^ 32 → line < line_count

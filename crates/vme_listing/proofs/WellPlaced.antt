@@ -173,6 +173,7 @@ eq-or_below i s h = grind arith
 
 -- t is a recording of at most 21 slots and fewer than 2^32 steps
 module _ (t : Trace) (slots : t.opening.slots ≤ 21) (few : length t.steps < 2 ^ 32) where
+  -- a stretch, of which instants before `end` are listed
   module _ (stretch : Stretch) (end : ℕ) (within : end ≤ 2 ^ 32) where
     -- no instant at the start of the stretch or before is judged
     is_judged-not_early : (i : ℕ) → i ≤ stretch.start → is_judged stretch i ≡ false
@@ -403,6 +404,7 @@ module _ (t : Trace) (slots : t.opening.slots ≤ 21) (few : length t.steps < 2 
             )
       ]
 
+  -- instants before `limit` are listed
   module _ (limit : ℕ) (most : limit ≤ last_instant t + 1) where
     -- a stretch that starts at the limit or later has no rows
     rows_of_stretch-past_limit : (stretch : Stretch) → limit ≤ stretch.start → rows_of_stretch t limit stretch ≡ []
@@ -446,6 +448,7 @@ module _ (t : Trace) (slots : t.opening.slots ≤ 21) (few : length t.steps < 2 
         higher : (i j : ℕ) → i < j → (nat_lt i j || ((i == j) && nat_lt 0 1)) ≡ true
         higher i j h = grind (arith, nat_tests)
 
+    -- `found` is the least break, if any, and its verdict is allowed
     module _ (found : Option Break) (is : is_allowed_outcome (outcome_of found) ≡ true) where
       -- the row of the verdict
       abbrev verdict : List Row

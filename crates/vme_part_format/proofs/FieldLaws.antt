@@ -68,25 +68,25 @@ cond-ok_then_err true d x y e = (refl, cc)
 cond-ok_then_err false d x y e = absurd cc
 
 -- a field that was read without a fault
-abbrev done : {A : Type 0} → A → Result A FieldFault
-done x = Ok x
+abbrev field_ok : {A : Type 0} → A → Result A FieldFault
+field_ok x = Ok x
 
 -- successes that are equal have equal values
-pub Ok-injective : {A : Type 0} (x y : A) → done x ≡ done y → x ≡ y
+pub Ok-injective : {A : Type 0} (x y : A) → field_ok x ≡ field_ok y → x ≡ y
 Ok-injective x y e = cc
 
 -- an option that has a value
-abbrev present : {A : Type 0} → A → Option A
-present x = Some x
+abbrev some_value : {A : Type 0} → A → Option A
+some_value x = Some x
 
 -- options that are equal have equal values
-pub Some-injective : {A : Type 0} (x y : A) → present x ≡ present y → x ≡ y
+pub Some-injective : {A : Type 0} (x y : A) → some_value x ≡ some_value y → x ≡ y
 Some-injective x y e = cc
 
 -- if there is no fault, the option has the value
 pub or_fault-ok : {A : Type 0} (d : FieldFault) (o : Option A) (y : A) → or_fault d o ≡ Ok y → o ≡ Some y
 or_fault-ok d None y e = absurd cc
-or_fault-ok d (Some x) y e = ap (λ (z : _). present z) (Ok-injective x y e)
+or_fault-ok d (Some x) y e = ap (λ (z : _). some_value z) (Ok-injective x y e)
 
 -- a reader took `text` from the front of `bytes`, and left `rest`
 pub record Takes (bytes text rest : List ℕ) : Type 0 where
@@ -231,7 +231,7 @@ abbrev pub break_bytes : WideBreak → List ℕ
 break_bytes b = b.line ∷ (to_le_bytes w64 b.instant ++ to_le_bytes w64 b.time)
 
 -- `break_at` read a break of `rule` from `bytes`
-pub record IsRead (steps : ℕ) (rule : Rule) (bytes : List ℕ) (x : Option WideBreak × List ℕ) : Type 0 where
+pub record BreakTaken (steps : ℕ) (rule : Rule) (bytes : List ℕ) (x : Option WideBreak × List ℕ) : Type 0 where
   pub found : WideBreak
   pub is : x.0 ≡ Some found
   pub of : found.rule ≡ rule
@@ -248,7 +248,7 @@ may_break-parts steps line instant e =
 
 -- the break that is read is one of the rule and within its bounds, and its bytes stand there
 pub break_at-ok : (steps : ℕ) (rule : Rule) (bad : FieldFault) (bytes : List ℕ) (x : Option WideBreak × List ℕ)
-    → IsBytes bytes → break_at steps rule bad bytes ≡ Ok x → IsRead steps rule bytes x
+    → IsBytes bytes → break_at steps rule bad bytes ≡ Ok x → BreakTaken steps rule bytes x
 unfolding break_at
 break_at-ok steps rule bad bytes x fits e =
     let a = bind_ok (byte_at bytes) (λ line. number_at w64 line.1 >>= λ instant. number_at w64 instant.1 >>= λ time.
@@ -267,7 +267,7 @@ break_at-ok steps rule bad bytes x fits e =
     let t2 = number_at-ok w64 (2 ^ 64) wide64 b.0.1 c.0.0 c.0.1 t1.0.rest_fits c.1 in
     let t12 = Takes-append a.0.1 (to_le_bytes w64 b.0.0) b.0.1 (to_le_bytes w64 c.0.0) c.0.1 t1.0 t2.0 in
     let t02 = Takes-append bytes (a.0.0 ∷ []) a.0.1 (to_le_bytes w64 b.0.0 ++ to_le_bytes w64 c.0.0) c.0.1 t0.0 t12 in
-    subst (λ (y : Option WideBreak × List ℕ). IsRead steps rule bytes y) g.1
+    subst (λ (y : Option WideBreak × List ℕ). BreakTaken steps rule bytes y) g.1
     (record {
       found = read_break rule a.0.0 b.0.0 c.0.0;
       is = refl;

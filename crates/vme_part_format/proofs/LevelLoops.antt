@@ -113,6 +113,7 @@ after_items-append : (front ls : List Level) (read : Result (List Level × List 
 after_items-append front ls (Ok x) = ap (λ (xs : List Level). Ok (xs, x.1)) (sym (append_assoc front ls x.0))
 after_items-append front ls (Err f) = refl
 
+-- the backplane has `slots` slots
 module _ (slots : ℕ) where
   -- the loop invariant holds after one more byte, of four levels
   pub levels_step : (place byte : ℕ) (bytes after : List ℕ) (front ls : List Level)

@@ -92,20 +92,20 @@ cond-err_unless true f others y e = (refl, e)
 cond-err_unless false f others y e = absurd cc
 
 -- a body that was read without a fault
-abbrev done : {A : Type 0} → A → Result A FieldFault
-done x = Ok x
+abbrev body_ok : {A : Type 0} → A → Result A FieldFault
+body_ok x = Ok x
 
 -- a part that was read without a fault
-abbrev found : {A : Type 0} → A → Result A PartFault
-found x = Ok x
+abbrev part_ok : {A : Type 0} → A → Result A PartFault
+part_ok x = Ok x
 
 -- parts that are equal as results are equal
-found-injective : {A : Type 0} (x y : A) → found x ≡ found y → x ≡ y
-found-injective x y e = cc
+part_ok-injective : {A : Type 0} (x y : A) → part_ok x ≡ part_ok y → x ≡ y
+part_ok-injective x y e = cc
 
 -- if a result is there with a place for its fault, it is there without
 with_place_ok : {A : Type 0} (end : ℕ) (r : Result A FieldFault) (y : A) → with_place end r ≡ Ok y → r ≡ Ok y
-with_place_ok end (Ok x) y e = ap done (found-injective x y e)
+with_place_ok end (Ok x) y e = ap body_ok (part_ok-injective x y e)
 with_place_ok end (Err f) y e = absurd cc
 
 -- bytes that the test finds equal are equal

@@ -336,11 +336,11 @@ least_11 : 3 ≤ 11
 least_11 = omega arith
 
 -- a segment that was read without a fault
-abbrev done_with : {A : Type 0} → A → Result A FieldFault
-done_with x = Ok x
+abbrev segment_ok : {A : Type 0} → A → Result A FieldFault
+segment_ok x = Ok x
 
 -- the values of the fields before the tables
-record Head : Type 0 where
+record HeadFields : Type 0 where
   numbers : ℕ × ℕ
   steps : ℕ
   opening : Levels
@@ -348,30 +348,30 @@ record Head : Type 0 where
   times : Option SegmentTimes
 
 -- the segment of these fields and five tables
-abbrev with_tables : Head → TableValue → TableValue → TableValue → TableValue → TableValue → SegmentValue
+abbrev with_tables : HeadFields → TableValue → TableValue → TableValue → TableValue → TableValue → SegmentValue
 with_tables h a b c d f = read_segment h.numbers h.steps h.opening h.left h.times a b c d f
 
 -- reads the rest of a segment from one table on, where the tables before it were read
-abbrev at_acknowledge : Bool → Head → TableValue → TableValue → TableValue → TableValue → List ℕ
+abbrev at_acknowledge : Bool → HeadFields → TableValue → TableValue → TableValue → TableValue → List ℕ
     → Result (SegmentValue × List ℕ) FieldFault
 at_acknowledge listing h a b c d bytes =
     table_at listing 11 h.steps bytes >>= λ f. Ok (with_tables h a b c d f.0, f.1)
 
-abbrev at_grant : Bool → Head → TableValue → TableValue → TableValue → List ℕ
+abbrev at_grant : Bool → HeadFields → TableValue → TableValue → TableValue → List ℕ
     → Result (SegmentValue × List ℕ) FieldFault
 at_grant listing h a b c bytes = table_at listing 35 h.steps bytes >>= λ d. at_acknowledge listing h a b c d.0 d.1
 
-abbrev at_stability : Bool → Head → TableValue → TableValue → List ℕ → Result (SegmentValue × List ℕ) FieldFault
+abbrev at_stability : Bool → HeadFields → TableValue → TableValue → List ℕ → Result (SegmentValue × List ℕ) FieldFault
 at_stability listing h a b bytes = table_at listing 13 h.steps bytes >>= λ c. at_grant listing h a b c.0 c.1
 
-abbrev at_handshake : Bool → Head → TableValue → List ℕ → Result (SegmentValue × List ℕ) FieldFault
+abbrev at_handshake : Bool → HeadFields → TableValue → List ℕ → Result (SegmentValue × List ℕ) FieldFault
 at_handshake listing h a bytes = table_at listing 147 h.steps bytes >>= λ b. at_stability listing h a b.0 b.1
 
-abbrev at_known : Bool → Head → List ℕ → Result (SegmentValue × List ℕ) FieldFault
+abbrev at_known : Bool → HeadFields → List ℕ → Result (SegmentValue × List ℕ) FieldFault
 at_known listing h bytes = table_at listing 4 h.steps bytes >>= λ a. at_handshake listing h a.0 a.1
 
 -- five tables that were read
-record IsTables (listing : Bool) (h : Head) (bytes : List ℕ) (x : SegmentValue × List ℕ) : Type 0 where
+record IsTables (listing : Bool) (h : HeadFields) (bytes : List ℕ) (x : SegmentValue × List ℕ) : Type 0 where
   a : TableValue × List ℕ
   b : TableValue × List ℕ
   c : TableValue × List ℕ
@@ -390,14 +390,14 @@ table_at-then listing memories steps bytes k x some low fits e =
     (t.0, table_at-ok listing memories steps bytes t.0 some low fits t.1, t.2)
 
 -- if the first four tables were read, and the last table is, five tables are
-IsTables-from_acknowledge : (listing : Bool) (h : Head) (bytes : List ℕ) (a b c d : TableValue × List ℕ)
+IsTables-from_acknowledge : (listing : Bool) (h : HeadFields) (bytes : List ℕ) (a b c d : TableValue × List ℕ)
     (x : SegmentValue
     × List ℕ)
     → h.steps < 2 ^ 64 → TableTaken listing 4 h.steps bytes a → TableTaken listing 147 h.steps a.1 b
     → TableTaken listing 13 h.steps b.1 c → TableTaken listing 35 h.steps c.1 d
     → at_acknowledge listing h a.0 b.0 c.0 d.0 d.1 ≡ Ok x → IsTables listing h bytes x
 IsTables-from_acknowledge listing h bytes a b c d x low ta tb tc td e =
-    let k = λ (f : TableValue × List ℕ). done_with (with_tables h a.0 b.0 c.0 d.0 f.0, f.1) in
+    let k = λ (f : TableValue × List ℕ). segment_ok (with_tables h a.0 b.0 c.0 d.0 f.0, f.1) in
     let t = table_at-then listing 11 h.steps d.1 k x least_11 low td.0.rest_fits e in
     record {
       a = a;
@@ -410,7 +410,7 @@ IsTables-from_acknowledge listing h bytes a b c d x low ta tb tc td e =
     }
 
 -- if the first three tables were read, and the rest is, five tables are
-IsTables-from_grant : (listing : Bool) (h : Head) (bytes : List ℕ) (a b c : TableValue × List ℕ)
+IsTables-from_grant : (listing : Bool) (h : HeadFields) (bytes : List ℕ) (a b c : TableValue × List ℕ)
     (x : SegmentValue × List ℕ)
     → h.steps < 2 ^ 64 → TableTaken listing 4 h.steps bytes a → TableTaken listing 147 h.steps a.1 b
     → TableTaken listing 13 h.steps b.1 c → at_grant listing h a.0 b.0 c.0 c.1 ≡ Ok x → IsTables listing h bytes x
@@ -420,7 +420,7 @@ IsTables-from_grant listing h bytes a b c x low ta tb tc e =
     IsTables-from_acknowledge listing h bytes a b c t.0 x low ta tb tc t.1 t.2
 
 -- if the first two tables were read, and the rest is, five tables are
-IsTables-from_stability : (listing : Bool) (h : Head) (bytes : List ℕ) (a b : TableValue × List ℕ)
+IsTables-from_stability : (listing : Bool) (h : HeadFields) (bytes : List ℕ) (a b : TableValue × List ℕ)
     (x : SegmentValue × List ℕ)
     → h.steps < 2 ^ 64 → TableTaken listing 4 h.steps bytes a → TableTaken listing 147 h.steps a.1 b
     → at_stability listing h a.0 b.0 b.1 ≡ Ok x → IsTables listing h bytes x
@@ -430,7 +430,7 @@ IsTables-from_stability listing h bytes a b x low ta tb e =
     IsTables-from_grant listing h bytes a b t.0 x low ta tb t.1 t.2
 
 -- if the first table was read, and the rest is, five tables are
-IsTables-from_handshake : (listing : Bool) (h : Head) (bytes : List ℕ) (a : TableValue × List ℕ)
+IsTables-from_handshake : (listing : Bool) (h : HeadFields) (bytes : List ℕ) (a : TableValue × List ℕ)
     (x : SegmentValue × List ℕ)
     → h.steps < 2 ^ 64 → TableTaken listing 4 h.steps bytes a → at_handshake listing h a.0 a.1 ≡ Ok x
     → IsTables listing h bytes x
@@ -440,7 +440,7 @@ IsTables-from_handshake listing h bytes a x low ta e =
     IsTables-from_stability listing h bytes a t.0 x low ta t.1 t.2
 
 -- if the rest of a segment from the tables on is read, five tables are
-IsTables-from_known : (listing : Bool) (h : Head) (bytes : List ℕ) (x : SegmentValue × List ℕ) → h.steps < 2 ^ 64
+IsTables-from_known : (listing : Bool) (h : HeadFields) (bytes : List ℕ) (x : SegmentValue × List ℕ) → h.steps < 2 ^ 64
     → IsBytes bytes → at_known listing h bytes ≡ Ok x → IsTables listing h bytes x
 IsTables-from_known listing h bytes x low fits e =
     let k = λ (a : TableValue × List ℕ). at_handshake listing h a.0 a.1 in
@@ -474,6 +474,7 @@ record FrontTaken (before : Option ℕ) (bytes : List ℕ) (n : (ℕ × ℕ) × 
   one : 1 ≤ sl.0
   most : sl.0 ≤ 21
 
+-- x is the segment that is read from `bytes`, with the bytes after it
 module _ (listing : Bool) (before : Option ℕ) (bytes : List ℕ) (x : SegmentValue × List ℕ) where
   -- if the rest of a segment is read from its times on, the segment is read
   SegmentTaken-from_times : (n : (ℕ × ℕ) × List ℕ) (st sl : ℕ × List ℕ) (op le : Levels × List ℕ)
@@ -485,7 +486,7 @@ module _ (listing : Bool) (before : Option ℕ) (bytes : List ℕ) (x : SegmentV
       at_known listing (record { numbers = n.0; steps = st.0; opening = op.0; left = le.0; times = ti.0 }) ti.1 in
       let ti = bind_ok (times_at n.0.0 n.0.1 st.0 le.1) k x e in
       let t = times_at-ok n.0.0 n.0.1 st.0 le.1 ti.0 was.taken.rest_fits ti.1 in
-      let head : Head =
+      let head : HeadFields =
       record { numbers = n.0; steps = st.0; opening = op.0; left = le.0; times = ti.0.0 } in
       let tables = IsTables-from_known listing head ti.0.1 x h.few t.0.rest_fits ti.2 in
       let all : HeadTaken before bytes n st sl op le ti.0 =

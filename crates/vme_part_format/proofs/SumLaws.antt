@@ -26,18 +26,18 @@ bit_xor-injective s a b e =
     (ap (λ (n : ℕ). bit_at n i) e))
 
 -- the inverse of the factor modulo 2 ^ 64
-back : ℕ
-back = 14886173955864302971
+inverse_factor : ℕ
+inverse_factor = 14886173955864302971
 
 -- x multiplied by the factor and by its inverse is x modulo 2 ^ 64
-factor_times_inverse : (x : ℕ) → x * sum_factor * back ≡ x + (x * 887285111055) * 2 ^ 64
-unfolding back
+factor_times_inverse : (x : ℕ) → x * sum_factor * inverse_factor ≡ x + (x * 887285111055) * 2 ^ 64
+unfolding inverse_factor
 factor_times_inverse x = omega arith
 
 -- a number below 2^64 that is multiplied by the factor, and then by its inverse, is itself modulo 2^64
-times_factor-inverse : (x : ℕ) → x < 2 ^ 64 → ((x * sum_factor) % 2 ^ 64 * back) % 2 ^ 64 ≡ x
+times_factor-inverse : (x : ℕ) → x < 2 ^ 64 → ((x * sum_factor) % 2 ^ 64 * inverse_factor) % 2 ^ 64 ≡ x
 times_factor-inverse x low =
-    mul-mod_first (x * sum_factor) back (2 ^ 64)
+    mul-mod_first (x * sum_factor) inverse_factor (2 ^ 64)
     ∙ ap (λ (n : ℕ). n % 2 ^ 64) (factor_times_inverse x)
     ∙ add-mul-mod_self_right x (x * 887285111055) (2 ^ 64)
     ∙ omega arith
@@ -46,7 +46,7 @@ times_factor-inverse x low =
 times_factor-injective : (x y : ℕ) → x < 2 ^ 64 → y < 2 ^ 64 → (x * sum_factor) % 2 ^ 64 ≡ (y * sum_factor) % 2 ^ 64 → x
     ≡ y
 times_factor-injective x y lx ly e =
-    sym (times_factor-inverse x lx) ∙ ap (λ (n : ℕ). (n * back) % 2 ^ 64) e ∙ times_factor-inverse y ly
+    sym (times_factor-inverse x lx) ∙ ap (λ (n : ℕ). (n * inverse_factor) % 2 ^ 64) e ∙ times_factor-inverse y ly
 
 -- a byte is below 2^64
 byte-below_64_bits : (b : ℕ) → b < 256 → b < 2 ^ 64

@@ -307,6 +307,7 @@ module _ (a b : TableValue) (steps : ℕ) (c : CanCompose a b) where
         nodes = rw as_many_on (nodes_go_on a.nodes ways);
       }
 
+  -- the composition has the nodes of both tables
   pub composed_count : length (table_on a b steps).nodes ≡ length a.nodes + length b.nodes
   composed_count = count_on
 

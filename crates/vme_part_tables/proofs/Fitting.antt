@@ -50,6 +50,7 @@ stays_on es between steps h =
     let within = slice_get_within es 2 stays h in
     rw (h, lt-ltb 2 (length es) within) refl
 
+-- a segment of `steps` steps, and `more` steps after it
 module _ (steps more : ℕ) (fits : steps + more < 2 ^ 64) where
   -- a break in the first `steps` steps is one in all `steps + more` steps
   break_of_first : (b : WideBreak) → FitsBreak steps b → FitsBreak (steps + more) b

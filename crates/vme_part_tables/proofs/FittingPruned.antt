@@ -40,12 +40,15 @@ HasNodes-nodes_kept false m bs ns h = ap (nodes_kept m bs) h ∙ none bs
 entry_kept-stays : (m : ℕ) (keeps : List Bool) → 2 < m → entry_kept m keeps stays ≡ stays
 entry_kept-stays m keeps h = rw (lt-ltb 2 m h) refl
 
+-- a table t that can be written, of which `keeps` keeps the nodes that its runs reach
 module _ (listing : Bool) (count steps : ℕ) (t : TableValue) (keeps : List Bool)
     (c : KeepsWays (length t.entries) keeps t.entries t.nodes) (h : HasWays t) (f : FitsTable listing count steps t)
   where
+    -- an entry whose way counts the kept nodes alone
     abbrev on : TableEntry → TableEntry
     on = entry_kept (length t.entries) keeps
 
+    -- the entry `stays` is in the pruned table between the entries before it and those after it
     ended_kept : (table_kept keeps t).entries ≡ map on f.ended.0 ++ stays ∷ map on f.ended.1
     ended_kept =
         let there : slice_get t.entries 2 ≡ Some stays

@@ -59,6 +59,7 @@ module _ (m n : ℕ) (fits : m + n < 2 ^ 64) where
   break_of-option_or (Some a) b None f p q = absurd (cc)
   break_of-option_or (Some a) b (Some e) f p q = p
 
+  -- `place` is the number of a memory
   module _ {P : Type 0} (place : P → ℕ) where
     -- if the outcomes a and b show the marks of the runs r and s, a followed by b shows those of both runs
     pub ShowsMarks-followed_by : (listing : Bool) (a b : WideOutcome) (r s : Outcome P) → ShowsMarks listing a r

@@ -29,6 +29,7 @@ use Rattle.vme_part_tables.proofs.Walking.{run_from_here, run_from_memory, run_f
 reverse-push : (xs : List NodeValue) (n : NodeValue) → reverse (xs ++ n ∷ []) ≡ n ∷ reverse xs
 reverse-push xs n = reverse-append xs (n ∷ [])
 
+-- there are m memories
 module _ (m : ℕ) where
   -- a memory stays the same way
   reversed_way-memory : (k w : ℕ) → w < m → reversed_way m k w ≡ w
@@ -214,6 +215,7 @@ module _ (m : ℕ) (made ns : List NodeValue) (onward : List Onward) (es : List 
     (few : m + length made < 2 ^ 32) (g : MadeGoOn m made) (ways : AreMade m made onward) (count : length es ≡ m)
     (entries : (k : ℕ) → k < m → slice_get es k ≡ Some (entry_made m (length made) (onward_at onward k)))
     (turn : ns ≡ reverse made) where
+  -- this table
   abbrev table : TableValue
   table = record { entries = es; nodes = ns }
 

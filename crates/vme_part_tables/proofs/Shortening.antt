@@ -342,6 +342,7 @@ module _ (m : ℕ) (xs : List TableNode) (place between : ℕ) where
         few = few;
       }
 
+  -- the node `place` may be merged with the one that it continues with
   module _ (may : MayTakeIn m (map node_value xs) place between) (g : NodesGoOn m (map node_value xs)) where
     -- the later node is one of the nodes
     pub later_node-within : place + 1 + between < length xs

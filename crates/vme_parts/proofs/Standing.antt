@@ -98,9 +98,11 @@ module _ (s t r : SegmentValue) (b : IsOfBoth s t r) where
       joined_steps-both : joined_steps (x ++ y) ≡ joined_steps x ++ joined_steps y
       joined_steps-both = joined_steps-append x y
 
+      -- t opens with the levels after the steps of s
       opens : t.opening ≡ levels_after s.opening (joined_steps x)
       opens = b.meets.opened ∙ sym (levels_after-extent (extent_of s) x p.extent)
 
+      -- the steps of both are few enough for 64 bits
       fits : length (joined_steps x) + length (joined_steps y) < 2 ^ 64
       fits = omega (arith, b.counts, b.steps, p.counted, q.counted)
 

@@ -53,6 +53,7 @@ pub is_well_placed-of_summary : (s : MonitorSummaries) (o : Levels) (t : Trace) 
     → is_well_placed (listing_of t) ≡ true
 is_well_placed-of_summary s o t all counted law = law t all.few (omega (arith, all.stands.known.counted, counted))
 
+-- a span of a backplane of at most 21 slots, and a listing
 module _ (s : Span) (few : s.extent.opening.slots ≤ 21) (listing : Listed) where
   -- a listing of each recording that a span's summary stands for is the listing of the recording that its blocks make
   pub IsListingOf-of_summary : ((t : Trace) → StandsForAll s.summary s.extent.opening t → listing ≡ listing_of t)

@@ -42,6 +42,7 @@ marks_before-first_part end [] ys h = h
 marks_before-first_part end (x ∷ xs) ys h =
     ap (λ r. cond (nat_lt x.instant end) (x ∷ r) []) (marks_before-first_part end xs ys h)
 
+-- a stretch, at whose instants `shown` is shown
 module _ (stretch : Stretch) (shown : ℕ → StepMarks) where
   -- what is shown at an instant before the end, if it is judged, is kept
   marks_before-shown_before : (end j : ℕ) (c : Bool) (ms : List Mark) → j < end → marks_before end

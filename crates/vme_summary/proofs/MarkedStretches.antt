@@ -70,6 +70,7 @@ module _ (shown : ℕ → StepMarks) (unreset : (j : ℕ) → (shown j).reset �
       suc_moved : suc i + n ≡ i + suc n
       suc_moved = omega arith
 
+-- a stretch of the recording t
 module _ (t : Trace) (stretch : Stretch) where
   -- the marks of the opening, by whether judging starts there (b) and the bus is busy (c)
   marks-of_opening_kinds : (b c : Bool) → cond b (mark_at 0 kind.Start ∷ cond c (mark_at 0 kind.Open ∷ []) []) []
@@ -141,6 +142,7 @@ module _ (t : Trace) (stretch : Stretch) where
       (cond (is_reset_at t j) known_reset_marks no_step_marks))
       (lt-ltb j stretch.end h) ∙ all_shown-shown_at t stretch j
 
+  -- the marks and rows before `end`, which is at most the end of the stretch
   module _ (end : ℕ) (within : end ≤ stretch.end) where
     -- the rows of n instants from i on
     abbrev rows_from : ℕ → ℕ → List Row
