@@ -8,12 +8,12 @@ use Rattle.vme_words.proofs.OrderLemmas.{IsFaultOf-passed_up}
 use Rattle.vme_words.proofs.TakenLemmas.{HasOrder-words}
 use Rattle.vme_words.proofs.words.order.Goals as goal
 
--- the program's command is simple and free
+-- the program's command is simple, and no argument has a rule on another
 is_simple_and_free-vmecheck_app : is_simple_and_free vmecheck_app ≡ true
 unfolding clap_on_literals
 is_simple_and_free-vmecheck_app = refl
 
--- the program's command is simple
+-- the program's command is simple, so that clap's meaning of the words gives the matches
 is_simple-vmecheck_app : is_simple vmecheck_app ≡ true
 unfolding clap_on_literals
 is_simple-vmecheck_app = refl
