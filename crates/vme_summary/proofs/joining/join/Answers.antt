@@ -1,4 +1,5 @@
--- The extents meet exactly if the blocks join.
+-- The joined span stands for the blocks of both. Spans are refused as torn exactly if their extents don't meet, that
+-- is, if the blocks don't join.
 use Rattle.std.proofs.Common.{refl}
 use Rattle.vme_summary.proofs.Extents.{BlocksJoin-from_Meets, StandForBlocks-joined, StandFor-joined, Meets-by_test}
 use Rattle.vme_summary.proofs.Extents.{BlocksJoin-not_by_test}

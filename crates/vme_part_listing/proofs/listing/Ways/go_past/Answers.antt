@@ -1,4 +1,4 @@
--- Each monitor runs through its table.
+-- The run of each monitor goes on by the segment's table, from the memory in which it is, and its marks are added.
 use Rattle.std.proofs.Common.{arith}
 use Rattle.vme_monitor.specs.KnownRules.{known_begin, nil_place}
 use Rattle.vme_monitor.specs.OverStretches.{phase_place, start_in}

@@ -1,4 +1,5 @@
--- Each monitor's state is that after its table.
+-- Each monitor's state after a segment has the memory in which its run by the segment's table ends, and the first break
+-- so far, or else that of this run.
 use Rattle.std.proofs.Common.{arith}
 use Rattle.vme_monitor.specs.KnownRules.{known_begin, nil_place}
 use Rattle.vme_monitor.specs.OverStretches.{phase_place, start_in}

@@ -1,4 +1,4 @@
--- The steps were summarised by themselves, whatever is before them.
+-- The summary of steps that were summarised by themselves is appended to that of the steps before.
 use Rattle.vme_summary.proofs.Marked.{HasMarked-append}
 use Rattle.vme_summary.proofs.listing_state.ListingStateChunkJudge.pass.Goals as goal
 

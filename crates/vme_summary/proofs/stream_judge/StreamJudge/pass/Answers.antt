@@ -1,4 +1,4 @@
--- The judge of the steps so far takes those of the part.
+-- With steps that were judged by themselves, and follow those so far, all steps have been judged.
 use Rattle.std.proofs.Common.{◌≡◌, ◌+◌, List, ◌++◌, append-nil, length, length-append, sym, ◌∙◌, ap, subst, arith}
 use Rattle.vme_trace.specs.Levels.{Levels}
 use Rattle.vme_trace.specs.Trace.{Trace, levels_after}

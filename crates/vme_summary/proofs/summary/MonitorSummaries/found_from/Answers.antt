@@ -1,4 +1,4 @@
--- There are no steps before.
+-- What a summary finds from an opening is what it finds after no steps.
 use Rattle.std.proofs.Common.{[], refl}
 use Rattle.vme_summary.proofs.summary.MonitorSummaries.found_from.Goals as goal
 

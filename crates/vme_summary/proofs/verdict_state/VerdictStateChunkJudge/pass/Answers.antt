@@ -1,4 +1,4 @@
--- The steps were summarised by themselves, whatever is before them.
+-- Judging goes on with steps that were summarised by themselves, from the states of the monitors.
 use Rattle.std.proofs.Common.{◌+◌, ap}
 use Rattle.vme_summary.proofs.Progressing.{HasJudged-append}
 use Rattle.vme_summary.proofs.verdict_state.VerdictStateChunkJudge.pass.Goals as goal
