@@ -1,4 +1,4 @@
--- The loop over the marks: none so far ends the interval.
+-- The loop over the marks: the end of the interval among the marks that are left is its end among all.
 use Rattle.std.proofs.Common.{◌≡◌, drop}
 use Rattle.vme_summary.specs.Endings.{ends}
 use Rattle.vme_summary.specs.MarkedRows.{first_instant}
