@@ -113,7 +113,7 @@ module _ (tenures : List ℕ) (long : length tenures ≡ 88) (level slot : ℕ) 
         ≡ read tenures + one_if is_this
     read-with_one_if = by_tests is_this (is_place granted taken) refl refl
 
-  -- counting a row adds one to the count if it is of such a tenure
+  -- counting a row adds one to the count if it is the row of a tenure of the level and the slot
   read-with_tenure : (r : Row) → read (with_tenure tenures r)
       ≡ read tenures + one_if (is_of (kind.Tenures level slot) r)
   read-with_tenure (row.Start instant) = add-zero (read tenures)
@@ -202,7 +202,7 @@ count_in-no_rows kind.Resets is = refl
 abbrev pub counts_of : List Mark → RowCounts
 counts_of ms = fold with_row (fold with_row no_rows (knowns_from nothing_open ms)) (pending_rows (opens ms).waiting)
 
--- rows leave the length of the table of tenures
+-- after more rows the table of tenures has the length that it had
 length-fold : (rows : List Row) (c : RowCounts) → length c.tenures ≡ 88 → length (fold with_row c rows).tenures ≡ 88
 length-fold [] c long = long
 length-fold (r ∷ rows) c long = length-fold rows (with_row c r) (length-with_tenure c.tenures r long)

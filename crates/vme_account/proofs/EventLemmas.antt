@@ -76,7 +76,8 @@ module _ (p q : ℕ → Bool) (s i : ℕ) (le : s ≤ i) where
       none_before = sym (is_some-least p (i + 1) (i + 1)) ∙ ap is_some
           (least-empty_range p (i + 1) (i + 1) (omega arith))
 
-  -- otherwise the first `p` since `q` stays, if there is one
+  -- if `q` doesn't happen at the next instant, the first `p` since `q` stays, or without one is the next instant, if
+  -- `p` happens there
   pub since-before : q (i + 1) ≡ false → first_since (i + 1)
       ≡ (if is_some (first_since i) then first_since i else if p (i + 1) then Some (i + 1) else None)
   since-before none =

@@ -124,7 +124,7 @@ split_after o x s y P h = subst (λ (l : List Step). P (recorded o l)) (sym (app
 
 -- ---- before the first step
 
--- before the first step, what is noted of the opening is enough
+-- `FollowsSteps` holds before the first step, with the levels, the memories and the notes of the opening
 pub follows-first : (o : Levels) (v : StepView) (m : Memories) (n : StepNotes) (l : LineNotes) → v.before ≡ o
     → v.after ≡ o → m ≡ (reached_at o).memories → AreNotesAtOpening o n
     → FollowsSteps o [] (record { view = v; memories = m; notes = n; lines = l })
@@ -192,13 +192,16 @@ module _ (o : Levels) (x : List Step) (s : Step) (j : FollowedSteps) (follows : 
   abbrev levels_next : Levels
   levels_next = changed r.levels s.changes
 
+  -- the levels before the step are those that are reached
   before_is : u.before ≡ r.levels
   before_is = view_goes_on ∙ follows.before no_break
 
+  -- the levels after the step are `levels_next`
   after_is : u.after ≡ levels_next
   after_is = ap (λ (u : StepView). u.after) seen
       ∙ (ap (λ (v : Levels). changed v cs) before_is ∙ ap (changed r.levels) changes_are)
 
+  -- the instant of the step is the next one after that reached
   instant_is_next : instant ≡ r.instant + 1
   instant_is_next = instant_is ∙ ap (λ (i : ℕ). i + 1) (sym (reached-instant o x))
 
@@ -216,24 +219,30 @@ module _ (o : Levels) (x : List Step) (s : Step) (j : FollowedSteps) (follows : 
       ∙ (ap (λ (v : Levels). g r.memories r.levels v cs) after_is
       ∙ ap (λ (l : List Change). g r.memories r.levels levels_next l) changes_are))
 
+  -- the first fault of the step, by the definitions
   abbrev fault : Option Fault
   fault = first_fault_of r.memories r.levels levels_next s.changes
 
+  -- the fault that the monitors show is the first fault of the step
   fault_is : shown.fault ≡ fault
   fault_is = all_go_on.fault ∙ alike first_fault_of
 
+  -- the kinds of the marks that the monitors show
   abbrev kinds : List MarkKind
   kinds = kinds_of shown.stretch ++ (kinds_of shown.tenure ++ kinds_of shown.transfer)
 
+  -- the kinds of the marks that the monitors show are those of the step
   kinds_are : kinds ≡ kinds_shown r.memories r.levels levels_next s.changes
   kinds_are =
       same_kinds shown.stretch shown.tenure shown.transfer _ _ _ all_go_on.stretch all_go_on.tenure all_go_on.transfer
       ∙ alike kinds_shown
 
+  -- the marks of these kinds at the step's instant are the marks of the step
   marks_are : map (mark_at instant) kinds ≡ marks_in r s
   marks_are =
       ap (λ (i : ℕ). map (mark_at i) kinds) instant_is_next ∙ ap (map (mark_at (r.instant + 1))) kinds_are
 
+  -- the break that is noted is the one that is reached after the step
   found_is : n.found ≡ (judged r s).found
   found_is =
       notes.found
@@ -252,6 +261,7 @@ module _ (o : Levels) (x : List Step) (s : Step) (j : FollowedSteps) (follows : 
       ∙ (ap (λ (ms : List Mark). fold marked_next (marked r.marks) ms) marks_are
       ∙ sym (fold-append marked_next nothing_marked r.marks (marks_in r s))))
 
+  -- what is marked is `marked` of the marks that are reached after the step
   marked_is : n.marked ≡ marked (judged r s).marks
   marked_is =
       marked-by_fault fault
@@ -266,16 +276,20 @@ module _ (o : Levels) (x : List Step) (s : Step) (j : FollowedSteps) (follows : 
   broken-by_fault None h = tt
   broken-by_fault (Some g) h = (sym notes.seen, h)
 
+  -- the instant that was seen last before the step is the number of the steps x
   seen_is : j.notes.events.seen ≡ length x
   seen_is = follows.seen no_break
 
   module _ (y : List Step) where
+    -- the recording of the steps `x`, `s` and `y`
     abbrev t : Trace
     t = recorded o (x ++ s ∷ y)
 
+    -- the time of the step is that of its instant
     time_is : s.time ≡ time_at t instant
     time_is = sym (ap (time_at t) instant_is ∙ time_at-next o x s y)
 
+    -- the events that are noted are those of the recording
     events_are : AreEvents t n.events
     events_are =
         notes.events t (follows.events (s ∷ y)) (instant_is ∙ ap (λ (i : ℕ). i + 1) (sym seen_is))

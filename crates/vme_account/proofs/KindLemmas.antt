@@ -18,35 +18,35 @@ abbrev pub weight : RowKind → Row → ℕ
 weight k r = one_if (is_of k r)
 
 -- the kinds of the row of an open tenure don't depend on its end
-open_tenure : (k : RowKind) (i : ℕ) (e : Option ℕ) → weight k (row.OpenTenure i e) ≡ weight k (row.OpenTenure i None)
-open_tenure kind.OpenTenures i e = refl
-open_tenure (kind.Tenures level slot) i e = refl
-open_tenure kind.Singles i e = refl
-open_tenure kind.Blocks i e = refl
-open_tenure kind.Frees i e = refl
-open_tenure kind.Acknowledges i e = refl
-open_tenure kind.Reads i e = refl
-open_tenure kind.Writes i e = refl
-open_tenure kind.Done i e = refl
-open_tenure kind.Errors i e = refl
-open_tenure kind.Pending i e = refl
-open_tenure kind.Resets i e = refl
+weight-open_tenure : (k : RowKind) (i : ℕ) (e : Option ℕ) → weight k (row.OpenTenure i e) ≡ weight k (row.OpenTenure i None)
+weight-open_tenure kind.OpenTenures i e = refl
+weight-open_tenure (kind.Tenures level slot) i e = refl
+weight-open_tenure kind.Singles i e = refl
+weight-open_tenure kind.Blocks i e = refl
+weight-open_tenure kind.Frees i e = refl
+weight-open_tenure kind.Acknowledges i e = refl
+weight-open_tenure kind.Reads i e = refl
+weight-open_tenure kind.Writes i e = refl
+weight-open_tenure kind.Done i e = refl
+weight-open_tenure kind.Errors i e = refl
+weight-open_tenure kind.Pending i e = refl
+weight-open_tenure kind.Resets i e = refl
 
 -- the kinds of the row of a tenure don't depend on its end
-tenure : (k : RowKind) (i granted taken : ℕ) (e : Option ℕ)
+weight-tenure : (k : RowKind) (i granted taken : ℕ) (e : Option ℕ)
     → weight k (row.Tenure i granted taken e) ≡ weight k (row.Tenure i granted taken None)
-tenure kind.OpenTenures i granted taken e = refl
-tenure (kind.Tenures level slot) i granted taken e = refl
-tenure kind.Singles i granted taken e = refl
-tenure kind.Blocks i granted taken e = refl
-tenure kind.Frees i granted taken e = refl
-tenure kind.Acknowledges i granted taken e = refl
-tenure kind.Reads i granted taken e = refl
-tenure kind.Writes i granted taken e = refl
-tenure kind.Done i granted taken e = refl
-tenure kind.Errors i granted taken e = refl
-tenure kind.Pending i granted taken e = refl
-tenure kind.Resets i granted taken e = refl
+weight-tenure kind.OpenTenures i granted taken e = refl
+weight-tenure (kind.Tenures level slot) i granted taken e = refl
+weight-tenure kind.Singles i granted taken e = refl
+weight-tenure kind.Blocks i granted taken e = refl
+weight-tenure kind.Frees i granted taken e = refl
+weight-tenure kind.Acknowledges i granted taken e = refl
+weight-tenure kind.Reads i granted taken e = refl
+weight-tenure kind.Writes i granted taken e = refl
+weight-tenure kind.Done i granted taken e = refl
+weight-tenure kind.Errors i granted taken e = refl
+weight-tenure kind.Pending i granted taken e = refl
+weight-tenure kind.Resets i granted taken e = refl
 
 -- the kinds of the row of a cycle with an address don't depend on its end
 weight-addressed_cycle : (k : RowKind) (i : ℕ) (c : Class) (modifier address : ℕ) (e : Option ℕ)
@@ -116,8 +116,8 @@ weight-transfer kind.Resets i d e r cycle a = refl
 -- whether a row is of a kind doesn't depend on where the row ends
 pub IgnoresEnd-weight : (k : RowKind) → IgnoresEnd (weight k)
 IgnoresEnd-weight k = record {
-  open_tenure = open_tenure k;
-  tenure = tenure k;
+  open_tenure = weight-open_tenure k;
+  tenure = weight-tenure k;
   cycle = by_class;
   answer = by_cycle;
 }

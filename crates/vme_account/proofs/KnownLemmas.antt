@@ -79,25 +79,25 @@ module _ (f : Row → ℕ) (no_end : IgnoresEnd f) where
   abbrev value : UnendedRows → List Mark → ℕ
   value o ms = total (waiting_rows o.waiting o.latest ms) + total (rows_of o.latest ms)
 
-  -- a mark that begins a row: its number doesn't depend on the row's end
+  -- if the first row has the number of r, the total of the rows is that of r and of the other rows
   total-begins : (r shown : Row) (rows : List Row) → f shown ≡ f r → total (shown ∷ rows) ≡ total (r ∷ []) + total rows
   total-begins r shown rows same = omega (arith, sum_by-cons f shown rows, total-one r, same)
 
-  -- a mark that leaves the waiting transfer's row as it is
+  -- if a mark leaves the waiting transfer's row as it is, it leaves the total of this row
   total-waits : (i : ℕ) (k : MarkKind) (w : Option Waiting) (latest next : Option ℕ) (ms : List Mark)
       → ((w : Waiting) → waiting_row latest (mark i k ∷ ms) w ≡ waiting_row next ms w)
       → total (waiting_rows w latest (mark i k ∷ ms)) ≡ total (waiting_rows w next ms)
   total-waits i k None latest next ms same = refl
   total-waits i k (Some w) latest next ms same = ap (λ (r : Row). total (r ∷ [])) (same w)
 
-  -- a mark at which the waiting transfer stays without an answer
+  -- where the waiting transfer stays without an answer at a mark, the total of its row is that of the pending transfer
   total-pending : (i : ℕ) (k : MarkKind) (w : Option Waiting) (latest : Option ℕ) (ms : List Mark)
       → ((w : Waiting) → waiting_row latest (mark i k ∷ ms) w ≡ pending_row w)
       → total (waiting_rows w latest (mark i k ∷ ms)) ≡ total (pending_rows w)
   total-pending i k None latest ms same = refl
   total-pending i k (Some w) latest ms same = ap (λ (r : Row). total (r ∷ [])) (same w)
 
-  -- a mark at which the waiting transfer is answered
+  -- where the waiting transfer is answered at a mark, the total of its row is that of the answered transfer
   total-answered : (o : UnendedRows) (i : ℕ) (k : MarkKind) (a : TransferAnswer) (ms : List Mark)
       → ((w : Waiting) → waiting_row o.latest (mark i k ∷ ms) w ≡ answered_row i a o.latest w)
       → total (waiting_rows o.waiting o.latest (mark i k ∷ ms)) ≡ total (answered_rows i a o)
@@ -112,7 +112,7 @@ module _ (f : Row → ℕ) (no_end : IgnoresEnd f) where
   total-nothing : total [] ≡ 0
   total-nothing = refl
 
-  -- the total of a mark's rows and of the rows after it
+  -- the value before a mark is the total of the rows that are known at the mark, and the value after it
   value-next : (o : UnendedRows) (i : ℕ) (k : MarkKind) (ms : List Mark) → value o (mark i k ∷ ms)
       ≡ total (known_at i k o) + value (open_after i k o) ms
   value-next o i kind.Reset ms =

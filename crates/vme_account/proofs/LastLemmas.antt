@@ -64,7 +64,7 @@ module _ (is : ℕ → Bool) (m : Moment) where
   abbrev with_change : List (Option Moment) → Change → List (Option Moment)
   with_change table c = if is c.line then set table c.line (Some m) else table
 
-  -- a change leaves the length of the table
+  -- a change doesn't alter the length of the table
   length-with_change : (table : List (Option Moment)) (c : Change) → length (with_change table c) ≡ length table
   length-with_change table c = by_test (is c.line)
     where
@@ -72,7 +72,7 @@ module _ (is : ℕ → Bool) (m : Moment) where
       by_test true = length-set table c.line (Some m)
       by_test false = refl
 
-  -- changes leave the length of the table
+  -- changes don't alter the length of the table
   pub length-noted : (cs : List Change) (table : List (Option Moment)) → length (noted is m table cs) ≡ length table
   length-noted [] table = refl
   length-noted (c ∷ cs) table = length-noted cs (with_change table c) ∙ length-with_change table c
@@ -330,7 +330,7 @@ get_or-nothing l = everywhere line_count l
     everywhere (suc n) zero = refl
     everywhere (suc n) (suc l) = everywhere n l
 
--- at the start of the stretch the event hasn't happened
+-- at the start of the stretch, `since` gives the first judged instant
 since-start : (t : Trace) (q : StepEvent) (s : ℕ) → since t q s s ≡ s + 1
 since-start t q s = rw (greatest-empty (happens t q) (s + 1) (s + 1) (omega arith)) refl
 

@@ -96,8 +96,6 @@ shifted_mark-twice n (m ∷ ms) =
     joined : (i n : ℕ) → i + (n + 1) ≡ i + 1 + n
     joined i n = omega arith
 
--- the marks before an instant
-
 -- the marks before n, 1 later, are those before n + 1 of the marks that are 1 later
 marks_before-shifted : (n : ℕ) (ms : List Mark) → marks_before (n + 1) (map (shifted_mark 1) ms)
     ≡ map (shifted_mark 1) (marks_before n ms)
@@ -175,15 +173,19 @@ after_fault o n m ms shown f =
 
 -- the step s, from levels o and memories m, by the fault and the marks that the monitors show
 module _ (s : Step) (o : Levels) (m : Memories) where
+  -- the levels after the step
   abbrev new_levels : Levels
   new_levels = changed o s.changes
 
+  -- the memories of the monitors after the step
   abbrev new_memories : Memories
   new_memories = memories_next m o (changed o s.changes) s.changes
 
+  -- the kinds of the marks of the step
   abbrev kinds : List MarkKind
   kinds = kinds_shown m o (changed o s.changes) s.changes
 
+  -- the first fault of the step
   abbrev fault : Option Fault
   fault = first_fault_of m o (changed o s.changes) s.changes
 
@@ -196,8 +198,8 @@ module _ (s : Step) (o : Levels) (m : Memories) where
   first_with f x = earlier (option_map (break_of_fault 1 s.time) f)
       (option_map (shifted_break 1) (first_break_from new_memories new_levels x))
 
-  -- if the steps `x` after this one have the break that `first-found` gives, so have this step, with the fault `f`, and
-  -- `x`
+  -- if the break that is found in the steps x after this one is their first, n + 1 later, then the break found in this
+  -- step, with the fault f, and x is the first one of these, n later
   found-with_step : (x : List Step) (n : ℕ) (ms : List Mark)
       → (fold with_step (unbroken_at new_levels (n + 1) new_memories (ms ++ map (mark_at (n + 1)) kinds)) x).found
       ≡ option_map (shifted_break (n + 1)) (first_break_from new_memories new_levels x) → (f : Option Fault)
@@ -209,8 +211,8 @@ module _ (s : Step) (o : Levels) (m : Memories) where
       (shifted_break n (break_of_fault 1 s.time f)) refl
   found-with_step x n ms rest None = rest ∙ shifted_break-twice n (first_break_from new_memories new_levels x)
 
-  -- if the steps `x` after this one have the marks that `marks-found` gives, so have this step, with the fault `f`, and
-  -- `x`
+  -- if the marks of the steps x after this one are those listed of x, n + 1 later, then the marks of this step, with
+  -- the fault f, and of x are those listed of these, n later
   marks-with_step : (x : List Step) (n : ℕ) (ms : List Mark)
       → (fold with_step (unbroken_at new_levels (n + 1) new_memories (ms ++ map (mark_at (n + 1)) kinds)) x).marks
       ≡ (ms ++ map (mark_at (n + 1)) kinds)

@@ -13,20 +13,20 @@ use Rattle.vme_account.specs.RecentSteps.{levels_of, with_step}
 
 -- ---- the earlier instants stay
 
--- elements at the end leave those before
+-- appended steps don't change those before them
 slice_get-append : (xs ys : List Step) (n : ℕ) → n < length xs → slice_get (xs ++ ys) n ≡ slice_get xs n
 slice_get-append [] ys n lt = absurd (omega (arith, lt))
 slice_get-append (x ∷ xs) ys zero lt = refl
 slice_get-append (x ∷ xs) ys (suc n) lt = slice_get-append xs ys n (omega (arith, lt))
 
--- one more step leaves the levels of the instants before it
+-- one more step doesn't change the levels of the instants before it
 pub levels_at-with_step : (t : Trace) (s : Step) (n : ℕ) → n ≤ length t.steps → levels_at (with_step t s) n
     ≡ levels_at t n
 levels_at-with_step t s n le =
     levels_at-taken (with_step t s) n
     ∙ ap (levels_after t.opening) (take-append-le n t.steps (s ∷ []) le) ∙ sym (levels_at-taken t n)
 
--- one more step leaves the times of the instants before it
+-- one more step doesn't change the times of the instants before it
 pub time_at-with_step : (t : Trace) (s : Step) (n : ℕ) → n ≤ length t.steps → time_at (with_step t s) n ≡ time_at t n
 time_at-with_step t s zero le = refl
 time_at-with_step t s (suc n) le = ap time_of (slice_get-append t.steps (s ∷ []) n (omega (arith, le)))
@@ -109,7 +109,7 @@ pub levels_at-no_step : (t : Trace) (n : ℕ) (v : Levels) → slice_get t.steps
     → v ≡ levels_at t (n + 1)
 levels_at-no_step t n v none is = is ∙ sym (levels_at-step t n ∙ ap (after (levels_at t n)) none)
 
--- the levels of one more instant
+-- the levels from `first` to `place`, and then those of the next instant, are the levels from `first` to that
 pub levels_of-next : (t : Trace) (first place : ℕ) (items : List Levels) (v : Levels) → first ≤ place → items
     ≡ levels_of t first (place - first + 1) → v ≡ levels_at t (place + 1)
     → items ++ v ∷ [] ≡ levels_of t first (place + 1 - first + 1)

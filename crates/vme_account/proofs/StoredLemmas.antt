@@ -14,12 +14,12 @@ use Rattle.vme_account.specs.RecentSteps.{AreRecent, levels_of}
 use Rattle.vme_account.specs.declared.stored_steps.StoredSteps.{StoredSteps}
 use Rattle.vme_account.specs.declared.recent_steps.RecentSteps.{RecentSteps}
 
--- as many elements as a list has are the list
+-- the first elements of a list, as many as it has, are the list
 take-length : (x : List Step) → take (length x) x ≡ x
 take-length [] = refl
 take-length (s ∷ x) = ap (λ (l : List Step). s ∷ l) (take-length x)
 
--- one more step adds one to the number
+-- one more step makes the number of steps one greater
 length-append_one : (x : List Step) (s : Step) → length (x ++ s ∷ []) ≡ length x + 1
 length-append_one x s = length-append x (s ∷ [])
 

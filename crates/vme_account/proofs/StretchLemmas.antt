@@ -94,7 +94,7 @@ module _ (t : Trace) where
     abbrev unless_now : Option ℕ → Option Moment
     unless_now o = cond (is_at (moment t o) (i + 1)) None (first_since (greatest (happens t q) (s + 1) (i + 1)))
 
-    -- an instant `o` that isn't the next one changes nothing
+    -- if `o` is before the next instant, `unless_now` gives the first `p` since the last `q` up to `i`
     unless_now-earlier : (o : Option ℕ) → ((n : ℕ) → o ≡ Some n → n < i + 1) → unless_now o
         ≡ first_since (greatest (happens t q) (s + 1) (i + 1))
     unless_now-earlier None w = refl
@@ -102,7 +102,8 @@ module _ (t : Trace) where
         (λ (c : Bool). cond c None (first_since (greatest (happens t q) (s + 1) (i + 1))))
         (eqb-less n (i + 1) (w n refl))
 
-    -- if `q` happens at the next instant, there is no `p` since `q` before that instant
+    -- with the last `q` up to the next instant, `unless_now` gives the first `p` since that `q` and before the next
+    -- instant
     pub unless_now-next : unless_now (greatest (happens t q) (s + 1) (i + 1 + 1))
         ≡ moment t (least (happens t p) (since t q s (i + 1)) (i + 1))
     unless_now-next = by_test (happens t q (i + 1)) refl

@@ -143,7 +143,7 @@ module _ (p : Part) (found : Option Row)
     (answered : (d : Direction) (line : AnswerLine) (i cycle r : ℕ) (e : Option ℕ) (lanes : Option Lanes)
     → after p found (row.Transfer d line i cycle r e lanes) ≡ found)
     (unanswered : (i : ℕ) (d : Direction) → after p found (row.PendingTransfer i d) ≡ found) where
-  -- the row that marks make of a transfer changes none
+  -- the row that marks make of a transfer changes no open row of part `p`
   after-transfer_row : (i : ℕ) (d : Direction) (e latest : Option ℕ) (ms : List Mark)
       → after p found (marked_transfer i d e latest ms) ≡ found
   after-transfer_row i d e latest [] = unanswered i d
@@ -285,7 +285,7 @@ open_not_waiting-none : (unanswered : Option Row) (ms : List Mark) → open_not_
 open_not_waiting-none unanswered ms = ap (λ (o : Option Row). option_or o unanswered) (unless_ended-none is_close ms)
 
 module _ (o : UnendedRows) (i : ℕ) (ms : List Mark) where
-  -- a transfer starts
+  -- where a transfer starts, the one that waited becomes the last unanswered one
   with_any_waiting-starts : (write : Bool) (w : Option Waiting)
       → with_any_waiting (open_not_waiting o.unanswered o.answered ms) w o.latest (mark i (kind.Transfer write) ∷ ms)
       ≡ open_not_waiting (option_or (pending w) o.unanswered) (unless_left w o.answered) ms
@@ -327,7 +327,7 @@ module _ (o : UnendedRows) (i : ℕ) (ms : List Mark) where
     with_waiting-answered None = without_waiting o.latest
     with_waiting-answered (Some w) = row_is w ∙ by_cycle w o.latest
 
-  -- the strobes are High again
+  -- where the strobes are High again, no answered transfer is open any more, and the waiting one is closed
   with_any_waiting-closes : (w : Option Waiting) → with_any_waiting o.unanswered w o.latest (mark i kind.Close ∷ ms)
       ≡ with_any_waiting (open_not_waiting o.unanswered None ms) (closed i w) o.latest ms
   with_any_waiting-closes None = sym (open_not_waiting-none o.unanswered ms)

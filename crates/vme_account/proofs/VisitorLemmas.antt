@@ -9,24 +9,24 @@ use Rattle.vme_trace.specs.declared.step.Step.{Step}
 use Rattle.vme_account.specs.Accounts.{IsRunning, KeepsAccount}
 use Rattle.vme_account.specs.declared.running_account.RunningAccount.{RunningAccount}
 
--- a fact `P` that doesn't depend on the result
+-- `IfOk` holds of any result, if the fact `P` doesn't depend on the result
 pub IfOk-constant : {A B P : Type 0} → P → (r : Result A B) → IfOk r (λ a. P)
 IfOk-constant p (Ok a) = p
 IfOk-constant p (Err e) = tt
 
--- the state before the first step
+-- `IsRunning` holds before the first step, with the count 0
 pub IsRunning-first : (o : Levels) (a : Option (Box RunningAccount)) → IfSome a (λ b. KeepsAccount o [] b.value)
     → IsRunning o [] a 0
 IsRunning-first o a keeps = record { counted = omega arith; kept = λ e. keeps }
 
--- after a failed allocation only the count is known
+-- `IsRunning` holds of the same count without an account, as after a failed allocation
 pub IsRunning-lost : (o : Levels) (x : List Step) (a : Option (Box RunningAccount)) (count : ℕ) → IsRunning o x a count
     → IsRunning o x None count
 IsRunning-lost o x a count i = record { counted = i.counted; kept = λ e. tt }
 
 module _ (o : Levels) (x : List Step) (s : Step) (a : Option (Box RunningAccount)) (count more : ℕ)
     (i : IsRunning o x a count) (next : more ≡ min (count + 1) (capture_limit + 1)) where
-  -- the steps with one more are one more
+  -- one more step makes the number of steps one greater
   length-next : length (x ++ s ∷ []) ≡ length x + 1
   length-next = length-append x (s ∷ [])
 
@@ -40,7 +40,7 @@ module _ (o : Levels) (x : List Step) (s : Step) (a : Option (Box RunningAccount
 
   -- a step that is kept
   module _ (few : more ≤ 67108864) (b : Box RunningAccount) (some : a ≡ Some b) where
-    -- the account so far follows the steps before it
+    -- the account that there is keeps the steps before the new one
     pub KeepsAccount-running : KeepsAccount o x b.value
     KeepsAccount-running = rw some at i.kept (omega (arith, few, next))
 

@@ -15,7 +15,7 @@ mod-below_64 n = omega arith
 pub bit_of-at_most_one : (k : ℕ) (ws : List ℕ) (n : ℕ) → bit_of k ws n ≤ 1
 bit_of-at_most_one k ws n = omega arith
 
--- a word and a mask belong to one number
+-- two numbers with the same word in the row k, and the same mask, are the same
 pub bit-one_number : (k n m : ℕ) → 4 * (n / 64) + k ≡ 4 * (m / 64) + k → mask_of n ≡ mask_of m → n ≡ m
 bit-one_number k n m a b = dite (ℕ_discrete (m % 64) (n % 64)) (λ e. omega (arith, a, e))
     (λ ne. let z : bit_at (bit_or 0 (mask_of n)) (m % 64) ≡ 0 =
@@ -68,13 +68,13 @@ module _ (k : ℕ) (ws : List ℕ) (n : ℕ) (within : 4 * (n / 64) + k < length
 abbrev zeros : ℕ → List ℕ
 zeros n = replicate n 0
 
--- each of these words is 0
+-- what is read of words that are 0 is 0
 get_or-zeros : (n i : ℕ) → get_or (zeros n) i 0 ≡ zero
 get_or-zeros zero i = refl
 get_or-zeros (suc n) zero = refl
 get_or-zeros (suc n) (suc i) = get_or-zeros n i
 
--- each bit of these words is 0
+-- each bit of words that are 0 is 0
 pub bit_of-zeros : (k n m : ℕ) → bit_of k (zeros n) m ≡ 0
 bit_of-zeros k n m = ap (λ (y : ℕ). bit_at y (m % 64)) (get_or-zeros n (4 * (m / 64) + k)) ∙ bit_at-zero (m % 64)
 

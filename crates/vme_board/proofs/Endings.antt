@@ -69,11 +69,11 @@ kept-picked ws xs n f t x o a b e is = is ∙ (ap (λ (y : ℕ). cond (y == 1) (
     ∙ ap (λ (y : Option Block). cond (bit_of 1 ws n == 1) (cond (bit_of 2 ws n == 1) None y) None)
     (sym (get_elem-get_or xs n x None e))))
 
--- a place without a block has none
+-- a place doesn't both have no block and a block
 no_block-not_block : {b : Block} → ◌≡◌ {A = Option (Option Block)} (Some None) (Some (Some b)) → ⊥
 no_block-not_block e = cc
 
--- a place has one block
+-- a place has at most one block
 place-one_block : {b c : Block} → ◌≡◌ {A = Option (Option Block)} (Some (Some b)) (Some (Some c)) → b ≡ c
 place-one_block e = cc
 
@@ -81,7 +81,7 @@ place-one_block e = cc
 slice_get-within : {A : Type 0} (l : List A) (i : ℕ) (a : A) → slice_get l i ≡ Some a → i < length l
 slice_get-within l i a e = slice_get_within l i a e
 
--- none is none under each test
+-- a choice between None and None is None
 cond-none : (b : Bool) → ◌≡◌ {A = Option Block} (cond b None None) None
 cond-none true = refl
 cond-none false = refl

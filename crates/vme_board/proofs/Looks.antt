@@ -139,7 +139,7 @@ SeesMore-taken a b ns e = subst (λ (m : SeatState). SeesMore a.0 m.0) (sym e)
       taken = λ n. omega (arith, occurrences-append n ns a.0.taken);
     })
 
--- a bench that sees more than one that sees more than u sees more than u
+-- if v sees more than u, and w more than v, then w sees more than u
 pub SeesMore-trans : (u v w : View) → SeesMore u v → SeesMore v w → SeesMore u w
 SeesMore-trans u v w a b = record {
   found = λ d. let x = a.found d in let y = b.found d in omega (arith, x, y);

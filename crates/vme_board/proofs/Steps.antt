@@ -64,7 +64,7 @@ get_elem-within [] i a e = absurd (some-ne-none a (sym e))
 get_elem-within (x ∷ xs) zero a e = omega arith
 get_elem-within (x ∷ xs) (suc i) a e = omega (arith, get_elem-within xs i a e)
 
--- a slot has one block
+-- a slot has at most one block
 slot-one_block : (x b : Block) → some (some (Some x)) ≡ some (some (Some b)) → x ≡ b
 slot-one_block x b e = cc
 
@@ -151,8 +151,8 @@ module _ (width : ℕ) (s : St) (h : Holds width s) (id : ℕ) (seat : SeatState
     Reads-saw = seeing_preserves (length s.homes) D C F T K E H s.views r id seat.0 e
 
     -- a draw that the seat has found won is drawn
-    found : (d : ℕ) → 0 < occurrences d seat.0.found → D d ≡ 1
-    found = r.draws.found id seat.0 e
+    drawn-of_found : (d : ℕ) → 0 < occurrences d seat.0.found → D d ≡ 1
+    drawn-of_found = r.draws.found id seat.0 e
 
     -- a number that the seat has seen claimed is claimed
     claimed-of_seen : (n : ℕ) → 0 < occurrences n seat.0.claimed → C n ≡ 1
@@ -177,13 +177,14 @@ module _ (width : ℕ) (s : St) (h : Holds width s) (id : ℕ) (seat : SeatState
     -- the invariant holds after the seat saw the numbers ns claimed
     Reads-saw_claimed : (ns : List ℕ) → ((n : ℕ) → 0 < occurrences n ns → C n ≡ 1) → Reads K s.words s.homes
         (set s.views id (with_claimed seat.0 ns))
-    Reads-saw_claimed ns c = Reads-saw seat.0.found (ns ++ seat.0.claimed) seat.0.filed seat.0.taken found
+    Reads-saw_claimed ns c = Reads-saw seat.0.found (ns ++ seat.0.claimed) seat.0.filed seat.0.taken drawn-of_found
         (bits-append C ns seat.0.claimed c claimed-of_seen) filed-of_seen taken-of_seen
 
     -- the invariant holds after the seat saw the numbers ns filed
     Reads-saw_filed : (ns : List ℕ) → ((n : ℕ) → 0 < occurrences n ns → F n ≡ 1) → Reads K s.words s.homes
         (set s.views id (with_filed seat.0 ns))
-    Reads-saw_filed ns f = Reads-saw seat.0.found (ns ++ seat.0.claimed) (ns ++ seat.0.filed) seat.0.taken found
+    Reads-saw_filed ns f = Reads-saw seat.0.found (ns ++ seat.0.claimed) (ns ++ seat.0.filed) seat.0.taken
+        drawn-of_found
         (bits-append C ns seat.0.claimed (λ n z. claimed-of_filed n (f n z)) claimed-of_seen)
         (bits-append F ns seat.0.filed f filed-of_seen)
         taken-of_seen
@@ -191,7 +192,8 @@ module _ (width : ℕ) (s : St) (h : Holds width s) (id : ℕ) (seat : SeatState
     -- the invariant holds after the seat saw the numbers ns taken
     Reads-saw_taken : (ns : List ℕ) → ((n : ℕ) → 0 < occurrences n ns → T n ≡ 1) → Reads K s.words s.homes
         (set s.views id (with_taken seat.0 ns))
-    Reads-saw_taken ns t = Reads-saw seat.0.found (ns ++ seat.0.claimed) (ns ++ seat.0.filed) (ns ++ seat.0.taken) found
+    Reads-saw_taken ns t = Reads-saw seat.0.found (ns ++ seat.0.claimed) (ns ++ seat.0.filed) (ns ++ seat.0.taken)
+        drawn-of_found
         (bits-append C ns seat.0.claimed (λ n z. claimed-of_filed n (filed-of_taken n (t n z))) claimed-of_seen)
         (bits-append F ns seat.0.filed (λ n z. filed-of_taken n (t n z)) filed-of_seen)
         (bits-append T ns seat.0.taken t taken-of_seen)
@@ -201,10 +203,10 @@ module _ (width : ℕ) (s : St) (h : Holds width s) (id : ℕ) (seat : SeatState
     bit-of_only c n m is = bits-cons c n [] is (λ k z. absurd (omega (arith, z))) m
 
     -- the view of the seat is w after it was set to w
-    there : (w : View) → get_elem? (set s.views id w) id ≡ some w
-    there w = set_here s.views id w (get_elem-within s.views id seat.0 e)
+    get_elem-own_view_set : (w : View) → get_elem? (set s.views id w) id ≡ some w
+    get_elem-own_view_set w = set_here s.views id w (get_elem-within s.views id seat.0 e)
 
-    -- a try of the draw d, whose bit was x, is right, and satisfies its postcondition
+    -- a try of the draw d, whose bit was x, by a seat with a share is right, and satisfies its postcondition
     Goes-draw : 0 < length seat.0.share → (d : ℕ) → 4 * (d / 64) + 3 < width → (x : ℕ) → D d ≡ x
         → Goes (4 * (d / 64) + 3)
         (bit_or (get_or s.words (4 * (d / 64) + 3) 0) (mask_of d))
@@ -214,7 +216,7 @@ module _ (width : ℕ) (s : St) (h : Holds width s) (id : ℕ) (seat : SeatState
         let near : 4 * (d / 64) + 3 < length s.words = word_index-below_length (4 * (d / 64) + 3) small in
         let ws' : List ℕ = marked 3 s.words d in let D' : ℕ → ℕ = bit_of 3 ws' in
         let unfound : occurrences d seat.0.found ≡ 0 = dite (ℕ_discrete (occurrences d seat.0.found) 0) (λ z. z)
-        (λ ne. absurd (omega (arith, is, found d (omega (arith, ne))))) in (
+        (λ ne. absurd (omega (arith, is, drawn-of_found d (omega (arith, ne))))) in (
           after_draw seat.0 d,
           keeps,
           tt,
@@ -247,12 +249,13 @@ module _ (width : ℕ) (s : St) (h : Holds width s) (id : ℕ) (seat : SeatState
           tt,
           Holds-marked_again 3 d (omega arith) near is (with_found seat.0 d)
               (Reads-saw (d ∷ seat.0.found) seat.0.claimed seat.0.filed
-              seat.0.taken (bits-cons D d seat.0.found is found) claimed-of_seen filed-of_seen taken-of_seen),
+              seat.0.taken (bits-cons D d seat.0.found is drawn-of_found) claimed-of_seen filed-of_seen taken-of_seen),
           ((λ z. absurd (omega (arith, z))), λ _. refl),
         )
     Goes-draw has_share d small (suc (suc k)) is = absurd (omega (arith, is, bit_of-at_most_one 3 s.words d))
 
-    -- a try to claim n, whose bit was x, is right, and satisfies its postcondition
+    -- a try to claim n, whose bit was x, by a seat with a share and nothing pending is right, and satisfies its
+    -- postcondition
     Goes-claim : 0 < length seat.0.share → (n : ℕ) → n < length s.homes → 4 * (n / 64) + 0 < width → seat.0.pending ≡ []
         → (x : ℕ) → C n ≡ x → Goes (4 * (n / 64) + 0) (bit_or (get_or s.words (4 * (n / 64) + 0) 0) (mask_of n))
         (λ after. (x ≡ 0 → (occurrences n (numbers seat.0.list) ≡ 0)
@@ -308,7 +311,8 @@ module _ (width : ℕ) (s : St) (h : Holds width s) (id : ℕ) (seat : SeatState
         )
     Goes-claim has_share n low small free (suc (suc k)) is = absurd (omega (arith, is, bit_of-at_most_one 0 s.words n))
 
-    -- the filing of the block b of n is right, and satisfies its postcondition
+    -- the filing of the block b of n, which is pending with the seat, and whose slot the seat has with b, is right, and
+    -- satisfies its postcondition
     Goes-file : (n : ℕ) (b : Block) → b.number ≡ n → n < length s.homes → 4 * (n / 64) + 1 < width → seat.0.pending ≡ n
         ∷ []
         → seat.1 ≡ (n, Some b) ∷ [] → Goes (4 * (n / 64) + 1) (bit_or (get_or s.words (4 * (n / 64) + 1) 0) (mask_of n))
@@ -353,7 +357,7 @@ module _ (width : ℕ) (s : St) (h : Holds width s) (id : ℕ) (seat : SeatState
           ),
         ) in
         let most = list_length_bound (length s.homes) D C F' T K' (IsEmpty homes') (IsFilled homes') vs' rule id w
-        (there w) in
+        (get_elem-own_view_set w) in
         let least = sum_below-limit F' (length s.homes) (bit_of-at_most_one 1 ws') in (
           w,
           gives,
@@ -366,11 +370,12 @@ module _ (width : ℕ) (s : St) (h : Holds width s) (id : ℕ) (seat : SeatState
             (λ i. (w, rest (has i))),
             omega (arith, most, least),
             filed_and_taken_agree (length s.homes) D C F' T K' (IsEmpty homes') (IsFilled homes') vs'
-                rule id w (there w),
+                rule id w (get_elem-own_view_set w),
           ),
         )
 
-    -- a try to take n, whose bit was x, is right, and satisfies its postcondition
+    -- a try to take n, whose bit was x, by a seat with a share that has seen n filed is right, and satisfies its
+    -- postcondition
     Goes-take : 0 < length seat.0.share → (n : ℕ) → n < length s.homes → 4 * (n / 64) + 2 < width → 0 < occurrences n
         seat.0.filed → (x : ℕ) → T n ≡ x → Goes (4 * (n / 64) + 2) (bit_or (get_or s.words (4 * (n / 64) + 2) 0)
         (mask_of n))
@@ -395,7 +400,7 @@ module _ (width : ℕ) (s : St) (h : Holds width s) (id : ℕ) (seat : SeatState
         (λ m x ne full. set_else s.homes n m none ne ∙ full) (λ m x ne full. sym (set_else s.homes n m none ne) ∙ full)
         (λ x full. none-not_filled none x refl (sym (set_here s.homes n none low) ∙ full)) in
         let most = takes_length_bound (length s.homes) D C F T' K (IsEmpty homes') (IsFilled homes') vs' rule id w
-        (there w) in
+        (get_elem-own_view_set w) in
         let least = sum_below-limit T' (length s.homes) (bit_of-at_most_one 2 ws') in (
           w,
           takes n (Some b),
@@ -425,7 +430,7 @@ module _ (width : ℕ) (s : St) (h : Holds width s) (id : ℕ) (seat : SeatState
               refl,
               omega (arith, most, least),
               filed_and_taken_agree (length s.homes) D C F T' K (IsEmpty homes') (IsFilled homes') vs'
-                  rule id w (there w),
+                  rule id w (get_elem-own_view_set w),
             )),
             λ z. absurd (omega (arith, z)),
           ),
@@ -457,7 +462,7 @@ IsAtBit-one_number : (slots k d : ℕ) (F : ℕ → Type 0) → F d → (n : ℕ
     → F n
 IsAtBit-one_number slots k d F f n a = subst F (bit-one_number k d n a.word a.mask) f
 
--- the rule allows a try of a draw
+-- the rule allows a try of a draw by a seat with a share
 pub Allows-draw : (width slots id : ℕ) (seat : SeatState) → 0 < length seat.0.share → (d : ℕ) → 4 * (d / 64) + 3 <
     width → Allows (Holds width) slots id seat (4 * (d / 64) + 3) (λ n. bit_or n (mask_of d))
     (DrawPost (step slots (4 * (d / 64) + 3) (mask_of d) 0 none) seat)
@@ -474,7 +479,7 @@ Allows-draw width slots id seat has_share d small s h wide e fits = let g = Goes
           → (g.0, carried_after seat.1 g.1) ≡ (with_found seat.0 n, seat.1))) g.4,
     )
 
--- the rule allows a try to claim a number
+-- the rule allows a try to claim a number by a seat with a share and nothing pending
 pub Allows-claim : (width slots id : ℕ) (seat : SeatState) → 0 < length seat.0.share → (n : ℕ) → n < slots
     → 4 * (n / 64) + 0 < width → seat.0.pending ≡ [] → Allows (Holds width) slots id seat (4 * (n / 64) + 0)
     (λ x. bit_or x (mask_of n)) (ClaimPost (step slots (4 * (n / 64) + 0) (mask_of n) 0 none) seat)
@@ -494,7 +499,7 @@ Allows-claim width slots id seat has_share n low small free s h wide e fits = le
           ≡ (with_claimed seat.0 (m ∷ []), seat.1))) g.4,
     )
 
--- the rule allows a try to take a number that the seat has seen filed
+-- the rule allows a try to take a number by a seat with a share that has seen it filed
 pub Allows-take : (width slots id : ℕ) (seat : SeatState) → 0 < length seat.0.share → (n : ℕ) → n < slots
     → 4 * (n / 64) + 2 < width → 0 < occurrences n seat.0.filed → Allows (Holds width) slots id seat (4 * (n / 64) + 2)
     (λ x. bit_or x (mask_of n)) (TakePost (step slots (4 * (n / 64) + 2) (mask_of n) 0 none) seat)
@@ -527,12 +532,12 @@ abbrev block_in : Block → List (ℕ × Option Block) → Block
 block_in b [] = b
 block_in b (x ∷ xs) = content_of b x.1
 
--- the seat filed n with the block b
+-- the seat filed n, which it hadn't filed before, with the block b
 abbrev FiledAs : ℕ → SeatState → SeatState → ℕ → Block → Type 0
 FiledAs slots seat after n b = (occurrences n (numbers seat.0.list) ≡ 0) × (after ≡ (after_filing seat.0 n b, []))
     × (length seat.0.list < slots) × SameBlocks after.0
 
--- the rule allows the filing of a number whose slot the seat has with its block
+-- the rule allows the filing of a number that is pending with the seat, and whose slot the seat has with its block
 pub Allows-file : (width slots id : ℕ) (seat : SeatState) (n : ℕ) (b : Block) → b.number ≡ n → n < slots
     → 4 * (n / 64) + 1 < width → seat.0.pending ≡ n ∷ [] → seat.1 ≡ (n, Some b) ∷ []
     → Allows (Holds width) slots id seat (4 * (n / 64) + 1) (λ x. bit_or x (mask_of n))
@@ -724,18 +729,18 @@ Allows-give width slots id seat n wide_enough low mine has s h wide e fits =
 abbrev vacant : ℕ → Homes
 vacant n = map some (replicate n None)
 
--- there are n such slots
+-- there are n slots in `vacant n`
 length-vacant : (n : ℕ) → length (vacant n) ≡ n
 length-vacant zero = refl
 length-vacant (suc n) = ap suc (length-vacant n)
 
--- each of them is in the table and empty
+-- each slot of `vacant n` is in the table and empty
 get_elem-vacant : (n i : ℕ) → i < n → get_elem? (vacant n) i ≡ some (some None)
 get_elem-vacant zero i l = absurd (omega arith)
 get_elem-vacant (suc n) zero l = refl
 get_elem-vacant (suc n) (suc i) l = get_elem-vacant n i (omega arith)
 
--- none of them has a block
+-- no slot of `vacant n` has a block
 vacant-not_filled : (n i : ℕ) (b : Block) → get_elem? (vacant n) i ≡ some (some (Some b)) → ⊥
 vacant-not_filled zero i b e = some-ne-none (some (Some b)) (sym e)
 vacant-not_filled (suc n) zero b e = empty-not_filled b e

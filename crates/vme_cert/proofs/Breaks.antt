@@ -162,34 +162,34 @@ same_level-no_edge Unknown = (refl, refl, refl)
 
 -- a line l that has the level of the instant before at instant j
 module _ (t : Trace) (l j : ℕ) (still : level t l j ≡ level t l (j - 1)) where
-  -- it doesn't fall
-  falls-not_still : falls t l j ≡ false
+  -- a line that has the level of the instant before doesn't fall
+  still-no_fall : falls t l j ≡ false
   unfolding falls low high
-  falls-not_still = rw still (same_level-no_edge (level t l (j - 1))).0
+  still-no_fall = rw still (same_level-no_edge (level t l (j - 1))).0
 
-  -- it doesn't rise
-  rises-not_still : rises t l j ≡ false
+  -- a line that has the level of the instant before doesn't rise
+  still-no_rise : rises t l j ≡ false
   unfolding rises low high
-  rises-not_still = rw still (same_level-no_edge (level t l (j - 1))).1
+  still-no_rise = rw still (same_level-no_edge (level t l (j - 1))).1
 
-  -- it has no edge
-  has_edge-not_still : has_edge t l j ≡ false
+  -- a line that has the level of the instant before has no edge
+  still-no_edge : has_edge t l j ≡ false
   unfolding has_edge
-  has_edge-not_still = rw still (same_level-no_edge (level t l (j - 1))).2
+  still-no_edge = rw still (same_level-no_edge (level t l (j - 1))).2
 
-  -- a rule that asks for an edge isn't broken on it
+  -- a rule that asks for an edge isn't broken on a line that has the level of the instant before
   pub unbroken_without_edge : (stretch : Stretch) (r : Rule) → needs_edge r ≡ true → is_broken t stretch r j l ≡ false
   unfolding is_broken
-  unbroken_without_edge stretch S1 e = rw has_edge-not_still refl
+  unbroken_without_edge stretch S1 e = rw still-no_edge refl
   unbroken_without_edge stretch U1 e = absurd (cc)
   unbroken_without_edge stretch U2 e = absurd (cc)
   unbroken_without_edge stretch U3 e = absurd (cc)
   unbroken_without_edge stretch U4 e = absurd (cc)
   unbroken_without_edge stretch H1 e = absurd (cc)
   unbroken_without_edge stretch r e = first_of (
-    rw (falls-not_still, and-false),
-    rw (rises-not_still, and-false),
-    rw (has_edge-not_still, and-false),
+    rw (still-no_fall, and-false),
+    rw (still-no_rise, and-false),
+    rw (still-no_edge, and-false),
   )
 
 -- a line that isn't among the changes stays
@@ -308,7 +308,8 @@ module _ (t : Trace) (stretch : Stretch) (bus : Bus) (state : State) (cs : List 
   j : ℕ
   j = bus.instant
 
-  -- then no rule is broken on any line of the bus
+  -- no rule is broken on any line, if none is on a changed line on which it can be, and U2, U3, H1 and U4 are on no
+  -- line
   pub unbroken : ((r : Rule) (l : ℕ) → is_changed cs l ≡ true → may_be_broken_on r l ≡ true
       → is_broken t stretch r bus.instant l ≡ false)
       → ((l : ℕ) → breaks t stretch U2 bus.instant l ≡ false) → ((l : ℕ) → is_broken t stretch U3 bus.instant l ≡ false)

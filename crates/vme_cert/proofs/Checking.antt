@@ -52,7 +52,7 @@ use Rattle.vme_cert.proofs.Following.{IsDue-at_last, IsDue-transfer_at_last}
 -- ---- The listing of a recording, stretch by stretch.
 
 module _ (t : Trace) where
-  -- a stretch is listed whole, up to `limit`, or not at all
+  -- a stretch that ends at the limit or before is listed whole, and then the reset at its end, if there is one
   rows_of_stretch-whole : (stretch : Stretch) (limit : ℕ) → stretch.start < stretch.end → stretch.end ≤ limit
       → nat_lt stretch.end limit
       ≡ nat_lt stretch.end (last_instant t + 1) → rows_of_stretch t limit stretch ≡ rows_to t stretch stretch.end
@@ -645,7 +645,8 @@ module _ {Whole Source : Type 0} {gave : Whole → Source → List Row → Type 
       made sound
       (is_reset_at-levels t bus.levels bus.instant at.levels ∙ unreset) (lost_among-bus None e)
 
--- the state with the cycle and the transfer that start at the instant
+-- within the stretch, the state with the cycle and the transfer that start at the instant is that of the bus
+-- (`IsStateOf`)
 pub judge-state : {Whole Source : Type 0} {gave : Whole → Source → List Row → Type 0} {is_over : Source → Type 0}
     {whole : Whole} {v : Version} {t : Trace} {bus : Bus} {outcome : ListedVerdict} {rows : OpenRows Source}
     {state opened : State} → IsBusOf t bus → (h : IsInStretch gave is_over whole v t bus.instant outcome rows state)

@@ -125,7 +125,7 @@ IsCompared-more_open now h kept = record {
 -- after one row was compared
 module _ {Source : Type 0} {o : Option OpenRow} {edge : Option ℕ} {old new : Comparison Source}
     (s : HasComparedRow o edge old new) where
-  -- what was compared holds after a row that ends was compared
+  -- `IsCompared` holds after a row with its last edge was compared, whose place is no longer open
   pub compare_row-compared : {given expected : List Row} {open_at : ℕ → Bool}
       → IsCompared given expected old.taken open_at old.wrong → IsDue given expected old.taken edge o
       → IsCompared given expected new.taken (without open_at o) new.wrong
@@ -133,7 +133,7 @@ module _ {Source : Type 0} {o : Option OpenRow} {edge : Option ℕ} {old new : C
       subst (λ n. IsCompared given expected n (without open_at o) new.wrong) (sym s.taken)
       (s.wrong given expected open_at h due)
 
-  -- what was given holds after a row was compared
+  -- `IsGiven` still holds after a row was compared
   pub compare_row-given : {Whole : Type 0} {gave : Whole → Source → List Row → Type 0} {is_over : Source → Type 0}
       {whole : Whole} {given : List Row} → IsGiven gave is_over whole given old.source old.taken
       → IsGiven gave is_over whole given new.source new.taken

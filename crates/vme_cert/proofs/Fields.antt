@@ -385,7 +385,7 @@ module _ (t : Trace) (l j : ℕ) where
       by_level High a e h k = let c : (true && true) ≡ false = rw e at h in absurd (cc)
       by_level Unknown a e h k = absurd (cc)
 
--- what has risen since i has risen since i one instant later
+-- if `p` holds of some instant after i and before j, it does of some after i and before j + 1
 pub none-stays_false : (p : ℕ → Bool) (i j : ℕ) → none p (i + 1) j ≡ false → none p (i + 1) (j + 1) ≡ false
 none-stays_false p i j h = rw (any-step p (i + 1) j, not-false (any p (i + 1) j) h) refl
 
@@ -481,11 +481,11 @@ module _ (t : Trace) (stretch : Stretch) (j : ℕ) (judged : is_judged stretch j
     IsGreatest-last_cycle : IsGreatest (cycle_starts t stretch) (stretch.start + 1) (j + 1) c.start
     IsGreatest-last_cycle = greatest-found (cycle_starts t stretch) (stretch.start + 1) (j + 1) c.start is.last
 
-    -- it starts at j or before
+    -- the last cycle starts at j or before
     pub last_cycle-start_not_later : c.start ≤ j
     last_cycle-start_not_later = let before = IsGreatest-last_cycle.before in omega arith
 
-    -- it runs up to j exactly if it did before, and AS doesn't rise at j
+    -- the last cycle runs up to j exactly if it did before, and AS doesn't rise at j
     pub runs-step : none (rises t AS) (c.start + 1) (j + 1) ≡ (c.runs && not (rises t AS j))
     runs-step = by_order (eq-or_below c.start j IsGreatest-last_cycle.before)
       where
@@ -499,7 +499,7 @@ module _ (t : Trace) (stretch : Stretch) (j : ℕ) (judged : is_judged stretch j
         by_order (inr before) = none-step (rises t AS) (c.start + 1) j (omega arith)
             ∙ ap (λ b. b && not (rises t AS j)) (sym is.runs)
 
-    -- while it runs AS is low, where it is known
+    -- while the last cycle runs AS is low, where it is known
     low-while_runs : known t AS j ≡ true → (c.runs && not (rises t AS j)) ≡ true → low t AS j ≡ true
     low-while_runs knows on = by_order (eq-or_below c.start j IsGreatest-last_cycle.before)
       where
@@ -514,18 +514,18 @@ module _ (t : Trace) (stretch : Stretch) (j : ℕ) (judged : is_judged stretch j
         by_order (inr before) = low-next_instant t AS j (is.is_low runs_parts.0 before)
             (not-true (rises t AS j) runs_parts.1) knows
 
-    -- its answers before `j + 1` are those before `j`, and that at `j`, if there is one
+    -- the answers of the last cycle before `j + 1` are those before `j`, and that at `j`, if there is one
     answers_of-last_cycle : answers_of t stretch c.start (j + 1)
         ≡ answers_of t stretch c.start j ++ (if is_answer t stretch j then j ∷ [] else [])
     answers_of-last_cycle = answers_of-step t stretch c.start j last_cycle-start_not_later
 
-    -- whether one of its answers before `j + 1` is by DTACK, by whether one before `j` is
+    -- whether an answer of the last cycle before `j + 1` is by DTACK, by whether one before `j` is
     answered_by_dtack-step : is_answered_by_dtack t stretch c.start (j + 1)
         ≡ (is_answered_by_dtack t stretch c.start j || (is_answer t stretch j && falls t DTACK j))
     answered_by_dtack-step = any-step (λ r. is_answer t stretch r && falls t DTACK r) c.start j
         ∙ rw (le-leb c.start j last_cycle-start_not_later) refl
 
-    -- it is the last cycle, by its fields one instant later
+    -- the last cycle is still the last one an instant later, by its fields then
     IsLastCycle-later : known t AS j ≡ true → IsLastCycle t stretch (j + 1) (j + 1) (record c {
       runs = c.runs && not (rises t AS j);
       answered = c.answered || is_answer t stretch j;
@@ -581,7 +581,7 @@ module _ (t : Trace) (stretch : Stretch) (p q : ℕ → Bool) (j : ℕ) (judged 
   last_before-here here = ap (λ o. unwrap_or o stretch.start)
       (greatest-here p (stretch.start + 1) j (is_judged-after_start stretch j judged) here)
 
-  -- where `p` doesn't hold at j, the last instant is the one before j
+  -- where `p` doesn't hold at j, the last instant before `j + 1` at which it does is that before `j`
   last_before-not_here : p j ≡ false → last_before t stretch p (j + 1) ≡ last_before t stretch p j
   unfolding last_before
   last_before-not_here here = ap (λ o. unwrap_or o stretch.start) (greatest-not p (stretch.start + 1) j here)
@@ -592,18 +592,18 @@ module _ (t : Trace) (stretch : Stretch) (p q : ℕ → Bool) (j : ℕ) (judged 
   last_before-bound = by_option (greatest p (stretch.start + 1) j) (λ e. rw e (is_judged-after_start stretch j judged))
       (λ i e. let found = (greatest-found p (stretch.start + 1) j i e).before in rw e (omega arith))
 
-  -- what a rule asks up to `j`, by the field and by what happens at `j`
+  -- `q` holds since `p` last did, up to `j`, exactly if it does before `j` or at `j`
   pub any_since-step : any q (last_before t stretch p j) (j + 1) ≡ (any q (last_before t stretch p j) j || q j)
   any_since-step = any-step q (last_before t stretch p j) j
       ∙ rw (le-leb (last_before t stretch p j) j (omega (arith, last_before-bound))) refl
 
-  -- what a rule asks after the last instant up to `j`, by the field and by what happens at `j`
+  -- `q` holds after `p` last did, up to `j`, exactly if it does before `j` or at `j`
   pub any_after-step : any q (last_before t stretch p j + 1) (j + 1)
       ≡ (any q (last_before t stretch p j + 1) j || q j)
   any_after-step = any-step q (last_before t stretch p j + 1) j
       ∙ rw (le-leb (last_before t stretch p j + 1) j last_before-bound) refl
 
-  -- the field one instant later
+  -- whether `q` holds since `p` last did, before `j + 1`, by whether it did before `j`
   pub any_since-field_step : {a b c : Bool} → a ≡ any q (last_before t stretch p j) j → b ≡ p j → c ≡ q j
       → ((a && not b) || c) ≡ any q (last_before t stretch p (j + 1)) (j + 1)
   any_since-field_step e f g = rw (e, f, g)
@@ -614,7 +614,7 @@ module _ (t : Trace) (stretch : Stretch) (p q : ℕ → Bool) (j : ℕ) (judged 
       any-from_here : any q j (j + 1) ≡ q j
       any-from_here = any-step q j j ∙ rw (any-start q j j (omega arith), le-leb j j (omega arith)) refl
 
-  -- the field that leaves out the last instant, one instant later
+  -- whether `q` holds after `p` last did, before `j + 1`, by whether it did before `j`
   pub any_after-field_step : {a b c : Bool} → a ≡ any q (last_before t stretch p j + 1) j → b ≡ p j → c ≡ q j
       → ((a || c) && not b) ≡ any q (last_before t stretch p (j + 1) + 1) (j + 1)
   any_after-field_step e f g = rw (e, f, g) (by_either_value (p j)
@@ -623,20 +623,20 @@ module _ (t : Trace) (stretch : Stretch) (p q : ℕ → Bool) (j : ℕ) (judged 
 
 -- the fields after the start of a stretch
 module _ (t : Trace) (stretch : Stretch) (p q : ℕ → Bool) where
-  -- after the start of a stretch the last instant is the start
+  -- just after the start of a stretch, `last_before` is the start
   last_before-start : last_before t stretch p (stretch.start + 1) ≡ stretch.start
   unfolding last_before
   last_before-start = ap (λ o. unwrap_or o stretch.start) (greatest-empty p (stretch.start + 1) (stretch.start + 1)
       (omega arith))
 
-  -- after the start of a stretch `q` has held exactly if it does at the start
+  -- just after the start of a stretch, `q` has held since `p` exactly if it holds at the start
   pub any_since-at_start : any q (last_before t stretch p (stretch.start + 1)) (stretch.start + 1) ≡ q stretch.start
   any_since-at_start = ap (λ k. any q k (stretch.start + 1)) last_before-start
       ∙ (any-step q stretch.start stretch.start
       ∙ rw (any-start q stretch.start stretch.start (omega arith), le-leb stretch.start stretch.start (omega arith))
       refl)
 
-  -- after the start of a stretch `q` hasn't held since
+  -- just after the start of a stretch, `q` hasn't held after `p`
   pub any_after-at_start : any q (last_before t stretch p (stretch.start + 1) + 1) (stretch.start + 1) ≡ false
   any_after-at_start = ap (λ k. any q (k + 1) (stretch.start + 1)) last_before-start
       ∙ any-start q (stretch.start + 1) (stretch.start + 1) (omega arith)
@@ -683,19 +683,22 @@ module _ (t : Trace) (stretch : Stretch) (j : ℕ) (judged : is_judged stretch j
         (λ i. answers t stretch i j && is_write t stretch i)
         (λ w. ap (λ b. b && c.is_write) (answers-by_fields w) ∙ ap (λ b. answers t stretch c.start j && b) w.direction))
 
-    -- the open transfer started before j, and isn't answered up to it
+    -- the transfer of the instant started before j and isn't answered up to j exactly if the fields of the open one say
+    -- so
     pub is_unanswered-by_fields : (c.is_open && (nat_lt c.start j && not (c.answered || answer_falls t j)))
         ≡ is_unanswered t stretch j
     is_unanswered-by_fields = in_transfer-by_open (nat_lt c.start j && not (c.answered || answer_falls t j)) _
         (λ w. ap (λ b. nat_lt c.start j && not b) (is_answered-by_fields w))
 
-    -- the open transfer started before j, and was answered before
+    -- the transfer of the instant started before j and was answered before j exactly if the fields of the open one say
+    -- so
     pub in_transfer-was_answered : (c.is_open && (nat_lt c.start j && c.answered))
         ≡ in_transfer t stretch (λ i. nat_lt i j && is_answered t stretch i j) j
     in_transfer-was_answered = in_transfer-by_open (nat_lt c.start j && c.answered) _
         (λ w. ap (λ b. nat_lt c.start j && b) w.answered)
 
-    -- the open transfer was answered before j, or both answers fall at j
+    -- the transfer of the instant was answered before j, or both answers fall at j, exactly if the fields of the open
+    -- one say so
     pub in_transfer-answered_twice : (c.is_open && (c.answered || (falls t DTACK j && falls t BERR j)))
         ≡ in_transfer t stretch
         (λ i. is_answered t stretch i j || (answers t stretch i j && falls t DTACK j && falls t BERR j)) j
@@ -712,13 +715,13 @@ module _ (t : Trace) (stretch : Stretch) (j : ℕ) (judged : is_judged stretch j
         by_values false false true = refl
         by_values false false false = refl
 
-    -- the open transfer is a write that wasn't answered before j
+    -- the transfer of the instant is a write that wasn't answered before j exactly if the fields of the open one say so
     pub in_transfer-open_write : (c.is_open && (c.is_write && not c.answered))
         ≡ in_transfer t stretch (λ i. is_write t stretch i && not (is_answered t stretch i j)) j
     in_transfer-open_write = in_transfer-by_open (c.is_write && not c.answered) _
         (λ w. rw (w.direction, w.answered) refl)
 
-    -- the open transfer is a write whose data must be held at j
+    -- the data of the transfer of the instant must be held at j exactly if the fields of the open one say so
     pub is_data_held-by_fields : (r : Bool)
         → (IsOpenTransfer t stretch (j + 1) j c → r ≡ any (strobe_rises t) (c.start + 1) (j + 1))
         → (c.is_open && (nat_lt c.start j && c.is_write && not (c.answered || answer_falls t j) && not r))
@@ -759,12 +762,13 @@ module _ (t : Trace) (stretch : Stretch) (j : ℕ) (judged : is_judged stretch j
         (ap (λ b. is_block_class (class_at t stretch c.start) && b)
         (changes_direction-is t stretch (answers_of t stretch c.start j) j)))
 
-    -- the cycle of the instant is an interrupt acknowledge, by the fields of the last cycle
+    -- the cycle of the instant is an interrupt acknowledge exactly if the fields of the last cycle say so
     pub in_cycle-interrupt : (c.has_started && is_interrupt c.class) ≡ in_cycle t stretch
         (λ i. is_interrupt (class_at t stretch i)) j
     in_cycle-interrupt = in_cycle-by_last (is_interrupt c.class) _ (λ k. ap is_interrupt k.class)
 
-    -- it is one that has been answered, by these fields
+    -- the cycle of the instant is an interrupt acknowledge that was answered exactly if the fields of the last cycle
+    -- say so
     pub in_cycle-answered_interrupt : (c.has_started && (is_interrupt c.class && c.answered))
         ≡ in_cycle t stretch (λ i. is_interrupt (class_at t stretch i) && has_earlier_answer (answers_of t stretch i j))
         j
@@ -782,7 +786,8 @@ module _ (t : Trace) (stretch : Stretch) (j : ℕ) (judged : is_judged stretch j
         (greatest-not (cycle_starts t stretch) (stretch.start + 1) j (cycle_starts-is t stretch j judged ∙ still)
         ∙ ap (greatest (cycle_starts t stretch) (stretch.start + 1)) back)
 
-    -- the cycle of the instant before was answered by DTACK, by the fields of the last cycle, where none starts
+    -- where no cycle starts, that of the instant before was answered by DTACK exactly if the fields of the last cycle
+    -- say so
     pub in_cycle-answered_by_dtack : falls t AS j ≡ false → (c.has_started && c.answered_by_dtack)
         ≡ in_cycle t stretch (λ i. is_answered_by_dtack t stretch i j) (j - 1)
     in_cycle-answered_by_dtack still =

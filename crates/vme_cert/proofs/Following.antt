@@ -44,7 +44,7 @@ use Rattle.vme_cert.proofs.Ranges.{greatest-here, greatest-not, by_either_value}
 use Rattle.vme_cert.proofs.Ranges.{by_option, is_judged-not_up_to_start}
 use Rattle.vme_cert.proofs.Instant.{known-AS, known-control_line}
 
--- the last edge of a row may be set before or after the row is put in a version
+-- the last edge of a row may be set before or after its data is left out
 with_edge-without_data : (row : Row) (edge : Option ℕ)
     → with_edge (without_data row) edge ≡ without_data (with_edge row edge)
 with_edge-without_data (Start i) edge = refl
@@ -343,7 +343,8 @@ module _ (t : Trace) (stretch : Stretch) where
       known = h.known;
     }
 
-    -- whether the last transfer is answered at the instant
+    -- the last transfer to start, if it is open, is answered at the instant exactly if there is an answer at the
+    -- instant
     answers-of_last : (i : ℕ) → greatest (transfer_starts t stretch) (stretch.start + 1) (j + 1) ≡ Some i
         → any (strobes_high t) (i + 1) j ≡ false → answers t stretch i j ≡ is_answer t stretch j
     answers-of_last i last still = answers-is t stretch j i judged last (ap not still)

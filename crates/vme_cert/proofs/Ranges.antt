@@ -73,7 +73,7 @@ cond-value false x y z h = inr (refl, h)
 pub Some-injective : {A : Type 0} (x y : A) → Some x ≡ Some y → x ≡ y
 Some-injective x y h = cc
 
--- where there is no greatest, none holds
+-- if no number of a range is the greatest that meets `p`, none meets it
 pub greatest-none-any : (p : ℕ → Bool) (f n : ℕ) → greatest p f n ≡ None → any p f n ≡ false
 unfolding greatest any
 greatest-none-any p f zero e = refl

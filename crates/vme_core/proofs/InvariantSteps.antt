@@ -75,9 +75,11 @@ module _ (limit : ℕ) (D C F T : ℕ → ℕ) (K : ℕ → Option Block) (E : �
       }
 
   module _ (i : ℕ) (v : View) (e : get_elem? vs i ≡ some v) where
+    -- what the bench has seen is so
     abbrev seen : Sighted C F T v
     seen = Sighted-each limit C F T vs r.stages i v e
 
+    -- each block that the bench filed or took is the content of its number
     abbrev held : Holding K v
     held = Holding-each C F T K E H vs r.contents i v e
 
@@ -99,7 +101,7 @@ module _ (limit : ℕ) (D C F T : ℕ → ℕ) (K : ℕ → Option Block) (E : �
               (record { listed = held.listed; took = held.took });
         }
 
-    -- winning the draw d keeps the invariant (`draw`)
+    -- a bench with a share that wins the draw d, which wasn't drawn, keeps the invariant (`draw`)
     pub draw_preserves : v.share ≢ [] → (D' : ℕ → ℕ) (d : ℕ) → D d ≡ 0 → D' d ≡ 1 → ((m : ℕ) → m ≢ d → D' m ≡ D m)
         → BoardInvariant limit D' C F T K E H (set vs i (after_draw v d))
     draw_preserves has_share D' d d0 d1 d_else =
@@ -123,7 +125,7 @@ module _ (limit : ℕ) (D C F T : ℕ → ℕ) (K : ℕ → Option Block) (E : �
     pub undrawn : (d : ℕ) → D d ≡ 0 → occurrences d v.draws ≡ 0
     undrawn d is = omega (arith, le-sum_by (λ (u : View). occurrences d u.draws) vs i v e, r.draws.won_once d, is)
 
-    -- a number that isn't filed isn't in the bench's list, and one that isn't taken isn't in its takes
+    -- a number that isn't filed isn't in the bench's list
     pub unlisted : (n : ℕ) → F n ≡ 0 → occurrences n (numbers v.list) ≡ 0
     unlisted n is = omega (
       arith,
@@ -132,6 +134,7 @@ module _ (limit : ℕ) (D C F T : ℕ → ℕ) (K : ℕ → Option Block) (E : �
       is,
     )
 
+    -- a number that isn't taken isn't in the bench's takes
     pub untaken : (n : ℕ) → T n ≡ 0 → occurrences n (numbers v.takes) ≡ 0
     untaken n is = omega (
       arith,
@@ -152,7 +155,7 @@ module _ (limit : ℕ) (D C F T : ℕ → ℕ) (K : ℕ → Option Block) (E : �
       is,
     )
 
-    -- claiming the number n keeps the invariant (`claim`)
+    -- a bench with a share and nothing pending that claims n, which wasn't claimed, keeps the invariant (`claim`)
     pub claim_preserves : v.share ≢ [] → (C' : ℕ → ℕ) (E' : ℕ → Type 0) (H' : ℕ → Block → Type 0) (n : ℕ)
         → v.pending ≡ [] → n < limit → C n ≡ 0 → C' n ≡ 1 → ((m : ℕ) → m ≢ n → C' m ≡ C m)
         → ((m : ℕ) → m ≢ n → E m → E' m)
@@ -201,6 +204,7 @@ module _ (limit : ℕ) (D C F T : ℕ → ℕ) (K : ℕ → Option Block) (E : �
         let small = r.stages.bit n in
         (omega (arith, p1, owned, pend, small), omega (arith, p1, owned, pend, small))
 
+    -- a bench that files the block b of n, which is pending with it, keeps the invariant (`file`)
     pub file_preserves : (F' : ℕ → ℕ) (K' : ℕ → Option Block) (E' : ℕ → Type 0) (H' : ℕ → Block → Type 0) (n : ℕ)
         (b : Block) → v.pending ≡ n ∷ [] → F' n ≡ 1 → ((m : ℕ) → m ≢ n → F' m ≡ F m) → K' n ≡ Some b
         → ((m : ℕ) → m ≢ n → K' m ≡ K m)
@@ -256,6 +260,7 @@ module _ (limit : ℕ) (D C F T : ℕ → ℕ) (K : ℕ → Option Block) (E : �
           });
         }
 
+    -- a bench with a share that takes n, which is filed and wasn't taken, keeps the invariant (`take`)
     pub take_preserves : v.share ≢ [] → (T' : ℕ → ℕ) (E' : ℕ → Type 0) (H' : ℕ → Block → Type 0) (n : ℕ) (b : Block)
         → F n ≡ 1 → T n ≡ 0 → T' n ≡ 1 → ((m : ℕ) → m ≢ n → T' m ≡ T m) → K n ≡ Some b
         → ((m : ℕ) → m ≢ n → E m → E' m) → ((m : ℕ) (x : Block) → m ≢ n → H m x → H' m x)
@@ -299,6 +304,7 @@ module _ (limit : ℕ) (D C F T : ℕ → ℕ) (K : ℕ → Option Block) (E : �
           });
         }
 
+    -- a bench that splits keeps the invariant (`split`)
     pub split_preserves : BoardInvariant limit D C F T K E H (set vs i (kept_view v) ++ split_view v ∷ [])
     split_preserves = let w : View = kept_view v in let ws : List View = set vs i w in record {
       draws = DrawInvariant-append D ws (DrawInvariant-set D vs r.draws D i v w e r.draws.bit (λ d. le_refl _)
@@ -318,6 +324,7 @@ module _ (limit : ℕ) (D C F T : ℕ → ℕ) (K : ℕ → Option Block) (E : �
           (record { listed = λ _ _ h. absurd h; took = λ _ _ h. absurd h });
     }
 
+    -- a bench that another one is joined to keeps the invariant (`join`)
     pub join_preserves : (j : ℕ) (w : View) → j ≢ i → get_elem? vs j ≡ some w → BoardInvariant limit D C F T K E H
         (set (set vs i (joint_view v w)) j empty_view)
     join_preserves j w ne f = let theirs = Sighted-each limit C F T vs r.stages j w f in
@@ -401,14 +408,15 @@ module _ (limit : ℕ) (D C F T : ℕ → ℕ) (K : ℕ → Option Block) (E : �
     pub filed_and_taken_agree : (n : ℕ) (b c : Block) → HasPair v.list n b → HasPair v.takes n c → b ≡ c
     filed_and_taken_agree n b c h t = content-one (K n) b c (held.listed n b h) (held.took n c t)
 
-    -- a view lists at most as many numbers as are filed, and takes at most as many as are taken (`list_length_bound`,
-    -- `takes_length_bound`, which also count the numbers that it saw filed or taken and doesn't have)
+    -- a filed number is below `limit`
     filed_in_range : (n : ℕ) → 0 < F n → n < limit
     filed_in_range n h = r.stages.in_range n (omega (arith, h, r.stages.pending_once n))
 
+    -- a taken number is below `limit`
     taken_in_range : (n : ℕ) → 0 < T n → n < limit
     taken_in_range n h = filed_in_range n (omega (arith, h, r.stages.taken_is_filed n))
 
+    -- a number that is in the bench's list is filed, and is there once
     listed_at_most_filed : (n : ℕ) → occurrences n (numbers v.list) ≤ F n
     listed_at_most_filed n = omega (
       arith,
@@ -417,6 +425,7 @@ module _ (limit : ℕ) (D C F T : ℕ → ℕ) (K : ℕ → Option Block) (E : �
           n,
     )
 
+    -- a number that is in the bench's takes is taken, and is there once
     takes_at_most_taken : (n : ℕ) → occurrences n (numbers v.takes) ≤ T n
     takes_at_most_taken n = omega (
       arith,
@@ -424,6 +433,7 @@ module _ (limit : ℕ) (D C F T : ℕ → ℕ) (K : ℕ → Option Block) (E : �
       r.stages.taken_once n,
     )
 
+    -- the numbers that the bench saw filed and didn't file, and those that it filed, are at most as many as are filed
     pub list_length_bound : sum_below (missing_at v.filed (numbers v.list)) limit + length v.list ≤ sum_below F limit
     list_length_bound = omega (
       arith,
@@ -431,6 +441,7 @@ module _ (limit : ℕ) (D C F T : ℕ → ℕ) (K : ℕ → Option Block) (E : �
       length-numbers v.list,
     )
 
+    -- the numbers that the bench saw taken and didn't take, and those that it took, are at most as many as are taken
     pub takes_length_bound : sum_below (missing_at v.taken (numbers v.takes)) limit + length v.takes ≤ sum_below T limit
     takes_length_bound = omega (
       arith,
@@ -438,11 +449,12 @@ module _ (limit : ℕ) (D C F T : ℕ → ℕ) (K : ℕ → Option Block) (E : �
       length-numbers v.takes,
     )
 
-    -- if a view lists at least as many numbers as are filed, every filed number is in its list; the same for taken ones
+    -- if the bench's list is at least as long as there are filed numbers, each filed number is in it
     pub all_listed : sum_below F limit ≤ length v.list → (n : ℕ) → n < limit → F n ≡ occurrences n (numbers v.list)
     all_listed full = occurrences-exact F limit (numbers v.list) filed_in_range listed_at_most_filed
         (omega (arith, full, length-numbers v.list))
 
+    -- if the bench's takes are at least as long as there are taken numbers, each taken number is in them
     pub all_taken : sum_below T limit ≤ length v.takes → (n : ℕ) → n < limit → T n ≡ occurrences n (numbers v.takes)
     all_taken full = occurrences-exact T limit (numbers v.takes) taken_in_range takes_at_most_taken
         (omega (arith, full, length-numbers v.takes))
@@ -450,36 +462,46 @@ module _ (limit : ℕ) (D C F T : ℕ → ℕ) (K : ℕ → Option Block) (E : �
     -- the bench that has the whole share won each draw that was won, filed each number that was filed, and took each
     -- that was taken, and no other bench has a number pending
     module _ (all : IsWholeShare v.share) where
-      own : (g : View → ℕ) → ((u : View) → u.list ≡ [] → u.takes ≡ [] → u.draws ≡ [] → u.pending ≡ [] → g u ≡ 0)
+      -- the sum of g over all views is g v, if g is 0 for a view without list, takes, draws and pending numbers
+      sum_by-whole_share : (g : View → ℕ)
+          → ((u : View) → u.list ≡ [] → u.takes ≡ [] → u.draws ≡ [] → u.pending ≡ [] → g u ≡ 0)
           → sum_by g vs ≡ g v
-      own g none = sum_of_sole_owner (λ (u : View). u.share) r.shares.k vs (r.shares.fit, r.shares.whole) i v e all g
+      sum_by-whole_share g none = sum_of_sole_owner (λ (u : View). u.share) r.shares.k vs (r.shares.fit, r.shares.whole)
+          i v e all g
           (λ j u at z. let h = r.shares.no_share_has_nothing j u at z in none u h.list h.takes h.draws h.pending)
 
+      -- the bench won each draw that was won
       pub own_draws : (d : ℕ) → D d ≡ occurrences d v.draws
-      own_draws d = sym (r.draws.won_once d) ∙ own (λ u. occurrences d u.draws) (λ u a b c z. ap (occurrences d) c)
+      own_draws d = sym (r.draws.won_once d)
+          ∙ sum_by-whole_share (λ u. occurrences d u.draws) (λ u a b c z. ap (occurrences d) c)
 
+      -- the bench filed each number that was filed
       pub own_list : (n : ℕ) → F n ≡ occurrences n (numbers v.list)
-      own_list n = sym (r.stages.filed_once n) ∙ own (λ u. occurrences n (numbers u.list))
+      own_list n = sym (r.stages.filed_once n) ∙ sum_by-whole_share (λ u. occurrences n (numbers u.list))
           (λ u a b c z. ap (λ (l : List (ℕ × Block)). occurrences n (numbers l)) a)
 
+      -- the bench took each number that was taken
       pub own_takes : (n : ℕ) → T n ≡ occurrences n (numbers v.takes)
-      own_takes n = sym (r.stages.taken_once n) ∙ own (λ u. occurrences n (numbers u.takes))
+      own_takes n = sym (r.stages.taken_once n) ∙ sum_by-whole_share (λ u. occurrences n (numbers u.takes))
           (λ u a b c z. ap (λ (l : List (ℕ × Block)). occurrences n (numbers l)) b)
 
+      -- each claimed number is pending with the bench or in its list
       pub own_claims : (n : ℕ) → C n ≡ occurrences n v.pending + occurrences n (numbers v.list)
       own_claims n = omega (
         arith,
         r.stages.pending_once n,
         own_list n,
-        own (λ u. occurrences n u.pending)
+        sum_by-whole_share (λ u. occurrences n u.pending)
             (λ u a b c z. ap (occurrences n) z),
       )
 
+      -- the bench's list is as long as there are filed numbers
       pub whole_listed : sum_below F limit ≡ length v.list
       whole_listed = sum_below-agree F (λ n. occurrences n (numbers v.list)) limit (λ n _. own_list n)
           ∙ (sym (length-sum_below (numbers v.list) limit (λ n h. filed_in_range n (omega (arith, h, own_list n))))
           ∙ length-numbers v.list)
 
+      -- the bench's takes are as long as there are taken numbers
       pub whole_taken : sum_below T limit ≡ length v.takes
       whole_taken = sum_below-agree T (λ n. occurrences n (numbers v.takes)) limit (λ n _. own_takes n)
           ∙ (sym (length-sum_below (numbers v.takes) limit (λ n h. taken_in_range n (omega (arith, h, own_takes n))))

@@ -28,7 +28,8 @@ set_bits-true first bits zero m h = absurd (omega arith)
 set_bits-true first bits (suc c) m h = set_bits-true_step first bits c m (set_bits-true first bits c m)
     (bits c == 1) refl h
 
--- if the bit i is 1, first + i occurs with the bit c, if it does with the bits before c where i is one of these
+-- if the bit i, which is at most c, is 1, first + i occurs among the numbers for the bits up to c, provided that, for i
+-- before c, it occurs among those for the bits before c
 set_bits-all_step : (first : ℕ) (bits : ℕ → ℕ) (c i : ℕ) (b : Bool) → (bits c == 1) ≡ b → bits i ≡ 1 → i < suc c
     → (i < c → 0 < occurrences (first + i) (set_bits first bits c)) → 0 < occurrences (first + i)
     (cond b ((first + c) ∷ set_bits first bits c) (set_bits first bits c))

@@ -17,14 +17,15 @@ pub record Bits (x : Stage) : Type 0 where
   pub taken : taken_bit x ≤ filed_bit x
   pub claimed : claimed_bit x ≤ 1
 
--- each stage has such bits
+-- each stage satisfies `Bits`
 pub Bits-of : (x : Stage) → Bits x
 Bits-of Free = record { sum = omega arith; filed = omega arith; taken = omega arith; claimed = omega arith }
 Bits-of Claimed = record { sum = omega arith; filed = omega arith; taken = omega arith; claimed = omega arith }
 Bits-of Filed = record { sum = omega arith; filed = omega arith; taken = omega arith; claimed = omega arith }
 Bits-of Taken = record { sum = omega arith; filed = omega arith; taken = omega arith; claimed = omega arith }
 
--- the stage that was seen isn't after the stage x, if each of the three was seen truly
+-- the stage of a number that was seen taken, filed and claimed t, f and c times isn't after the stage x, if what was
+-- seen is so at x
 pub rank-stage_of : (t f c : ℕ) (x : Stage) → (0 < c → claimed_bit x ≡ 1) → (0 < f → filed_bit x ≡ 1)
     → (0 < t → taken_bit x ≡ 1) → rank (stage_of t f c) ≤ rank x
 rank-stage_of (suc t) f c x h_claimed h_filed h_taken = let b = Bits-of x in
@@ -93,11 +94,11 @@ rank-stage_of_taken : (t f c : ℕ) → 0 < t → 3 ≤ rank (stage_of t f c)
 rank-stage_of_taken zero f c h = absurd (omega arith)
 rank-stage_of_taken (suc t) f c h = omega arith
 
--- the same of what a bench has seen filed
+-- a number that a bench has seen filed was seen at the stage Filed or later
 pub rank-seen_filed : (v : View) (n : ℕ) → 0 < occurrences n v.filed → 2 ≤ rank (seen v n)
 rank-seen_filed v n = rank-stage_of_filed (occurrences n v.taken) (occurrences n v.filed) (occurrences n v.claimed)
 
--- the same of what a bench has seen claimed
+-- a number that a bench has seen claimed was seen at the stage Claimed or later
 pub rank-seen_claimed : (v : View) (n : ℕ) → 0 < occurrences n v.claimed → 1 ≤ rank (seen v n)
 rank-seen_claimed v n = rank-stage_of_claimed (occurrences n v.taken) (occurrences n v.filed) (occurrences n v.claimed)
 
@@ -112,7 +113,7 @@ rank-seen_not_filed v n = by_none (occurrences n v.taken) (occurrences n v.filed
     by_none zero zero zero e g = omega arith
     by_none zero zero (suc c) e g = omega arith
 
--- a bench that has seen a number at least as often taken, filed and claimed has seen it at a stage that isn't earlier
+-- a number that was seen taken, filed and claimed at least as often was seen at a stage that isn't earlier
 rank-stage_of_grows : (t f c t' f' c' : ℕ) → t ≤ t' → f ≤ f' → c ≤ c' → rank (stage_of t f c) ≤ rank (stage_of t' f' c')
 rank-stage_of_grows (suc t) f c t' f' c' a b d = rank-stage_of_taken t' f' c' (omega arith)
 rank-stage_of_grows zero (suc f) c t' f' c' a b d = rank-stage_of_filed t' f' c' (omega arith)
@@ -126,7 +127,8 @@ rank-seen_grows v w n more = rank-stage_of_grows (occurrences n v.taken) (occurr
     (occurrences n w.taken) (occurrences n w.filed) (occurrences n w.claimed) (more.taken n) (more.filed n)
     (more.claimed n)
 
--- the rank of a stage that was seen is at most k, if k is at least that of each kind that was seen
+-- the rank of the stage at which a number was seen is at most k, if k is at least the rank of each stage at which it
+-- was seen
 rank-stage_of_at_most : (t f c k : ℕ) → (0 < t → 3 ≤ k) → (0 < f → 2 ≤ k) → (0 < c → 1 ≤ k) → rank (stage_of t f c) ≤ k
 rank-stage_of_at_most (suc t) f c k a b d = a (omega arith)
 rank-stage_of_at_most zero (suc f) c k a b d = b (omega arith)

@@ -22,19 +22,19 @@ use Rattle.vme_core.proofs.Sums.{occurrences-cons_other, occurrences-append, eac
 pub cons-not_empty : {x : ℕ} {xs : List ℕ} → x ∷ xs ≡ [] → ⊥
 cons-not_empty z = omega (arith, ap length z)
 
--- F holds of each view after the view i became w
+-- F holds of each view after the view i became w, if it held of each view before, and holds of w
 pub each-after_set : (F : View → Type 0) (vs : List View) (i : ℕ) (w : View) → F w
     → ((j : ℕ) (u : View) → get_elem? vs j
     ≡ some u → F u) → (j : ℕ) (u : View) → get_elem? (set vs i w) j ≡ some u → F u
 each-after_set F vs i w new old j u e = ⊎_elim (λ t. subst F t.1 new) (λ t. old j u t.1) (get_elem-of_set vs i j w u e)
 
--- F holds of each view after the view w was added
+-- F holds of each view after the view w was added, if it held of each view before, and holds of w
 pub each-after_append : (F : View → Type 0) (vs : List View) (w : View) → F w
     → ((j : ℕ) (u : View) → get_elem? vs j ≡ some u
     → F u) → (j : ℕ) (u : View) → get_elem? (vs ++ w ∷ []) j ≡ some u → F u
 each-after_append F vs w new old j u e = ⊎_elim (λ a. old j u a) (λ a. subst F a new) (get_elem-of_push vs w u j e)
 
--- F holds of each view after the views i and j became b and s
+-- F holds of each view after the views i and j became b and s, if it held of each view before, and holds of b and s
 each-after_two_set : (F : View → Type 0) (vs : List View) (i j : ℕ) (b s : View) → F b → F s
     → ((k : ℕ) (u : View) → get_elem? vs k ≡ some u → F u) → (k : ℕ) (u : View) → get_elem? (set (set vs i b) j s) k
     ≡ some u → F u
@@ -63,8 +63,8 @@ append-empty [] ys z = (refl, z)
 append-empty (x ∷ xs) ys z = absurd (cons-not_empty z)
 
 module _ (drawn : ℕ → ℕ) (vs : List View) (r : DrawInvariant drawn vs) where
-  -- `DrawInvariant` holds after the view i became w, if each draw is drawn just if it was, or if w has won it, and w
-  -- has found drawn draws alone
+  -- `DrawInvariant` holds after the view i became w, if w has won, beyond what it had, just the draws that are newly
+  -- drawn, and has found drawn draws alone
   pub DrawInvariant-set : (drawn' : ℕ → ℕ) (i : ℕ) (v w : View) → get_elem? vs i ≡ some v → ((d : ℕ) → drawn' d ≤ 1)
       → ((d : ℕ) → drawn d ≤ drawn' d)
       → ((d : ℕ) → occurrences d w.draws + drawn d ≡ occurrences d v.draws + drawn' d)
@@ -86,8 +86,8 @@ module _ (drawn : ℕ → ℕ) (vs : List View) (r : DrawInvariant drawn vs) whe
     found = each-after_append (λ u. (d : ℕ) → 0 < occurrences d u.found → drawn d ≡ 1) vs w found r.found;
   }
 
-  -- `DrawInvariant` holds after the views i and j became b and s, which together have won the same draws, and found
-  -- drawn draws alone
+  -- `DrawInvariant` holds after the views i and j became b and s, which together have won the draws that the two had
+  -- won, and have found drawn draws alone
   pub DrawInvariant-join : (i j : ℕ) (v w b s : View) → get_elem? vs i ≡ some v → j ≢ i → get_elem? vs j ≡ some w
       → ((d : ℕ) → occurrences d b.draws + occurrences d s.draws ≡ occurrences d v.draws + occurrences d w.draws)
       → ((d : ℕ) → 0 < occurrences d b.found → drawn d ≡ 1) → ((d : ℕ) → 0 < occurrences d s.found → drawn d ≡ 1)
@@ -181,8 +181,9 @@ module _ (limit : ℕ) (c f t : ℕ → ℕ) (vs : List View) (r : StageInvarian
   pub Sighted-each : (i : ℕ) (v : View) → get_elem? vs i ≡ some v → Sighted c f t v
   Sighted-each i v e = record { claimed = r.saw_claimed i v e; filed = r.saw_filed i v e; taken = r.saw_taken i v e }
 
-  -- `StageInvariant` holds after the view i became w and the bits c', f' and t', if no bit went back, and w has
-  -- pending, lists and took just what the bits gained, and what it has seen is so
+  -- `StageInvariant` holds after the view i became w and the bits c', f' and t', if these bits are in order and none
+  -- went back, w differs in what it has pending, filed and took by just what the bits gained, and what it has seen is
+  -- so
   pub StageInvariant-set : (c' f' t' : ℕ → ℕ) (i : ℕ) (v w : View) → get_elem? vs i ≡ some v → ((n : ℕ) → c' n ≤ 1)
       → ((n : ℕ) → 0 < c' n → n < limit) → ((n : ℕ) → t' n ≤ f' n)
       → ((n : ℕ) → c n ≤ c' n) → ((n : ℕ) → f n ≤ f' n) → ((n : ℕ) → t n ≤ t' n)
@@ -227,8 +228,8 @@ module _ (limit : ℕ) (c f t : ℕ → ℕ) (vs : List View) (r : StageInvarian
       (λ n. le_refl _) (λ n. le_refl _) (λ n. omega (arith, p n)) (λ n. omega (arith, l n)) (λ n. omega (arith, k n))
       saw
 
-  -- `StageInvariant` holds after a view w was added that has nothing pending, lists and took no number, and whose
-  -- sights are so
+  -- `StageInvariant` holds after a view w was added that has nothing pending, filed and took no number, and satisfies
+  -- `Sighted`
   pub StageInvariant-append : (w : View) → ((n : ℕ) → occurrences n w.pending ≡ 0)
       → ((n : ℕ) → occurrences n (numbers w.list)
       ≡ 0) → ((n : ℕ) → occurrences n (numbers w.takes) ≡ 0) → Sighted c f t w → StageInvariant limit c f t
@@ -256,8 +257,8 @@ module _ (limit : ℕ) (c f t : ℕ → ℕ) (vs : List View) (r : StageInvarian
     saw_taken = each-after_append (λ u. (n : ℕ) → 0 < occurrences n u.taken → t n ≡ 1) vs w saw.taken r.saw_taken;
   }
 
-  -- `StageInvariant` holds after the views i and j became b and s, which together have the same numbers pending, listed
-  -- and taken, and whose sights are so
+  -- `StageInvariant` holds after the views i and j became b and s, which together have the same numbers pending, filed
+  -- and taken as the two had, and satisfy `Sighted`
   pub StageInvariant-join : (i j : ℕ) (v w b s : View) → get_elem? vs i ≡ some v → j ≢ i → get_elem? vs j ≡ some w
       → ((n : ℕ) → occurrences n b.pending + occurrences n s.pending ≡ occurrences n v.pending + occurrences n
       w.pending)
@@ -313,7 +314,7 @@ pub record Placed (c f t : ℕ → ℕ) (K : ℕ → Option Block) (E : ℕ → 
 -- c, f and t are the bits `claimed`, `filed` and `taken`, K is `content`, E is `IsEmpty`, and H is `IsFilled`
 module _ (c f t : ℕ → ℕ) (K : ℕ → Option Block) (E : ℕ → Type 0) (H : ℕ → Block → Type 0) (vs : List View)
     (r : ContentInvariant c f t K E H vs) where
-  -- `ContentInvariant` has the part that isn't about views
+  -- `ContentInvariant` implies `Placed`, the part that isn't about views
   pub Placed-contents : Placed c f t K E H
   Placed-contents = record {
     free_is_empty = r.free_is_empty;
@@ -327,8 +328,8 @@ module _ (c f t : ℕ → ℕ) (K : ℕ → Option Block) (E : ℕ → Type 0) (
   pub Holding-each : (i : ℕ) (v : View) → get_elem? vs i ≡ some v → Holding K v
   Holding-each i v e = record { listed = r.listed i v e; took = r.took i v e }
 
-  -- `ContentInvariant` holds after the view i became w, and bits, contents and slots others that agree, if no content
-  -- was lost
+  -- `ContentInvariant` holds after the view i became w, and the bits, contents and slots others that satisfy `Placed`,
+  -- if no content was lost and w satisfies `Holding`
   pub ContentInvariant-set : (c' f' t' : ℕ → ℕ) (K' : ℕ → Option Block) (E' : ℕ → Type 0) (H' : ℕ → Block → Type 0)
       (i : ℕ)
       (w : View) → Placed c' f' t' K' E' H' → ((n : ℕ) (b : Block) → K n ≡ Some b → K' n ≡ Some b) → Holding K' w
@@ -396,7 +397,7 @@ pub each-of_first_view : (F : View → Type 0) → F first_view → (i : ℕ) (v
     ≡ some v → F v
 each-of_first_view F f i v e = subst F (get_elem-of_one first_view v i e) f
 
--- the first bench has the whole share
+-- `ShareInvariant` holds of a board with the first view alone, which has the whole share
 pub ShareInvariant-first : ShareInvariant (first_view ∷ [])
 ShareInvariant-first = record {
   k = 0;

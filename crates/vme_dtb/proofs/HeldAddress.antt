@@ -35,7 +35,7 @@ use Rattle.vme_dtb.proofs.Needed.{needs_of-below, needs_of-same}
 use Rattle.vme_dtb.proofs.Lasting.{any-and, none-shorter}
 use Rattle.vme_dtb.proofs.StabilityMeaning.{Holds, holds_address, keeps_address-any}
 
--- if the first of two options is none, both are
+-- if `option_or` of two options is none, both are
 option_or-none_parts : {A : Type 0} (a b : Option A) → option_or a b ≡ None → (a ≡ None) × (b ≡ None)
 option_or-none_parts None b h = (refl, h)
 option_or-none_parts (Some x) b h = absurd (cc)
@@ -200,7 +200,7 @@ module _ (t : Trace) (stretch : Stretch) where
     )
         refl
 
-    -- a line that the cycle needs has no edge up to n
+    -- a line below 45 that the cycle needs has no edge up to n
     has_edge-held : (k l : ℕ) → i ≤ k → suc k ≤ n → is_needed (levels_at t i) l ≡ true → l < 45 → has_edge t l (suc k)
         ≡ false
     unfolding breaks is_broken
@@ -219,7 +219,7 @@ module _ (t : Trace) (stretch : Stretch) where
     level_at-no_edge k l h = same_level-equal (level_at (levels_at t k) l) (level_at (levels_at t (suc k)) l)
         (rw (suc-sub-one k) at h)
 
-    -- a line that the cycle needs has, at each instant up to n, the level of its start
+    -- a line below 45 that the cycle needs has, at each instant up to n, the level of its start
     level_at-held : (k l : ℕ) → i ≤ k → k ≤ n → is_needed (levels_at t i) l ≡ true → l < 45 → level_at (levels_at t k) l
         ≡ level_at (levels_at t i) l
     level_at-held zero l from to needed small = let e : i ≡ 0 = omega arith in rw e refl
@@ -341,7 +341,7 @@ module _ (t : Trace) (stretch : Stretch) where
     unfolding breaks is_broken has_edge is_needed
     breaks-S1 l = rw (suc-sub-one n, any-needed_held l) refl
 
-    -- a line that a cycle needs is a line
+    -- a line that a cycle needs is below `line_count`
     is_within-below_line_count : (l : ℕ) → is_within (needs_of old) l ≡ true → l < line_count
     is_within-below_line_count l h = omega (arith, needs_of-below old l h)
 

@@ -125,7 +125,8 @@ may_write-of_write : (h l d z : Bool) → cond h (l && d) z ≡ true → (not h 
 may_write-of_write true l d z e = (and_parts l d e).1
 may_write-of_write false l d z e = refl
 
--- if the instant is judged, and the write is held, the rule is broken on a line exactly if the line moves
+-- if the instant is judged, and the data of a write is held, S3 is broken on a line exactly if the line exists, is
+-- moved by the transfer and gets another level
 shifted-by_tests : (j h s e q k d : Bool) → j ≡ true → q ≡ (k && d) → (k && d) ≡ true → (j && h && (s && e && q))
     ≡ (h && h && (s && e))
 shifted-by_tests j h s e q k d jt qk kd = rw (jt, qk, kd) (by_tests h s e)
@@ -381,7 +382,7 @@ module _ (t : Trace) (stretch : Stretch) (reads : ReadsStrobes t stretch) (n : �
       (is_judged-next t stretch reads n from before) in_transfer-keeps_data (rw (k, d) refl)
       ∙ rw (slots_at t n, slots_at t (suc n)) refl
 
-  -- a line that is shifted is a line
+  -- a line that is shifted is below `line_count`
   is_shifted-below : (l : ℕ) → is_shifted old new l ≡ true → l < line_count
   is_shifted-below l h = let within : l < 191 = is_selected-to old l
       (and_parts _ _ (and_parts (has_line old.slots l && has_line new.slots l) _ h).1).0 in omega arith
@@ -394,7 +395,8 @@ module _ (t : Trace) (stretch : Stretch) (reads : ReadsStrobes t stretch) (n : �
       (is_selected old l) (not (same_level (level_at old l) (level_at new l))) (in_transfer t stretch is_held (suc n))
       (in_transfer-keeps_data ∙ h)))
 
-  -- the least line that breaks S3 is the first changed data line of a write that has had no answer and no rising strobe
+  -- the least line that breaks S3 is the first changed line that a write moved, without an answer and a rising strobe
+  -- so far
   pub least-S3 : (cs : List Change) → new ≡ changed old cs → are_changes old 0 cs ≡ true
       → least (breaks t stretch S3 (suc n)) 0 line_count ≡ shifted_fault m old new (observation_of old new cs)
   least-S3 cs stepped fit = by_tests (keeps_data m old new) (is_low (level_at old WRITE)) refl refl

@@ -250,7 +250,7 @@ module _ (v w : Levels) where
       (first_of (falls_between v w DS0) DS0 (falls_between v w DS1) DS1)
       (cond (starts_between v w) (Some (is_low (level_at w WRITE))) None) (closes_between v w) (rises_between v w AS)
 
-  -- a step in which the strobes move, from a low AS*, has these edges
+  -- a step in which the strobes move, from a low AS*, has the edges `strobes_here`
   pub strobes_here-between : is_strobes_alone v w ≡ true → strobes_here ≡ edges_between v w
   strobes_here-between alone =
       let all = and-four_parts (is_low (level_at v AS)) (stays_on v w DTACK) (stays_on v w BERR)

@@ -53,12 +53,12 @@ next-same_parts : (p l : TransferPhase) (k : StepMarks) (c d : CyclePhase) (x y 
     })
 next-same_parts p l k c d x y h q r a b o e f g i = rw (o, e, f, g, i) refl
 
--- none is none under each test
+-- a choice between none and none is none
 cond-none : (b : Bool) → let none : Option ℕ = None in cond b none none ≡ none
 cond-none true = refl
 cond-none false = refl
 
--- there is a first of k if a, and l if b, exactly if a or b holds
+-- `first_of` has a value exactly if one of its two tests holds
 is_some-first_of : (a b : Bool) (k l : ℕ) → is_some (first_of a k b l) ≡ (a || b)
 is_some-first_of true b k l = refl
 is_some-first_of false true k l = refl
@@ -70,7 +70,7 @@ fault_if-no_line r false false k l h = refl
 fault_if-no_line r true b k l h = absurd (cc)
 fault_if-no_line r false true k l h = absurd (cc)
 
--- if no rule on the strobes is broken, H2 isn't
+-- if the strobes break no rule, H2 isn't broken by a strobe that rises at a step without an answer
 fault_if-H2 : (p : TransferPhase) (a b e f : Bool) → strobes_break_rule p (a || b) e f ≡ false
     → fault_if H2 (is_unanswered p && true)
     (first_of a DS0 b DS1) ≡ None
@@ -79,7 +79,7 @@ fault_if-H2 Answered a b e f h = refl
 fault_if-H2 Reading a b e f h = fault_if-no_line H2 a b DS0 DS1 (or_parts (a || b) e h).0
 fault_if-H2 Writing a b e f h = fault_if-no_line H2 a b DS0 DS1 (or_parts (a || b) e h).0
 
--- if no rule on the strobes is broken, H3 isn't
+-- if the strobes break no rule, H3 isn't broken by a strobe that falls
 fault_if-H3 : (p : TransferPhase) (r e a b : Bool) → strobes_break_rule p r e (a || b) ≡ false
     → fault_if H3 (is_replied p) (first_of a DS0 b DS1) ≡ None
 fault_if-H3 Closed r e a b h = refl
@@ -87,7 +87,7 @@ fault_if-H3 Reading r e a b h = refl
 fault_if-H3 Writing r e a b h = refl
 fault_if-H3 Answered r e a b h = fault_if-no_line H3 a b DS0 DS1 h
 
--- if no rule on the strobes is broken, the cycle doesn't end in a transfer without an answer
+-- if the strobes break no rule, the cycle doesn't end in a transfer without an answer
 cycle_end-unbroken : (p : TransferPhase) (r e f : Bool) → strobes_break_rule p r e f ≡ false
     → ((is_unanswered p && true) && e)
     ≡ false
@@ -104,7 +104,7 @@ unanswered-one_answer Writing h = (refl, refl, refl)
 unanswered-one_answer Closed h = absurd (cc)
 unanswered-one_answer Answered h = absurd (cc)
 
--- a phase that is closed if h is the same when it is closed if h again
+-- to close a phase twice, if h, is to close it once, if h
 pub cond_closed_twice : (h : Bool) (p : TransferPhase) → cond h Closed (cond h Closed p) ≡ cond h Closed p
 cond_closed_twice true p = refl
 cond_closed_twice false p = refl
@@ -292,7 +292,7 @@ module _ (m : HandshakeMemory) (v w : Levels) where
         };
       }
 
-  -- what a step gives in which DTACK* alone falls, and answers a transfer
+  -- what a step gives in which DTACK* alone falls, and answers a transfer, while AS* is low before or after it
   pub dtb_next-answer_alone : is_answer_alone v w ≡ true → falls_between v w DTACK ≡ true → is_addressed v w ≡ true
       → is_unanswered m.transfer ≡ true
       → record {

@@ -73,7 +73,7 @@ module _ (listing : Bool) (s : SegmentValue) (b : Block) (a : StandsForFile list
       ≡ option_map (λ (x : Step). b.number) (slice_get b.steps 0)
   number-of_file = a.stands.numbered ∙ sym (first_with_step-one_file b.number b refl)
 
-  -- the segment has the tables that a segment has
+  -- the segment satisfies `HasTables`
   pub HasTables-of_file : HasTables s
   HasTables-of_file = record {
     known = record { ways = a.stands.known.ways; counted = a.stands.known.counted };

@@ -145,7 +145,7 @@ module _ (total : ℕ) (ds : List Block) (v : View) (replies : List Reply) (answ
       let one = did.list b.number (subst (λ (m : ℕ). HasSeen v m Claimed) n_is saw) in let filed = w.filed b.number in
       IsFiledNumber-filings b.number (omega (arith, one, filed))
 
-  -- the first claim
+  -- the first claim of a run: `HasAnswers` holds of the answers, if the bench did all that it has seen done
   pub HasAnswers-work : DidAll v → HasAnswers total ds answers
   HasAnswers-work did = record {
     count = count;
@@ -167,7 +167,8 @@ module _ (total : ℕ) (ds : List Block) (v : View) (replies : List Reply) (answ
       filed = λ n b at. (IsFiled-content n b (slice_get-contents bs contents (sym all) n b at)).1;
     }
 
-    -- the second claim
+    -- the second claim of a run: `IsRecorded` holds of the recording and the span of blocks that join, if these are all
+    -- the contents
     pub IsRecorded-whole : (whole : Whole) (bs : List Block) → IsWhole contents whole bs → IsRecorded total ds answers
         whole.capture whole.span
     IsRecorded-whole whole bs is = record {
@@ -179,7 +180,8 @@ module _ (total : ℕ) (ds : List Block) (v : View) (replies : List Reply) (answ
       first = is.starts;
     }
 
-    -- the third claim
+    -- the third claim of a run: the least place of the contents without a block is the least number of which no
+    -- delivery was filed
     pub IsLeastUnfiled-missing : (n : ℕ) → Inserted.IsLeastMissing contents n → IsLeastUnfiled total ds answers n
     IsLeastUnfiled-missing n e = record {
       within = let c = is_closed.count in let l = e.within in omega (arith, c, l);
@@ -191,7 +193,7 @@ module _ (total : ℕ) (ds : List Block) (v : View) (replies : List Reply) (answ
           (c.0, f.0, f.1);
     }
 
-    -- if the block of n doesn't join those before it, and all do before, the claim of a torn number holds
+    -- if the block at n is the first of the contents that doesn't join those before it, `IsTorn` holds of n
     pub IsTorn-first : (n : ℕ) (bs : List Block) → Inserted.IsLeastTorn contents n bs → IsTorn total ds answers n
     IsTorn-first n bs torn = record {
       blocks = bs;

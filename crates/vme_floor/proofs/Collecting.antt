@@ -68,7 +68,7 @@ block_count-all (None ∷ xs) all = let first = all zero (omega arith) in
     absurd (Some-not_none first.0 (sym (same_Some no_block (Some first.0) first.1)))
 block_count-all (Some b ∷ xs) all = ap suc (block_count-all xs (λ n low. all (suc n) (omega (arith, low))))
 
--- free places have no block
+-- there are 0 blocks in n free places
 block_count-none : (n : ℕ) → block_count (replicate n no_block) ≡ 0
 block_count-none zero = refl
 block_count-none (suc n) = block_count-none n
@@ -93,7 +93,7 @@ IsCollected-first total v c t book count none = record {
       absurd (omega (arith, z, some));
 }
 
--- `IsCollected` holds if the bench took nothing and saw at least as much
+-- `IsCollected` holds still if the bench took nothing more, and has seen filed at least what it had
 pub IsCollected-same : (total : ℕ) (v w : View) (c : Collection) → IsCollected total v c → w.takes ≡ v.takes
     → ((n : ℕ) → occurrences n v.filed ≤ occurrences n w.filed) → IsCollected total w c
 IsCollected-same total v w c k same more = record {
@@ -217,7 +217,7 @@ IsKnownTaken-stays v w n more gone = let g : 0 < occurrences n (numbers v.takes)
     let a = more.takes n in let b = more.sees.taken n in let on : 0 < occurrences n (numbers w.takes) + occurrences n
     w.taken = omega (arith, g, a, b) in on
 
--- who has seen more than one who has seen more has seen more
+-- if v sees more than u, and w more than v, then w sees more than u
 pub SeesMore-transitive : (u v w : View) → SeesMore u v → SeesMore v w → SeesMore u w
 SeesMore-transitive u v w a b = record {
   found = λ d. let x = a.found d in let y = b.found d in omega (arith, x, y);
@@ -226,7 +226,8 @@ SeesMore-transitive u v w a b = record {
   taken = λ d. let x = a.taken d in let y = b.taken d in omega (arith, x, y);
 }
 
--- after one more delivery each number that the bench filed is taken
+-- if each number that the bench filed was taken, and that of the next delivery is taken if it was filed, each is taken
+-- after this delivery
 pub OwnAreTaken-next : (board : Board) (ds : List Block) (u v w : View) (r : Reply) (n : ℕ) → IsDelivered board ds u v r
     → TakesOnly v w → number_at ds r.delivery ≡ n → (r.answer ≡ Filed → IsKnownTaken w n) → OwnAreTaken u → OwnAreTaken
     w

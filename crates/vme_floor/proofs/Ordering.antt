@@ -12,17 +12,17 @@ pub slice_get-contents : (bs : List Block) (contents : List (Option Block)) → 
 slice_get-contents bs contents is n b at = ap (λ (xs : List (Option Block)). slice_get xs n) (sym is)
     ∙ (slice_get-map (λ (x : Block). Some x) bs n ∙ ap (λ (o : Option Block). option_map (λ (x : Block). Some x) o) at)
 
--- as many places with a block as blocks
+-- `map Some` of blocks is as long as the list of the blocks
 length-map_some : (bs : List Block) → length (map (λ (b : Block). Some b) bs) ≡ length bs
 length-map_some [] = refl
 length-map_some (b ∷ bs) = ap suc (length-map_some bs)
 
--- there are as many blocks as places
+-- if the contents are the blocks bs, there are as many blocks as places
 pub length-contents : (bs : List Block) (contents : List (Option Block)) → map (λ (b : Block). Some b) bs ≡ contents
     → length bs ≡ length contents
 length-contents bs contents is = sym (length-map_some bs) ∙ ap (λ (xs : List (Option Block)). length xs) is
 
--- each place has a block
+-- if the contents are the blocks bs, each place has a block
 pub HasBlock-contents : (bs : List Block) (contents : List (Option Block)) → map (λ (b : Block). Some b) bs ≡ contents
     → (n : ℕ)
     → n < length contents → (b : Block) × (slice_get contents n ≡ Some (Some b))

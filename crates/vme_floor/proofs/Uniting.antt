@@ -57,12 +57,12 @@ module _ (xs ys : Blocks) (i : ℕ) (zs rest more : Blocks) (x : Option Block) (
   slice_get-next = let e : i + 0 ≡ i = omega arith in sym (p.rest_is 0 ∙ ap (slice_get ys) e)
       ∙ ap (λ (l : Blocks). slice_get l 0) is
 
-  -- `more` is the rest of ys after it
+  -- `more` is the rest of ys after the place i
   IsRest-next : IsRest ys (i + 1) more
   IsRest-next k = let e : i + suc k ≡ i + 1 + k = omega arith in sym (ap (λ (l : Blocks). slice_get l (suc k)) is)
       ∙ (p.rest_is (suc k) ∙ ap (slice_get ys) e)
 
-  -- the places up to it and after it are those of ys
+  -- the places up to i and the rest after it are as many as those of ys
   length-rest_next : i + 1 + length more ≡ length ys
   length-rest_next = let c = p.counted in let l = ap (λ (l : Blocks). length l) is in omega (arith, c, l)
 

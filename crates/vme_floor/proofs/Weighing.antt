@@ -26,13 +26,13 @@ draws_of d r = cond (d == r.delivery) 1 0
 abbrev pub files_of : List Block → ℕ → Reply → ℕ
 files_of ds n r = filing r.answer (number_at ds r.delivery) n
 
--- the replies to d, counted
+-- the weight by `draws_of d` is the number of replies to the delivery d
 pub weigh-draws_of : (d : ℕ) (replies : List Reply) → weigh (draws_of d) replies ≡ occurrences d (replied replies)
 unfolding weigh
 weigh-draws_of d [] = refl
 weigh-draws_of d (r ∷ rs) = omega (arith, weigh-draws_of d rs)
 
--- the replies that say that n is filed, counted
+-- the weight by `files_of` is the number of replies that say that n is filed
 pub weigh-files_of : (ds : List Block) (n : ℕ) (replies : List Reply) → weigh (files_of ds n) replies
     ≡ filings ds replies n
 unfolding weigh
@@ -61,7 +61,7 @@ weigh-two f (x ∷ xs) (suc k) (suc l) r s ne at there = omega (
       there,
 )
 
--- if the weight of all is positive, that of one is
+-- if the weight of all replies is positive, that of some reply is
 pub weigh-some : (f : Reply → ℕ) (replies : List Reply) → 0 < weigh f replies → (k : ℕ) × (r : Reply)
     × (slice_get replies k ≡ Some r) × (0 < f r)
 unfolding weigh
@@ -82,7 +82,7 @@ filing-positive Memory m n h = absurd (omega arith)
 pub filing-here : (m n : ℕ) → n ≡ m → filing Filed m n ≡ 1
 filing-here m n e = let one : ℕ = 1 in let nil : ℕ = 0 in ap (λ b. cond b one nil) (eq-eqb n m e)
 
--- a number occurs once more in a list with a pair of that number before it
+-- n occurs once more among the numbers of a list with a pair of the number n put before it
 occurrences-first : (n m : ℕ) (b : Block) (xs : List (ℕ × Block)) → m ≡ n → occurrences n (numbers ((m, b) ∷ xs))
     ≡ 1 + occurrences n (numbers xs)
 occurrences-first n m b xs e = ap (λ (y : ℕ). occurrences n (y ∷ numbers xs)) e ∙ occurrences-cons_same n (numbers xs)

@@ -45,7 +45,7 @@ Each-map : {A : Type 0} (P Q : A → Type 0) → ((x : A) → P x → Q x) → (
 Each-map P Q f [] e = tt
 Each-map P Q f (x ∷ xs) e = (f x e.0, Each-map P Q f xs e.1)
 
--- the replies of both lists that say that n is filed are those of each
+-- the replies of two lists, appended, that say that n is filed are as many as those of both together
 filings-append : (ds : List Block) (xs ys : List Reply) (n : ℕ) → filings ds (xs ++ ys) n ≡ filings ds xs n + filings ds
     ys n
 filings-append ds [] ys n = omega arith
@@ -258,7 +258,7 @@ IsWork-joint total ds v w u xs ys is a b d n =
       files_once = λ k. let x = filed k in let y = n k in omega (arith, x, y);
     }
 
--- `IsWork` holds of a bench that has taken or seen more
+-- `IsWork` holds still of a bench that has drawn and filed nothing more, and has seen at least what it had
 pub IsWork-more : (total : ℕ) (ds : List Block) (v w : View) (rs : List Reply) → w.list ≡ v.list → w.draws ≡ v.draws
     → SeesMore v w → IsWork total ds v rs → IsWork total ds w rs
 IsWork-more total ds v w rs list draws sees k = record {

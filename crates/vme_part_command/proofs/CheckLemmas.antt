@@ -33,14 +33,14 @@ module _ (number : ℕ) (listing : Bool) (start : Option ℕ) (file : Option Fil
   FileComesTo-few t count true comes e = absurd (cc)
   FileComesTo-few t count false comes e = comes
 
-  -- a recording with too many steps is one of which this is known
+  -- `FileComesTo` holds, with the flag true, of a recording with too many steps
   pub FileComesTo-of_many : (t : Trace) (count : ℕ) (flag : Bool) → flag ≡ true → capture_limit < length t.steps
       → FileComesTo number listing start file pending count flag t
   FileComesTo-of_many t count true e many = many
   FileComesTo-of_many t count false e many = absurd (cc)
 
-  -- a recording whose steps are counted, at most as many as the limit, and partly pending, is one of which this is
-  -- known
+  -- `FileComesTo` holds, with the flag false, of a recording whose steps are counted, at most as many as the limit, and
+  -- of which all but the pending ones are judged
   pub FileComesTo-of_few : (t : Trace) (count : ℕ) (flag : Bool) → flag ≡ false → count ≡ length t.steps
       → count ≤ capture_limit → IsPending number listing start file pending t
       → FileComesTo number listing start file pending count flag t
@@ -58,7 +58,7 @@ module _ (number : ℕ) (listing : Bool) (start : Option ℕ) (file : Option Fil
       found = p.found;
     }
 
-    -- all pending steps may be judged
+    -- if t may be judged, the judged steps may go on with the pending ones
     pub FileMayGoOn-all_pending : MayBeJudged t → FileMayGoOn p.judged pending
     FileMayGoOn-all_pending may = record {
       formed = ap malformed_step p.all ∙ may.formed;
@@ -79,7 +79,7 @@ module _ (number : ℕ) (listing : Bool) (start : Option ℕ) (file : Option Fil
           ∙ ap (λ (l : List Step). p.judged.steps ++ l) (take-append-drop n pending))
           ∙ p.all
 
-      -- the first n pending steps may be judged
+      -- if t may be judged, the judged steps may go on with the first n pending ones
       pub FileMayGoOn-first_pending : MayBeJudged t → FileMayGoOn p.judged (take n pending)
       FileMayGoOn-first_pending may = record {
         formed = (SoundParts-of_well_formed p.judged.opening (p.judged.steps ++ take n pending) (drop n pending)
@@ -105,11 +105,11 @@ module _ (number : ℕ) (listing : Bool) (start : Option ℕ) (file : Option Fil
 
 -- ---- the limit of a recording
 
--- a number of at most `capture_limit` passes the test
+-- `capture_limit` isn't less than a number that is at most `capture_limit`
 capture_limit-not_below : (n : ℕ) → n ≤ capture_limit → nat_lt capture_limit n ≡ false
 capture_limit-not_below n few = grind (arith, nat_tests)
 
--- a number above `capture_limit` fails the test
+-- `capture_limit` is less than a number above it
 capture_limit-below : (n : ℕ) → capture_limit < n → nat_lt capture_limit n ≡ true
 capture_limit-below n many = grind (arith, nat_tests)
 
@@ -122,7 +122,8 @@ pub limited-many_steps : (t : Trace) → capture_limit < length t.steps
     → limited t ≡ Err (record { line = 0; kind = TooManySteps })
 limited-many_steps t many = rw (capture_limit-below (length t.steps) many) refl
 
--- a well-formed recording with at most `capture_limit` steps may be judged
+-- a recording with more steps may be judged if it is well-formed and the count with these steps is at most
+-- `capture_limit`
 pub MayBeJudged-counted : (t : Trace) (steps : List Step) (count next : ℕ) → count ≡ length t.steps
     → next ≡ count + length steps → next ≤ capture_limit → malformed_step (with_steps t steps) ≡ None
     → MayBeJudged (with_steps t steps)

@@ -30,7 +30,7 @@ AppendsFront-take old new text took =
     let (front, rest, split, appended) = took in
     (length front, subst (λ (bytes : List ℕ). Appends old new bytes) (take-done text front rest split) appended)
 
--- a command that refuses something ends with it: nothing is written to standard output
+-- a command that complains of a refusal, and writes nothing to standard output, ends with that refusal
 pub Ends-complaint : (error : List ℕ) (s : ℕ) (out : Writing) (err : Writing × Writing) (status : ℕ)
     → Complains (record { out = []; error = error; status = s }) err status
     → Ends (record { out = []; error = error; status = s }) (out, out) err status
@@ -58,7 +58,8 @@ module _ {X : Type 0} (IsFound : X → Type 0) (answer : X → CommandAnswer) (n
       → DoesOfParts IsFound answer names inputs out err status
   DoesOfParts-found x out is ends = (Ok x, is, ends)
 
-  -- the same, if the command may also have ended for want of memory
+  -- if the command ends with the answer for what was found, or with that for want of memory, it does what it should
+  -- with the parts
   pub DoesOfParts-written : (x : X) (out : Writing × Writing) → IsFound x → EndsUnlessMemory (answer x) out err status
       → DoesOfParts IsFound answer names inputs out err status
   DoesOfParts-written x out is (inl ends) = (Ok x, is, ends)
@@ -85,7 +86,7 @@ ListsRecording-of_parts names inputs files p out err status join (inr told) = (E
 module _ (o : PartOptions) (binding dump : Reading × Reading) (err : Writing × Writing) (status : ℕ)
     (b d : Option (List ℕ)) (binding_reading : IsReading binding.0 binding.1 b)
     (dump_reading : IsReading dump.0 dump.1 d) where
-  -- if the command ends with the part of the dump, it does what it should
+  -- if the command ends with the part of the dump, or for want of memory, it does what it should
   pub WritesPart-found : (p : PartValue) (out : Writing × Writing)
       → FindsPart (λ (q : PartValue). q) o (dump_recording (binding_read b) (dump_read d)) (Ok p)
       → EndsUnlessMemory (written_part p) out err status

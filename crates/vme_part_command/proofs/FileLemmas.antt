@@ -19,7 +19,8 @@ use Rattle.vme_part_command.specs.FileReadings.{IsAtFile, IsAtFileEnd, IsStartFo
 
 module _ (binding : BoundLines) (number : ℕ) (start : Option ℕ) (old now : Reading) (input : InputSoFar)
     (h : IsReadTo old now [] input) (n : ℕ) (within : n ≤ length input.held) (r : StepReading) where
-  -- where the reader is at the start of the body, and the first time is that of the file, it is at the file
+  -- `IsAtFile` holds where the reader is at the start of the body, after the first n held bytes, and the first time is
+  -- that of the dump
   pub IsAtFile-begun : ((rest : List ℕ) → IsFollowedBy input.is_whole rest
       → reading_of_text binding (input.held ++ rest) ≡ Ok (whole_reading r (drop n input.held ++ rest)))
       → ((rest : List ℕ) → IsFollowedBy input.is_whole rest → IsStartFor number (input.held ++ rest) start)

@@ -137,7 +137,7 @@ module _ {A : Type 0} (f : A → Reading) (xs ys : List A) (i : ℕ) (x y : A) (
         IsReading-this a b q (subst (λ (n : ℕ). slice_get (map f xs) n ≡ Some a) e at_a)
         (subst (λ (n : ℕ). slice_get (map f (set ys i y)) n ≡ Some b) e at_b) last.1
 
-    -- the input i is a part, and the first i + 1 inputs are
+    -- the first i + 1 inputs were read, and have the parts ps and then p
     pub HaveRead-one_more : HaveRead (map f xs) (map f (set ys i y)) (i + 1) (ps ++ p ∷ [])
     HaveRead-one_more = record {
       within = subst (λ (n : ℕ). i + 1 ≤ n) (same ∙ sym (length-map xs f)) (omega arith);
@@ -146,7 +146,7 @@ module _ {A : Type 0} (f : A → Reading) (xs ys : List A) (i : ℕ) (x y : A) (
       read = λ k a b q at_a at_b at_q. IsReading-each k a b q at_a at_b (slice_get-append_one ps p q k at_q);
     }
 
--- if n isn't below the number of inputs, all are parts
+-- if the first n inputs were read, and n isn't below the number of inputs, all were read
 pub ReadParts-all : {A : Type 0} (f : A → Reading) (xs ys : List A) (n : ℕ) (ps : List PartValue) → length xs ≤ n
     → HaveRead (map f xs) (map f ys) n ps → ReadParts (map f xs) (map f ys) ps
 ReadParts-all f xs ys n ps all have =
