@@ -125,7 +125,7 @@ module _ {A : Type 0} (with_change : A → ℕ → List Bit → A) (with_instant
     steps-keep_after_context items p (Ok next) end rest r is = rest (record { context = next; progress = p }) r is
     steps-keep_after_context items p (Err fault) end rest r is = absurd cc
 
-    -- the state of a result is one
+    -- a result has at most one state
     same_state : (s end : State A) (r : Read) → r ≡ Ok s → r ≡ Ok end → s ≡ end
     same_state s end r e is = cc
 
@@ -396,7 +396,7 @@ module _ {A B : Type 0} (with_change : A → ℕ → List Bit → A) (with_insta
     advanced-entered p time true = refl
     advanced-entered p time false = refl
 
-    -- a value that there is is one
+    -- two options that are equal have equal values
     some-same : (a b : ℕ) → Some a ≡ Some b → a ≡ b
     some-same a b e = cc
 

@@ -343,7 +343,7 @@ has_any_stretch-broken t b e = has_any_stretch-named t (judged_stretches t) b e
 
 -- the first break of all steps is the first break of the steps up to it
 module _ (s : Step) (x : List Step) (m next : Memories) (o after : Levels) (b : Break) where
-  -- if it is so of the steps `x`, it is so of `s` and `x`
+  -- if the first break of `x` is the first one of the steps of `x` up to it, the same is so of the steps `s` and `x`
   first_break_from-cut_step : (f : Option Fault) (found : Option Break)
       → earlier (option_map (break_of_fault 1 s.time) f) (option_map (shifted_break 1) found) ≡ Some b
       → ((c : Break) → found ≡ Some c → first_break_from next after (take c.instant x) ≡ Some c)

@@ -33,7 +33,7 @@ record ExtentFields (e : Extent) (a : Block) (rest : List Block) : Type 0 where
   opening : a.opening ≡ e.opening
   left : left_after (left_by a) rest ≡ e.left
 
--- an extent of the blocks a and `rest` says this of them
+-- `ExtentFields` holds of an extent of the blocks a and `rest`
 ExtentFields-of_extent : (e : Extent) (a : Block) (rest : List Block) → IsExtent e (a ∷ rest) → ExtentFields e a rest
 ExtentFields-of_extent e a rest p =
     let first : Some a.number ≡ Some e.first = p.first in
