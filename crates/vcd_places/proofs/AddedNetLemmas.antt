@@ -308,7 +308,7 @@ module _ (nets : List Net) (code : List ℕ) (size : ℕ) (none : net_of nets co
       → instants_in all items ≡ Ok instants
   instants_in-all items instants e = go (context_after_all nets first_context items) refl e
     where
-      -- so it is for what reading the items gives
+      -- `all` gives the same instants, by what reading the items by `nets` gives
       go : (r : Result BodyContext VcdFault) → context_after_all nets first_context items ≡ r
           → (r >>= λ end. at_the_end end >>= λ stood. Ok (instants_of nets items)) ≡ Ok instants
           → instants_in all items ≡ Ok instants

@@ -133,7 +133,7 @@ module _ (t : Token) where
   )
   IsSingle-shape_of none e is = (wrong t.line _, record { no_time = refl; read = λ ts. body_from-shape t ts none e })
 
-  -- such a token is an item without a time
+  -- a token whose shape is of a single token is an item without a time
   pub IsItem-single : kind_of (shape_of t.bytes) ≡ single_kind → IsItem (t ∷ []) []
   unfolding body_from item_times
   IsItem-single is =
@@ -173,7 +173,7 @@ module _ (t : Token) where
   HasCode-shape_of end_shape e is = absurd cc
   HasCode-shape_of none e is = absurd cc
 
-  -- such a token and its code are an item without a time
+  -- a token whose shape asks for a code, and its code, are an item without a time
   pub IsItem-code : (u : Token) → kind_of (shape_of t.bytes) ≡ code_kind → IsItem (t ∷ u ∷ []) []
   unfolding body_from item_times
   IsItem-code u is =
@@ -184,7 +184,7 @@ module _ (t : Token) where
         times_are = ap item_times (one.read u []) ∙ ap (λ (o : Option ℕ). cons_option o []) (one.no_time u.bytes);
       }
 
-  -- such a token without its code has no time
+  -- a token whose shape asks for a code, without its code, has no time
   pub item_times-code_alone : kind_of (shape_of t.bytes) ≡ code_kind → item_times (body_from ready (t ∷ [])) ≡ []
   item_times-code_alone is = (HasCode-shape_of (shape_of t.bytes) refl is).alone
 

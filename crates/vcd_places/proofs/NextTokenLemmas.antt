@@ -188,7 +188,7 @@ module _ (text : List ℕ) (at start end : ℕ) (boundary : is_token_boundary te
           rw add-one (drop-cons text start 0 (omega (arith, some, high))) in
           sym (ap starts_at_boundary front) ∙ begins
 
-      -- so it is where no space is between `at` and the word
+      -- the text before the word is empty or ends with white space, also where no space is between `at` and the word
       at_boundary : start ≡ at → ends_at_boundary (take start text) ≡ true
       at_boundary e =
           elim (or_cases (eqb at 0) (starts_at_boundary (drop at text)) (and_parts (nat_le at (length text))

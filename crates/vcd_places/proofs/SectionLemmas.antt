@@ -126,7 +126,7 @@ module _ (text : List ℕ) (at next : ℕ) (bytes : List ℕ) (between_sections 
   abbrev items : List HeaderItem
   items = (header_from between (tokens (take at text))).items
 
-  -- none of these items is unfinished
+  -- no item of the definitions before the token is unfinished
   none_unfinished : list_any is_unfinished items ≡ false
   none_unfinished = (IsBetweenSections-header (take at text) between_sections).1
 

@@ -238,7 +238,7 @@ module _ {A : Type 0} (with_change : A → ℕ → List Bit → A) (with_instant
 
 -- ---- what is collected
 
--- these instants, and the current values after them, are collected
+-- the instants `done`, and the current values after them, are what was collected
 abbrev pub IsCollected : List Instant → CurrentValues → Collected → Type 0
 IsCollected done current c = c ≡ record { done = done; current = current }
 

@@ -91,7 +91,7 @@ None-not_IsSome : (bits : Option (List Bit)) → (IsSome bits → ⊥) → bits 
 None-not_IsSome None h = refl
 None-not_IsSome (Some bits) h = absurd (h refl)
 
--- these bits are a value that is there
+-- bits that are `Some` are a value that is there
 IsSome-Some : (bits : Option (List Bit)) (b : List Bit) → bits ≡ Some b → IsSome bits
 IsSome-Some None b e = absurd (cc)
 IsSome-Some (Some bits) b e = refl

@@ -49,7 +49,7 @@ module _ {V : Type 0} (with_variable : V → Variable → V) where
       (reference_of var.size var.reference) ∷ [])))
   taken_of-joined v d var (Err kind) = refl
 
-  -- so is a variable by the words of its section
+  -- one more variable, by the words of its section, is declared with a visitor as with all variables
   taken_of-var_words : (v : V) (d : Declared (List Variable)) (words : List (List ℕ)) (r : Result VarWords FaultKind)
       → (r >>= λ var. net_for d.nets var.code var.size (net_of d.nets var.code) >>= λ joined.
       Ok (record (taken_in v d) {

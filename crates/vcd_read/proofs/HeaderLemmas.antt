@@ -162,7 +162,7 @@ module _ {V : Type 0} (with_variable : V → Variable → V) where
   bind_assoc (Ok x) f g = refl
   bind_assoc (Err fault) f g = refl
 
-  -- the same functions of what is read give the same
+  -- functions that agree give the same of what is read
   bind_same : {A B : Type 0} (read : Result A VcdFault) (f g : A → Result B VcdFault) → ((x : A) → f x ≡ g x)
       → (read >>= f) ≡ (read >>= g)
   bind_same (Ok x) f g same = same x

@@ -147,7 +147,7 @@ abbrev latest_of : Option (List Bit) → Option (List Bit) → Option (List Bit)
 latest_of (Some bits) before = Some bits
 latest_of None before = before
 
--- these bits if `b` holds, or else the value `o`
+-- the bits, if `b` holds, or else the value `o`
 abbrev if_this : Bool → List Bit → Option (List Bit) → Option (List Bit)
 if_this b bits o = cond b (Some bits) o
 
@@ -244,7 +244,7 @@ dedup-distinct_after : (now : ℕ) (times : List ℕ) → dedup nat_eq (now ∷ 
 dedup-distinct_after now [] = refl
 dedup-distinct_after now (t ∷ times) = go (eqb t now) (dedup-distinct_after now times) (dedup-distinct_after t times)
   where
-    -- it is so whether or not `t` equals `now`
+    -- the distinct times from `now` on are `now` and those after it, whether or not `t` equals `now` (`b`)
     go : {xs ys us vs : List ℕ} (b : Bool) → xs ≡ now ∷ ys → us ≡ t ∷ vs → cond b xs (now ∷ us) ≡ now
         ∷ cond b ys (t ∷ vs)
     go true d e = d

@@ -125,7 +125,7 @@ tokens_from-append_left text rest at line space = by_length (length text - at) (
     SplitsTokens bytes = tokens_from line (bytes ++ rest)
         ≡ tokens_from line bytes ++ tokens_from (line_behind line bytes) rest
 
-    -- so it is for what is left, of any length
+    -- `SplitsTokens` holds of what is left of the text, of any length
     by_length : (n : ℕ) → n ≡ length part → SplitsTokens part
     by_length zero e = subst SplitsTokens (sym (drop_all at text (omega (arith, e, length-drop at text))))
         (tokens_from-split_empty [] rest line)

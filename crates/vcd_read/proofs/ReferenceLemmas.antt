@@ -123,7 +123,7 @@ abbrev parts_at : List ℕ → Bool → ℕ → Option (List ℕ × List ℕ)
 parts_at front both later = cond both (Some (take (length front - later - 1) front, drop (length front - later) front))
     None
 
--- this name and what is between the brackets
+-- a name and what is between the brackets, which are there
 abbrev some_parts : List ℕ → List ℕ → Option (List ℕ × List ℕ)
 some_parts name inner = Some (name, inner)
 

@@ -128,7 +128,7 @@ pub time_at-later : (t : Trace) → malformed_step t ≡ None → (i n : ℕ) �
     → time_at t i ≤ time_at t (i + n)
 time_at-later t formed i zero le = ap_le (omega arith)
   where
-    -- the same instant has the same time
+    -- the time of an instant isn't later than that of the same instant, written with 0 added
     ap_le : i ≡ i + zero → time_at t i ≤ time_at t (i + zero)
     ap_le e = subst (λ (k : ℕ). time_at t i ≤ time_at t k) e (omega arith)
 time_at-later t formed i (suc n) le =

@@ -49,12 +49,12 @@ module _ (last : ℕ) where
   abbrev RowsAreIn : List Row → Type 0
   RowsAreIn rows = AllByRecursion RowIsIn rows
 
-  -- so are two lists of such changes
+  -- if the changes of two lists are at instants up to `last`, so are those of both, appended
   AreIn-append : (xs ys : List ShownChange) → AreIn xs → AreIn ys → AreIn (xs ++ ys)
   AreIn-append [] ys first second = second
   AreIn-append (x ∷ xs) ys first second = (first.0, AreIn-append xs ys first.1 second)
 
-  -- so are two lists of such rows
+  -- if the changes of the rows of two lists are at instants up to `last`, so are those of both, appended
   RowsAreIn-append : (xs ys : List Row) → RowsAreIn xs → RowsAreIn ys → RowsAreIn (xs ++ ys)
   RowsAreIn-append [] ys first second = second
   RowsAreIn-append (x ∷ xs) ys first second = (first.0, RowsAreIn-append xs ys first.1 second)
@@ -87,7 +87,8 @@ module _ (last : ℕ) where
   -- ---- the rows that begin at an instant
 
   module _ (t : Trace) (stretch : Stretch) (end : ℕ) (most : end ≤ last + 1) (i : ℕ) (is : i ≤ last) where
-    -- so is the row of a tenure that begins at `i`, and ends up to `last`, if it ends
+    -- the changes of the row of a tenure that begins at `i`, and ends up to `last`, if it ends, are at instants up to
+    -- `last`
     RowsAreIn-tenure_row : (level slot ending : Option ℕ) → IfSome ending (λ e. e ≤ last)
         → RowsAreIn (tenure_row i level slot ending)
     unfolding row_changes
@@ -95,12 +96,12 @@ module _ (last : ℕ) where
     RowsAreIn-tenure_row (Some level) None ending e = tt
     RowsAreIn-tenure_row (Some level) (Some slot) ending e = ((is, AreIn-ends _ ending e), tt)
 
-    -- so is the row of an open tenure
+    -- the changes of the row of an open tenure that ends up to `last`, if it ends, are at instants up to `last`
     RowIsIn-OpenTenure : (ending : Option ℕ) → IfSome ending (λ e. e ≤ last) → RowIsIn (OpenTenure i ending)
     unfolding row_changes
     RowIsIn-OpenTenure ending e = (is, AreIn-ends _ ending e)
 
-    -- so are the rows of the tenures that begin at `i`
+    -- the changes of the rows of the tenures that begin at `i` are at instants up to `last`
     RowsAreIn-tenure_rows : RowsAreIn (tenure_rows t stretch end i)
     unfolding tenure_rows
     RowsAreIn-tenure_rows =
@@ -110,7 +111,7 @@ module _ (last : ℕ) where
         (RowsAreIn-if (tenure_starts t stretch i) _ [] (RowsAreIn-tenure_row (tenure_level t i) (tenure_slot t i)
         (least (rises t BBSY) (i + 1) end) ending) tt)
 
-    -- so is the row of a cycle of any class
+    -- the changes of the row of a cycle of any class that ends up to `last`, if it ends, are at instants up to `last`
     RowIsIn-cycle_row : (v : Levels) (ending : Option ℕ) (c : Class) → IfSome ending (λ e. e ≤ last)
         → RowIsIn (cycle_row i v ending c)
     unfolding row_changes
@@ -119,7 +120,7 @@ module _ (last : ℕ) where
     RowIsIn-cycle_row v ending class.F e = (is, AreIn-ends _ ending e)
     RowIsIn-cycle_row v ending class.I e = (is, AreIn-ends _ ending e)
 
-    -- so are the rows of the cycles that begin at `i`
+    -- the changes of the rows of the cycles that begin at `i` are at instants up to `last`
     RowsAreIn-cycle_rows : RowsAreIn (cycle_rows t stretch end i)
     unfolding cycle_rows
     RowsAreIn-cycle_rows =
@@ -130,26 +131,26 @@ module _ (last : ℕ) where
           tt,
         ) tt
 
-    -- so is the row of a transfer that is answered
+    -- the changes of the row of a transfer that is answered are at instants up to `last`
     RowIsIn-answered_row : (r : ℕ) (cycle : Option ℕ) → RowIsIn (answered_row t stretch end i r cycle)
     unfolding row_changes
     RowIsIn-answered_row r None = (is, tt)
     RowIsIn-answered_row r (Some cycle) = (is, AreIn-ends _ _ (least-up_to_last (strobes_high t) (i + 1) end most))
 
-    -- so is the row of a transfer, answered or pending
+    -- the changes of the row of a transfer, answered or pending, are at instants up to `last`
     RowIsIn-transfer_row : (r : Option ℕ) → RowIsIn (transfer_row t stretch end i r)
     unfolding row_changes
     RowIsIn-transfer_row None = (is, tt)
     RowIsIn-transfer_row (Some r) = RowIsIn-answered_row r (cycle_of t stretch r)
 
-    -- so are the rows of the transfers that begin at `i`
+    -- the changes of the rows of the transfers that begin at `i` are at instants up to `last`
     RowsAreIn-transfer_rows : RowsAreIn (transfer_rows t stretch end i)
     unfolding transfer_rows
     RowsAreIn-transfer_rows =
         RowsAreIn-if (transfer_starts t stretch i) _ [] (RowIsIn-transfer_row (least (answers t stretch i) i end), tt)
         tt
 
-  -- so are the rows that begin before the instant `n`
+  -- the changes of the rows that begin before the instant `n`, at most `last + 1`, are at instants up to `last`
   RowsAreIn-rows_before : (t : Trace) (stretch : Stretch) (end n : ℕ) → end ≤ last + 1 → n ≤ last + 1
       → RowsAreIn (rows_before t stretch end n)
   unfolding rows_before
@@ -165,12 +166,12 @@ module _ (last : ℕ) where
 
   -- ---- the rows of a stretch
 
-  -- so is the row of a reset
+  -- the changes of the row of a reset up to `last` are at instants up to `last`
   RowIsIn-Reset : (i : ℕ) → i ≤ last → RowIsIn (Reset i)
   unfolding row_changes
   RowIsIn-Reset i is = (is, (is, (is, tt)))
 
-  -- so is the row of the reset that ends a stretch, if one does
+  -- the changes of the row of the reset that ends a stretch, if one does, are at instants up to `last`
   RowsAreIn-reset_rows : (t : Trace) (limit : ℕ) (stretch : Stretch) → limit ≤ last + 1
       → RowsAreIn (reset_rows t limit stretch)
   RowsAreIn-reset_rows t limit stretch most = by_test (is_reset_at t stretch.end && nat_lt stretch.end limit) refl
@@ -184,7 +185,7 @@ module _ (last : ℕ) where
           (RowIsIn-Reset stretch.end (omega (arith, below, most)), tt)
       by_test false e = tt
 
-  -- so are the rows of a stretch
+  -- the changes of the rows of a stretch are at instants up to `last`, if the limit is at most `last + 1`
   RowsAreIn-rows_of_stretch : (t : Trace) (limit : ℕ) (stretch : Stretch) → limit ≤ last + 1
       → RowsAreIn (rows_of_stretch t limit stretch)
   unfolding rows_of_stretch row_changes
@@ -198,7 +199,7 @@ module _ (last : ℕ) where
             (RowsAreIn-reset_rows t limit stretch most),
       ) tt
 
-  -- so are the rows of several stretches
+  -- the changes of the rows of several stretches are at instants up to `last`, if the limit is at most `last + 1`
   RowsAreIn-stretches : (t : Trace) (limit : ℕ) (stretches : List Stretch) → limit ≤ last + 1
       → RowsAreIn (flat_map (rows_of_stretch t limit) stretches)
   RowsAreIn-stretches t limit [] most = tt

@@ -56,7 +56,7 @@ capture_of-or_too_long bound contents = or_bad_binding-or_too_long
     (bound_groups_in contents.variables bound.assignments)
     (λ wires. recording bound.slots wires contents.instants (length contents.instants))
 
--- so is the capture of what reading the dump gave
+-- the capture of what reading a dump gave is its recording, if this hasn't too many steps
 pub capture_by-or_too_long : (bound : BoundLines) (dump : Result Contents Refusal) → capture_by bound dump
     ≡ (recording_by bound dump >>= or_too_long)
 capture_by-or_too_long bound (Ok contents) = capture_of-or_too_long bound contents
@@ -78,7 +78,7 @@ pub GivesTimedListing-from_AnswerGives : (r : Refusal) (read : Result Trace Refu
 GivesTimedListing-from_AnswerGives Memory read is = tt
 GivesTimedListing-from_AnswerGives r read is = is
 
--- so is it after deskewing and cutting into blocks
+-- a refusal in place of the recording is one in place of the listing, also after deskewing and cutting into blocks
 pub settled_in_blocks-refused : (skew block : ℕ) (r : Refusal) (read : Result Trace Refusal) → GivesTrace (Err r) read
     → GivesTimedListing (Err r) (settled_in_blocks skew block read)
 settled_in_blocks-refused skew block r read is =

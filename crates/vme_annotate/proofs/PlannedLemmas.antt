@@ -29,7 +29,7 @@ planned-opening rows ends all verdict first last is =
     ∙ ap (λ (changes : List ShownChange). changes ++ planned rows verdict ∷ []) first
     ∙ ap (λ (change : ShownChange). all_idle 0 ++ change ∷ []) last
 
--- a value that there is is one
+-- two options that are equal have equal values
 some-same : {X : Type 0} (d x y : X) → Some x ≡ Some y → x ≡ y
 some-same {X} d x y e = ap (λ (o : Option X). unwrap_or o d) e
 
@@ -39,7 +39,7 @@ take-next {X} xs i x at =
     let next : suc i ≡ i + 1 = omega arith in
     subst (λ (k : ℕ). take k xs ≡ take i xs ++ x ∷ []) next (by_suc xs i at)
   where
-    -- the same, by recursion
+    -- the first `suc i` elements are the first i, and the one at i
     by_suc : (xs : List X) (i : ℕ) → slice_get xs i ≡ Some x → take (suc i) xs ≡ take i xs ++ x ∷ []
     by_suc [] zero e = absurd cc
     by_suc [] (suc i) e = absurd cc

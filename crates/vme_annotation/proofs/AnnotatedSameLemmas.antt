@@ -374,7 +374,7 @@ four_elements (a ∷ b ∷ c ∷ []) e = absurd (omega (arith, e))
 four_elements (a ∷ b ∷ c ∷ d ∷ []) e = (a, b, c, d, refl)
 four_elements (a ∷ b ∷ c ∷ d ∷ x ∷ xs) e = absurd (omega (arith, e))
 
--- this header, without a fault
+-- the header, as a result without a fault
 abbrev defined_as : Defined (List Variable) → Result (Defined (List Variable)) VcdFault
 defined_as d = Ok d
 

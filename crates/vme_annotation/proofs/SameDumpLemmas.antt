@@ -85,7 +85,7 @@ body_of-ok : (text : List ℕ) (o : Option (List Token)) (body : List Token) →
 body_of-ok text None body e = absurd cc
 body_of-ok text (Some other) body e = cc
 
--- these contents, without a fault
+-- the contents, as a result without a fault
 abbrev read_as : Contents → Result Contents VcdFault
 read_as contents = Ok contents
 

@@ -61,7 +61,7 @@ is_space-from_48 b high = ap not (is_space_above_32 b (omega (arith, high)))
 digit_glyph-from_48 : (upper : Bool) (d : ℕ) → 48 ≤ digit_glyph upper d
 digit_glyph-from_48 upper d = go upper (nat_lt d 10)
   where
-    -- so it is for a digit below ten (`test`), and for a letter of either case
+    -- the glyph of a digit below ten (`test`), and a letter of either case, are from 48 on
     go : (u test : Bool) → 48 ≤ cond test (48 + d) (cond u (55 + d) (87 + d))
     go u true = omega arith
     go true false = omega arith

@@ -56,7 +56,7 @@ module _ (code : List ℕ) where
   abbrev Lack : Header → Type 0
   Lack header = list_any item_names header.items ≡ false
 
-  -- so it is from a token between sections on, which opens one (`test`) or not
+  -- `Lack` holds from a token between sections on, which opens one (`test`) or not
   Lack-between : (t : Token) (ts : List Token) (test : Bool) → Lack (header_from between ts)
       → Lack (header_from (inside (opened t)) ts)
       → Lack (elim test as (λ _. Header) [
@@ -66,7 +66,7 @@ module _ (code : List ℕ) where
   Lack-between t ts true next within = within
   Lack-between t ts false next within = next
 
-  -- so it is from the end of a section on, which ends the definitions (`test`) or not
+  -- `Lack` holds from the end of a section on, which ends the definitions (`test`) or not
   Lack-section_end : (section : Section) (ts : List Token) (test : Bool) → list_any is_word section.words ≡ false
       → Lack (header_from between ts)
       → Lack (elim test as (λ _. Header) [
@@ -77,7 +77,7 @@ module _ (code : List ℕ) where
   Lack-section_end section ts false lacks next =
       or_from (list_any is_word section.words) (list_any item_names (header_from between ts).items) lacks next
 
-  -- so it is from a token inside a section on, which is its end (`test`) or not
+  -- `Lack` holds from a token inside a section on, which is its end (`test`) or not
   Lack-inside : (section : Section) (t : Token) (ts : List Token) (test : Bool) → list_any is_word section.words ≡ false
       → Lack (header_from between ts) → Lack (header_from (inside (with_word section t.bytes)) ts)
       → Lack (elim test as (λ _. Header) [
@@ -134,7 +134,7 @@ module _ (code : List ℕ) where
       nets_in (Ok j) = net_of j.nets code
       nets_in (Err kind) = None
 
-      -- so it is whether the size is the same (`test`) or not
+      -- the code has no net after that, whether the size is the same (`test`) or not
       by_size : (test : Bool)
           → cond test (Ok (record { net = net; nets = nets })) (Err SizeConflict) ≡ Ok joined
           → net_of joined.nets code ≡ None
@@ -164,7 +164,7 @@ module _ (code : List ℕ) where
       code_in (Ok v) = bytes_eq v.code code
       code_in (Err kind) = false
 
-      -- so it is whether the word is a code (`test`) or not
+      -- the code of the variable is another one, whether the word is a code (`test`) or not
       by_code : (test : Bool) (n : ℕ) → bytes_eq word code ≡ false
           → cond test (Ok (record { size = n; code = word; reference = concat (first ∷ others) })) (Err BadVar) ≡ Ok var
           → bytes_eq var.code code ≡ false
@@ -200,7 +200,7 @@ module _ (code : List ℕ) where
       by_keyword (bytes_eq section.keyword (codes "$var")) (bytes_eq section.keyword (codes "$scope"))
       (bytes_eq section.keyword (codes "$upscope")) e
     where
-      -- so it is for each keyword
+      -- the code has no net after a section with any keyword
       by_keyword : (var scope upscope : Bool)
           → cond var (declare_var appended d section.words) (cond scope (Ok (open_scope d section.words))
           (cond upscope (close_scope d d.scopes) (Ok d))) ≡ Ok next

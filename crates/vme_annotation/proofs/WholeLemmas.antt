@@ -205,7 +205,7 @@ cons-some (b ∷ k) some = (b, k, refl)
 pub bytes_eq-different_codes : (a b : List ℕ) → code_number a < code_number b → bytes_eq a b ≡ false
 bytes_eq-different_codes a b below = go (bytes_eq a b) refl
   where
-    -- so it is whatever the test says
+    -- the codes differ, whatever the test says
     go : (test : Bool) → bytes_eq a b ≡ test → test ≡ false
     go false is = refl
     go true is = absurd (omega (arith, below, ap code_number ((bytes_eq-Decides a b).0 is)))

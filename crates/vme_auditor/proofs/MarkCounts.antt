@@ -210,7 +210,7 @@ sum_of-direction c r false =
 abbrev by_line_if_dtack : Bool → Counts → Counts
 by_line_if_dtack b c = cond b (record c { by_dtack = suc c.by_dtack }) (record c { by_berr = suc c.by_berr })
 
--- such an answer may be counted in the first of two counts or in the last
+-- an answer, by DTACK or else by BERR, may be counted in the first of two counts or in the last
 sum_of-by_line_if_dtack : (c r : Counts) (b : Bool) → sum_of (by_line_if_dtack b c) r
     ≡ sum_of c (sum_of (by_line_if_dtack b nothing_counted) r)
 sum_of-by_line_if_dtack c r true =

@@ -181,13 +181,13 @@ module _ (width id : ℕ) (v : View) (ws : List ℕ) (xs items : List (Option Bl
 
   -- the case that the bench has the whole share: it did all that was done
   module _ (all : IsWholeShare v.share) where
-    -- it filed all numbers that are filed
+    -- a bench with the whole share filed all numbers that are filed
     pub filed_sum-whole_share : sum_below F total ≡ length v.list
     filed_sum-whole_share = whole_listed total (bit_of 3 ws) (bit_of 0 ws) F T K (IsEmpty homes)
         (IsFilled homes) fin.0.views r id
         v get_elem-own_view all
 
-    -- it took all numbers that are taken
+    -- a bench with the whole share took all numbers that are taken
     pub taken_sum-whole_share : sum_below T total ≡ length v.takes
     taken_sum-whole_share = whole_taken total (bit_of 3 ws) (bit_of 0 ws) F T K (IsEmpty homes)
         (IsFilled homes) fin.0.views r id v

@@ -672,12 +672,12 @@ IsBusOf-advanced t old new cs at instant before levels made =
 -- ---- The step that leads from an instant to the next.
 
 module _ (t : Trace) (i : ℕ) (step : Step) (found : slice_get t.steps i ≡ Some step) where
-  -- its changes make the levels of instant `i + 1`
+  -- the changes of the step after instant i make the levels of instant `i + 1`
   pub levels_at-next : levels_at t (i + 1) ≡ changed (levels_at t i) step.changes
   unfolding levels_at
   levels_at-next = rw (add-one, found) refl
 
-  -- its changes are sound if no step is malformed
+  -- the changes of the step after instant i are sound, if no step is malformed
   pub are_changes-step : malformed_step t ≡ None → are_changes (levels_at t i) 0 step.changes ≡ true
   unfolding malformed_step is_step
   are_changes-step well =

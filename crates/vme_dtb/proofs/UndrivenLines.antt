@@ -67,7 +67,7 @@ module _ (v : Levels) where
       (n + 1) ≡ false
   is_undriven-none_next n h e = any-step (is_undriven v) 0 n ∙ rw (h, e) (and-false (nat_le 0 n))
 
-  -- the same, with the numbers of the data lines b and b + 1
+  -- if no line up to the data line b is undriven, none below the data line b + 1 is
   pub is_undriven-none_to_next : (b : ℕ) → any (is_undriven v) 0 (159 + b + 1) ≡ false
       → any (is_undriven v) 0 (159 + (b + 1)) ≡ false
   is_undriven-none_to_next b h = let next : 159 + (b + 1) ≡ 159 + b + 1 = omega arith in rw next h

@@ -140,7 +140,7 @@ module _ (total : ℕ) (v w : View) (c e : Collection) (m n : ℕ) (b : Block) (
       ap (λ (xs : Places). slice_get xs n) book-at_number ∙ slice_get-set_here c.book n (Some b) (let l = k.long in
       omega (arith, l, low))
 
-  -- the other places are as they were
+  -- the places of other numbers are as they were
   book-elsewhere : (l : ℕ) → l ≢ n → slice_get e.book l ≡ slice_get c.book l
   book-elsewhere l ne =
       ap (λ (xs : Places). slice_get xs l) book-at_number ∙ slice_get-set_elsewhere c.book n l (Some b) ne

@@ -142,7 +142,7 @@ module _ (text : List ℕ) (count : ℕ) (few : count ≤ 10) (within : count �
   digits_at-take : digits_at 10 text ≡ take count text
   digits_at-take = digits_at-ending text 10 count few within digits end
 
-  -- their value is below 2^64
+  -- the value of the first `count` bytes, as digits, is below 2^64
   digits_value-below_64_bits : digits_value 10 (take count text) < 2 ^ 64
   digits_value-below_64_bits = omega (arith, digits_value-bound text count 10 few within digits)
 

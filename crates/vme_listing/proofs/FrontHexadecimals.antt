@@ -109,11 +109,11 @@ hexadecimal_in-not k text h =
 -- the first k bytes of the text, at most 8, are the digits of `number` in base 16
 module _ (k : ℕ) (text : List ℕ) (number : ℕ) (few : k ≤ 8) (within : k ≤ length text)
     (is : hexadecimal (length (take k text)) number ≡ take k text) (below : number < 16 ^ length (take k text)) where
-  -- they are k bytes
+  -- the first k bytes of the text are k bytes
   length-take_digits : length (take k text) ≡ k
   length-take_digits = length-take-le k text within
 
-  -- they are the k digits of `number`
+  -- the first k bytes of the text are the k digits of `number`
   hexadecimal-take : hexadecimal k number ≡ take k text
   hexadecimal-take = ap (λ n. hexadecimal n number) (sym length-take_digits) ∙ is
 

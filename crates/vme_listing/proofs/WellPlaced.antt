@@ -458,7 +458,8 @@ module _ (t : Trace) (slots : t.opening.slots ≤ 21) (few : length t.steps < 2 
       abbrev rows_of : List Stretch → List Row
       rows_of stretches = flat_map (rows_of_stretch t limit) stretches ++ verdict
 
-      -- these rows are the start of the first stretch, its other rows, and those of the stretches after it
+      -- the rows of stretches are the start of the first one, its other rows, and those of the stretches after it, if
+      -- the first starts before the limit
       rows_of-first_stretch : (stretch : Stretch) (stretches : List Stretch) → stretch.start < limit
           → rows_of (stretch ∷ stretches)
           ≡ Start stretch.start ∷ rows_after_start stretch ++ rows_of stretches

@@ -48,7 +48,7 @@ step_between-same time v = by_test (any (differs v v) 0 line_count) (any_differs
 
 -- ---- levels of one backplane
 
--- both are the levels of all lines, with the same number of slots
+-- v and w are both the levels of all lines, with the same number of slots
 pub record AreOfOne (v w : Levels) : Type 0 where
   pub slots : v.slots ≡ w.slots
   pub first : length v.levels ≡ line_count

@@ -163,7 +163,7 @@ abbrev pub IsPrefix : List Step → List Step → Type 0
 IsPrefix xs ys = (rest : List Step) × (ys ≡ xs ++ rest)
 
 module _ (skew time : ℕ) (t : Trace) where
-  -- those of the steps that are complete
+  -- the steps of a list that are complete
   abbrev complete : List Step → List Step
   complete xs = filter (is_complete skew time) xs
 

@@ -264,7 +264,7 @@ module _ (from : ℕ) where
     pub up_to : AreUpTo reading.time reading.recorded.steps
     pub before : (fault : VcdFault) → reading.fault ≡ Some fault → AreBefore reading.time reading.recorded.steps
 
-  -- so it is of a reading that stops at a fault
+  -- `TimesOf` holds of a reading that stops at a fault
   TimesOf-fault : (p : BodyFold BuilderState) (fault : VcdFault) → IsMade p
       → TimesOf (reading_made p.accumulator.recorded p.time (Err fault))
   TimesOf-fault p fault h = record {
@@ -285,7 +285,7 @@ module _ (from : ℕ) where
       }) h.late)
   AreUpTo-ended false p h = AreUpTo-AreBefore p.time p.accumulator.recorded.steps h.before
 
-  -- so it is of a reading that comes to the end of the body, or to a dump section that is open there
+  -- `TimesOf` holds of a reading that comes to the end of the body, or to a dump section that is open there
   TimesOf-end : (p : BodyFold BuilderState) (stood : Result BodyContext VcdFault) → IsMade p
       → TimesOf (reading_made p.accumulator.recorded p.time (stood >>= λ end. Ok (ended builder_instant p)))
   TimesOf-end p (Ok end) h = record {
@@ -295,7 +295,7 @@ module _ (from : ℕ) where
   }
   TimesOf-end p (Err fault) h = TimesOf-fault p fault h
 
-  -- so it is of a reading that comes to the last item, or stops before
+  -- `TimesOf` holds of a reading that comes to the last item, or stops before
   TimesOf-outcome : (reached : State BuilderState) (outcome : Result (State BuilderState) VcdFault) → IsAt reached
       → ((end : State BuilderState) → outcome ≡ Ok end → reached ≡ end)
       → TimesOf (reading_made reached.progress.accumulator.recorded reached.progress.time
@@ -306,7 +306,7 @@ module _ (from : ℕ) where
       (TimesOf-end reached.progress (at_the_end reached.context) h.made)
   TimesOf-outcome reached (Err fault) h whole = TimesOf-fault reached.progress fault h.made
 
-  -- so it is of a reading of any items
+  -- `TimesOf` holds of a reading of any items
   TimesOf-items : (nets : List Net) (s : State BuilderState) (items : List BodyItem) → IsAt s
       → TimesOf (reading_until_fault (until_fault builder_change builder_instant nets s items))
   TimesOf-items nets s items h =
@@ -321,7 +321,7 @@ abbrev after_given : StepReading → List ℕ → TextReading
 after_given r rest = reading_ahead (with_recording (record { opening = r.given.opening; steps = [] }) r.speculative)
     (tokens_from r.speculative.body.line rest) []
 
--- so it is of what is recorded after what was given, from the last time that was read on
+-- `TimesOf` holds of what is recorded after what was given, from the last time that was read on
 after_given-times : (r : StepReading) (rest : List ℕ) → TimesOf r.speculative.body.progress.time (after_given r rest)
 after_given-times r rest =
     let none : Trace = record { opening = r.given.opening; steps = [] } in

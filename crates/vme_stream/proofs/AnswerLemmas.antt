@@ -346,7 +346,7 @@ unfolding capture_of recording_of
 capture_of-or_too_long bound contents = or_too_long-made (bound_groups_in contents.variables bound.assignments)
     (λ found_groups. recording bound.slots found_groups contents.instants (length contents.instants))
 
--- the same of a dump that may be refused
+-- the capture of a dump that may be refused is its recording, or the refusal if it is too long
 capture_by-or_too_long : (bound : BoundLines) (dump : Result Contents Refusal) → capture_by bound dump
     ≡ (recording_by bound dump >>= or_too_long)
 capture_by-or_too_long bound (Ok contents) = capture_of-or_too_long bound contents
@@ -356,7 +356,7 @@ capture_by-or_too_long bound (Err r) = refl
 abbrev captured_by : Option (List ℕ) → BoundLines → Result Trace Refusal
 captured_by dump bound = capture_by bound (dump_read dump)
 
--- the same of a binding and a dump that may be refused
+-- the capture of a binding and a dump that may be refused is their recording, or the refusal if it is too long
 capture_read-or_too_long : (binding dump : Option (List ℕ)) → capture_read binding dump
     ≡ (recording_read binding dump >>= or_too_long)
 unfolding capture_read recording_read

@@ -19,7 +19,8 @@ scale_from-byte s t b bytes space e =
     ap (λ (x : Bool). if x then shown_token s t ++ scale_from (section_after s t) [] bytes
     else scale_from s (t ++ b ∷ []) bytes) e
 
--- the same of the byte of the dump at the place `at`
+-- what the byte of the dump at the place `at` and those after it add: a space ends the token, any other byte is one
+-- more of the token
 scale_from-at : (s : TimescaleSection) (t dump : List ℕ) (at : ℕ) (space : Bool) → at < length dump
     → is_space (get_or dump at 0) ≡ space → scale_from s t (drop at dump)
     ≡ (if space then shown_token s t ++ scale_from (section_after s t) [] (drop (at + 1) dump)

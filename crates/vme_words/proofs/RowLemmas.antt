@@ -251,28 +251,28 @@ module _ (c : List Rule) (again : Bool) (known : EachKnown c c) where
       go None is f = h
       go (Some a) is f = AllGood-used a p.1 rows (Known-found c c _ a known is) f h
 
-  -- so does the reaction to an argument
+  -- the reaction to a known argument without a fault leaves good rows
   AllGood-reacted : (a : Rule) (values : List Text) (h : Held) → Known c a → react_fault c again a values h ≡ []
       → AllGood c h.rows → AllGood c (reacted c a values h).rows
   AllGood-reacted a values h k e g =
       let f = or_else-none (settle_fault c again h) (use_fault again a values (settled c h).rows) e in
       AllGood-used a values (settled c h).rows k f.1 (AllGood-settled_rows h.pending h.rows f.0 g)
 
-  -- so does an option, with a value or without one
+  -- an option, with a value or without one, that is no fault leaves good rows
   AllGood-option_met : (a : Rule) (v : Option Text) (h : Held) → Known c a → option_fault c again a v h ≡ []
       → AllGood c h.rows
       → AllGood c (option_met c a v h).0.rows
   AllGood-option_met a (Some v) h k e g = AllGood-reacted a (v ∷ []) h k e g
   AllGood-option_met a None h k e g = AllGood-settled_rows h.pending h.rows e g
 
-  -- so does a flag
+  -- a flag that is no fault leaves good rows
   AllGood-flag_met : (a : Rule) (v : Option Text) (h : Held) → Known c a
       → (is_some v ≡ false → react_fault c again a [] h
       ≡ []) → AllGood c h.rows → AllGood c (flag_met c a v h).0.rows
   AllGood-flag_met a (Some v) h k e g = g
   AllGood-flag_met a None h k e g = AllGood-reacted a [] h k (e refl) g
 
-  -- so does an argument by its long name
+  -- an argument by its long name that is no fault leaves good rows
   AllGood-long_met : (o : Option Rule) (name : Text) (v : Option Text) (h : Held) → arg_by_long c name ≡ o
       → long_fault c again
       o v h ≡ [] → AllGood c h.rows → AllGood c (long_met c o v h).0.rows
@@ -284,7 +284,7 @@ module _ (c : List Rule) (again : Bool) (known : EachKnown c c) where
       go true t = AllGood-option_met a v h (Known-found c c _ a known is) (rw t at e) g
       go false t = let f = rw t at e in AllGood-flag_met a v h (Known-found c c _ a known is) (λ none. rw none at f) g
 
-  -- so does an argument by its short name, if what follows it does
+  -- an argument by its short name that is no fault leaves good rows, if what follows it does
   AllGood-short_met : (o : Option Rule) (x : ℕ) (rest : Text) (h : Held) (onward : Held → Held × Outcome)
       (after : Held → Kinds) → arg_by_short c x ≡ o
       → ((k : Held) → after k ≡ [] → AllGood c k.rows → AllGood c (onward k).0.rows)
@@ -300,7 +300,7 @@ module _ (c : List Rule) (again : Bool) (known : EachKnown c c) where
           let f = or_else-none (react_fault c again a [] h) (after (reacted c a [] h)) (rw t at e) in
           later (reacted c a [] h) f.1 (AllGood-reacted a [] h (Known-found c c _ a known is) f.0 g)
 
-  -- so does one of several short names in a word, if the others do
+  -- one of several short names in a word, without a fault, leaves good rows, if the others do
   AllGood-bundle_step : (o : Option ℕ) (flags : Text) (skip : ℕ) (so_far : Outcome) (h : Held)
       (onward : Text → ℕ → Outcome
       → Held → Held × Outcome) (after : Text → ℕ → Held → Kinds)
@@ -316,7 +316,7 @@ module _ (c : List Rule) (again : Bool) (known : EachKnown c c) where
   AllGood-bundle_step (Some x) flags (suc skip) so_far h onward after later e g = later
       (drop (length (encode_utf8 x)) flags) skip so_far h e g
 
-  -- so do several short names in a word
+  -- several short names in a word, without a fault, leave good rows
   AllGood-bundle_met : (k : ℕ) (flags : Text) (skip : ℕ) (so_far : Outcome) (h : Held)
       → flags_fault c again k flags skip h
       ≡ [] → AllGood c h.rows
@@ -327,7 +327,7 @@ module _ (c : List Rule) (again : Bool) (known : EachKnown c c) where
       AllGood-bundle_step (slice_get (chars flags) 0) flags skip so_far h (bundle_met c k) (flags_fault c again k)
       (λ t n so x f y. AllGood-bundle_met k t n so x f y) e g
 
-  -- so does a word that names no argument
+  -- a word that names no argument leaves good rows
   AllGood-plain_word : (waiting : Waiting) (word : Text) (h : Held) → AllGood c h.rows
       → AllGood c (plain_word c waiting word h).0.rows
   AllGood-plain_word idle word h g = g
@@ -339,7 +339,7 @@ module _ (c : List Rule) (again : Bool) (known : EachKnown c c) where
       go (Some a) = g
   AllGood-plain_word positional word h g = g
 
-  -- so does what is done after a flag
+  -- what is done after a flag leaves good rows
   AllGood-after_flag : (waiting : Waiting) (word : Text) (h : Held) (o : Outcome) → AllGood c h.rows
       → AllGood c (after_flag c waiting word h o).0.rows
   AllGood-after_flag waiting word h done g = g
@@ -347,7 +347,7 @@ module _ (c : List Rule) (again : Bool) (known : EachKnown c c) where
   AllGood-after_flag waiting word h plain g = AllGood-plain_word waiting word h g
   AllGood-after_flag waiting word h refused g = AllGood-plain_word waiting word h g
 
-  -- so does a word with a long name, with short names, or with neither
+  -- a word with a long name, with short names, or with neither, that is no fault leaves good rows
   AllGood-long_or_other : (o : Option (Text × Option Text)) (waiting : Waiting) (word : Text) (h : Held)
       → flag_word_fault c
       again o word h ≡ [] → AllGood c h.rows
@@ -368,7 +368,7 @@ module _ (c : List Rule) (again : Bool) (known : EachKnown c c) where
 -- ---- clap's walk over the words
 
 module _ (s : Shape) (known : EachKnown s.rules s.rules) where
-  -- so does a word that names a subcommand, or another one
+  -- a word that names a subcommand, or another one, that is no fault leaves good rows
   AllGood-subcommand_or_other : (o : Option Text) (waiting : Waiting) (position : ℕ) (word : Text) (h : Held)
       → other_fault s o word h
       ≡ [] → AllGood s.rules h.rows
@@ -384,7 +384,7 @@ module _ (s : Shape) (known : EachKnown s.rules s.rules) where
       go false is = AllGood-long_or_other s.rules s.args_override_self known (long_of word) waiting word h (rw is at e)
           g
 
-  -- so does any word
+  -- any word that is no fault leaves good rows
   AllGood-word_met : (names : Names) (trails : Bool) (waiting : Waiting) (position : ℕ) (word : Text) (h : Held)
       → word_fault s names trails waiting word h ≡ []
       → AllGood s.rules h.rows → AllGood s.rules (word_met s.rules names trails waiting position word h).0.rows
@@ -393,7 +393,7 @@ module _ (s : Shape) (known : EachKnown s.rules s.rules) where
       (subcommand_met names waiting word) waiting position
       word h e g
 
-  -- so does a word that is given to a positional argument
+  -- a word that is given to a positional argument without a fault leaves good rows
   AllGood-to_positional : (o : Option Rule) (w : Walk) (word : Text) (h : Held)
       → option_map_or (λ (a : Rule). positional_fault s.rules s.args_override_self a h) o (stray_fault s) ≡ []
       → AllGood s.rules h.rows → AllGood s.rules (to_positional s.rules o word w h).held.rows
@@ -406,7 +406,7 @@ module _ (s : Shape) (known : EachKnown s.rules s.rules) where
       go true is = g
       go false is = AllGood-settled_rows s.rules s.args_override_self known h.pending h.rows (rw is at e) g
 
-  -- so does what the walk does after a word
+  -- what the walk does after a word, without a fault, leaves good rows
   AllGood-after_step : (step : Step) (w : Walk) (word : Text) (h : Held) → step_fault s w.position h step ≡ []
       → AllGood s.rules
       h.rows
@@ -416,7 +416,7 @@ module _ (s : Shape) (known : EachKnown s.rules s.rules) where
   AllGood-after_step (subcommand name) w word h e g = g
   AllGood-after_step value w word h e g = AllGood-to_positional (arg_by_index s.rules w.position) w word h e g
 
-  -- so does a turn of the walk, which may have stopped at a subcommand
+  -- a turn of the walk without a fault, which may have stopped at a subcommand, leaves good rows
   AllGood-walked_from : (stop : Option (Text × List Text)) (names : Names) (w : Walk) (word : Text)
       → (is_some stop ≡ false → or_else (word_fault s names w.is_trailing w.waiting word w.held)
       (step_fault s w.position (word_met s.rules names w.is_trailing w.waiting w.position word w.held).0
@@ -431,7 +431,7 @@ module _ (s : Shape) (known : EachKnown s.rules s.rules) where
       AllGood-after_step met.1 w word met.0 f.1 (AllGood-word_met names w.is_trailing w.waiting w.position word w.held
       f.0 g)
 
-  -- so does the walk over all words
+  -- the walk over all words without a fault leaves good rows
   AllGood-walked : (names : Names) (words : List Text) (w : Walk) → walk_fault s names w words ≡ [] → AllGood s.rules
       w.held.rows
       → AllGood s.rules (fold (walked s.rules names) w words).held.rows
@@ -463,7 +463,7 @@ AllGood-with_default c a rows k g = go (has_row a.id rows)
     go true = g
     go false = AllGood-default_rows c a a.defaults rows k k.defaults g
 
--- so do those of all known arguments
+-- the default values of all known arguments leave good rows
 AllGood-defaults : (c xs : List Rule) (rows : List Row) → EachKnown c xs → AllGood c rows
     → AllGood c (fold with_default rows xs)
 AllGood-defaults c [] rows known g = g
@@ -505,7 +505,7 @@ Good-found c (x ∷ xs) id r g e = go (bytes_eq x.id id) refl e (λ f. Good-foun
         (ap (λ (o : Option Row). unwrap_or o x) f) (g.0, is)
     go false is f rest = rest f
 
--- so it is for the argument with this name
+-- the row of a known argument that is found among good rows is good
 IsGood-found : (c : List Rule) (rows : List Row) (a : Rule) (r : Row) → AllGood c rows → arg_by_id c a.id ≡ Some a
     → find (λ x. bytes_eq x.id a.id) rows ≡ Some r → IsGood a r
 IsGood-found c rows a r g is_by_id e =
@@ -618,7 +618,7 @@ has_row-with_default id rows a has = go (has_row a.id rows) a.defaults
     go false [] = has
     go false (v ∷ vs) = has_row-with_values id a.id (reading_by a) DefaultValue (v ∷ vs) rows has
 
--- so do those of all arguments
+-- the default values of all arguments leave the row of an argument there
 pub has_row-defaults : (id : Text) (xs : List Rule) (rows : List Row) → has_row id rows ≡ true
     → has_row id (fold with_default rows xs) ≡ true
 has_row-defaults id [] rows has = has
@@ -696,7 +696,7 @@ module _ (s : Shape) (names : Names) (helps : s.disable_help_subcommand ≡ fals
       go true = tt
       go false = StepsNoHelp-long_or_other s.rules waiting word (long_of word) h
 
-  -- so it is wherever the word stands
+  -- the step by a word that is no fault isn't to the subcommand `help`, wherever the word stands
   StepsNoHelp-word_met : (trails : Bool) (waiting : Waiting) (position : ℕ) (word : Text) (h : Held)
       → word_fault s names trails
       waiting word h ≡ []

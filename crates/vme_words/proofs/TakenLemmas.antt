@@ -688,7 +688,7 @@ abbrev Makes : Shape → Type 0
 Makes s = (words : List Text) → level_fault s [] nothing_held words false [] ≡ [] → HasOrder (Some (rows_at s words)) ⊎
     (label_of s ≡ (codes "help", []))
 
--- so does each of these subcommands
+-- `Makes` holds of each of the subcommands
 abbrev EachMakes : List Shape → Type 0
 EachMakes [] = Unit {0}
 EachMakes (s ∷ rest) = Makes s × EachMakes rest
