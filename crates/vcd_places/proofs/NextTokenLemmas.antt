@@ -181,7 +181,7 @@ module _ (text : List ℕ) (at start end : ℕ) (boundary : is_token_boundary te
         | inr past ↦ at_boundary (omega (arith, low, past))
       ]
     where
-      -- a text that begins with white space has a space first
+      -- if the text from `start` on begins with white space, a space is at `start`
       first_is : starts_at_boundary (drop start text) ≡ true → is_space (get_or text start 0) ≡ true
       first_is begins =
           let front : drop start text ≡ get_or text start 0 ∷ drop (start + 1) text =

@@ -23,7 +23,7 @@ use Rattle.vcd_places.proofs.NextTokenLemmas.{tokens-at_boundary, tokens-detache
 
 -- ---- a section
 
--- the section with the words of these tokens after its own
+-- the section with the words of the tokens after its own
 words_of : Section → List Token → Section
 words_of section [] = section
 words_of section (w ∷ words) = words_of (with_word section w.bytes) words

@@ -120,7 +120,7 @@ tokens_from-append_left text rest at line space = by_length (length text - at) (
     part : List ℕ
     part = drop at text
 
-    -- the tokens of these bytes and what follows are those of the bytes, and then of what follows
+    -- the tokens of the bytes and of what follows them are those of the bytes, and then those of what follows
     SplitsTokens : List ℕ → Type 0
     SplitsTokens bytes = tokens_from line (bytes ++ rest)
         ≡ tokens_from line bytes ++ tokens_from (line_behind line bytes) rest

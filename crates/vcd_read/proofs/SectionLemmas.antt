@@ -44,7 +44,7 @@ unfolding ended_in
 section_word line t before ts cut word = ap (section_from line) cut ∙ rw (section_from, ended_in, word)
     (word_before line t.bytes (ended_in ts))
 
--- a text that ends in a section
+-- the fault of a text that ends in a section of the line
 abbrev pub unfinished_at : {Y : Type 0} → ℕ → Result Y VcdFault
 unfinished_at line = Err (record { line = line; kind = UnfinishedSection })
 

@@ -29,7 +29,7 @@ use Rattle.vme_annotation.proofs.SameDumpLemmas.{IsDump, bind-ok, IsDump-dump_of
 -- ---- the steps of a recording
 
 module _ (dump : List ℕ) where
-  -- the dump reaches the time of each of these steps
+  -- the dump reaches the time of each of the steps
   abbrev pub EachReached : List Step → Type 0
   EachReached [] = Unit {0}
   EachReached (step ∷ steps) = IsReached dump step.time × EachReached steps
@@ -89,7 +89,7 @@ module _ (dump : List ℕ) where
 
   -- ---- the instants of the dump
 
-  -- the dump reaches the time of each of these instants
+  -- the dump reaches the time of each of the instants
   abbrev AllReached : List Instant → Type 0
   AllReached instants = (i : ℕ) → IsReached dump (instant_time (slice_get instants i))
 

@@ -59,13 +59,13 @@ module _ (last : ℕ) where
   RowsAreIn-append [] ys first second = second
   RowsAreIn-append (x ∷ xs) ys first second = (first.0, RowsAreIn-append xs ys first.1 second)
 
-  -- the changes of such rows are at instants up to `last`
+  -- the changes of all rows are at instants up to `last`, if those of each row are
   AreIn-flat_map : (rows : List Row) → RowsAreIn rows → AreIn (flat_map row_changes rows)
   AreIn-flat_map [] are = tt
   AreIn-flat_map (row ∷ rows) are = AreIn-append (row_changes row) (flat_map row_changes rows) are.0
       (AreIn-flat_map rows are.1)
 
-  -- of two lists of such rows, either is one
+  -- if the changes of the rows of two lists are at instants up to `last`, so are those of either list
   RowsAreIn-if : (test : Bool) (xs ys : List Row) → RowsAreIn xs → RowsAreIn ys → RowsAreIn (if test then xs else ys)
   RowsAreIn-if true xs ys first second = first
   RowsAreIn-if false xs ys first second = second

@@ -65,7 +65,7 @@ dump_of-parts text declared body instants declares ends comes =
     ∙ ap (λ (r : Result (List Instant) VcdFault). r >>= λ instants.
     Ok (record { variables = declared.variables; instants = instants })) comes
 
--- a text with the contents `contents` has such definitions and such a body
+-- the definitions and the body of the text give what the contents `contents` have
 pub record IsDump (text : List ℕ) (contents : Contents) : Type 0 where
   pub declared : Declared (List Variable)
   pub body : List Token

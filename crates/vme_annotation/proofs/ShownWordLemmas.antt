@@ -304,7 +304,7 @@ are_words-if : (test : Bool) (a b : List ShownChange) → are_words a ≡ true �
 are_words-if true a b first second = first
 are_words-if false a b first second = second
 
--- changes that show words do so at each instant
+-- of changes that show words, those at an instant show words
 are_words-at : (instant : ℕ) (changes : List ShownChange) → are_words changes ≡ true
     → are_words (at instant changes) ≡ true
 are_words-at instant [] words = refl

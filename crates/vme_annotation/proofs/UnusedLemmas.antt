@@ -123,13 +123,13 @@ module _ (code : List ℕ) where
   net_for-other_code nets other size None joined is differs lacks e =
       sym (ap nets_in e) ∙ net_of-still_none nets other size code is differs lacks
     where
-      -- the net of the code after that, if there is no fault
+      -- the net of the code among the joined nets, if there is no fault
       nets_in : Result JoinedNets FaultKind → Option ℕ
       nets_in (Ok j) = net_of j.nets code
       nets_in (Err kind) = None
   net_for-other_code nets other size (Some net) joined is differs lacks e = by_size (eqb (size_of nets net) size) e
     where
-      -- the net of the code after that, if there is no fault
+      -- the net of the code among the joined nets, if there is no fault
       nets_in : Result JoinedNets FaultKind → Option ℕ
       nets_in (Ok j) = net_of j.nets code
       nets_in (Err kind) = None
@@ -141,7 +141,7 @@ module _ (code : List ℕ) where
       by_size true e = sym (ap nets_in e) ∙ lacks
       by_size false e = absurd cc
 
-  -- the code of a variable is a word of its section
+  -- a variable whose section hasn't the code as a word has another code
   var_words-other_code : (words : List (List ℕ)) (var : VarWords) → list_any is_word words ≡ false
       → var_words words ≡ Ok var → bytes_eq var.code code ≡ false
   var_words-other_code [] var lacks e = absurd cc

@@ -338,7 +338,8 @@ module _ (t : Trace) (ok : malformed_step t ≡ None) (few : t.opening.slots ≤
         p = inner_at dtb_begin dtb_start_marks no_step_marks dtb_end_fault dtb_observation dtb_step t few ok work.start
             n
 
-        -- the event has happened in a started stretch exactly if in one of those that are over, or in this one
+        -- the event has happened in a started stretch exactly if in one of those that are over, or in the one in which
+        -- n is
         list_any-past_and_here : (k : ℕ) → list_any (happened_by k) (started_stretches t n)
             ≡ (list_any (happened_by k) work.past || happened_by k here)
         list_any-past_and_here k =
@@ -371,11 +372,11 @@ module _ (t : Trace) (ok : malformed_step t ≡ None) (few : t.opening.slots ≤
               (ap (λ (x : Next (StretchPhase HandshakeMemory)). is_judging x.memory)
               (sym (outer_next-judging p work.memory) ∙ on.step))
 
-          -- what is known of a judged stretch holds of this one
+          -- what is known of a judged stretch holds of the one in which n is
           facts : IsStretch t here
           facts = stretch_facts t here is_stretch
 
-          -- the memory means what it should at n
+          -- the memory of the handshake rules says what has happened up to n (`Holds`)
           holds : Holds t here n p
           holds = Holds-at t here facts n work.running.from (omega (arith, on.before))
 

@@ -471,7 +471,7 @@ IsReady-inserted old progress reached before start bs xs ys blocks spans n b s k
     subst (λ (v : Vec (Option Block)). IsReady (set v.items n (Some b)) (set spans n (Some s)) progress reached start bs
     ys) (sym same) ready
 
--- a book that is ready keeps what it should after judging as far as blocks join
+-- `Keeps` holds of a book that was ready, after judging as far as blocks join
 pub Keeps-after_judging : (places : BookSlots) (progress further : Option RunningVerdict) (reached end : ℕ)
     (start : JoinedPrefix) (bs cs xs : List Block)
     → IsReady places.blocks.items places.spans.items progress reached start bs xs → reached ≤ end

@@ -139,14 +139,14 @@ module _ (t : Trace) (stretch : Stretch) (reads : ReadsStrobes t stretch) (n : �
       && breaks_read_modify_write t stretch
       (answers_of t stretch i (suc n)) (suc n)) (suc n)
 
-  -- C1 by its tests; likewise the other rules below
+  -- C1 is broken on a line by the tests of its parts
   breaks-C1 : (l : ℕ) → breaks t stretch C1 (suc n) l ≡ (is_judged stretch (suc n) && has_line t.opening.slots l
       && (is_answer_line l && falls t l (suc n) && (is_answer t stretch (suc n) && read_modify_write_broken)))
   unfolding breaks is_broken
   breaks-C1 l = ap (λ b. is_judged stretch (suc n) && has_line t.opening.slots l && b)
       (and_assoc (is_answer_line l && falls t l (suc n)) (is_answer t stretch (suc n)) read_modify_write_broken)
 
-  -- the machine's fault by C1 is the break of C1; likewise the other rules below
+  -- the machine's fault by C1 is the break of C1
   fault-C1 : option_map (break_of_fault (suc n) (time_at t (suc n)))
       (fault_if C1 (is_read_modify_write_broken here (is_writing within))
       (answer_in within seen)) ≡ rule_break t stretch (suc n) C1
@@ -158,12 +158,14 @@ module _ (t : Trace) (stretch : Stretch) (reads : ReadsStrobes t stretch) (n : �
   direction_changed = in_cycle t stretch (λ i. is_block_class (class_at t stretch i) && changes_direction t stretch
       (answers_of t stretch i (suc n)) (suc n)) (suc n)
 
+  -- C2 is broken on a line by the tests of its parts
   breaks-C2 : (l : ℕ) → breaks t stretch C2 (suc n) l ≡ (is_judged stretch (suc n) && has_line t.opening.slots l
       && (is_answer_line l && falls t l (suc n) && (is_answer t stretch (suc n) && direction_changed)))
   unfolding breaks is_broken
   breaks-C2 l = ap (λ b. is_judged stretch (suc n) && has_line t.opening.slots l && b)
       (and_assoc (is_answer_line l && falls t l (suc n)) (is_answer t stretch (suc n)) direction_changed)
 
+  -- the machine's fault by C2 is the break of C2
   fault-C2 : option_map (break_of_fault (suc n) (time_at t (suc n)))
       (fault_if C2 (is_direction_changed here (is_writing within))
       (answer_in within seen)) ≡ rule_break t stretch (suc n) C2
@@ -175,12 +177,14 @@ module _ (t : Trace) (stretch : Stretch) (reads : ReadsStrobes t stretch) (n : �
   answered_interrupt_acknowledge = in_cycle t stretch (λ i. is_interrupt (class_at t stretch i) && has_earlier_answer
       (answers_of t stretch i (suc n))) (suc n)
 
+  -- I5 is broken on a line by the tests of its parts
   breaks-I5 : (l : ℕ) → breaks t stretch I5 (suc n) l ≡ (is_judged stretch (suc n) && has_line t.opening.slots l
       && (is_answer_line l && falls t l (suc n) && (is_answer t stretch (suc n) && answered_interrupt_acknowledge)))
   unfolding breaks is_broken
   breaks-I5 l = ap (λ b. is_judged stretch (suc n) && has_line t.opening.slots l && b)
       (and_assoc (is_answer_line l && falls t l (suc n)) (is_answer t stretch (suc n)) answered_interrupt_acknowledge)
 
+  -- the machine's fault by I5 is the break of I5
   fault-I5 : option_map (break_of_fault (suc n) (time_at t (suc n)))
       (fault_if I5 (is_answered_interrupt_acknowledge here)
       (answer_in within seen))
@@ -193,12 +197,14 @@ module _ (t : Trace) (stretch : Stretch) (reads : ReadsStrobes t stretch) (n : �
   abbrev interrupt_acknowledge : Bool
   interrupt_acknowledge = in_cycle t stretch (λ i. is_interrupt (class_at t stretch i)) (suc n)
 
+  -- I4 is broken on a line by the tests of its parts
   breaks-I4 : (l : ℕ) → breaks t stretch I4 (suc n) l ≡ (is_judged stretch (suc n) && has_line t.opening.slots l
       && (is_answer_line l && falls t l (suc n) && (answers_write t stretch (suc n) && interrupt_acknowledge)))
   unfolding breaks is_broken
   breaks-I4 l = ap (λ b. is_judged stretch (suc n) && has_line t.opening.slots l && b)
       (and_assoc (is_answer_line l && falls t l (suc n)) (answers_write t stretch (suc n)) interrupt_acknowledge)
 
+  -- the machine's fault by I4 is the break of I4
   fault-I4 : option_map (break_of_fault (suc n) (time_at t (suc n)))
       (fault_if I4 (is_interrupt_acknowledge here && is_writing within)
       (answer_in within seen)) ≡ rule_break t stretch (suc n) I4

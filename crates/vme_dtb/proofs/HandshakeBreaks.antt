@@ -72,14 +72,14 @@ module _ (t : Trace) (stretch : Stretch) (reads : ReadsStrobes t stretch) (n : �
   abbrev within : TransferPhase
   within = entered m.transfer (old t n) (new t n)
 
-  -- H1 by its tests; likewise `breaks-H2` to `breaks-H8` below
+  -- H1 is broken on a line by the tests of its parts
   breaks-H1 : (l : ℕ) → breaks t stretch H1 (suc n) l ≡ (is_judged stretch (suc n) && has_line t.opening.slots l
       && (is_answer_line l && not (near (high t l) (suc n)) && transfer_starts t stretch (suc n)))
   unfolding breaks is_broken
   breaks-H1 l = ap (λ b. is_judged stretch (suc n) && has_line t.opening.slots l && b)
       (and-swapped (is_answer_line l) (transfer_starts t stretch (suc n)) (not (near (high t l) (suc n))))
 
-  -- the machine's fault by H1 is the break of H1; likewise `fault-H2` to `fault-H8` below
+  -- the machine's fault by H1 is the break of H1
   fault-H1 : option_map (break_of_fault (suc n) (time_at t (suc n))) (fault_if H1 true seen.answer_not_high)
       ≡ rule_break t stretch (suc n) H1
   fault-H1 =
@@ -95,17 +95,19 @@ module _ (t : Trace) (stretch : Stretch) (reads : ReadsStrobes t stretch) (n : �
   abbrev left_unanswered_at : ℕ → Bool
   left_unanswered_at i = nat_lt i (suc n) && not (is_answered t stretch i (suc n + 1))
 
-  -- n + 1 is in such a transfer exactly if the phase and the edges say so
+  -- n + 1 is in a transfer that started before and has no answer up to there exactly if the phase and the edges say so
   in_transfer-left_unanswered : in_transfer t stretch left_unanswered_at (suc n) ≡ is_left_unanswered m.transfer seen
   in_transfer-left_unanswered = in_transfer-is_unanswered t stretch reads n from before m.transfer holds.transfer
       ∙ ap (λ b. is_unanswered m.transfer
       && not b) (answer_falls-between t n)
 
+  -- H2 is broken on a line by the tests of its parts
   breaks-H2 : (l : ℕ) → breaks t stretch H2 (suc n) l ≡ (is_judged stretch (suc n) && has_line t.opening.slots l
       && (is_strobe l && rises t l (suc n) && in_transfer t stretch left_unanswered_at (suc n)))
   unfolding breaks is_broken
   breaks-H2 l = refl
 
+  -- the machine's fault by H2 is the break of H2
   fault-H2 : option_map (break_of_fault (suc n) (time_at t (suc n)))
       (fault_if H2 (is_left_unanswered m.transfer seen) seen.strobe_rise)
       ≡ rule_break t stretch (suc n) H2
@@ -120,11 +122,13 @@ module _ (t : Trace) (stretch : Stretch) (reads : ReadsStrobes t stretch) (n : �
   abbrev replied_at : ℕ → Bool
   replied_at i = nat_lt i (suc n) && is_answered t stretch i (suc n)
 
+  -- H3 is broken on a line by the tests of its parts
   breaks-H3 : (l : ℕ) → breaks t stretch H3 (suc n) l ≡ (is_judged stretch (suc n) && has_line t.opening.slots l
       && (is_strobe l && falls t l (suc n) && in_transfer t stretch replied_at (suc n)))
   unfolding breaks is_broken
   breaks-H3 l = refl
 
+  -- the machine's fault by H3 is the break of H3
   fault-H3 : option_map (break_of_fault (suc n) (time_at t (suc n)))
       (fault_if H3 (is_replied m.transfer) seen.strobe_fall)
       ≡ rule_break t stretch (suc n) H3
@@ -135,11 +139,13 @@ module _ (t : Trace) (stretch : Stretch) (reads : ReadsStrobes t stretch) (n : �
       ∙ cond-same _ _ _ _ (in_transfer-is_replied t stretch reads n from before m.transfer holds.transfer)
       (first_of-strobe_fall t n))
 
+  -- H4 is broken on a line by the tests of its parts
   breaks-H4 : (l : ℕ) → breaks t stretch H4 (suc n) l ≡ (is_judged stretch (suc n) && has_line t.opening.slots l
       && (is_answer_line l && falls t l (suc n) && not (in_transfer t stretch (λ i. true) (suc n))))
   unfolding breaks is_broken
   breaks-H4 l = refl
 
+  -- the machine's fault by H4 is the break of H4
   fault-H4 : option_map (break_of_fault (suc n) (time_at t (suc n)))
       (fault_if H4 (not (is_within within)) seen.answer_fall)
       ≡ rule_break t stretch (suc n) H4
@@ -156,12 +162,14 @@ module _ (t : Trace) (stretch : Stretch) (reads : ReadsStrobes t stretch) (n : �
   twice_at i = is_answered t stretch i (suc n) || (answers t stretch i (suc n) && falls t DTACK (suc n)
       && falls t BERR (suc n))
 
+  -- H5 is broken on a line by the tests of its parts
   breaks-H5 : (l : ℕ) → breaks t stretch H5 (suc n) l ≡ (is_judged stretch (suc n) && has_line t.opening.slots l
       && (is_answer_line l && falls t l (suc n) && in_transfer t stretch twice_at (suc n)))
   unfolding breaks is_broken
   breaks-H5 l = refl
 
-  -- n + 1 is in such a transfer exactly if the phase and the edges say so
+  -- n + 1 is in a transfer that has an answer before, or is answered there by both lines, exactly if the phase and the
+  -- edges say so
   in_transfer-doubled : in_transfer t stretch twice_at (suc n) ≡ is_doubled within seen
   in_transfer-doubled =
       in_transfer-answered_twice t stretch reads n from before m.transfer holds.transfer
@@ -172,6 +180,7 @@ module _ (t : Trace) (stretch : Stretch) (reads : ReadsStrobes t stretch) (n : �
           ≡ (is_replied within || (is_unanswered within && (c && d)))
       same_both a b c d e f = rw (e, f) refl
 
+  -- the machine's fault by H5 is the break of H5
   fault-H5 : option_map (break_of_fault (suc n) (time_at t (suc n)))
       (fault_if H5 (is_doubled within seen) seen.answer_fall)
       ≡ rule_break t stretch (suc n) H5
@@ -185,13 +194,14 @@ module _ (t : Trace) (stretch : Stretch) (reads : ReadsStrobes t stretch) (n : �
   abbrev held_at : ℕ → Bool
   held_at l = rises t l (suc n) && not (may_rise_at t stretch l n || strobe_rises t (suc n))
 
-  -- H6 by its tests, with those on strobes since the fall of the line
+  -- H6 is broken on a line by the tests of its parts, with those on strobes since the fall of the line
   breaks-H6_plain : (l : ℕ) → breaks t stretch H6 (suc n) l ≡ (is_judged stretch (suc n) && has_line t.opening.slots l
       && (is_answer_line l && rises t l (suc n) && none (strobe_rises t) (last_before t stretch (falls t l) (suc n))
       (suc n + 1)))
   unfolding breaks is_broken
   breaks-H6_plain l = refl
 
+  -- H6 is broken on an answer line exactly if the line rises though no strobe has risen since it fell
   breaks-H6 : (l : ℕ) → breaks t stretch H6 (suc n) l ≡ (is_judged stretch (suc n) && has_line t.opening.slots l
       && (is_answer_line l && held_at l && true))
   breaks-H6 l =
@@ -214,6 +224,7 @@ module _ (t : Trace) (stretch : Stretch) (reads : ReadsStrobes t stretch) (n : �
       same_held : (a b c d e f : Bool) → a ≡ d → b ≡ e → c ≡ f → (a && not (b || c)) ≡ (d && not (e || f))
       same_held a b c d e f x y z = rw (x, y, z) refl
 
+  -- the machine's fault by H6 is the break of H6
   fault-H6 : option_map (break_of_fault (suc n) (time_at t (suc n))) (fault_if H6 true (early_rise m seen))
       ≡ rule_break t stretch (suc n)
       H6
@@ -223,11 +234,13 @@ module _ (t : Trace) (stretch : Stretch) (reads : ReadsStrobes t stretch) (n : �
       (first_of-same _ _ _ _ DTACK BERR (held_at-between DTACK m.dtack_may_rise holds.dtack)
       (held_at-between BERR m.berr_may_rise holds.berr)))
 
+  -- H7 is broken on a line by the tests of its parts
   breaks-H7 : (l : ℕ) → breaks t stretch H7 (suc n) l ≡ (is_judged stretch (suc n) && has_line t.opening.slots l
       && ((l == AS) && rises t l (suc n) && in_transfer t stretch left_unanswered_at (suc n)))
   unfolding breaks is_broken
   breaks-H7 l = refl
 
+  -- the machine's fault by H7 is the break of H7
   fault-H7 : option_map (break_of_fault (suc n) (time_at t (suc n)))
       (fault_if H7 (is_left_unanswered m.transfer seen && seen.shown.cycle_end)
       (Some AS)) ≡ rule_break t stretch (suc n) H7
@@ -251,12 +264,14 @@ module _ (t : Trace) (stretch : Stretch) (reads : ReadsStrobes t stretch) (n : �
       ∙ ap (λ b. is_unanswered within && b) (first_of-is_some (falls_between (old t n) (new t n) DTACK)
       (falls_between (old t n) (new t n) BERR) DTACK BERR)
 
+  -- H8 is broken on a line by the tests of its parts
   breaks-H8 : (l : ℕ) → breaks t stretch H8 (suc n) l ≡ (is_judged stretch (suc n) && has_line t.opening.slots l
       && (is_answer_line l && falls t l (suc n) && (is_answer t stretch (suc n) && not (near (low t AS) (suc n)))))
   unfolding breaks is_broken
   breaks-H8 l = ap (λ b. is_judged stretch (suc n) && has_line t.opening.slots l && b)
       (and_assoc (is_answer_line l && falls t l (suc n)) (is_answer t stretch (suc n)) (not (near (low t AS) (suc n))))
 
+  -- the machine's fault by H8 is the break of H8
   fault-H8 : option_map (break_of_fault (suc n) (time_at t (suc n)))
       (fault_if H8 seen.unaddressed (answer_in within seen))
       ≡ rule_break t stretch (suc n) H8

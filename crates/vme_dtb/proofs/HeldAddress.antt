@@ -286,7 +286,7 @@ module _ (t : Trace) (stretch : Stretch) where
     abbrev still_held : Bool
     still_held = any (holds_address t stretch (suc n)) (stretch.start + 1) (suc n)
 
-    -- a cycle that runs at n + 1 runs at n; likewise (`holds_address-before`) held lines
+    -- a cycle that runs at n + 1 runs at n
     cycle_runs-before : (i : ℕ) → cycle_runs t stretch i (suc n) ≡ true → cycle_runs t stretch i n ≡ true
     unfolding cycle_runs
     cycle_runs-before i h = none-shorter (rises t AS) (i + 1) (n + 1) (suc n + 1) (omega arith) h

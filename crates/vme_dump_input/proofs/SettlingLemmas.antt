@@ -33,7 +33,7 @@ and-true : (b : Bool) → b ≡ (b && true)
 and-true true = refl
 and-true false = refl
 
--- taking no steps
+-- to take no steps changes nothing of what is settled
 pub all_taken-none : (s : Settling) → s ≡ all_taken s [] []
 unfolding reached_at are_in_order
 all_taken-none s =
@@ -58,7 +58,7 @@ are_in_order-append reached (x ∷ xs) step =
     (nat_le (reached_at (max reached x.time) xs) step.time)
     ∙ ap (λ (b : Bool). nat_le reached x.time && b) (are_in_order-append (max reached x.time) xs step)
 
--- taking one step more
+-- to take steps, and then one more, is to take all of them
 all_taken-append : (first now : Settling) (steps out : List Step) (step : Step) (made : Option Step)
     → now ≡ all_taken first steps out
     → taken now step made ≡ all_taken first (steps ++ step ∷ []) (out ++ option_to_list made)
@@ -91,7 +91,7 @@ all_taken-next first now later steps out outs i step made is next grown lt at =
     (ap (λ (d : Step). take i steps ++ d ∷ []) at ∙ sym (take_more steps i step lt))
     ∙ ap (λ (l : List Step). all_taken first (take (i + 1) steps) l) (sym grown)
 
--- after the steps at most one more step comes out: a time is reached, or the recording ends
+-- what came out after the steps, and at most one step more, are what came out before them and then `outs`
 pub out-append : (first now : Settling) (steps out outs : List Step) (made : Option Step)
     → now ≡ all_taken first steps out → outs ≡ out ++ option_to_list made
     → now.out ++ option_to_list made ≡ first.out ++ outs
@@ -99,7 +99,7 @@ out-append first now steps out outs made is grown =
     ap (λ (s : Settling). s.out ++ option_to_list made) is ∙ append_assoc first.out out (option_to_list made)
     ∙ ap (λ (l : List Step). first.out ++ l) (sym grown)
 
--- a time is reached after the steps
+-- where a time is reached after the steps, `settled_to` is what is settled
 pub settled_to-reached : (first now later : Settling) (steps out outs : List Step) (time : ℕ) (made : Option Step)
     → now ≡ all_taken first steps out
     → later ≡ record now { out = now.out ++ option_to_list made; reached = max now.reached time }

@@ -87,7 +87,7 @@ same_level-refl High = refl
 same_level-refl Unknown = refl
 
 module _ (slots : ℕ) (all : List BoundGroupType) (instants : List Instant) where
-  -- the level of a line by its source among such groups is the same after any number of instants
+  -- the level of a line by its source among groups that keep their levels is the same after any number of instants
   level_by-keeps : (ws : List BoundGroupType) (n m l : ℕ) → AllKeepLevels ws
       → level_by slots all instants n l (bound_group_source ws l)
       ≡ level_by slots all instants m l (bound_group_source ws l)
@@ -168,7 +168,7 @@ capture_of_text-constants b text constant (dump, is) =
     let (t, made) = capture_of-constants b dump constant in
     (t, ap (capture_read b) is ∙ ap or_binding made)
 
--- the text of such a binding makes a recording of each dump
+-- the text of a binding to constant levels alone makes a recording of each dump
 pub MakesRecording-constants : (slots : ℕ) (text : List ℕ) → BindsConstants slots text → (dump : List ℕ) → IsDump dump
     → MakesRecording text dump
 MakesRecording-constants slots text (b, is, slots_are, constant) dump there =

@@ -107,7 +107,8 @@ module _ (t : Trace) (total workers : ℕ) (blocks deliveries : List Block) (cut
       (subst BlocksJoin (sym (IsContent-blocks answers torn.blocks torn.content))
       cut.joins) torn.torn
 
-  -- the result of a run on deliveries of a cut is the verdict of its recording, or such a refusal
+  -- the result of a run on deliveries of a cut is the verdict of its recording, or a refusal for want of memory or of a
+  -- thread
   pub IsOutcomeOf-result : (outcome : Result Report RunFault) → AreAnswered total deliveries outcome
       → IfOk outcome (λ r. IsRecorded total deliveries r.answers r.capture r.span)
       → IfOk outcome (λ r. r.verdict ≡ verdict_by rules_in_force r.capture)

@@ -46,7 +46,8 @@ IsOfSpace-of_modifier modifier h = IsOfSpace-by_tests modifier (is_extended modi
 abbrev FitsDigits : ℕ → ℕ → Type 0
 FitsDigits address highest = (address < 16 ^ ((highest + 1) / 4)) × (address < 2 ^ 32)
 
--- if addresses fit where the highest line is n, and it is n, this one fits
+-- an address fits the digits where the highest line is `highest`, if that is n, and it fits them where the highest line
+-- is n
 FitsDigits-at : (n highest address : ℕ) → highest ≡ n → (address < 2 ^ (n + 1) → FitsDigits address n)
     → address < 2 ^ (highest + 1) → FitsDigits address highest
 FitsDigits-at n highest address e f below =

@@ -23,7 +23,7 @@ are_glyphs-append (byte ∷ front) back h k =
     let parts = and_parts (leb 48 byte) (are_glyphs front) h in
     and_from _ _ parts.0 (are_glyphs-append front back parts.1 k)
 
--- a byte from the digit 0 on is such a word
+-- a word of one byte from the digit 0 on passes `are_glyphs`
 are_glyphs-one : (byte : ℕ) → 48 ≤ byte → are_glyphs (byte ∷ []) ≡ true
 are_glyphs-one byte h = grind (arith, nat_tests)
 

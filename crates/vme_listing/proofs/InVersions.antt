@@ -62,7 +62,7 @@ record IsAlike (v : Version) (other row : Row) : Type 0 where
   idle : is_never_idle other ≡ is_never_idle row
   place : (place_of v other ≡ place_of Three row) ⊎ (place_of v other ≡ None)
 
--- a row put in a version is such another row
+-- `IsAlike` holds of a row and the row put in a version
 IsAlike-row_in : (v : Version) (row : Row) → IsAlike v (row_in v row) row
 IsAlike-row_in One (Start instant) = record
     { start = refl; reset = refl; verdict = refl; idle = refl; place = inr refl }

@@ -96,7 +96,7 @@ has_no_line_feed-data (Some a) = lanes_text-no_line_feed a
 has_no_line_feed-rule : (rule : Rule) → has_no_line_feed (rule_name rule) ≡ true
 has_no_line_feed-rule rule = every-rule (λ r. has_no_line_feed (rule_name r)) refl rule
 
--- the names of all lines of the bus, tried one by one, have none
+-- the names of all lines of the bus, tried one by one, have no line feed
 has_no_line_feed-line_names : agree_below (λ l. has_no_line_feed (line_name l)) (λ l. true) line_count ≡ true
 unfolding digits
 has_no_line_feed-line_names = refl

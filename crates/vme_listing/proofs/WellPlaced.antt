@@ -317,7 +317,8 @@ module _ (t : Trace) (slots : t.opening.slots ≤ 21) (few : length t.steps < 2 
     after : stretch.start < limit
     most : limit ≤ last_instant t + 1
 
-  -- the end of the listing is such a limit
+  -- the end of the listing is after the start of the first stretch, and at most one more than the last instant
+  -- (`IsLimit`)
   IsLimit-listed_end : (stretch : Stretch) (stretches : List Stretch) → AreInOrder t (stretch ∷ stretches)
       → (found : Option Break)
       → least_of all_rules t (stretch ∷ stretches) ≡ found → IsLimit stretch (listed_end t found)
@@ -425,7 +426,7 @@ module _ (t : Trace) (slots : t.opening.slots ≤ 21) (few : length t.steps < 2 
     rows_after_start stretch = rows_before t stretch (min stretch.end limit) (min stretch.end limit)
         ++ reset_rows t limit stretch
 
-    -- a stretch that starts before the limit has its start as a row, and then these
+    -- a stretch that starts before the limit has its start as a row, and then `rows_after_start`
     rows_of_stretch-after_start : (stretch : Stretch) → stretch.start < limit → rows_of_stretch t limit stretch
         ≡ Start stretch.start
         ∷ rows_after_start stretch

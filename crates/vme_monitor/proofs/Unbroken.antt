@@ -31,13 +31,14 @@ module _ (t : Trace) (stretch : Stretch) (j : ℕ) (unjudged : is_judged stretch
         (and-false (has_line t.opening.slots l))
   ]
 
-  -- no rule is broken at such an instant
+  -- a rule isn't broken at an instant that isn't judged, unless it is the stretch's end and a line is lost there
   rule_break-none : (r : Rule) → rule_break t stretch j r ≡ None
   unfolding rule_break
   rule_break-none r = rw (least-none (breaks t stretch r j) 0 line_count (fails-any (breaks t stretch r j) 0 line_count
       (λ l a b. breaks-none r l))) refl
 
-  -- none of the rules is broken at such an instant
+  -- no rule of a list is broken at an instant that isn't judged, unless it is the stretch's end and a line is lost
+  -- there
   break_at-none : (rules : List Rule) → break_at t stretch rules j ≡ None
   unfolding break_at
   break_at-none [] = refl

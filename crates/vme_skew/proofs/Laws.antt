@@ -442,7 +442,7 @@ AreSettled-step_between o xs v w time can_lead h = by_test (any (differs v w) 0 
           earlier = elim h.earlier [ inl e ↦ inl e | inr lt ↦ inr (omega (arith, lt)) ];
         })
 
--- where the test holds, either is so
+-- where the test for i being 0, or a less than b, holds, i is 0 or a is less than b
 pub first_or_later-cases : (i a b : ℕ) → ((i == 0) || nat_lt a b) ≡ true → (i ≡ 0) ⊎ (a < b)
 first_or_later-cases i a b h = elim (or_cases (i == 0) (nat_lt a b) h) [
   | inl first ↦ inl (eqb-true i 0 first)

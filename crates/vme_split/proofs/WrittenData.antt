@@ -83,7 +83,7 @@ module _ (t : Trace) (stretch : Stretch) (is : IsStretchOf t stretch) (end : ℕ
           by (inr more) = clash (strobes_high t (r - 1)) (strobes_high-before h)
               (any-fails (strobes_high t) (i + 1) r (r - 1) strobes_high-none more (omega (arith, later)))
 
-      -- a transfer starts at r just if r is the start of this one
+      -- a transfer starts at r, in the transfer that starts at i, just if r is i
       transfer_starts-same : transfer_starts t stretch r ≡ (i == r)
       transfer_starts-same = by (same_or_after i r lasts-order)
         where

@@ -123,7 +123,7 @@ pub reset-kept : (v : Levels) (cs : List Change) → touches_control v.slots cs 
     ≡ is_reset v
 reset-kept v cs h = ap is_low (level-kept v cs SYSRESET (is_changed-no_control v.slots cs SYSRESET h refl))
 
--- if a is false without b, it is so without c
+-- if `a && not b` is false, and b is false, then `a && not c` is false
 and-not_still_false : (a b c : Bool) → (a && not b) ≡ false → b ≡ false → (a && not c) ≡ false
 and-not_still_false true true c h k = absurd (cc)
 and-not_still_false true false c h k = absurd (cc)

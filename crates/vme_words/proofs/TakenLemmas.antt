@@ -243,7 +243,7 @@ join_rules = parts ∷ help ∷ []
 abbrev tell_rules : List Rule
 tell_rules = list ∷ file_count ∷ parts ∷ help ∷ []
 
--- each argument of such a subcommand is known
+-- each argument of a subcommand that judges a recording is known
 EachKnown-recording : EachKnown recording_rules recording_rules
 unfolding clap_on_literals
 EachKnown-recording = (
@@ -443,7 +443,7 @@ check_kinds-three true true false e = cc
 check_kinds-three true false l e = cc
 check_kinds-three false d l e = cc
 
--- words of such a subcommand without a fault give its options and the names of its files
+-- words of a subcommand that judges a recording, without a fault, give its options and the names of its files
 HasOptionsAndNames-recording : (name : Text) (words : List Text)
     → level_fault (recording name) [] nothing_held words false [] ≡ []
     → HasOptionsAndNames (rows_after recording_rules [] words)
@@ -693,7 +693,7 @@ abbrev EachMakes : List Shape → Type 0
 EachMakes [] = Unit {0}
 EachMakes (s ∷ rest) = Makes s × EachMakes rest
 
--- a subcommand that is found among such ones is such a one, and passes the test
+-- a subcommand that is found among some that satisfy `Makes` does so too, and passes the test
 Makes-found : (xs : List Shape) (test : Shape → Bool) (s : Shape) → EachMakes xs → find test xs ≡ Some s → Makes s
     × (test s ≡ true)
 Makes-found [] test s makes e = cc
