@@ -48,11 +48,12 @@ abbrev pub is_fine : {A E : Type 0} → Result A E → Bool
 is_fine (Ok a) = true
 is_fine (Err e) = false
 
--- if a chain of two results has no fault, neither has the first; `fine_second` says this of the second
+-- if a chain of two results has no fault, neither has the first
 pub fine_first : {A B E : Type 0} (r : Result A E) (f : A → Result B E) → is_fine (r >>= f) ≡ true → is_fine r ≡ true
 fine_first (Ok a) f e = refl
 fine_first (Err fault) f e = e
 
+-- if a chain of two results has no fault, neither has the second
 fine_second : {A B C E : Type 0} (r : Result A E) (s : Result B E) (f : A → B → Result C E)
     → is_fine (r >>= λ a. s >>= λ b. f a b) ≡ true → is_fine s ≡ true
 fine_second (Ok a) s f e = fine_first s (f a) e

@@ -11,6 +11,7 @@ use Rattle.vcd_read.specs.declared.dump.Variable.{Variable}
 use Rattle.vme_annotation.specs.Fresh.{has_part}
 use Rattle.vme_annotation.proofs.BoundLemmas.{has_path}
 
+-- the byte is a dot
 abbrev is_dot : ℕ → Bool
 is_dot b = eqb b 46
 
@@ -58,6 +59,7 @@ joined_by_dots-cons b m names c path e = rw e refl
 -- the scope's name is `first ∷ others`, which has no dot, and the variable's name is `n ∷ name`
 module _ (first : ℕ) (others : List ℕ) (undotted : All (λ b. is_dot b ≡ false) (first ∷ others)) (n : ℕ)
     (name : List ℕ) where
+  -- the name of the scope
   abbrev scope : List ℕ
   scope = first ∷ others
 

@@ -145,11 +145,12 @@ module _ (m : Memories) (v w : Levels) (cs : List Change) where
       acknowledge_next IsNothing
       refl (λ v. refl) refl (λ p v w s. refl) acknowledge_observation v w cs m.acknowledge
 
--- all kinds have numbers below `n` (`AllBelow`), or from `n` on (`AllFrom`)
+-- all kinds have numbers below `n`
 abbrev pub AllBelow : ℕ → List MarkKind → Type 0
 AllBelow n [] = Unit {0}
 AllBelow n (k ∷ ks) = (kind_number k < n) × AllBelow n ks
 
+-- all kinds have numbers from `n` on
 abbrev pub AllFrom : ℕ → List MarkKind → Type 0
 AllFrom n [] = Unit {0}
 AllFrom n (k ∷ ks) = (n ≤ kind_number k) × AllFrom n ks

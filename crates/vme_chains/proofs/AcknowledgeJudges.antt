@@ -36,6 +36,7 @@ use Rattle.vme_chains.proofs.AcknowledgeMeaning.{Holds, Holds-start, Holds-next,
 
 module _ (t : Trace) (stretch : Stretch) (ok : malformed_step t ≡ None) (few : t.opening.slots ≤ 21)
     (facts : IsStretch t stretch) where
+  -- a step of the monitor of the interrupt acknowledge
   abbrev step : AcknowledgeMemory → Levels → Levels → List Change → Next AcknowledgeMemory
   step = machine_step acknowledge_observation acknowledge_next
 

@@ -12,11 +12,12 @@ use Rattle.vme_dtb.specs.CycleState.{is_read_modify_write_broken, is_direction_c
 use Rattle.vme_dtb.specs.Machine.{fault_if, cycle_fault, cycle_faults, first_of_faults, or_first}
 use Rattle.vme_dtb.specs.declared.cycle.CyclePhase.{CyclePhase}
 
--- there is no fault without a line, nor (`fault_if-not_applied`) where the rule doesn't apply
+-- there is no fault without a line
 pub fault_if-none : (r : Rule) (applies : Bool) → fault_if r applies None ≡ None
 fault_if-none r true = refl
 fault_if-none r false = refl
 
+-- there is no fault where the rule doesn't apply
 pub fault_if-not_applied : (r : Rule) (b : Bool) (o : Option ℕ) → b ≡ false → fault_if r b o ≡ None
 fault_if-not_applied r b o e = rw e refl
 

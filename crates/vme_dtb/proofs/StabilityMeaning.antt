@@ -172,9 +172,11 @@ module _ (t : Trace) (stretch : Stretch) where
 
   -- the levels before and after the step to n + 1
   module _ (reads : ReadsStrobes t stretch) (n : ℕ) (from : stretch.start ≤ n) (before : suc n < stretch.end) where
+    -- the levels before the step to n + 1
     abbrev pub old : Levels
     old = levels_at t n
 
+    -- the levels after the step to n + 1
     abbrev pub new : Levels
     new = levels_at t (suc n)
 

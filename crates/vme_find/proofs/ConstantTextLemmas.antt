@@ -93,6 +93,7 @@ holds_up_to_21 p all n low high = not-false (p n) (any-fails (λ k. not (p k)) 1
 abbrev IsSlotsStatement : ℕ → List StatementText → Type 0
 IsSlotsStatement slots ss = (s : StatementText) × (ss ≡ s ∷ []) × (slots_stated s.first s.others ≡ Ok slots)
 
+-- the count, as a result without a fault
 abbrev ok_count : ℕ → Result ℕ BindFaultKind
 ok_count n = Ok n
 

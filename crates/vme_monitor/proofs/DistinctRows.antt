@@ -52,6 +52,7 @@ sum_by-without_outside h n a (suc len) past =
           (omega (arith, past)),
     )
 
+-- the sum of h over a range that has n is that without n, and h n
 sum_by-without : (h : ℕ → ℕ) (n a len : ℕ) → a ≤ n → n < a + len → sum_by h (range_with_len a len)
     ≡ sum_by (without h n)
     (range_with_len a len) + h n

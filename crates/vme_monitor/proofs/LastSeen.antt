@@ -10,7 +10,7 @@ use Rattle.vme_monitor.specs.Walk.{outcome_of}
 use Rattle.vme_monitor.specs.declared.link.TableRow.{TableRow}
 use Rattle.vme_monitor.specs.Meeting.{AreAmong, AreLastSeen, AreDistinct, memories_in}
 
--- equal options hold equal values, and `None` isn't `Some`
+-- two options that are equal have equal values
 pub same_value : {A : Type 0} (x y : A) → Some x ≡ Some y → x ≡ y
 same_value {A} x y e = ap (λ (o : Option A). unwrap_or o x) e
 
@@ -19,10 +19,12 @@ abbrev Holds : {A : Type 0} → Option A → Type 0
 Holds None = ⊥
 Holds (Some x) = Unit {0}
 
+-- None isn't equal to an option with a value
 pub no_value : {A : Type 0} (x : A) → None ≡ Some x → ⊥
 no_value {A} x e = subst (λ (o : Option A). Holds o) (sym e) tt
 
 module _ {A : Type 0} where
+  -- an item of a list with x at the end is one of the list, or x at the index after it
   pub get_pushed : (xs : List A) (x y : A) (i : ℕ) → slice_get (xs ++ x ∷ []) i ≡ Some y → (slice_get xs i ≡ Some y) ⊎
       ((i ≡ length xs) × (y ≡ x))
   get_pushed [] x y zero e = inr (refl, same_value y x (sym e))
@@ -30,11 +32,13 @@ module _ {A : Type 0} where
   get_pushed (z ∷ xs) x y zero e = inl e
   get_pushed (z ∷ xs) x y (suc i) e = ⊎_elim (λ a. inl a) (λ a. inr (ap suc a.0, a.1)) (get_pushed xs x y i e)
 
+  -- the item at an index that is set is the one that it is set to
   pub get_set : (l : List A) (i : ℕ) (a : A) → i < length l → slice_get (set l i a) i ≡ Some a
   get_set [] i a h = absurd (omega arith)
   get_set (x ∷ xs) zero a h = refl
   get_set (x ∷ xs) (suc i) a h = get_set xs i a (omega arith)
 
+  -- setting an item leaves those at other indices
   pub get_unset : (l : List A) (i j : ℕ) (a : A) → j ≢ i → slice_get (set l i a) j ≡ slice_get l j
   get_unset [] i j a n = refl
   get_unset (x ∷ xs) zero zero a n = absurd (n refl)
@@ -42,11 +46,13 @@ module _ {A : Type 0} where
   get_unset (x ∷ xs) (suc i) zero a n = refl
   get_unset (x ∷ xs) (suc i) (suc j) a n = get_unset xs i j a (λ e. n (ap suc e))
 
+-- the memories of rows and one more are those of the rows, and that of the one more
 pub memories_pushed : {P : Type 0} (rows : List (TableRow P)) (row : TableRow P)
     → memories_in (map outcome_of (rows ++ row ∷ [])) ≡ memories_in (map outcome_of rows) ++ row.memory ∷ []
 memories_pushed [] row = refl
 memories_pushed (r ∷ rows) row = ap (λ l. r.memory ∷ l) (memories_pushed rows row)
 
+-- the memories of outcomes that show nothing are the memories that they are made of
 pub memories_unchanged : {P : Type 0} (ms : List P) → memories_in (map nothing_shown ms) ≡ ms
 memories_unchanged [] = refl
 memories_unchanged (m ∷ ms) = ap (λ l. m ∷ l) (memories_unchanged ms)
@@ -65,12 +71,14 @@ module _ {P : Type 0} (place : P → ℕ) where
   abbrev pub AreStamped : ℕ → List P → List ℕ → Type 0
   AreStamped stamp ms last_seen = (i : ℕ) (p : P) → slice_get ms i ≡ Some p → slice_get last_seen (place p) ≡ Some stamp
 
+  -- setting an entry to `stamp` leaves the entries at the places of ms at `stamp`
   stamped_set : (stamp : ℕ) (ms : List P) (last_seen : List ℕ) (k : ℕ) → k < length last_seen → AreStamped stamp ms
       last_seen → AreStamped stamp ms (set last_seen k stamp)
   stamped_set stamp ms last_seen k below stamped i p e = dite (ℕ_discrete (place p) k)
       (λ same. ap (λ n. slice_get (set last_seen k stamp) n) same ∙ get_set last_seen k stamp below)
       (λ ne. get_unset last_seen k (place p) stamp ne ∙ stamped i p e)
 
+  -- after the entry at the place of m is set to `stamp`, those at the places of ms and of m are `stamp`
   pub stamped_appended : (stamp : ℕ) (ms : List P) (last_seen : List ℕ) (m : P) (k : ℕ) → k ≡ place m
       → k < length last_seen → AreStamped stamp ms last_seen → AreStamped stamp (ms ++ m ∷ []) (set last_seen k stamp)
   stamped_appended stamp ms last_seen m k is below stamped i p e =
@@ -93,23 +101,25 @@ module _ {P : Type 0} (place : P → ℕ) where
       new r n e at = other (same_value found stamp (sym there ∙ ap (λ n. slice_get last_seen n) (is ∙ sym at)
           ∙ stamped n r e))
 
-  -- no memory of ms is at a place without an entry, nor (`none_past_end`, `none_elsewhere`) at one whose entry is an
-  -- index past ms or that of a memory at another place
+  -- no memory of ms is at a place without an entry
   pub none_without_entry : (ms : List P) (last_seen : List ℕ) (k : ℕ) → length last_seen ≤ k
       → AreLastSeen place ms last_seen → (i : ℕ) (p : P) → slice_get ms i ≡ Some p → place p ≢ k
   none_without_entry ms last_seen k past index_at_place i p e same = let w = slice_get_within last_seen (place p) i
       (index_at_place i p e) in omega (arith, w, same, past)
 
+  -- if a memory of ms is at the place k, the entry at k is its index
   entry_of : (ms : List P) (last_seen : List ℕ) (k at : ℕ) → slice_get last_seen k ≡ Some at → AreLastSeen place ms
       last_seen → (i : ℕ) (p : P) → slice_get ms i ≡ Some p → place p ≡ k → at ≡ i
   entry_of ms last_seen k at there index_at_place i p e same = same_value at i
       (sym there ∙ ap (λ n. slice_get last_seen n) (sym same) ∙ index_at_place i p e)
 
+  -- no memory of ms is at a place whose entry is an index past ms
   pub none_past_end : (ms : List P) (last_seen : List ℕ) (k at : ℕ) → slice_get last_seen k ≡ Some at → length ms ≤ at
       → AreLastSeen place ms last_seen → (i : ℕ) (p : P) → slice_get ms i ≡ Some p → place p ≢ k
   none_past_end ms last_seen k at there past index_at_place i p e same = let is = entry_of ms last_seen k at there
       index_at_place i p e same in let w = slice_get_within ms i p e in omega (arith, is, w, past)
 
+  -- no memory of ms is at a place whose entry is the index of a memory at another place
   pub none_elsewhere : (ms : List P) (last_seen : List ℕ) (k at : ℕ) (other : P) → slice_get last_seen k ≡ Some at
       → slice_get ms at ≡ Some other → place other ≢ k → AreLastSeen place ms last_seen → (i : ℕ) (p : P)
       → slice_get ms i
