@@ -63,7 +63,7 @@ only_after-with_bits (Only bits) (Some next) others = by_same (same_bits bits ne
     by_same false = refl
 only_after-with_bits Several (Some next) others = refl
 
--- the candidates among a variable and those after it
+-- the candidates among a variable and those after it are that variable's, if it is one, and theirs
 candidates-next : (named : VariableSelector) (v : Variable) (vs : List Variable) (next : Option BitRange)
     → candidate named v ≡ next
     → filter_map (candidate named) (v ∷ vs) ≡ prepended next (filter_map (candidate named) vs)

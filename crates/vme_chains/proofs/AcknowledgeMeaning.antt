@@ -132,7 +132,8 @@ module _ (t : Trace) (stretch : Stretch) where
           ≡ cond (falls_between old new AS) (Some (suc n)) (cycle_of t stretch n)
       cycle_of-falls = cycle_of-next n ∙ rw (nat_le-next, cycle_starts-next) refl
 
-      -- the cycle of n runs on at n + 1
+      -- if the address strobe is low at n and at n + 1, the cycle of n is that of n + 1 too, and the memory says
+      -- whether DTACK answered a transfer of it
       HasOpenCycle-goes_on : (m : AcknowledgeMemory) → Holds n m → falls_between old new AS ≡ false → low t AS n ≡ true
           → is_low (level_at new AS) ≡ true → HasOpenCycle (suc n) (answered_by_dtack_after m old new)
       HasOpenCycle-goes_on m h no_fall on stays =
@@ -153,7 +154,8 @@ module _ (t : Trace) (stretch : Stretch) where
           within : (i n : ℕ) → i < n + 1 → nat_le i (suc n) ≡ true
           within i n h = grind (arith, nat_tests)
 
-      -- a cycle starts at n + 1
+      -- if the address strobe falls, the cycle of n + 1 starts there, and the memory says whether DTACK answered a
+      -- transfer of it
       HasOpenCycle-starts : (m : AcknowledgeMemory) → IsTransferPhase t stretch n m.transfer → m.answered_by_dtack
           ≡ false
           → falls_between old
@@ -211,7 +213,7 @@ module _ (t : Trace) (stretch : Stretch) where
       unfolding low
       answered_by_dtack-idle m off = rw off refl
 
-      -- the memory is right of n + 1
+      -- if the memory is right of n, the memory after the step is right of n + 1
       pub Holds-next : (m : AcknowledgeMemory) → Holds n m → Holds (suc n) (memory_after m old new)
       Holds-next m h = record {
         transfer = IsTransferPhase-tracked t stretch facts.reads n from before m.transfer h.transfer;

@@ -61,7 +61,7 @@ has_no_line_feed-decimal n h = has_no_line_feed-glyphs (decimal n) (are_glyphs-d
 has_no_line_feed-number : (n : ℕ) → is_number n ≡ true → has_no_line_feed (decimal n) ≡ true
 has_no_line_feed-number n h = has_no_line_feed-decimal n (ltb-true n (2 ^ 32) h)
 
--- the text of the instant of an edge, or of its absence has no line feed
+-- the text of the instant of an edge, or of its absence, has no line feed
 has_no_line_feed-edge : (edge : Option ℕ) → is_edge edge ≡ true → has_no_line_feed (edge_text edge) ≡ true
 has_no_line_feed-edge None h = refl
 has_no_line_feed-edge (Some n) h = has_no_line_feed-number n h

@@ -35,9 +35,7 @@ without-here h n = ap (λ b. cond b 0 (h n)) (eq-eqb n n refl)
 without-elsewhere : (h : ℕ → ℕ) (n k : ℕ) → k ≢ n → without h n k ≡ h k
 without-elsewhere h n k ne = ap (λ b. cond b 0 (h k)) (ne_eqb k n ne)
 
--- sums of h and of `without h n` over the `len` numbers from a on: they are equal if n is below a, and (`sum_by-
--- without`)
--- differ by h n if n is among these numbers
+-- the sum of `without h n` over the `len` numbers from a on is that of h, if n is below a
 sum_by-without_outside : (h : ℕ → ℕ) (n a len : ℕ) → n < a → sum_by (without h n) (range_with_len a len)
     ≡ sum_by h (range_with_len a len)
 sum_by-without_outside h n a zero past = refl
