@@ -27,7 +27,7 @@ with_tokens cut more = record { run = cut.run; others = cut.others ++ more }
 abbrev spaced : List Token → Cut
 spaced tokens = record { run = []; others = tokens }
 
--- a run, and tokens after it, with `more` after these
+-- a run and the tokens after it, with `more` after these, are the run and the tokens, and then `more`
 token_of-append : (line : ℕ) (run : List ℕ) (others more : List Token) → token_of line run (others ++ more)
     ≡ token_of line run others ++ more
 token_of-append line [] others more = refl
@@ -40,7 +40,7 @@ module _ (line b : ℕ) (cut : Cut) (more : List Token) where
   by_space true e = rw (e, token_of-append (next_line line b) cut.run cut.others more) refl
   by_space false e = rw e refl
 
-  -- a byte before a cut with the tokens `more` after it
+  -- a byte put before a cut with the tokens `more` after it is the byte put before the cut, and then `more`
   with_byte-with_tokens : with_byte line b (with_tokens cut more) ≡ with_tokens (with_byte line b cut) more
   with_byte-with_tokens = by_space (is_space b) refl
 
@@ -132,7 +132,8 @@ module _ (more : List Token) where
   SplitsHeader place ts = IsBetweenSections (header_from place ts)
       → header_from place (ts ++ more) ≡ after_items (header_from place ts).items (header_from between more)
 
-  -- the end of a section that doesn't end the definitions (`test`) splits the header so
+  -- `SplitsHeader` holds from the end of a section on, if it does after it; `test` says whether the section ends the
+  -- definitions
   SplitsHeader-section_end : (section : Section) (ts : List Token) (test : Bool) → SplitsHeader between ts
       → IsBetweenSections (elim test as (λ _. Header) [
         | true ↦ record { items = []; body = Some ts }
@@ -150,7 +151,7 @@ module _ (more : List Token) where
   SplitsHeader-section_end section ts false rest between_sections = ap (with_item (whole section))
       (rest between_sections)
 
-  -- a token in a section, its end if `test` holds, splits the header so, if the tokens after it do
+  -- `SplitsHeader` holds from a token in a section on, its end if `test` holds, if it does from the tokens after it on
   SplitsHeader-inside : (section : Section) (t : Token) (ts : List Token) (test : Bool) → SplitsHeader between ts
       → SplitsHeader (inside (with_word section t.bytes)) ts
       → IsBetweenSections (elim test as (λ _. Header) [
@@ -178,7 +179,8 @@ module _ (more : List Token) where
       (ends_definitions section) rest between_sections
   SplitsHeader-inside section t ts false rest goes_on between_sections = goes_on between_sections
 
-  -- a token between sections, which opens one if `test` holds, splits the header so, if the tokens after it do
+  -- `SplitsHeader` holds from a token between sections on, which opens one if `test` holds, if it does from the tokens
+  -- after it on
   SplitsHeader-between : (t : Token) (ts : List Token) (test : Bool) → SplitsHeader between ts
       → SplitsHeader (inside (opened t)) ts
       → IsBetweenSections (elim test as (λ _. Header) [
@@ -196,7 +198,7 @@ module _ (more : List Token) where
   SplitsHeader-between t ts true rest goes_on between_sections = goes_on between_sections
   SplitsHeader-between t ts false rest goes_on between_sections = ap (with_item (stray t.line)) (rest between_sections)
 
-  -- all tokens split the header so, from each place on
+  -- `SplitsHeader` holds of all tokens, from each place on
   pub SplitsHeader-all : (ts : List Token) (place : HeaderPlace) → SplitsHeader place ts
   unfolding header_from
   SplitsHeader-all [] between between_sections = refl
@@ -218,11 +220,11 @@ module _ (more : List Token) where
   ExtendsBody place ts = (body : List Token) → (header_from place ts).body ≡ Some body
       → header_from place (ts ++ more) ≡ with_more_body (header_from place ts) body
 
-  -- a body that there is is one
+  -- two options that are equal have equal values
   some-same_body : (a b : List Token) → Some a ≡ Some b → a ≡ b
   some-same_body a b e = ap (λ (o : Option (List Token)). unwrap_or o a) e
 
-  -- the end of a section, which ends the definitions if `test` holds, extends the body so
+  -- `ExtendsBody` holds from the end of a section on, which ends the definitions if `test` holds, if it does after it
   ExtendsBody-section_end : (section : Section) (ts body : List Token) (test : Bool) → ExtendsBody between ts
       → (elim test as (λ _. Header) [
         | true ↦ record { items = []; body = Some ts }
@@ -240,7 +242,7 @@ module _ (more : List Token) where
       ap (λ (b : List Token). record { items = []; body = Some (b ++ more) }) (some-same_body ts body ends)
   ExtendsBody-section_end section ts body false rest ends = ap (with_item (whole section)) (rest body ends)
 
-  -- a token in a section, its end if `test` holds, extends the body so, if the tokens after it do
+  -- `ExtendsBody` holds from a token in a section on, its end if `test` holds, if it does from the tokens after it on
   ExtendsBody-inside : (section : Section) (t : Token) (ts body : List Token) (test : Bool) → ExtendsBody between ts
       → ExtendsBody (inside (with_word section t.bytes)) ts
       → (elim test as (λ _. Header) [
@@ -268,7 +270,8 @@ module _ (more : List Token) where
       ExtendsBody-section_end section ts body (ends_definitions section) rest ends
   ExtendsBody-inside section t ts body false rest goes_on ends = goes_on body ends
 
-  -- a token between sections, which opens one if `test` holds, extends the body so, if the tokens after it do
+  -- `ExtendsBody` holds from a token between sections on, which opens one if `test` holds, if it does from the tokens
+  -- after it on
   ExtendsBody-between : (t : Token) (ts body : List Token) (test : Bool) → ExtendsBody between ts
       → ExtendsBody (inside (opened t)) ts
       → (elim test as (λ _. Header) [
@@ -286,7 +289,7 @@ module _ (more : List Token) where
   ExtendsBody-between t ts body true rest goes_on ends = goes_on body ends
   ExtendsBody-between t ts body false rest goes_on ends = ap (with_item (stray t.line)) (rest body ends)
 
-  -- if the definitions end in `ts`, tokens after `ts` are added to the body
+  -- `ExtendsBody` holds of all tokens, from each place on
   pub ExtendsBody-all : (ts : List Token) (place : HeaderPlace) → ExtendsBody place ts
   unfolding header_from
   ExtendsBody-all [] between body ends = absurd cc

@@ -12,7 +12,7 @@ use Rattle.vcd_read.specs.Reading.{line_behind}
 abbrev with_tokens : Cut → List Token → Cut
 with_tokens cut more = record { run = cut.run; others = cut.others ++ more }
 
--- a run, and tokens after it, with `more` after these
+-- a run and the tokens after it, with `more` after these, are the run and the tokens, and then `more`
 token_of-append : (line : ℕ) (run : List ℕ) (others more : List Token) → token_of line run (others ++ more)
     ≡ token_of line run others ++ more
 token_of-append line [] others more = refl
@@ -25,7 +25,7 @@ module _ (line b : ℕ) (cut : Cut) (more : List Token) where
   by_space true e = rw (e, token_of-append (next_line line b) cut.run cut.others more) refl
   by_space false e = rw e refl
 
-  -- a byte before a cut with the tokens `more` after it
+  -- a byte put before a cut with the tokens `more` after it is the byte put before the cut, and then `more`
   with_byte-with_tokens : with_byte line b (with_tokens cut more) ≡ with_tokens (with_byte line b cut) more
   with_byte-with_tokens = by_space (is_space b) refl
 
@@ -86,14 +86,15 @@ tokens_from-split front s rest line e =
     ap (all_of line) (cut_from-split front s rest line e) ∙ token_of-append line cut.run cut.others
     (tokens_from (line_behind line (front ++ s ∷ [])) rest)
 
--- the tokens of an empty prefix, and those of what follows
+-- the tokens of an empty prefix and what follows are those of the prefix, and then those of what follows
 pub tokens_from-split_empty : (text rest : List ℕ) (line : ℕ) → tokens_from line (take 0 text ++ rest)
     ≡ tokens_from line
     (take 0 text) ++ tokens_from (line_behind line (take 0 text)) rest
 unfolding cut_from
 tokens_from-split_empty text rest line = ap (λ (l : ℕ). tokens_from l rest) (sym (zero-add line))
 
--- the tokens of a prefix that ends after a space, and those of what follows
+-- the tokens of a prefix that ends after a space, and what follows, are those of the prefix, and then those of what
+-- follows
 pub tokens_from-split_space : (text rest : List ℕ) (end line : ℕ) → end < length text → is_space (get_or text end 0)
     ≡ true
     → tokens_from line (take (end + 1) text ++ rest) ≡ tokens_from line (take (end + 1) text)
@@ -109,7 +110,8 @@ pub drop-by_length : (text : List ℕ) (at : ℕ) → at ≤ length text → dro
     ≡ drop (length text - length (drop at text)) text
 drop-by_length text at le = ap (λ (n : ℕ). drop n text) (omega (arith, length-drop at text, le))
 
--- the tokens from `at` on of a text that ends after a space, and those of what follows
+-- the tokens from `at` on of a text that ends after a space, and what follows, are those of the text from `at` on, and
+-- then those of what follows
 pub tokens_from-append_left : (text rest : List ℕ) (at line : ℕ)
     → (0 < length text → is_space (get_or text (length text - 1) 0) ≡ true)
     → tokens_from line (drop at text ++ rest) ≡ tokens_from line (drop at text)

@@ -42,7 +42,8 @@ module _ {A : Type 0} (with_change : A → ℕ → List Bit → A) (with_instant
   abbrev state_of : BodyFold A → Result BodyContext VcdFault → Result (State A) VcdFault
   state_of p stood = stood >>= λ next. Ok (record { context = next; progress = p })
 
-  -- an item, and then items up to whose first fault this holds
+  -- the current time before the first fault of an item and those after it is the time of the last time item before that
+  -- fault, if this holds of the items after it
   time-reached_before_item : (s : State A) (item : BodyItem) (items : List BodyItem)
       (stood : Result BodyContext VcdFault)
       → ((next : State A) → (reached_before with_change with_instant nets next items).progress.time

@@ -252,7 +252,7 @@ module _ (i cycle answer : ℕ) (close : Option ℕ) (lanes : Option Lanes) (row
   answered_row_of write dtack =
       row.Transfer (marked_direction write) (cond dtack Dtack Berr) i cycle answer close lanes
 
-  -- the counts of that row and of `rows`
+  -- the counts of the row of a transfer that was answered, and of `rows`
   abbrev answered_counts : Bool → Bool → Counts
   answered_counts write dtack =
       sum_of (of_direction suc nothing_counted write)
@@ -260,7 +260,7 @@ module _ (i cycle answer : ℕ) (close : Option ℕ) (lanes : Option Lanes) (row
       (cond dtack (record nothing_counted { by_dtack = 1 }) (record nothing_counted { by_berr = 1 }))
       (counts_of_rows rows))
 
-  -- the row counts its direction and its answer
+  -- the row of a transfer that was answered counts its direction and its answer
   counts_of_rows-answered_row_of : (write dtack : Bool) → counts_of_rows (answered_row_of write dtack ∷ rows)
       ≡ answered_counts write dtack
   unfolding counts_of_rows

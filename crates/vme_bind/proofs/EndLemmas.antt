@@ -144,7 +144,7 @@ module _ (shown now : Levels) (first last line : ℕ) (h : DifferWithin shown no
         | inr ne ↦ level_at-set_other shown line l (level_at now line) ne ∙ same_unless_differs shown now l (alone l ne)
       ])
 
-  -- if it differs, the line's change is the only change
+  -- if the line has another level in `now`, its change is the only change
   pub lone-change : same_level (level_at shown line) (level_at now line) ≡ false → change_to now line ∷ []
       ≡ changes_between shown now
   unfolding those

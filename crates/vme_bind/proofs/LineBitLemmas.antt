@@ -74,7 +74,8 @@ line_bits_on-set (x ∷ nets) (suc net) old new line_bit lt is appended (suc k) 
     ∙ ap (λ (b : Bool). cond b (line_bits_on nets net ++ line_bit ∷ []) (line_bits_on nets k))
     (sym (eqb-suc-suc k net))
 
--- as `line_bits_on-set`, where `nets` has the lines that `before` has
+-- adding `line_bit` to the entry of `net` adds it to the lines that `before` has on that net alone, if `nets` has the
+-- lines that `before` has
 pub line_bits_on-set_same : (before nets : List (Vec LineBit)) (net : ℕ) (old new : Vec LineBit) (line_bit : LineBit)
     → ((k : ℕ) → line_bits_on nets k ≡ line_bits_on before k) → net < length nets → old ≡ get_or nets net old
     → new.items ≡ old.items ++ line_bit ∷ [] → (k : ℕ) → line_bits_on (set nets net new) k

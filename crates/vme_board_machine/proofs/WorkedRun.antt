@@ -90,27 +90,27 @@ module _ (b c : Block) (own : b.number ≡ 0) where
   abbrev calls_1 : ℕ → BenchProgress
   calls_1 = update (λ _. idle) 0 (has_claimed 0 b)
 
-  -- after the claim of the bench 1 failed
+  -- where each bench is in its call, after the claim of the bench 1 failed
   abbrev calls_2 : ℕ → BenchProgress
   calls_2 = update calls_1 1 idle
 
-  -- after the bench 0 put its block into the slot
+  -- where each bench is in its call, after the bench 0 put its block into the slot
   abbrev calls_3 : ℕ → BenchProgress
   calls_3 = update calls_2 0 (has_put 0 b)
 
-  -- after the bench 0 filed the number
+  -- where each bench is in its call, after the bench 0 filed the number
   abbrev calls_4 : ℕ → BenchProgress
   calls_4 = update calls_3 0 idle
 
-  -- after the bench 1 took the number
+  -- where each bench is in its call, after the bench 1 took the number
   abbrev calls_5 : ℕ → BenchProgress
   calls_5 = update calls_4 1 (has_taken 0 b)
 
-  -- after the bench 1 lifted the block out of the slot
+  -- where each bench is in its call, after the bench 1 lifted the block out of the slot
   abbrev calls_6 : ℕ → BenchProgress
   calls_6 = update calls_5 1 (has_lifted 0 b)
 
-  -- after the bench 1 returned the slot
+  -- where each bench is in its call, after the bench 1 returned the slot
   abbrev calls_7 : ℕ → BenchProgress
   calls_7 = update calls_6 1 idle
 

@@ -72,7 +72,7 @@ module _ (binding : BoundLines) (old now : Reading) (input : InputSoFar) (h : Is
 
 module _ (binding : BoundLines) (old now : Reading) (input : InputSoFar) (r : StepReading) (n : ℕ)
     (at : IsAtDefinitions binding old now input r n) where
-  -- the definitions are taken
+  -- `IsAtBody` holds once the definitions are taken
   pub IsAtBody-definitions : IsAtBody binding old now (record input { held = drop n input.held }) r
   IsAtBody-definitions = record {
     done = take n input.held;

@@ -29,7 +29,7 @@ get_or-unmarked n l = elim (cases_lt l n) [
   | inr past ↦ get_or_past (replicate n false) l false (omega (arith, past, length-replicate n false))
 ]
 
--- where a group begins, nothing is touched
+-- `KeepsTouchedLines` holds of no lines where a group begins
 pub KeepsTouchedLines-begun : (before now : Levels) (touched : List ℕ) (marks : List Bool) → before ≡ now
     → length now.levels ≡ line_count → touched ≡ [] → marks ≡ replicate line_count false
     → KeepsTouchedLines before now touched marks
@@ -39,7 +39,7 @@ KeepsTouchedLines-begun before now touched marks same all none clear = record {
       (sym (get_or-unmarked line_count l) ∙ (ap (λ (ms : List Bool). get_or ms l false) (sym clear) ∙ m)));
 }
 
--- a line gets a level, and is marked then
+-- `KeepsTouchedLines` holds after a line gets a level, is listed and is marked
 pub KeepsTouchedLines-marked : (before now : Levels) (touched : List ℕ) (marks : List Bool) (m : ℕ) (x : Level)
     → KeepsTouchedLines before now touched marks → IsLine before.slots m
     → KeepsTouchedLines before (set_level now m x) (touched ++ m ∷ []) (slice_set marks m true)
@@ -51,7 +51,7 @@ KeepsTouchedLines-marked before now touched marks m x h line = record {
   ];
 }
 
--- a line that is marked gets a level
+-- `KeepsTouchedLines` holds after a line that is marked gets a level
 pub KeepsTouchedLines-set_again : (before now : Levels) (touched : List ℕ) (marks : List Bool) (m : ℕ) (x : Level)
     → KeepsTouchedLines before now touched marks → get_or marks m false ≡ true
     → KeepsTouchedLines before (set_level now m x) touched marks
@@ -76,7 +76,7 @@ pub Contains-marked_permuted : (touched others : List ℕ) (marks : List Bool) �
     → (l : ℕ) → get_or marks l false ≡ true → Contains others l
 Contains-marked_permuted touched others marks p h l k = Contains-permutation touched others l p (h l k)
 
--- one more change is made
+-- the levels after some changes and one more are those after the changes, with the one more made
 changed-append : (v : Levels) (cs : List Change) (c : Change) → changed v (cs ++ c ∷ [])
     ≡ set_level (changed v cs) c.line c.level
 unfolding changed

@@ -51,7 +51,8 @@ module _ (w : ℕ) (rest : List Mark) where
       ∙ ap Some (marked_transfer-with_reset i (marked_direction write) (first_instant is_close ms) latest ms)
   row_of-with_reset latest i ms k = refl
 
-  -- the rows of some marks, the row of the reset, and the rows of the rest, with no latest cycle
+  -- the rows of some marks, the reset and the rest are those of the marks, that of the reset, and those of the rest,
+  -- with no latest cycle
   pub rows_of-with_reset : (latest : Option ℕ) (ms : List Mark) → rows_of latest (with_reset ms) ≡ rows_of latest ms
       ++ row.Reset w ∷ rows_of None rest
   rows_of-with_reset latest [] = refl

@@ -353,7 +353,7 @@ module _ (t : Trace) (stretch : Stretch) where
         whole : 0 + end ≡ end
         whole = omega arith
 
-  -- the rows of the marks before `end`, with those of the opening
+  -- the rows of the marks before `end`, with those of the opening, are that of the start, and those of the stretch
   pub rows_of-marks_until : (end : ℕ) → stretch.start < end → end ≤ stretch.end
       → rows_of None (pieces (shown_at t stretch) 0 ++ marks_until stretch (all_over t stretch) end)
       ≡ row.Start stretch.start

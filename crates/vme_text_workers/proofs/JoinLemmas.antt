@@ -93,7 +93,7 @@ AreAhead-by_place w (piece ∷ pieces) (Some one ∷ all) h =
 module _ (nets : List Net) (line_bits : NetLines) (pieces left : List DumpPiece) (piece : DumpPiece)
     (all rest : List (Option (ReadSpeculatively × Trace))) (one : Option (ReadSpeculatively × Trace))
     (are : AreAhead nets line_bits pieces all) (at : pieces ≡ piece ∷ left) (of : all ≡ one ∷ rest) where
-  -- the next piece and those that are left, as they were read ahead
+  -- `AreAhead` holds of the next piece and those that are left, as they were read ahead
   AreAhead-next : AreAhead nets line_bits (piece ∷ left) (one ∷ rest)
   AreAhead-next = subst (λ (ps : List DumpPiece). AreAhead nets line_bits ps (one ∷ rest)) at
       (subst (AreAhead nets line_bits pieces) of
@@ -165,7 +165,7 @@ AreAhead-same_nets nets nets2 line_bits line_bits2 pieces all e f are =
 module _ (bytes : List ℕ) (recorded : Trace) (levels : Levels) (w v : SpeculativeReached) (ended : List Step)
     (one : IsJoined bytes recorded levels w v ended)
     (stream_judge passed : Trace) (past : passed ≡ with_steps stream_judge ended) where
-  -- the steps of the piece follow those that were passed
+  -- the recording of the piece opens with the levels after the steps that were passed
   pub opening-after_passed : recorded.opening ≡ levels → levels_after stream_judge.opening stream_judge.steps
       ≡ w.body.progress.accumulator.shown
       → recorded.opening ≡ levels_after passed.opening passed.steps

@@ -120,7 +120,7 @@ rule_named-rule_name r = by_found (rule_named (rule_name r)) refl
 pub rule_named-is : (r : Rule) (name : List ℕ) → rule_name r ≡ name → rule_named name ≡ Some r
 rule_named-is r name e = ap rule_named (sym e) ∙ rule_named-rule_name r
 
--- one step of `find-holds`
+-- what is found in a list of rules passes the test, by the test of the first rule, if what is found in the rest does
 find-step : (p : Rule → Bool) (q r : Rule) (later : Option Rule) (b : Bool) → p q ≡ b → cond b (Some q) later ≡ Some r
     → (later ≡ Some r → p r ≡ true) → p r ≡ true
 find-step p q r later true h e rest = let same : q ≡ r = cc in ap p (sym same) ∙ h
