@@ -14,7 +14,8 @@ use Rattle.vme_declarations.specs.declared.declared.DeclaredNames.{DeclaredNames
 abbrev pub with_name_at : DeclaredNames → List ℕ → ℕ → List ℕ
 with_name_at d path place = with_dot path ++ name_at d place
 
--- if the names around the scope around this one make its path, those around this one make this one's
+-- if the names of the scopes around the parent of `place` make the parent's path, the names of those around `place`
+-- make the path of `place`
 path_within-next : (d : DeclaredNames) (n place : ℕ) (b : Bool)
     → fold (with_name_at d) [] (reverse (places_around d n (parent_of d place))) ≡ path_within d n (parent_of d place)
     → fold (with_name_at d) [] (reverse (if b then [] else place ∷ places_around d n (parent_of d place)))

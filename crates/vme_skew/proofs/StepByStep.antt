@@ -45,7 +45,7 @@ module _ (skew : ℕ) (t : Trace) where
     pub now : group.now ≡ levels_at t i
     pub made : steps ≡ steps_before skew t i
 
-  -- nothing is settled yet
+  -- `AreSettledTo` holds at the opening, where nothing is settled yet
   pub AreSettledTo-opening : (group : GroupLevels) (steps : List Step) (opening : Levels) → group ≡ begun 0 opening
       → opening ≡ t.opening → steps ≡ [] → AreSettledTo 0 group steps
   unfolding group_start steps_before levels_at
@@ -72,7 +72,8 @@ module _ (skew : ℕ) (t : Trace) where
       subst (λ (v : Levels). ChangeLines v.slots step.changes) (sym h.now)
       (ChangeLines-are_changes (levels_at t i) 0 step.changes (MayFollowParts-step t formed i step lt found).changes)
 
-  -- the step that the group makes
+  -- the steps so far, and the one that the group makes, are the steps of the groups before that of instant `i`, and the
+  -- step of that group as far as `i`
   pub step_between-group : (i : ℕ) (group : GroupLevels) (steps : List Step) → AreSettledTo i group steps
       → steps ++ step_between group.start group.before group.now
       ≡ steps_before skew t i
@@ -85,7 +86,7 @@ module _ (skew : ℕ) (t : Trace) where
       ∙ ap (λ (v : Levels). steps_before skew t i ++ step_between (time_at t (group_start skew t i))
       (levels_at t (group_start skew t i - 1)) v) h.now
 
-  -- the step belongs to the current group
+  -- `AreReadyFor` holds of the current group, if the step after the instant belongs to it
   AreReadyFor-same_group : (i : ℕ) (group : GroupLevels) (steps : List Step) → AreSettledTo i group steps
       → begins_after skew t (group_start skew t i) i ≡ false → AreReadyFor i group steps
   unfolding group_start steps_before
@@ -98,7 +99,7 @@ module _ (skew : ℕ) (t : Trace) where
         (steps_before skew t i)) (sym b);
   }
 
-  -- the step begins another group
+  -- `AreReadyFor` holds of a group that begins with the step after the instant, if that step begins another group
   AreReadyFor-next_group : (i : ℕ) (group : GroupLevels) (steps : List Step) (step : Step) → AreSettledTo i group steps
       → slice_get t.steps i ≡ Some step → begins_after skew t (group_start skew t i) i ≡ true
       → AreReadyFor i (begun step.time group.now) (steps ++ step_between group.start group.before group.now)
@@ -125,7 +126,7 @@ module _ (skew : ℕ) (t : Trace) where
       ap (λ (time : ℕ). (i == 0) || nat_lt (time + skew) (time_at t (suc i))) (sym h.start)
       ∙ ap (λ (found : Option Step). (i == 0) || nat_lt (group.start + skew) (time_of found)) found
 
-  -- the first step begins a group
+  -- `AreReadyFor` holds of the group that begins with the first step
   pub AreReadyFor-first : (i : ℕ) (group : GroupLevels) (steps : List Step) (step : Step) → AreSettledTo i group steps
       → slice_get t.steps i ≡ Some step → i ≡ 0
       → AreReadyFor i (begun step.time group.now) (steps ++ step_between group.start group.before group.now)
@@ -133,7 +134,7 @@ module _ (skew : ℕ) (t : Trace) where
       AreReadyFor-next_group i group steps step h found (begins_after-group i group steps step h found
       ∙ or_left (i == 0) (nat_lt (group.start + skew) step.time) (eq-eqb i 0 first))
 
-  -- a step that is too late for the current group begins another
+  -- `AreReadyFor` holds of the group that begins with a step that is too late for the current group
   pub AreReadyFor-over : (i : ℕ) (group : GroupLevels) (steps : List Step) (step : Step) → AreSettledTo i group steps
       → slice_get t.steps i ≡ Some step → nat_lt (group.start + skew) step.time ≡ true
       → AreReadyFor i (begun step.time group.now) (steps ++ step_between group.start group.before group.now)
@@ -141,7 +142,7 @@ module _ (skew : ℕ) (t : Trace) where
       AreReadyFor-next_group i group steps step h found (begins_after-group i group steps step h found
       ∙ or_right (i == 0) (nat_lt (group.start + skew) step.time) over)
 
-  -- any other step belongs to the current group
+  -- `AreReadyFor` holds of the current group, if the step after the instant isn't the first, nor too late for the group
   pub AreReadyFor-within : (i : ℕ) (group : GroupLevels) (steps : List Step) (step : Step) → AreSettledTo i group steps
       → slice_get t.steps i ≡ Some step → (i ≡ 0 → ⊥) → nat_lt (group.start + skew) step.time ≡ false
       → AreReadyFor i group steps
@@ -149,7 +150,7 @@ module _ (skew : ℕ) (t : Trace) where
       AreReadyFor-same_group i group steps h (begins_after-group i group steps step h found
       ∙ or_from (i == 0) (nat_lt (group.start + skew) step.time) (ne_eqb i 0 later) within)
 
-  -- the step is taken
+  -- `AreSettledTo` holds of the next instant after the step to it is taken
   pub AreSettledTo-taken : (i : ℕ) (group : GroupLevels) (steps : List Step) (step : Step) → AreReadyFor i group steps
       → slice_get t.steps i ≡ Some step → (changes : List Change) → changes ≡ step.changes → (next : GroupLevels)
       → next ≡ record group { now = changed group.now changes } → AreSettledTo (i + 1) next steps
@@ -163,7 +164,7 @@ module _ (skew : ℕ) (t : Trace) where
         made = h.made;
       })
 
-  -- the steps of all groups
+  -- at the last instant the steps so far, and the one that the group makes, are those of the settled recording
   pub steps-settled : (i : ℕ) (group : GroupLevels) (steps : List Step) → AreSettledTo i group steps → i
       ≡ length t.steps
       → steps ++ step_between group.start group.before group.now ≡ (settled skew t).steps

@@ -22,13 +22,13 @@ use Rattle.vme_summary.proofs.Sound.{SoundParts-of_well_formed}
 use Rattle.vme_auditor.specs.Growth.{StepBreaks}
 use Rattle.vme_step_auditor.specs.ReadBy.{BreaksGoOn, is_stopped, read_by}
 
--- an element of the first of two appended lists
+-- an index within the first of two appended lists gives the element of that list
 slice_get-in_first : {X : Type 0} (xs ys : List X) (i : ℕ) → i < length xs → slice_get (xs ++ ys) i ≡ slice_get xs i
 slice_get-in_first [] ys i h = absurd (omega arith)
 slice_get-in_first (x ∷ xs) ys zero h = refl
 slice_get-in_first (x ∷ xs) ys (suc i) h = slice_get-in_first xs ys i (omega arith)
 
--- an element of the second of two appended lists
+-- an index past the first of two appended lists gives the element of the second list
 slice_get-in_second : {X : Type 0} (xs ys : List X) (i : ℕ) → slice_get (xs ++ ys) (length xs + i) ≡ slice_get ys i
 slice_get-in_second [] ys i = ap (slice_get ys) (zero-add i)
 slice_get-in_second (x ∷ xs) ys i =
@@ -64,7 +64,7 @@ pub well_formed-front : (t : Trace) (steps : List Step) → malformed_step (with
     ≡ None
 well_formed-front t steps ok = (SoundParts-of_well_formed t.opening t.steps steps ok).first
 
--- the breaks of a recording with further steps
+-- the breaks of a recording with further steps are those of the recording, and then others
 pub record GoesOn (t : Trace) (steps : List Step) : Type 0 where
   pub more : List Break
   pub grown : breaks (with_steps t steps) ≡ breaks t ++ more

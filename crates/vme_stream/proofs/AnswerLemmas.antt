@@ -81,7 +81,7 @@ recorded_by-text : (bound : BoundLines) (bytes : List ℕ) → recorded_by bound
 unfolding text.capture_of_text
 recorded_by-text bound bytes = recorded_by-capture_read bound (dump_of bytes)
 
--- a text that has a recording
+-- a binding makes `t` of a text that has the recording `t`
 pub recorded_by-captured : (bound : BoundLines) (bytes : List ℕ) (t : Trace) → text.capture_of_text bound bytes ≡ Ok t
     → recorded_by bound (or_bad_dump (dump_of bytes)) ≡ Ok (Ok t)
 recorded_by-captured bound bytes t e = recorded_by-text bound bytes ∙ ap recorded_result e
@@ -121,7 +121,7 @@ IsRefused-text bound bytes fault h = subst (λ (w : Result (Result Trace BindFau
     (capture_refusal fault) w) (sym (recorded_by-text bound bytes))
     (IsRefused-CaptureFailsBy fault (text.capture_of_text bound bytes) h)
 
--- a text that has no recording by a fault of the binding
+-- where a text has no recording for a fault of the binding, that is what the binding makes of the dump
 pub recorded_by-binding_fault : (bound : BoundLines) (bytes : List ℕ) (fault : CaptureFault) (binding_fault : BindFault)
     → text.CaptureFailsBy fault (text.capture_of_text bound bytes)
     → capture_refusal fault ≡ BadBinding binding_fault → recorded_by bound (or_bad_dump (dump_of bytes))
@@ -137,7 +137,7 @@ AnswerGives-IsRefused : {A : Type 0} (r : Refusal) (recorded : Result (Result A 
 AnswerGives-IsRefused (BadBinding fault) recorded other is = absurd (other fault refl)
 AnswerGives-IsRefused r recorded other is = is
 
--- a text that has no recording by a fault of the dump, or by want of memory
+-- where a text has no recording for a fault of the dump, or want of memory, that is the refusal of the dump
 pub recorded_by-dump_refused : (bound : BoundLines) (bytes : List ℕ) (fault : CaptureFault) → text.CaptureFailsBy fault
     (text.capture_of_text bound bytes)
     → ((binding_fault : BindFault) → capture_refusal fault ≡ BadBinding binding_fault → ⊥)
@@ -280,12 +280,12 @@ module _ (bound : BoundLines) (bytes : List ℕ) where
   unfolding text.recording_of_text
   recording_by-or_refused = recording_by-recording_read bound (dump_of bytes)
 
-  -- the recording of a text that has one
+  -- the recording of a dump is that of its text, if this has one
   pub recording_by-text : (t : Trace) → text.recording_of_text bound bytes ≡ Ok t → recording_by bound
       (or_bad_dump (dump_of bytes)) ≡ Ok t
   recording_by-text t e = recording_by-or_refused ∙ ap or_refused e
 
-  -- a fault of the text or of the binding
+  -- where a text has no recording for a fault of the text or the binding, that is the refusal in place of the recording
   pub recording_by-fails : (fault : CaptureFault) → text.CaptureFailsBy fault (text.recording_of_text bound bytes)
       → AnswerGives (λ (t : Trace). t) (Err (capture_refusal fault)) (recording_by bound (or_bad_dump (dump_of bytes)))
   recording_by-fails (capture.Dump fault) h = by_kind fault.line fault.kind h
@@ -332,7 +332,7 @@ recording_read-bound binding dump b is = ap (λ (r : Result BoundLines Refusal).
 abbrev or_too_long : Trace → Result Trace Refusal
 or_too_long t = or_bad_binding (limited t)
 
--- what is made within the limit is what is made, or the refusal if it is too long
+-- what is made within the limit is what is made, or the refusal that it is too long
 or_too_long-made : {W : Type 0} (r : Result W BindFault) (made : W → Trace)
     → or_bad_binding (r >>= λ w. limited (made w))
     ≡ (or_bad_binding (r >>= λ w. Ok (made w)) >>= or_too_long)

@@ -99,7 +99,7 @@ verdict-of_HasCome p few v found (b ∷ bs) c =
       found_there = subst (λ (v : Levels). HasFound p.found v (joined_steps (b ∷ bs))) same c.found;
     }))
 
--- how many steps the judged blocks have
+-- `judged_steps` is how many steps the judged blocks have
 pub judged_steps-of_HasCome : (p : RunningVerdict) (blocks : List Block) → HasCome p blocks → judged_steps p
     ≡ length (joined_steps blocks)
 judged_steps-of_HasCome p blocks c = c.steps

@@ -99,7 +99,7 @@ list_all-both p (x ∷ xs) ys e f =
     let parts = both (p x) (list_all p xs) e in
     rw parts.0 (list_all-both p xs ys parts.1 f)
 
--- an argument that is found is one
+-- two options that are equal have equal values
 some-same_rule : (a b : Rule) → Some a ≡ Some b → a ≡ b
 some-same_rule a b e = ap (λ (o : Option Rule). unwrap_or o a) e
 
