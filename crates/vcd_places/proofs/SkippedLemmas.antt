@@ -30,14 +30,14 @@ nat_lt-zero n = grind (arith, nat_tests)
 
 -- `code`, which has the net `net`, is that of an item that is skipped on this line
 module _ (nets : List Net) (line net : ℕ) (code : List ℕ) (is : net_of nets code ≡ Some net) where
-  -- the item leaves the context as it was
+  -- a skipped item leaves the context as it was
   context_after-skipped : (s : BodyContext) → context_after nets s (skipped line code) ≡ Ok s
   context_after-skipped s =
       ap (λ (o : Option ℕ). at_line line (fitting nets 0 o >>= λ net. Ok s)) is
       ∙ ap (λ (test : Bool). at_line line (cond test (Err TooWide) (Ok net) >>= λ net. Ok s))
       (nat_lt-zero (size_of nets net))
 
-  -- the context after the items is the same, or their fault
+  -- a skipped item among others doesn't change the context after them, or their fault
   pub context_after_all-skipped : (xs ys : List BodyItem) (s : BodyContext)
       → context_after_all nets s (xs ++ skipped line code ∷ ys) ≡ context_after_all nets s (xs ++ ys)
   unfolding context_after_all
@@ -46,7 +46,7 @@ module _ (nets : List Net) (line net : ℕ) (code : List ℕ) (is : net_of nets 
   context_after_all-skipped (x ∷ xs) ys s = bind-same (context_after nets s x) _ _
       (λ next. context_after_all-skipped xs ys next)
 
-  -- the changes are the same
+  -- a skipped item among others doesn't alter the changes that they make
   pub changes_from-skipped : (xs ys : List BodyItem) (now : ℕ)
       → changes_from nets now (xs ++ skipped line code ∷ ys) ≡ changes_from nets now (xs ++ ys)
   unfolding changes_from
@@ -59,7 +59,7 @@ module _ (nets : List Net) (line net : ℕ) (code : List ℕ) (is : net_of nets 
   changes_from-skipped (dump_section_end l ∷ xs) ys now = changes_from-skipped xs ys now
   changes_from-skipped (wrong l kind ∷ xs) ys now = changes_from-skipped xs ys now
 
-  -- the times are the same
+  -- a skipped item among others doesn't alter their times
   pub times_from-skipped : (xs ys : List BodyItem) (now : ℕ)
       → times_from now (xs ++ skipped line code ∷ ys) ≡ times_from now (xs ++ ys)
   unfolding times_from
@@ -72,7 +72,7 @@ module _ (nets : List Net) (line net : ℕ) (code : List ℕ) (is : net_of nets 
   times_from-skipped (dump_section_end l ∷ xs) ys now = times_from-skipped xs ys now
   times_from-skipped (wrong l kind ∷ xs) ys now = times_from-skipped xs ys now
 
-  -- the instants are the same
+  -- a skipped item among others doesn't alter their instants
   pub instants_of-skipped : (xs ys : List BodyItem)
       → instants_of nets (xs ++ skipped line code ∷ ys) ≡ instants_of nets (xs ++ ys)
   instants_of-skipped xs ys =

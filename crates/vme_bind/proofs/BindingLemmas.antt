@@ -88,7 +88,7 @@ finished-unbound line last r b whole l e w h k =
     ∙ ap (unless_unbound line whole) (sym h)
     ∙ ap (λ (n : ℕ). Err (record { line = n; kind = Unbound l })) (sym k)
 
--- one statement more is bound
+-- where the first statement is bound, all statements are bound as the others are after it
 pub bound_all-step : (b next : BoundLines) (s : StatementText) (ss : List StatementText) → at_line s.line (bound b s)
     ≡ Ok next
     → bound_all b (s ∷ ss) ≡ bound_all next ss

@@ -148,7 +148,7 @@ edges_by_tests-absent a b s c r0 r1 f0 f1 d e g h u x y o pa pb ps pc p0 p1 q0 q
 ) refl
 
 module _ (v w : Levels) (still : is_still v w ≡ true) where
-  -- AS*, the strobes and the answer lines have the levels that they had
+  -- after a still step AS*, the strobes and the answer lines have the levels that they had
   levels-still : (level_at w AS ≡ level_at v AS) × (level_at w DS0 ≡ level_at v DS0) × (level_at w DS1 ≡ level_at v DS1)
       × (level_at w DTACK ≡ level_at v DTACK) × (level_at w BERR ≡ level_at v BERR)
   levels-still =
@@ -171,23 +171,23 @@ module _ (v w : Levels) (still : is_still v w ≡ true) where
   rises_between-still : (l : ℕ) → level_at w l ≡ level_at v l → rises_between v w l ≡ false
   rises_between-still l e = ap (λ x. is_low (level_at v l) && is_high x) e ∙ not_low_and_high (level_at v l)
 
-  -- both strobes are high exactly if they were
+  -- both strobes are high after a still step exactly if they were before it
   strobes_high_in-still : strobes_high_in w ≡ strobes_high_in v
   strobes_high_in-still = ap (λ x. is_high x && is_high (level_at w DS1)) levels-still.1
       ∙ ap (λ x. is_high (level_at v DS0) && is_high x)
       levels-still.2
 
-  -- a strobe is low exactly if one was
+  -- a strobe is low after a still step exactly if one was before it
   strobe_low_in-still : strobe_low_in w ≡ strobe_low_in v
   strobe_low_in-still = ap (λ x. is_low x || is_low (level_at w DS1)) levels-still.1
       ∙ ap (λ x. is_low (level_at v DS0) || is_low x) levels-still.2
 
-  -- no transfer starts
+  -- no transfer starts at a still step
   starts_between-still : starts_between v w ≡ false
   starts_between-still = ap (λ b. strobes_high_in v && b) strobe_low_in-still
       ∙ not_high_and_one_low (level_at v DS0) (level_at v DS1)
 
-  -- no transfer closes
+  -- no transfer closes at a still step
   closes_between-still : (strobes_high_in w && not (strobes_high_in v)) ≡ false
   closes_between-still = ap (λ b. b && not (strobes_high_in v)) strobes_high_in-still ∙ and-not_self (strobes_high_in v)
 
@@ -216,7 +216,7 @@ module _ (v w : Levels) (still : is_still v w ≡ true) where
       → cond h Closed (answered_by a (cond s q p)) ≡ cond x Closed p
   tracked-by_tests h a s x p q e f g = rw (e, f, g) refl
 
-  -- no answer comes
+  -- no answer comes at a still step
   answer_between-still : answer_between v w ≡ false
   answer_between-still = or_from (falls_between v w DTACK) (falls_between v w BERR)
       (falls_between-still DTACK levels-still.3) (falls_between-still BERR levels-still.4)

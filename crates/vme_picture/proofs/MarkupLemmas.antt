@@ -36,7 +36,7 @@ IsMarkup-append old more m n = (
       ∙ sym (markup_text-tree_append m.0 n.0),
 )
 
--- no text is markup
+-- an empty text is markup
 pub IsMarkup-empty : (new : List ℕ) → new ≡ [] → IsMarkup new
 unfolding markup_text
 IsMarkup-empty new is = (nothing, is)
@@ -69,7 +69,7 @@ IsMarkup-element old new name attributes inner m a i is =
     let more = IsMarkup-append old (element_text name attributes inner) m one in
     (more.0, is ∙ more.1)
 
--- no text is a list of no attributes
+-- an empty text is a list of no attributes
 pub AreAttributes-empty : (new : List ℕ) → new ≡ [] → AreAttributes new
 AreAttributes-empty new is = ([], is)
 

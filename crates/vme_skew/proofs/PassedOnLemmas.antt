@@ -72,7 +72,7 @@ count-next : (n count next : ℕ) → count ≡ min n (capture_limit + 1) → ne
     → next ≡ min (suc n) (capture_limit + 1)
 count-next n count next is next_is = grind (arith, nat_tests)
 
--- one more step was taken
+-- `KeepsSettled` holds after one more step was taken
 pub KeepsSettled-taken : (skew own_skew count now : ℕ) (is_whole : Bool) (s next : Settling) (recorded made : Trace)
     (step : Step)
     (out : Option Step) → KeepsSettled skew own_skew count is_whole s recorded → next ≡ taken s step out

@@ -63,7 +63,7 @@ module _ (t : Trace) (first end : ℕ) (rows others : List Row) (a : SplitsStret
   transfer_in-equal = AreInTurn-equal (first + 1) _ _ a.transfers.in_turn b.transfers.in_turn (a.transfers.start
       ∙ sym b.transfers.start) (a.transfers.close ∙ sym b.transfers.close)
 
-  -- each answered transfer of `rows`, and below of `others`, is answered in a cycle of `rows`
+  -- each answered transfer of `rows` is answered in a cycle of `rows`
   IsAnsweredInCycle-rows : (r : Row) → Contains rows r → IsAnsweredInCycle (flat_map cycle_in rows) r
   IsAnsweredInCycle-rows r c =
       All-contains (IsAnsweredInCycle (flat_map cycle_in rows)) rows r a.keeps.answers_in_cycles c

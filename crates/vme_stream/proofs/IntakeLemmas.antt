@@ -83,7 +83,7 @@ module _ {O : Type 0} (old now : Reading) (first here : List ℕ → O) (buffer 
       passes = ContinuesAs-append first here next done (take count buffer) u.passes passed;
     }
 
-  -- one more read gave bytes, with room enough, and there weren't too many before
+  -- reading is underway after one more read that gave bytes, with room enough, if there weren't too many before
   pub IsUnderway-read : (later : Reading) (after : List ℕ) (count : ℕ) → take filled after ≡ take filled buffer
       → filled + count ≤ length after → 0 < count → taken + filled ≤ longest_input
       → filled + least_room ≤ length after
@@ -115,7 +115,7 @@ module _ {O : Type 0} (old now : Reading) (first here : List ℕ → O) (buffer 
         passes = u.passes;
       }
 
-  -- the last read gave none
+  -- if the last read gave no bytes, those that were read are all bytes of the input
   pub IsReading-at_end : (later : Reading) (after : List ℕ) → take filled after ≡ take filled buffer → Consumes now.left
       later.left (take 0 (drop filled after)) → IsAtEnd later.left
       → later.reads ≡ now.reads → later.failures ≡ now.failures → reads < most_reads
@@ -125,14 +125,14 @@ module _ {O : Type 0} (old now : Reading) (first here : List ℕ → O) (buffer 
       (Consumes-trans old.left now.left later.left _ _ u.read read)) end
       (record { failures = failures ∙ u.failures; reads = omega (arith, reads_are, u.reads_are, few) })
 
-  -- there are too many bytes: the input is too long
+  -- if too many bytes were read, the input is too long
   pub IsReading-too_long : longest_input < taken + filled → reads < most_reads → (bytes : List ℕ)
       × (longest_input < length bytes) × IsReading old now (Some bytes)
   IsReading-too_long long few =
       IsReading-more_than old now all_read longest_input u.read (omega (arith, long, length-all_read))
       (record { failures = u.failures; reads = omega (arith, u.reads_are, few) })
 
-  -- `most_reads` reads gave bytes: reading is given up
+  -- if `most_reads` reads gave bytes, reading is given up
   pub IsReading-given_up : most_reads ≤ reads → now.reads ≡ old.reads + most_reads → IsReading old now None
   IsReading-given_up many reads_are =
       IsReading-many_reads old now all_read u.read (omega (arith, many, u.counted, length-all_read)) reads_are

@@ -491,7 +491,7 @@ AllGood-level s words known e =
 
 -- ---- what a good row gives
 
--- the row of an argument that is found among good rows is good, and has this name
+-- the row that is found among good rows by a name is good, and has this name
 Good-found : (c : List Rule) (rows : List Row) (id : Text) (r : Row) → AllGood c rows → find (λ x. bytes_eq x.id id)
     rows ≡ Some r → Good c r × (bytes_eq r.id id ≡ true)
 Good-found c [] id r g e = cc
@@ -655,7 +655,7 @@ StepsNoHelp-plain_word c idle word h = tt
 StepsNoHelp-plain_word c (option id) word h = tt
 StepsNoHelp-plain_word c positional word h = tt
 
--- nor does what is done after a flag
+-- what is done after a flag leads to no subcommand
 StepsNoHelp-after_flag : (c : List Rule) (waiting : Waiting) (word : Text) (h : Held) (o : Outcome)
     → StepsNoHelp (after_flag c waiting word h o).1
 StepsNoHelp-after_flag c waiting word h done = tt
@@ -663,7 +663,7 @@ StepsNoHelp-after_flag c waiting word h (waits id) = tt
 StepsNoHelp-after_flag c waiting word h plain = StepsNoHelp-plain_word c waiting word h
 StepsNoHelp-after_flag c waiting word h refused = StepsNoHelp-plain_word c waiting word h
 
--- nor does a word with a long name, with short names, or with neither
+-- a word with a long name, with short names, or with neither, leads to no subcommand
 StepsNoHelp-long_or_other : (c : List Rule) (waiting : Waiting) (word : Text) (o : Option (Text × Option Text))
     (h : Held)
     → StepsNoHelp (long_or_other c waiting word o h).1
@@ -719,7 +719,7 @@ module _ (s : Shape) (names : Names) (helps : s.disable_help_subcommand ≡ fals
   NamesNoHelp-after_step (subcommand name) word w h k n = k
   NamesNoHelp-after_step value word w h k n = NamesNoHelp-to_positional (arg_by_index s.rules w.position) word w h n
 
-  -- nor does a turn of the walk without a fault
+  -- a turn of the walk without a fault doesn't stop at the subcommand `help`
   NamesNoHelp-walked_from : (stop : Option (Text × List Text)) (w : Walk) (word : Text) → NamesNoHelp stop
       → NamesNoHelp w.stopped
       → (is_some stop ≡ false → word_fault s names w.is_trailing w.waiting word w.held ≡ [])
