@@ -37,7 +37,7 @@ record IsSkipped (opens var scope upscope end : Bool) : Type 0 where
   pub no_upscope : upscope ≡ false
   pub no_end : end ≡ false
 
--- the tests that hold of a word that opens this
+-- the tests hold or fail as they do of a word that opens the first argument
 Opens : Opening → Bool → Bool → Bool → Bool → Bool → Type 0
 Opens Var opens var scope upscope end = (opens ≡ true) × (var ≡ true)
 Opens Scope opens var scope upscope end = (opens ≡ true) × (scope ≡ true)
@@ -46,7 +46,7 @@ Opens EndDefinitions opens var scope upscope end = (opens ≡ true) × (end ≡ 
 Opens Skipped opens var scope upscope end = IsSkipped opens var scope upscope end
 Opens Nothing opens var scope upscope end = opens ≡ false
 
--- the tests hold that belong to what the word opens by them
+-- the tests hold or fail as they do of a word that opens what `opening_by` finds by them
 Opens-opening_by : (opens var scope upscope end : Bool) → Opens (opening_by opens var scope upscope end) opens var scope
     upscope
     end
@@ -64,12 +64,12 @@ Opens-opening_by true false false false false = record {
   no_end = refl;
 }
 
--- the tests hold of `word` that belong to a word that opens `opening`
+-- the tests of `word` hold or fail as they do of a word that opens `opening`
 abbrev OpensAs : List ℕ → Opening → Type 0
 OpensAs word opening = Opens opening (opens_section word) (bytes_eq word (codes "$var"))
     (bytes_eq word (codes "$scope")) (bytes_eq word (codes "$upscope")) (bytes_eq word (codes "$enddefinitions"))
 
--- the tests hold of a word that belong to what it opens
+-- the tests of a word hold or fail as they do of a word that opens what this one opens
 OpensAs-opening_of : (word : List ℕ) (opening : Opening) → opening ≡ opening_of word → OpensAs word opening
 OpensAs-opening_of word opening e = subst (OpensAs word) (sym e)
     (Opens-opening_by (opens_section word) (bytes_eq word (codes "$var"))

@@ -147,7 +147,7 @@ module _ (given : Trace) (w : SpeculativeReached) (bytes : List ℕ) (n : ℕ)
       (whole_reading-after_first w2 steps line leaves rest)
       (formed (take n bytes ++ rest)))
 
-  -- what holds of them and whatever follows, holds of all bytes and whatever follows
+  -- what holds of the first n bytes and whatever follows them holds of all bytes and whatever follows
   pub whole_reading-of_first : (P : TextReading → Type 0)
       → ((more : List Token) → P (reading_ahead (with_recording given w) (tokens_from w.body.line (take n bytes)) more))
       → (rest : List ℕ) → P (whole_reading so_far (bytes ++ rest))

@@ -5,7 +5,7 @@ use Rattle.vcd_read.specs.Tokens.{Token, tokens_from}
 use Rattle.vme_text_workers.specs.Cuts.{ArePiecesOf, IsCutIn, line_after_pieces, tokens_of}
 use Rattle.vme_text_workers.specs.declared.cut.DumpPiece.{DumpPiece}
 
--- the pieces so far, and what is left of the text
+-- the text is cut into the pieces so far, and `left` is what is left of it
 pub record IsCutSoFar (text : List ℕ) (pieces : List DumpPiece) (left : List ℕ) : Type 0 where
   pub tokens : (line : ℕ) → tokens_from line text
       ≡ tokens_of line pieces ++ tokens_from (line_after_pieces line pieces) left
@@ -52,7 +52,7 @@ module _ (text : List ℕ) (pieces : List DumpPiece) (piece : DumpPiece) where
         (sym (line_after_pieces-append line pieces piece));
   }
 
-  -- the rest of the text is the last piece
+  -- if what is left of the text is the last piece, all pieces are those of the text
   pub ArePiecesOf-last : IsCutSoFar text pieces piece.bytes.now → ArePiecesOf text (pieces ++ piece ∷ [])
   ArePiecesOf-last so = record {
     tokens = λ line. so.tokens line ∙ sym (tokens_of-append line pieces piece);

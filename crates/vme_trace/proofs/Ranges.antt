@@ -22,12 +22,12 @@ pub any-next : (p : ℕ → Bool) (f n : ℕ) → f ≤ n → any p f (suc n) �
 unfolding any
 any-next p f n h = rw (le-leb f n h) refl
 
--- one step of `any-holds`: a says whether p holds of a number before n
+-- p holds of some number below n + 1, if it holds of i; a says whether it does of one below n
 any-suc_holds : (p : ℕ → Bool) (f n i : ℕ) (a : Bool) → f ≤ i → i < suc n → p i ≡ true → (i < n → a ≡ true)
     → (a || (nat_le f n && p n)) ≡ true
 any-suc_holds p f n i a in_range below h rest = grind (arith, nat_tests)
 
--- one step of `any-fails`: a says whether p holds of a number before n
+-- if p holds of no number below n + 1, it fails at i; a says whether it holds of one below n
 any-suc_fails : (p : ℕ → Bool) (f n i : ℕ) (a : Bool) → (a || (nat_le f n && p n)) ≡ false → f ≤ i → i < suc n
     → (a ≡ false → i < n → p i ≡ false) → p i ≡ false
 any-suc_fails p f n i a none in_range below rest = grind (arith, nat_tests)
@@ -83,7 +83,7 @@ least-is p f (suc n) i in_range below h first =
       | inr b ↦ rw (any-holds p f n i in_range b h) (least-is p f n i in_range b h first)
     ]
 
--- one step of `least-none`
+-- there is no least number below n + 1 if there is none below n, and n isn't one
 least-suc_none : (a b : Bool) (o : Option ℕ) (n : ℕ) → o ≡ None → a ≡ false → b ≡ false
     → (cond a o (cond b (Some n) None)) ≡ None
 least-suc_none a b o n e h k = rw (h, k) refl
