@@ -39,7 +39,7 @@ pub record AreFound (text : List ℕ) (found : List (Vec ℕ)) (number : ℕ) : 
   pub ascend : IsStrictlyIncreasing (map vec_code_number found)
   pub below : All (λ (n : ℕ). n < number) (map vec_code_number found)
 
--- the code of `number` isn't added
+-- if `AreFound` holds for `number`, it holds for the next number where the code of `number` isn't added
 pub AreFound-next : (text : List ℕ) (found : List (Vec ℕ)) (number : ℕ) → AreFound text found number
     → AreFound text found (number + 1)
 AreFound-next text found number are = record {
@@ -48,7 +48,8 @@ AreFound-next text found number are = record {
   below = All-below_next (map vec_code_number found) number are.below;
 }
 
--- the code of `number`, which `text` doesn't use, is added
+-- if `AreFound` holds for `number`, it holds for the next number where the code of `number`, which `text` doesn't use,
+-- is added
 pub AreFound-push : (text : List ℕ) (found : List (Vec ℕ)) (number : ℕ) (code : Vec ℕ) → AreFound text found number
     → IsUnused text number code.items → AreFound text (found ++ code ∷ []) (number + 1)
 AreFound-push text found number code are one =

@@ -233,7 +233,7 @@ module _ (text : List ℕ) (at next : ℕ) (bytes : List ℕ) (between_sections 
       ∙ ap (after_items items) (header_from-opened (tokens_after 1 text next) opens))
       ∙ header_from-endless_section (opened first) (tokens_after 1 text next) endless
 
--- what isn't there is none
+-- an option that has no value is `None`
 none-not_some : (o : Option (List Token)) → is_some o ≡ false → o ≡ None
 none-not_some None e = refl
 none-not_some (Some body) e = absurd (true≢false e)

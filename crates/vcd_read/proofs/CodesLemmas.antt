@@ -107,7 +107,7 @@ size_of-before [] i n lt = absurd (omega (arith, lt))
 size_of-before (m ∷ nets) zero n lt = refl
 size_of-before (m ∷ nets) (suc i) n lt = size_of-before nets i n (omega (arith, lt))
 
--- the size of the net that is added
+-- the size at the number of the net that is added is that net's size
 size_of-last : (nets : List Net) (n : Net) → size_of (nets ++ n ∷ []) (length nets) ≡ n.size
 unfolding size_of
 size_of-last [] n = refl

@@ -78,7 +78,7 @@ IsLaidOut-close path start starts laid =
 with_dot-append : (b : ℕ) (name rest : List ℕ) → 0 < length rest → (b ∷ name) ++ 46 ∷ rest ≡ with_dot (b ∷ name) ++ rest
 with_dot-append b name rest some = sym (append_assoc (b ∷ name) (46 ∷ []) rest)
 
--- a name before names whose path isn't empty
+-- the path of a name and other names, whose path isn't empty, is the name with a dot and that path
 joined_by_dots-before : (name : List ℕ) (names : List (List ℕ)) (path : List ℕ) → 0 < length path → joined_by_dots names
     ≡ path
     → joined_by_dots (name ∷ names) ≡ with_dot name ++ path
@@ -132,7 +132,7 @@ names_at-push path part name starts starts' start e s more =
     ∙ ap (λ (n : ℕ). names_at (path ++ with_dot name) (n ∷ reverse starts)) s
     ∙ names_at-open path name (reverse starts)
 
--- a scope that opens keeps the path laid out, where the starts stand in that order
+-- a scope that opens keeps the path laid out, where the starts stand in the order in which the scopes were opened
 pub IsLaidOut-push : (path part name starts starts' : List ℕ) (start : ℕ) → part ≡ with_dot name → start ≡ length path
     → starts' ≡ starts ++ start ∷ [] → IsLaidOut path (reverse starts) → IsLaidOut (path ++ part) (reverse starts')
 IsLaidOut-push path part name starts starts' start e s more laid =
@@ -144,7 +144,7 @@ pub IsLaidOut-push_none : (path path' starts starts' : List ℕ) (start : ℕ) �
 IsLaidOut-push_none path path' starts starts' start same s more laid =
     rw (same, ← append-nil path) (IsLaidOut-push path [] [] starts starts' start refl s more laid)
 
--- a scope that closes keeps the path laid out, where the starts stand in that order
+-- a scope that closes keeps the path laid out, where the starts stand in the order in which the scopes were opened
 pub IsLaidOut-pop : (path starts starts' : List ℕ) (start : ℕ) → starts ≡ starts' ++ start ∷ []
     → IsLaidOut path (reverse starts) → IsLaidOut (take start path) (reverse starts')
 IsLaidOut-pop path starts starts' start fewer laid =

@@ -103,7 +103,7 @@ module _ (dump : List ℕ) (asked time : ℕ) (w : WritingPlace) (is : IsWritten
         | inr among ↦ absurd (untold among)
       ]
 
-  -- no time stamp is left: `w` stays as it is
+  -- where no time stamp is left, the dump is written up to `time` by `w` as it is
   pub IsWrittenTo-no_next : asked ≤ time → IsReached dump time → w.next ≡ None → IsWrittenTo dump time time w
   IsWrittenTo-no_next le reached none = record {
     same = is.same;
@@ -120,11 +120,11 @@ module _ (dump : List ℕ) (asked time : ℕ) (w : WritingPlace) (is : IsWritten
     split : times_of_body dump ≡ is.passed ++ found.time ∷ times_left w.places
     split = is.all ∙ ap (λ (o : Option TimePlace). is.passed ++ times_ahead o w.places) next
 
-    -- the next time stamp ends where the dump isn't written yet
+    -- `found` is the next time stamp, and ends where the dump isn't written yet
     behind : IsNextTime dump w.count w.places found
     behind = subst (λ (o : Option TimePlace). IfSome o (IsNextTime dump w.count w.places)) next is.next
 
-    -- the next time stamp is after `time`: `w` stays as it is
+    -- where the next time stamp is after `time`, the dump is written up to `time` by `w` as it is
     pub IsWrittenTo-before_next : asked ≤ time → IsReached dump time → IsAscendingFrom 0 (times_of_body dump)
         → time < found.time
         → IsWrittenTo dump time time w
@@ -142,7 +142,7 @@ module _ (dump : List ℕ) (asked time : ℕ) (w : WritingPlace) (is : IsWritten
       next = is.next;
     }
 
-    -- the next time stamp is `time`: writing continues after it
+    -- where the next time stamp is `time`, the dump is written up to `time` once writing is after that time stamp
     pub IsWrittenTo-at_next : found.time ≡ time → (count : ℕ) → count ≡ max found.end w.count
         → IsWrittenTo dump time time (record w { count = count })
     IsWrittenTo-at_next e count here =
@@ -178,7 +178,7 @@ module _ (dump : List ℕ) (asked time : ℕ) (w : WritingPlace) (is : IsWritten
             last = ordered.1;
           }
 
-      -- the next time stamp is before `time`: it is passed
+      -- where the next time stamp is before `time`, `IsWrittenTo` holds once it is passed
       pub IsWrittenTo-past_next : found.time < time → IsWrittenTo dump asked time
           (record w { places = places; next = later })
       IsWrittenTo-past_next lt =

@@ -30,7 +30,7 @@ break_at_first time f = option_map (break_of_fault 1 time) f
 abbrev one_later : Option Break → Option Break
 one_later e = option_map (shifted_break 1) e
 
--- a break at instant 1 is within any steps
+-- a break at instant 1 is within any number of steps but 0
 BreakWithin-fault : (n time : ℕ) (f : Option Fault) → BreakWithin (suc n) (break_at_first time f)
 BreakWithin-fault n time None = tt
 BreakWithin-fault n time (Some f) = (omega arith, omega arith)

@@ -143,7 +143,7 @@ FindsFirst = (t : Trace) → malformed_step t ≡ None → t.opening.slots ≤ 2
     → named_break (verdict t) ≡ first_break_from (memories_at t.opening) t.opening t.steps
 
 module _ (finds : FindsFirst) where
-  -- the breaks of a part and of the parts after it are the returned ones
+  -- the breaks of the parts of a recording with at most so many steps are the returned ones
   abbrev AreReturned : ℕ → Type 0
   AreReturned n = (start : ℕ) (o : Levels) (x : List Step) → length x ≤ n → malformed_step (recorded o x) ≡ None
       → o.slots ≤ 21
@@ -164,7 +164,7 @@ module _ (finds : FindsFirst) where
       (well_formed-rest_after (recorded o x) b.instant ok)
       (subst (λ k. k ≤ 21) (sym (slots-rest_after (recorded o x) b.instant)) slots))
 
-  -- `AreReturned` holds of parts of any number of steps
+  -- `AreReturned` holds of any number of steps
   AreReturned-every : (n : ℕ) → AreReturned n
   unfolding parts_from own_break first_break_from
   AreReturned-every zero start o [] few ok slots =

@@ -160,12 +160,12 @@ pub AllFrom-append : (n : ℕ) (ks ls : List MarkKind) → AllFrom n ks → AllF
 AllFrom-append n [] ls p q = q
 AllFrom-append n (k ∷ ks) ls p q = (p.0, AllFrom-append n ks ls p.1 q)
 
--- a kind from `n` on, or none
+-- a list of one kind from `n` on, or of none, has only kinds from `n` on
 AllFrom-when : (n : ℕ) (b : Bool) (k : MarkKind) → n ≤ kind_number k → AllFrom n (option_to_list (when b k))
 AllFrom-when n true k h = (h, tt)
 AllFrom-when n false k h = tt
 
--- a kind from `n` on for the value of an option, or none
+-- where each kind that f makes is from `n` on, that of an option's value, if it has one, is
 AllFrom-option_map : {A : Type 0} (n : ℕ) (f : A → MarkKind) (o : Option A) → ((a : A) → n ≤ kind_number (f a))
     → AllFrom n (option_to_list (option_map f o))
 AllFrom-option_map n f None h = tt

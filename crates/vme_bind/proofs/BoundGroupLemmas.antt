@@ -34,7 +34,8 @@ only_with found None others = only_from found others
 only_with None (Some bits) others = only_from (Some bits) others
 only_with (Some bits) (Some next) others = cond (same_bits bits next) (only_from (Some bits) others) (Err AmbiguousPath)
 
--- one variable more, whose candidate is `next`
+-- the only candidate among one more variable, whose candidate is `next`, and others is that with `next` added to what
+-- was found before
 only_from-next : (found next : Option BitRange) (named : VariableSelector) (v : Variable) (vs : List Variable)
     → candidate named v ≡ next
     → only_from found (filter_map (candidate named) (v ∷ vs)) ≡ only_with found next (filter_map (candidate named) vs)

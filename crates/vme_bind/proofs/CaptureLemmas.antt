@@ -76,7 +76,8 @@ level_at_changed-append : (g : ℕ → Level) (v : Levels) (l n : ℕ) (xs : Lis
 level_at_changed-append g v l n xs = ap (λ (cs : List Change). level_at (changed v cs) l) (map_push (to_level g) xs n)
     ∙ ap (λ (w : Levels). level_at w l) (changed-append v (map (to_level g) xs) (to_level g n))
 
--- what `level_at-changed_those` says of the lines below n, it says of those below n + 1
+-- if, where the lines of p below n got their levels of g, each line has the level that it should have, it has so after
+-- those below n + 1 got theirs
 level_at_changed-next : (p : ℕ → Bool) (g : ℕ → Level) (v : Levels) (n l : ℕ) (b : Bool) → p n ≡ b → n < length v.levels
     → level_at_changed g v l (those p 0 n) ≡ cond (nat_lt l n && p l) (g l) (level_at v l)
     → level_at_changed g v l (those p 0 (n + 1)) ≡ cond (nat_lt l (n + 1) && p l) (g l) (level_at v l)
@@ -199,7 +200,7 @@ slots-valued line_bits [] now = refl
 slots-valued line_bits (v ∷ values) now = slots-valued line_bits values (after_value line_bits v now)
     ∙ slots-kept now (map (line_change v.bits) (line_bits_of line_bits v.net))
 
--- the level of a line after the values of an instant
+-- after the values of an instant each line has the level that they give its source, or the one that it had
 pub level_at-valued : (slots : ℕ) (bound_groups : List BoundGroup) (line_bits : NetLines)
     → AreLineBits slots bound_groups
     line_bits → (values : List Value) (now : Levels) → length now.levels ≡ line_count → (l : ℕ) → l < line_count
@@ -258,7 +259,7 @@ module _ (slots : ℕ) (bound_groups : List BoundGroup) (instants : List Instant
   unfolding level_after
   level_after-next n l = level_by-next n l (line_source slots bound_groups l)
 
-  -- the level of a line in the levels after n instants
+  -- in the levels after n instants each line has the level that it has after n instants
   pub level_at-levels_after : (n l : ℕ) → l < line_count → level_at (levels_after slots bound_groups instants n) l
       ≡ level_after slots bound_groups instants n l
   unfolding levels_after

@@ -121,7 +121,7 @@ matched_scopes-all path (name ∷ scopes) = by_test (begins_with (path_in scopes
     by_test true le = grind (arith, nat_tests)
     by_test false le = grind (arith, nat_tests)
 
--- the number of matched scopes after one more is entered
+-- after one more scope is entered, `matched_after` makes the number of matched scopes from that before
 pub matched_scopes-open : (path name : List ℕ) (scopes : List (List ℕ)) → matched_after (length scopes)
     (length (path_in scopes)) (with_dot name) path (scopes_matched path scopes) ≡ scopes_matched path (name ∷ scopes)
 unfolding scopes_matched path_in
@@ -131,7 +131,8 @@ matched_scopes-open path name scopes =
     ∙ ap (λ (b : Bool). cond b (length scopes + 1) (scopes_matched path scopes))
     (sym (begins_with-append (path_in scopes) (with_dot name) path))
 
--- the number of matched scopes after the innermost one is closed
+-- after the innermost scope is closed, the number of matched scopes is that before, or that of the scopes if this is
+-- less
 pub matched_scopes-close : (path name : List ℕ) (scopes : List (List ℕ)) → min (scopes_matched path (name ∷ scopes))
     (length scopes) ≡ scopes_matched path scopes
 unfolding scopes_matched path_in
@@ -204,7 +205,7 @@ All-closed name scopes searches all =
     (λ k s at. HasOpened-closed name scopes (get_or searches k s)
     (all k s at))
 
--- the part of the path that a scope adds
+-- the path in one more scope, after that in the scopes, is the scope's name with a dot
 pub drop-path_in : (name : List ℕ) (scopes : List (List ℕ)) → drop (length (path_in scopes)) (path_in (name ∷ scopes))
     ≡ with_dot name
 unfolding path_in

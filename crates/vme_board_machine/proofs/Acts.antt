@@ -89,11 +89,11 @@ module _ {S : Type 0} where
   AreOut-after hs c (chain a b) o v = AreOut-after (homes_after hs c a)
       (carried_after c a) b (AreOut-after hs c a o v.0) v.1
 
-  -- if a seat has no slot checked out before and after, the table's slots don't change
+  -- if a seat has no slot checked out before and after a valid act, the table's slots don't change
   pub homes_after-left : (hs : Homes S) (a : Act S) → Valid hs [] a → [] ≡ carried_after [] a → homes_after hs [] a ≡ hs
   homes_after-left hs a v e = ap (returned_homes (homes_after hs [] a)) e ∙ returned_homes-same hs [] a v
 
-  -- if a seat had the slot n checked out before and has none after, it put the slot back
+  -- if a seat had the slot n checked out before a valid act and has none after, it put the slot back
   pub homes_after-given : (hs : Homes S) (a : Act S) (n : ℕ) (x : S) → Valid hs ((n, x) ∷ []) a → []
       ≡ carried_after ((n, x) ∷ []) a → homes_after hs ((n, x) ∷ []) a ≡ set hs n (some x)
   homes_after-given hs a n x v e = ap (returned_homes (homes_after hs ((n, x) ∷ []) a)) e
@@ -106,7 +106,7 @@ module _ {S : Type 0} where
     pub others : (m : ℕ) → m ≢ n → get_elem? after m ≡ get_elem? hs m
     pub long : length after ≡ length hs
 
-  -- if a seat had no slot checked out before and has the slot n after, it took it
+  -- if a seat had no slot checked out before a valid act and has the slot n after, it took it
   pub TookHome-taken : (hs : Homes S) (a : Act S) (n : ℕ) (x : S) → Valid hs [] a → (n, x) ∷ [] ≡ carried_after [] a
       → TookHome hs (homes_after hs [] a) n x
   TookHome-taken hs a n x v e =

@@ -40,7 +40,7 @@ use Rattle.vme_board_machine.proofs.Acts.{get_elem-within, homes_after-left, hom
 abbrev Homes : Type 0
 Homes = List (maybe.Option (Option Block))
 
--- a load doesn't change the words
+-- setting an element to the value that it has changes nothing
 set-same_value : (l : List ℕ) (j : ℕ) → set l j (get_or l j 0) ≡ l
 set-same_value [] j = refl
 set-same_value (x ∷ xs) zero = refl

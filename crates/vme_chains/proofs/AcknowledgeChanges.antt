@@ -87,7 +87,7 @@ module _ (v : Levels) (p : ℕ → Bool) (few : v.slots ≤ 21) where
       refl)))
       (λ e. first_changed-least (c.line + 1) cs parts.1 (fails-unchanged_else c cs kept e))
 
--- the least line with p, if b
+-- the least line with p where b holds is the least line with p if b holds, and else there is none
 pub least-when : (p : ℕ → Bool) (b : Bool) (n : ℕ) → least (λ l. p l && b) 0 n ≡ cond b (least p 0 n) None
 least-when p true n = least-alike (λ l. p l && true) p 0 n (λ l from to. and-true (p l))
 least-when p false n = least-none (λ l. p l && false) 0 n (fails-any (λ l. p l && false) 0 n

@@ -4,13 +4,13 @@ use Rattle.std.specs.Prelude.{if◌then◌else◌, replicate}
 use Rattle.vme_declarations.specs.Found.{groups_below, has_net, slots_to, with_group}
 use Rattle.vme_declarations.specs.declared.found_lines.FoundLines.{FoundLines}
 
--- the groups of the lines below `line + 1`
+-- the groups of the lines below `line + 1` are those of the lines below `line`, with that of `line`
 pub groups_below_next : (found : FoundLines) (line : ℕ) → groups_below found (line + 1)
     ≡ with_group found line (groups_below found line)
 unfolding groups_below
 groups_below_next found line = ap (groups_below found) (add-one line)
 
--- the slots up to the place `before + 1`
+-- the slots up to the place `before + 1` are `before + 1`, if a net has a bit there, and else those up to `before`
 slots_to-next : (found : FoundLines) (before : ℕ) → slots_to found (before + 1)
     ≡ (if has_net found (before + 1) then before + 1 else slots_to found before)
 unfolding slots_to

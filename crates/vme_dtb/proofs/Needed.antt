@@ -111,11 +111,11 @@ needs_of-modifier_line v b h few = is_within-modifier (needs_of v) b (needs_of-m
 module _ (v w : Levels) where
   -- levels that agree on the address modifier have one code
   module _ (alike : (b : ℕ) → b < 6 → level_at w (AM b) ≡ level_at v (AM b)) where
-    -- each bit of the code is the same
+    -- a bit of the code is the same in levels that agree on the address modifier
     modifier_bit-same : (b : ℕ) → b < 6 → modifier_bit w b ≡ modifier_bit v b
     modifier_bit-same b h = rw (alike b h) refl
 
-    -- the code is the same
+    -- the code is the same in levels that agree on the address modifier
     modifier_of-same : modifier_of w ≡ modifier_of v
     unfolding modifier_of
     modifier_of-same =
@@ -128,7 +128,7 @@ module _ (v w : Levels) where
           modifier_bit-same 5 (omega arith),
         ) refl
 
-    -- the code is known in both or in neither
+    -- the code is known in both or in neither of two levels that agree on the address modifier
     has_known_modifier-same : has_known_modifier w ≡ has_known_modifier v
     has_known_modifier-same = every-alike (is_modifier_bit_known w) (is_modifier_bit_known v) 0 6
         (λ b from few. ap is_known (alike b few))

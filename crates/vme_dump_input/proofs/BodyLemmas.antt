@@ -50,7 +50,7 @@ module _ (binding : BoundLines) (old now : Reading) (input : InputSoFar) (r : St
         ∙ append_assoc (take n input.held) (drop n input.held) rest)
         ∙ taken (drop n input.held ++ rest)
 
-    -- the first `n` held bytes are taken
+    -- after the first `n` held bytes are taken, the input is at the body as before
     pub IsAtBody-taken : IsAtBody binding old now (record input { held = drop n input.held }) next
     IsAtBody-taken = record {
       done = at.done ++ take n input.held;
@@ -60,7 +60,7 @@ module _ (binding : BoundLines) (old now : Reading) (input : InputSoFar) (r : St
           ∙ ap (λ (x : TextReading). Ok x) (whole_reading-taken rest);
     }
 
-  -- the held bytes have a fault
+  -- if the reading stops at a fault in the held bytes, whatever follows them, the input has this fault
   pub HasFaultBefore-StopsAs : (line : ℕ) (kind : FaultKind) (t : Trace) (time : ℕ)
       → ((rest : List ℕ) → StopsAs line kind t time (whole_reading r (input.held ++ rest)))
       → HasFaultBefore at.done input (record { line = line; kind = kind })
@@ -68,7 +68,7 @@ module _ (binding : BoundLines) (old now : Reading) (input : InputSoFar) (r : St
       HasFault-StopsAs binding (at.done ++ (input.held ++ rest)) (whole_reading r (input.held ++ rest)) line kind t time
       (at.body rest ends) (stops rest)
 
-  -- more bytes follow
+  -- after more bytes came, the input is at the body as before
   pub IsAtBody-grown : (later : Reading) (after : InputSoFar) → input.is_whole ≡ false → IsGrown input after
       → IsReadTo old later at.done after → IsAtBody binding old later after r
   IsAtBody-grown later after going grown read = record {
@@ -82,7 +82,7 @@ module _ (binding : BoundLines) (old now : Reading) (input : InputSoFar) (r : St
         ∙ ap (λ l. Ok (whole_reading r l)) (sym same);
   }
 
-  -- no more bytes follow
+  -- if no more bytes follow, the input is at the end of the text with the held bytes
   pub IsAtEnd-whole : input.is_whole ≡ true → input.limit ≡ longest_input → IsAtEnd binding old now input.held r
   IsAtEnd-whole whole limit = record {
     text = at.done ++ input.held;

@@ -172,7 +172,7 @@ module _ (text : List ℕ) (count : ℕ) (few : count ≤ 10) (within : count �
 
     -- there is a digit, and the first is 0 only if it is the only one
     module _ (some : 0 < count) (no_lead : (nat_lt 1 count && (get_or text 0 0 == 48)) ≡ false) where
-      -- the decimal text of the value is these digits
+      -- the decimal text of the value of the first `count` bytes is these bytes
       decimal-of_front : decimal (digits_value 10 (take count text)) ≡ take count text
       decimal-of_front =
           let size = length-take-le count text within in

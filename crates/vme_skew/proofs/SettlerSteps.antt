@@ -114,7 +114,7 @@ module _ (skew : ℕ) (t : Trace) (step : Step) where
         made = h.made ∙ sym (steps_before-longer skew t step last (omega arith));
       }
 
-  -- The group is ready for the step: it begins with the step, or the step is within the skew of its beginning.
+  -- the group is ready for the step: it begins with the step, or the step is within the skew of its beginning
   pub record IsReady (group : GroupLevels) (out : List Step) : Type 0 where
     pub ready : AreReadyFor skew (with_step t step) last group out
     pub within : nat_lt (group.start + skew) step.time ≡ false
@@ -129,7 +129,7 @@ module _ (skew : ℕ) (t : Trace) (step : Step) where
     made = h.made;
   }
 
-  -- the step is too late for the current group
+  -- where the step is too late for the current group, that group ends, and the one that the step begins is ready
   IsReady-over : (group : GroupLevels) (out : List Step) (reached : ℕ) → IsInGroup skew t out reached group
       → nat_lt (group.start + skew) step.time ≡ true
       → IsReady (begun step.time group.now) (out ++ step_between group.start group.before group.now)
@@ -140,7 +140,7 @@ module _ (skew : ℕ) (t : Trace) (step : Step) where
     within = nat_lt-plus_skew step.time skew;
   }
 
-  -- the step belongs to the current group
+  -- where the step is within the skew of the beginning of the current group, that group is ready
   IsReady-within : (group : GroupLevels) (out : List Step) (reached : ℕ) → IsInGroup skew t out reached group
       → nat_lt (group.start + skew) step.time ≡ false → IsReady group (out ++ [])
   IsReady-within group out reached h within = record {
@@ -152,7 +152,7 @@ module _ (skew : ℕ) (t : Trace) (step : Step) where
     within = within;
   }
 
-  -- the step begins a group where there is no current one
+  -- where there is no current group, the one that the step begins is ready
   IsReady-between_groups : (group : GroupLevels) (out : List Step) (reached : ℕ)
       → IsBetweenGroups skew t out reached group
       → reached ≤ step.time
@@ -180,7 +180,8 @@ module _ (skew : ℕ) (t : Trace) (step : Step) where
         within = nat_lt-plus_skew step.time skew;
       }
 
-  -- the group is ended if it is over, or if no step has come that belongs to it
+  -- once the group is ended, if it is over, or if no step has come that belongs to it, the next one is ready, and else
+  -- it is ready itself
   pub IsReady-ended : (is_begun is_over is_ended : Bool) (group next : GroupLevels) (out made : List Step) (reached : ℕ)
       → IsAtGroup skew t out reached is_begun group → reached ≤ step.time
       → is_over ≡ nat_lt (group.start + skew) step.time → is_ended ≡ (is_over || not is_begun)
@@ -196,14 +197,14 @@ module _ (skew : ℕ) (t : Trace) (step : Step) where
   IsReady-ended false false is_ended group next out made reached h late over is_ended_is is made_is_so =
       rw (is, made_is_so, is_ended_is) (IsReady-between_groups group out reached h late)
 
-  -- the lines of the step exist
+  -- the lines that the step changes exist, if the recording with the step is well formed
   pub ChangeLines-ready_step : malformed_step (with_step t step) ≡ None → (group : GroupLevels) (out : List Step)
       → IsReady group out → ChangeLines group.now.slots step.changes
   ChangeLines-ready_step formed group out h =
       ChangeLines-ready skew (with_step t step) formed last group out step h.ready slice_get-with_step
       (omega (arith, length-append_one t.steps step))
 
-  -- the step is taken
+  -- after the step is taken, the group that was ready for it is the current one
   pub IsInGroup-taken : (group : GroupLevels) (out : List Step) (reached : ℕ) → IsReady group out → reached ≤ step.time
       → (changes : List Change) → changes ≡ step.changes
       → (next : GroupLevels) → next ≡ record group { now = changed group.now changes }
@@ -238,7 +239,7 @@ module _ (skew : ℕ) (t : Trace) where
   abbrev end_of : ℕ
   end_of = length t.steps
 
-  -- a time that is more than the skew after the beginning ends the group
+  -- a time that is more than the skew after the beginning of the current group ends it
   IsBetweenGroups-over : (group : GroupLevels) (out : List Step) (reached time : ℕ) → IsInGroup skew t out reached group
       → nat_lt (group.start + skew) time ≡ true
       → IsBetweenGroups skew t (out ++ step_between group.start group.before group.now) (max reached time)
@@ -254,7 +255,7 @@ module _ (skew : ℕ) (t : Trace) where
         (ap (λ (start : ℕ). nat_lt (start + skew) time) (sym h.start) ∙ over) (le-max_right reached time));
   }
 
-  -- any other time leaves the group as it is
+  -- a time that isn't more than the skew after the beginning of the current group leaves it as it is
   IsInGroup-within : (group : GroupLevels) (out : List Step) (reached time : ℕ) → IsInGroup skew t out reached group
       → nat_lt (group.start + skew) time ≡ false → IsInGroup skew t (out ++ []) (max reached time) group
   IsInGroup-within group out reached time h within = record {
@@ -333,7 +334,7 @@ module _ (skew : ℕ) (t : Trace) where
       ∙ ap (λ (xs : List Step). steps_before skew t end_of ++ xs) (step_to-over reached (first_or_later-cases end_of
       (time_at t (group_start skew t end_of) + skew) reached h.over)))
 
-  -- the last group ends
+  -- with the step of the last group, the steps that came out are all those of the settled recording
   pub out-settled : (out : List Step) (reached : ℕ) (is_begun : Bool) (group : GroupLevels)
       → IsAtGroup skew t out reached is_begun group
       → out ++ step_between group.start group.before group.now ≡ (settled skew t).steps
@@ -344,7 +345,7 @@ module _ (skew : ℕ) (t : Trace) where
       ap (λ (v : Levels). out ++ step_between group.start v group.now) (h.before ∙ sym h.now)
       ∙ ap (λ (xs : List Step). out ++ xs) (step_between-same group.start group.now) ∙ append-nil out ∙ h.made
 
--- no step was taken yet
+-- before the first step there is no current group
 pub IsBetweenGroups-unsettled : (skew : ℕ) (opening : Levels) (group : GroupLevels) → group ≡ begun 0 opening
     → IsBetweenGroups skew (record { opening = opening; steps = [] }) [] 0 group
 unfolding steps_before levels_at
@@ -382,7 +383,7 @@ pub KeepsGroup-first : (skew : ℕ) (opening : Levels) (given out : List Step) (
 KeepsGroup-first skew opening given out group is none empty =
     rw (none, empty) (record { at = λ formed ok. IsBetweenGroups-unsettled skew opening group is })
 
--- after a step that was taken
+-- if `KeepsGroup` holds, it holds after a step was taken
 pub KeepsGroup-taken : (skew : ℕ) (opening : Levels) (given out : List Step) (reached : ℕ)
     (was_in_order is_begun : Bool)
     (group : GroupLevels) (step : Step)
@@ -416,7 +417,7 @@ KeepsGroup-taken skew opening given out reached was_in_order is_begun group step
         (ChangeLines-ready_step skew t step formed middle (out ++ made) ready) in
         IsInGroup-taken skew t step middle (out ++ made) reached ready late changes are next (next_is lines)
 
--- after a time that was reached
+-- if `KeepsGroup` holds, it holds after a time was reached
 pub KeepsGroup-reached : (skew : ℕ) (opening : Levels) (given out : List Step) (reached : ℕ)
     (was_in_order is_begun : Bool)
     (group : GroupLevels) (time : ℕ)

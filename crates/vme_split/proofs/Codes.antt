@@ -149,7 +149,7 @@ ShowNumber-known t i line count k = (
 has_line-below_50 : (slots l : ℕ) → l < 50 → has_line slots l ≡ true
 has_line-below_50 slots l h = grind (arith, nat_tests)
 
--- the lines of the modifier are among those that need it
+-- the lines of the modifier are among those that are needed where the modifier is
 is_within-modifier : (k n : ℕ) → n < 6 → is_within (record { modifier = true; highest = k }) (6 + n) ≡ true
 is_within-modifier k n h = grind (arith, nat_tests)
 

@@ -106,7 +106,7 @@ module _ (allowances : List Allowance) where
         allowed = allowed ∙ ap (λ (bs : List Break). length (filter (is_allowed allowances) bs)) (sym e);
       }
 
-  -- the counts of the breaks that aren't allowed
+  -- the counts of the breaks that aren't allowed make the number of the faults
   pub faults_counted-faults : (c : BreakCounts) (t : Trace) → AreBreakCountsOf c allowances t
       → faults_counted c ≡ length (faults allowances (breaks t))
   faults_counted-faults c t counted =

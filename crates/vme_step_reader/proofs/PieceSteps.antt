@@ -48,7 +48,8 @@ module _ (is_front : IsIndependentOfRecorded) (w : SpeculativeReached) (none : T
       ∙ ap (λ (steps : List Step). following given (reading_ahead
       (with_recording (record { opening = none.opening; steps = steps }) w) ts more)) (sym empty)
 
-  -- the steps of the piece come after any recording `given`
+  -- if reading a piece after no recording leads to the steps of `r` and the state `w2`, reading it after `given` leads
+  -- to `given` with these steps and `w2`
   pub reading_ahead-piece : (w2 : SpeculativeReached) (r : Trace) (ts : List Token)
       → ((more : List Token) → reading_ahead (with_recording none w) ts more
       ≡ reading_ahead (with_recording r w2) [] more)
@@ -85,7 +86,8 @@ abbrev ahead_of : TextReached → List Token → TextReading
 ahead_of t ts = reading_until_fault (until_fault builder_change builder_instant t.body.nets
     (state_at t.body.progress t.body.dump_section) (body_from t.body.place ts))
 
--- a piece that ends at a token boundary, and the rest after it
+-- where a piece ends at a token boundary, reading it and the rest reads the tokens of the piece, and then those of the
+-- rest
 pub reading_ahead-joined : (t : TextReached) (line : ℕ) (piece rest : List ℕ)
     → tokens_from line (piece ++ rest) ≡ tokens_from line piece ++ tokens_from (line_behind line piece) rest
     → reading_ahead t (tokens_from line (piece ++ rest)) []
@@ -112,7 +114,8 @@ module _ (given : Trace) (w : SpeculativeReached) (bytes : List ℕ) (n : ℕ)
   whole_reading-first rest = reading_ahead-joined (with_recording given w) w.body.line (take n bytes) rest
       (apart w.body.line rest)
 
-  -- after them the result of reading the whole text is the same
+  -- if reading the first n bytes leads to more steps and the state `w2`, the result of reading the whole text is the
+  -- same from there on
   pub whole_reading-after_first : (w2 : SpeculativeReached) (steps : List Step) → w2.body.line
       ≡ line_behind w.body.line (take n bytes)
       → ((more : List Token) → reading_ahead (with_recording given w) (tokens_from w.body.line (take n bytes)) more
@@ -127,7 +130,8 @@ module _ (given : Trace) (w : SpeculativeReached) (bytes : List ℕ) (n : ℕ)
       ∙ ap (λ (line : ℕ). reading_ahead (with_recording (with_steps given steps) w2) (tokens_from line rest) [])
       (sym line)
 
-  -- after them the recording stays well formed, whatever follows
+  -- if reading the first n bytes leads to more steps and the state `w2`, the recording stays well formed from there on,
+  -- whatever follows
   pub malformed_step-after_first : (w2 : SpeculativeReached) (steps items : List Step)
       → w2.body.line ≡ line_behind w.body.line (take n bytes)
       → ((more : List Token) → reading_ahead (with_recording given w) (tokens_from w.body.line (take n bytes)) more
@@ -204,7 +208,8 @@ unfolding malformed_step least
 malformed_step-no_steps opening steps e = ap (λ (steps : List Step). malformed_step
     (record { opening = opening; steps = steps })) e
 
--- the reader after the definitions: the recording is well formed, whatever follows
+-- if the recording of the reader after the definitions is well formed, whatever follows, so is that of the reader of
+-- steps
 pub malformed_step-begun : (t : TextReached) (w : SpeculativeReached) (opening : Levels) (made steps : List Step)
     → with_recording (record { opening = opening; steps = made }) w ≡ t → t.body.progress.accumulator.recorded.steps
     ≡ []

@@ -375,7 +375,7 @@ module _ (t : Trace) where
   pub ends_within : (stretch : Stretch) → IsStretchOf t stretch → stretch.end ≤ last_instant t + 1
   ends_within stretch is = omega (arith, is.ends, end-within stretch.start)
 
-  -- from its start on and before its end no control line is lost, and the bus isn't reset
+  -- from the start of a stretch on and before its end no control line is lost
   pub stretch_unlost : (stretch : Stretch) (n : ℕ) → IsStretchOf t stretch → stretch.start ≤ n → n < stretch.end
       → loses_control_at t n
       ≡ false

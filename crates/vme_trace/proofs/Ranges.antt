@@ -7,17 +7,20 @@ use Rattle.std.proofs.lemmas.Bool.Decides.{nat_tests}
 use Rattle.std.proofs.lemmas.Bool.{and_parts, and_right, le-leb, leb-true, lt-leb, or_parts}
 use Rattle.vme_trace.specs.Instants.{any, every, greatest, least, those}
 
--- `any` over a range with one more number, n, at its end
+-- p holds of some number of a range with n at its end just if it does of one of the range without n, or of n, if n is
+-- in it
 pub any-step : (p : ℕ → Bool) (f n : ℕ) → any p f (n + 1) ≡ (any p f n || (nat_le f n && p n))
 unfolding any
 any-step p f n = rw add-one refl
 
--- `any` over a range with one more number, n, at its end
+-- p holds of some number of a range with n at its end just if it does of one of the range without n, or of n, if n is
+-- in it
 pub any-suc : (p : ℕ → Bool) (f n : ℕ) → any p f (suc n) ≡ (any p f n || (nat_le f n && p n))
 unfolding any
 any-suc p f n = refl
 
--- `any` with one more number, n, that isn't before the range
+-- p holds of some number of a range with n at its end, where n isn't before the range, just if it does of one of the
+-- range without n, or of n
 pub any-next : (p : ℕ → Bool) (f n : ℕ) → f ≤ n → any p f (suc n) ≡ (any p f n || p n)
 unfolding any
 any-next p f n h = rw (le-leb f n h) refl
@@ -134,7 +137,8 @@ least-found p f (suc n) i h =
           (record { first = leb-true f n both.0; below = omega arith; holds = both.1; least = none.0 })
     ]
 
--- `greatest` over a range with one more number, n, at its end
+-- the greatest number of a range with n at its end is n, if p holds of n and n is in it, and else that of the range
+-- without n
 pub greatest-step : (p : ℕ → Bool) (f n : ℕ) → greatest p f (n + 1) ≡ cond (nat_le f n && p n) (Some n) (greatest p f n)
 unfolding greatest
 greatest-step p f n = rw add-one refl
@@ -168,7 +172,7 @@ is_some-unless_none (Some i) not_none = (i, refl)
 pub clash : (b : Bool) → b ≡ true → b ≡ false → ⊥
 clash b h k = cc
 
--- where nothing is found, the test fails
+-- if no number is found at the end of a range, the test fails there
 cond-none : (n : ℕ) (b : Bool) → cond b (Some n) None ≡ None → b ≡ false
 cond-none n true h = absurd (cc)
 cond-none n false h = refl

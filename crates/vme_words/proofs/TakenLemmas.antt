@@ -869,7 +869,7 @@ Makes-tell words e = inl (record {
       = MayHaveUnsignedFrom-tell words e;
 })
 
--- the subcommand `help` is the one that gives none
+-- `Makes` holds of the subcommand `help`, which gives no order
 Makes-help : Makes (built_leaf help_shape)
 Makes-help words e = inr refl
 
