@@ -147,7 +147,7 @@ pub KeepsTaken-same : {A X : Type 0} (a : A) (r : Result X VcdFault) → KeepsTa
 KeepsTaken-same a (Ok x) = tt
 KeepsTaken-same a (Err fault) = by_kind a fault.kind
   where
-    -- with a fault of any kind, too
+    -- with a fault of any kind, a call that takes nothing keeps what was taken
     by_kind : {A : Type 0} (a : A) (kind : FaultKind) → KeepsAs kind a a
     by_kind a Memory = tt
     by_kind a kind = refl
@@ -163,7 +163,7 @@ pub KeepsTaken-memory : {A X : Type 0} (before taken : A) (r : Result X VcdFault
 KeepsTaken-memory before taken (Ok x) is = tt
 KeepsTaken-memory before taken (Err fault) is = subst (λ (f : VcdFault). KeepsAs f.kind before taken) (sym is) tt
 
--- what the end of a body gives, where the only fault is want of memory
+-- if the end of a body gives what the visitor took, and its only fault is want of memory, `GivesOrStops` holds
 pub GivesOrStops-memory : {A T : Type 0} (taken : T → A) (before : BodyFold A) (end : A) (r : Result T (Stopped T))
     (read : Result A VcdFault) → IfOk r (λ visitor. taken visitor ≡ end)
     → IfErr r (λ stopped. stopped.fault ≡ record { line = 0; kind = Memory }) → read ≡ Ok end
@@ -250,7 +250,8 @@ module _ {A : Type 0} (with_change : A → ℕ → List Bit → A) (with_instant
   OneContinuesAs-item nets s s2 item after (Err fault) h kept = StoppedAs-item nets s item after fault.line fault.kind
       s2.progress h kept
 
-  -- one item is read by a function that leaves the reader where it was
+  -- if a function that leaves the reader where it was makes of the state what an item makes of it, or has its fault,
+  -- `BodyContinuesAs` holds
   pub BodyContinuesAs-item : {X : Type 0} (nets nets2 : List Net) (s s2 : State A) (text text2 : BodyPiece) (at at2 : ℕ)
       (place : OpenItem) (item : BodyItem) (before : List Token → List BodyItem) (r : Result X VcdFault)
       → nets2 ≡ nets → text2 ≡ text → at2 ≡ at → place ≡ Ready
@@ -267,7 +268,8 @@ module _ {A : Type 0} (with_change : A → ℕ → List Bit → A) (with_instant
       (λ more. rw (n, t, a, p, is more)
       (OneContinuesAs-item nets s s2 item (body_from ready (left_at text at ++ more)) r h kept))
 
-  -- one item is read by a reader of its own, which then is at `after`
+  -- if a function that leaves the reader at `after` makes of the state what an item makes of it, or has its fault,
+  -- `BodyContinuesAs` holds
   pub BodyContinuesAs-item_at : {X : Type 0} (nets nets2 : List Net) (timed timed2 : BodyFold A)
       (dump_section dump_section2 : Option Start)
       (text text2 : BodyPiece) (after : ℕ) (item : BodyItem) (before : List Token → List BodyItem)

@@ -54,7 +54,8 @@ module _ {V : Type 0} (with_variable : V → Variable → V) (text longer : List
   IsPrefixOf-section h h2 (Ok next) both = both next
   IsPrefixOf-section h h2 (Err fault) both = StaysAs-same fault.line fault.kind
 
-  -- the end of a section, which ends the definitions if `test` holds, keeps this
+  -- `IsHeaderPrefix` holds at the end of a section, which ends the definitions if `test` holds, if it holds between
+  -- sections after it
   IsHeaderPrefix-section_end : (section : Section) (ts : List Token) (d : Declared V) (test : Bool)
       → ((next : Declared V) → IsHeaderPrefix next (header_from between ts) (header_from between (ts ++ more)))
       → IsHeaderPrefix d (elim test as (λ _. Header) [
@@ -73,7 +74,7 @@ module _ {V : Type 0} (with_variable : V → Variable → V) (text longer : List
       (header_from between (ts ++ more))
       (at_line section.line (declare_section with_variable d section)) both
 
-  -- a token in a section, which is its end if `end` holds, keeps this
+  -- `IsHeaderPrefix` holds at a token in a section, which is its end if `end` holds, if it holds after that token
   IsHeaderPrefix-inside : (section : Section) (t : Token) (ts : List Token) (d : Declared V) (end : Bool)
       → ((next : Declared V) → IsHeaderPrefix next (header_from between ts) (header_from between (ts ++ more)))
       → IsHeaderPrefix d (header_from (inside (with_word section t.bytes)) ts)
@@ -96,7 +97,7 @@ module _ {V : Type 0} (with_variable : V → Variable → V) (text longer : List
       (ends_definitions section) both
   IsHeaderPrefix-inside section t ts d false both goes_on = goes_on
 
-  -- a token between sections, which opens one if `opens` holds, keeps this
+  -- `IsHeaderPrefix` holds at a token between sections, which opens one if `opens` holds, if it holds after that token
   IsHeaderPrefix-between : (t : Token) (ts : List Token) (d : Declared V) (opens : Bool)
       → IsHeaderPrefix d (header_from (inside (opened t)) ts) (header_from (inside (opened t)) (ts ++ more))
       → IsHeaderPrefix d (elim opens as (λ _. Header) [

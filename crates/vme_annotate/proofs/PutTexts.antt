@@ -23,6 +23,6 @@ pub append-declarations : (made scope : List ℕ) (own : List (List ℕ))
     ≡ made ++ declarations scope own
 append-declarations made scope own = simp append_assoc refl
 
--- the letter of a string, and its text
+-- the letter of a string and its text may be appended together or one by one
 pub append-shown : (made text : List ℕ) → made ++ codes " s" ++ text ≡ made ++ (codes " s" ++ text)
 append-shown made text = append_assoc made (codes " s") text

@@ -40,7 +40,7 @@ module _ (t : Trace) where
   slice_get-first_break None later = refl
   slice_get-first_break (Some b) later = ap Some (moved_by-zero b)
 
-  -- the breaks of the parts after a break, if there is one
+  -- the breaks of the parts after an optional break are those after the break, or none if there is no break
   breaks_of-option : (n : ℕ) (e : Option Break)
       → breaks_of (option_map_or (λ b. parts_from n (part_after here b)) e [])
       ≡ option_map_or (λ b. breaks_of (parts_from n (part_after here b))) e []

@@ -69,7 +69,7 @@ IsOpened-first bound_groups v e = record {
       ∙ unknown_at line_count l;
 }
 
--- where the line n is unknown before any change, it stays unknown
+-- if the lines below n have their levels before any change, so do those below n + 1, where the line n is unknown then
 pub IsOpened-same : (slots : ℕ) (bound_groups : List BoundGroup) (n : ℕ) (v : Levels) → Unknown
     ≡ first_level (line_source slots bound_groups n) → IsOpened slots bound_groups n v → IsOpened slots bound_groups
     (n + 1) v
@@ -84,7 +84,7 @@ IsOpened-same slots bound_groups n v e h = record {
   above = λ l le. h.above l (omega (arith, le));
 }
 
--- the line n gets its level before any change
+-- if the lines below n have their levels before any change, so do those below n + 1 once the line n gets its own
 pub IsOpened-set : (slots : ℕ) (bound_groups : List BoundGroup) (n : ℕ) (v : Levels) (x : Level) → n < line_count → x
     ≡ first_level (line_source slots bound_groups n) → IsOpened slots bound_groups n v → IsOpened slots bound_groups
     (n + 1) (set_level v n x)
@@ -127,7 +127,7 @@ IsOpened-all slots bound_groups n v e h instants =
 
 -- ---- one instant more
 
--- the element x at an index within the list
+-- an element x that was read at an index within the list is at that index
 slice_get-from_get_or : (instants : List Instant) (i : ℕ) (x : Instant) → i < length instants → x ≡ get_or instants i x
     → slice_get instants i ≡ Some x
 slice_get-from_get_or [] i x lt e = absurd (omega (arith, lt))
@@ -157,7 +157,7 @@ module _ (slots : ℕ) (bound_groups : List BoundGroup) (instants : List Instant
     levels_after-next = valued-levels_after slots bound_groups instants line_bits all i x.values
         (sym (ap values_of (slice_get-from_get_or instants i x lt e)))
 
-    -- the recorder's levels after the instant i
+    -- after the values of the instant i the recorder's levels are those after i + 1 instants
     pub shown_after-next : (p next : RecorderLevels) → p ≡ shown_after i → next
         ≡ record { shown = valued line_bits x.values p.now; now = valued line_bits x.values p.now } → next
         ≡ shown_after (i + 1)

@@ -49,7 +49,8 @@ lt-lower_net m n l e h = omega arith
 grant-below_line_count : (n : ℕ) → n < 4 → grant n 0 < line_count
 grant-below_line_count n h = omega arith
 
--- the least line of a p that fails on all lines but the nets that the arbiter drives
+-- if p fails on all lines but the nets that the arbiter drives, the least line with p is the net of the least level
+-- with p
 least-arbiter_net : (p : ℕ → Bool) → ((l : ℕ) → is_arbiter_grant l ≡ false → p l ≡ false) → least p 0 line_count
     ≡ option_map (λ n. grant n 0) (least (λ n. p (grant n 0)) 0 4)
 least-arbiter_net p elsewhere = by_least (least (λ n. p (grant n 0)) 0 4) refl
@@ -131,7 +132,8 @@ module _ (t : Trace) (stretch : Stretch) (few : t.opening.slots ≤ 21) (n : ℕ
       (fails-any _ 0 4 (λ i a b. and_left (falls_between (levels_at t n) (levels_at t (suc n)) (grant i 0)) _
       (any-fails (λ n'. falls_between (levels_at t n) (levels_at t (suc n)) (grant n' 0)) 0 4 i e a b))))
 
-  -- the least line that breaks G5, by whether the arbiter begins a grant
+  -- the least line that breaks G5 is the net of the least level that is granted without a request, if the arbiter
+  -- begins a grant
   pub least-G5 : least (breaks t stretch G5 (suc n)) 0 line_count
       ≡ cond (grant_begins (levels_at t n) (levels_at t (suc n)))
       (option_map (λ n. grant n 0) (unrequested (levels_at t n) (levels_at t (suc n))

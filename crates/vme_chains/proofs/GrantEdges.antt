@@ -26,7 +26,7 @@ module _ (t : Trace) where
   shown-existing : (k l : ℕ) → has_line t.opening.slots l ≡ true → shown (levels_at t k) l ≡ level_at (levels_at t k) l
   shown-existing k l h = rw (slots_at t k, h) refl
 
-  -- a line that it doesn't have is shown as unknown
+  -- a line that the backplane doesn't have is shown as unknown
   shown-absent : (k l : ℕ) → has_line t.opening.slots l ≡ false → shown (levels_at t k) l ≡ Unknown
   shown-absent k l h = rw (slots_at t k, h) refl
 
@@ -44,11 +44,11 @@ module _ (t : Trace) where
   before-suc : (p : ℕ → Bool) (n : ℕ) → p (suc n - 1) ≡ p n
   before-suc p n = ap p (suc-sub-one n)
 
-  -- `&&` of equal truth values
+  -- `&&` of equal truth values is equal
   and-equal : {a b c d : Bool} → a ≡ c → b ≡ d → (a && b) ≡ (c && d)
   and-equal e h = rw (e, h) refl
 
-  -- `||` of equal truth values
+  -- `||` of equal truth values is equal
   or-equal : {a b c d : Bool} → a ≡ c → b ≡ d → (a || b) ≡ (c || d)
   or-equal e h = rw (e, h) refl
 
@@ -164,7 +164,7 @@ module _ (t : Trace) where
     taken_in-level_on : (k : ℕ) → taken_in (levels_at t k) ≡ taken_at (level_on k) (slot_on k)
     taken_in-level_on k = taken_at-equal _ _ _ _ (granted_level-level_on k) (reached_slot-slot_on k)
 
-    -- the grant by which a tenure starts at n + 1
+    -- the grant that a tenure takes between the levels is that of the tenure that starts at n + 1
     pub taken_between-tenure : (n : ℕ) → taken_between (levels_at t n) (levels_at t (suc n))
         ≡ taken_at (tenure_level t (suc n)) (tenure_slot t (suc n))
     unfolding tenure_level tenure_slot taken_grant

@@ -30,7 +30,7 @@ pub least-condition : (b : Bool) (p : ℕ → Bool) → least (λ l. b && p l) 0
 least-condition true p = refl
 least-condition false p = least-none (λ l. false) 0 line_count (fails-any (λ l. false) 0 line_count (λ l a b. refl))
 
--- the least line of a p that fails on all lines but WRITE*
+-- if p fails on all lines but WRITE*, the least line with p is WRITE*, if p holds there, and else there is none
 pub least-WRITE : (p : ℕ → Bool) → ((l : ℕ) → (l == WRITE) ≡ false → p l ≡ false) → least p 0 line_count
     ≡ cond (p WRITE) (Some WRITE) None
 least-WRITE p elsewhere = by_test (p WRITE) refl

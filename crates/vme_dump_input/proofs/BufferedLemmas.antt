@@ -18,7 +18,7 @@ use Rattle.vme_dump_input.specs.BufferedInputs.{FailsAs, InputSoFar, IsAllOf, Is
 use Rattle.vme_dump_input.specs.BufferedInputs.{IsToldWhole, MayLimit, not_read}
 
 module _ (old now : Reading) (done : List ℕ) (input : InputSoFar) (h : IsReadTo old now done input) where
-  -- the first `n` held bytes are taken
+  -- `IsReadTo` holds after the first `n` held bytes are taken
   pub IsReadTo-taken : (n : ℕ) → n ≤ length input.held
       → IsReadTo old now (done ++ take n input.held) (record input { held = drop n input.held })
   IsReadTo-taken n within =
@@ -44,7 +44,7 @@ module _ (old now : Reading) (done : List ℕ) (input : InputSoFar) (h : IsReadT
   IsInTime-few_reads : input.reads < most_reads → IsInTime old now
   IsInTime-few_reads less = record { failures = h.failures; reads = omega (arith, h.reads, less) }
 
-  -- an input that is read to its end
+  -- the bytes of an input that is read to its end, those that are gone and those that are held, are all of the source
   pub IsAllOf-whole : input.is_whole ≡ true → IsAllOf old now (done ++ input.held) input.limit
   IsAllOf-whole ends =
       let told = subst (λ (b : Bool). IsToldWhole b old (done ++ input.held) input.read input.limit) ends h.whole in
@@ -100,7 +100,7 @@ module _ (old now : Reading) (done : List ℕ) (input : InputSoFar) (h : IsReadT
     FailsAs-fault limit failed.Memory less same fails =
         in_time old later (record { failures = fails ∙ h.failures; reads = omega (arith, same, h.reads, less) })
 
-    -- the next read finds the end
+    -- `IsReadTo` holds after a read that finds the end
     pub IsReadTo-end : Consumes now.left later.left [] → IsAtEnd later.left → later.failures ≡ now.failures
         → later.reads ≡ now.reads → later.short_reads ≡ now.short_reads → input.reads < most_reads
         → input.read ≤ input.limit → IsReadTo old later done (record input { is_whole = true })
@@ -145,7 +145,7 @@ module _ (old now : Reading) (done : List ℕ) (input : InputSoFar) (h : IsReadT
       in_time-not_whole true e n h = absurd (cc)
       in_time-not_whole false e n h = absurd (cc)
 
-      -- more bytes are read, where `full` of the reads so far were full
+      -- `IsReadTo` holds after more bytes are read, where `full` of the reads so far were full
       IsReadTo-more : input.read + length more ≤ input.limit + input.room → (full : ℕ)
           → old.short_reads + (input.reads + 1) ≡ later.short_reads + full
           → full * input.room ≤ input.read + length more
@@ -176,7 +176,7 @@ module _ (old now : Reading) (done : List ℕ) (input : InputSoFar) (h : IsReadT
       full_reads-next : (full room read n : ℕ) → full * room ≤ read → room ≤ n → suc full * room ≤ read + n
       full_reads-next full room read n enough all = omega (arith, suc-mul full room, enough, all)
 
-      -- more bytes are read
+      -- `IsReadTo` holds after one more read that gave bytes, short or full
       pub IsReadTo-read_on : input.read + length more ≤ input.limit + input.room
           → (length more < input.room → later.short_reads ≡ suc now.short_reads)
           → (input.room ≤ length more → later.short_reads ≡ now.short_reads)
@@ -194,7 +194,7 @@ module _ (old now : Reading) (done : List ℕ) (input : InputSoFar) (h : IsReadT
               IsReadTo-more within (suc h.full) (omega (arith, h.has_full.counted, full all))
               (full_reads-next h.full input.room input.read (length more) h.has_full.enough all)
 
--- before the first read
+-- `IsReadTo` holds before the first read
 pub IsReadTo-not_read : (here : Reading) (limit room : ℕ) → MayLimit limit room
     → IsReadTo here here [] (not_read limit room)
 IsReadTo-not_read here limit room may = record {
@@ -231,7 +231,7 @@ InputSoFar-same a b held limit room read reads whole =
 module _ (old now later : Reading) (done : List ℕ) (before after : InputSoFar) (h : IsReadTo old now done before)
     (more : List ℕ) (count : ℕ) (long : length more ≡ count) (held : after.held ≡ before.held ++ more)
     (limit : after.limit ≡ before.limit) (room : after.room ≡ before.room) where
-  -- a read that gave bytes
+  -- `IsReadTo` holds after a read that gave bytes
   pub IsReadTo-some_bytes : 0 < count → after.read ≡ before.read + count → after.reads ≡ before.reads + 1
       → after.is_whole ≡ before.is_whole → Consumes now.left later.left more → later.failures ≡ now.failures
       → later.reads ≡ suc now.reads
@@ -246,7 +246,7 @@ module _ (old now later : Reading) (done : List ℕ) (before after : InputSoFar)
       (IsReadTo-read_on old now done before h later more (omega (arith, some, long)) consumed same reads_are less going
       (omega (arith, long, within)) (λ l. short (omega (arith, l, long))) (λ l. full (omega (arith, l, long))))
 
-  -- a read that gave none: the end
+  -- `IsReadTo` holds after a read that gave no bytes, which is the end
   pub IsReadTo-no_bytes : count ≡ 0 → after.read ≡ before.read → after.reads ≡ before.reads → after.is_whole ≡ true
       → Consumes now.left later.left more → IsAtEnd later.left → later.failures ≡ now.failures
       → later.reads ≡ now.reads → later.short_reads ≡ now.short_reads → before.reads < most_reads

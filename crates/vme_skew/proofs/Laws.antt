@@ -416,7 +416,7 @@ record AreSettled (o : Levels) (xs : List Step) (v : Levels) (IsBefore : ℕ →
   formed : AreFormed o xs v clock
   earlier : (length xs ≡ 0) ⊎ IsBefore clock
 
--- one more step, from the levels `v` to `w`, at a later time
+-- well-formed steps that lead to `v`, with one more to the levels `w`, at a later time, are well formed and lead to `w`
 AreSettled-step_between : (o : Levels) (xs : List Step) (v w : Levels) (time : ℕ) → Leads v w → AreSettled o xs v
     (λ clock. clock < time) → AreSettled o (xs ++ step_between time v w) w (λ clock. clock ≤ time)
 AreSettled-step_between o xs v w time can_lead h = by_test (any (differs v w) 0 line_count) refl

@@ -120,7 +120,7 @@ module _ (from : ℕ) where
     late : from ≤ p.time
     before : AreBefore p.time p.accumulator.recorded.steps
 
-  -- another time is read
+  -- `IsMade` still holds after another time is read
   IsMade-advanced : (test : Bool) (p : BodyFold BuilderState) (t : ℕ) → IsMade p → p.time ≤ t
       → (test ≡ true → p.time < t)
       → IsMade (cond test (record { accumulator = builder_instant p.accumulator p.time; time = t; has_instant = true })
@@ -157,7 +157,7 @@ module _ (from : ℕ) where
     abbrev state_after : State BuilderState → BodyItem → BodyContext → State BuilderState
     state_after s item next = record { context = next; progress = after s.progress item }
 
-    -- where neither the time nor the steps change, it stays so
+    -- `IsAt` still holds where neither the time nor the steps change
     IsAt-same_time : (s : State BuilderState) (p : BodyFold BuilderState) (next : BodyContext) → IsAt s → p.time
         ≡ s.progress.time
         → p.accumulator.recorded.steps ≡ s.progress.accumulator.recorded.steps → next.now ≡ s.context.now
@@ -171,7 +171,7 @@ module _ (from : ℕ) where
       };
     }
 
-    -- an item without a fault leaves it so
+    -- `IsAt` still holds after an item without a fault
     IsAt-item : (s : State BuilderState) (item : BodyItem) (next : BodyContext) → IsAt s
         → context_after nets s.context item ≡ Ok next → IsAt (state_after s item next)
     IsAt-item s (time_item line digits) next h ok =
@@ -208,7 +208,7 @@ module _ (from : ℕ) where
     abbrev state_of : BodyFold BuilderState → Result BodyContext VcdFault → Result (State BuilderState) VcdFault
     state_of p stood = stood >>= λ next. Ok (record { context = next; progress = p })
 
-    -- an item, and then items that leave it so up to their first fault, leave it so
+    -- `IsAt` still holds after an item, and then items after which it still holds, up to their first fault
     IsAt-reached_before_item : (s : State BuilderState) (item : BodyItem) (items : List BodyItem)
         (stood : Result BodyContext VcdFault)
         → context_after nets s.context item ≡ stood → IsAt s
@@ -222,7 +222,7 @@ module _ (from : ℕ) where
         (IsAt-item s item next h e)
     IsAt-reached_before_item s item items (Err fault) e h rest = h
 
-    -- items leave it so up to their first fault
+    -- `IsAt` still holds after items, up to their first fault
     IsAt-reached_before : (s : State BuilderState) (items : List BodyItem) → IsAt s
         → IsAt (reached_before builder_change builder_instant nets s items)
     unfolding reached_before
@@ -273,7 +273,7 @@ module _ (from : ℕ) where
     before = λ f is. h.before;
   }
 
-  -- the current instant is the last
+  -- after the current instant has ended, the steps are up to its time
   AreUpTo-ended : (has_instant : Bool) (p : BodyFold BuilderState) → IsMade p
       → AreUpTo p.time (cond has_instant (builder_instant p.accumulator p.time) p.accumulator).recorded.steps
   AreUpTo-ended true p h =

@@ -70,7 +70,7 @@ IsReading-whole old new None told (inr up) whole =
 -- ---- a command whose answers have a status of at most 4
 
 module _ {A : Type 0} (answer : A → CommandAnswer) (small : (found : A) → (answer found).status ≤ 4) where
-  -- a command that ends so has status 5 exactly where a write on the output failed
+  -- a command for which `Ends` holds has status 5 exactly where a write on the output failed
   pub Ends-unwritten : (found : A) (out err : Writing × Writing) (status : ℕ) → Ends (answer found) out err status
       → (status ≡ 5) ↔ (out.1.failures ≡ suc out.0.failures)
   Ends-unwritten found out err status (inl told) = (
@@ -79,8 +79,8 @@ module _ {A : Type 0} (answer : A → CommandAnswer) (small : (found : A) → (a
   )
   Ends-unwritten found out err status (inr failed) = (λ _. failed.out_is.1, λ _. failed.status_is)
 
-  -- a command that ends so, without a failed write and without want of memory, writes the answer `expected`, if that is
-  -- its answer
+  -- a command for which `Ends` holds, without a failed write and without want of memory, writes the answer `expected`,
+  -- if that is its answer
   Ends-exact : (expected : CommandAnswer) (found : A) (out err : Writing × Writing) (status : ℕ)
       → Ends (answer found) out err
       status
@@ -94,7 +94,7 @@ module _ {A : Type 0} (answer : A → CommandAnswer) (small : (found : A) → (a
 
   module _ (MayFind : Option (List ℕ) → Option (List ℕ) → A → Type 0) (binding dump : Reading × Reading)
       (out err : Writing × Writing) (status : ℕ) where
-    -- the status is 5 exactly where a write on the output failed
+    -- the status of a command for which `AnswersInputs` holds is 5 exactly where a write on the output failed
     pub AnswersInputs-unwritten : AnswersInputs answer MayFind binding dump out err status
         → (status ≡ 5) ↔ (out.1.failures ≡ suc out.0.failures)
     AnswersInputs-unwritten does =

@@ -29,12 +29,12 @@ line_after_pieces-append line [] piece = refl
 line_after_pieces-append line (first ∷ pieces) piece =
     line_after_pieces-append (line_behind line first.bytes.now) pieces piece
 
--- no piece is cut off yet
+-- `IsCutSoFar` holds before any piece is cut off: all of the text is left
 pub IsCutSoFar-none : (text : List ℕ) → IsCutSoFar text [] text
 IsCutSoFar-none text = record { tokens = λ line. refl; lines = λ line. refl }
 
 module _ (text : List ℕ) (pieces : List DumpPiece) (piece : DumpPiece) where
-  -- one more piece is cut off
+  -- `IsCutSoFar` still holds after one more piece is cut off
   pub IsCutSoFar-next : (left rest : List ℕ) → IsCutSoFar text pieces left → IsCutIn left piece.bytes.now rest
       → IsCutSoFar text (pieces ++ piece ∷ []) rest
   IsCutSoFar-next left rest so cut = record {

@@ -6,14 +6,14 @@ use Rattle.std.proofs.lemmas.List.Elements.{All-push, All-same}
 use Rattle.std.proofs.lemmas.Option.{get_or_from_slice_get, none-some, same_Some, slice_get_within}
 use Rattle.vme_text_workers.specs.Calls.{AreResultsByPlace}
 
--- all places are empty
+-- `AreResultsByPlace` holds where all places are empty
 pub AreResultsByPlace-none : {X : Type 0} (gives : ℕ → Option X → Type 0) (all : List (Option X))
     → All (λ (one : Option X). one ≡ None) all → AreResultsByPlace gives all
 AreResultsByPlace-none gives all none = λ place x is.
     absurd (none-some x (sym (none place None (slice_get_within all place (Some x) is))
     ∙ get_or_from_slice_get all place (Some x) None is))
 
--- the result of a call is put at its place
+-- `AreResultsByPlace` still holds after the result of a call is put at its place
 pub AreResultsByPlace-set : {X : Type 0} (gives : ℕ → Option X → Type 0) (all : List (Option X)) (to : ℕ) (given : X)
     → AreResultsByPlace gives all → gives to (Some given)
     → (place : ℕ) (x : X) → slice_get (set all to (Some given)) place ≡ Some (Some x) → gives place (Some x)
