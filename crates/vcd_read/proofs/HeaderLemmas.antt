@@ -168,7 +168,8 @@ module _ {V : Type 0} (with_variable : V → Variable → V) where
   bind_same (Ok x) f g same = same x
   bind_same (Err fault) f g same = refl
 
-  -- a section, which ends the definitions if `end` holds, and the header after it
+  -- the header from the end of a section on is the body after it, if `end` holds, and else what the section declares
+  -- and the header after it
   rest_of_header-section : (text : List ℕ) (d : Declared V) (section : Section) (rest : List Token) (end : Bool)
       → rest_of_header with_variable text d (elim end as (λ _. Header) [
         | true ↦ record { items = []; body = Some rest }
@@ -200,7 +201,7 @@ module _ {V : Type 0} (with_variable : V → Variable → V) where
       (section_with (opened t) ended.words) ended.rest
       (ends_definitions (opened t))
 
-  -- the header from a token on that opens a section: the section, and what reading gives after it
+  -- the header from a token on that opens a section is the section, and what reading gives after it
   header_of-section : (text : List ℕ) (d : Declared V) (t : Token) (ts : List Token) → opens_section t.bytes ≡ true
       → header_of with_variable text d (t ∷ ts) ≡ (section_from t.line ts >>= after_opened text d t)
   header_of-section text d t ts opens = ap (rest_of_header with_variable text d) (header_from-between t ts opens)
@@ -222,7 +223,7 @@ module _ {V : Type 0} (with_variable : V → Variable → V) where
 
   -- ---- the kinds of sections
 
-  -- a section `$var`, what it declares, and the header after it
+  -- the header from a section `$var` on is what it declares, and the header after it
   header_of-var : (text : List ℕ) (d : Declared V) (t : Token) (ts : List Token) → Var ≡ opening_of t.bytes
       → header_of with_variable text d (t ∷ ts) ≡ (section_from t.line ts >>= λ ended. at_line t.line
       (declare_var with_variable d ended.words) >>= λ next. header_of with_variable text next ended.rest)
@@ -232,7 +233,7 @@ module _ {V : Type 0} (with_variable : V → Variable → V) where
       header_of-section text d t ts is.0 ∙ bind_same (section_from t.line ts) (after_opened text d t) _
       (λ ended. ap (after_opened_by text d t.line ended) (same_bytes t.bytes (codes "$var") is.1))
 
-  -- a section `$scope`, which opens a scope, and the header after it
+  -- the header from a section `$scope` on is the scope that it opens, and the header after it
   header_of-scope : (text : List ℕ) (d : Declared V) (t : Token) (ts : List Token) → Scope ≡ opening_of t.bytes
       → header_of with_variable text d (t ∷ ts) ≡ (section_from t.line ts >>= λ ended. header_of with_variable text
       (open_scope d ended.words) ended.rest)
@@ -242,7 +243,7 @@ module _ {V : Type 0} (with_variable : V → Variable → V) where
       header_of-section text d t ts is.0 ∙ bind_same (section_from t.line ts) (after_opened text d t) _
       (λ ended. ap (after_opened_by text d t.line ended) (same_bytes t.bytes (codes "$scope") is.1))
 
-  -- a section `$upscope`, which closes a scope, and the header after it
+  -- the header from a section `$upscope` on is the scope that it closes, and the header after it
   header_of-upscope : (text : List ℕ) (d : Declared V) (t : Token) (ts : List Token) → Upscope ≡ opening_of t.bytes
       → header_of with_variable text d (t ∷ ts) ≡ (after_section t.line ts >>= λ rest. at_line t.line
       (close_scope d d.scopes) >>= λ next. header_of with_variable text next rest)

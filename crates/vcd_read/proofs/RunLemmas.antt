@@ -14,7 +14,7 @@ zip2-map : (h : ℕ → ℕ → ℕ) (f g : ℕ → ℕ) (xs : List ℕ) → zip
 zip2-map h f g [] = refl
 zip2-map h f g (x ∷ xs) = ap (λ r. h (f x) (g x) ∷ r) (zip2-map h f g xs)
 
--- an operation on two vectors that were computed lane by lane from v
+-- an operation on two vectors that were computed lane by lane from v is one that is computed lane by lane from v
 pub zip2-of_maps : (h : ℕ → ℕ → ℕ) (f g : ℕ → ℕ) (v : List ℕ) {a b : List ℕ} → a ≡ map f v → b ≡ map g v → zip2 h a b
     ≡ map (λ x. h (f x) (g x)) v
 zip2-of_maps h f g v p q = ap₂ (zip2 h) p q ∙ zip2-map h f g v

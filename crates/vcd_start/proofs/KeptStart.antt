@@ -20,7 +20,7 @@ module _ (nets : List Net) (time : ℕ) where
   abbrev HasTime : BodyFold (Option ℕ) → Type 0
   HasTime p = p.accumulator ≡ Some time
 
-  -- a time item leaves it known
+  -- a time item leaves the first time known
   HasTime-advanced : (p : BodyFold (Option ℕ)) (t : ℕ) → HasTime p → HasTime (advanced first_time_or p t)
   HasTime-advanced p t h = by_case (p.has_instant && not (t == p.time))
     where
@@ -31,7 +31,7 @@ module _ (nets : List Net) (time : ℕ) where
       by_case true = ap (λ (s : Option ℕ). first_time_or s p.time) h
       by_case false = h
 
-  -- an item leaves it known
+  -- an item leaves the first time known
   HasTime-item : (p : BodyFold (Option ℕ)) (item : BodyItem) → HasTime p
       → HasTime (progress_after first_time_kept first_time_or nets p item)
   HasTime-item p (time_item line digits) h = HasTime-advanced p (number digits) h
@@ -45,7 +45,7 @@ module _ (nets : List Net) (time : ℕ) where
   abbrev stepped : BodyFold (Option ℕ) → Result BodyContext VcdFault → Result (State (Option ℕ)) VcdFault
   stepped p c = c >>= λ next. Ok (record { context = next; progress = p })
 
-  -- an item, and then items that leave it known, leave it known
+  -- an item, and then items that leave the first time known, leave it known
   HasTime-steps_after_item : (items : List BodyItem) (item : BodyItem) (s : State (Option ℕ)) (end : State (Option ℕ))
       → HasTime s.progress → (c : Result BodyContext VcdFault)
       → ((next : State (Option ℕ)) → HasTime next.progress
@@ -58,7 +58,7 @@ module _ (nets : List Net) (time : ℕ) where
       (HasTime-item s.progress item h) is
   HasTime-steps_after_item items item s end h (Err fault) rest is = absurd (cc)
 
-  -- items that are read without a fault leave it known
+  -- items that are read without a fault leave the first time known
   HasTime-steps : (items : List BodyItem) (s end : State (Option ℕ)) → HasTime s.progress
       → steps first_time_kept first_time_or nets s items ≡ Ok end → HasTime end.progress
   unfolding steps
@@ -68,7 +68,7 @@ module _ (nets : List Net) (time : ℕ) where
       HasTime-steps_after_item items item s end h (context_after nets s.context item)
       (λ next has e. HasTime-steps items next end has e) is
 
-  -- the end of the last instant leaves it
+  -- the end of the last instant leaves the first time known
   ended-HasTime : (p : BodyFold (Option ℕ)) → HasTime p → ended first_time_or p ≡ Some time
   ended-HasTime p h = by_case p.has_instant
     where
@@ -77,7 +77,7 @@ module _ (nets : List Net) (time : ℕ) where
       by_case true = ap (λ (s : Option ℕ). first_time_or s p.time) h
       by_case false = h
 
-  -- the end of the body leaves it
+  -- the end of the body leaves the first time known
   at_end-HasTime : (s : State (Option ℕ)) (start : Option ℕ) (c : Result BodyContext VcdFault) → HasTime s.progress
       → (c >>= λ stood. Ok (ended first_time_or s.progress)) ≡ Ok start → start ≡ Some time
   at_end-HasTime s start (Ok stood) h is =
@@ -91,7 +91,7 @@ start_of-known r time has more dump comes =
     by_steps (steps first_time_kept first_time_or r.nets (state_at r.progress r.dump_section) (body_from r.place more))
     refl comes
   where
-    -- whatever reading the items gives
+    -- whatever reading the items gives, the first time of the dump is the one that is known
     by_steps : (w : Result (State (Option ℕ)) VcdFault)
         → steps first_time_kept first_time_or r.nets (state_at r.progress r.dump_section) (body_from r.place more) ≡ w
         → (w >>= at_end first_time_or) ≡ Ok (start_of dump) → start_of dump ≡ Some time

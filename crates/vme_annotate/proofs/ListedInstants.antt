@@ -79,7 +79,7 @@ module _ (last : ℕ) where
   least-up_to_last : (p : ℕ → Bool) (first n : ℕ) → n ≤ last + 1 → IfSome (least p first n) (λ e. e ≤ last)
   least-up_to_last p first n most = by_found (least p first n) refl
     where
-      -- whether one is found or not
+      -- whether a number is found or not, it is at most `last`
       by_found : (o : Option ℕ) → least p first n ≡ o → IfSome o (λ e. e ≤ last)
       by_found None e = tt
       by_found (Some i) e = let found = least-found p first n i e in omega (arith, found.below, most)
@@ -255,7 +255,7 @@ RowsAreIn-recorded_rows : (t : Trace) → RowsAreIn (last_instant t) (recorded_r
 unfolding listing_by row_changes
 RowsAreIn-recorded_rows t = by_stretches (judged_stretches t)
   where
-    -- whichever stretches it has
+    -- whichever stretches a recording has, the rows of its listing are at its instants
     by_stretches : (stretches : List Stretch) → RowsAreIn (last_instant t) (listing_of_stretches all_rules t stretches)
     by_stretches [] = (tt, tt)
     by_stretches (stretch ∷ stretches) = RowsAreIn-listing_before t (stretch ∷ stretches)

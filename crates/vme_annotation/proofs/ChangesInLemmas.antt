@@ -51,7 +51,7 @@ pub record IsPutIn (nets : List Net) (code_of : ShownChange → List ℕ) (dump 
   pub behind : EndsAfterItem (take p.place dump)
   pub detached : starts_at_boundary (drop p.place dump) ≡ true
 
--- each change is inserted so, at places from `from` on that don't go back
+-- `IsPutIn` holds of each change, and the places from `from` on don't go back
 abbrev pub ArePutIn : List Net → (ShownChange → List ℕ) → List ℕ → ℕ → List PutChange → Type 0
 ArePutIn nets code_of dump from [] = Unit {0}
 ArePutIn nets code_of dump from (p ∷ put) =
@@ -75,7 +75,7 @@ module _ (nets : List Net) (code_of : ShownChange → List ℕ) (dump : List ℕ
       starts_at_boundary-prefix (p.place - from) (drop from dump) (text_of p.change ++ inserted_from p.place put)
       detached refl
 
-  -- the text up to the first change, that change, and what follows it
+  -- the text with all changes is the text up to the first change, that change, and what follows it
   inserted_from-first : (p : PutChange) (put : List PutChange) (from : ℕ) → from ≤ p.place
       → take from dump ++ inserted_from from (p ∷ put) ≡ take p.place dump
       ++ (text_of p.change ++ inserted_from p.place put)

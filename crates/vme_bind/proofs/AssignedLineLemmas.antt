@@ -379,7 +379,7 @@ module _ (a : ReadSpeculatively) (before : Levels) (n : ℕ) (after : Levels)
   abbrev own_levels : Levels
   own_levels = a.detached.progress.accumulator.now
 
-  -- the line n gets the piece's own level, where the piece assigns one to it
+  -- `AreLevelsAfterBelow` holds of n + 1 once the line n, which the piece assigns a level to, gets it
   pub AreLevelsAfterBelow-assigned : (x : Level) → n < line_count → is_assigned a.assigned n ≡ true → x
       ≡ level_at own_levels n
       → AreLevelsAfterBelow a before (n + 1) (set_level after n x)
@@ -398,7 +398,7 @@ module _ (a : ReadSpeculatively) (before : Levels) (n : ℕ) (after : Levels)
     rest = λ l le. level_at-set_other after n l x (omega (arith, le)) ∙ h.rest l (omega (arith, le));
   }
 
-  -- the line n keeps its level, where the piece assigns none to it
+  -- `AreLevelsAfterBelow` holds of n + 1 where the piece assigns no level to the line n
   pub AreLevelsAfterBelow-not_assigned : is_assigned a.assigned n ≡ false → AreLevelsAfterBelow a before (n + 1) after
   AreLevelsAfterBelow-not_assigned off = record {
     slots = h.slots;

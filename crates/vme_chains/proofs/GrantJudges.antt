@@ -46,20 +46,20 @@ use Rattle.vme_chains.proofs.GrantSkips.{step_fault-none}
 use Rattle.vme_chains.proofs.GrantFaults.{step_fault-break_at}
 use Rattle.vme_chains.proofs.GrantTests.{le-suc_cases}
 
--- a level is in one of two sets, by a condition
+-- a level is in the set that a condition chooses just if it is in that of the two
 is_in-cond : (b : Bool) (x y : LevelSet) (l : ℕ) → is_in (cond b x y) l ≡ cond b (is_in x l) (is_in y l)
 is_in-cond true x y l = refl
 is_in-cond false x y l = refl
 
--- a choice between equal truth values by equal conditions
+-- a choice between equal truth values by equal conditions is equal
 cond-equal : (b c : Bool) (x x' y y' : Bool) → b ≡ c → x ≡ x' → y ≡ y' → cond b x y ≡ cond c x' y'
 cond-equal b c x x' y y' e h k = rw (e, h, k) refl
 
--- `||` of equal truth values
+-- `||` of equal truth values is equal
 or-equal : (x x' y y' : Bool) → x ≡ x' → y ≡ y' → (x || y) ≡ (x' || y')
 or-equal x x' y y' h k = rw (h, k) refl
 
--- `not f && x` of equal truth values
+-- `not f && x` of equal truth values is equal
 and_not-equal : (f f' x x' : Bool) → f ≡ f' → x ≡ x' → (not f && x) ≡ (not f' && x')
 and_not-equal f f' x x' h k = rw (h, k) refl
 

@@ -58,7 +58,7 @@ greatest-alike p q f (suc n) alike =
     refl
 
 module _ (t : Trace) (stretch : Stretch) (p : ℕ → Bool) where
-  -- up to the start of the stretch there is none, so the answer is the start
+  -- one after the start of the stretch, `last_before` gives the start, since no later instant has p
   pub last_before-start : last_before t stretch p (suc stretch.start) ≡ stretch.start
   unfolding last_before
   last_before-start = rw (greatest-empty p (stretch.start + 1) (suc stretch.start) (omega arith)) refl

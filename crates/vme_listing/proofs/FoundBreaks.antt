@@ -67,7 +67,7 @@ pub option_or-some : (o p : Option Break) (b : Break) → option_or o p ≡ Some
 option_or-some None p b e = inr (refl, e)
 option_or-some (Some a) p b e = inl e
 
--- if neither of two options is there, both aren't
+-- if an option or else another is `None`, both are
 pub option_or-both_none : (o p : Option Break) → option_or o p ≡ None → (o ≡ None) × (p ≡ None)
 option_or-both_none None p e = (refl, e)
 option_or-both_none (Some a) p e = absurd (cc)

@@ -93,7 +93,7 @@ module _ (skew time : ℕ) (t : Trace) (step : Step) (late : time ≤ step.time)
       (length-append_one t.steps step)
       ∙ ap (of_parts t) (filter-with_step (begins skew t step) refl)
 
--- several steps that aren't earlier complete nothing
+-- several steps that aren't earlier than `time` complete nothing
 pub settled_until-with_steps : (skew time : ℕ) (t : Trace) (more_steps : List Step)
     → All (λ (step : Step). time ≤ step.time) more_steps
     → settled_until skew time (with_steps t more_steps) ≡ settled_until skew time t

@@ -21,7 +21,7 @@ use Rattle.vme_skew.specs.Group.{ListsTouchedLines}
 
 -- ---- the lines that were touched
 
--- a line gets any level, and is listed
+-- the touched lines are still listed after a line gets any level, if it is added to the list
 pub ListsTouchedLines-set : (before now : Levels) (touched : List ℕ) (m : ℕ) (x : Level)
     → ListsTouchedLines before now touched
     → IsLine before.slots m → ListsTouchedLines before (set_level now m x) (touched ++ m ∷ [])
@@ -151,7 +151,7 @@ AreShown-none touched before now h = record {
   above = λ l le. refl;
 }
 
--- the line at place i is shown as it is: it needs no change
+-- `AreShown` holds at the next place where the line at place i has the level that is shown, and so needs no change
 pub AreShown-same : (touched : List ℕ) (i : ℕ) (before now shown : Levels) (changes : List Change) → IsNonDecreasing
     touched → ListsTouchedLines before now touched → i < length touched
     → same_level (level_at shown (get_or touched i 0)) (level_at now (get_or touched i 0)) ≡ true
@@ -181,7 +181,7 @@ AreShown-same touched i before now shown changes sorted t here same h =
       above = λ l le. h.above l (omega (arith, le, next, low));
     }
 
--- the line at place i has another level than is shown: it changes
+-- `AreShown` holds at the next place after the line at place i, which has another level than is shown, is changed
 pub AreShown-changed : (touched : List ℕ) (i : ℕ) (before now shown : Levels) (changes : List Change) → IsNonDecreasing
     touched → ListsTouchedLines before now touched → i < length touched
     → same_level (level_at shown (get_or touched i 0)) (level_at now (get_or touched i 0)) ≡ false
@@ -277,7 +277,7 @@ get_or-default_zero : (touched : List ℕ) (i x : ℕ) → i < length touched �
     ≡ get_or touched i 0
 get_or-default_zero touched i x lt e = e ∙ get_or_default touched i x 0 lt
 
--- the line x at place i is shown as it is: it needs no change
+-- `AreShown` holds at the next place where x, the line at place i, has the level that is shown, and so needs no change
 pub AreShown-line_same : (touched : List ℕ) (i : ℕ) (before now shown : Levels) (changes : List Change) (x : ℕ)
     → IsNonDecreasing
     touched → ListsTouchedLines before now touched → i < length touched → x ≡ get_or touched i x
@@ -288,7 +288,7 @@ AreShown-line_same touched i before now shown changes x sorted t here e same h =
     (subst (λ (y : ℕ). same_level (level_at shown y) (level_at now y) ≡ true) (get_or-default_zero touched i x here e)
     same) h
 
--- the line x at place i has another level than is shown: it changes
+-- `AreShown` holds at the next place after x, the line at place i, which has another level than is shown, is changed
 pub AreShown-line_changed : (touched : List ℕ) (i : ℕ) (before now shown : Levels) (changes : List Change) (x : ℕ)
     → IsNonDecreasing
     touched → ListsTouchedLines before now touched → i < length touched → x ≡ get_or touched i x

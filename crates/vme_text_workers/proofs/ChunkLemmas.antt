@@ -36,7 +36,7 @@ module _ (opening left : Levels) (chunks with_chunk : List Trace) (chunk : Trace
   Follow-with_chunk = subst (Follow opening) (sym is) (Follow-append opening chunks chunk so.follow
       (ap (λ (t : Trace). t.opening) one ∙ so.left_is))
 
-  -- the steps of the chunks with one more
+  -- the steps of the chunks with one more are those of the chunks, and its own
   pub steps_in-with_chunk : steps_in with_chunk ≡ steps_in chunks ++ steps
   steps_in-with_chunk = ap steps_in is ∙ steps_in-append chunks chunk
       ∙ ap (λ (t : Trace). steps_in chunks ++ t.steps) one

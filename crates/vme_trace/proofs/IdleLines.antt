@@ -7,8 +7,8 @@ use Rattle.vme_trace.specs.LineNumbers.{is_control}
 use Rattle.vme_trace.specs.Levels.{Levels, rests_high, is_idle, is_idle_on, is_high_on, is_known_on, idle_by_ranges}
 use Rattle.vme_trace.proofs.Ranges.{every-split, every-alike, every-holds}
 
--- `is_idle_on` of one line, by `control`, whether it is a control line; `strict`, whether it rests high; h and k,
--- whether it is high and whether it is known
+-- a control line that rests high is idle just if it is high; `control` and `strict` say that it is such a line, h
+-- whether it is high, k whether it is known
 is_idle_on-high : (control strict h k : Bool) → control ≡ true → strict ≡ true
     → cond (not control) true (cond strict h k)
     ≡ h
@@ -72,7 +72,7 @@ rests_high-SYSRESET l a b = grind (arith, nat_tests)
 rests_high-not_requests : (l : ℕ) → 5 ≤ l → l < 50 → rests_high l ≡ false
 rests_high-not_requests l a b = grind (arith, nat_tests)
 
--- the tests of the ranges, one after the other and in one conjunction
+-- the tests of the ranges, one inside the other, are one conjunction
 and-regrouped : (a b c d e f g h i : Bool) → (a && (b && (true && (c && (d && (e && (f && (g && (h && i)))))))))
     ≡ (a && b && c && d && e && f && g && h && i)
 and-regrouped a b c d e f g h i = grind (arith, nat_tests)
