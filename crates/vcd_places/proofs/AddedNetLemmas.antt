@@ -57,7 +57,7 @@ new_or_before true false k n o before e is h = is
 new_or_before false true k n o before e is h = is
 new_or_before false false k n o before e is h = is ∙ sym e
 
--- the net of each code after a net for `code` is added: for `code` the new one, for others the same as before
+-- after a net for `code` is added, `code` has the new net, and each other code the one that it had
 pub net_of-push : (nets : List Net) (code : List ℕ) (size : ℕ) → net_of nets code ≡ None → (other : List ℕ)
     → net_of (nets ++ record { code = code; size = size } ∷ []) other ≡ update bytes_eq (net_of nets) code
     (Some (length nets)) other

@@ -39,7 +39,7 @@ items_of open_shape line ts = dump_section_open line ∷ body_from ready ts
 items_of end_shape line ts = dump_section_end line ∷ body_from ready ts
 items_of none line ts = wrong line BadToken ∷ body_from ready ts
 
--- the items from a token on, by the shape of the token
+-- the items from a token on are those of its shape
 pub body_from-shape : (t : Token) (ts : List Token) (shape : Shape) → shape ≡ shape_of t.bytes
     → body_from ready (t ∷ ts)
     ≡ items_of shape t.line ts

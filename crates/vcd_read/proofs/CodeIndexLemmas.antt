@@ -80,7 +80,7 @@ short_place-same code other a b h k page entry =
 
 -- ---- the pages
 
--- the net at an entry of a page that is there, `p`
+-- the net at an entry of the page `p`, which is there, is that of the entry of `p`
 pub net_at_entry-there : (pages : List (Vec (Option ℕ))) (page entry : ℕ) (p : Vec (Option ℕ)) → page < length pages
     → p ≡ get_or pages page p → net_at_entry pages page entry ≡ get_or p.items entry None
 unfolding net_at_entry

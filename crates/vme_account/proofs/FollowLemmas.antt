@@ -55,12 +55,12 @@ with_step-instant r s = by_test (is_some r.found)
     by_test true = refl
     by_test false = refl
 
--- the levels after more steps `x`
+-- the levels after more steps `x` are those to which `x` leads
 fold-levels : (x : List Step) (r : StepsReached) → (fold with_step r x).levels ≡ levels_after r.levels x
 fold-levels [] r = refl
 fold-levels (s ∷ x) r = fold-levels x (with_step r s) ∙ ap (λ (v : Levels). levels_after v x) (with_step-levels r s)
 
--- the instant after more steps `x`
+-- the instant after more steps `x` is later by their number
 fold-instant : (x : List Step) (r : StepsReached) → (fold with_step r x).instant ≡ r.instant + length x
 fold-instant [] r = none_more r.instant
   where

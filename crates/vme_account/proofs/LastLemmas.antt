@@ -180,7 +180,8 @@ module _ (t : Trace) (s i : ℕ) (le : s ≤ i) where
   abbrev found : StepEvent → StepEvent → Option ℕ
   found p q = least (happens t p) (since t q s i) (i + 1)
 
-  -- the first instant of `p` since `q`, up to the next instant
+  -- the first moment of `p` since `q`, up to the next instant, is the one so far, unless `q` happens now, or else now,
+  -- if `p` happens now
   least-next : (p q : StepEvent) (now_p now_q : Bool) → now p ≡ now_p → now q ≡ now_q
       → moment t (least (happens t p) (since t q s (i + 1)) (i + 1 + 1))
       ≡ first_or now_p (moment_at t (i + 1)) (unless now_q (moment t (least (happens t p) (since t q s i) (i + 1))))

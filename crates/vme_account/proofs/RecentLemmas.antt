@@ -37,7 +37,7 @@ drop-append xs ys zero le = refl
 drop-append [] ys (suc n) le = absurd (omega (arith, le))
 drop-append (x ∷ xs) ys (suc n) le = drop-append xs ys n (omega (arith, le))
 
--- the steps from `first` on, after one more step
+-- if the older and newer steps are those from `first` on, they are so with one more step at their end
 pub drop-with_step : (t : Trace) (s : Step) (first : ℕ) (older newer : List Step) → older ++ newer ≡ drop first t.steps
     → first ≤ length t.steps → older ++ (newer ++ s ∷ []) ≡ drop first (t.steps ++ s ∷ [])
 drop-with_step t s first older newer is le =

@@ -34,7 +34,7 @@ times_of-time_of [] (suc i) = refl
 times_of-time_of (step ∷ steps) zero = refl
 times_of-time_of (step ∷ steps) (suc i) = times_of-time_of steps i
 
--- the time at which an instant is shown, by the times of the steps
+-- the time at which an instant is shown is found among the times of the steps
 pub times_of-shown_time : (t : Trace) (instant : ℕ) → get_or (times_of t.steps) (max instant 1 - 1) 0
     ≡ shown_time t instant
 times_of-shown_time t instant =

@@ -49,7 +49,7 @@ items-end_definitions (t ∷ ts) section is body ends =
     items-end_definitions_token section t ts is body (is_end t.bytes)
     (items-end_definitions ts (with_word section t.bytes) is body) ends
 
--- the contents of a dump, from its definitions and its body
+-- the contents of a dump are made of its definitions and its body
 dump_of-parts : (text : List ℕ) (declared : Declared (List Variable)) (body : List Token) (instants : List Instant)
     → declare_all appended (nothing_declared []) (header_from between (tokens text)).items ≡ Ok declared
     → (header_from between (tokens text)).body ≡ Some body

@@ -74,7 +74,7 @@ events_from m o e (s ∷ x) =
     events_from (memories_after fault after (memories_next m o after s.changes)) after
     (events_unless_break fault after (then_step m o e s)) x
 
--- the noted events of an audit after one more step
+-- the noted events of an audit after one more step are what `events_unless_break` makes of those before it
 events-with_step : (r : AuditReached) (s : Step) → (with_step r s).audit.events
     ≡ events_unless_break (first_fault_of r.audit.memories r.levels (changed r.levels s.changes) s.changes)
     (changed r.levels s.changes) (then_step r.audit.memories r.levels r.audit.events s)
@@ -178,7 +178,7 @@ handshake-unbroken [] m o = refl
 handshake-unbroken (s ∷ x) m o =
     handshake-unbroken x (memories_next m o (changed o s.changes) s.changes) (changed o s.changes)
 
--- the events after `x` and one more step `s`
+-- the events after `x` and one more step `s` are what `s` makes of those after `x`
 unbroken_events-next : (x : List Step) (m : Memories) (o : Levels) (e : AskedEvents) (s : Step)
     → unbroken_events m o e (x ++ s ∷ [])
     ≡ then_step (unbroken_memories m o x) (levels_after o x) (unbroken_events m o e x) s

@@ -67,7 +67,8 @@ least-faults time (Some f) (Some g) = chosen (comes_before g f)
     chosen true = refl
     chosen false = refl
 
--- the least of what two monitors find at a step and after it
+-- the least of what two monitors find at a step and after it is what they find at the step, or else the least of what
+-- they find after it
 least-step : (k time : ℕ) (f g : Option Fault) (c d : Option Break) → BreakWithin k c → BreakWithin k d
     → least (earlier (break_at_first time f) (one_later c)) (earlier (break_at_first time g) (one_later d))
     ≡ earlier (break_at_first time (first_fault f g)) (one_later (least c d))
@@ -85,7 +86,8 @@ least_event m o x =
     (least (grant_run m.grant o x).first_break (acknowledge_run m.acknowledge o x).first_break)))
 
 module _ (k time : ℕ) where
-  -- the least of what five monitors find at a step and after it
+  -- the least of what five monitors find at a step and after it is what they find at the step, or else the least of
+  -- what they find after it
   least-step_of_five : (f g h i j : Option Fault) (a b c d e : Option Break) → BreakWithin k a → BreakWithin k b
       → BreakWithin k c → BreakWithin k d → BreakWithin k e
       → least (earlier (break_at_first time f) (one_later a))

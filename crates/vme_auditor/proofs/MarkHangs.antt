@@ -189,7 +189,8 @@ module _ (at : ℕ → StartedTransfer) where
   Hangs ms = (c : Counts) (latest : Option ℕ) (w u : Option StartedTransfer)
       → hang_after (tally c latest w u) ms ≡ option_or (hanging_before u w latest ms) (hanging_among latest ms)
 
-  -- the first of a transfer from before (`u`), one from instant `i` and a later one (`h`); a reset clears the first two
+  -- the first of a transfer from before (`u`), one from instant `i` and a later one (`h`) is the same however they are
+  -- grouped; a reset clears the first two
   option_or-hanging : (reset wait : Bool) (u : Option StartedTransfer) (i : ℕ) (h : Option ℕ)
       → option_or (cond reset None (option_or u (cond wait (Some (at i)) None))) (option_map at h)
       ≡ option_or (cond reset None u) (option_map at (option_or (cond reset None (cond wait (Some i) None)) h))
@@ -237,7 +238,7 @@ module _ (at : ℕ → StartedTransfer) where
         (hanging (rows_of latest ms)))))
         (sym (has_reset-rows ms latest))
 
-    -- a reset: the first that hangs is one of the rows after it
+    -- after a reset the first transfer that hangs is the first of the rows after it
     Hangs-reset : (d : Counts) → hang_after (tally d None None None) ms
         ≡ option_map at (hanging (row.Reset i ∷ rows_of None ms))
     Hangs-reset d =

@@ -43,7 +43,7 @@ returned_by m o n (s ∷ x) =
     ++ returned_by (memories_after (first_fault_of m o after s.changes) after (memories_next m o after s.changes)) after
     (n + 1) x
 
--- the memories of an audit after one more step
+-- the memories of an audit after one more step are what `memories_after` makes of those before it
 pub memories-with_step : (r : AuditReached) (s : Step) → (with_step r s).audit.memories
     ≡ memories_after (first_fault_of r.audit.memories r.levels (changed r.levels s.changes) s.changes)
     (changed r.levels s.changes) (memories_next r.audit.memories r.levels (changed r.levels s.changes) s.changes)

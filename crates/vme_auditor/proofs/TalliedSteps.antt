@@ -211,7 +211,7 @@ tally_by more m o n a (s ∷ x) =
     (tally_after more fault a (n + 1) s.time (known_at m.known o after s.changes).shown
     (grant_at m.grant o after s.changes).shown (handshake_at m.handshake o after s.changes).shown) x
 
--- the tally of an audit after one more step
+-- the tally of an audit after one more step is what `tally_after` makes of that before it
 tally-with_step : (r : AuditReached) (s : Step) → (with_step r s).audit.tally
     ≡ tally_after counted (first_fault_of r.audit.memories r.levels (changed r.levels s.changes) s.changes)
     r.audit.tally (r.instant + 1) s.time (known_at r.audit.memories.known r.levels (changed r.levels s.changes)

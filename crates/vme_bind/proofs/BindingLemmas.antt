@@ -22,7 +22,7 @@ pub BindFails-first : {X Y : Type 0} (fault : BindFault) (r : Result X BindFault
     (whole : Result Y BindFault) → whole ≡ (r >>= next) → BindFails fault r → BindFails fault whole
 BindFails-first fault r next whole e h = rw e (BindFailsAs-then fault.line fault.kind r next h)
 
--- the answer of a `?` that returns a fault of the whole
+-- `BindGives` holds of a `?` that returns a fault of the whole
 pub BindGives-err : {X Y : Type 0} (view : X → Y) (r : Result X BindFault) (fault : BindFault)
     (whole : Result Y BindFault)
     → IsErrAnd r (λ e. e ≡ fault) → BindFails fault whole → BindGives view r whole
@@ -51,7 +51,7 @@ binding_of-no_statement text line e h = rw (e, ← h) refl
 abbrev pub rest_bound : List ℕ → Result BoundLines BindFault → Result BoundLines BindFault
 rest_bound text r = r >>= finished (end_line text)
 
--- the binding of a text, by its first statement and the others
+-- the binding of a text is made of its first statement, which states the slots, and the others
 binding_of-statements : (text : List ℕ) (s : StatementText) (ss : List StatementText) → statements_of text ≡ s ∷ ss
     → binding_of text ≡ (at_line s.line (slots_stated s.first s.others) >>= λ slots. bound_all (no_assignments slots) ss
     >>= finished (end_line text))

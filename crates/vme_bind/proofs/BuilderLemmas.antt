@@ -152,7 +152,7 @@ values_from-no_bits : (n k : ℕ) → values_from k (replicate n no_bits) ≡ []
 values_from-no_bits zero k = refl
 values_from-no_bits (suc n) k = values_from-no_bits n (k + 1)
 
--- the state of the builder after the first `n` instants, with the values `current` so far in the next
+-- `m` is the state of the builder after the first `n` instants, with the values `current` so far in the next
 pub record IsMade (slots : ℕ) (bound_groups : List BoundGroup) (count : ℕ) (instants : List Instant) (n : ℕ)
     (current : CurrentValues) (m : BuilderState) : Type 0 where
   pub line_bits : AreLineBits slots bound_groups m.line_bits

@@ -169,7 +169,7 @@ line_change-line_bit_at slots bound_groups bits (x ∷ xs) = ap
 abbrev pub after_value : NetLines → Value → Levels → Levels
 after_value line_bits v now = changed now (map (line_change v.bits) (line_bits_of line_bits v.net))
 
--- the level of a line after one value: that of its bit, where the value is one of its net, or else the one before
+-- the level of a line after one value is that of its bit, where the value is one of its net, or else the one before
 pub level_at-after_value : (slots : ℕ) (bound_groups : List BoundGroup) (line_bits : NetLines)
     → AreLineBits slots bound_groups line_bits
     → (v : Value) (now : Levels) → length now.levels ≡ line_count → (l : ℕ) → l < line_count
@@ -228,8 +228,8 @@ unfolding greatest
 greatest-no p n h = rw (add-one, zero_le n, h) refl
 
 module _ (slots : ℕ) (bound_groups : List BoundGroup) (instants : List Instant) where
-  -- the level of a line by its bit after n + 1 instants: by the bits `here` that its net gets at instant n, or else
-  -- that after n instants
+  -- the level of a line by its bit after n + 1 instants is that of the bits `here` that its net gets at instant n, or
+  -- else that after n instants
   level_by-bits : (n l net place : ℕ) (here : Option (List Bit)) → bits_at slots bound_groups instants net n ≡ here
       → option_map_or (level_in l place) (option_and_then (bits_at slots bound_groups instants net)
       (last_change slots bound_groups instants net (n + 1))) Unknown

@@ -58,7 +58,7 @@ module _ (t : Trace) where
 
   -- ---- a body
 
-  -- a reading, from what is made of the body, with the recording `t` before its steps
+  -- a reading that is made with the recording `t` before its steps is the reading with `t` before it
   reading_made-after : (complete : Trace) (time : ℕ) (made : Result BuilderState VcdFault)
       → reading_made (with_steps t complete.steps) time (made >>= λ m. Ok (builder_following t m))
       ≡ following t (reading_made complete time made)

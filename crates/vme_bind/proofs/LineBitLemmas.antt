@@ -32,7 +32,7 @@ use Rattle.vme_bind.proofs.RecorderLemmas.{those-yes, those-no}
 use Rattle.vme_bind.proofs.BoundGroupLemmas.{drop-element}
 use Rattle.vme_bind.proofs.CaptureLemmas.{AreLineBits, changed-append}
 
--- the lines of a net that has an entry
+-- the lines of a net that has an entry are those of the entry
 pub line_bits_on-at : (nets : List (Vec LineBit)) (net : ℕ) (line_bits : Vec LineBit) → net < length nets
     → line_bits ≡ get_or nets net line_bits → line_bits_on nets net ≡ line_bits.items
 unfolding line_bits_on

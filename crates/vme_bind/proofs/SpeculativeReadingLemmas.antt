@@ -92,7 +92,7 @@ builder_following-instant t m time =
     ap (λ (ss : List Step). record (builder_instant m time) { recorded = record t { steps = ss } })
     (sym (append_assoc t.steps m.recorded.steps step))
 
--- the builder after the end of an instant
+-- after the end of an instant the builder has the progress after it, and its step recorded
 entered-builder : (m : BuilderState) (e : Option ℕ)
     → entered builder_instant m e ≡ record m {
       progress = entered end_of m.progress e;

@@ -158,7 +158,7 @@ pub record IsChange (v : Levels) (c : Change) : Type 0 where
 and-four_with_not : (a b c d : Bool) → a ≡ true → b ≡ true → c ≡ false → d ≡ true → (a && b && not c && d) ≡ true
 and-four_with_not a b c d e f g h = rw (e, f, g, h) refl
 
--- the parts of a conjunction of four tests that holds
+-- the parts of a conjunction of four tests that holds hold
 and-four_parts : (a b c d : Bool) → (a && b && c && d) ≡ true → (a ≡ true) × (b ≡ true) × (c ≡ true) × (d ≡ true)
 and-four_parts true true true true h = (refl, refl, refl, refl)
 and-four_parts true true true false h = absurd cc

@@ -20,7 +20,8 @@ bytes_after xs i = take (length xs - (i + 1)) (drop (i + 1) xs)
 drop-bytes_after : (xs : List ℕ) (i : ℕ) → drop (i + 1) xs ≡ bytes_after xs i
 drop-bytes_after xs i = sym (take_rest xs (i + 1))
 
--- the parts of `xs`, where the first byte with `p` is at place i
+-- the parts of `xs`, where the first byte with `p` is at place i, are the bytes before it, and the parts of those after
+-- it
 pub slice_split-at : (p : ℕ → Bool) (xs : List ℕ) (i : ℕ) → NoneBefore (Passes p xs) 0 (length xs) i → Passes p xs i
     → slice_split p xs ≡ take i xs ∷ slice_split p (bytes_after xs i)
 slice_split-at p xs i first here =
@@ -54,14 +55,14 @@ words-with_word : (word : List ℕ) (parts : List (List ℕ)) → filter (λ w. 
 words-with_word [] parts = refl
 words-with_word (b ∷ word) parts = refl
 
--- the words of a line whose first blank is at place i
+-- the words of a line whose first blank is at place i are the word before it, if there is one, and those after it
 pub words-at : (line : List ℕ) (i : ℕ) → NoneBefore (Passes is_blank line) 0 (length line) i → Passes is_blank line i
     → words line ≡ with_word (take i line) (words (bytes_after line i))
 words-at line i first here =
     ap (λ (parts : List (List ℕ)). filter (λ w. not (is_empty w)) parts) (slice_split-at is_blank line i first here)
     ∙ words-with_word (take i line) (slice_split is_blank (bytes_after line i))
 
--- the words of a line without a blank
+-- a line without a blank is one word, or none if it is empty
 pub words-nowhere : (line : List ℕ) → Nowhere (Passes is_blank line) 0 (length line) → words line
     ≡ with_word line (words (at_end line))
 words-nowhere line none =
@@ -70,7 +71,7 @@ words-nowhere line none =
 
 -- ---- lines
 
--- the statements of a line that is followed by others
+-- the statements of a line that is followed by others are its own, and those of the others
 statements_from-part : (line : ℕ) (part : List ℕ) (parts : List (List ℕ)) → 0 < length parts
     → statements_from line (part ∷ parts)
     ≡ statement_on line (words (without_return part)) ++ statements_from (line + 1) parts
@@ -78,7 +79,8 @@ unfolding statements_from
 statements_from-part line part [] some = absurd (omega (arith, some))
 statements_from-part line part (next ∷ parts) some = refl
 
--- the statements of a text whose first line feed is at place i
+-- the statements of a text whose first line feed is at place i are those of its first line, and those of the lines
+-- after it
 pub statements_from-at : (line : ℕ) (rest : List ℕ) (i : ℕ) (part : List ℕ) → part ≡ without_return (take i rest)
     → NoneBefore (Passes is_feed rest) 0 (length rest) i → Passes is_feed rest i
     → statements_from line (slice_split is_feed rest) ≡ statement_on line (words part) ++ statements_from (line + 1)
@@ -90,7 +92,7 @@ statements_from-at line rest i part e first here =
     ∙ ap (λ (w : List ℕ). statement_on line (words w)
     ++ statements_from (line + 1) (slice_split is_feed (bytes_after rest i))) (sym e)
 
--- the statements of a text without a line feed
+-- the statements of a text without a line feed are those of its one line
 pub statements_from-nowhere : (line : ℕ) (rest : List ℕ) → Nowhere (Passes is_feed rest) 0 (length rest)
     → statements_from line (slice_split is_feed rest) ≡ statement_on line (words rest) ++ statements_from line
     (slice_split is_feed (at_end rest))
@@ -108,7 +110,7 @@ unfolding statements_from
 statements_from-empty line [] e = refl
 statements_from-empty line (b ∷ rest) e = absurd (omega (arith, e))
 
--- the number of line feeds in a text whose first one is at place i
+-- a text whose first line feed is at place i has one line feed more than the bytes after that
 pub count_by-feed_at : (rest : List ℕ) (i : ℕ) → NoneBefore (Passes is_feed rest) 0 (length rest) i
     → Passes is_feed rest i
     → count_by is_feed rest ≡ 1 + count_by is_feed (bytes_after rest i)

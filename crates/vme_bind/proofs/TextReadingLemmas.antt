@@ -121,7 +121,7 @@ module _ (slots : ℕ) (bound_groups : List BoundGroup) (h : Headed) (m : Builde
     abbrev read : UntilFault BuilderState
     read = until_fault builder_change builder_instant h.nets (at_first m) items
 
-    -- the recording before the first fault
+    -- what the builder recorded before the first fault is the recording of the instants before it
     recorded-before_fault : (reached_before builder_change builder_instant h.nets (at_first m)
         items).progress.accumulator.recorded
         ≡ recording slots bound_groups (instants_before_fault h.nets h.body)
@@ -140,7 +140,7 @@ module _ (slots : ℕ) (bound_groups : List BoundGroup) (h : Headed) (m : Builde
         ∙ made.recorded
         ∙ ap (λ (n : ℕ). recording slots bound_groups all n) before.2
 
-    -- the last time before the first fault
+    -- the time of the builder before the first fault is the last time before it
     time-before_fault : read.reached.progress.time ≡ last_time_before_fault h.nets h.body
     time-before_fault = time-reached_before builder_change builder_instant h.nets (at_first m) items
 
@@ -148,7 +148,7 @@ module _ (slots : ℕ) (bound_groups : List BoundGroup) (h : Headed) (m : Builde
     abbrev whole_reading : Trace → ℕ → TextReading
     whole_reading t time = record { recorded = t; fault = None; time = time }
 
-    -- the reading of a body, from the result `taken` of reading its items
+    -- the reading of a body is made of the result `taken` of reading its items
     body_reading-by_result : (taken : Result BuilderState VcdFault)
         → fold_body builder_change builder_instant h.nets m h.body
         ≡ taken

@@ -224,7 +224,7 @@ module _ (total draws : ℕ) (s : BoardState) (m : Core) (sh : ReadsAs total dra
   word_index-draw : (d : ℕ) → d < draws → 4 * (d / 64) + 3 < length W
   word_index-draw d low = word_index-within (length W) draws d 3 low sh.draws_fit.0 sh.draws_fit.1 (omega arith)
 
-  -- the table after a step, by the slots hs after its act and by the seat's new view w
+  -- the table after a step has the slots hs after its act, and the seat's new view w
   table-after_step : (tb : TableState) (j x i : ℕ) (c c' : List (ℕ × Option Block)) (after : SeatState)
       (a : Act (Option Block))
       (w : View) (hs : Homes) → tb ≡ stepped s.table j x i c after.0 a → after ≡ (w, c') → homes_after H c a ≡ hs

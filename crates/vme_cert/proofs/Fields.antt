@@ -1020,15 +1020,15 @@ module _ (t : Trace) (stretch : Stretch) (is : IsStretchOf t stretch) where
 -- ---- The parts of a rule, as the code tests them and as they are defined.
 
 module _ {s : Bool} (its_line : s ≡ true) {a b x y : Bool} (first : a ≡ x) (second : b ≡ y) where
-  -- a rule of two parts on its line, by the tests of its parts
+  -- a rule of two parts is, on its line, the tests of its parts
   pub and-two_parts : (a && b) ≡ (s && x && y)
   and-two_parts = rw (its_line, first, second) refl
 
-  -- a rule of three parts on its line, by the tests of its parts
+  -- a rule of three parts is, on its line, the tests of its parts
   pub and-three_parts : {c z : Bool} → c ≡ z → (a && b && c) ≡ ((s && x) && y && z)
   and-three_parts third = rw (its_line, first, second, third) refl
 
--- a rule that is broken in one of two ways, by the tests of these
+-- a rule that is broken in one of two ways is the tests of the two
 pub or-two_parts : {a b x y : Bool} → a ≡ x → b ≡ y → (a || b) ≡ (x || y)
 or-two_parts e f = rw (e, f) refl
 

@@ -76,7 +76,7 @@ pub address_to-other_line : (v : Levels) (n : ℕ) → is_high (level_at v (A (n
     ≡ address_to v n
 address_to-other_line v n h = rw add-one (rw (rw add-one at h) (add-zero (address_to v n)))
 
--- the row of a cycle by the address on the lines that it needs
+-- the row of a cycle that is no interrupt acknowledge, and not of class F, has the address on the lines that it needs
 pub cycle_row-addressed : (i : ℕ) (v : Levels) (end : Option ℕ) (k : Class) → class_of v ≡ k → (k ≡ class.I → ⊥)
     → (k ≡ class.F → ⊥) → AddressedCycle i k (modifier_of v) (address_to v (needs_of v).highest) end ≡ cycle_row i v end
     k
@@ -115,7 +115,7 @@ rows_in-length One xs = length-map xs without_data
 rows_in-length Two xs = refl
 rows_in-length Three xs = refl
 
--- the row after the rows `xs`
+-- the row after the rows `xs` is at the index that is their number
 pub rows_in-row_after : (v : Version) (xs ys : List Row) (row : Row)
     → slice_get (rows_in v (xs ++ row ∷ ys)) (length xs)
     ≡ Some (row_in v row)

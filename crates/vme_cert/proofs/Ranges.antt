@@ -19,7 +19,7 @@ eq-fails_below i j h = grind (arith, nat_tests)
 pub eq-fails_above : (i j : ℕ) → j < i → (i == j) ≡ false
 eq-fails_above i j h = grind (arith, nat_tests)
 
--- case distinction by a test
+-- what follows from either value of a test holds
 pub by_either_value : {P : Type 0} (b : Bool) → (b ≡ true → P) → (b ≡ false → P) → P
 by_either_value true holds fails = holds refl
 by_either_value false holds fails = fails refl

@@ -20,7 +20,7 @@ use Rattle.vme_chains.specs.declared.acknowledge.AcknowledgeMemory.{AcknowledgeM
 use Rattle.vme_chains.proofs.AcknowledgeChanges.{least-when}
 use Rattle.vme_chains.proofs.AcknowledgeMeaning.{dtack_answers, Holds, in_cycle-answered_by_dtack}
 
--- a test of a line in another order, with whether the backplane has the line asked twice
+-- a test of a line is the same in another order, with whether the backplane has the line asked twice
 and-reordered_once : (has slot falls more : Bool) → (has && (slot && falls && more))
     ≡ ((slot && has && has && falls) && more)
 and-reordered_once true true falls more = refl
@@ -28,7 +28,8 @@ and-reordered_once true false falls more = refl
 and-reordered_once false true falls more = refl
 and-reordered_once false false falls more = refl
 
--- a test of a line with three tests after it, in another order, with whether the backplane has the line asked twice
+-- a test of a line with three tests after it is the same in another order, with whether the backplane has the line
+-- asked twice
 and-reordered_thrice : (has slot falls a b c : Bool) → (has && (slot && falls && a && b && c))
     ≡ ((slot && has && has && falls) && (a && b && c))
 and-reordered_thrice true true true a b c = refl

@@ -80,7 +80,7 @@ module _ (t : Trace) (stretch : Stretch) (ok : malformed_step t ≡ None) (few :
         (are_changes-step t n ok within)
         (passes_unasked-unchanged old changes))
 
-    -- the machine's step from n, with an observation or without
+    -- the machine's step from n gives the memory and the fault that it has with an observation, also without one
     next_is : (m : AcknowledgeMemory) → Holds t stretch n m
         → next_at step t m n ≡ record {
           memory = memory_after m old new;

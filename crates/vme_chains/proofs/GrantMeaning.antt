@@ -61,7 +61,8 @@ module _ (t : Trace) (stretch : Stretch) where
       let h = last_before-within t stretch (falls t BBSY) n from in
       any-next (grant_falls t) (last_before t stretch (falls t BBSY) (suc n) + 1) (suc n) (omega arith)
 
-  -- `requested_since` at n + 1, by what it is at n
+  -- a level is requested since the last grant, up to n + 1, just if its request is low there, or it was requested so up
+  -- to n and no grant begins at n + 1
   pub requested_since-next : (n l : ℕ) → stretch.start ≤ n → requested_since (suc n) l ≡ cond (grant_falls t (suc n))
       (low t (BR l) (suc n)) (requested_since n l || low t (BR l) (suc n))
   requested_since-next n l from = by_grant (grant_falls t (suc n)) refl
@@ -74,7 +75,7 @@ module _ (t : Trace) (stretch : Stretch) where
           ap (λ f. any (low t (BR l)) f (suc (suc n))) (last_before-earlier t stretch (grant_falls t) (suc n) e)
           ∙ any-requested_up_to_next n l from
 
-  -- `granted_since` at n + 1, by what it is at n
+  -- `granted_since` holds at n + 1 just if BBSY doesn't fall there, and it holds at n or a grant begins at n + 1
   pub granted_since-next : (n : ℕ) → stretch.start ≤ n → granted_since (suc n)
       ≡ (not (falls t BBSY (suc n)) && (granted_since n || grant_falls t (suc n)))
   granted_since-next n from = by_fall (falls t BBSY (suc n)) refl

@@ -30,7 +30,7 @@ use Rattle.vme_chains.proofs.GrantTests.{rule-other_kind, rule-same_kind, add-on
 eqb-below : (a b : ℕ) → a < b → (a == b) ≡ false
 eqb-below a b h = grind (arith, nat_tests)
 
--- the least line of a p that fails on all lines but a
+-- if p fails on all lines but a, the least line with p is a, if p holds there, and else there is none
 least-one_line : (p : ℕ → Bool) (n a : ℕ) → a < n → ((l : ℕ) → (l == a) ≡ false → p l ≡ false) → least p 0 n
     ≡ line_if (p a) a
 least-one_line p n a below elsewhere = by_test (p a) refl

@@ -16,7 +16,7 @@ slots_to-next : (found : FoundLines) (before : ℕ) → slots_to found (before +
 unfolding slots_to
 slots_to-next found before = ap (slots_to found) (add-one before)
 
--- the slots up to the place `before + 1`, from whether a net has a bit there and the slots up to `before`
+-- the slots up to the place `before + 1` follow from whether a net has a bit there and the slots up to `before`
 pub slots_to-step : (found : FoundLines) (before slots more : ℕ) (has : Bool) → slots ≡ slots_to found before → has
     ≡ has_net found (before + 1) → more ≡ (if has then before + 1 else slots) → more ≡ slots_to found (before + 1)
 slots_to-step found before slots more has so_far is_net is_more =

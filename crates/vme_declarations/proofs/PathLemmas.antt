@@ -38,14 +38,14 @@ path_within-places d (suc n) place =
 
 -- ---- the places, one by one
 
--- the places from a scope outward: none for the outermost, and else its own and those of the scope around it
+-- the places from a scope outward are none for the outermost, and else its own and those of the scope around it
 places_around-next : (d : DeclaredNames) (n place : ℕ) (b : Bool) → (parent_of d place == nowhere) ≡ b
     → places_around d (suc n) place ≡ (if b then [] else place ∷ places_around d n (parent_of d place))
 unfolding places_around
 places_around-next d n place b e =
     ap (λ (t : Bool). if t then [] else place ∷ places_around d n (parent_of d place)) e
 
--- the number of places that may still be found, as a successor
+-- of as many places as may still be found, after `passed` of n, there is one more than `left`
 places_around-left : (d : DeclaredNames) (place left : ℕ) (n passed : ℕ) → passed < n → left ≡ n - (passed + 1)
     → places_around d (n - passed) place ≡ places_around d (suc left) place
 places_around-left d place left n passed lt e =

@@ -277,7 +277,7 @@ module _ (front left : List ℕ) (h : Headed) (r : Reached ℕ) (begun : IsBegun
       ≡ count_at_end (rest_of same_count next_count r (tokens_from r.line left) more)
   fold_body-begun more = rw (begun.nets, begun.progress, begun.dump_section, begun.place, begun.body) refl
 
-  -- the survey of a text that begins with `front`, by the body from `r` on
+  -- the survey of a text that begins with `front` is made of the variables in `front` and the body from `r` on
   survey_of-begun : (rest : List ℕ) → survey_of (front ++ rest)
       ≡ with_count (variables_in front)
       (count_at_end (rest_of same_count next_count r (tokens_from r.line left)

@@ -39,7 +39,7 @@ use Rattle.vme_dtb.proofs.StepFacts.{old, new, first_of-answer_fall, falls-betwe
 use Rattle.vme_dtb.proofs.StepFacts.{rule_break-fault_if}
 use Rattle.vme_dtb.proofs.StepFacts.{cond-same, first_of-is_some}
 
--- none is none under each test
+-- a choice between none and none is none
 none-cond : (b : Bool) → let none : Option ℕ = None in none ≡ cond b none none
 none-cond true = refl
 none-cond false = refl
@@ -102,14 +102,15 @@ module _ (t : Trace) (stretch : Stretch) (reads : ReadsStrobes t stretch) (n : �
           None) ≡ cycle_entered d (cond b (Some (cycle_start_of (new t n))) None)
       same_entered c d a b e f = rw (e, f) refl
 
-  -- whether instant n + 1 is the answer of a write, by the phase of the transfer and the edges
+  -- instant n + 1 is the answer of a write just if an answer falls there, and the phase of the transfer is `Writing`
   pub answers_write-is_writing : answers_write t stretch (suc n) ≡ (is_writing within && is_some seen.answer_fall)
   answers_write-is_writing =
       answers_write-tracked t stretch reads n from before m.transfer holds.transfer
       ∙ ap (λ b. is_writing within && b) (first_of-is_some (falls_between (old t n) (new t n) DTACK)
       (falls_between (old t n) (new t n) BERR) DTACK BERR)
 
-  -- a rule that an answer breaks, if f of the phase of its cycle and of its direction says so
+  -- the machine's fault by a rule that an answer breaks, if f of the phase of its cycle and of its direction says so,
+  -- is the break of the rule
   rule_break-answer_rule : (r : Rule) (x : Bool) (f : CyclePhase → Bool → Bool)
       → ((l : ℕ) → breaks t stretch r (suc n) l ≡ (is_judged stretch (suc n) && has_line t.opening.slots l
       && (is_answer_line l && falls t l (suc n) && (is_answer t stretch (suc n) && x))))

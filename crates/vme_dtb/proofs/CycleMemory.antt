@@ -237,7 +237,7 @@ module _ (t : Trace) (stretch : Stretch) where
   has_earlier_answer-phase class.I (r ∷ rs) = refl
   has_earlier_answer-phase class.F rs = refl
 
-  -- the test of C1 on a cycle, by its phase
+  -- the test of C1 on a cycle is the one of its phase
   pub in_broken_read_modify_write : (j : ℕ) → in_cycle t stretch (λ i. is_single (class_at t stretch i)
       && breaks_read_modify_write t stretch
       (answers_of t stretch i j) j) j ≡ is_read_modify_write_broken (cycle_before j) (answers_write t stretch j)
@@ -251,7 +251,7 @@ module _ (t : Trace) (stretch : Stretch) where
       by_cycle None = refl
       by_cycle (Some i) = breaks_read_modify_write-phase (class_at t stretch i) (answers_of t stretch i j) j
 
-  -- the test of C2 on a cycle, by its phase
+  -- the test of C2 on a cycle is the one of its phase
   pub in_changed_direction : (j : ℕ) → in_cycle t stretch (λ i. is_block_class (class_at t stretch i)
       && changes_direction t stretch (answers_of t stretch i j) j) j ≡ is_direction_changed (cycle_before j)
       (answers_write t stretch j)
@@ -265,7 +265,7 @@ module _ (t : Trace) (stretch : Stretch) where
       by_cycle None = refl
       by_cycle (Some i) = changes_direction-phase (class_at t stretch i) (answers_of t stretch i j) j
 
-  -- the test of I4 on a cycle, by its phase
+  -- the test of I4 on a cycle is the one of its phase
   pub in_interrupt_acknowledge : (j : ℕ) → in_cycle t stretch (λ i. is_interrupt (class_at t stretch i)) j
       ≡ is_interrupt_acknowledge (cycle_before j)
   unfolding in_cycle
@@ -276,7 +276,7 @@ module _ (t : Trace) (stretch : Stretch) where
       by_cycle None = refl
       by_cycle (Some i) = is_interrupt-phase (class_at t stretch i) (answers_of t stretch i j)
 
-  -- the test of I5 on a cycle, by its phase
+  -- the test of I5 on a cycle is the one of its phase
   pub in_answered_interrupt_acknowledge : (j : ℕ) → in_cycle t stretch (λ i. is_interrupt (class_at t stretch i)
       && has_earlier_answer (answers_of t stretch i j)) j ≡ is_answered_interrupt_acknowledge (cycle_before j)
   unfolding in_cycle

@@ -37,7 +37,7 @@ use Rattle.vme_dtb.proofs.StepFacts.{transfer_starts-between, first_of-strobe_fa
 use Rattle.vme_dtb.proofs.StepFacts.{strobe_rises-between, unaddressed-between}
 use Rattle.vme_dtb.proofs.StepFacts.{answer_not_high-between}
 
--- the second and third parts of a conjunction, swapped
+-- the second and third parts of a conjunction may be swapped
 and-swapped : (a x y : Bool) → (a && x && y) ≡ (a && y && x)
 and-swapped true true true = refl
 and-swapped true true false = refl

@@ -166,14 +166,14 @@ module _ (t : Trace) (stretch : Stretch) (facts : IsStretch t stretch) (n : ℕ)
   cycle_end-between : (is_judged stretch (suc n) && rises t AS (suc n)) ≡ rises_between (old t n) (new t n) AS
   cycle_end-between = rw (is_judged-next t n stretch from before, rises-between t n AS) refl
 
-  -- the transfer that starts at n + 1, by the levels
+  -- the transfer that starts at n + 1 is the one by the levels
   transfer-between : cond (transfer_starts t stretch (suc n)) (Some (is_write t stretch (suc n))) None
       ≡ cond (starts_between (old t n) (new t n)) (Some (is_low (level_at (new t n) WRITE))) None
   unfolding is_write low
   transfer-between = ap (λ b. cond b (Some (is_low (level_at (new t n) WRITE))) None)
       (transfer_starts-between t n stretch from before)
 
-  -- the cycle that starts at n + 1, by the levels
+  -- the cycle that starts at n + 1 is the one by the levels
   cycle-between : cond (cycle_starts t stretch (suc n)) (Some (cycle_start_of (new t n))) None
       ≡ cond (falls_between (old t n) (new t n) AS) (Some (cycle_start_of (new t n))) None
   cycle-between = ap (λ b. cond b (Some (cycle_start_of (new t n))) None)

@@ -300,7 +300,7 @@ module _ (t : Trace) (stretch : Stretch) where
         (sym (any-step (holds_address (suc n)) (stretch.start + 1) (suc n)
         ∙ rw (le-leb (stretch.start + 1) (suc n) (omega arith), holds_address-start) refl))
 
-    -- whether a cycle without an answer runs after the step, by the known levels of AS* before and after it
+    -- whether a cycle without an answer runs after the step follows from the known levels of AS* before and after it
     awaits_answer-by_levels : (x y : Level) (a u : Bool) → is_known x ≡ true → is_known y ≡ true
         → (is_low x ≡ false → a ≡ false)
         → (is_low y && not (is_low y && (a || u))) ≡ (((is_low x && not a) && not (is_low x && is_high y) && not u) ||

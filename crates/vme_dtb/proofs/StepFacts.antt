@@ -64,7 +64,7 @@ first_of-same a b c d x y e f = rw (e, f) refl
 pub cond-same : (c d : Bool) (o q : Option ℕ) → c ≡ d → o ≡ q → cond c o None ≡ cond d q None
 cond-same c d o q e f = rw (e, f) refl
 
--- the least line of a p that fails on all lines but AS*
+-- if p fails on all lines but AS*, the least line with p is AS*, if p holds there, and else there is none
 least_address : (p : ℕ → Bool) → ((l : ℕ) → (l == AS) ≡ false → p l ≡ false) → least p 0 line_count
     ≡ cond (p AS) (Some AS) None
 least_address p h = by_test (p AS) refl

@@ -131,7 +131,8 @@ module _ (m : HandshakeMemory) (v w : Levels) where
   fault_if-H8 : (u : Bool) → fault_if H8 u (cond (is_unanswered within) None None) ≡ None
   fault_if-H8 u = ap (fault_if H8 u) (cond-none (is_unanswered within)) ∙ fault_if-none H8 u
 
-  -- the phase of the transfer after a step in which no answer line falls
+  -- after a step in which no answer line falls, the phase of the transfer is `Closed`, if both strobes are high, and
+  -- else the phase within
   tracked-unanswered : (o : TransferPhase) → falls_between v w DTACK ≡ false → falls_between v w BERR ≡ false → within
       ≡ o
       → tracked m.transfer v w ≡ cond (strobes_high_in w) Closed o
@@ -144,7 +145,8 @@ module _ (m : HandshakeMemory) (v w : Levels) where
           ≡ cond h Closed o
       left_by h d b e o x y z = rw (x, y, z) refl
 
-  -- the phase of the transfer after a step in which DTACK* answers it
+  -- after a step in which DTACK* answers it, the phase of the transfer is `Closed`, if both strobes are high, and else
+  -- `Answered`
   tracked-answered : falls_between v w DTACK ≡ true → is_unanswered within ≡ true → tracked m.transfer v w
       ≡ cond (strobes_high_in w) Closed Answered
   tracked-answered d u = ap (λ (b : Bool). cond (strobes_high_in w) Closed (answered_by (b || falls_between v w BERR)

@@ -24,7 +24,8 @@ is_short-below_64 modifier h = grind (arith, nat_tests)
 abbrev IsOfSpace : ℕ → ℕ → Type 0
 IsOfSpace modifier highest = (modifier < 64) × ((highest ≡ 31) ⊎ ((highest ≡ 23) ⊎ (highest ≡ 15)))
 
--- a modifier code of one of the three spaces, by the tests for them, and its highest address line
+-- a modifier code whose highest address line, by the tests for the three spaces, isn't 0 is of one of the spaces, with
+-- that line
 IsOfSpace-by_tests : (modifier : ℕ) (extended standard short : Bool) → is_extended modifier ≡ extended
     → is_standard modifier
     ≡ standard → is_short modifier ≡ short

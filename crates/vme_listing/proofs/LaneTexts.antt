@@ -59,7 +59,7 @@ IsAllowedData-of_test a h =
       d7 = p7.1;
     }
 
--- the step of `number_after` from the digits before the last digit of n to n
+-- to go on from the digits before the last digit of n with that digit is to go on from n
 number_after-step : (n front byte : ℕ) (word : List ℕ) → n < 2 ^ 32 → front ≡ n / 16 → digit_of byte ≡ n % 16
     → number_after 16 front (byte ∷ word) ≡ number_after 16 n word
 number_after-step n front byte word below e d =
@@ -98,7 +98,7 @@ number_of-lanes_text a h =
     ∙ number_after-step v (v / 16) (digit_text_in a 0) [] (omega arith) (omega arith)
     (digit_of-text (is_moved_in a 0) (digit_in a 0) (flag_in a 0) (omega arith) (omega arith) are.d0 ∙ omega arith)
 
--- the step of `flags_after` from the bits before the last bit of n to n
+-- to go on from the bits before the last bit of n with that bit is to go on from n
 flags_after-step : (n front byte : ℕ) (word : List ℕ) → n < 256 → front ≡ n / 2 → flag_of byte ≡ n % 2
     → flags_after front
     (byte ∷ word) ≡ flags_after n word

@@ -212,28 +212,28 @@ module _ {start : ℕ} {end : Option ℕ} (l : List ℕ) where
   unfolding row_in tenure_at past_tenure
   row_in-open_tenure t n e = rw (n.0, n.1, e.0, e.1) refl
 
-  -- the row of a tenure, by its pieces
+  -- a text with the pieces of the row of a tenure is read as that row
   row_in-tenure : {level slot : ℕ} (t u v : List ℕ) → Piece number_at past_number l start (codes " level " ++ t)
       → Piece small_at past_small t level (codes " slot " ++ u) → Piece small_at past_small u slot (codes " end " ++ v)
       → Piece edge_at past_edge v end [] → row_in (codes "tenure " ++ l) ≡ Some (Tenure start level slot end)
   unfolding row_in tenure_at past_tenure
   row_in-tenure t u v n m s e = rw (n.0, n.1, m.0, m.1, s.0, s.1, e.0, e.1) refl
 
-  -- the row of an interrupt acknowledge cycle, by its pieces
+  -- a text with the pieces of the row of an interrupt acknowledge cycle is read as that row
   row_in-interrupt : {level : ℕ} (t u : List ℕ) → Piece number_at past_number l start (codes " I " ++ t)
       → Piece small_at past_small t level (codes " end " ++ u) → Piece edge_at past_edge u end []
       → row_in (codes "cycle " ++ l) ≡ Some (InterruptCycle start level end)
   unfolding row_in cycle_at past_cycle
   row_in-interrupt t u n m e = rw (n.0, n.1, m.0, m.1, e.0, e.1) refl
 
-  -- the row of a cycle of the class F, by its pieces
+  -- a text with the pieces of the row of a cycle of the class F is read as that row
   row_in-free : {code : ℕ} (t u : List ℕ) → Piece number_at past_number l start (codes " F " ++ t)
       → Piece modifier_at past_modifier t code (codes " end " ++ u) → Piece edge_at past_edge u end []
       → row_in (codes "cycle " ++ l) ≡ Some (FreeCycle start code end)
   unfolding row_in cycle_at past_cycle
   row_in-free t u n m e = rw (n.0, n.1, m.0, m.1, e.0, e.1) refl
 
-  -- the row of a cycle with an address, by its pieces
+  -- a text with the pieces of the row of a cycle with an address is read as that row
   row_in-addressed : {code place : ℕ} (c : Class) (t u v : List ℕ) → has_class code c ≡ true
       → Piece number_at past_number l start (codes " " ++ (class_text c ++ (codes " " ++ t)))
       → Piece modifier_at past_modifier t code (codes " " ++ u)
@@ -247,7 +247,7 @@ module _ {start : ℕ} {end : Option ℕ} (l : List ℕ) where
   row_in-addressed class.I t u v h n m a e = absurd (cc)
   row_in-addressed class.F t u v h n m a e = absurd (cc)
 
-  -- the row of a transfer with an answer, by its pieces
+  -- a text with the pieces of the row of a transfer with an answer is read as that row
   row_in-transfer : {d : Direction} {line : AnswerLine} {cycle answer : ℕ} {lanes : Option Lanes} (t u v w x y : List ℕ)
       → Piece number_at past_number l start (codes " of " ++ t) → Piece number_at past_number t cycle u
       → Piece direction_at past_direction u d v → Piece answer_at past_answer v line w
@@ -399,14 +399,14 @@ row_in-verdict : (l : List ℕ) → row_in (codes "verdict " ++ l) ≡ verdict_b
 unfolding row_in
 row_in-verdict l = refl
 
--- the text of the row of a verdict that a rule is broken
+-- the text of the row of a verdict that a rule is broken has the rule, the instant and the line
 row_text-broken : (r : Rule) (instant line : ℕ) → row_text (Verdict (Broken r instant line))
     ≡ codes "verdict " ++ (codes "broken " ++ (rule_name r ++ (codes " " ++ (decimal instant ++ (codes " "
     ++ line_name line)))))
 unfolding row_text
 row_text-broken r instant line = simp append_assoc
 
--- the text of the row of a verdict that a recording is unreadable
+-- the text of the row of a verdict that a recording is unreadable has the rule, the instant and the line
 row_text-unreadable : (r : Rule) (instant line : ℕ) → row_text (Verdict (Unreadable r instant line))
     ≡ codes "verdict " ++ (codes "unreadable " ++ (rule_name r ++ (codes " " ++ (decimal instant ++ (codes " "
     ++ line_name line)))))

@@ -259,12 +259,12 @@ module _ (kind : Rule → ℕ → ℕ → ListedVerdict) (word : List ℕ)
       by_length true e = (line, refl, verdict_text-rule (rule_named (take 2 line)) line verdict refl e)
       by_length false e = absurd (none-some verdict e)
 
--- the text of a verdict that a rule is broken
+-- the text of a verdict that a rule is broken has the rule, the instant and the line
 verdict_text-broken : (r : Rule) (n l : ℕ) → verdict_text (Broken r n l)
     ≡ codes "verdict " ++ (codes "broken " ++ (rule_name r ++ (codes " " ++ (decimal n ++ (codes " " ++ line_name l)))))
 verdict_text-broken r n l = simp append_assoc
 
--- the text of a verdict that the recording is unreadable
+-- the text of a verdict that the recording is unreadable has the rule, the instant and the line
 verdict_text-unreadable : (r : Rule) (n l : ℕ) → verdict_text (Unreadable r n l)
     ≡ codes "verdict " ++ (codes "unreadable " ++ (rule_name r ++ (codes " " ++ (decimal n ++ (codes " "
     ++ line_name l)))))

@@ -448,7 +448,7 @@ I5_is_shown = record {
       acknowledge_near_a_strobe_and_near_the_cycle_agrees.verdict;
 }
 
--- each rule
+-- `IsShown` holds of each rule
 pub rule_is_shown : (r : Rule) → IsShown r
 rule_is_shown U1 = U1_is_shown
 rule_is_shown U2 = U2_is_shown

@@ -86,7 +86,7 @@ levels_after-step_between time v w one = by_test (any (differs v w) 0 line_count
 
 -- ---- changes that lead from some levels to others
 
--- the parts of a conjunction of four tests that holds
+-- the parts of a conjunction of four tests that holds hold
 and-four_parts : (a b c d : Bool) → (a && b && c && d) ≡ true → (a ≡ true) × (b ≡ true) × (c ≡ true) × (d ≡ true)
 and-four_parts true true true true h = (refl, refl, refl, refl)
 and-four_parts true true true false h = absurd cc

@@ -31,7 +31,7 @@ use Rattle.vme_skew.proofs.Growing.{time_at-last}
 
 -- ---- the steps of a recording
 
--- the parts of a conjunction of three tests that holds
+-- the parts of a conjunction of three tests that holds hold
 and-three_parts : (a b c : Bool) → (a && b && c) ≡ true → (a ≡ true) × (b ≡ true) × (c ≡ true)
 and-three_parts true true true h = (refl, refl, refl)
 and-three_parts true true false h = absurd cc

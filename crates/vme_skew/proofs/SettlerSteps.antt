@@ -30,7 +30,7 @@ use Rattle.vme_skew.proofs.StepByStep.{AreReadyFor, AreSettledTo, ChangeLines-re
 use Rattle.vme_skew.proofs.StepByStep.{AreReadyFor-within, AreSettledTo-taken}
 use Rattle.vme_skew.proofs.StepByStep.{step_between-group}
 
--- an optional step as a list, by two definitions
+-- an optional step is the same list by two definitions
 pub step_in-option_to_list : (o : Option Step) → step_in o ≡ option_to_list o
 step_in-option_to_list None = refl
 step_in-option_to_list (Some step) = refl

@@ -38,7 +38,7 @@ module _ (skew : ℕ) (t : Trace) where
   levels_at-next i step v e found =
       ap (λ (u : Levels). changed u step.changes) e ∙ sym (ap (after (levels_at t i)) found)
 
-  -- the group of an instant, as far as that instant, and the steps of the groups before it
+  -- `group` is the group of instant i, as far as that instant, and `steps` are those of the groups before it
   pub record AreSettledTo (i : ℕ) (group : GroupLevels) (steps : List Step) : Type 0 where
     pub start : group.start ≡ time_at t (group_start skew t i)
     pub before : group.before ≡ levels_at t (group_start skew t i - 1)
@@ -56,8 +56,8 @@ module _ (skew : ℕ) (t : Trace) where
     made = none;
   }
 
-  -- The group to which the step after instant `i` belongs, as far as that instant, and the steps of the groups before
-  -- it.
+  -- `group` is the group to which the step after instant `i` belongs, as far as that instant, and `steps` are those of
+  -- the groups before it
   pub record AreReadyFor (i : ℕ) (group : GroupLevels) (steps : List Step) : Type 0 where
     pub start : group.start ≡ time_at t (group_start skew t (suc i))
     pub before : group.before ≡ levels_at t (group_start skew t (suc i) - 1)

@@ -27,18 +27,18 @@ use Rattle.vme_split.proofs.Transfers.{transfer_starts-after}
 use Rattle.vme_split.proofs.Answering.{strobes_high-at_transfer}
 use Rattle.vme_split.proofs.EachRow.{All-rows_before, All-tenure_rows, All-cycle_rows, All-transfer_rows}
 
--- the first part of a conjunction of three that holds
+-- the first part of a conjunction of three that holds is true
 and-first_of_three : (a b c : Bool) → (a && b && c) ≡ true → a ≡ true
 and-first_of_three true b c h = refl
 and-first_of_three false b c h = absurd (cc)
 
--- the second part of a conjunction of three that holds
+-- the second part of a conjunction of three that holds is true
 and-second_of_three : (a b c : Bool) → (a && b && c) ≡ true → b ≡ true
 and-second_of_three true true c h = refl
 and-second_of_three true false c h = absurd (cc)
 and-second_of_three false b c h = absurd (cc)
 
--- the third part of a conjunction of three that holds
+-- the third part of a conjunction of three that holds is true
 and-third_of_three : (a b c : Bool) → (a && b && c) ≡ true → c ≡ true
 and-third_of_three true true true h = refl
 and-third_of_three true true false h = absurd (cc)

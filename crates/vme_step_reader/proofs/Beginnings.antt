@@ -70,13 +70,13 @@ pub CaptureFailsBy-same_fault : {X Y : Type 0} (reported : CaptureFault) (fault 
     → CaptureFailsBy reported b
 CaptureFailsBy-same_fault (Dump reported) fault a b ea eb fails = by_kind reported.line reported.kind fails
   where
-    -- a fault of the dump of any kind
+    -- if `a` fails by a fault of the dump, of any kind, so does `b`
     by_kind : (line : ℕ) (kind : FaultKind) → DumpFails line kind a → DumpFails line kind b
     by_kind line Memory fails = fails
     by_kind line kind fails = eb ∙ ap (λ (f : VcdFault). Err (Dump f)) (Dump-same _ _ a ea fails)
 CaptureFailsBy-same_fault (Binding reported) fault a b ea eb fails = by_kind reported.line reported.kind fails
   where
-    -- a fault of the binding of any kind
+    -- if `a` fails by a fault of the binding, of any kind, so does `b`
     by_kind : (line : ℕ) (kind : BindFaultKind) → BindingFails line kind a → BindingFails line kind b
     by_kind line NoMemory fails = fails
     by_kind line kind fails = absurd (Dump-not_Binding _ _ a ea fails)

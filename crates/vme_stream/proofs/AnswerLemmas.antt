@@ -274,7 +274,7 @@ recording_by-recording_read bound (Ok dump) = or_refused-or_binding (recording_o
 recording_by-recording_read bound (Err fault) = refl
 
 module _ (bound : BoundLines) (bytes : List ℕ) where
-  -- the recording of a text, or the refusal for its first fault
+  -- the recording by the dump is that of the text, or the refusal for its first fault
   recording_by-or_refused : recording_by bound (or_bad_dump (dump_of bytes))
       ≡ or_refused (text.recording_of_text bound bytes)
   unfolding text.recording_of_text

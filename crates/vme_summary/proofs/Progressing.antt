@@ -32,7 +32,8 @@ use Rattle.vme_summary.proofs.Chains.{joined_steps-append}
 use Rattle.vme_summary.proofs.Extents.{IsExtent-joined, levels_after-extent}
 use Rattle.vme_summary.proofs.Whole.{joined_trace-well_formed}
 
--- the state of a monitor after further steps, from its memory (the state of its automaton) before them
+-- if a is the state of a monitor after x, the state b of the memory and the break that it is left with by y is its
+-- state after x and y
 pub HasMonitorState-append : {P : Type 0} (next : P → Levels → Levels → List Change → Next P) (begin : Levels → P)
     (says : P → Outcome P) (count n : ℕ) (a b : MonitorState P) (o : Levels) (x y : List Step)
     → b.memory ≡ (says a.memory).leaving → b.first_break ≡ earlier a.first_break
@@ -118,7 +119,7 @@ first_number-of_span s b bs p = let first : Some b.number ≡ Some s.extent.firs
 pub BlocksJoin-of_HasCome : (p : RunningVerdict) (blocks : List Block) → HasCome p blocks → BlocksJoin blocks
 BlocksJoin-of_HasCome p blocks c = c.extent.join
 
--- the state of judging after further steps, by their summary
+-- if j is the state of judging after x, it is, with what the summary of y finds, that after x and y
 pub HasJudged-append : (j : VerdictState) (m : ChunkSummary) (n : ℕ) (f : MonitorStates) → n ≡ j.steps + summary_steps
     m.summary → FoundAfter j.found j.steps m.summary f
     → (o : Levels) (x y : List Step) → HasJudged j o x → IsFoundOf m (levels_after o x) y
