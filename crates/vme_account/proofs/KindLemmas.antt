@@ -18,7 +18,8 @@ abbrev pub weight : RowKind → Row → ℕ
 weight k r = one_if (is_of k r)
 
 -- the kinds of the row of an open tenure don't depend on its end
-weight-open_tenure : (k : RowKind) (i : ℕ) (e : Option ℕ) → weight k (row.OpenTenure i e) ≡ weight k (row.OpenTenure i None)
+weight-open_tenure : (k : RowKind) (i : ℕ) (e : Option ℕ) → weight k (row.OpenTenure i e)
+    ≡ weight k (row.OpenTenure i None)
 weight-open_tenure kind.OpenTenures i e = refl
 weight-open_tenure (kind.Tenures level slot) i e = refl
 weight-open_tenure kind.Singles i e = refl

@@ -76,8 +76,8 @@ level_at_changed-append : (g : ℕ → Level) (v : Levels) (l n : ℕ) (xs : Lis
 level_at_changed-append g v l n xs = ap (λ (cs : List Change). level_at (changed v cs) l) (map_push (to_level g) xs n)
     ∙ ap (λ (w : Levels). level_at w l) (changed-append v (map (to_level g) xs) (to_level g n))
 
--- if, where the lines of p below n got their levels of g, each line has the level that it should have, it has so after
--- those below n + 1 got theirs
+-- if the changes of the lines of p below n give a line its level by g just where it is one of these, so do those of the
+-- lines below n + 1
 level_at_changed-next : (p : ℕ → Bool) (g : ℕ → Level) (v : Levels) (n l : ℕ) (b : Bool) → p n ≡ b → n < length v.levels
     → level_at_changed g v l (those p 0 n) ≡ cond (nat_lt l n && p l) (g l) (level_at v l)
     → level_at_changed g v l (those p 0 (n + 1)) ≡ cond (nat_lt l (n + 1) && p l) (g l) (level_at v l)

@@ -180,8 +180,8 @@ module _ (skew : ℕ) (t : Trace) (step : Step) where
         within = nat_lt-plus_skew step.time skew;
       }
 
-  -- once the group is ended, if it is over, or if no step has come that belongs to it, the next one is ready, and else
-  -- it is ready itself
+  -- if the group is over, or no step has come that belongs to it, the one that the step begins is ready, and else the
+  -- group itself is
   pub IsReady-ended : (is_begun is_over is_ended : Bool) (group next : GroupLevels) (out made : List Step) (reached : ℕ)
       → IsAtGroup skew t out reached is_begun group → reached ≤ step.time
       → is_over ≡ nat_lt (group.start + skew) step.time → is_ended ≡ (is_over || not is_begun)
