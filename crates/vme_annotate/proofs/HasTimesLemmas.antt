@@ -126,11 +126,11 @@ time_at-next t formed i lt = elim (slice_get_cases t.steps i).1 [
 -- the time of a later instant of a well-formed recording isn't earlier
 pub time_at-later : (t : Trace) → malformed_step t ≡ None → (i n : ℕ) → i + n ≤ length t.steps
     → time_at t i ≤ time_at t (i + n)
-time_at-later t formed i zero le = ap_le (omega arith)
+time_at-later t formed i zero le = not_earlier (omega arith)
   where
     -- the time of an instant isn't later than that of the same instant, written with 0 added
-    ap_le : i ≡ i + zero → time_at t i ≤ time_at t (i + zero)
-    ap_le e = subst (λ (k : ℕ). time_at t i ≤ time_at t k) e (omega arith)
+    not_earlier : i ≡ i + zero → time_at t i ≤ time_at t (i + zero)
+    not_earlier e = subst (λ (k : ℕ). time_at t i ≤ time_at t k) e (omega arith)
 time_at-later t formed i (suc n) le =
     let next : suc (i + n) ≡ i + suc n = omega arith in
     subst (λ (k : ℕ). time_at t i ≤ time_at t k) next

@@ -212,9 +212,9 @@ module _ (total draws : ℕ) (s : BoardState) (m : Core) (sh : ReadsAs total dra
       (λ j ne. ap f (update-other m.stage n new j ne) ∙ (was j ∙ sym (bit_of-other_number k W n near j ne)))
 
   -- the bits of another row don't change after the bit of n in the row k was set
-  row : (k n : ℕ) → 4 * (n / 64) + k < length W → k < 4 → (k' : ℕ) → k' < 4 → k' ≢ k → (j : ℕ)
+  bits-other_row : (k n : ℕ) → 4 * (n / 64) + k < length W → k < 4 → (k' : ℕ) → k' < 4 → k' ≢ k → (j : ℕ)
       → bit_of k' (marked k W n) j ≡ bit_of k' W j
-  row k n near small k' small' ne j = bit_of-other_row k W n near k' small small' ne j
+  bits-other_row k n near small k' small' ne j = bit_of-other_row k W n near k' small small' ne j
 
   -- the words have a bit in each row for each number
   word_index-number : (n k : ℕ) → n < total → k < 4 → 4 * (n / 64) + k < length W
@@ -256,13 +256,13 @@ module _ (total draws : ℕ) (s : BoardState) (m : Core) (sh : ReadsAs total dra
       ((n, None) ∷ [])
       after st.act (after_claim v n) (homes_after H [] st.act) st.table now refl)
       (length-set W (4 * (n / 64) + 0) _) out.long
-      (λ d. sh.drawn d ∙ sym (row 0 n near (omega arith) 3 (omega arith) (λ z. omega arith) d))
+      (λ d. sh.drawn d ∙ sym (bits-other_row 0 n near (omega arith) 3 (omega arith) (λ z. omega arith) d))
       (bits-set_stage claimed_bit 0 n Claimed refl near sh.claimed)
       (bits-same_stage filed_bit 1 (marked 0 W n) n Claimed (ap filed_bit (sym free))
-      (row 0 n near (omega arith) 1 (omega arith)
+      (bits-other_row 0 n near (omega arith) 1 (omega arith)
       (λ z. omega arith)) sh.filed)
       (bits-same_stage taken_bit 2 (marked 0 W n) n Claimed (ap taken_bit (sym free))
-      (row 0 n near (omega arith) 2 (omega arith)
+      (bits-other_row 0 n near (omega arith) 2 (omega arith)
       (λ z. omega arith)) sh.taken)
       (each-by_cases n (λ j. j < total → get_elem? (homes_after H [] st.act) j
       ≡ some (home_of (update m.home n away j)))
@@ -307,9 +307,9 @@ module _ (total draws : ℕ) (s : BoardState) (m : Core) (sh : ReadsAs total dra
       (each-by_cases d (λ j. update m.drawn d 1 j ≡ bit_of 3 (marked 3 W d) j) (update-same m.drawn d 1
       ∙ sym (bit_of-marked 3 W d near)) (λ j ne. update-other m.drawn d 1 j ne
       ∙ (sh.drawn j ∙ sym (bit_of-other_number 3 W d near j ne))))
-      (λ n. sh.claimed n ∙ sym (row 3 d near (omega arith) 0 (omega arith) (λ z. omega arith) n))
-      (λ n. sh.filed n ∙ sym (row 3 d near (omega arith) 1 (omega arith) (λ z. omega arith) n))
-      (λ n. sh.taken n ∙ sym (row 3 d near (omega arith) 2 (omega arith) (λ z. omega arith) n))
+      (λ n. sh.claimed n ∙ sym (bits-other_row 3 d near (omega arith) 0 (omega arith) (λ z. omega arith) n))
+      (λ n. sh.filed n ∙ sym (bits-other_row 3 d near (omega arith) 1 (omega arith) (λ z. omega arith) n))
+      (λ n. sh.taken n ∙ sym (bits-other_row 3 d near (omega arith) 2 (omega arith) (λ z. omega arith) n))
       sh.homes (λ j. sh.progress j ∙ sym (same j)) (subst (IsViewAt (after_draw v d)) (sym (same i))
       (IsViewAt-same (after_draw v d) v (s.progress i) refl refl (sh.calls i v e))) (λ j ne. same j)
   ReadsAs-draw t i d v after low (e, p) st (suc zero) is pg =
@@ -418,11 +418,13 @@ module _ (total draws : ℕ) (s : BoardState) (m : Core) (sh : ReadsAs total dra
         ((n, Some b) ∷ []) []
         after st.act (after_filing v n b) (set H n (some (Some b))) st.table now homes)
         (length-set W (4 * (n / 64) + 1) _) (length-set H n (some (Some b)))
-        (λ d. sh.drawn d ∙ sym (row 1 n near (omega arith) 3 (omega arith) (λ z. omega arith) d))
-        (bits-same_stage claimed_bit 0 (marked 1 W n) n Filed (sym c1) (row 1 n near (omega arith) 0 (omega arith)
+        (λ d. sh.drawn d ∙ sym (bits-other_row 1 n near (omega arith) 3 (omega arith) (λ z. omega arith) d))
+        (bits-same_stage claimed_bit 0 (marked 1 W n) n Filed (sym c1)
+        (bits-other_row 1 n near (omega arith) 0 (omega arith)
         (λ z. omega arith)) sh.claimed)
         (bits-set_stage filed_bit 1 n Filed refl near sh.filed)
-        (bits-same_stage taken_bit 2 (marked 1 W n) n Filed (sym t0) (row 1 n near (omega arith) 2 (omega arith)
+        (bits-same_stage taken_bit 2 (marked 1 W n) n Filed (sym t0)
+        (bits-other_row 1 n near (omega arith) 2 (omega arith)
         (λ z. omega arith)) sh.taken)
         (each-by_cases n (λ j. j < total → get_elem? (set H n (some (Some b))) j ≡ some
         (home_of (update m.home n (filled b) j)))
@@ -465,10 +467,12 @@ module _ (total draws : ℕ) (s : BoardState) (m : Core) (sh : ReadsAs total dra
         ((n, Some b) ∷ [])
         after st.act (after_take v n b) (homes_after H [] st.act) st.table now refl)
         (length-set W (4 * (n / 64) + 2) _) took.long
-        (λ d. sh.drawn d ∙ sym (row 2 n near (omega arith) 3 (omega arith) (λ z. omega arith) d))
-        (bits-same_stage claimed_bit 0 (marked 2 W n) n Taken (sym c1) (row 2 n near (omega arith) 0 (omega arith)
+        (λ d. sh.drawn d ∙ sym (bits-other_row 2 n near (omega arith) 3 (omega arith) (λ z. omega arith) d))
+        (bits-same_stage claimed_bit 0 (marked 2 W n) n Taken (sym c1)
+        (bits-other_row 2 n near (omega arith) 0 (omega arith)
         (λ z. omega arith)) sh.claimed)
-        (bits-same_stage filed_bit 1 (marked 2 W n) n Taken (sym f1) (row 2 n near (omega arith) 1 (omega arith)
+        (bits-same_stage filed_bit 1 (marked 2 W n) n Taken (sym f1)
+        (bits-other_row 2 n near (omega arith) 1 (omega arith)
         (λ z. omega arith)) sh.filed)
         (bits-set_stage taken_bit 2 n Taken refl near sh.taken)
         (each-by_cases n (λ j. j < total → get_elem? (homes_after H [] st.act) j

@@ -40,7 +40,7 @@ lt-one_before : (i r k : ℕ) → i < r → k ≡ r - 1 → i < k → k < r
 lt-one_before i r k h e f = omega arith
 
 module _ (t : Trace) (stretch : Stretch) where
-  -- a strobe is low where a transfer starts
+  -- where a transfer starts, not both strobes are high
   not_high-at_start : (i : ℕ) → transfer_starts t stretch i ≡ true → strobes_high t i ≡ false
   unfolding transfer_starts low high
   not_high-at_start i starts = one_low-not_both_high (level t DS0 i) (level t DS1 i) (and_parts _ _ starts).1
