@@ -137,7 +137,7 @@ IsListedFrom-next changed_nets place start current moved h net some =
           record { at = s.at; low = omega (arith, s.low, apart); high = s.high; is = s.is }
     ]
 
--- the value of the net at `place` is moved
+-- `IsMoved` holds at the next place after the value of the net at `place` is moved
 pub IsMoved-some : (changed_nets : List ℕ) (place : ℕ) (start current : CurrentValues) (moved : List Value)
     (bits : List Bit)
     → IsNonDecreasing changed_nets → IsMoved changed_nets place start current moved

@@ -213,7 +213,7 @@ module _ {K X : Type 0} (bytes : K → List ℕ) where
   lookup-insert_entry (e ∷ es) key value other = go (by_bytes bytes (bytes key) e.0) refl
       (lookup-insert_entry es key value other)
     where
-      -- however the key compares with that of the first entry
+      -- however the key compares with that of the first entry, it has the value, and each other key the one that it had
       go : (o : Ordering) → by_bytes bytes (bytes key) e.0 ≡ o → value_at other (with_key es key value)
           ≡ cond (bytes_eq (bytes key) other) (Some value) (value_at other es)
           → value_at other (match_ordering o ((key, value) ∷ e ∷ es) ((e.0, value) ∷ es) (e ∷ with_key es key value))

@@ -232,7 +232,7 @@ module _ (nets : List Net) (bytes : List ℕ) (m : BuilderState) (a : ReadDetach
       ≡ m.progress.now.slots)
       (λ n net bits h. slots-kept n.progress.now _ ∙ h) (λ n time h. h) bytes m a is refl
 
--- what reading ahead gives, by its fields
+-- `IsReadSpeculatively` follows from the fields of what reading ahead gives
 pub IsReadSpeculatively-by_fields : (nets : List Net) (line_bits : NetLines) (bytes : List ℕ) (from : Levels)
     (first : Trace)
     (m : BuilderState)
@@ -272,7 +272,7 @@ IsReadSpeculatively-by_fields nets line_bits bytes from first m a begun none is 
       assigned = tells;
     }
 
--- joining a piece gives `IsJoined`, by the fields of the state and of the piece
+-- `IsJoined` follows from the fields of the state and of the piece
 pub IsJoined-by_fields : (bytes : List ℕ) (recorded : Trace) (w : SpeculativeReached) (a : ReadSpeculatively)
     (fault : Option BindFault) (line_bits : NetLines) (p q : RecorderLevels) (r reached_after : Reached (Unit {0}))
     (from : Levels) (u : ReadDetached (Unit {0})) (assigned : List Bool)

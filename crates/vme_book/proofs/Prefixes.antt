@@ -308,7 +308,7 @@ replicate-none zero n = refl
 replicate-none (suc total) zero = refl
 replicate-none (suc total) (suc n) = replicate-none total n
 
--- what a book with nothing inserted keeps
+-- `Keeps` holds of a book with nothing inserted
 pub Keeps-nothing : (places : BookSlots) (start : JoinedPrefix) (total : ℕ) → 0 < total → total ≤ 4096
     → places.blocks.items ≡ replicate total None → places.spans.items ≡ replicate total None → start.count ≡ 0
     → start.span ≡ None

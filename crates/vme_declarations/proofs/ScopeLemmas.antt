@@ -45,7 +45,8 @@ has_scope-sought path first front found there vs is e here =
     ap (λ (f : List ℕ). list_any (path_begins f) vs) (sym is)
     ∙ sym (ap (λ (s : ScopeSought). s.is_found) (e ∙ sought_in-all first false vs)) ∙ here
 
--- the search after one variable more, by the variable's name and scopes
+-- the search after one variable more is that before it, with whether the path of the variable's name and scopes begins
+-- with `front`
 pub sought_in-next : (front name : List ℕ) (scopes : List (List ℕ)) (net size : ℕ) (index : Option (ℕ × ℕ))
     (found now : Bool) → 0 < length name → now ≡ (found || starts_with nat_eq (path_in scopes ++ name) front)
     → sought front now

@@ -108,7 +108,8 @@ is_changed-edge v cs l h inside = by_test (is_changed cs l) refl
 -- the least line with p is the first changed line with q, if p fails on unchanged lines and agrees with q on changed
 -- ones
 module _ (p q : ℕ → Bool) (n : ℕ) (bound : (l : ℕ) → q l ≡ true → l < n) where
-  -- the line of the first change is the least with p if q holds of it, and else that of the rest is
+  -- if no line below that of the first change has p, that line is the least with p if q holds of it, and else the one
+  -- found among the rest is
   first_among-least_here : (c : Change) (cs : List Change) (b : Bool) → q c.line ≡ b → (b ≡ true → p c.line ≡ true)
       → any p 0 c.line
       ≡ false → (b ≡ false → first_among q cs ≡ least p 0 n)
@@ -127,7 +128,8 @@ module _ (p q : ℕ → Bool) (n : ℕ) (bound : (l : ℕ) → q l ≡ true → 
       by_line true e = ap p (sym (eqb-true c.line l e)) ∙ here
       by_line false e = fails l (rw (e, h) refl)
 
-  -- the first changed line with q is the least line with p
+  -- if p fails on the lines that aren't changed, and agrees with q on those that are, the first changed line with q is
+  -- the least line with p
   pub first_among-least : (v : Levels) (lowest : ℕ) (cs : List Change) → are_changes v lowest cs ≡ true
       → ((l : ℕ) → is_changed cs l ≡ false → p l ≡ false) → ((l : ℕ) → is_changed cs l ≡ true → p l ≡ q l)
       → first_among q cs ≡ least p 0 n

@@ -68,8 +68,8 @@ pub not_risen-start : (k r s : Bool) → r ≡ false → s ≡ false → true �
 not_risen-start true r s h j = refl
 not_risen-start false r s h j = rw (h, j) refl
 
--- whether there is a write without an answer, by the memory (state of the automaton) and the levels, after the next
--- step
+-- whether there is a write without an answer after the next step follows from the memory (state of the automaton) and
+-- the levels
 pub writes_of-next : (p : TransferPhase) (x : TransferState) (a s d e : Bool) → is_answered_state p ≡ was_answered x
     → (is_closed p ≡ true → has_risen x ≡ false) → (is_closed p ≡ true → s ≡ false)
     → (is_closed p ≡ false → writes_of x d ≡ is_writing p)
@@ -124,8 +124,8 @@ was_answered-closed phase.Reading x c h = absurd (cc)
 was_answered-closed phase.Writing x c h = absurd (cc)
 was_answered-closed phase.Answered x c h = absurd (cc)
 
--- whether there is a write without an answer after the next step, if the strobes aren't both high then, by the tests on
--- the levels
+-- if the strobes aren't both high after the next step, whether there is a write without an answer then follows from the
+-- tests on the levels
 pub writes_of-by_strobes : (p : TransferPhase) (x : TransferState) (h l k a s d e : Bool) → h ≡ is_closed p → l ≡ not k
     → k
     ≡ false

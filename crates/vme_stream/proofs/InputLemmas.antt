@@ -65,12 +65,13 @@ told-at_least None b bs k read long = tt
 told-at_least (Some x) None bs k read long = absurd read
 told-at_least (Some x) (Some y) bs k read long = le-length_whole x y bs k read long
 
--- `reads` reads gave `bytes` bytes: each full one gave at least 4,096, and at most `most_full_reads` were full.
+-- `reads` reads gave `bytes` bytes: each full one gave at least 4,096, and at most `most_full_reads` were full
 pub record IsRoomy (old now : Reading) (reads bytes : ℕ) : Type 0 where
   pub rooms : 4096 * (old.short_reads + reads) ≤ 4096 * now.short_reads + bytes
   pub few : old.short_reads + reads ≤ now.short_reads + most_full_reads
 
--- one more read gave `n` bytes, short or full, where there were at most `longest_input` bytes before it
+-- `IsRoomy` still holds after one more read, which gave `n` bytes, short or full, where there were at most
+-- `longest_input` bytes before it
 IsRoomy-read : (old now later : Reading) (reads bytes n room : ℕ) → IsRoomy old now reads bytes → bytes ≤ longest_input
     → least_room ≤ room → (n < room → later.short_reads ≡ suc now.short_reads)
     → (room ≤ n → later.short_reads ≡ now.short_reads) → (n < room) ⊎ (room ≤ n)
@@ -84,7 +85,7 @@ IsRoomy-read old now later reads bytes n room is limit enough short full (inr al
   few = omega (arith, is.rooms, full all, limit);
 }
 
--- one more read gave bytes, with room enough, and there weren't too many before
+-- `IsRoomy` still holds after one more read, which gave bytes, with room enough, where there weren't too many before
 pub IsRoomy-read_some : (old now later : Reading) (reads bytes n room : ℕ) → IsRoomy old now reads bytes
     → bytes ≤ longest_input
     → 0 < n → least_room ≤ room

@@ -117,7 +117,7 @@ pub AreAhead-none : (nets : List Net) (line_bits : NetLines) (pieces : List Dump
 AreAhead-none nets line_bits [] = tt
 AreAhead-none nets line_bits (piece ∷ pieces) = tt
 
--- the next of those that were read again, and the others
+-- what was read again of the next piece is judged ahead, and what was read again of the others is so after it
 pub IsJudgedAhead-IsNextOf : (nets : List Net) (line_bits : NetLines) (pieces left : List DumpPiece) (piece : DumpPiece)
     (all rest : List (Option (ReadSpeculatively × Trace))) (next : Option (ReadSpeculatively × Trace))
     → AreAhead nets line_bits pieces all → pieces ≡ piece ∷ left → IsNextOf all rest next
@@ -137,7 +137,7 @@ IsJudgedAhead-IsNextOf nets line_bits pieces left piece (one ∷ all) rest next 
       subst (AreAhead nets line_bits left) (sym same) both_ahead.1,
     )
 
--- what was read of the next piece, ahead or again
+-- what was read of the next piece, ahead or again, is judged ahead
 pub IsJudgedAhead-either : (nets : List Net) (line_bits : NetLines) (pieces left : List DumpPiece) (piece : DumpPiece)
     (all rest all2 rest2 : List (Option (ReadSpeculatively × Trace))) (one next : Option (ReadSpeculatively × Trace))
     (a : ReadSpeculatively × Trace) → AreAhead nets line_bits pieces all → AreAhead nets line_bits pieces all2
