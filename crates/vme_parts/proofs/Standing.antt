@@ -159,6 +159,6 @@ pub HaveTooManySteps-both : (s t : SegmentValue) → Meets (extent_of s) (extent
     → (listing : Bool) (x y : List Block) → SegmentStandsFor listing s x → SegmentStandsFor listing t y
     → HaveTooManySteps (x ++ y)
 HaveTooManySteps-both s t meets many listing x y p q = (
-  (extent_joined (extent_of s) (extent_of t) x y p.extent q.extent meets).join,
+  (IsExtent-joined (extent_of s) (extent_of t) x y p.extent q.extent meets).join,
   rw (joined_steps-append x y, length-append, ← p.counted, ← q.counted) many,
 )
