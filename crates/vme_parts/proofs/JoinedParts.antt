@@ -214,6 +214,34 @@ module _ (ps : List PartValue) (made sorted : List SegmentValue) (e : made ≡ s
   SomeHaveTooManySteps-sorted listing listed long files parts =
       long listing files (AllStand-sorted listing listed files parts)
 
+  -- what holds of all segments of the parts holds of all those sorted
+  All-sorted : (P : SegmentValue → Type 0) → All P (segments_of ps) → All P sorted
+  All-sorted P all = All-permutation P made sorted same (All-same P made (segments_of ps) e all)
+
+  -- what the segments of the parts cover, the sorted ones cover
+  SegmentsCover-sorted : (n : ℕ) → SegmentsCover (segments_of ps) n → SegmentsCover sorted n
+  SegmentsCover-sorted n c = (c.0, Contains-sorted c.0 c.1, c.2)
+
+  -- what the sorted segments cover, those of the parts cover
+  SegmentsCover-unsorted : (n : ℕ) → SegmentsCover sorted n → SegmentsCover (segments_of ps) n
+  SegmentsCover-unsorted n c = (c.0, Contains-unsorted c.0 c.1, c.2)
+
+  -- segments that are gathered from the sorted ones are gathered from those of the parts
+  pub Gathered-unsorted : (ss : List SegmentValue) → Gathered sorted ss → Gathered (segments_of ps) ss
+  Gathered-unsorted ss g =
+      record {
+        order = g.order;
+        covers = λ n. (
+          λ c. SegmentsCover-unsorted n ((g.covers n).0 c),
+          λ c. (g.covers n).1 (SegmentsCover-sorted n c),
+        );
+        stand = λ listing files all.
+            g.stand listing files
+            (All-sorted (λ (s : SegmentValue). SegmentStandsFor listing s (files_of files s)) all);
+        fits = λ listing all. g.fits listing (All-sorted (FitsSegment listing) all);
+        compact = λ all. g.compact (All-sorted IsCompact all);
+      }
+
   -- if two of the sorted segments of the same files differ, they do so in the parts
   pub HaveApart-unsorted : (number : ℕ) → HaveApart sorted number → HaveApart (segments_of ps) number
   HaveApart-unsorted number a =

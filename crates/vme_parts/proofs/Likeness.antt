@@ -66,7 +66,7 @@ IsNoDifference-map P Q (refusal.Marks place) f h = absurd h
 IsNoDifference-map P Q (refusal.Differs number) f h = absurd h
 IsNoDifference-map P Q refusal.TooManySteps f h = f h
 IsNoDifference-map P Q refusal.TooManyNodes f h = tt
-IsNoDifference-map P Q refusal.TooManySegments f h = tt
+IsNoDifference-map P Q refusal.TooManySegments f h = absurd h
 
 -- parts are refused truly if the refusal isn't for a difference, and if some files have too many steps where it is for
 -- these
@@ -79,4 +79,4 @@ AreRefused-no_difference ps (refusal.Marks place) h = absurd h
 AreRefused-no_difference ps (refusal.Differs number) h = absurd h
 AreRefused-no_difference ps refusal.TooManySteps h = h
 AreRefused-no_difference ps refusal.TooManyNodes h = tt
-AreRefused-no_difference ps refusal.TooManySegments h = tt
+AreRefused-no_difference ps refusal.TooManySegments h = absurd h

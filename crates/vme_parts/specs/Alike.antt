@@ -1,12 +1,12 @@
 -- Which parts can be joined: they are of one backplane, all have marks or none has, and no two segments of the same
 -- files differ.
-use Rattle.std.specs.Prelude.{◌≡◌, ℕ, ◌<◌, Bool, false, List, [], ◌∷◌, All, Contains, Some, drop, length, slice_get}
-use Rattle.std.specs.Prelude.{take}
+use Rattle.std.specs.Prelude.{◌≡◌, ℕ, ◌<◌, ◌≤◌, ◌^◌, Bool, false, List, [], ◌∷◌, All, Contains, Some, drop, length}
+use Rattle.std.specs.Prelude.{slice_get, take}
 use Rattle.vme_trace.specs.declared.block.Block.{Block}
 use Rattle.vme_part_format.specs.Tables.{PartValue, SegmentValue, TableValue}
 use Rattle.vme_part_tables.specs.Ways.{outcome_in}
 use Rattle.vme_parts.specs.Files.{AllStand, IsPartOf}
-use Rattle.vme_parts.specs.Gathering.{segments_of}
+use Rattle.vme_parts.specs.Gathering.{Gathered, segments_of}
 use Rattle.vme_parts.specs.Progress.{HaveTooManySteps}
 use Rattle.vme_parts.specs.declared.join_refusal.JoinRefusal.{JoinRefusal}
 use Rattle.vme_parts.specs.declared.join_refusal.JoinRefusal.TheVariants as refusal
@@ -80,6 +80,10 @@ SomeHaveTooManySteps files = (n k : ℕ) × HaveTooManySteps (take k (drop n fil
 abbrev pub AreTooLong : List SegmentValue → Type 0
 AreTooLong ss = (listing : Bool) (files : List Block) → AllStand listing files ss → SomeHaveTooManySteps files
 
+-- more segments than 32 bits count were gathered from those of the parts
+abbrev pub HaveManySegments : List PartValue → Type 0
+HaveManySegments ps = (ss : List SegmentValue) × Gathered (segments_of ps) ss × (2 ^ 32 ≤ length ss)
+
 -- when a refusal of the parts ps is true, where `backplane` and `listing` are those of the first
 abbrev pub AreRefusedBy : ℕ → Bool → List PartValue → JoinRefusal → Type 0
 AreRefusedBy backplane listing ps refusal.Memory = Unit {0}
@@ -91,12 +95,13 @@ AreRefusedBy backplane listing ps (refusal.Differs number) = HaveApart (segments
 AreRefusedBy backplane listing ps refusal.TooManySteps =
     (files : List Block) → All (IsPartOf files) ps → SomeHaveTooManySteps files
 AreRefusedBy backplane listing ps refusal.TooManyNodes = Unit {0}
-AreRefusedBy backplane listing ps refusal.TooManySegments = Unit {0}
+AreRefusedBy backplane listing ps refusal.TooManySegments = HaveManySegments ps
 
 abbrev pub AreRefused : List PartValue → JoinRefusal → Type 0
 AreRefused ps why = AreRefusedBy (first_backplane ps) (first_listing ps) ps why
 
--- a refusal that isn't for a difference between parts; if it is for too many steps, `Many` holds
+-- a refusal for which two segments aren't joined: it isn't for a difference between parts, nor for too many segments;
+-- if it is for too many steps, `Many` holds
 abbrev pub IsNoDifference : Type 0 → JoinRefusal → Type 0
 IsNoDifference Many refusal.Memory = Unit {0}
 IsNoDifference Many (refusal.Backplane place) = ⊥
@@ -104,4 +109,4 @@ IsNoDifference Many (refusal.Marks place) = ⊥
 IsNoDifference Many (refusal.Differs number) = ⊥
 IsNoDifference Many refusal.TooManySteps = Many
 IsNoDifference Many refusal.TooManyNodes = Unit {0}
-IsNoDifference Many refusal.TooManySegments = Unit {0}
+IsNoDifference Many refusal.TooManySegments = ⊥

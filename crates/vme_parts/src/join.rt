@@ -1,6 +1,6 @@
 //! Joining parts, in any order.
 
-ghost use Rattle.std.specs.Prelude.{◌≡◌, ◌<◌, ◌^◌, All, IfErr, IfOk, OnOk, map};
+ghost use Rattle.std.specs.Prelude.{◌≡◌, ◌<◌, ◌≤◌, ◌^◌, All, IfErr, IfOk, IsTrue, OnOk, false, map};
 ghost use Rattle.vme_part_format.specs.Bounds.{FitsPart};
 ghost use Rattle.vme_part_format.specs.Sizes.{IsCompactPart};
 ghost use Rattle.vme_part_format.specs.Tables.{part_value, segment_value};
@@ -64,6 +64,14 @@ fn has_marks(parts: &[Part]) -> bool
     }
 }
 
+/// Whether `count` segments are more than 32 bits count.
+fn are_too_many(count: usize) -> bool
+    ensures many { IsTrue result → 2 ^ 32 ≤ count }
+    ensures few { result ≡ false → count < 2 ^ 32 }
+{
+    (u32::MAX as usize) < count
+}
+
 /// Joins `parts`, which may be in any order, into one part.
 pub fn join_parts(alloc: Global, parts: Vec<Part>) -> Result<Part, JoinRefusal>
     requires { All (λ (p : Part). FitsPart (part_value p)) parts.items }
@@ -85,7 +93,8 @@ pub fn join_parts(alloc: Global, parts: Vec<Part>) -> Result<Part, JoinRefusal>
         Ok(segments) => segments,
         Err(why) => return Err(why),
     };
-    if (u32::MAX as usize) < segments.len() {
+    let count = segments.len();
+    if are_too_many(count) {
         return Err(JoinRefusal::TooManySegments);
     }
     Ok(Part {

@@ -24,8 +24,9 @@
 //!   covers exactly the files that any of them covers (`JoinsParts`), and it can be written. The
 //!   joined parts are of one backplane, all have marks or none has, and no two of their segments of
 //!   the same files differ (`MakeOne`). Where it refuses parts for one of these reasons, it is true;
-//!   and where it does so for too many steps, some of the files follow one another and have more
-//!   steps than 64 bits count (`AreRefused`).
+//!   where it does so for too many steps, some of the files follow one another and have more steps
+//!   than 64 bits count; and where it does so for too many segments, more than 32 bits count were
+//!   gathered from those of the parts (`AreRefused`).
 //! - If a part is of the files of a recording, [`tell_verdict`] answers the verdict of that
 //!   recording, or the least number that isn't covered, or the least file that doesn't follow those
 //!   before it, or that some first files, which follow one another, have more steps than 64 bits
@@ -33,7 +34,7 @@
 //!
 //! # What isn't proved
 //!
-//! That memory suffices. When [`join_parts`] refuses parts for too many nodes or segments.
+//! That memory suffices. When [`join_parts`] refuses parts for too many nodes.
 //! That [`can_write`] refuses no part of a file.
 //!
 //! # In which order to read

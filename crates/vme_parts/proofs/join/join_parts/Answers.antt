@@ -9,7 +9,7 @@ use Rattle.vme_part_format.specs.Tables.{PartValue, part_value, segment_value}
 use Rattle.vme_parts.specs.Alike.{AreTooLong, IsLike, SomeHaveTooManySteps}
 use Rattle.vme_parts.specs.Files.{IsPartOf}
 use Rattle.vme_parts.proofs.JoinedParts.{AllAlike-unsorted, JoinsParts-sorted, HaveApart-unsorted, IsCompactPart-sorted}
-use Rattle.vme_parts.proofs.JoinedParts.{FitsPart-sorted, SomeHaveTooManySteps-sorted}
+use Rattle.vme_parts.proofs.JoinedParts.{FitsPart-sorted, Gathered-unsorted, SomeHaveTooManySteps-sorted}
 use Rattle.vme_parts.proofs.JoinedParts.{IsSegment-sorted}
 use Rattle.vme_parts.proofs.Likeness.{IsNoDifference-map, AreRefused-differs, AreRefused-no_difference}
 use Rattle.vme_parts.proofs.join.join_parts.Goals as goal
@@ -39,7 +39,12 @@ returns-clause-joins c =
     (map part_value parts) (rw c.as_slice-3.ensures.value at c.in_ok-check_alike.ensures.like))
     (All-map FitsPart part_value parts c.requires)
     (omega arith)
-    (omega (arith, length-map segments.items segment_value))
+    (omega (
+      arith,
+      c.are_too_many.ensures.few c.if-are_too_many.false,
+      c.len-count.ensures,
+      length-map segments.items segment_value,
+    ))
     c.in-Ok.ensures.gathered
 
 pub returns-clause-fits : goal.returns-clause-fits
@@ -59,7 +64,12 @@ returns-clause-fits c =
     (map part_value parts) (rw c.as_slice-3.ensures.value at c.in_ok-check_alike.ensures.like))
     (All-map FitsPart part_value parts c.requires)
     (omega arith)
-    (omega (arith, length-map segments.items segment_value))
+    (omega (
+      arith,
+      c.are_too_many.ensures.few c.if-are_too_many.false,
+      c.len-count.ensures,
+      length-map segments.items segment_value,
+    ))
     c.in-Ok.ensures.gathered
 
 pub returns-clause-one : goal.returns-clause-one
@@ -90,7 +100,12 @@ returns-clause-compact c =
     (map part_value parts) (rw c.as_slice-3.ensures.value at c.in_ok-check_alike.ensures.like))
     (All-map FitsPart part_value parts c.requires)
     (omega arith)
-    (omega (arith, length-map segments.items segment_value))
+    (omega (
+      arith,
+      c.are_too_many.ensures.few c.if-are_too_many.false,
+      c.len-count.ensures,
+      length-map segments.items segment_value,
+    ))
     c.in-Ok.ensures.gathered
 
 pub compare_all-requires-clause-segments : goal.compare_all-requires-clause-segments
@@ -132,3 +147,19 @@ returns-in-Err-gather-clause-refused c =
     (IsPermutation-map segment_value c.in_ok-all.all.items c.sort_segments.new.segments.items
     c.sort_segments.ensures.same) listing listed long)
     c.in-Err-gather.ensures.refused)
+
+pub returns-then-are_too_many-clause-refused : goal.returns-then-are_too_many-clause-refused
+returns-then-are_too_many-clause-refused c =
+    let segments = c.in-Ok.segments in (
+      map segment_value segments.items,
+      Gathered-unsorted (map part_value c.args.parts.items) (map segment_value c.in_ok-all.all.items)
+          (map segment_value c.sort_segments.new.segments.items) c.in_ok-all.ensures
+          (IsPermutation-map segment_value c.in_ok-all.all.items c.sort_segments.new.segments.items
+          c.sort_segments.ensures.same) (map segment_value segments.items) c.in-Ok.ensures.gathered,
+      omega (
+        arith,
+        c.are_too_many.ensures.many c.if-are_too_many.true,
+        c.len-count.ensures,
+        length-map segments.items segment_value,
+      ),
+    )
