@@ -28,8 +28,8 @@
 //!
 //! That memory suffices: the dump up to its second time is held in memory, and the longest token,
 //! with what a piece of the dump takes. Where the binding can't be used on the dump, all of it is
-//! held. That parts are refused for too many nodes as they are joined only where there are so many.
-//! That no dump is refused as out of the range of parts, or for too many marks.
+//! held. That no dump is refused as out of the range of parts, or for too many marks, and no parts
+//! that were made of dumps for too many marks.
 #![tactic(auto)]
 
 mod backplane;

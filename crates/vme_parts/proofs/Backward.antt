@@ -1,4 +1,4 @@
--- Buddies at the end of gathered segments become one, or have too many steps.
+-- Buddies at the end of gathered segments become one, or have too many steps or nodes.
 use Rattle.std.proofs.Common.{◌≡◌, ℕ, ◌+◌, ◌≤◌, ◌^◌, List, [], ◌∷◌, ◌++◌, map, take, ap, sym, ◌∙◌, subst, append_assoc}
 use Rattle.std.specs.Prelude.{All}
 use Rattle.std.proofs.lemmas.List.{map-append, map_push, take-map}
@@ -7,13 +7,14 @@ use Rattle.vme_trace.proofs.ListLaws.{All-back, All-front}
 use Rattle.vme_part_format.specs.Sizes.{IsCompact}
 use Rattle.vme_part_format.specs.Tables.{SegmentValue, segment_value}
 use Rattle.vme_part_format.specs.declared.segment.Segment.{Segment}
-use Rattle.vme_parts.specs.Alike.{AreTooLong}
+use Rattle.vme_parts.specs.Alike.{AreTooLong, HaveManyNodes}
 use Rattle.vme_parts.specs.Buddies.{AreBuddies, SegmentGoesOn}
 use Rattle.vme_parts.specs.Files.{files_of}
 use Rattle.vme_parts.specs.Gathering.{Gathered, IsSegment}
 use Rattle.vme_parts.specs.Joined.{IsOfBoth}
 use Rattle.vme_parts.specs.Stands.{SegmentStandsFor}
 use Rattle.vme_parts.proofs.Gathering.{All-last, Gathered-merged}
+use Rattle.vme_parts.proofs.ManyNodes.{HaveManyNodes-append, HaveManyNodes-gathered}
 use Rattle.vme_parts.proofs.Merging.{SomeHaveTooManySteps-buddies}
 
 -- the values of `old` are those of `new` and then that of x, which was popped
@@ -77,16 +78,35 @@ AreTooLong-buddies done old new x t e h goes_on many g =
     SomeHaveTooManySteps-buddies s t h goes_on many listing files (All-head P s (t ∷ []) back)
     (All-head P t [] (All-tail P s (t ∷ []) back))
 
+-- if the last two of gathered segments have too many nodes, those of which they were gathered have
+pub HaveManyNodes-buddies : (done : List SegmentValue) (old new : List Segment) (x : Segment) (t : SegmentValue)
+    → old ≡ new ++ x ∷ [] → HaveManyNodes (segment_value x ∷ t ∷ []) → Gathered done (map segment_value old ++ t ∷ [])
+    → HaveManyNodes done
+HaveManyNodes-buddies done old new x t e many g =
+    HaveManyNodes-gathered done (map segment_value new) (segment_value x) t
+    (subst (Gathered done) (map-popped_and_next old new x t e) g) many
+
+-- the values of all segments are those of `done` and x, and then those of the rest
+map-done_and_rest : (all done rest : List Segment) (x : Segment) → done ++ x ∷ rest ≡ all
+    → (map segment_value done ++ segment_value x ∷ []) ++ map segment_value rest ≡ map segment_value all
+map-done_and_rest all done rest x e =
+    append_assoc (map segment_value done) (segment_value x ∷ []) (map segment_value rest)
+    ∙ (sym (map-append segment_value done (x ∷ rest)) ∙ ap (map segment_value) e)
+
 -- segments are too long if the first of them are
 pub AreTooLong-append : (all done rest : List Segment) (x : Segment) → done ++ x ∷ rest ≡ all
     → AreTooLong (map segment_value done ++ segment_value x ∷ []) → AreTooLong (map segment_value all)
 AreTooLong-append all done rest x e long =
     let front = map segment_value done ++ segment_value x ∷ [] in
     let left_values = map segment_value rest in
-    let whole : front ++ left_values ≡ map segment_value all =
-    append_assoc (map segment_value done) (segment_value x ∷ []) left_values
-    ∙ (sym (map-append segment_value done (x ∷ rest)) ∙ ap (map segment_value) e) in
     λ listing files stand.
     let P : SegmentValue → Type 0 = λ k. SegmentStandsFor listing k (files_of files k) in
     long listing files (All-front P front left_values
-    (All-same P (front ++ left_values) (map segment_value all) whole stand))
+    (All-same P (front ++ left_values) (map segment_value all) (map-done_and_rest all done rest x e) stand))
+
+-- segments have too many nodes if the first of them have
+pub HaveManyNodes-first : (all done rest : List Segment) (x : Segment) → done ++ x ∷ rest ≡ all
+    → HaveManyNodes (map segment_value done ++ segment_value x ∷ []) → HaveManyNodes (map segment_value all)
+HaveManyNodes-first all done rest x e many =
+    HaveManyNodes-append (map segment_value all) (map segment_value done ++ segment_value x ∷ [])
+    (map segment_value rest) (map-done_and_rest all done rest x e) many

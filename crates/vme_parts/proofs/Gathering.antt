@@ -1,11 +1,12 @@
 -- Segments that are gathered one by one.
-use Rattle.std.proofs.Common.{inl, inr, ◌≡◌, ℕ, Bool, List, [], ◌∷◌, ◌++◌, refl}
-use Rattle.std.proofs.Common.{sym, subst}
+use Rattle.std.proofs.Common.{inl, inr, ◌≡◌, ℕ, ◌+◌, Bool, List, [], ◌∷◌, ◌++◌, refl}
+use Rattle.std.proofs.Common.{sum_by, sym, subst}
 use Rattle.std.proofs.Common.{Option, Some, None, append_assoc, arith}
 use Rattle.std.specs.Prelude.{◌⊎◌, All, Contains}
 use Rattle.std.proofs.lemmas.List.Elements.{All-contains, All-head, All-push, All-tail}
 use Rattle.std.proofs.lemmas.List.Elements.{Contains-append_left, Contains-append_right}
 use Rattle.std.proofs.lemmas.List.Elements.{Contains-push, Contains-push_cases}
+use Rattle.std.proofs.lemmas.List.Sums.{sum_by-append, sum_by_push}
 use Rattle.vme_trace.proofs.ListLaws.{All-front, All-back}
 use Rattle.vme_part_format.specs.Bounds.{FitSegments, FitsSegment}
 use Rattle.vme_part_format.specs.Sizes.{IsCompact}
@@ -50,6 +51,10 @@ SegmentsCover-push_cases xs x n c = by_place (Contains-push_cases xs x c.0 c.1)
     by_place (inl h) = inl (c.0, h, c.2)
     by_place (inr e) = inr (subst (λ (s : SegmentValue). SegmentCovers s n) (sym e) c.2)
 
+-- the numbers of two segments together
+pub sum_by-two : (f : SegmentValue → ℕ) (s t : SegmentValue) → sum_by f (s ∷ t ∷ []) ≡ f s + f t
+sum_by-two f s t = omega arith
+
 -- of no segments none are gathered
 pub Gathered-nothing : Gathered [] []
 Gathered-nothing =
@@ -59,6 +64,7 @@ Gathered-nothing =
       stand = λ listing files all. all;
       fits = λ listing all. all;
       compact = λ all. all;
+      few = λ f joined. omega arith;
     }
 
 -- `Gathered` holds with one more segment at the end of both
@@ -79,6 +85,7 @@ Gathered-push done ss x g order =
           (All-last (FitsSegment listing) done x all);
       compact = λ all.
           All-push IsCompact ss x (g.compact (All-front IsCompact done (x ∷ []) all)) (All-last IsCompact done x all);
+      few = λ f joined. omega (arith, g.few f joined, sum_by_push f done x, sum_by_push f ss x);
     }
   where
     to : (n : ℕ) → (SegmentsCover ss n → SegmentsCover done n) → (SegmentsCover ss n ⊎ SegmentCovers x n)
@@ -106,6 +113,7 @@ Gathered-within done ss x s g there within =
           g.stand listing files (All-front P done (x ∷ []) all);
       fits = λ listing all. g.fits listing (All-front (FitsSegment listing) done (x ∷ []) all);
       compact = λ all. g.compact (All-front IsCompact done (x ∷ []) all);
+      few = λ f joined. omega (arith, g.few f joined, sum_by_push f done x);
     }
   where
     back : (n : ℕ) → (SegmentsCover done n → SegmentsCover ss n) → (SegmentsCover done n ⊎ SegmentCovers x n)
@@ -137,6 +145,15 @@ Gathered-merged done front s t r g b h few =
           All-last_two_merged (FitsSegment listing) front s t r (FitsSegment-both s t r b h listing)
           (g.fits listing all);
       compact = λ all. All-last_two_merged IsCompact front s t r (λ p q. few) (g.compact all);
+      few = λ f joined.
+          omega (
+            arith,
+            g.few f joined,
+            joined s t r b,
+            sum_by_push f front r,
+            sum_by-append f front (s ∷ t ∷ []),
+            sum_by-two f s t,
+          );
     }
   where
     to_two : (n : ℕ) → (SegmentCovers s n ⊎ SegmentCovers t n) → SegmentsCover (front ++ s ∷ t ∷ []) n

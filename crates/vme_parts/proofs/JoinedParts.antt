@@ -1,6 +1,6 @@
 -- The part joined from the segments of all parts.
 use Rattle.std.proofs.Common.{inl, inr, ◌≡◌, ℕ, zero, suc, ◌<◌, ◌^◌, Bool, List, [], ◌∷◌, ◌++◌, length, map}
-use Rattle.std.proofs.Common.{get_or}
+use Rattle.std.proofs.Common.{get_or, sum_by}
 use Rattle.std.proofs.Common.{refl, ap, subst, sym, ◌∙◌, arith, Option, None, Some}
 use Rattle.std.specs.Prelude.{◌⊎◌, All, Contains, IsPermutation}
 use Rattle.std.proofs.lemmas.List.{flat_map_more, map_push}
@@ -8,19 +8,21 @@ use Rattle.std.proofs.lemmas.List.Elements.{All-append, All-cons, All-contains, 
 use Rattle.std.proofs.lemmas.List.Elements.{All-weaker, Contains-append_cases, Contains-append_left}
 use Rattle.std.proofs.lemmas.List.Elements.{Contains-append_right, Contains-get_or}
 use Rattle.std.proofs.lemmas.List.Sorted.{All-permutation, Contains-permutation, IsPermutation-sym}
+use Rattle.std.proofs.lemmas.List.Sorted.{sum_by-IsPermutation}
 use Rattle.vme_trace.specs.declared.block.Block.{Block}
 use Rattle.vme_part_format.specs.Bounds.{FitSegments, FitsPart, FitsSegment, FitsTable}
 use Rattle.vme_part_format.specs.Sizes.{IsCompact, IsCompactPart}
 use Rattle.vme_part_format.specs.Tables.{PartValue, SegmentValue, TableValue, last_of, part_value, segment_value}
 use Rattle.vme_part_format.specs.declared.part.Part.{Part}
 use Rattle.vme_part_tables.proofs.Fitting.{has_ways}
-use Rattle.vme_parts.specs.Alike.{AllAlike, AreTooLong, HaveApart, SomeHaveTooManySteps}
+use Rattle.vme_parts.specs.Alike.{AllAlike, AreTooLong, HaveApart, HaveManyNodes, SomeHaveTooManySteps}
 use Rattle.vme_parts.specs.Buddies.{IsTableOf}
 use Rattle.vme_parts.specs.Files.{AllStand, IsPartOf, JoinsParts, SegmentsCover, SomeCovers}
 use Rattle.vme_parts.specs.Files.{files_of}
 use Rattle.vme_parts.specs.Gathering.{Gathered, IsSegment, segments_of}
 use Rattle.vme_parts.specs.Stands.{SegmentStandsFor}
 use Rattle.vme_parts.proofs.Gathering.{FitSegments-ascend}
+use Rattle.vme_parts.proofs.ManyNodes.{HaveManyNodes-more}
 
 -- if segments can be written together, each of them can be written
 pub FitsSegment-each : (listing : Bool) (before : Option ℕ) (ss : List SegmentValue) → FitSegments listing before ss
@@ -214,6 +216,15 @@ module _ (ps : List PartValue) (made sorted : List SegmentValue) (e : made ≡ s
   SomeHaveTooManySteps-sorted listing listed long files parts =
       long listing files (AllStand-sorted listing listed files parts)
 
+  -- the numbers of the sorted segments are those of the parts' segments, all together
+  sum_by-unsorted : (f : SegmentValue → ℕ) → sum_by f sorted ≡ sum_by f (segments_of ps)
+  sum_by-unsorted f = sum_by-IsPermutation f made sorted same ∙ ap (sum_by f) e
+
+  -- if the sorted segments have too many nodes, so have those of the parts
+  pub HaveManyNodes-unsorted : HaveManyNodes sorted → HaveManyNodes (segments_of ps)
+  HaveManyNodes-unsorted many =
+      HaveManyNodes-more (segments_of ps) sorted (λ f joined. omega (arith, sum_by-unsorted f)) many
+
   -- what holds of all segments of the parts holds of all those sorted
   All-sorted : (P : SegmentValue → Type 0) → All P (segments_of ps) → All P sorted
   All-sorted P all = All-permutation P made sorted same (All-same P made (segments_of ps) e all)
@@ -240,6 +251,7 @@ module _ (ps : List PartValue) (made sorted : List SegmentValue) (e : made ≡ s
             (All-sorted (λ (s : SegmentValue). SegmentStandsFor listing s (files_of files s)) all);
         fits = λ listing all. g.fits listing (All-sorted (FitsSegment listing) all);
         compact = λ all. g.compact (All-sorted IsCompact all);
+        few = λ f joined. omega (arith, g.few f joined, sum_by-unsorted f);
       }
 
   -- if two of the sorted segments of the same files differ, they do so in the parts

@@ -7,6 +7,7 @@ mod Nesting
 pub mod Halves
 pub mod Ordering
 mod Backward
+mod ManyNodes
 pub mod Bare
 pub mod OneFile
 pub mod OpenedFile

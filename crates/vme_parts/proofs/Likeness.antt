@@ -9,7 +9,7 @@ use Rattle.vme_part_format.specs.Tables.{PartValue, part_value}
 use Rattle.vme_part_format.specs.declared.part.Part.{Part}
 use Rattle.vme_trace.specs.declared.block.Block.{Block}
 use Rattle.vme_parts.specs.Alike.{AreRefused, AreRefusedBy, HasUnlikeAt, HaveApart, IsLike, IsNoDifference}
-use Rattle.vme_parts.specs.Alike.{SomeHaveTooManySteps, first_backplane, first_listing}
+use Rattle.vme_parts.specs.Alike.{HaveManyNodes, SomeHaveTooManySteps, first_backplane, first_listing}
 use Rattle.vme_parts.specs.Files.{IsPartOf}
 use Rattle.vme_parts.specs.Gathering.{segments_of}
 use Rattle.vme_parts.specs.declared.join_refusal.JoinRefusal.{JoinRefusal}
@@ -58,25 +58,32 @@ pub AreRefused-differs : (ps : List PartValue) (why : JoinRefusal) (number : ℕ
     → HaveApart (segments_of ps) number → AreRefused ps why
 AreRefused-differs ps why number e h = subst (AreRefused ps) (sym e) h
 
--- a refusal that isn't for a difference stays one if `Q` follows from `P`
-pub IsNoDifference-map : (P Q : Type 0) (why : JoinRefusal) → (P → Q) → IsNoDifference P why → IsNoDifference Q why
-IsNoDifference-map P Q refusal.Memory f h = tt
-IsNoDifference-map P Q (refusal.Backplane place) f h = absurd h
-IsNoDifference-map P Q (refusal.Marks place) f h = absurd h
-IsNoDifference-map P Q (refusal.Differs number) f h = absurd h
-IsNoDifference-map P Q refusal.TooManySteps f h = f h
-IsNoDifference-map P Q refusal.TooManyNodes f h = tt
-IsNoDifference-map P Q refusal.TooManySegments f h = absurd h
+-- a refusal for too many nodes isn't for a difference, if there are too many
+pub IsNoDifference-many_nodes : (P R : Type 0) (why : JoinRefusal) → why ≡ refusal.TooManyNodes → R
+    → IsNoDifference P R why
+IsNoDifference-many_nodes P R why e h = subst (IsNoDifference P R) (sym e) h
 
--- parts are refused truly if the refusal isn't for a difference, and if some files have too many steps where it is for
--- these
+-- a refusal that isn't for a difference stays one if `Q` follows from `P`, and `S` from `R`
+pub IsNoDifference-map : (P Q R S : Type 0) (why : JoinRefusal) → (P → Q) → (R → S) → IsNoDifference P R why
+    → IsNoDifference Q S why
+IsNoDifference-map P Q R S refusal.Memory f g h = tt
+IsNoDifference-map P Q R S (refusal.Backplane place) f g h = absurd h
+IsNoDifference-map P Q R S (refusal.Marks place) f g h = absurd h
+IsNoDifference-map P Q R S (refusal.Differs number) f g h = absurd h
+IsNoDifference-map P Q R S refusal.TooManySteps f g h = f h
+IsNoDifference-map P Q R S refusal.TooManyNodes f g h = g h
+IsNoDifference-map P Q R S refusal.TooManySegments f g h = absurd h
+
+-- parts are refused truly if the refusal isn't for a difference, if some files have too many steps where it is for
+-- these, and if their segments have too many nodes where it is for these
 pub AreRefused-no_difference : (ps : List PartValue) (why : JoinRefusal)
-    → IsNoDifference ((files : List Block) → All (IsPartOf files) ps → SomeHaveTooManySteps files) why
+    → IsNoDifference ((files : List Block) → All (IsPartOf files) ps → SomeHaveTooManySteps files)
+    (HaveManyNodes (segments_of ps)) why
     → AreRefused ps why
 AreRefused-no_difference ps refusal.Memory h = tt
 AreRefused-no_difference ps (refusal.Backplane place) h = absurd h
 AreRefused-no_difference ps (refusal.Marks place) h = absurd h
 AreRefused-no_difference ps (refusal.Differs number) h = absurd h
 AreRefused-no_difference ps refusal.TooManySteps h = h
-AreRefused-no_difference ps refusal.TooManyNodes h = tt
+AreRefused-no_difference ps refusal.TooManyNodes h = h
 AreRefused-no_difference ps refusal.TooManySegments h = absurd h

@@ -1,7 +1,7 @@
 -- Which parts can be joined: they are of one backplane, all have marks or none has, and no two segments of the same
 -- files differ.
-use Rattle.std.specs.Prelude.{◌≡◌, ℕ, ◌<◌, ◌≤◌, ◌^◌, Bool, false, List, [], ◌∷◌, All, Contains, Some, drop, length}
-use Rattle.std.specs.Prelude.{slice_get, take}
+use Rattle.std.specs.Prelude.{◌≡◌, ℕ, ◌*◌, ◌<◌, ◌≤◌, ◌^◌, ◌⊎◌, Bool, false, List, [], ◌∷◌, All, Contains, Some, drop}
+use Rattle.std.specs.Prelude.{length, slice_get, sum_by, take}
 use Rattle.vme_trace.specs.declared.block.Block.{Block}
 use Rattle.vme_part_format.specs.Tables.{PartValue, SegmentValue, TableValue}
 use Rattle.vme_part_tables.specs.Ways.{outcome_in}
@@ -80,6 +80,28 @@ SomeHaveTooManySteps files = (n k : ℕ) × HaveTooManySteps (take k (drop n fil
 abbrev pub AreTooLong : List SegmentValue → Type 0
 AreTooLong ss = (listing : Bool) (files : List Block) → AllStand listing files ss → SomeHaveTooManySteps files
 
+-- how many nodes the tables of each monitor have, in all of the segments together
+abbrev pub known_nodes : List SegmentValue → ℕ
+known_nodes ss = sum_by (λ (s : SegmentValue). length s.known.nodes) ss
+
+abbrev pub handshake_nodes : List SegmentValue → ℕ
+handshake_nodes ss = sum_by (λ (s : SegmentValue). length s.handshake.nodes) ss
+
+abbrev pub stability_nodes : List SegmentValue → ℕ
+stability_nodes ss = sum_by (λ (s : SegmentValue). length s.stability.nodes) ss
+
+abbrev pub grant_nodes : List SegmentValue → ℕ
+grant_nodes ss = sum_by (λ (s : SegmentValue). length s.grant.nodes) ss
+
+abbrev pub acknowledge_nodes : List SegmentValue → ℕ
+acknowledge_nodes ss = sum_by (λ (s : SegmentValue). length s.acknowledge.nodes) ss
+
+-- the tables of one monitor have more than two nodes for each of its memories, in all of the segments together
+abbrev pub HaveManyNodes : List SegmentValue → Type 0
+HaveManyNodes ss =
+    (2 * 4 < known_nodes ss) ⊎ ((2 * 147 < handshake_nodes ss) ⊎ ((2 * 13 < stability_nodes ss)
+    ⊎ ((2 * 35 < grant_nodes ss) ⊎ (2 * 11 < acknowledge_nodes ss))))
+
 -- more segments than 32 bits count were gathered from those of the parts
 abbrev pub HaveManySegments : List PartValue → Type 0
 HaveManySegments ps = (ss : List SegmentValue) × Gathered (segments_of ps) ss × (2 ^ 32 ≤ length ss)
@@ -94,19 +116,19 @@ AreRefusedBy backplane listing ps (refusal.Marks place) =
 AreRefusedBy backplane listing ps (refusal.Differs number) = HaveApart (segments_of ps) number
 AreRefusedBy backplane listing ps refusal.TooManySteps =
     (files : List Block) → All (IsPartOf files) ps → SomeHaveTooManySteps files
-AreRefusedBy backplane listing ps refusal.TooManyNodes = Unit {0}
+AreRefusedBy backplane listing ps refusal.TooManyNodes = HaveManyNodes (segments_of ps)
 AreRefusedBy backplane listing ps refusal.TooManySegments = HaveManySegments ps
 
 abbrev pub AreRefused : List PartValue → JoinRefusal → Type 0
 AreRefused ps why = AreRefusedBy (first_backplane ps) (first_listing ps) ps why
 
 -- a refusal for which two segments aren't joined: it isn't for a difference between parts, nor for too many segments;
--- if it is for too many steps, `Many` holds
-abbrev pub IsNoDifference : Type 0 → JoinRefusal → Type 0
-IsNoDifference Many refusal.Memory = Unit {0}
-IsNoDifference Many (refusal.Backplane place) = ⊥
-IsNoDifference Many (refusal.Marks place) = ⊥
-IsNoDifference Many (refusal.Differs number) = ⊥
-IsNoDifference Many refusal.TooManySteps = Many
-IsNoDifference Many refusal.TooManyNodes = Unit {0}
-IsNoDifference Many refusal.TooManySegments = ⊥
+-- if it is for too many steps, `Steps` holds, and if it is for too many nodes, `Nodes`
+abbrev pub IsNoDifference : Type 0 → Type 0 → JoinRefusal → Type 0
+IsNoDifference Steps Nodes refusal.Memory = Unit {0}
+IsNoDifference Steps Nodes (refusal.Backplane place) = ⊥
+IsNoDifference Steps Nodes (refusal.Marks place) = ⊥
+IsNoDifference Steps Nodes (refusal.Differs number) = ⊥
+IsNoDifference Steps Nodes refusal.TooManySteps = Steps
+IsNoDifference Steps Nodes refusal.TooManyNodes = Nodes
+IsNoDifference Steps Nodes refusal.TooManySegments = ⊥

@@ -1,16 +1,16 @@
 //! Buddies: two segments that are the halves of one.
 
-ghost use Rattle.std.specs.Prelude.{◌≡◌, ◌+◌, ◌<◌, ◌≤◌, ◌^◌, IfErr, IfOk, IsTrue};
+ghost use Rattle.std.specs.Prelude.{◌≡◌, ◌+◌, ◌<◌, ◌≤◌, ◌^◌, ◌∷◌, [], IfErr, IfOk, IsTrue, false};
 ghost use Rattle.vme_part_format.specs.Bounds.{FitsNumbers};
 ghost use Rattle.vme_part_format.specs.Sizes.{IsCompact};
 ghost use Rattle.vme_part_format.specs.Tables.{last_of, segment_value, table_value};
 ghost use Rattle.vme_part_tables.specs.Ways.{HasWays};
-ghost use Rattle.vme_parts.specs.Alike.{IsNoDifference};
+ghost use Rattle.vme_parts.specs.Alike.{HaveManyNodes, IsNoDifference};
 ghost use Rattle.vme_parts.specs.Buddies.{AreBuddies, FewNodes, HasTables, HaveFewNodes, SegmentGoesOn};
 ghost use Rattle.vme_parts.specs.Buddies.{are_buddies as are_buddies_of};
 ghost use Rattle.vme_parts.specs.Joined.{IsOfBoth};
 
-use crate::compact::is_compact;
+use crate::compact::check_compact;
 use crate::join_refusal::JoinRefusal;
 use crate::meets::{joined_times, torn_file};
 use std::alloc::{AllocError, Global};
@@ -82,7 +82,8 @@ pub(crate) fn are_joinable(first: &Segment, second: &Segment) -> bool
 /// Whether the ways of the composition of two tables fit in 32 bits.
 pub(crate) fn nodes_are_few(first: &OutcomeTable, second: &OutcomeTable) -> bool
     requires { HasWays (table_value first.now) }
-    ensures { IsTrue result → FewNodes (table_value first.now) (table_value second.now) }
+    ensures few { IsTrue result → FewNodes (table_value first.now) (table_value second.now) }
+    ensures many { result ≡ false → FewNodes (table_value first.now) (table_value second.now) → ⊥ }
 {
     are_few_together(first, second)
 }
@@ -90,7 +91,8 @@ pub(crate) fn nodes_are_few(first: &OutcomeTable, second: &OutcomeTable) -> bool
 /// Whether, for each monitor, the ways of the composition of the two tables fit in 32 bits.
 fn have_few_nodes(first: &Segment, second: &Segment) -> bool
     requires { HasTables (segment_value first.now) }
-    ensures { IsTrue result → HaveFewNodes (segment_value first.now) (segment_value second.now) }
+    ensures few { IsTrue result → HaveFewNodes (segment_value first.now) (segment_value second.now) }
+    ensures many { result ≡ false → HaveFewNodes (segment_value first.now) (segment_value second.now) → ⊥ }
 {
     if !nodes_are_few(&first.known, &second.known) {
         return false;
@@ -115,7 +117,8 @@ pub(crate) fn joined(alloc: Global, first: Segment, second: Segment) -> Result<S
     requires goes_on { SegmentGoesOn (segment_value first) (segment_value second) }
     ensures both { IfOk result (λ r. IsOfBoth (segment_value first) (segment_value second) (segment_value r)) }
     ensures compact { IfOk result (λ r. IsCompact (segment_value r)) }
-    ensures refused { IfErr result (IsNoDifference (2 ^ 64 ≤ first.steps + second.steps)) }
+    ensures refused { IfErr result (IsNoDifference (2 ^ 64 ≤ first.steps + second.steps)
+        (HaveManyNodes (segment_value first ∷ segment_value second ∷ []))) }
 {
     let Some(steps) = first.steps.checked_add(second.steps) else {
         return Err(JoinRefusal::TooManySteps);
@@ -126,10 +129,9 @@ pub(crate) fn joined(alloc: Global, first: Segment, second: Segment) -> Result<S
     let Ok(segment) = joined_in(alloc, first, second, steps) else {
         return Err(JoinRefusal::Memory);
     };
-    if is_compact(&segment) {
-        Ok(segment)
-    } else {
-        Err(JoinRefusal::TooManyNodes)
+    match check_compact(&segment) {
+        Ok(()) => Ok(segment),
+        Err(why) => Err(why),
     }
 }
 

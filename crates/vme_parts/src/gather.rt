@@ -7,7 +7,7 @@ ghost use Rattle.std.specs.List.{last_or};
 ghost use Rattle.std.specs.List.Sorted.{IsNonDecreasingBy};
 ghost use Rattle.vme_part_format.specs.Tables.{SegmentValue, last_of, segment_value};
 ghost use Rattle.vme_part_format.specs.declared.segment.Segment.{Segment};
-ghost use Rattle.vme_parts.specs.Alike.{AreTooLong, IsNoDifference};
+ghost use Rattle.vme_parts.specs.Alike.{AreTooLong, HaveManyNodes, IsNoDifference};
 ghost use Rattle.vme_parts.specs.Gathering.{BeginsInLast, Gathered, IsSegment, Precedes, order_key as order_key_of};
 
 use crate::buddies::{LAST_ORDER, are_joinable, joined, last_file};
@@ -30,8 +30,11 @@ fn join_back(
     ensures gathered { IfOk result (λ s. (done : List SegmentValue)
         → Gathered done (map segment_value segments.old.items ++ segment_value next ∷ [])
         → Gathered done (map segment_value segments.new.items ++ segment_value s ∷ [])) }
-    ensures refused { IfErr result (IsNoDifference ((done : List SegmentValue)
-        → Gathered done (map segment_value segments.old.items ++ segment_value next ∷ []) → AreTooLong done)) }
+    ensures refused { IfErr result (IsNoDifference
+        ((done : List SegmentValue) → Gathered done (map segment_value segments.old.items ++ segment_value next ∷ [])
+        → AreTooLong done)
+        ((done : List SegmentValue) → Gathered done (map segment_value segments.old.items ++ segment_value next ∷ [])
+        → HaveManyNodes done)) }
 {
     let mut next = next;
     while let Some(last) = segments.pop() {
@@ -72,8 +75,11 @@ fn add(alloc: Global, segments: &mut Vec<Segment>, next: Segment) -> Result<(), 
         (λ last. Precedes last (segment_value next))) }
     ensures gathered { OnOk result ((done : List SegmentValue) → Gathered done (map segment_value segments.old.items)
         → Gathered (done ++ segment_value next ∷ []) (map segment_value segments.new.items)) }
-    ensures refused { IfErr result (IsNoDifference ((done : List SegmentValue)
-        → Gathered done (map segment_value segments.old.items) → AreTooLong (done ++ segment_value next ∷ []))) }
+    ensures refused { IfErr result (IsNoDifference
+        ((done : List SegmentValue) → Gathered done (map segment_value segments.old.items)
+        → AreTooLong (done ++ segment_value next ∷ []))
+        ((done : List SegmentValue) → Gathered done (map segment_value segments.old.items)
+        → HaveManyNodes (done ++ segment_value next ∷ []))) }
 {
     if begins_in_last(segments.as_slice(), &next) {
         return Ok(());
@@ -107,7 +113,8 @@ pub(crate) fn gather(alloc: Global, all: Vec<Segment>) -> Result<Vec<Segment>, J
     requires segments { All IsSegment (map segment_value all.items) }
     requires order { IsNonDecreasingBy (λ (s : Segment). order_key_of (segment_value s)) all.items }
     ensures gathered { IfOk result (λ v. Gathered (map segment_value all.items) (map segment_value v.items)) }
-    ensures refused { IfErr result (IsNoDifference (AreTooLong (map segment_value all.items))) }
+    ensures refused { IfErr result (IsNoDifference (AreTooLong (map segment_value all.items))
+        (HaveManyNodes (map segment_value all.items))) }
 {
     let mut segments = Vec::new(alloc);
     for segment in all {

@@ -25,8 +25,10 @@
 //!   joined parts are of one backplane, all have marks or none has, and no two of their segments of
 //!   the same files differ (`MakeOne`). Where it refuses parts for one of these reasons, it is true;
 //!   where it does so for too many steps, some of the files follow one another and have more steps
-//!   than 64 bits count; and where it does so for too many segments, more than 32 bits count were
-//!   gathered from those of the parts (`AreRefused`).
+//!   than 64 bits count; where it does so for too many nodes, the tables of one monitor have more
+//!   than two for each of its memories, in all segments of the parts together; and where it does so
+//!   for too many segments, more than 32 bits count were gathered from those of the parts
+//!   (`AreRefused`).
 //! - If a part is of the files of a recording, [`tell_verdict`] answers the verdict of that
 //!   recording, or the least number that isn't covered, or the least file that doesn't follow those
 //!   before it, or that some first files, which follow one another, have more steps than 64 bits
@@ -34,8 +36,8 @@
 //!
 //! # What isn't proved
 //!
-//! That memory suffices. When [`join_parts`] refuses parts for too many nodes.
-//! That [`can_write`] refuses no part of a file.
+//! That memory suffices. That [`join_parts`] refuses no parts of files for too many nodes, and that
+//! [`can_write`] refuses no part of a file.
 //!
 //! # In which order to read
 //!

@@ -8,9 +8,9 @@ use Rattle.std.proofs.lemmas.List.{map_push, nil_from_length}
 use Rattle.std.proofs.lemmas.List.Elements.{All-nil}
 use Rattle.vme_part_format.specs.Tables.{SegmentValue, segment_value}
 use Rattle.vme_part_format.specs.declared.segment.Segment.{Segment}
-use Rattle.vme_parts.specs.Alike.{AreTooLong}
+use Rattle.vme_parts.specs.Alike.{AreTooLong, HaveManyNodes}
 use Rattle.vme_parts.specs.Gathering.{Gathered, IsSegment, Precedes}
-use Rattle.vme_parts.proofs.Backward.{AreTooLong-append}
+use Rattle.vme_parts.proofs.Backward.{AreTooLong-append, HaveManyNodes-first}
 use Rattle.vme_parts.proofs.Gathering.{Gathered-nothing}
 use Rattle.vme_parts.proofs.Likeness.{IsNoDifference-map}
 use Rattle.vme_parts.proofs.Ordering.{Precedes-next_of_sorted, Precedes-last_and_all, Precedes-last_and_head}
@@ -91,8 +91,13 @@ returns-in-Err-clause-refused c =
     let steps : into_iter_items at.segment-iterator ≡ x ∷ more = c.in-Some.ensures.steps.0 in
     let old = map segment_value at.segments.items in
     IsNoDifference-map ((done : List SegmentValue) → Gathered done old → AreTooLong (done ++ segment_value x ∷ []))
-    (AreTooLong (map segment_value c.args.all.items)) c.in-Err.why
+    (AreTooLong (map segment_value c.args.all.items))
+    ((done : List SegmentValue) → Gathered done old → HaveManyNodes (done ++ segment_value x ∷ []))
+    (HaveManyNodes (map segment_value c.args.all.items)) c.in-Err.why
     (λ many.
     AreTooLong-append c.args.all.items at.yielded more x (rw (← steps) at.invariant.all)
+    (many (map segment_value at.yielded) at.invariant.gathered))
+    (λ many.
+    HaveManyNodes-first c.args.all.items at.yielded more x (rw (← steps) at.invariant.all)
     (many (map segment_value at.yielded) at.invariant.gathered))
     c.in-Err.ensures.refused

@@ -2,10 +2,10 @@ use Rattle.std.proofs.Common.{◌≡◌, ◌+◌, ◌-◌, ◌≤◌, ◌^◌, L
 use Rattle.std.specs.Prelude.{All}
 use Rattle.vme_part_format.specs.Tables.{SegmentValue, segment_value}
 use Rattle.vme_part_format.specs.declared.segment.Segment.{Segment}
-use Rattle.vme_parts.specs.Alike.{AreTooLong}
+use Rattle.vme_parts.specs.Alike.{AreTooLong, HaveManyNodes}
 use Rattle.vme_parts.specs.Gathering.{Gathered, IsSegment}
 use Rattle.vme_parts.proofs.Backward.{IsSegment-first, IsSegment-popped_front, IsSegment-popped_last}
-use Rattle.vme_parts.proofs.Backward.{Gathered-buddies_joined, AreTooLong-buddies}
+use Rattle.vme_parts.proofs.Backward.{AreTooLong-buddies, Gathered-buddies_joined, HaveManyNodes-buddies}
 use Rattle.vme_parts.proofs.Halves.{Precedes-of_both, IsSegment-of_both}
 use Rattle.vme_parts.proofs.Likeness.{IsNoDifference-map}
 use Rattle.vme_parts.proofs.Ordering.{Precedes-reflexive}
@@ -92,9 +92,12 @@ returns-in-Err-clause-refused c =
     let t = segment_value c.loop-last.next in
     let all = map segment_value c.args.segments.now.items ++ segment_value c.args.next ∷ [] in
     IsNoDifference-map (2 ^ 64 ≤ s.steps + t.steps) ((done : List SegmentValue) → Gathered done all → AreTooLong done)
-    c.in-Err.why
+    (HaveManyNodes (s ∷ t ∷ [])) ((done : List SegmentValue) → Gathered done all → HaveManyNodes done) c.in-Err.why
     (λ many done g.
     AreTooLong-buddies done c.loop-last.segments.items c.pop.new.self.items c.in-Some.last t c.in-Some.ensures.items
     (c.are_joinable.ensures.buddies c.if-not-are_joinable.false)
     (c.are_joinable.ensures.goes_on c.if-not-are_joinable.false) many (c.loop-last.invariant.gathered done g))
+    (λ many done g.
+    HaveManyNodes-buddies done c.loop-last.segments.items c.pop.new.self.items c.in-Some.last t c.in-Some.ensures.items
+    many (c.loop-last.invariant.gathered done g))
     c.in-Err.ensures.refused

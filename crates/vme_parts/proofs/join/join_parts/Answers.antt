@@ -6,11 +6,12 @@ use Rattle.std.proofs.lemmas.List.Sorted.{IsPermutation-map}
 use Rattle.vme_trace.specs.declared.block.Block.{Block}
 use Rattle.vme_part_format.specs.Bounds.{FitsPart}
 use Rattle.vme_part_format.specs.Tables.{PartValue, part_value, segment_value}
-use Rattle.vme_parts.specs.Alike.{AreTooLong, IsLike, SomeHaveTooManySteps}
+use Rattle.vme_parts.specs.Alike.{AreTooLong, HaveManyNodes, IsLike, SomeHaveTooManySteps}
 use Rattle.vme_parts.specs.Files.{IsPartOf}
+use Rattle.vme_parts.specs.Gathering.{segments_of}
 use Rattle.vme_parts.proofs.JoinedParts.{AllAlike-unsorted, JoinsParts-sorted, HaveApart-unsorted, IsCompactPart-sorted}
 use Rattle.vme_parts.proofs.JoinedParts.{FitsPart-sorted, Gathered-unsorted, SomeHaveTooManySteps-sorted}
-use Rattle.vme_parts.proofs.JoinedParts.{IsSegment-sorted}
+use Rattle.vme_parts.proofs.JoinedParts.{HaveManyNodes-unsorted, IsSegment-sorted}
 use Rattle.vme_parts.proofs.Likeness.{IsNoDifference-map, AreRefused-differs, AreRefused-no_difference}
 use Rattle.vme_parts.proofs.join.join_parts.Goals as goal
 
@@ -141,11 +142,16 @@ returns-in-Err-gather-clause-refused c =
     (rw c.as_slice-3.ensures.value at c.in_ok-check_alike.ensures.like) in
     AreRefused-no_difference parts c.in-Err-gather.why
     (IsNoDifference-map (AreTooLong sorted)
-    ((files : List Block) → All (IsPartOf files) parts → SomeHaveTooManySteps files) c.in-Err-gather.why
+    ((files : List Block) → All (IsPartOf files) parts → SomeHaveTooManySteps files) (HaveManyNodes sorted)
+    (HaveManyNodes (segments_of parts)) c.in-Err-gather.why
     (λ long.
     SomeHaveTooManySteps-sorted parts (map segment_value c.in_ok-all.all.items) sorted c.in_ok-all.ensures
     (IsPermutation-map segment_value c.in_ok-all.all.items c.sort_segments.new.segments.items
     c.sort_segments.ensures.same) listing listed long)
+    (λ many.
+    HaveManyNodes-unsorted parts (map segment_value c.in_ok-all.all.items) sorted c.in_ok-all.ensures
+    (IsPermutation-map segment_value c.in_ok-all.all.items c.sort_segments.new.segments.items
+    c.sort_segments.ensures.same) many)
     c.in-Err-gather.ensures.refused)
 
 pub returns-then-are_too_many-clause-refused : goal.returns-then-are_too_many-clause-refused

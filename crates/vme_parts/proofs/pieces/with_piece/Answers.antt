@@ -9,7 +9,7 @@ pub composed-requires : goal.composed-requires
 composed-requires g c =
     CanCompose-few_nodes g.M.Finite.COUNT (table_value c.args.table) (table_value c.in_ok-next.next) c.requires.table
     (record { ways = c.in_ok-next.ensures.ways; counted = c.in_ok-next.ensures.counted })
-    (c.nodes_are_few.ensures c.if-not-nodes_are_few.false)
+    (c.nodes_are_few.ensures.few c.if-not-nodes_are_few.false)
 
 pub left_memories-requires : goal.left_memories-requires
 left_memories-requires g c = c.requires.table.ways
