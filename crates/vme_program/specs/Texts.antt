@@ -7,7 +7,7 @@ use Rattle.vme_trace.specs.declared.rule.Rule.{Rule}
 use Rattle.vme_stream.specs.Ends.{Ends}
 use Rattle.vme_stream.specs.declared.refusal.Input.TheVariants.{Dump}
 use Rattle.vme_stream.specs.declared.refusal.Refusal.{Refusal}
-use Rattle.vme_text_commands.specs.TextAnswers.{ArePages, IsText, TellsVariables, text_answer_by}
+use Rattle.vme_text_commands.specs.TextAnswers.{AreGuides, ArePages, TellsVariables, text_answer_by}
 use Rattle.vme_faults.specs.RefusalKinds.{kind_named}
 use Rattle.vme_faults.specs.declared.refusal_kind.RefusalKind.{RefusalKind}
 use Rattle.vme_words.specs.declared.order.FaultsOrder.{FaultsOrder}
@@ -35,10 +35,10 @@ IsRuleOf order rule =
 abbrev pub NamesNoRule : RulesOrder → Type 0
 NamesNoRule order = IsSomeAnd (rule_word order) (λ name. rule_named name ≡ None)
 
--- the order names a rule or none, and what the rules require is written
+-- the guide of the rule that an order names is written, or, if it names none, that of each rule
 abbrev pub TellsRules : RulesOrder → Writing × Writing → Writing × Writing → ℕ → Type 0
 TellsRules order out err status = (only : Option Rule) × (made : Result (List ℕ) Refusal)
-    × IsRuleOf order only × IsText made × Ends (text_answer_by 0 made) out err status
+    × IsRuleOf order only × AreGuides only made × Ends (text_answer_by 0 made) out err status
 
 -- ---- kinds of refusals
 

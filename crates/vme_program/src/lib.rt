@@ -36,8 +36,9 @@
 //!   these files by their names, of the number of files and of whether a listing is wanted
 //!   (`JoinsFiles`, `TellsOfFiles`).
 //! - `faults` writes exactly the page of the kind of refusal that the argument names, or without an
-//!   argument the pages of all (`TellsFaults`). An argument that names no kind is invalid, and so is
-//!   one of `rules` that names no rule; no other argument of theirs is (`refused`, `faulty`).
+//!   argument the pages of all (`TellsFaults`). `rules` writes so the guide of the rule, or the guides
+//!   of all (`TellsRules`). An argument that names no kind is invalid, and so is one of `rules` that
+//!   names no rule; no other argument of theirs is (`refused`, `faulty`).
 //! - Arguments are invalid only where `clap`'s rules find a fault in them, or where the command is
 //!   `rules` or `faults` with such an argument, or an audit (`IsRefusedOrder`).
 //! - With invalid arguments nothing is written on standard output and standard error (`out_stays`,
@@ -45,9 +46,9 @@
 //!
 //! # What isn't proved
 //!
-//! That `rules RULE` is about that rule, that `--gtkw` writes a file for that dump's name, and what
-//! the picture of `--svg` shows: the contracts of vme_text_commands don't say what these texts have;
-//! what the file of test cases has, and that an audit reads standard input once. Tests try these.
+//! That `--gtkw` writes a file for that dump's name, and what the picture of `--svg` shows: the
+//! contracts of vme_text_commands don't say what these texts have; what the file of test cases has,
+//! and that an audit reads standard input once. Tests try these.
 //!
 //! What an [`Environment`] answers is what its ghost members say, and no more: that a file of that
 //! name has those bytes is a matter of who implements it.

@@ -1,6 +1,7 @@
 //! What each rule asks, for people.
 
 ghost use Rattle.std.specs.Prelude.{◌≡◌};
+ghost use Rattle.vme_rules.specs.Guides.{guide_causes, guide_line, guide_section, guide_sentence};
 
 use vme_trace::Rule;
 
@@ -304,7 +305,11 @@ const I5: Guide = Guide {
 impl Guide {
     /// What this rule asks.
     pub fn of(rule: Rule) -> Guide
-        ensures { result.rule ≡ rule }
+        ensures rule { result.rule ≡ rule }
+        ensures sentence { result.sentence.now ≡ guide_sentence rule }
+        ensures line { result.line.now ≡ guide_line rule }
+        ensures section { result.section.now ≡ guide_section rule }
+        ensures causes { result.causes.now ≡ guide_causes rule }
     {
         let guide: &'static Guide = match rule {
             Rule::U1 => &U1,

@@ -10,12 +10,13 @@
 //!
 //! # What is proved
 //!
-//! A guide is of the rule that was asked for.
+//! A guide is of the rule that was asked for, and has exactly the texts of `specs/Guides` for it.
+//! Exactly this guide is written, or those of all rules, in their order (`guides_text`).
 //!
 //! # What isn't proved
 //!
-//! What the sentences say: they are to be read beside `specs/Rules` of vme_trace, which decides.
-//! `tests/texts` compares docs/PROTOCOL.md with them. Start reading at `guide`.
+//! That what the sentences say is so: they are to be read beside `specs/Rules` of vme_trace, which
+//! decides. `tests/texts` compares docs/PROTOCOL.md with them. Start reading at `guide`.
 #![tactic(auto)]
 
 mod guide;

@@ -7,6 +7,7 @@ use Rattle.vme_declarations.specs.Scopes.{has_scope}
 use Rattle.vme_find.specs.declared.writing.FoundBinding.{FoundBinding}
 use Rattle.vme_trace.specs.Streams.{Reading, Writing}
 use Rattle.vme_trace.specs.Trace.{Trace}
+use Rattle.vme_trace.specs.declared.rule.Rule.{Rule}
 use Rattle.vme_stream.specs.Answers.{CommandAnswer, capture_by, dump_read, refusal_answer}
 use Rattle.vme_stream.specs.Ends.{Ends}
 use Rattle.vme_stream.specs.Texts.{line_of, refusal_status, refusal_text}
@@ -18,6 +19,7 @@ use Rattle.vme_text_commands.specs.Refused.{HasRefusalPage, IsRefusalPage, refus
 use Rattle.vme_stream.specs.Inputs.{IsReading}
 use Rattle.vme_faults.specs.Pages.{pages_of}
 use Rattle.vme_faults.specs.declared.refusal_kind.RefusalKind.{RefusalKind}
+use Rattle.vme_rules.specs.Guides.{guides_text}
 use denote.Ref.{Bor}
 
 abbrev pub text_answer : ℕ → List ℕ → CommandAnswer
@@ -33,10 +35,10 @@ abbrev pub text_answer_with : List ℕ → Result (List ℕ) Refusal → Command
 text_answer_with more (Ok text) = text_answer 0 text
 text_answer_with more (Err refusal) = refusal_with more refusal
 
--- there is a text, unless memory ran out
-abbrev pub IsText : Result (List ℕ) Refusal → Type 0
-IsText (Ok text) = Unit {0}
-IsText (Err refusal) = refusal ≡ Memory
+-- the text is the guide of a rule, or those of all rules, unless memory ran out
+abbrev pub AreGuides : Option Rule → Result (List ℕ) Refusal → Type 0
+AreGuides only (Ok text) = text ≡ guides_text only
+AreGuides only (Err refusal) = refusal ≡ Memory
 
 -- the text is the page of a kind, or those of all kinds, unless memory ran out
 abbrev pub ArePages : Option RefusalKind → Result (List ℕ) Refusal → Type 0

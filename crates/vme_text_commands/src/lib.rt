@@ -19,15 +19,15 @@
 //!   the files of its explanation, and none after a refusal (`ExplainsWith`); what it draws is a
 //!   picture (`drawn`).
 //! - `bind` writes only a binding that makes a recording of that dump (`IsBindingFor`).
-//! - `faults` writes exactly the page of a kind, or the pages of all (`ArePages`).
+//! - `faults` writes exactly the page of a kind, or the pages of all (`ArePages`); `rules` exactly the
+//!   guide of a rule, or the guides of all (`AreGuides`).
 //! - After the line of a refusal `explain`, `bind` and `variables` write exactly the page of its
 //!   kind, below an excerpt of the input, unless memory runs out (`IsRefusalPage`).
 //!
 //! # What isn't proved
 //!
-//! The texts of `rules`, `explain` and `variables`, what is shown of a refused input, and which
-//! lines `bind` finds (vme_rules, vme_explain, vme_variables, vme_line_names); that memory suffices
-//! (status 4).
+//! The texts of `explain` and `variables`, what is shown of a refused input, and which lines `bind`
+//! finds (vme_explain, vme_variables, vme_line_names); that memory suffices (status 4).
 //!
 //! # Limits
 //!

@@ -2,7 +2,7 @@
 
 ghost use Rattle.std.specs.Prelude.{ℕ, List, Result};
 ghost use Rattle.vme_stream.specs.Ends.{Ends};
-ghost use Rattle.vme_text_commands.specs.TextAnswers.{IsText, text_answer_by};
+ghost use Rattle.vme_text_commands.specs.TextAnswers.{AreGuides, text_answer_by};
 ghost use Rattle.vme_stream.specs.declared.refusal.Refusal.{Refusal};
 
 use crate::telling::tell_text;
@@ -21,7 +21,7 @@ pub fn tell_rules<O: Sink, E: Sink>(
     out: &mut O,
     err: &mut E,
 ) -> u8
-    ensures { (made : Result (List ℕ) Refusal) × IsText made × Ends (text_answer_by 0 made)
+    ensures { (made : Result (List ℕ) Refusal) × AreGuides only made × Ends (text_answer_by 0 made)
         (O.writing out.old, O.writing out.new) (E.writing err.old, E.writing err.new) result }
 {
     let made = text_of_rules(alloc, only);
@@ -29,7 +29,7 @@ pub fn tell_rules<O: Sink, E: Sink>(
 }
 
 fn text_of_rules(alloc: Global, only: Option<Rule>) -> Result<Text, Refusal>
-    ensures { IsText result }
+    ensures { AreGuides only result }
 {
     match rules_text(alloc, only) {
         Ok(text) => Ok(text),
