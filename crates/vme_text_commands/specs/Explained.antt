@@ -16,6 +16,7 @@ use Rattle.vme_stream.specs.Inputs.{IsReading}
 use Rattle.vme_stream.specs.Texts.{line_of, verdict_status, verdict_text}
 use Rattle.vme_commands.specs.Settled.{settled_judgement}
 use Rattle.vme_skew.specs.Settled.{settled_or}
+use Rattle.vme_text.specs.Escaping.{IsVisible}
 use Rattle.vme_text_commands.specs.Refused.{HasRefusalPage, refusal_with}
 use Rattle.vme_text_commands.specs.TextAnswers.{text_answer}
 
@@ -25,11 +26,13 @@ judged_by skew bound dump = do
   t ← settled_or skew (capture_by bound dump)
   verdict_in_blocks 16384 t
 
--- the text begins with the line of the verdict, as a check writes it
+-- the text begins with the line of the verdict, as a check writes it, and then has visible characters, spaces and line
+-- feeds alone
 abbrev pub BeginsWithLine : Explained → Type 0
-BeginsWithLine told = (rest : List ℕ) × (told.text ≡ line_of (verdict_text told.verdict) ++ rest)
+BeginsWithLine told =
+    (rest : List ℕ) × IsVisible rest × (told.text ≡ line_of (verdict_text told.verdict) ++ rest)
 
--- the text begins with the line of the verdict, and there is a picture
+-- the text begins with the line of the verdict, and then is visible; and there is a picture
 abbrev pub IsExplainedWhole : Explained → Type 0
 IsExplainedWhole told = BeginsWithLine told × IsPicture told.files.picture
 

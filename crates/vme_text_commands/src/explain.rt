@@ -13,6 +13,7 @@ ghost use Rattle.vme_text_commands.specs.Refused.{HasRefusalPage};
 ghost use Rattle.vme_commands.specs.Settled.{settled_judgement};
 ghost use Rattle.vme_picture.specs.Pictures.{IsPicture};
 ghost use Rattle.vme_skew.specs.Settled.{settled_or};
+ghost use Rattle.vme_text.specs.Escaping.{IsVisible};
 ghost use Rattle.vme_stream.specs.Inputs.{IsReading};
 ghost use Rattle.vme_trace.specs.Trace.{Trace};
 ghost use Rattle.vme_trace.specs.WellFormed.{malformed_step};
@@ -378,13 +379,22 @@ fn told_of(
     })
 }
 
-/// The line of a verdict, and then why.
+/// The line of a verdict, and then why, in visible characters, spaces and line feeds alone.
 fn whole_text(alloc: Global, verdict: &Verdict, subject: &Subject<'_>) -> Result<Text, AllocError>
-    ensures { IfOk result (λ text. (rest : List ℕ) × (text ≡ line_of (verdict_text verdict.now) ++ rest)) }
+    ensures { IfOk result (λ text. (rest : List ℕ) × IsVisible rest
+        × (text ≡ line_of (verdict_text verdict.now) ++ rest)) }
+{
+    let rest = explanation(alloc, subject)?;
+    let text = text_after_line(alloc, verdict, &rest)?;
+    Ok(text)
+}
+
+/// The line of a verdict, and then `rest`.
+fn text_after_line(alloc: Global, verdict: &Verdict, rest: &Text) -> Result<Text, AllocError>
+    ensures { IfOk result (λ text. text ≡ line_of (verdict_text verdict.now) ++ rest.now) }
 {
     let mut text = Text::new(alloc);
     text.push(verdict_line(verdict).as_bytes())?;
-    let rest = explanation(alloc, subject)?;
     text.push(rest.as_bytes())?;
     Ok(text)
 }

@@ -15,9 +15,10 @@
 //!
 //! # What is proved
 //!
-//! - `explain` begins with the line that `check` writes, and has its status (`Explains`). It returns
-//!   the files of its explanation, and none after a refusal (`ExplainsWith`); what it draws is a
-//!   picture (`drawn`).
+//! - `explain` begins with the line that `check` writes, and has its status (`Explains`). After this
+//!   line it has visible characters, spaces and line feeds alone (`IsVisible`). It returns the files
+//!   of its explanation, and none after a refusal (`ExplainsWith`); what it draws is a picture
+//!   (`drawn`).
 //! - `bind` writes only a binding that makes a recording of that dump (`IsBindingFor`).
 //! - `faults` writes exactly the page of a kind, or the pages of all (`ArePages`); `rules` exactly the
 //!   guide of a rule, or the guides of all (`AreGuides`).
