@@ -18,15 +18,16 @@
 //! # What is proved
 //!
 //! [`line_characters`] gives the characters of levels. [`driver_of`] is the driver of a net.
-//! [`save_refusal`] refuses to write over an input and over what this program didn't write.
-//! [`is_save_file`] recognizes what [`save_file`] writes. An [`explanation`] has only visible
-//! characters, spaces and line feeds, whatever the names are. The counts, the open rows, the levels
-//! and the other events in it are those of the account, and vme_account proves those.
+//! [`save_refusal`] refuses to write over an input and over what this program didn't write, and
+//! [`save_refusal_text`] is exactly the line that says so. [`is_save_file`] recognizes what
+//! [`save_file`] writes. An [`explanation`] has only visible characters, spaces and line feeds,
+//! whatever the names are. The counts, the open rows, the levels and the other events in it are those
+//! of the account, and vme_account proves those.
 //!
 //! # What isn't proved
 //!
-//! How the text is arranged and what it says: `tests/texts` compares it with the kept text of each
-//! example. What GTKWave makes of a save file.
+//! How an explanation is arranged and what it says: `tests/texts` compares it with the kept text of
+//! each example. What GTKWave makes of a save file.
 //!
 //! # Limits
 //!

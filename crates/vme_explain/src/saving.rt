@@ -1,7 +1,8 @@
 //! Whether a file may be written over what is at its path, and the text if it may not.
 
-ghost use Rattle.std.specs.Prelude.{◌≡◌};
-ghost use Rattle.vme_explain.specs.Saving.{is_one_file, is_same, is_this_file, save_refusal};
+ghost use Rattle.std.specs.Prelude.{◌≡◌, IfOk};
+ghost use Rattle.vme_explain.specs.Saving.{is_one_file, is_same, is_this_file, refusal_reason, save_refusal};
+ghost use Rattle.vme_explain.specs.Saving.{save_refusal_text};
 
 use std::alloc::{AllocError, Global};
 use vme_text::{Text, push_escaped};
@@ -85,20 +86,29 @@ pub fn save_refusal(entry: &PathEntry, binding: FileId, dump: FileId) -> Option<
     }
 }
 
+/// Why a file isn't written, as the end of a line.
+fn refusal_reason(refusal: SaveRefusal) -> &'static [u8]
+    ensures { result.now ≡ refusal_reason refusal }
+{
+    match refusal {
+        SaveRefusal::Binding => b": it is the binding\n",
+        SaveRefusal::Dump => b": it is the dump\n",
+        SaveRefusal::Foreign => b": it is there, and vmecheck didn't write it\n",
+        SaveRefusal::Shared => b": two files are wanted there\n",
+    }
+}
+
 /// The message that the file of this path isn't written. The only error is want of memory.
 pub fn save_refusal_text(
     alloc: Global,
     path: &str,
     refusal: SaveRefusal,
-) -> Result<Text, AllocError> {
+) -> Result<Text, AllocError>
+    ensures { IfOk result (λ text. text ≡ save_refusal_text path.now refusal) }
+{
     let mut text = Text::new(alloc);
     text.push(b"vmecheck: nothing is written over ")?;
     push_escaped(&mut text, alloc, path.as_bytes())?;
-    match refusal {
-        SaveRefusal::Binding => text.push(b": it is the binding\n")?,
-        SaveRefusal::Dump => text.push(b": it is the dump\n")?,
-        SaveRefusal::Foreign => text.push(b": it is there, and vmecheck didn't write it\n")?,
-        SaveRefusal::Shared => text.push(b": two files are wanted there\n")?,
-    }
+    text.push(refusal_reason(refusal))?;
     Ok(text)
 }

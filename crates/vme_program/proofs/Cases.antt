@@ -7,9 +7,10 @@ pub MatchOption-some : {X : Type 0} (w : Option X) (x : X) (A : Type 0) (B : X �
     → MatchOption w A B
 MatchOption-some {X} w x A B is holds = let P : Option X → Type 0 = λ v. MatchOption v A B in subst P (sym is) holds
 
--- from `A`, and by the case of `o` `B` or `D`: `A` and `B` if `o` is `None`, and else `C` or `D`
-pub MatchOption-each_of_two : {X : Type 0} (o : Option X) (A B C D : Type 0) → A → MatchOption o B (λ x. D)
-    → MatchOption o (A × B) (λ x. C ⊎ D)
+-- from `A`, and by the case of `o` `B` or `D` of its value: `A` and `B` if `o` is `None`, and else `C` or `D` of its
+-- value
+pub MatchOption-each_of_two : {X : Type 0} (o : Option X) (A B : Type 0) (C D : X → Type 0) → A → MatchOption o B D
+    → MatchOption o (A × B) (λ x. C x ⊎ D x)
 MatchOption-each_of_two None A B C D first second = (first, second)
 MatchOption-each_of_two (Some x) A B C D first second = inr second
 

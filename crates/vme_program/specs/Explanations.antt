@@ -13,6 +13,7 @@ use Rattle.vme_explain.specs.Saving.{is_one_file}
 use Rattle.vme_explain.specs.declared.saving.FileId.{FileId}
 use Rattle.vme_explain.specs.declared.saving.PathEntry.{PathEntry}
 use Rattle.vme_explain.specs.declared.saving.SaveRefusal.{SaveRefusal}
+use Rattle.vme_explain.specs.declared.saving.SaveRefusal.TheVariants.{Shared}
 use Rattle.vme_picture.specs.Pictures.{IsPicture}
 use Rattle.vme_stream.specs.Outputs.{Writes}
 use Rattle.vme_words.specs.declared.order.ExplainOrder.{ExplainOrder}
@@ -42,25 +43,25 @@ module _ {S R : Type 0} (outside : Environment S R) (s : S) where
       (a b : PathEntry) × outside.has_entry s one a × outside.has_entry s other b
       × (both ≡ (bytes_eq one other || is_one_file a b))
 
-  -- not both files are wanted, or they are wanted at two places; `AreShared`: both are wanted at one place
+  -- not both files are wanted, or they are wanted at two places; `AreShared`: both are wanted at one place, and the
+  -- refusal of the picture's path says so
   abbrev pub AreApart : Option (List ℕ) → Option (List ℕ) → Type 0
   AreApart viewer picture =
       MatchOption viewer (Unit {0}) (λ one. MatchOption picture (Unit {0}) (λ other. IsOnePlace one other false))
 
-  abbrev pub AreShared : Option (List ℕ) → Option (List ℕ) → Type 0
-  AreShared viewer picture =
-      (one other : List ℕ) × (viewer ≡ Some one) × (picture ≡ Some other) × IsOnePlace one other true
+  abbrev pub AreShared : Option (List ℕ) → Option (List ℕ) → List ℕ → SaveRefusal → Type 0
+  AreShared viewer picture path refusal =
+      (one : List ℕ) × (viewer ≡ Some one) × (picture ≡ Some path) × (refusal ≡ Shared) × IsOnePlace one path true
 
   module _ (inputs : InputIds) where
     -- a file may be written at this path, if one is wanted there
     abbrev pub IsAllowed : Option (List ℕ) → Type 0
     IsAllowed word = MatchOption word (Unit {0}) (λ path. MayBeSaved (outside.has_entry s) path inputs None)
 
-    -- a file is wanted at this path, and may not be written there
-    abbrev pub IsRefusedAt : Option (List ℕ) → Type 0
-    IsRefusedAt word =
-        (path : List ℕ) × (refusal : SaveRefusal) × (word ≡ Some path)
-        × MayBeSaved (outside.has_entry s) path inputs (Some refusal)
+    -- a file is wanted at `path`, and may not be written there: `refusal` is why
+    abbrev pub IsRefusedAt : Option (List ℕ) → List ℕ → SaveRefusal → Type 0
+    IsRefusedAt word path refusal =
+        (word ≡ Some path) × MayBeSaved (outside.has_entry s) path inputs (Some refusal)
 
     -- `bytes` are put at this path, if a file is wanted there
     abbrev pub SavesIfAsked : Option (List ℕ) → List ℕ → ℕ → Writing × Writing → ℕ → Type 0
@@ -70,20 +71,22 @@ module _ {S R : Type 0} (outside : Environment S R) (s : S) where
         (λ path. Saves (outside.has_entry s) (outside.replaces s) path inputs bytes first err status)
 
   module _ (order : ExplainOrder) where
-    -- each file that is wanted may be written; `OneIsRefused`: one that is wanted may not
+    -- each file that is wanted may be written; `OneIsRefused`: one that is wanted, at this path, may not, and why
     abbrev pub EachIsAllowed : InputIds → Type 0
     EachIsAllowed inputs = IsAllowed inputs (viewer_word order) × IsAllowed inputs (picture_word order)
 
-    abbrev pub OneIsRefused : InputIds → Type 0
-    OneIsRefused inputs = IsRefusedAt inputs (viewer_word order) ⊎ IsRefusedAt inputs (picture_word order)
+    abbrev pub OneIsRefused : InputIds → List ℕ → SaveRefusal → Type 0
+    OneIsRefused inputs path refusal =
+        IsRefusedAt inputs (viewer_word order) path refusal ⊎ IsRefusedAt inputs (picture_word order) path refusal
 
-    -- each file that is wanted may be written, and not both at one place; `IsRefused`: one may not, or both are at one
-    -- place
+    -- each file that is wanted may be written, and not both at one place; `IsRefused`: one may not, at this path, or
+    -- both are at this one, and why
     abbrev pub AreAllowed : InputIds → Type 0
     AreAllowed inputs = EachIsAllowed inputs × AreApart (viewer_word order) (picture_word order)
 
-    abbrev pub IsRefused : InputIds → Type 0
-    IsRefused inputs = OneIsRefused inputs ⊎ AreShared (viewer_word order) (picture_word order)
+    abbrev pub IsRefused : InputIds → List ℕ → SaveRefusal → Type 0
+    IsRefused inputs path refusal =
+        OneIsRefused inputs path refusal ⊎ AreShared (viewer_word order) (picture_word order) path refusal
 
     -- the viewer's file is written and then the picture, each if it is wanted
     abbrev pub SavesFiles : InputIds → List ℕ → List ℕ → ℕ → Writing × Writing → ℕ → Type 0
@@ -107,11 +110,13 @@ module _ {S R : Type 0} (outside : Environment S R) (s : S) where
         × ExplainsWith order.skew binding dump given out (err.0, said) first
         × SavesGiven inputs given first (said, err.1) status
 
-    -- if one of the files may not be written, nothing is; else the recording is explained, and the files are written
+    -- if one of the files may not be written, a line says at which path, and why, and nothing else is written; else the
+    -- recording is explained, and the files are written
     abbrev pub ExplainsUnlessRefused : InputIds → Reading × Reading → Reading × Reading
         → Writing × Writing → Writing × Writing → ℕ → Type 0
     ExplainsUnlessRefused inputs binding dump out err status =
-        (IsRefused inputs × Writes out.0 out.1 [] × RefusesPlace err status)
+        ((path : List ℕ) × (refusal : SaveRefusal) × IsRefused inputs path refusal × Writes out.0 out.1 []
+        × RefusesPlace path refusal err status)
         ⊎ (AreAllowed inputs × ExplainsThenSaves inputs binding dump out err status)
 
     -- it can't be determined which file an input is: the message is that it can't be opened

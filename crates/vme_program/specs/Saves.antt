@@ -3,7 +3,7 @@ use Rattle.std.specs.Prelude.{◌≡◌, ◌⊎◌, ℕ, List, Option, None, Som
 use Rattle.vme_trace.specs.Streams.{Writing}
 use Rattle.vme_stream.specs.Texts.{cannot_write_text, line_of, refusal_text}
 use Rattle.vme_stream.specs.declared.refusal.Refusal.TheVariants.{Memory}
-use Rattle.vme_explain.specs.Saving.{save_refusal}
+use Rattle.vme_explain.specs.Saving.{save_refusal, save_refusal_text}
 use Rattle.vme_explain.specs.declared.saving.PathEntry.{PathEntry}
 use Rattle.vme_explain.specs.declared.saving.SaveRefusal.{SaveRefusal}
 use Rattle.vme_stream.specs.Outputs.{TriesToWrite}
@@ -15,10 +15,10 @@ use Rattle.vme_program.specs.declared.environment.WriteResult.TheVariants as wri
 abbrev pub TellsNoMemory : Writing × Writing → ℕ → Type 0
 TellsNoMemory err status = TriesToWrite err.0 err.1 (line_of (refusal_text Memory)) × (status ≡ 4)
 
--- what is at the path may not be overwritten, and a text says so; or memory ran out
-abbrev pub RefusesPlace : Writing × Writing → ℕ → Type 0
-RefusesPlace err status =
-    ((text : List ℕ) × TriesToWrite err.0 err.1 text × (status ≡ 3)) ⊎ TellsNoMemory err status
+-- a line says that no file is written at the path, and why; or memory ran out
+abbrev pub RefusesPlace : List ℕ → SaveRefusal → Writing × Writing → ℕ → Type 0
+RefusesPlace path refusal err status =
+    (TriesToWrite err.0 err.1 (save_refusal_text path refusal) × (status ≡ 3)) ⊎ TellsNoMemory err status
 
 -- `refusal` is why no file may be written at the path, by what is there, or `None` if one may
 abbrev pub MayBeSaved : (List ℕ → PathEntry → Type 0) → List ℕ → InputIds → Option SaveRefusal → Type 0
@@ -37,6 +37,7 @@ module _ (has_entry : List ℕ → PathEntry → Type 0) (replaces : List ℕ �
   -- `bytes` are put at the path, unless what is there may not be overwritten
   abbrev pub Saves : List ℕ → ℕ → Writing × Writing → ℕ → Type 0
   Saves bytes first err status =
-      ((refusal : SaveRefusal) × MayBeSaved has_entry path inputs (Some refusal) × RefusesPlace err status)
+      ((refusal : SaveRefusal) × MayBeSaved has_entry path inputs (Some refusal)
+      × RefusesPlace path refusal err status)
       ⊎ (MayBeSaved has_entry path inputs None
       × ((end : WriteResult) × replaces path bytes end × EndsWriting end first err status))

@@ -151,7 +151,7 @@ fn refused_place<'a, S: Environment>(
     inputs: InputIds,
 ) -> Option<RefusedPlace<'a>>
     ensures { MatchOption result (AreAllowed S.Environment environment.now order.now inputs)
-        (λ place. IsRefused S.Environment environment.now order.now inputs) }
+        (λ place. IsRefused S.Environment environment.now order.now inputs place.path.now place.refusal) }
 {
     match refused_at_either(environment, order, inputs) {
         Some(place) => Some(place),
@@ -166,7 +166,7 @@ fn refused_at_either<'a, S: Environment>(
     inputs: InputIds,
 ) -> Option<RefusedPlace<'a>>
     ensures { MatchOption result (EachIsAllowed S.Environment environment.now order.now inputs)
-        (λ place. OneIsRefused S.Environment environment.now order.now inputs) }
+        (λ place. OneIsRefused S.Environment environment.now order.now inputs place.path.now place.refusal) }
 {
     match refused_at(environment, viewer_path(order), inputs) {
         Some(place) => Some(place),
@@ -184,7 +184,8 @@ fn shared_place<'a, S: Environment>(
         (AreApart S.Environment environment.now
         (option_map (λ path. path.now) viewer.entry) (option_map (λ path. path.now) picture.entry))
         (λ place. AreShared S.Environment environment.now
-        (option_map (λ path. path.now) viewer.entry) (option_map (λ path. path.now) picture.entry)) }
+        (option_map (λ path. path.now) viewer.entry) (option_map (λ path. path.now) picture.entry)
+        place.path.now place.refusal) }
 {
     match viewer {
         Some(viewer) => shared_with_viewer(environment, viewer, picture),
@@ -201,7 +202,7 @@ fn shared_with_viewer<'a, S: Environment>(
     ensures { MatchOption result
         (AreApart S.Environment environment.now (Some viewer.now) (option_map (λ path. path.now) picture.entry))
         (λ place. AreShared S.Environment environment.now (Some viewer.now)
-        (option_map (λ path. path.now) picture.entry)) }
+        (option_map (λ path. path.now) picture.entry) place.path.now place.refusal) }
 {
     match picture {
         Some(picture) => shared_picture_place(environment, viewer, picture),
@@ -216,7 +217,8 @@ fn shared_picture_place<'a, S: Environment>(
     picture: &'a str,
 ) -> Option<RefusedPlace<'a>>
     ensures { MatchOption result (AreApart S.Environment environment.now (Some viewer.now) (Some picture.now))
-        (λ place. AreShared S.Environment environment.now (Some viewer.now) (Some picture.now)) }
+        (λ place. AreShared S.Environment environment.now (Some viewer.now) (Some picture.now)
+        place.path.now place.refusal) }
 {
     if is_one_place(environment, viewer, picture) {
         Some(RefusedPlace {
@@ -246,7 +248,8 @@ fn refused_at<'a, S: Environment>(
 ) -> Option<RefusedPlace<'a>>
     ensures { MatchOption result
         (IsAllowed S.Environment environment.now inputs (option_map (λ path. path.now) wanted.entry))
-        (λ place. IsRefusedAt S.Environment environment.now inputs (option_map (λ path. path.now) wanted.entry)) }
+        (λ place. IsRefusedAt S.Environment environment.now inputs (option_map (λ path. path.now) wanted.entry)
+        place.path.now place.refusal) }
 {
     match wanted {
         Some(path) => refusal_of(environment, path, inputs),
@@ -261,7 +264,8 @@ fn refusal_of<'a, S: Environment>(
     inputs: InputIds,
 ) -> Option<RefusedPlace<'a>>
     ensures { MatchOption result (IsAllowed S.Environment environment.now inputs (Some path.now))
-        (λ place. IsRefusedAt S.Environment environment.now inputs (Some path.now)) }
+        (λ place. IsRefusedAt S.Environment environment.now inputs (Some path.now)
+        place.path.now place.refusal) }
 {
     match refusal_at(environment, path, inputs) {
         Some(refusal) => Some(RefusedPlace { path, refusal }),

@@ -22,10 +22,11 @@
 //!   crates of commands say of the files and numbers that the arguments name (`specs/Programs`).
 //! - The binding is opened, then the dump, then the listing (`WithRecording`, `WithInput`). A message
 //!   names the first that can't be opened, with status 3, and nothing else is written.
-//! - With `--gtkw` or `--svg` nothing is written where one of these files may not be written, by
-//!   what is there; else the explanation is that without them, and where there is one, each file
-//!   that is asked for is put at its path or the status says that it isn't (`ExplainsAndSaves`).
-//!   What is put for `--svg` is a picture: well nested markup in which every name is escaped.
+//! - With `--gtkw` or `--svg`, where one of these files may not be written, by what is there, exactly
+//!   a line is written that says at which path, and why (`RefusesPlace`). Else the explanation is
+//!   that without them, and where there is one, each file that is asked for is put at its path or
+//!   the status says that it isn't (`ExplainsAndSaves`). What is put for `--svg` is a picture: well
+//!   nested markup in which every name is escaped.
 //! - In an audit the binding is opened, and then each dump in order; a message names the first that
 //!   can't be, with status 3, and nothing is read. What is written of the dumps, with the binding
 //!   and the other arguments, is what vme_audit_command says of these files. Test cases go into the

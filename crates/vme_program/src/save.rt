@@ -73,7 +73,7 @@ pub(crate) fn refuse_place<E: Sink>(
     refusal: SaveRefusal,
     err: &mut E,
 ) -> u8
-    ensures { RefusesPlace (E.writing err.old, E.writing err.new) result }
+    ensures { RefusesPlace path.now refusal (E.writing err.old, E.writing err.new) result }
 {
     match save_refusal_text(alloc, path, refusal) {
         Ok(text) => {
