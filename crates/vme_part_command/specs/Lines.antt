@@ -1,6 +1,7 @@
 -- The lines that are written about parts, without their line feeds.
 use Rattle.std.specs.Prelude.{ℕ, Bool, true, false, List, ◌++◌, codes, decimal}
 use Rattle.vme_stream.specs.Texts.{verdict_text}
+use Rattle.vme_audit_lines.specs.AuditLines.{head_of}
 use Rattle.vme_part_format.specs.declared.fault.PartFault.{PartFault}
 use Rattle.vme_part_format.specs.declared.fault.PartFaultKind.{PartFaultKind}
 use Rattle.vme_part_format.specs.declared.fault.PartFaultKind.TheVariants as fault
@@ -14,9 +15,9 @@ refusing_text what = codes "vmecheck: " ++ what
 abbrev pub part_text : ℕ → List ℕ → List ℕ
 part_text number what = codes "vmecheck: part " ++ decimal number ++ what
 
--- the line that says `what` of the input `name`
+-- the line that says `what` of the input `name`, which is shown as at the beginning of each line of an audit
 abbrev pub input_text : List ℕ → List ℕ → List ℕ
-input_text name what = codes "vmecheck: " ++ name ++ codes ": " ++ what
+input_text name what = codes "vmecheck: " ++ head_of name ++ what
 
 abbrev pub byte_text : ℕ → List ℕ → List ℕ
 byte_text place kind = codes "byte " ++ decimal place ++ codes ": " ++ kind

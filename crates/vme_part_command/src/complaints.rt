@@ -9,6 +9,7 @@ ghost use Rattle.vme_part_command.specs.PartAnswers.{Complains, ComplainsUnlessM
 ghost use Rattle.vme_part_command.specs.Lines.{input_text};
 
 use std::alloc::{AllocError, Global};
+use vme_audit_lines::dump_head;
 use vme_stream::{Message, Refusal, complain, refusal_line, write_all};
 use vme_text::Text;
 use vme_trace::Sink;
@@ -40,13 +41,14 @@ fn tell_bytes<E: Sink>(err: &mut E, bytes: &[u8])
     }
 }
 
+/// The line that `what` is wrong with the input `name`, in which bytes that a line can't have are `?`.
 fn input_line(alloc: Global, name: &[u8], what: &[u8]) -> Result<Text, AllocError>
     ensures { IfOk result (λ text. text ≡ line_of (input_text name.now what.now)) }
 {
+    let head = dump_head(alloc, name)?;
     let mut text = Text::new(alloc);
     text.push(b"vmecheck: ")?;
-    text.push(name)?;
-    text.push(b": ")?;
+    text.push(head.as_bytes())?;
     text.push(what)?;
     text.push(b"\n")?;
     Ok(text)

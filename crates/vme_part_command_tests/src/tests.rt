@@ -579,6 +579,29 @@ fn tells_failed_read(alloc: Global, part: &[u8], place: usize) -> Option<bool> {
     Some(answers(alloc, &mut inputs, None, false, 1000, wanted))
 }
 
+/// Whether `tell` and `join` refuse an input whose name has a line feed and an escape in one line, with `?` for these.
+fn refuses_in_one_line(alloc: Global) -> bool {
+    let wanted = ("", "vmecheck: a??.part: no part\n", 3);
+    let mut inputs = [NamedPart {
+        name: b"a\n\x1B.part",
+        part: Bytes::new("vmecheck".as_bytes()),
+    }];
+    let is_told = answers(alloc, &mut inputs, None, false, 1000, wanted);
+    let mut again = [NamedPart {
+        name: b"a\n\x1B.part",
+        part: Bytes::new("vmecheck".as_bytes()),
+    }];
+    let mut out = Page::new(alloc, 1000);
+    let mut err = Page::new(alloc, 1000);
+    let status = write_joined(alloc, &mut again, &mut out, &mut err);
+    is_told && has_told(&out, &err, status, wanted)
+}
+
+#[test]
+fn a_name_is_shown_in_one_line(rt: HostRuntime) {
+    assert!(rt; refuses_in_one_line(rt.alloc()));
+}
+
 /// After how many bytes a read fails.
 static PLACES: [usize; 5] = [0, 1, 8, 100, 1000];
 
