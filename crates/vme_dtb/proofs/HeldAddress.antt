@@ -28,7 +28,7 @@ use Rattle.vme_trace.proofs.OpenTransfers.{suc-sub-one, is_judged-holds}
 use Rattle.vme_trace.proofs.Ranges.{any-alike, any-fails, any-holds, any-least, fails-any, least-found, least-none}
 use Rattle.vme_trace.proofs.Ranges.{least-none-any}
 use Rattle.vme_monitor.proofs.StretchFacts.{IsStretch}
-use Rattle.vme_dtb.specs.StabilityRules.{address_moved, moved_fault, observation_of, stability_rules}
+use Rattle.vme_dtb.specs.StabilityRules.{changed_need_line, changed_need_fault, observation_of, stability_rules}
 use Rattle.vme_dtb.specs.declared.holding.Holding.{Holding}
 use Rattle.vme_dtb.proofs.ChangedLines.{is_changed-edge, first_among-least, same_level-refl}
 use Rattle.vme_dtb.proofs.Needed.{needs_of-below, needs_of-same}
@@ -387,7 +387,7 @@ module _ (t : Trace) (stretch : Stretch) where
 
       -- the least line that breaks S1 is the first changed line that is needed, if lines are still held
       least-S1_by_held : (b : Bool) → still_held ≡ b → least (breaks t stretch S1 (suc n)) 0 line_count
-          ≡ cond b (address_moved old cs) None
+          ≡ cond b (changed_need_line old cs) None
       least-S1_by_held true held = sym (rw (is_low-still_held held) (first_among-least (breaks t stretch S1 (suc n))
           (is_within (needs_of old))
           line_count is_within-below_line_count old 0 cs fit breaks-S1_unchanged (breaks-S1_changed held)))
@@ -405,6 +405,6 @@ module _ (t : Trace) (stretch : Stretch) where
 
       -- the least line that breaks S1 is the line of the machine's fault
       pub least-S1 : (m : Holding) → Holds t stretch n m → least (breaks t stretch S1 (suc n)) 0 line_count
-          ≡ moved_fault m old new (observation_of old new cs)
+          ≡ changed_need_fault m old new (observation_of old new cs)
       least-S1 m holds = rw (keeps_address-any t stretch facts.reads n from before m holds)
           (least-S1_by_held still_held refl)

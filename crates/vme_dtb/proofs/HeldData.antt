@@ -32,7 +32,7 @@ use Rattle.vme_monitor.specs.declared.tracking.TransferPhase.{TransferPhase}
 use Rattle.vme_monitor.specs.declared.tracking.TransferPhase.TheVariants.{Closed, Reading, Writing, Answered}
 use Rattle.vme_monitor.proofs.TrackedTransfers.{IsIn, Enters, Enters-entered}
 use Rattle.vme_dtb.specs.HoldingNumbers.{has_risen, writes_of}
-use Rattle.vme_dtb.specs.StabilityRules.{is_shifted, is_undriven, keeps_data, kept, may_write, shifted_fault}
+use Rattle.vme_dtb.specs.StabilityRules.{is_changed_data, is_undriven, keeps_data, kept, may_write, changed_data_fault}
 use Rattle.vme_dtb.specs.StabilityRules.{observation_of, stability_rules, undriven_fault, writes_now}
 use Rattle.vme_dtb.specs.declared.holding.Holding.{Holding}
 use Rattle.vme_dtb.proofs.AskedLines.{least-condition}
@@ -127,9 +127,9 @@ may_write-of_write false l d z e = refl
 
 -- if the instant is judged, and the data of a write is held, S3 is broken on a line exactly if the line exists, is
 -- moved by the transfer and gets another level
-shifted-by_tests : (j h s e q k d : Bool) → j ≡ true → q ≡ (k && d) → (k && d) ≡ true → (j && h && (s && e && q))
+changed_data-by_tests : (j h s e q k d : Bool) → j ≡ true → q ≡ (k && d) → (k && d) ≡ true → (j && h && (s && e && q))
     ≡ (h && h && (s && e))
-shifted-by_tests j h s e q k d jt qk kd = rw (jt, qk, kd) (by_tests h s e)
+changed_data-by_tests j h s e q k d jt qk kd = rw (jt, qk, kd) (by_tests h s e)
   where
     by_tests : (h s e : Bool) → (true && h && (s && e && true)) ≡ (h && h && (s && e))
     by_tests true true true = refl
@@ -142,8 +142,8 @@ shifted-by_tests j h s e q k d jt qk kd = rw (jt, qk, kd) (by_tests h s e)
     by_tests false false false = refl
 
 -- S3 isn't broken on a line if no data is held
-shifted-not_held : (j h s e q : Bool) → q ≡ false → (j && h && (s && e && q)) ≡ false
-shifted-not_held j h s e q x = grind (arith, nat_tests)
+changed_data-not_held : (j h s e q : Bool) → q ≡ false → (j && h && (s && e && q)) ≡ false
+changed_data-not_held j h s e q x = grind (arith, nat_tests)
 
 module _ (t : Trace) (stretch : Stretch) (reads : ReadsStrobes t stretch) (n : ℕ) (from : stretch.start ≤ n)
     (before : suc n < stretch.end) (m : Holding) (holds : Holds t stretch n m)
@@ -369,36 +369,36 @@ module _ (t : Trace) (stretch : Stretch) (reads : ReadsStrobes t stretch) (n : �
   unfolding breaks is_broken has_edge
   breaks-S3 l = rw (suc-sub-one n) refl
 
-  -- while data is held, S3 is broken on a line exactly if it is shifted
-  breaks-is_shifted : keeps_data m old new ≡ true → is_low (level_at old WRITE) ≡ true → (l : ℕ)
+  -- while data is held, S3 is broken on a line exactly if it is a changed data line
+  breaks-is_changed_data : keeps_data m old new ≡ true → is_low (level_at old WRITE) ≡ true → (l : ℕ)
       → breaks t stretch S3 (suc n) l
-      ≡ is_shifted old new l
-  breaks-is_shifted k d l =
+      ≡ is_changed_data old new l
+  breaks-is_changed_data k d l =
       breaks-S3 l
-      ∙ shifted-by_tests (is_judged stretch (suc n)) (has_line t.opening.slots l) (is_selected old l)
+      ∙ changed_data-by_tests (is_judged stretch (suc n)) (has_line t.opening.slots l) (is_selected old l)
       (not (same_level (level_at old l) (level_at new l))) (in_transfer t stretch is_held (suc n))
       (keeps_data m old new)
       (is_low (level_at old WRITE))
       (is_judged-next t stretch reads n from before) in_transfer-keeps_data (rw (k, d) refl)
       ∙ rw (slots_at t n, slots_at t (suc n)) refl
 
-  -- a line that is shifted is below `line_count`
-  is_shifted-below : (l : ℕ) → is_shifted old new l ≡ true → l < line_count
-  is_shifted-below l h = let within : l < 191 = is_selected-to old l
+  -- a changed data line is below `line_count`
+  is_changed_data-below : (l : ℕ) → is_changed_data old new l ≡ true → l < line_count
+  is_changed_data-below l h = let within : l < 191 = is_selected-to old l
       (and_parts _ _ (and_parts (has_line old.slots l && has_line new.slots l) _ h).1).0 in omega arith
 
   -- if no data is held, S3 is broken on no line
   least-S3_none : (cs : List Change) → (keeps_data m old new && is_low (level_at old WRITE)) ≡ false
       → least (breaks t stretch S3 (suc n)) 0 line_count ≡ None
   least-S3_none cs h = least-none (breaks t stretch S3 (suc n)) 0 line_count (fails-any (breaks t stretch S3 (suc n)) 0
-      line_count (λ l a b. breaks-S3 l ∙ shifted-not_held (is_judged stretch (suc n)) (has_line t.opening.slots l)
+      line_count (λ l a b. breaks-S3 l ∙ changed_data-not_held (is_judged stretch (suc n)) (has_line t.opening.slots l)
       (is_selected old l) (not (same_level (level_at old l) (level_at new l))) (in_transfer t stretch is_held (suc n))
       (in_transfer-keeps_data ∙ h)))
 
   -- the least line that breaks S3 is the first changed line that a write moved, without an answer and a rising strobe
   -- so far
   pub least-S3 : (cs : List Change) → new ≡ changed old cs → are_changes old 0 cs ≡ true
-      → least (breaks t stretch S3 (suc n)) 0 line_count ≡ shifted_fault m old new (observation_of old new cs)
+      → least (breaks t stretch S3 (suc n)) 0 line_count ≡ changed_data_fault m old new (observation_of old new cs)
   least-S3 cs stepped fit = by_tests (keeps_data m old new) (is_low (level_at old WRITE)) refl refl
       ∙ sym (kept-cond (keeps_data m old new) _)
     where
@@ -410,9 +410,9 @@ module _ (t : Trace) (stretch : Stretch) (reads : ReadsStrobes t stretch) (n : �
           no_edge a b c d = grind (arith, nat_tests)
 
       by_tests : (k d : Bool) → keeps_data m old new ≡ k → is_low (level_at old WRITE) ≡ d
-          → least (breaks t stretch S3 (suc n)) 0 line_count ≡ cond k (observation_of old new cs).shifted None
+          → least (breaks t stretch S3 (suc n)) 0 line_count ≡ cond k (observation_of old new cs).changed_data None
       by_tests true true ke de =
-          sym (rw de (first_among-least (breaks t stretch S3 (suc n)) (is_shifted old new) line_count
-          is_shifted-below old 0 cs fit unchanged (λ l h. breaks-is_shifted ke de l)))
+          sym (rw de (first_among-least (breaks t stretch S3 (suc n)) (is_changed_data old new) line_count
+          is_changed_data-below old 0 cs fit unchanged (λ l h. breaks-is_changed_data ke de l)))
       by_tests true false ke de = least-S3_none cs (rw (ke, de) refl) ∙ sym (rw de refl)
       by_tests false d ke de = least-S3_none cs (rw ke refl)

@@ -1,4 +1,4 @@
--- What a change of a held line breaks, if no needed line moved, or the needed lines aren't held.
+-- What a change of a held line breaks, if no needed line changed, or the needed lines aren't held.
 use Rattle.std.proofs.Common.{◌≡◌, ℕ, Bool, true, false, refl, ap}
 use Rattle.std.specs.Prelude.{Option, None, Some, if◌then◌else◌}
 use Rattle.std.specs.Option.{is_some, option_or}
@@ -6,7 +6,7 @@ use Rattle.std.proofs.Math.Bool.{and-false}
 use Rattle.vme_trace.specs.LineNumbers.{WRITE}
 use Rattle.vme_trace.specs.Levels.{Levels}
 use Rattle.vme_trace.specs.declared.rule.Rule.TheVariants.{S1, S2}
-use Rattle.vme_dtb.specs.StabilityRules.{fault_on, held_fault, keeps_address, keeps_direction, moved_fault}
+use Rattle.vme_dtb.specs.StabilityRules.{fault_on, held_fault, keeps_address, keeps_direction, changed_need_fault}
 use Rattle.vme_dtb.specs.StabilityRules.{turned_fault}
 use Rattle.vme_dtb.specs.declared.holding.Holding.{Holding}
 use Rattle.vme_dtb.specs.declared.observation.HoldingObservation.{HoldingObservation}
@@ -18,13 +18,13 @@ cond-none false None h = refl
 cond-none b (Some l) h = absurd (cc)
 
 module _ (m : Holding) (v w : Levels) (seen : HoldingObservation) where
-  -- if no needed line moved, S1 isn't broken
-  pub moved_fault-no_line : is_some seen.moved ≡ false → moved_fault m v w seen ≡ None
-  moved_fault-no_line h = cond-none (keeps_address m v w) seen.moved h
+  -- if no needed line changed, S1 isn't broken
+  pub changed_need_fault-no_line : is_some seen.changed_need ≡ false → changed_need_fault m v w seen ≡ None
+  changed_need_fault-no_line h = cond-none (keeps_address m v w) seen.changed_need h
 
   -- if the needed lines aren't held, S1 isn't broken
-  pub moved_fault-not_kept : keeps_address m v w ≡ false → moved_fault m v w seen ≡ None
-  moved_fault-not_kept h = rw h refl
+  pub changed_need_fault-not_kept : keeps_address m v w ≡ false → changed_need_fault m v w seen ≡ None
+  changed_need_fault-not_kept h = rw h refl
 
   -- if the direction is held, and WRITE* turned, S2 is broken on WRITE*
   pub turned_fault-turned : keeps_direction m v w ≡ true → seen.turned ≡ true → turned_fault m v w seen ≡ Some WRITE
@@ -39,6 +39,6 @@ module _ (m : Holding) (v w : Levels) (seen : HoldingObservation) where
   turned_fault-not_kept h = rw h refl
 
   -- if no needed line breaks S1, the fault is that of S2
-  pub held_fault-direction : moved_fault m v w seen ≡ None → held_fault m v w seen
+  pub held_fault-direction : changed_need_fault m v w seen ≡ None → held_fault m v w seen
       ≡ fault_on S2 (turned_fault m v w seen)
   held_fault-direction e = ap (λ (o : Option ℕ). option_or (fault_on S1 o) (fault_on S2 (turned_fault m v w seen))) e

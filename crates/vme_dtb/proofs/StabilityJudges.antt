@@ -24,8 +24,8 @@ use Rattle.vme_monitor.specs.declared.mark.Next.{Next}
 use Rattle.vme_monitor.proofs.InsideRules.{FindsLeast-inside, ShowsAll-inside}
 use Rattle.vme_monitor.proofs.StretchFacts.{IsStretch}
 use Rattle.vme_monitor.proofs.Alongside.{are_changes-step, levels_at-step, memory_from-before}
-use Rattle.vme_dtb.specs.StabilityRules.{fault_on, is_observed, shifted_fault, undriven_fault, keeps_direction}
-use Rattle.vme_dtb.specs.StabilityRules.{direction_turned, moved_fault, observation_of, stability_begin}
+use Rattle.vme_dtb.specs.StabilityRules.{fault_on, is_observed, changed_data_fault, undriven_fault, keeps_direction}
+use Rattle.vme_dtb.specs.StabilityRules.{direction_turned, changed_need_fault, observation_of, stability_begin}
 use Rattle.vme_dtb.specs.StabilityRules.{stability_end_fault}
 use Rattle.vme_dtb.specs.StabilityRules.{stability_next, stability_start_marks, stability_rules, stability_shown}
 use Rattle.vme_dtb.specs.StabilityRules.{stability_observation, turned_fault, unknown_address, unknown_direction}
@@ -106,11 +106,13 @@ module _ (t : Trace) (stretch : Stretch) (ok : malformed_step t ≡ None) (facts
         (unknown_direction (levels_at t n) (levels_at t (suc n)))
         (undriven_fault m (levels_at t n) (levels_at t (suc n)) (observation_of (levels_at t n) (levels_at t (suc n))
         (changes_at n)))
-        (moved_fault m (levels_at t n) (levels_at t (suc n)) (observation_of (levels_at t n) (levels_at t (suc n))
+        (changed_need_fault m (levels_at t n) (levels_at t (suc n))
+        (observation_of (levels_at t n) (levels_at t (suc n))
         (changes_at n)))
         (turned_fault m (levels_at t n) (levels_at t (suc n)) (observation_of (levels_at t n) (levels_at t (suc n))
         (changes_at n)))
-        (shifted_fault m (levels_at t n) (levels_at t (suc n)) (observation_of (levels_at t n) (levels_at t (suc n))
+        (changed_data_fault m (levels_at t n) (levels_at t (suc n))
+        (observation_of (levels_at t n) (levels_at t (suc n))
         (changes_at n))))
 
   -- if no rule is broken before n + 2, none is before n + 1

@@ -18,9 +18,9 @@ use Rattle.vme_monitor.specs.Run.{quiet}
 use Rattle.vme_monitor.specs.declared.tracking.TransferPhase.{TransferPhase}
 use Rattle.vme_monitor.specs.declared.tracking.TransferPhase.TheVariants.{Closed, Reading, Writing, Answered}
 use Rattle.vme_monitor.proofs.StretchFacts.{IsStretch}
-use Rattle.vme_dtb.specs.StabilityRules.{address_moved, changes_holding, direction_turned, fault_on}
-use Rattle.vme_dtb.specs.StabilityRules.{faults_unknown, held_fault, is_observed, keeps_address, keeps_direction}
-use Rattle.vme_dtb.specs.StabilityRules.{observation_of, shifted_line, stability_next, stepped, undriven_line}
+use Rattle.vme_dtb.specs.StabilityRules.{changed_need_line, may_change_memory, direction_turned, fault_on}
+use Rattle.vme_dtb.specs.StabilityRules.{unknown_fault, held_fault, is_observed, keeps_address, keeps_direction}
+use Rattle.vme_dtb.specs.StabilityRules.{observation_of, changed_data_line, stability_next, stepped, undriven_line}
 use Rattle.vme_dtb.specs.declared.holding.Holding.{Holding}
 use Rattle.vme_dtb.specs.HoldingNumbers.{has_risen, was_answered}
 use Rattle.vme_dtb.proofs.StabilityMeaning.{Holds, strobes_high_in-before, strobes_high_in-is_closed}
@@ -66,11 +66,12 @@ stepped-same v w m answer strobe address closed still idle known =
     )
     refl)
 
--- no held line breaks a rule if no needed line moves and WRITE* stays
-held_fault-none : (v w : Levels) (m : Holding) (cs : List Change) → address_moved v cs ≡ None → direction_turned v w
+-- no held line breaks a rule if no needed line changes and WRITE* stays
+held_fault-none : (v w : Levels) (m : Holding) (cs : List Change) → changed_need_line v cs ≡ None → direction_turned v w
     ≡ false
     → held_fault m v w (observation_of v w cs) ≡ None
-held_fault-none v w m cs moved turned = rw (moved, turned) (by_tests (keeps_address m v w) (keeps_direction m v w))
+held_fault-none v w m cs changed_need turned =
+    rw (changed_need, turned) (by_tests (keeps_address m v w) (keeps_direction m v w))
   where
     by_tests : (a b : Bool) → option_or (fault_on S1 (cond a None None))
         (fault_on S2 (cond (b && false) (Some WRITE) None)) ≡ None
@@ -103,25 +104,26 @@ module _ (t : Trace) (stretch : Stretch) (facts : IsStretch t stretch) (n : ℕ)
       ≡ false
       → stability_next m old new (observation_of old new cs) ≡ quiet m
   stability_next-unobserved m cs holds h =
-      let all = or_parts (is_some (faults_unknown old new) || is_some (address_moved old cs) || direction_turned old new
-      || changes_holding old new || is_some (undriven_line old new)) (is_some (shifted_line old new cs)) h in
-      let most = or_parts (is_some (faults_unknown old new) || is_some (address_moved old cs) || direction_turned old
-      new || changes_holding old new) (is_some (undriven_line old new)) all.0 in
-      let held = or_parts (is_some (faults_unknown old new) || is_some (address_moved old cs) || direction_turned old
-      new) (changes_holding old new) most.0 in
-      let turned = or_parts (is_some (faults_unknown old new) || is_some (address_moved old cs))
+      let all = or_parts (is_some (unknown_fault old new) || is_some (changed_need_line old cs)
+      || direction_turned old new || may_change_memory old new || is_some (undriven_line old new))
+      (is_some (changed_data_line old new cs)) h in
+      let most = or_parts (is_some (unknown_fault old new) || is_some (changed_need_line old cs) || direction_turned old
+      new || may_change_memory old new) (is_some (undriven_line old new)) all.0 in
+      let held = or_parts (is_some (unknown_fault old new) || is_some (changed_need_line old cs) || direction_turned old
+      new) (may_change_memory old new) most.0 in
+      let turned = or_parts (is_some (unknown_fault old new) || is_some (changed_need_line old cs))
       (direction_turned old new) held.0 in
-      let moved = or_parts (is_some (faults_unknown old new)) (is_some (address_moved old cs)) turned.0 in
+      let changed_need = or_parts (is_some (unknown_fault old new)) (is_some (changed_need_line old cs)) turned.0 in
       let address = or_parts (answer_between old new || strobe_rises_between old new) (rises_between old new AS)
       held.1 in
       let strobe = or_parts (answer_between old new) (strobe_rises_between old new) address.0 in
       let highs = strobes_high_in-before old new (facts.known n DS0 from (omega arith) (lit< tt) refl)
       (facts.known n DS1 from (omega arith) (lit< tt) refl) strobe.1 in
       rw (
-        is_some-none (faults_unknown old new) moved.0,
+        is_some-none (unknown_fault old new) changed_need.0,
         is_some-none (undriven_line old new) most.1,
-        is_some-none (shifted_line old new cs) all.1,
-        held_fault-none old new m cs (is_some-none (address_moved old cs) moved.1) turned.1,
+        is_some-none (changed_data_line old new cs) all.1,
+        held_fault-none old new m cs (is_some-none (changed_need_line old cs) changed_need.1) turned.1,
         stepped-same old new m strobe.0 strobe.1 address.1
             (λ h. sym holds.transfer ∙ is_answered_state-closed holds.state
             (strobes_high_in-is_closed t stretch facts.reads n from before holds.state

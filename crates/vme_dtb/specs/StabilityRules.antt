@@ -50,8 +50,8 @@ abbrev pub unknown_direction : Levels → Levels → Option ℕ
 unknown_direction v w = if starts_between v w && not (is_known_on w WRITE) then Some WRITE else None
 
 -- the rule U2 or U3, if a line is unknown that has to be known at this step
-abbrev pub faults_unknown : Levels → Levels → Option Fault
-faults_unknown v w = option_or (fault_on U2 (unknown_address v w)) (fault_on U3 (unknown_direction v w))
+abbrev pub unknown_fault : Levels → Levels → Option Fault
+unknown_fault v w = option_or (fault_on U2 (unknown_address v w)) (fault_on U3 (unknown_direction v w))
 
 -- a transfer at these levels moves the line, and the line is unknown
 abbrev pub is_undriven : Levels → ℕ → Bool
@@ -75,38 +75,38 @@ abbrev pub first_needed : Needs → List Change → Option ℕ
 first_needed needs cs = first_among (is_within needs) cs
 
 -- a transfer moved the line before the step, and the line has another level after it
-abbrev pub is_shifted : Levels → Levels → ℕ → Bool
-is_shifted v w l = has_line v.slots l && has_line w.slots l
+abbrev pub is_changed_data : Levels → Levels → ℕ → Bool
+is_changed_data v w l = has_line v.slots l && has_line w.slots l
     && (is_selected v l && not (same_level (level_at v l) (level_at w l)))
 
 -- the first changed line that a transfer moved before the step, if WRITE* was low
-abbrev pub shifted_line : Levels → Levels → List Change → Option ℕ
-shifted_line v w cs = if is_low (level_at v WRITE) then first_among (is_shifted v w) cs else None
+abbrev pub changed_data_line : Levels → Levels → List Change → Option ℕ
+changed_data_line v w cs = if is_low (level_at v WRITE) then first_among (is_changed_data v w) cs else None
 
 -- the first changed line that the cycle needs, if AS* was low before the step
-abbrev pub address_moved : Levels → List Change → Option ℕ
-address_moved v cs = if is_low (level_at v AS) then first_needed (needs_of v) cs else None
+abbrev pub changed_need_line : Levels → List Change → Option ℕ
+changed_need_line v cs = if is_low (level_at v AS) then first_needed (needs_of v) cs else None
 
 abbrev pub direction_turned : Levels → Levels → Bool
 direction_turned v w = not (same_level (level_at v WRITE) (level_at w WRITE))
 
 -- the memory (state of the automaton) may change: an answer comes, or a data strobe or AS* rises
-abbrev pub changes_holding : Levels → Levels → Bool
-changes_holding v w = answer_between v w || strobe_rises_between v w || rises_between v w AS
+abbrev pub may_change_memory : Levels → Levels → Bool
+may_change_memory v w = answer_between v w || strobe_rises_between v w || rises_between v w AS
 
 abbrev pub observation_of : Levels → Levels → List Change → HoldingObservation
 observation_of v w cs = record {
-  unknown = faults_unknown v w;
+  unknown = unknown_fault v w;
   undriven = undriven_line v w;
-  moved = address_moved v cs;
+  changed_need = changed_need_line v cs;
   turned = direction_turned v w;
-  shifted = shifted_line v w cs;
+  changed_data = changed_data_line v w cs;
 }
 
 -- whether the step is observed: otherwise nothing has changed that counts
 abbrev pub is_observed : Levels → Levels → List Change → Bool
-is_observed v w cs = is_some (faults_unknown v w) || is_some (address_moved v cs) || direction_turned v w
-    || changes_holding v w || is_some (undriven_line v w) || is_some (shifted_line v w cs)
+is_observed v w cs = is_some (unknown_fault v w) || is_some (changed_need_line v cs) || direction_turned v w
+    || may_change_memory v w || is_some (undriven_line v w) || is_some (changed_data_line v w cs)
 
 abbrev pub stability_observation : Levels → Levels → List Change → Option HoldingObservation
 stability_observation v w cs = if is_observed v w cs then Some (observation_of v w cs) else None
@@ -156,8 +156,8 @@ stepped m v w =
     }
 
 -- the line on which S1 is broken
-abbrev pub moved_fault : Holding → Levels → Levels → HoldingObservation → Option ℕ
-moved_fault m v w seen = if keeps_address m v w then seen.moved else None
+abbrev pub changed_need_fault : Holding → Levels → Levels → HoldingObservation → Option ℕ
+changed_need_fault m v w seen = if keeps_address m v w then seen.changed_need else None
 
 -- the line on which S2 is broken: WRITE*
 abbrev pub turned_fault : Holding → Levels → Levels → HoldingObservation → Option ℕ
@@ -165,7 +165,7 @@ turned_fault m v w seen = if keeps_direction m v w && seen.turned then Some WRIT
 
 -- the first rule that a change of a held line breaks
 abbrev pub held_fault : Holding → Levels → Levels → HoldingObservation → Option Fault
-held_fault m v w seen = option_or (fault_on S1 (moved_fault m v w seen)) (fault_on S2 (turned_fault m v w seen))
+held_fault m v w seen = option_or (fault_on S1 (changed_need_fault m v w seen)) (fault_on S2 (turned_fault m v w seen))
 
 -- the line, if b
 abbrev pub kept : Bool → Option ℕ → Option ℕ
@@ -177,15 +177,15 @@ abbrev pub undriven_fault : Holding → Levels → Levels → HoldingObservation
 undriven_fault m v w seen = kept (writes_now m v w) seen.undriven
 
 -- the line on which S3 is broken
-abbrev pub shifted_fault : Holding → Levels → Levels → HoldingObservation → Option ℕ
-shifted_fault m v w seen = kept (keeps_data m v w) seen.shifted
+abbrev pub changed_data_fault : Holding → Levels → Levels → HoldingObservation → Option ℕ
+changed_data_fault m v w seen = kept (keeps_data m v w) seen.changed_data
 
 -- the first rule that the step breaks
 abbrev pub fault_in : Holding → Levels → Levels → HoldingObservation → Option Fault
 fault_in m v w seen =
     option_or seen.unknown
     (option_or (fault_on U4 (undriven_fault m v w seen))
-    (option_or (held_fault m v w seen) (fault_on S3 (shifted_fault m v w seen))))
+    (option_or (held_fault m v w seen) (fault_on S3 (changed_data_fault m v w seen))))
 
 abbrev pub stability_begin : Levels → Holding
 stability_begin v = record { transfer = Fresh; cycle_answered = false }

@@ -6,12 +6,15 @@ ghost use Rattle.vme_trace.specs.Cycle.{Needs};
 ghost use Rattle.vme_trace.specs.Instants.{least};
 ghost use Rattle.vme_trace.specs.Levels.{Levels};
 ghost use Rattle.vme_trace.specs.LineNumbers.{line_count};
-ghost use Rattle.vme_dtb.specs.StabilityRules.{address_moved, changes_holding as changes_holding_of};
-ghost use Rattle.vme_dtb.specs.StabilityRules.{fault_on as fault_on_line, faults_unknown, first_among};
-ghost use Rattle.vme_dtb.specs.StabilityRules.{first_needed as first_needed_of, is_shifted, is_undriven};
-ghost use Rattle.vme_dtb.specs.StabilityRules.{may_write as may_write_of, shifted_line as shifted_line_of};
+ghost use Rattle.vme_dtb.specs.StabilityRules.{changed_data_line as changed_data_line_of};
+ghost use Rattle.vme_dtb.specs.StabilityRules.{changed_need_line as changed_need_line_of};
+ghost use Rattle.vme_dtb.specs.StabilityRules.{fault_on as fault_on_line, first_among};
+ghost use Rattle.vme_dtb.specs.StabilityRules.{first_needed as first_needed_of};
+ghost use Rattle.vme_dtb.specs.StabilityRules.{is_changed_data as is_changed_data_of, is_undriven};
+ghost use Rattle.vme_dtb.specs.StabilityRules.{may_change_memory as may_change_memory_of, may_write as may_write_of};
 ghost use Rattle.vme_dtb.specs.StabilityRules.{undriven_line as undriven_line_of};
-ghost use Rattle.vme_dtb.specs.StabilityRules.{unknown_direction as unknown_direction_of, unknown_need};
+ghost use Rattle.vme_dtb.specs.StabilityRules.{unknown_direction as unknown_direction_of};
+ghost use Rattle.vme_dtb.specs.StabilityRules.{unknown_fault as unknown_fault_of, unknown_need as unknown_need_of};
 
 use vme_monitor::mark::Fault;
 use vme_trace::edges::{
@@ -27,12 +30,12 @@ pub struct HoldingObservation {
     /// A data strobe falls in a transfer that may be a write, and this is the least unknown data line that the transfer
     /// moves.
     pub undriven: Option<Line>,
-    /// AS* was low before the step, and this is the first changed line that the cycle needs.
-    pub moved: Option<Line>,
+    /// AS* was low before the step, and this is the first changed line among those that the cycle needs.
+    pub changed_need: Option<Line>,
     /// WRITE* changes.
     pub turned: bool,
     /// WRITE* was low before the step, and this is the first changed data line that a transfer moved then.
-    pub shifted: Option<Line>,
+    pub changed_data: Option<Line>,
 }
 
 /// A rule that is broken on a line, if there is one.
@@ -45,14 +48,15 @@ pub(crate) fn fault_on(rule: Rule, line: Option<Line>) -> Option<Fault>
     }
 }
 
-/// The least unknown line among those that a cycle needs whose AS* falls at these levels.
-fn unknown_needed(lines: &Lines) -> Option<Line>
-    ensures { result ≡ unknown_need lines.now }
+/// The least line that is unknown, and that a cycle needs which starts at these levels.
+fn unknown_need(lines: &Lines) -> Option<Line>
+    ensures { result ≡ unknown_need_of lines.now }
 {
     if lines.are_known(Line::IACK, Line::address(31)) {
         return None;
     }
     let needed = needed(lines);
+    // the lines that a cycle may need are IACK* to A31
     for number in 5..45 {
         if let Some(line) = Line::from_number(number) {
             if !lines.level(line).is_known() && needed.has(line) {
@@ -76,11 +80,11 @@ fn unknown_direction(before: &Lines, after: &Lines) -> Option<Line>
 
 /// The rule U2 or U3, if a line is unknown that has to be known at this step.
 #[inline(always)]
-fn fault_of_unknown(before: &Lines, after: &Lines) -> Option<Fault>
-    ensures { result ≡ faults_unknown before.now after.now }
+fn unknown_fault(before: &Lines, after: &Lines) -> Option<Fault>
+    ensures { result ≡ unknown_fault_of before.now after.now }
 {
     if falls(before, after, Line::AS) {
-        if let Some(line) = unknown_needed(after) {
+        if let Some(line) = unknown_need(after) {
             return Some(Fault {
                 rule: Rule::U2,
                 line,
@@ -103,10 +107,10 @@ fn first_needed(needed: &LineSet, changes: &[Change]) -> Option<Line>
 }
 
 /// Whether a line other than AS*, the strobes and the answer lines is among the changes. No cycle needs AS*, a strobe
-/// or an answer line, and no transfer moves them.
-fn touches_others(changes: &[Change]) -> bool
-    ensures needed { result ≡ false → (needs : Needs) → first_needed_of needs changes.now ≡ None }
-    ensures moved { result ≡ false → (v w : Levels) → first_among (is_shifted v w) changes.now ≡ None }
+/// or an answer line, and no transfer moves them. Most steps change no other line, and then neither is searched for.
+fn changes_beyond_answers(changes: &[Change]) -> bool
+    ensures no_need { result ≡ false → (needs : Needs) → first_needed_of needs changes.now ≡ None }
+    ensures no_data { result ≡ false → (v w : Levels) → first_among (is_changed_data_of v w) changes.now ≡ None }
 {
     for change in changes {
         if change.line.number() > Line::BERR.number() {
@@ -116,14 +120,14 @@ fn touches_others(changes: &[Change]) -> bool
     false
 }
 
-/// The first changed line that the cycle needs, if AS* was low before the step. `others` says whether lines other than
-/// AS*, the strobes and the answer lines change.
+/// The first changed line that the cycle needs, if AS* was low before the step. `beyond_answers` says whether a line
+/// other than AS*, the strobes and the answer lines changes.
 #[inline(always)]
-fn moved_line(others: bool, before: &Lines, changes: &[Change]) -> Option<Line>
-    requires { others ≡ false → (needs : Needs) → first_needed_of needs changes.now ≡ None }
-    ensures { result ≡ address_moved before.now changes.now }
+fn changed_need_line(beyond_answers: bool, before: &Lines, changes: &[Change]) -> Option<Line>
+    requires { beyond_answers ≡ false → (needs : Needs) → first_needed_of needs changes.now ≡ None }
+    ensures { result ≡ changed_need_line_of before.now changes.now }
 {
-    if others && before.level(Line::AS).is_low() {
+    if beyond_answers && before.level(Line::AS).is_low() {
         first_needed(&needed(before), changes)
     } else {
         None
@@ -167,7 +171,7 @@ fn undriven_line(before: &Lines, after: &Lines) -> Option<Line>
 
 /// Whether a data line is among the changes. A transfer moves no other lines.
 fn touches_data(changes: &[Change]) -> bool
-    ensures { result ≡ false → (v w : Levels) → first_among (is_shifted v w) changes.now ≡ None }
+    ensures { result ≡ false → (v w : Levels) → first_among (is_changed_data_of v w) changes.now ≡ None }
 {
     for change in changes {
         if change.line.is_data() {
@@ -178,8 +182,8 @@ fn touches_data(changes: &[Change]) -> bool
 }
 
 /// Whether a transfer moved the line before the step, and the step gives it another level.
-fn data_line_changes(line: Line, before: &Lines, after: &Lines) -> bool
-    ensures { result ≡ is_shifted before.now after.now line }
+fn is_changed_data(line: Line, before: &Lines, after: &Lines) -> bool
+    ensures { result ≡ is_changed_data_of before.now after.now line }
 {
     before.has(line)
         && after.has(line)
@@ -188,34 +192,39 @@ fn data_line_changes(line: Line, before: &Lines, after: &Lines) -> bool
 }
 
 /// The first changed data line that a transfer moved before the step.
-fn first_shifted(before: &Lines, after: &Lines, changes: &[Change]) -> Option<Line>
-    ensures { result ≡ first_among (is_shifted before.now after.now) changes.now }
+fn first_changed_data(before: &Lines, after: &Lines, changes: &[Change]) -> Option<Line>
+    ensures { result ≡ first_among (is_changed_data_of before.now after.now) changes.now }
 {
     for change in changes {
-        if data_line_changes(change.line, before, after) {
+        if is_changed_data(change.line, before, after) {
             return Some(change.line);
         }
     }
     None
 }
 
-/// The first changed data line that a transfer moved before the step, if WRITE* was low. `others` says whether lines
-/// other than AS*, the strobes and the answer lines change.
+/// The first changed data line that a transfer moved before the step, if WRITE* was low. `beyond_answers` says whether
+/// a line other than AS*, the strobes and the answer lines changes.
 #[inline(always)]
-fn shifted_line(others: bool, before: &Lines, after: &Lines, changes: &[Change]) -> Option<Line>
-    requires { others ≡ false → (v w : Levels) → first_among (is_shifted v w) changes.now ≡ None }
-    ensures { result ≡ shifted_line_of before.now after.now changes.now }
+fn changed_data_line(
+    beyond_answers: bool,
+    before: &Lines,
+    after: &Lines,
+    changes: &[Change],
+) -> Option<Line>
+    requires { beyond_answers ≡ false → (v w : Levels) → first_among (is_changed_data_of v w) changes.now ≡ None }
+    ensures { result ≡ changed_data_line_of before.now after.now changes.now }
 {
-    if others && before.level(Line::WRITE).is_low() && touches_data(changes) {
-        first_shifted(before, after, changes)
+    if beyond_answers && before.level(Line::WRITE).is_low() && touches_data(changes) {
+        first_changed_data(before, after, changes)
     } else {
         None
     }
 }
 
 /// Whether the memory may change: an answer comes, or a data strobe or AS* rises.
-fn changes_holding(before: &Lines, after: &Lines) -> bool
-    ensures { result ≡ changes_holding_of before.now after.now }
+fn may_change_memory(before: &Lines, after: &Lines) -> bool
+    ensures { result ≡ may_change_memory_of before.now after.now }
 {
     answer_falls(before, after) || strobe_rises(before, after) || rises(before, after, Line::AS)
 }
@@ -228,25 +237,25 @@ impl HoldingObservation {
     pub fn of(before: &Lines, after: &Lines, changes: &[Change]) -> Option<HoldingObservation>
         ensures { result ≡ stability_observation before.now after.now changes.now }
     {
-        let unknown = fault_of_unknown(before, after);
-        let others = touches_others(changes);
-        let moved = moved_line(others, before, changes);
+        let unknown = unknown_fault(before, after);
+        let beyond_answers = changes_beyond_answers(changes);
+        let changed_need = changed_need_line(beyond_answers, before, changes);
         let turned = !before.level(Line::WRITE).is_same(after.level(Line::WRITE));
         let undriven = undriven_line(before, after);
-        let shifted = shifted_line(others, before, after, changes);
+        let changed_data = changed_data_line(beyond_answers, before, after, changes);
         if unknown.is_some()
-            || moved.is_some()
+            || changed_need.is_some()
             || turned
-            || changes_holding(before, after)
+            || may_change_memory(before, after)
             || undriven.is_some()
-            || shifted.is_some()
+            || changed_data.is_some()
         {
             Some(HoldingObservation {
                 unknown,
                 undriven,
-                moved,
+                changed_need,
                 turned,
-                shifted,
+                changed_data,
             })
         } else {
             None

@@ -6,7 +6,7 @@ ghost use Rattle.vme_monitor.specs.Run.{no_step_marks};
 ghost use Rattle.vme_monitor.specs.Whole.{FindsLeast, ShowsAll};
 ghost use Rattle.vme_trace.specs.declared.rule.Rule.TheVariants.{S3, U4};
 ghost use Rattle.vme_dtb.specs.StabilityRules.{answers_in, fault_in, fault_on as fault_on_line, held_fault};
-ghost use Rattle.vme_dtb.specs.StabilityRules.{keeps_data as keeps_data_in, shifted_fault, stability_rules};
+ghost use Rattle.vme_dtb.specs.StabilityRules.{changed_data_fault, keeps_data as keeps_data_in, stability_rules};
 ghost use Rattle.vme_dtb.specs.StabilityRules.{passed_in, stability_shown, stepped, undriven_fault, writes_now};
 
 use crate::holding::{Holding, TransferState};
@@ -94,8 +94,8 @@ impl Holding {
     fn broken(self, before: &Lines, after: &Lines, seen: &HoldingObservation) -> Option<Fault>
         ensures { result ≡ held_fault self before.now after.now seen.now }
     {
-        if seen.moved.is_some() && self.keeps_address(before, after) {
-            fault_on(Rule::S1, seen.moved)
+        if seen.changed_need.is_some() && self.keeps_address(before, after) {
+            fault_on(Rule::S1, seen.changed_need)
         } else if seen.turned && self.keeps_direction(before, after) {
             fault_on(Rule::S2, Some(Line::WRITE))
         } else {
@@ -148,10 +148,10 @@ impl Holding {
 
     /// The rule S3 on the data line of a write that changes while it is held, if there is one.
     #[inline(always)]
-    fn shifted(self, before: &Lines, after: &Lines, seen: &HoldingObservation) -> Option<Fault>
-        ensures { result ≡ fault_on_line S3 (shifted_fault self before.now after.now seen.now) }
+    fn changed_data(self, before: &Lines, after: &Lines, seen: &HoldingObservation) -> Option<Fault>
+        ensures { result ≡ fault_on_line S3 (changed_data_fault self before.now after.now seen.now) }
     {
-        match seen.shifted {
+        match seen.changed_data {
             Some(line) => {
                 if self.keeps_data(before, after) {
                     Some(Fault {
@@ -179,18 +179,19 @@ impl Holding {
                 Some(fault) => Some(fault),
                 None => match self.broken(before, after, &seen) {
                     Some(fault) => Some(fault),
-                    None => self.shifted(before, after, &seen),
+                    None => self.changed_data(before, after, &seen),
                 },
             },
         }
     }
 
-    /// The first rule that the step breaks. Most steps show nothing unknown, undriven or shifted.
+    /// The first rule that the step breaks. Most steps show no unknown line and no changed data
+    /// line.
     #[inline(always)]
     fn fault(self, before: &Lines, after: &Lines, seen: &HoldingObservation) -> Option<Fault>
         ensures { result ≡ fault_in self before.now after.now seen.now }
     {
-        match (seen.unknown, seen.undriven, seen.shifted) {
+        match (seen.unknown, seen.undriven, seen.changed_data) {
             (None, None, None) => self.broken(before, after, seen),
             _ => self.any_fault(before, after, *seen),
         }

@@ -1,9 +1,9 @@
 use Rattle.std.proofs.Common.{◌≡◌, ◌∙◌, ap, sym}
 use Rattle.std.specs.Prelude.{None}
 use Rattle.vme_trace.specs.declared.rule.Rule.TheVariants.{S2}
-use Rattle.vme_dtb.specs.StabilityRules.{fault_on, moved_fault, turned_fault}
-use Rattle.vme_dtb.proofs.HeldFaults.{held_fault-direction, moved_fault-no_line, turned_fault-turned}
-use Rattle.vme_dtb.proofs.HeldFaults.{turned_fault-not_kept, moved_fault-not_kept, turned_fault-not_turned}
+use Rattle.vme_dtb.specs.StabilityRules.{fault_on, changed_need_fault, turned_fault}
+use Rattle.vme_dtb.proofs.HeldFaults.{held_fault-direction, changed_need_fault-no_line, turned_fault-turned}
+use Rattle.vme_dtb.proofs.HeldFaults.{turned_fault-not_kept, changed_need_fault-not_kept, turned_fault-not_turned}
 use Rattle.vme_dtb.proofs.holding.Holding.broken.Goals as goal
 use Rattle.vme_dtb.proofs.holding.Holding.broken.Goals.{else-is_some-via-then-is_some+else-keeps_address}
 use Rattle.vme_dtb.proofs.holding.Holding.broken.Goals.{else-is_some-via-else-is_some}
@@ -16,12 +16,13 @@ returns-then-keeps_direction c =
     let v = c.args.before.now in
     let w = c.args.after.now in
     let seen = c.args.seen.now in
-    let still : moved_fault m v w seen ≡ None =
+    let still : changed_need_fault m v w seen ≡ None =
     elim c.else-is_some.branch [
       | else-is_some-via-then-is_some+else-keeps_address x
-          ↦ moved_fault-not_kept m v w seen (sym x.keeps_address.ensures
+          ↦ changed_need_fault-not_kept m v w seen (sym x.keeps_address.ensures
           ∙ x.if-keeps_address.false)
-      | else-is_some-via-else-is_some x ↦ moved_fault-no_line m v w seen (sym c.is_some.ensures ∙ x.if-is_some.false)
+      | else-is_some-via-else-is_some x ↦
+          changed_need_fault-no_line m v w seen (sym c.is_some.ensures ∙ x.if-is_some.false)
     ]
     in
     c.fault_on-then-keeps_direction.ensures
@@ -34,12 +35,13 @@ returns-else-seen c =
     let v = c.args.before.now in
     let w = c.args.after.now in
     let seen = c.args.seen.now in
-    let still : moved_fault m v w seen ≡ None =
+    let still : changed_need_fault m v w seen ≡ None =
     elim c.else-is_some.branch [
       | else-is_some-via-then-is_some+else-keeps_address x
-          ↦ moved_fault-not_kept m v w seen (sym x.keeps_address.ensures
+          ↦ changed_need_fault-not_kept m v w seen (sym x.keeps_address.ensures
           ∙ x.if-keeps_address.false)
-      | else-is_some-via-else-is_some x ↦ moved_fault-no_line m v w seen (sym c.is_some.ensures ∙ x.if-is_some.false)
+      | else-is_some-via-else-is_some x ↦
+          changed_need_fault-no_line m v w seen (sym c.is_some.ensures ∙ x.if-is_some.false)
     ]
     in
     let keeps : turned_fault m v w seen ≡ None =

@@ -1,7 +1,7 @@
 use Rattle.std.proofs.Common.{arith}
 use Rattle.vme_dtb.proofs.NonDataChanges as non_data
 use Rattle.vme_dtb.proofs.UnneededChanges as unneeded
-use Rattle.vme_dtb.proofs.observation.touches_others.Goals as goal
+use Rattle.vme_dtb.proofs.observation.changes_beyond_answers.Goals as goal
 
 pub loop-change-preserved : goal.loop-change-preserved
 loop-change-preserved c = (

@@ -5,10 +5,10 @@ use Rattle.vme_trace.specs.Levels.{is_known, is_known_on}
 use Rattle.vme_dtb.proofs.UnknownNeeds.{lacks-none_before, lacks-least, lacks-none_if_known, lacks-none_next}
 use Rattle.vme_dtb.proofs.UnknownNeeds.{lacks-none, lacks-found}
 use Rattle.vme_dtb.proofs.UnknownNeeds.{lacks-not_unknown, lacks-not_needed}
-use Rattle.vme_dtb.proofs.observation.unknown_needed.Goals as goal
-use Rattle.vme_dtb.proofs.observation.unknown_needed.Goals.{in-Some+else-not-is_known}
-use Rattle.vme_dtb.proofs.observation.unknown_needed.Goals.{else-not-is_known-via-then-not-is_known+else-has}
-use Rattle.vme_dtb.proofs.observation.unknown_needed.Goals.{else-not-is_known-via-else-not-is_known, in_default}
+use Rattle.vme_dtb.proofs.observation.unknown_need.Goals as goal
+use Rattle.vme_dtb.proofs.observation.unknown_need.Goals.{in-Some+else-not-is_known}
+use Rattle.vme_dtb.proofs.observation.unknown_need.Goals.{else-not-is_known-via-then-not-is_known+else-has}
+use Rattle.vme_dtb.proofs.observation.unknown_need.Goals.{else-not-is_known-via-else-not-is_known, in_default}
 
 pub loop-number-init : goal.loop-number-init
 loop-number-init c = lacks-none_before c.args.lines.now

@@ -1,8 +1,0 @@
--- The loop over changes: the first shifted line of the changes that are left is that of all changes.
-use Rattle.std.proofs.Common.{◌≡◌, drop}
-use Rattle.vme_dtb.specs.StabilityRules.{first_among, is_shifted}
-use Rattle.vme_dtb.proofs.observation.first_shifted.Given as goal
-
-abbrev pub invariant-loop-change : goal.invariant-loop-change
-invariant-loop-change l = first_among (is_shifted l.before l.after) (drop l.change-index l.changes)
-    ≡ first_among (is_shifted l.before l.after) l.changes
