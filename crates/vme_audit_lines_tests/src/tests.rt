@@ -11,6 +11,7 @@ use vme_stream::{Input, Refusal};
 use vme_text::Text;
 use vme_trace::{Line, Rule};
 
+/// An answer in no transfer.
 const STRAY: AuditBreak = AuditBreak {
     instant: 14,
     time: 79,
@@ -18,6 +19,7 @@ const STRAY: AuditBreak = AuditBreak {
     line: Line::BERR,
 };
 
+/// A break at the greatest instant and time.
 const LATE: AuditBreak = AuditBreak {
     instant: 18_446_744_073_709_551_615,
     time: 18_446_744_073_709_551_615,
@@ -48,7 +50,7 @@ const MANY_EVENTS: AskedEvents = AskedEvents {
     acknowledge_fall: true,
 };
 
-/// Whether this text was made.
+/// Whether `made` is the text `text`.
 fn is_text(made: Result<Text, AllocError>, text: &[u8]) -> bool {
     match made {
         Ok(made) => made.as_bytes() == text,
@@ -56,8 +58,8 @@ fn is_text(made: Result<Text, AllocError>, text: &[u8]) -> bool {
     }
 }
 
-/// Whether this text was made, or there was no memory.
-fn is_text_or_short(made: Result<Text, AllocError>, text: &[u8]) -> bool {
+/// Whether `made` is the text `text`, or there was no memory.
+fn is_text_or_no_memory(made: Result<Text, AllocError>, text: &[u8]) -> bool {
     match made {
         Ok(made) => made.as_bytes() == text,
         Err(_) => true,
@@ -72,7 +74,7 @@ fn names_are_shown(rt: HostRuntime) {
     assert!(rt; is_text(dump_head(rt.alloc(), b"\x80\xFF"), b"\x80\xFF: "));
 }
 
-/// Whether the line of a break is this one.
+/// Whether the line of a break is `line`.
 fn is_line(alloc: Global, category: BreakCategory, found: &AuditBreak, line: &str) -> bool {
     is_text(break_line(alloc, b"-: ", category, found), line.as_bytes())
 }
@@ -148,7 +150,7 @@ fn found_with(events: AskedEvents) -> AuditFindings {
             single: 3,
             block: 2,
             free: 1,
-            acknowledge: 0,
+            acknowledge: 1,
             reads: 2,
             writes: 5,
             by_dtack: 5,
@@ -168,21 +170,21 @@ const BREAKS: BreakCounts = BreakCounts {
     allowed: 0,
 };
 
-/// Whether the lines of counts are these.
+/// Whether the lines of counts are `lines`.
 fn are_told(alloc: Global, head: &[u8], findings: &AuditFindings, lines: &[u8]) -> bool {
     is_text(count_lines(alloc, head, BREAKS, findings), lines)
 }
 
 /// The lines of counts of a recording with many events, without a head.
 const MANY_TOLD: &[u8] = b"4 broken, 2 unreadable, 0 allowed\n\
-3 resets, 5 tenures, 6 cycles (3 single, 2 block, 1 free, 0 acknowledge)\n\
+3 resets, 5 tenures, 7 cycles (3 single, 2 block, 1 free, 1 acknowledge)\n\
 7 transfers (2 read, 5 write; 5 by DTACK, 1 by BERR, 1 pending)\n\
 never asked: C1 I5\n";
 
 #[test]
 fn counts_are_told(rt: HostRuntime) {
     let lines = b"-: 4 broken, 2 unreadable, 0 allowed\n\
--: 3 resets, 5 tenures, 6 cycles (3 single, 2 block, 1 free, 0 acknowledge)\n\
+-: 3 resets, 5 tenures, 7 cycles (3 single, 2 block, 1 free, 1 acknowledge)\n\
 -: 7 transfers (2 read, 5 write; 5 by DTACK, 1 by BERR, 1 pending)\n\
 -: never asked: C1 I5\n";
     assert!(rt; are_told(rt.alloc(), b"-: ", &found_with(MANY_EVENTS), lines));
@@ -192,7 +194,7 @@ fn counts_are_told(rt: HostRuntime) {
         ..MANY_EVENTS
     };
     let lines = b"4 broken, 2 unreadable, 0 allowed\n\
-3 resets, 5 tenures, 6 cycles (3 single, 2 block, 1 free, 0 acknowledge)\n\
+3 resets, 5 tenures, 7 cycles (3 single, 2 block, 1 free, 1 acknowledge)\n\
 7 transfers (2 read, 5 write; 5 by DTACK, 1 by BERR, 1 pending)\n";
     assert!(rt; are_told(rt.alloc(), b"", &found_with(all), lines));
 }
@@ -207,21 +209,21 @@ fn sums_do_not_wrap(rt: HostRuntime) {
     findings.counts.reads = most;
     findings.counts.writes = most;
     let lines = b"4 broken, 2 unreadable, 0 allowed\n\
-3 resets, 5 tenures, 36893488147419103231 cycles (18446744073709551615 single, \
-18446744073709551615 block, 1 free, 0 acknowledge)\n\
+3 resets, 5 tenures, 36893488147419103232 cycles (18446744073709551615 single, \
+18446744073709551615 block, 1 free, 1 acknowledge)\n\
 36893488147419103230 transfers (18446744073709551615 read, 18446744073709551615 write; 5 by DTACK, \
 1 by BERR, 1 pending)\n\
 never asked: C1 I5\n";
     assert!(rt; are_told(rt.alloc(), b"", &findings, lines));
 }
 
-/// Whether the line of an outcome is this one, and its exit status this one.
+/// Whether the line of an outcome is `line`, and its exit status `status`.
 fn is_outcome_line(alloc: Global, outcome: &Outcome, line: &str, status: u8) -> bool {
     is_text(outcome_line(alloc, b"-: ", outcome), line.as_bytes())
         && outcome_status(outcome) == status
 }
 
-/// Whether the line of a gap is this one.
+/// Whether the line of a gap is `line`.
 fn is_gap_line(alloc: Global, gap: CoverageGap, line: &str) -> bool {
     is_outcome_line(alloc, &Outcome::NotCovered { gap }, line, 6)
 }
@@ -313,13 +315,13 @@ fn refusals_are_told(rt: HostRuntime) {
 fn a_line_is_whole_or_there_is_none(rt: HostRuntime) {
     let alloc = rt.alloc();
     let head = dump_head(alloc, b"recordings/crate-2/boot.vcd");
-    assert!(rt; is_text_or_short(head, b"recordings/crate-2/boot.vcd: "));
+    assert!(rt; is_text_or_no_memory(head, b"recordings/crate-2/boot.vcd: "));
     let line = break_line(alloc, b"-: ", BreakCategory::Broken, &STRAY);
-    assert!(rt; is_text_or_short(line, b"-: broken H4 at instant 14 time 79 line BERR\n"));
+    assert!(rt; is_text_or_no_memory(line, b"-: broken H4 at instant 14 time 79 line BERR\n"));
     let lines = count_lines(alloc, b"", BREAKS, &found_with(MANY_EVENTS));
-    assert!(rt; is_text_or_short(lines, MANY_TOLD));
+    assert!(rt; is_text_or_no_memory(lines, MANY_TOLD));
     let line = outcome_line(alloc, b"-: ", &Outcome::Conforming { allowed: 12 });
-    assert!(rt; is_text_or_short(line, b"-: conforming with 12 allowed\n"));
+    assert!(rt; is_text_or_no_memory(line, b"-: conforming with 12 allowed\n"));
     let text = refusal_text(alloc, &Refusal::CannotRead(Input::Dump));
-    assert!(rt; is_text_or_short(text, b"cannot read\n"));
+    assert!(rt; is_text_or_no_memory(text, b"cannot read\n"));
 }

@@ -10,7 +10,7 @@ use vme_bind::{
 };
 use vme_trace::{Capture, Level, Line, Lines, Step, StepVisitor};
 
-/// A binding of six lines to variables, and of the others to constant levels.
+/// A binding of six lines to variables, and of all others but D and SYSRESET to constant levels.
 const BUS_LINES: &str = "\
 slots 1
 AS = bus.AS
@@ -709,12 +709,14 @@ impl StepVisitor for KeptSteps {
     }
 }
 
+/// The same reference; its type may be shared between threads.
 fn shared<T: Sync>(value: &T) -> &T
     ensures { result.now ≡ value.now }
 {
     value
 }
 
+/// The same value; its type may be sent to another thread.
 fn sent<T: Send>(value: T) -> T
     ensures { result ≡ value }
 {
@@ -781,7 +783,7 @@ fn begun(alloc: Global, front: &[&str]) -> Option<TextPieces<KeptSteps>> {
 static PIECES: [&str; 4] = ["#10 0p\n", "#20 0q\n", "#30 0s\n#40 1p 1q\n", "#50 1s\n"];
 
 /// The recording of the dump whose body has those pieces.
-fn kept_of_wave(alloc: Global) -> Option<KeptSteps> {
+fn kept_of_pieces(alloc: Global) -> Option<KeptSteps> {
     let text = begun(alloc, &[BUS, DECLARED, "#0 1p 1q 1r 1s 1t 1u\n"])?;
     let (mut speculative, mut kept) = text.into_speculative();
     for piece in PIECES.iter() {
@@ -792,8 +794,8 @@ fn kept_of_wave(alloc: Global) -> Option<KeptSteps> {
 
 /// Each piece is joined before the next one is read ahead.
 #[test]
-fn a_wave_of_pieces_records_what_their_text_does(rt: HostRuntime) {
-    let is_so = match kept_of_wave(rt.alloc()) {
+fn pieces_that_are_joined_at_once_are_read_as_their_text(rt: HostRuntime) {
+    let is_so = match kept_of_pieces(rt.alloc()) {
         Some(kept) => are_written(rt.alloc(), &kept.steps, READ_STEPS),
         None => false,
     };
@@ -811,7 +813,8 @@ static BETWEEN: [(&str, bool); 7] = [
     ("$comment\n", false),
 ];
 
-/// The first piece after which `is_between_items` answers wrong, or an empty text. `None` is a dump that isn't read.
+/// The first piece after which `is_between_items` answers wrong, or an empty text. `None` is a dump that isn't
+/// read, or one that isn't between two items before its first piece.
 fn first_wrong_end(alloc: Global) -> Option<&'static str> {
     let mut text = begun(alloc, &[BUS, DECLARED])?;
     if !text.is_between_items() {

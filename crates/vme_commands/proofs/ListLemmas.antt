@@ -46,7 +46,7 @@ last_or-append : (o : Option Row) (rows : List Row) (row : Row) → last_or o (r
 last_or-append o [] row = refl
 last_or-append o (r ∷ rows) row = last_or-append (Some r) rows row
 
--- the last of some rows is at the index of the number of the others
+-- the last of n + 1 rows is at the index n
 last_or-get : (o : Option Row) (row : Row) (rows : List Row) → last_or o (row ∷ rows) ≡ slice_get (row ∷ rows)
     (length rows)
 last_or-get o row [] = refl
@@ -96,7 +96,7 @@ listing_status-verdict t = rows_status-stretches t (judged_stretches t)
 
 -- ---- what is given
 
--- a refusal of the capture is one of the listing
+-- a refusal of the recording is one of the listing
 pub recording_in_blocks-refused : (binding dump : Option (List ℕ)) (block : ℕ) (r : Refusal)
     → AnswerGives (λ (t : Trace). t) (Err r) (capture_read binding dump)
     → GivesListing (Err r) (recording_in_blocks binding dump block)
@@ -104,7 +104,7 @@ unfolding recording_in_blocks
 recording_in_blocks-refused binding dump block Memory is = tt
 recording_in_blocks-refused binding dump block r is = ap (λ (w : Result Trace Refusal). w >>= in_blocks block) is
 
--- where there is a recording `t`, of any length, it is listed if it is within the limits
+-- where there is a recording `t`, of any length, the result is `t`, or the limit that it is beyond
 pub recording_in_blocks-recorded : (binding dump : Option (List ℕ)) (block : ℕ) (t : Trace)
     → recording_read binding dump ≡ Ok t
     → recording_in_blocks binding dump block ≡ limited_in_blocks block t

@@ -729,6 +729,18 @@ fn the_scope_that_is_named_is_bound(rt: HostRuntime) {
     }
 }
 
+/// A bus whose variables have a dot in their names, and no scope of its own.
+const DOTTED: &str =
+    "$scope module top $end\n$var wire 1 a bus.AS $end\n$var wire 1 b bus.DS0 $end\n\
+$var wire 1 c bus.DTACK $end\n$upscope $end\n$enddefinitions $end\n#0 1a 1b 1c\n#5 0a\n#6 0b\n";
+
+#[test]
+fn a_dot_in_a_name_makes_no_scope(rt: HostRuntime) {
+    let nothing = "# NOTHING IS BOUND: no variable in scope top.bus was found ";
+    assert!(rt; binding_in_has(rt.alloc(), DOTTED, "top.bus", nothing));
+    assert!(rt; binding_in_has(rt.alloc(), DOTTED, "top", "\nAS = top.bus.AS\n"));
+}
+
 /// Paths of no scope.
 static NO_SCOPES: [&str; 5] = ["tw", "top.tw", "two", "top.two.AS", "top."];
 

@@ -50,8 +50,9 @@ observed observation before after cs =
     then Some (record { end = end_among after cs; inner = observation before after cs })
     else None
 
--- a machine that waits reacts to each change of a control line, one that judges to what the rules see, and all to what
--- ends a stretch
+-- a machine reacts to a step whose threshold is at most this number: after a reset and where it waits to each change of
+-- a control line, where it judges to what the rules see, and always to what ends a stretch. No threshold is 3: by this
+-- number the phase after a reset differs from that before the first stretch.
 abbrev pub phase_sensitivity : {P : Type 0} → StretchPhase P → ℕ
 phase_sensitivity Waiting = 2
 phase_sensitivity (InStretch p) = 1

@@ -82,7 +82,7 @@ transfer 3 of 2 read DTACK 4 close 5
 verdict conforming
 ";
 
-/// A sink that keeps what is written. Writes fail at a limit of bytes.
+/// A sink that keeps what is written. A write fails once `room` bytes or more are kept.
 #[derive(Drop)]
 struct Page {
     bytes: Vec<u8>,
@@ -121,12 +121,13 @@ impl Sink for Page {
                 self.failures = failures;
                 Err(Failed)
             }
+            // no further failure can be counted
             None => Ok(bytes.len()),
         }
     }
 }
 
-/// A reader of the bytes `left`, whose next read fails.
+/// A reader that gives the bytes `left`, a few at a time, and then fails.
 #[derive(Drop)]
 struct FailingReader<'a> {
     left: &'a [u8],

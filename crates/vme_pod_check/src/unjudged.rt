@@ -33,7 +33,7 @@ impl Unjudged {
         }
     }
 
-    /// The exit status: 4 where another run may have an answer, else 3.
+    /// The exit status: 4 for want of memory or of a worker, and for `Stray`, else 3.
     pub fn status(&self) -> u8
         ensures { result ≡ unjudged_status self.now }
     {

@@ -20,8 +20,8 @@ fn a_text_grows(rt: HostRuntime) {
     assert!(rt; is_grown(rt.alloc()));
 }
 
-/// Bytes at the bounds of what is visible, a control sequence of a terminal, a line feed, a tab, and the mark that
-/// turns the direction of a line.
+/// Bytes at the bounds of what is visible, a control sequence of a terminal, a line feed, a tab, a backslash, which
+/// isn't doubled, and the mark that turns the direction of a line.
 const BYTES: &[u8] = b"\x1F ~\x7F\x80\xFF\x00\x1B[31m\n\t\\\xE2\x80\xAE";
 
 /// Whether `BYTES`, appended to a text, are shown as `shown`.
@@ -54,7 +54,7 @@ fn is_shown_or_as_before(alloc: Global) -> bool {
     }
 }
 
-/// Whether a text of two lines is shown, or memory is refused.
+/// Whether a line is shown with its line feed, or memory is refused.
 fn are_lines_shown_or_refused(alloc: Global) -> bool {
     match escaped_text(alloc, b"a\n") {
         Ok(lines) => lines.as_bytes() == b"a\n".as_slice(),
@@ -62,7 +62,7 @@ fn are_lines_shown_or_refused(alloc: Global) -> bool {
     }
 }
 
-/// A text has what is shown appended, or is as it was where memory is refused.
+/// A text has what is shown appended. Run with each allocation refused in turn, this shows that it is then as it was.
 #[test]
 fn each_growth_fails_once(rt: HostRuntime) {
     assert!(rt; is_shown_or_as_before(rt.alloc()));

@@ -143,8 +143,7 @@ fn line_of(alloc: Global, order: &Order) -> Result<String, AllocError> {
     }
 }
 
-/// Command lines, and the order of each in one line: its arguments in the order of the fields, except for the names of
-/// files.
+/// Command lines, and the order of each in one line: its arguments, mostly in the order of the fields.
 static ORDERS: [(&str, &str); 37] = [
     (
         "vmecheck check --block 5 --workers 3 B V",
@@ -227,7 +226,7 @@ fn orders(rt: HostRuntime) {
     }
 }
 
-/// Lines that are no orders, and whether each asks for help.
+/// Lines that are no orders, and whether each asks for help or for the version.
 static REFUSED: [(&str, bool); 67] = [
     ("vmecheck check --block 0 B V", false),
     ("vmecheck check --block 65537 B V", false),
