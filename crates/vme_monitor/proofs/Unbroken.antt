@@ -73,7 +73,7 @@ module _ (t : Trace) (stretch : Stretch) (rules : List Rule) where
   unfolding is_reset_at
   break_at-reset j e reset =
       break_at-none t stretch j (not_between-after j stretch.start stretch.end (omega arith))
-      (λ l. rw reset (last_false (j == stretch.end) (nat_le j (last_instant t)) _)) rules
+      (λ l. rw reset (not_lost-if_reset (j == stretch.end) (nat_le j (last_instant t)) _)) rules
     where
-      last_false : (a b c : Bool) → (a && b && (c && not true)) ≡ false
-      last_false a b c = grind (arith, nat_tests)
+      not_lost-if_reset : (a b c : Bool) → (a && b && (c && not true)) ≡ false
+      not_lost-if_reset a b c = grind (arith, nat_tests)

@@ -36,8 +36,8 @@ slice_get-in_second (x ∷ xs) ys i =
     ap (slice_get (x ∷ xs ++ ys)) onward ∙ slice_get-in_second xs ys i
 
 -- each step of a well-formed recording breaks at most one rule, at its own instant
-abbrev pub StepsBreak : Type 0
-StepsBreak = (t : Trace) (s : Step) → malformed_step (with_steps t (s ∷ [])) ≡ None → t.opening.slots ≤ 21
+abbrev pub EachStepBreaks : Type 0
+EachStepBreaks = (t : Trace) (s : Step) → malformed_step (with_steps t (s ∷ [])) ≡ None → t.opening.slots ≤ 21
     → StepBreaks t s
 
 -- no break is after the last step
@@ -49,13 +49,13 @@ BreaksWithin = (t : Trace) → malformed_step t ≡ None → t.opening.slots ≤
 cut_after-whole : (t : Trace) (j : ℕ) → length t.steps ≤ j → cut_after t j ≡ t
 cut_after-whole t j le = ap (λ (x : List Step). record { opening = t.opening; steps = x }) (take_all j t.steps le)
 
--- one more step and then others are all of them at once
+-- adding a step, and then others, is adding all at once
 pub with_steps-apart : (t : Trace) (s : Step) (steps : List Step) → with_steps (with_steps t (s ∷ [])) steps
     ≡ with_steps t (s ∷ steps)
 with_steps-apart t s steps =
     ap (λ (x : List Step). record { opening = t.opening; steps = x }) (append_assoc t.steps (s ∷ []) steps)
 
--- no further steps change nothing
+-- with no further steps a recording is itself
 pub with_steps-nothing : (t : Trace) → with_steps t [] ≡ t
 with_steps-nothing t = ap (λ (x : List Step). record { opening = t.opening; steps = x }) (append-nil t.steps)
 
@@ -64,22 +64,22 @@ pub well_formed-front : (t : Trace) (steps : List Step) → malformed_step (with
     ≡ None
 well_formed-front t steps ok = (SoundParts-of_well_formed t.opening t.steps steps ok).first
 
--- the breaks of a recording with further steps are those of the recording, and then others
-pub record GoesOn (t : Trace) (steps : List Step) : Type 0 where
+-- the breaks of the recording with these further steps are those of the recording, and then `more`
+pub record BreaksGrow (t : Trace) (steps : List Step) : Type 0 where
   pub more : List Break
   pub grown : breaks (with_steps t steps) ≡ breaks t ++ more
 
 -- further steps only add breaks
-pub GoesOn-steps : StepsBreak → (steps : List Step) (t : Trace) → malformed_step (with_steps t steps) ≡ None
-    → t.opening.slots ≤ 21 → GoesOn t steps
-GoesOn-steps grow [] t ok few =
+pub BreaksGrow-steps : EachStepBreaks → (steps : List Step) (t : Trace) → malformed_step (with_steps t steps) ≡ None
+    → t.opening.slots ≤ 21 → BreaksGrow t steps
+BreaksGrow-steps grow [] t ok few =
     record { more = []; grown = ap (λ (t : Trace). breaks t) (with_steps-nothing t) ∙ sym (append-nil (breaks t)) }
-GoesOn-steps grow (s ∷ steps) t ok few =
+BreaksGrow-steps grow (s ∷ steps) t ok few =
     let next = with_steps t (s ∷ []) in
     let sound : malformed_step (with_steps next steps) ≡ None =
     subst (λ (t : Trace). malformed_step t ≡ None) (sym (with_steps-apart t s steps)) ok in
     let first = grow t s (well_formed-front next steps sound) few in
-    let rest = GoesOn-steps grow steps next sound few in
+    let rest = BreaksGrow-steps grow steps next sound few in
     record {
       more = option_to_list first.found ++ rest.more;
       grown =
@@ -149,7 +149,7 @@ module _ (allowances : List Allowance) where
       (All-own_break (length t.steps) (length next.steps) step.found last step.own))
 
   -- the steps after an audit has stopped
-  module _ (grow : StepsBreak) (within : BreaksWithin) (stop : Option ℕ) (t : Trace) (steps : List Step)
+  module _ (grow : EachStepBreaks) (within : BreaksWithin) (stop : Option ℕ) (t : Trace) (steps : List Step)
       (ok : malformed_step (with_steps t steps) ≡ None) (few : t.opening.slots ≤ 21)
       (h : is_stopped allowances stop t ≡ true) where
     -- an audit that has stopped stays so when further steps come
@@ -160,7 +160,7 @@ module _ (allowances : List Allowance) where
             → is_stopped allowances stop (with_steps t steps) ≡ true
         by_stop None h = h
         by_stop (Some n) h =
-            let on = GoesOn-steps grow steps t ok few in
+            let on = BreaksGrow-steps grow steps t ok few in
             let so_far = faults allowances (breaks t) in
             let enough : n - 1 < length so_far = ltb-true (n - 1) (length so_far) h in
             let longer : length (so_far ++ faults allowances on.more)
@@ -179,7 +179,7 @@ module _ (allowances : List Allowance) where
             → read_by allowances stop (with_steps t steps) ≡ read_by allowances stop t
         by_stop None h = absurd (cc)
         by_stop (Some n) h =
-            let on = GoesOn-steps grow steps t ok few in
+            let on = BreaksGrow-steps grow steps t ok few in
             let so_far = faults allowances (breaks t) in
             let enough : n - 1 < length so_far = ltb-true (n - 1) (length so_far) h in
             ap (λ (bs : List Break). cut_at allowances (with_steps t steps) (slice_get (faults allowances bs) (n - 1)))
@@ -193,7 +193,7 @@ module _ (allowances : List Allowance) where
             (within t (well_formed-front t steps ok) few)) enough
 
   -- the breaks of what is read stay when further steps come
-  pub BreaksGoOn-steps : StepsBreak → BreaksWithin → (stop : Option ℕ) (steps : List Step) (t : Trace)
+  pub BreaksGoOn-steps : EachStepBreaks → BreaksWithin → (stop : Option ℕ) (steps : List Step) (t : Trace)
       → malformed_step (with_steps t steps) ≡ None → t.opening.slots ≤ 21
       → BreaksGoOn allowances stop t (with_steps t steps)
   BreaksGoOn-steps grow within stop [] t ok few =

@@ -16,7 +16,7 @@ use Rattle.vme_auditor.specs.declared.findings.BreakCounts.{BreakCounts}
 use Rattle.vme_step_auditor.specs.ReadBy.{is_stopped, read_by, stops_by}
 use Rattle.vme_step_auditor.specs.Counting.{all_counted, faults_counted, with_category}
 use Rattle.vme_step_auditor.specs.AuditedSteps.{HasAuditedSteps}
-use Rattle.vme_step_auditor.proofs.ReadOn.{BreaksWithin, StepsBreak, well_formed-front, read_by-unstopped}
+use Rattle.vme_step_auditor.proofs.ReadOn.{BreaksWithin, EachStepBreaks, well_formed-front, read_by-unstopped}
 use Rattle.vme_step_auditor.proofs.ReadOn.{read_by-stopped, read_by-step}
 use Rattle.vme_step_auditor.proofs.ReadOn.{read_by-unbroken, is_stopped-stays}
 use Rattle.vme_step_auditor.proofs.Tallying.{AreBreakCountsOf-none, AreBreakCountsOf-break, AreBreakCountsOf-same}
@@ -42,7 +42,7 @@ HasAuditedSteps-first allowances stop o audited c none same broken unreadable al
     }
 
 -- one more step `s`
-module _ (grow : StepsBreak) (within : BreaksWithin) (allowances : List Allowance) (stop : Option ℕ)
+module _ (grow : EachStepBreaks) (within : BreaksWithin) (allowances : List Allowance) (stop : Option ℕ)
     (given audited : Trace) (c : BreakCounts) (audited_so_far : HasAuditedSteps allowances stop given audited c)
     (s : Step)
     (slots : given.opening.slots ≤ 21) where

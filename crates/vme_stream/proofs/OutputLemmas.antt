@@ -15,7 +15,7 @@ append-next_written all done rest n split =
     split ∙ ap (λ l. done ++ l) (sym (take-append-drop n rest)) ∙ sym (append_assoc done (take n rest) (drop n rest))
     ∙ ap (λ l. (done ++ take n rest) ++ l) (sym (take_rest rest n))
 
--- what stands before `rest` is as many of the first bytes of `all` as it has
+-- `done` is the first `length done` bytes of `all`
 pub take-done : (all done rest : List ℕ) → all ≡ done ++ rest → done ≡ take (length done) all
 take-done all done rest split = sym (ap (take (length done)) split ∙ take-append_seam done rest)
 
