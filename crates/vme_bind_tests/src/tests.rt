@@ -79,7 +79,7 @@ const READ_STEPS: &str = "\
 ";
 
 /// The binding of the lines that the vectors below don't have.
-const OTHERS: &str = "\
+const UNVECTORED_LINES: &str = "\
 DS0 = 1
 DS1 = 1
 DTACK = 1
@@ -307,13 +307,13 @@ fn to_vectors<'a>(strobe: &'a str, requests: &'a str) -> [&'a str; 6] {
         "\nBR = ",
         requests,
         "\nBG0 = grants\n",
-        OTHERS,
+        UNVECTORED_LINES,
     ]
 }
 
 /// The parts of a binding of AS to a path.
 fn to_path(path: &str) -> [&str; 4] {
-    ["slots 1\nAS = ", path, ONES, OTHERS]
+    ["slots 1\nAS = ", path, ONES, UNVECTORED_LINES]
 }
 
 #[test]
@@ -510,7 +510,7 @@ fn shown_fault(alloc: Global, fault: CaptureFault) -> Result<String, AllocError>
 }
 
 /// Why the text of a dump makes no recording.
-fn lacked(alloc: Global, binding: &Binding, text: &[u8]) -> Option<String> {
+fn fault_with(alloc: Global, binding: &Binding, text: &[u8]) -> Option<String> {
     let fault = binding.capture_text(alloc, text).err()?;
     shown_fault(alloc, fault).ok()
 }
@@ -523,8 +523,8 @@ fn lacked_by_dump(alloc: Global, binding: &Binding, text: &[u8]) -> Option<Strin
 }
 
 /// Whether a binding has the fault `wanted` with the text of a dump.
-fn text_lacks(alloc: Global, binding: &Binding, text: &[u8], wanted: &str) -> bool {
-    match lacked(alloc, binding, text) {
+fn has_fault_in(alloc: Global, binding: &Binding, text: &[u8], wanted: &str) -> bool {
+    match fault_with(alloc, binding, text) {
         Some(found) => found.as_str() == wanted,
         None => false,
     }
@@ -539,10 +539,10 @@ fn dump_lacks(alloc: Global, binding: &Binding, text: &[u8], wanted: &str) -> bo
 }
 
 /// Whether a binding has the fault `wanted` with a dump that was read before, and with its text.
-fn lacks(alloc: Global, binding: &[&str], dump: &[&str], wanted: &str) -> bool {
+fn has_fault_with(alloc: Global, binding: &[&str], dump: &[&str], wanted: &str) -> bool {
     match (bound(alloc, binding), together(alloc, dump)) {
         (Some(binding), Ok(text)) => {
-            text_lacks(alloc, &binding, text.as_slice(), wanted)
+            has_fault_in(alloc, &binding, text.as_slice(), wanted)
                 && dump_lacks(alloc, &binding, text.as_slice(), wanted)
         }
         _ => false,
@@ -554,20 +554,23 @@ fn what_dumps_of_the_bus_lack(rt: HostRuntime) {
     let alloc = rt.alloc();
     let wanted = "binding line 24: NoSuchPath";
     let more = "SYSRESET = bus.RESET\n";
-    assert!(rt; lacks(alloc, &[BUS_LINES, more], &[BUS, DECLARED, READ], wanted));
+    assert!(rt; has_fault_with(alloc, &[BUS_LINES, more], &[BUS, DECLARED, READ], wanted));
     let wanted = "binding line 2: NoSuchPath";
     let dump = ["$scope module bus $end\n", DECLARED];
-    assert!(rt; lacks(alloc, &[BUS_LINES], &dump, wanted));
+    assert!(rt; has_fault_with(alloc, &[BUS_LINES], &dump, wanted));
     let wanted = "binding line 2: AmbiguousPath";
     let other = "$var wire 1 v AS $end\n";
-    assert!(rt; lacks(alloc, &[BUS_LINES], &[BUS, other, DECLARED], wanted));
+    assert!(rt; has_fault_with(alloc, &[BUS_LINES], &[BUS, other, DECLARED], wanted));
 }
 
 #[test]
 fn what_dumps_of_vectors_lack(rt: HostRuntime) {
     for (strobe, requests, wanted) in NO_VECTORS.iter() {
         let binding = to_vectors(strobe, requests);
-        assert!(rt; lacks(rt.alloc(), &binding, &[VECTORS], wanted), "{strobe}");
+        assert!(rt;
+            has_fault_with(rt.alloc(), &binding, &[VECTORS], wanted),
+            "{strobe}"
+        );
     }
 }
 
@@ -576,7 +579,7 @@ fn paths_that_dumps_lack(rt: HostRuntime) {
     for (path, header, wanted) in NO_PATHS.iter() {
         let dump = [*header, " $enddefinitions $end"];
         assert!(rt;
-            lacks(rt.alloc(), &to_path(path), &dump, wanted),
+            has_fault_with(rt.alloc(), &to_path(path), &dump, wanted),
             "{header}"
         );
     }
@@ -614,9 +617,9 @@ fn a_fault_of_the_dump_comes_before_one_of_the_binding(rt: HostRuntime) {
         panic!(rt; "no binding")
     };
     let (alloc, wanted) = (rt.alloc(), "dump line 3: BadToken");
-    assert!(rt; text_lacks(alloc, &binding, BROKEN, wanted));
+    assert!(rt; has_fault_in(alloc, &binding, BROKEN, wanted));
     let wanted = "binding line 2: NoSuchPath";
-    assert!(rt; text_lacks(alloc, &binding, &BROKEN[..23], wanted));
+    assert!(rt; has_fault_in(alloc, &binding, &BROKEN[..23], wanted));
 }
 
 #[test]

@@ -164,7 +164,7 @@ impl Read for ShortReader<'_> {
 type WantedAnswer<'a> = (&'a str, &'a str, u8);
 
 /// Whether the outputs and the status are `wanted`.
-fn has_told(out: &Page, err: &Page, status: u8, wanted: WantedAnswer<'_>) -> bool {
+fn answers_with(out: &Page, err: &Page, status: u8, wanted: WantedAnswer<'_>) -> bool {
     let (stdout, stderr, wanted_status) = wanted;
     out.bytes.as_slice() == stdout.as_bytes()
         && err.bytes.as_slice() == stderr.as_bytes()
@@ -269,7 +269,7 @@ fn answers<P: Source>(
     } else {
         tell_whole(alloc, inputs, files, &mut out, &mut err)
     };
-    has_told(&out, &err, status, wanted)
+    answers_with(&out, &err, status, wanted)
 }
 
 /// Whether the command on `parts` writes `wanted`.
@@ -463,7 +463,7 @@ fn is_refused(alloc: Global, dump: &str, line: &str) -> bool {
         &mut out,
         &mut err,
     );
-    has_told(&out, &err, status, ("", line, 3))
+    answers_with(&out, &err, status, ("", line, 3))
 }
 
 /// Whether an empty file is refused, and one that has only definitions is judged. Such a file has no steps and no
@@ -595,7 +595,7 @@ fn refuses_in_one_line(alloc: Global) -> bool {
     let mut out = Page::new(alloc, 1000);
     let mut err = Page::new(alloc, 1000);
     let status = write_joined(alloc, &mut again, &mut out, &mut err);
-    is_told && has_told(&out, &err, status, wanted)
+    is_told && answers_with(&out, &err, status, wanted)
 }
 
 #[test]
@@ -604,13 +604,13 @@ fn a_name_is_shown_in_one_line(rt: HostRuntime) {
 }
 
 /// After how many bytes a read fails.
-static PLACES: [usize; 5] = [0, 1, 8, 100, 1000];
+static FAILS_AFTER: [usize; 5] = [0, 1, 8, 100, 1000];
 
-/// Whether it is reported that a part can't be read after each count of `PLACES`, and after its end.
+/// Whether it is reported that a part can't be read after each count of `FAILS_AFTER`, and after its end.
 fn tells_failed_reads(alloc: Global) -> Option<bool> {
     let part = part_of(alloc, 0, FIRST)?;
     let bytes = part.as_slice();
-    for place in PLACES.iter() {
+    for place in FAILS_AFTER.iter() {
         let is_told = tells_failed_read(alloc, bytes, *place)?;
         if !is_told {
             return Some(false);
@@ -625,7 +625,7 @@ fn a_read_fails_in_mid_stream(rt: HostRuntime) {
 }
 
 /// Whether it is reported that the verdict can't be written.
-fn tells_full_pages(alloc: Global) -> Option<bool> {
+fn tells_a_full_output(alloc: Global) -> Option<bool> {
     let first = part_of(alloc, 0, FIRST)?;
     let parts = [first.as_slice()];
     let mut inputs = inputs_of(alloc, &parts)?;
@@ -634,8 +634,8 @@ fn tells_full_pages(alloc: Global) -> Option<bool> {
 }
 
 #[test]
-fn full_pages(rt: HostRuntime) {
-    assert!(rt; tells_full_pages(rt.alloc()) == Some(true));
+fn a_full_output_is_told(rt: HostRuntime) {
+    assert!(rt; tells_a_full_output(rt.alloc()) == Some(true));
 }
 
 /// Run with each allocation refused in turn, this shows that the answer is then want of memory.
@@ -662,7 +662,7 @@ fn want_of_memory_is_told(rt: HostRuntime) {
         &mut err,
     );
     let is_told = if status == 4 {
-        has_told(&out, &err, status, ("", "vmecheck: out of memory\n", 4))
+        answers_with(&out, &err, status, ("", "vmecheck: out of memory\n", 4))
     } else {
         status == 0 && out.bytes.as_slice().starts_with(b"vmepart1") && err.bytes.is_empty()
     };

@@ -83,7 +83,7 @@ fn moved<R: Threads + Wait + Sync>(
 }
 
 /// The span of blocks 1 and 2, after they have been moved.
-fn back_of<R: Threads + Wait + Sync>(
+fn span_of_last_two<R: Threads + Wait + Sync>(
     rt: &R,
     alloc: Global,
     all: &mut Vec<Option<Judged>>,
@@ -95,18 +95,18 @@ fn back_of<R: Threads + Wait + Sync>(
 }
 
 /// The span of block 0, and then that of blocks 1 and 2.
-fn whole_of<R: Threads + Wait + Sync>(
+fn span_of_all<R: Threads + Wait + Sync>(
     rt: &R,
     alloc: Global,
     all: &mut Vec<Option<Judged>>,
 ) -> Option<Span> {
-    let back = back_of(rt, alloc, all)?;
+    let back = span_of_last_two(rt, alloc, all)?;
     let first = all.pop()??.into_parts().1;
     appended(alloc, first, back)
 }
 
 /// Whether a span is that of the read, which conforms.
-fn is_read(whole: &Span) -> bool {
+fn is_span_of_read(whole: &Span) -> bool {
     if whole.first() != 0 {
         return false;
     }
@@ -118,8 +118,8 @@ fn through_a_list_a_table_and_a_thread(rt: HostRuntime) {
     let Some(mut all) = listed(rt.alloc()) else {
         panic!(rt; "no list")
     };
-    match whole_of(&rt, rt.alloc(), &mut all) {
-        Some(whole) => assert!(rt; is_read(&whole)),
+    match span_of_all(&rt, rt.alloc(), &mut all) {
+        Some(whole) => assert!(rt; is_span_of_read(&whole)),
         None => panic!(rt; "no span"),
     }
 }
