@@ -83,8 +83,8 @@ module _ (t : Trace) (stretch : Stretch) where
   pub record Holds (opened j : ℕ) (state : State) : Type 0 where
     pub cycle : IsCycle opened j state.cycle
     pub transfer : IsTransfer opened j state.transfer
-    pub acknowledge_freed : state.acknowledge_freed ≡ is_freed DTACK j
-    pub error_freed : state.error_freed ≡ is_freed BERR j
+    pub dtack_may_rise : state.dtack_may_rise ≡ is_freed DTACK j
+    pub berr_may_rise : state.berr_may_rise ≡ is_freed BERR j
     pub requested : AreRequested j state.requested
     pub granted : state.granted ≡ is_granted j
 

@@ -48,10 +48,10 @@ pub(crate) struct Transfer {
 pub(crate) struct State {
     pub(crate) cycle: Cycle,
     pub(crate) transfer: Transfer,
-    /// A strobe rose since DTACK* last fell.
-    pub(crate) acknowledge_freed: bool,
-    /// A strobe rose since BERR* last fell.
-    pub(crate) error_freed: bool,
+    /// A strobe rose since DTACK* last fell, or since the start of the stretch.
+    pub(crate) dtack_may_rise: bool,
+    /// A strobe rose since BERR* last fell, or since the start of the stretch.
+    pub(crate) berr_may_rise: bool,
     /// Of each level: it was requested since the last grant.
     pub(crate) requested: [bool; 4],
     /// A grant came since the bus became busy.
@@ -175,8 +175,8 @@ impl State {
                 answered: false,
                 rose: false,
             },
-            acknowledge_freed: rises,
-            error_freed: rises,
+            dtack_may_rise: rises,
+            berr_may_rise: rises,
             requested: [
                 bus.requests(0),
                 bus.requests(1),
@@ -230,8 +230,8 @@ impl State {
         State {
             cycle: self.cycle.later(bus, is_answer, writes),
             transfer: self.transfer.later(bus),
-            acknowledge_freed: (self.acknowledge_freed & !acknowledge_falls) | rises,
-            error_freed: (self.error_freed & !error_falls) | rises,
+            dtack_may_rise: (self.dtack_may_rise & !acknowledge_falls) | rises,
+            berr_may_rise: (self.berr_may_rise & !error_falls) | rises,
             requested: self.requested_later(bus),
             granted: (self.granted | grants) & !busy_falls,
         }
@@ -280,9 +280,9 @@ impl State {
             → result ≡ is_freed t stretch line j }
     {
         if line == Line::DTACK {
-            self.acknowledge_freed
+            self.dtack_may_rise
         } else {
-            self.error_freed
+            self.berr_may_rise
         }
     }
 

@@ -1,4 +1,4 @@
-//! A hash of bytes, by Fowler, Noll and Vo.
+//! A hash of bytes: FNV-1a with 64 bits, by Fowler, Noll and Vo.
 
 ghost use Rattle.std.specs.Prelude.{◌≡◌};
 ghost use Rattle.vme_declarations.specs.Hashes.{hash_of, hash_of_number};

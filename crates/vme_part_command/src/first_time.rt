@@ -15,7 +15,7 @@ use vme_trace::Source;
 
 /// The first time of a dump that begins with `front`, if `front` determines it. With fewer than `least` bytes it isn't
 /// tried; a try sets `least` to twice the bytes. So all tries together take time in proportion to the bytes.
-fn start_in_time(alloc: Global, front: &[u8], least: &mut usize) -> Result<Start, AllocError>
+fn start_if_doubled(alloc: Global, front: &[u8], least: &mut usize) -> Result<Start, AllocError>
     ensures { IfOk result (λ start. (rest : List ℕ) → DeterminesStart (front.now ++ rest) start) }
 {
     if front.len() < *least {
@@ -44,7 +44,7 @@ pub(crate) fn read_start<D: Source>(
     let mut least = 0;
     'reading: while !input.is_whole() {
         let held = input.bytes();
-        match start_in_time(alloc, held, &mut least) {
+        match start_if_doubled(alloc, held, &mut least) {
             Ok(Start::Determined(start)) => return Ok(start),
             Ok(Start::Undetermined) => {}
             Err(_) => return Err(Refusal::Memory),

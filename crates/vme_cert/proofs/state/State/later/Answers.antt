@@ -12,10 +12,10 @@ returns c t stretch h =
       cycle = c.later.ensures t stretch c.args.self.now h refl (c.is_answer-is_answer.ensures t stretch h)
           (c.answers_write-writes.ensures t stretch h);
       transfer = c.later-2.ensures t stretch h.at h.judged h.holds.transfer;
-      acknowledge_freed = any_since-field_step t stretch (falls t DTACK) (strobe_rises t) j h.judged
-          h.holds.acknowledge_freed
+      dtack_may_rise = any_since-field_step t stretch (falls t DTACK) (strobe_rises t) j h.judged
+          h.holds.dtack_may_rise
           (c.falls-acknowledge_falls.ensures t h.at) rises;
-      error_freed = any_since-field_step t stretch (falls t BERR) (strobe_rises t) j h.judged h.holds.error_freed
+      berr_may_rise = any_since-field_step t stretch (falls t BERR) (strobe_rises t) j h.judged h.holds.berr_may_rise
           (c.falls-error_falls.ensures t h.at) rises;
       requested = c.requested_later.ensures t stretch h.at h.judged h.holds.requested;
       granted = any_after-field_step t stretch (falls t BBSY) (grant_falls t) j h.judged h.holds.granted

@@ -17,8 +17,8 @@ returns c t stretch at start =
         absent = λ e. greatest-empty (cycle_starts t stretch) (stretch.start + 1) (stretch.start + 1) (omega arith);
       };
       transfer = record { here = λ e. absurd (cc); absent = λ e. AreClosed-at_start t stretch };
-      acknowledge_freed = rises ∙ sym (any_since-at_start t stretch (falls t DTACK) (strobe_rises t));
-      error_freed = rises ∙ sym (any_since-at_start t stretch (falls t BERR) (strobe_rises t));
+      dtack_may_rise = rises ∙ sym (any_since-at_start t stretch (falls t DTACK) (strobe_rises t));
+      berr_may_rise = rises ∙ sym (any_since-at_start t stretch (falls t BERR) (strobe_rises t));
       requested = get_or-four_levels (λ n. is_requested t stretch n (stretch.start + 1))
           _ _ _ _ (c.requests.ensures t at ∙ begins 0)
           (c.requests-2.ensures t at ∙ begins 1) (c.requests-3.ensures t at ∙ begins 2)
