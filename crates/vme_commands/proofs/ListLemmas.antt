@@ -1,9 +1,9 @@
 -- How `list` ends: with the status of the verdict, and what is written is the text of the listing or a first part of
 -- it.
-use Rattle.std.proofs.Common.{◌≡◌, ◌≤◌, ◌↔◌, ℕ, suc, Bool, true, false, List, [], ◌∷◌, ◌++◌, ◌-◌, length, take, refl}
-use Rattle.std.proofs.Common.{ap, subst, ◌∙◌, arith}
+use Rattle.std.proofs.Common.{◌≡◌, ◌≤◌, ◌↔◌, ℕ, suc, Bool, true, false, List, [], ◌∷◌, ◌++◌, length, take, refl}
+use Rattle.std.proofs.Common.{ap, subst, ◌∙◌}
 use Rattle.std.specs.Io.KnownBytes.{Appends}
-use Rattle.std.specs.Prelude.{Option, Some, None, Result, Ok, Err, flat_map, slice_get, if◌then◌else◌}
+use Rattle.std.specs.Prelude.{Option, Some, None, Result, Ok, Err, flat_map, if◌then◌else◌}
 use Rattle.std.specs.List.{last_or}
 use Rattle.std.specs.Option.{option_map_or}
 use Rattle.vcd_read.specs.Header.{◌>>=◌}
@@ -45,21 +45,6 @@ use Rattle.vme_commands.specs.Settled.{settled_recording}
 last_or-append : (o : Option Row) (rows : List Row) (row : Row) → last_or o (rows ++ row ∷ []) ≡ Some row
 last_or-append o [] row = refl
 last_or-append o (r ∷ rows) row = last_or-append (Some r) rows row
-
--- the last of n + 1 rows is at the index n
-last_or-get : (o : Option Row) (row : Row) (rows : List Row) → last_or o (row ∷ rows) ≡ slice_get (row ∷ rows)
-    (length rows)
-last_or-get o row [] = refl
-last_or-get o row (next ∷ rows) = last_or-get (Some row) next rows
-
--- a number is its successor less 1
-less_one : (n : ℕ) → n ≡ suc n - 1
-less_one n = omega arith
-
--- the last of some rows, if there are any, is at the index one less than their number
-pub last_or-slice_get : (rows : List Row) → last_or None rows ≡ slice_get rows (length rows - 1)
-last_or-slice_get [] = refl
-last_or-slice_get (row ∷ rows) = last_or-get None row rows ∙ ap (slice_get (row ∷ rows)) (less_one (length rows))
 
 -- the status of the row for a break is that of its verdict
 verdict_row_status-break : (b : Break) (unreadable : Bool)
