@@ -37,9 +37,9 @@ IsMarkup-append old more m n = (
 )
 
 -- an empty text is markup
-pub IsMarkup-empty : (new : List ℕ) → new ≡ [] → IsMarkup new
+pub is_markup_empty : (new : List ℕ) → new ≡ [] → IsMarkup new
 unfolding markup_text
-IsMarkup-empty new is = (nothing, is)
+is_markup_empty new is = (nothing, is)
 
 -- markup and then escaped characters are markup
 pub IsMarkup-characters : (old new bytes : List ℕ) → IsMarkup old → new ≡ old ++ escaped bytes → IsMarkup new
@@ -70,8 +70,8 @@ IsMarkup-element old new name attributes inner m a i is =
     (more.0, is ∙ more.1)
 
 -- an empty text is a list of no attributes
-pub AreAttributes-empty : (new : List ℕ) → new ≡ [] → AreAttributes new
-AreAttributes-empty new is = ([], is)
+pub are_attributes_empty : (new : List ℕ) → new ≡ [] → AreAttributes new
+are_attributes_empty new is = ([], is)
 
 -- attributes and then one more are attributes
 pub AreAttributes-append : (old new : List ℕ) (name : Attribute) (value : List ℕ) → AreAttributes old

@@ -130,7 +130,7 @@ impl Model for Attributes {
 
 impl Attributes {
     /// No attributes.
-    #[tactic(auto, using(crate::proofs::MarkupLemmas::AreAttributes-empty))]
+    #[tactic(auto, using(crate::proofs::MarkupLemmas::are_attributes_empty))]
     pub fn new(alloc: Global) -> Attributes
         ensures { result ≡ [] }
     {
@@ -205,7 +205,7 @@ impl Model for Markup {
 
 impl Markup {
     /// Empty markup.
-    #[tactic(auto, using(crate::proofs::MarkupLemmas::IsMarkup-empty))]
+    #[tactic(auto, using(crate::proofs::MarkupLemmas::is_markup_empty))]
     pub fn new(alloc: Global) -> Markup
         ensures { result ≡ [] }
     {
