@@ -2,8 +2,9 @@
 use Rattle.std.proofs.Common.{◌≡◌, ℕ, zero, suc, ◌+◌, ◌<◌, ◌≤◌, ◌^◌, Bool, true, false, List, [], ◌∷◌, ◌++◌, length}
 use Rattle.std.proofs.Common.{Option, None, Some, refl, sym, ap, subst, ◌∙◌, arith, append-nil, length-append, map}
 use Rattle.std.proofs.lemmas.List.{length-map}
+use Rattle.std.proofs.lemmas.List.Elements.{All-head, All-same}
 use Rattle.std.proofs.lemmas.Nat.{pow-add, pow_pos}
-use Rattle.std.specs.Prelude.{if◌then◌else◌, slice_get}
+use Rattle.std.specs.Prelude.{All, if◌then◌else◌, slice_get}
 use Rattle.std.specs.Option.{option_map, option_or}
 use Rattle.vme_trace.specs.Blocks.{joined_steps}
 use Rattle.vme_trace.specs.Followed.{with_steps}
@@ -33,12 +34,14 @@ use Rattle.vme_parts.specs.Buddies.{HasTables}
 use Rattle.vme_file_part.specs.Growing.{IsExtended, FileMayGoOn, StandsForFile}
 use Rattle.vme_parts.specs.Meeting.{ends_at, starts_at}
 use Rattle.vme_file_part.specs.FileOf.{file_of}
+use Rattle.vme_parts.specs.OnlyWithMarks.{HaveNodes}
 use Rattle.vme_parts.specs.Opened.{opening_of, opens, steps_of}
 use Rattle.vme_parts.proofs.OneFile.{SegmentStandsFor-one_file, first_with_step-one_file}
 use Rattle.vme_parts.proofs.OpenedFile.{length-steps_of, malformed_step-of_file}
 use Rattle.vme_parts.proofs.Runs.{IsRun-acknowledge, IsRun-grant, IsRun-handshake, IsRun-known, IsRun-stability}
 use Rattle.vme_parts.proofs.Runs.{AgreesWithRuns-of_both}
 use Rattle.vme_parts.proofs.Standing.{last_time-joined_times, number-joined_times, first_time-joined_times}
+use Rattle.vme_file_part.proofs.MarkedNodes.{HaveNodes-extended}
 
 -- ---- what a segment of one file has
 
@@ -221,6 +224,7 @@ module _ (listing : Bool) (s t r : SegmentValue) (number : ℕ) (o : Levels) (x 
         (levels_after o x) x y s.acknowledge t.acknowledge r.acknowledge refl length-fits_64_bits
         (subst (λ (n : ℕ). IsComposition n s.acknowledge t.acknowledge r.acknowledge) length-first_steps e.acknowledge)
         (AgreesWithRuns-acknowledge listing s before a) (AgreesWithRuns-acknowledge listing t more_steps b));
+    nodes = HaveNodes-extended listing s t r e a.nodes b.nodes;
   }
 
 -- if the steps x and then y are well-formed, so are the steps y from the levels after x
@@ -300,12 +304,18 @@ order-zero (suc k) e = absurd (omega (arith, e, pow-add 2 k 1, pow_pos k, ap (λ
     next : (k : ℕ) → suc k ≡ k + 1
     next k = omega arith
 
--- the only segment of a part of one file stands for that file
+-- the only segment of a part of one file stands for that file, if the part has nodes only with marks
 pub StandsForFile-only_segment : (listing : Bool) (b : Block) (p : PartValue) (s : SegmentValue)
-    → IsPartOfFile listing b p
+    → IsPartOfFile listing b p → All (HaveNodes listing) p.segments
     → p.segments ≡ s ∷ [] → StandsForFile listing s b
-StandsForFile-only_segment listing b p s (own, one, first, stands) is =
+StandsForFile-only_segment listing b p s (own, one, first, stands) nodes is =
     let both : own ∷ [] ≡ s ∷ [] = sym one ∙ is in
     let same : own ≡ s = cc in
     subst (λ (u : SegmentValue). StandsForFile listing u b) same
-    (record { first = first; order = order-zero own.order stands.as_many; stands = stands })
+    (record {
+      first = first;
+      order = order-zero own.order stands.as_many;
+      stands = stands;
+      nodes = All-head (HaveNodes listing) own []
+          (All-same (HaveNodes listing) (own ∷ []) p.segments (sym one) nodes);
+    })

@@ -1,2 +1,3 @@
+mod MarkedNodes
 pub mod GrownFile
 pub mod SoFar

@@ -1,6 +1,7 @@
 //! A file whose steps are given some at a time.
 
-ghost use Rattle.std.specs.Prelude.{◌≡◌, ◌+◌, ◌<◌, ◌≤◌, ◌++◌, ◌∷◌, ℕ, [], Bool, IfOk, List, None, Option, Some, length};
+ghost use Rattle.std.specs.Prelude.{◌≡◌, ◌+◌, ◌<◌, ◌≤◌, ◌++◌, ◌∷◌, ℕ, [], Bool, IfErr, IfOk, List, None, Option, Some};
+ghost use Rattle.std.specs.Prelude.{length};
 ghost use Rattle.vme_trace.specs.Followed.{with_steps};
 ghost use Rattle.vme_trace.specs.Levels.{Levels};
 ghost use Rattle.vme_trace.specs.Trace.{Trace};
@@ -10,6 +11,7 @@ ghost use Rattle.vme_summary.specs.Joins.{block_of};
 ghost use Rattle.vme_part_format.specs.Tables.{part_value, segment_value};
 ghost use Rattle.vme_parts.specs.Buddies.{HasTables};
 ghost use Rattle.vme_parts.specs.Files.{IsPartOfFile};
+ghost use Rattle.vme_parts.specs.OnlyWithMarks.{HaveNodes, IsRefusedFile};
 ghost use Rattle.vme_file_part.specs.Growing.{IsExtended, IsFileSoFar, IsFoundOfFile, IsFoundIn, FileMayGoOn};
 ghost use Rattle.vme_file_part.specs.Growing.{StandsForFile};
 ghost use Rattle.vme_file_part.specs.FileOf.{file_of};
@@ -39,7 +41,9 @@ fn extended(alloc: Global, first: Segment, second: Segment) -> Result<Segment, P
     requires first { HasTables (segment_value first) }
     requires second { HasTables (segment_value second) }
     requires steps { first.steps + second.steps ≤ 268435456 }
-    ensures { IfOk result (λ r. IsExtended (segment_value first) (segment_value second) (segment_value r)) }
+    ensures extends { IfOk result (λ r. IsExtended (segment_value first) (segment_value second) (segment_value r)) }
+    ensures refused { (listing : Bool) → HaveNodes listing (segment_value first)
+        → HaveNodes listing (segment_value second) → IfErr result (IsRefusedFile listing) }
 {
     let by = first.steps;
     let known = joined_table(alloc, first.known, second.known, by)?;
@@ -72,9 +76,10 @@ fn with_more(
 ) -> Result<Segment, PartRefusal>
     requires { (o : Levels) × (x : List Step) × StandsForFile listing (segment_value segment) (block_of number o x)
         × FileMayGoOn (record { opening = o; steps = x }) steps.now }
-    ensures { (o : Levels) (x : List Step) → StandsForFile listing (segment_value segment) (block_of number o x)
+    ensures stands { (o : Levels) (x : List Step) → StandsForFile listing (segment_value segment) (block_of number o x)
         → FileMayGoOn (record { opening = o; steps = x }) steps.now
         → IfOk result (λ s. StandsForFile listing (segment_value s) (block_of number o (x ++ steps.now))) }
+    ensures refused { IfErr result (IsRefusedFile listing) }
 {
     let more = segment_of(alloc, listing, number, &segment.left, steps)?;
     extended(alloc, segment, more)
@@ -90,8 +95,9 @@ fn begun(
     steps: &[Step],
 ) -> Result<Segment, PartRefusal>
     requires { FileMayGoOn (record { opening = opening.now; steps = [] }) steps.now }
-    ensures { IfOk result (λ s. StandsForFile listing (segment_value s)
+    ensures stands { IfOk result (λ s. StandsForFile listing (segment_value s)
         (file_of number start (record { opening = opening.now; steps = steps.now }))) }
+    ensures refused { IfErr result (IsRefusedFile listing) }
 {
     let mut opening = *opening;
     let steps = steps_of_file(number, start, &mut opening, steps);
@@ -111,8 +117,9 @@ fn segment_with(
 ) -> Result<Segment, PartRefusal>
     requires some { 0 < length steps.now }
     requires found { (t : Trace) × IsFoundIn number listing start opening.now segment t × FileMayGoOn t steps.now }
-    ensures { (t : Trace) → IsFoundIn number listing start opening.now segment t → FileMayGoOn t steps.now
+    ensures found { (t : Trace) → IsFoundIn number listing start opening.now segment t → FileMayGoOn t steps.now
         → IfOk result (λ s. IsFoundOfFile number listing start (Some s) (with_steps t steps.now)) }
+    ensures refused { IfErr result (IsRefusedFile listing) }
 {
     match segment {
         Some(segment) => with_more(alloc, listing, number, segment, steps),
@@ -130,9 +137,10 @@ fn whole_segment(
 ) -> Result<Segment, PartRefusal>
     requires { (start : Option ℕ) × (t : Trace) × IsFoundIn number listing start opening.now segment t
         × (malformed_step t ≡ None) }
-    ensures { (start : Option ℕ) (t : Trace) → IsFoundIn number listing start opening.now segment t
+    ensures stands { (start : Option ℕ) (t : Trace) → IsFoundIn number listing start opening.now segment t
         → malformed_step t ≡ None
         → IfOk result (λ s. StandsForFile listing (segment_value s) (file_of number start t)) }
+    ensures refused { IfErr result (IsRefusedFile listing) }
 {
     match segment {
         Some(segment) => Ok(segment),
@@ -153,6 +161,7 @@ fn part_with(
     ensures backplane { IfOk result (λ p. p.backplane ≡ backplane) }
     ensures listing { IfOk result (λ p. p.listing ≡ listing) }
     ensures one { IfOk result (λ p. (part_value p).segments ≡ segment_value segment ∷ []) }
+    ensures refused { IfErr result (IsRefusedFile listing) }
 {
     let mut segments = Vec::new(alloc);
     segments.push(segment)?;
@@ -182,9 +191,11 @@ impl FileSoFar {
     pub fn go_on(self, alloc: Global, steps: &[Step]) -> Result<FileSoFar, PartRefusal>
         requires { (number : ℕ) × (listing : Bool) × (start : Option ℕ) × (t : Trace)
             × IsFileSoFar number listing start self t × FileMayGoOn t steps.now }
-        ensures { (number : ℕ) (listing : Bool) (start : Option ℕ) (t : Trace)
+        ensures so_far { (number : ℕ) (listing : Bool) (start : Option ℕ) (t : Trace)
             → IsFileSoFar number listing start self t → FileMayGoOn t steps.now
             → IfOk result (λ f. IsFileSoFar number listing start f (with_steps t steps.now)) }
+        ensures refused { (number : ℕ) (listing : Bool) (start : Option ℕ) (t : Trace)
+            → IsFileSoFar number listing start self t → IfErr result (IsRefusedFile listing) }
     {
         if steps.is_empty() {
             return Ok(self);
@@ -215,6 +226,8 @@ impl FileSoFar {
         ensures stands { (number : ℕ) (listing : Bool) (start : Option ℕ) (t : Trace)
             → IsFileSoFar number listing start self t → malformed_step t ≡ None
             → IfOk result (λ p. IsPartOfFile listing (file_of number start t) (part_value p)) }
+        ensures refused { (number : ℕ) (listing : Bool) (start : Option ℕ) (t : Trace)
+            → IsFileSoFar number listing start self t → IfErr result (IsRefusedFile listing) }
     {
         let FileSoFar {
             number,

@@ -11,12 +11,13 @@
 //!
 //! The segment so far stands for the file that the steps make so far (`IsFileSoFar`), and the part
 //! is one of the whole file (`into_part`). Except for number 0, the levels after the dump's first
-//! time are the opening of the file (`file_of`).
+//! time are the opening of the file (`file_of`). Without marks a file is refused only for lack of
+//! memory (`refused`).
 //!
 //! # What isn't proved
 //!
-//! That memory suffices. The steps aren't kept: without marks a [`FileSoFar`] has the same size
-//! however many steps it is given.
+//! That memory suffices, and that with marks no file has too many. The steps aren't kept: without
+//! marks a [`FileSoFar`] has the same size however many steps it is given.
 //!
 //! Start reading at `specs/FileOf`, then `specs/Growing`.
 #![tactic(auto)]

@@ -1,12 +1,14 @@
 //! Segments of one file. vme_parts makes the part of steps, whose segment is taken.
 
-ghost use Rattle.std.specs.Prelude.{◌≡◌, ◌∷◌, ◌≤◌, [], ℕ, IfOk, None, length};
+ghost use Rattle.std.specs.Prelude.{◌≡◌, ◌∷◌, ◌≤◌, [], ℕ, Bool, IfErr, IfOk, None, length};
 ghost use Rattle.vme_trace.specs.WellFormed.{malformed_step};
 ghost use Rattle.vme_summary.specs.Joins.{block_of};
+ghost use Rattle.vme_part_format.specs.Bounds.{HasNodes};
 ghost use Rattle.vme_part_format.specs.Tables.{part_value, segment_value, table_value};
 ghost use Rattle.vme_part_tables.specs.Runs.{IsComposition};
 ghost use Rattle.vme_parts.specs.Buddies.{IsTableOf};
 ghost use Rattle.vme_parts.specs.Joined.{joined_times};
+ghost use Rattle.vme_parts.specs.OnlyWithMarks.{IsRefusedFile};
 ghost use Rattle.vme_file_part.specs.Growing.{StandsForFile};
 
 use std::alloc::Global;
@@ -41,7 +43,9 @@ pub(crate) fn segment_of(
 ) -> Result<Segment, PartRefusal>
     requires accepted { malformed_step (record { opening = opening.now; steps = steps.now }) ≡ None }
     requires few { length steps.now ≤ 268435456 }
-    ensures { IfOk result (λ s. StandsForFile listing (segment_value s) (block_of number opening.now steps.now)) }
+    ensures stands { IfOk result
+        (λ s. StandsForFile listing (segment_value s) (block_of number opening.now steps.now)) }
+    ensures refused { IfErr result (IsRefusedFile listing) }
 {
     let part = part_of_steps(alloc, 0, listing, number, opening, steps)?;
     Ok(only_segment(part))
@@ -55,13 +59,17 @@ pub(crate) fn joined_table(
     steps: u64,
 ) -> Result<OutcomeTable, PartRefusal>
     requires { (n : ℕ) × IsTableOf n (table_value first) × IsTableOf n (table_value second) }
-    ensures { IfOk result (λ t. IsComposition steps (table_value first) (table_value second) (table_value t)) }
+    ensures joins { IfOk result (λ t. IsComposition steps (table_value first) (table_value second) (table_value t)) }
+    ensures refused { (listing : Bool) → HasNodes listing (table_value first).nodes
+        → HasNodes listing (table_value second).nodes → IfErr result (IsRefusedFile listing) }
 {
     if !are_few_together(&first, &second) {
         return Err(PartRefusal::TooManyNodes);
     }
-    let table = composed(alloc, first, second, steps)?;
-    Ok(table)
+    match composed(alloc, first, second, steps) {
+        Ok(table) => Ok(table),
+        Err(_) => Err(PartRefusal::Memory),
+    }
 }
 
 /// The times of the steps of `before` and then those of `after`.

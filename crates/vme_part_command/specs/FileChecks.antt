@@ -20,9 +20,10 @@ use Rattle.vme_part_command.specs.declared.file_check.FileCheck.{FileCheck}
 use Rattle.vme_part_command.specs.declared.no_part.NoPart.{NoPart}
 use Rattle.vme_part_command.specs.declared.no_part.NoPart.TheVariants as none
 
--- `file` is the file with the steps of t so far, unless a table has too many nodes (`None`)
+-- `file` is the file with the steps of t so far, unless a table has too many nodes (`None`), which it has only with
+-- marks (`listing`)
 abbrev pub IsFoundSoFar : ℕ → Bool → Option ℕ → Option FileSoFar → Trace → Type 0
-IsFoundSoFar number listing start None t = Unit {0}
+IsFoundSoFar number listing start None t = listing ≡ true
 IsFoundSoFar number listing start (Some file) t = IsFileSoFar number listing start file t
 
 -- `file` is the file with the steps of t before `pending`, the last ones
@@ -65,12 +66,12 @@ pub record IsPartOfSteps (number : ℕ) (listing : Bool) (start : Option ℕ) (b
     pub compact : IsCompactPart (part_value p)
     pub stands : IsPartOfFile listing (file_of number start t) (part_value p)
 
--- the result for all steps of t: the part, or why there is none; of `TooManyMarks` and `OutOfRange` it says only that t
--- isn't too long
+-- the result for all steps of t: the part, or why there is none; of `OutOfRange` it says only that t isn't too long, of
+-- `TooManyMarks` also that the part would have marks (`listing`)
 abbrev pub FindsOfSteps : ℕ → Bool → Option ℕ → ℕ → Trace → Result Part NoPart → Type 0
 FindsOfSteps number listing start backplane t (Ok part) =
     (limited t ≡ Ok t) × IsPartOfSteps number listing start backplane t part
 FindsOfSteps number listing start backplane t (Err (none.Refused refusal)) =
     AnswerGives (λ (u : Trace). u) (Err refusal) (or_bad_binding (limited t))
-FindsOfSteps number listing start backplane t (Err none.TooManyMarks) = limited t ≡ Ok t
+FindsOfSteps number listing start backplane t (Err none.TooManyMarks) = (limited t ≡ Ok t) × (listing ≡ true)
 FindsOfSteps number listing start backplane t (Err none.OutOfRange) = limited t ≡ Ok t

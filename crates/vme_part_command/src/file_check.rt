@@ -49,13 +49,13 @@ fn judge_more(
         → IsFoundSoFar number listing start file t → FileMayGoOn t steps.now
         → IfOk result (λ file. IsFoundSoFar number listing start file (with_steps t steps.now)) }
 {
-    let Some(file) = file else {
-        return Ok(None);
-    };
-    match file.go_on(alloc, steps) {
-        Ok(file) => Ok(Some(file)),
-        Err(PartRefusal::TooManyNodes) => Ok(None),
-        Err(PartRefusal::Memory) => Err(AllocError),
+    match file {
+        Some(file) => match file.go_on(alloc, steps) {
+            Ok(file) => Ok(Some(file)),
+            Err(PartRefusal::TooManyNodes) => Ok(None),
+            Err(PartRefusal::Memory) => Err(AllocError),
+        },
+        None => Ok(None),
     }
 }
 

@@ -10,11 +10,21 @@ use Rattle.vme_dtb.specs.HoldingNumbers.{holding_place}
 use Rattle.vme_chains.specs.GrantMemory.{arbitration_place}
 use Rattle.vme_chains.specs.AcknowledgeRules.{acknowledge_memory_place}
 use Rattle.vme_summary.specs.Runs.{known_run, handshake_run, stability_run, grant_run, acknowledge_run}
+use Rattle.vme_part_format.specs.Bounds.{HasNodes}
 use Rattle.vme_part_format.specs.Tables.{table_value}
 use Rattle.vme_part_tables.specs.Runs.{AgreesWithRuns}
 use Rattle.vme_parts.specs.declared.made.FileTables.{FileTables}
 
--- the tables agree with the monitors' runs over the steps x from the opening o, and `all.left` is the levels after x
+-- each of the tables has nodes only with marks (`true`)
+pub record TablesHaveNodes (listing : Bool) (all : FileTables) : Type 0 where
+  pub known : HasNodes listing (table_value all.known).nodes
+  pub handshake : HasNodes listing (table_value all.handshake).nodes
+  pub stability : HasNodes listing (table_value all.stability).nodes
+  pub grant : HasNodes listing (table_value all.grant).nodes
+  pub acknowledge : HasNodes listing (table_value all.acknowledge).nodes
+
+-- the tables agree with the monitors' runs over the steps x from the opening o, they have nodes only with marks
+-- (`listing`), and `all.left` is the levels after x
 pub record AreTablesOf (listing : Bool) (o : Levels) (x : List Step) (all : FileTables) : Type 0 where
   pub known : AgreesWithRuns listing 4 (phase_place nil_place) (table_value all.known) (λ p. known_run p o x)
   pub handshake : AgreesWithRuns listing 147 (phase_place memory_place) (table_value all.handshake)
@@ -24,4 +34,5 @@ pub record AreTablesOf (listing : Bool) (o : Levels) (x : List Step) (all : File
   pub grant : AgreesWithRuns listing 35 (phase_place arbitration_place) (table_value all.grant) (λ p. grant_run p o x)
   pub acknowledge : AgreesWithRuns listing 11 (phase_place acknowledge_memory_place) (table_value all.acknowledge)
       (λ p. acknowledge_run p o x)
+  pub nodes : TablesHaveNodes listing all
   pub left : all.left ≡ levels_after o x

@@ -9,4 +9,5 @@ pub mod Progress
 pub mod Covering
 pub mod Telling
 pub mod Alike
+pub mod OnlyWithMarks
 pub mod FileTables

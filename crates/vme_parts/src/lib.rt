@@ -19,7 +19,8 @@
 //!
 //! - The part of a file has one segment. Its tables agree with the runs of the five monitors over
 //!   the file's steps, from each memory in which it may begin (`SegmentStandsFor`,
-//!   [`part_of_steps`]).
+//!   [`part_of_steps`]). Without marks they have no nodes (`HaveNodes`), and a file is refused only
+//!   for lack of memory (`IsRefusedFile`).
 //! - If parts are of the files of a recording, [`join_parts`] answers a part of the same files. It
 //!   covers exactly the files that any of them covers (`JoinsParts`), and it can be written. The
 //!   joined parts are of one backplane, all have marks or none has, and no two of their segments of
@@ -36,8 +37,8 @@
 //!
 //! # What isn't proved
 //!
-//! That memory suffices. That [`join_parts`] refuses no parts of files for too many nodes, and that
-//! [`can_write`] refuses no part of a file.
+//! That memory suffices. That with marks [`part_of_steps`] refuses no file for too many nodes, and
+//! [`join_parts`] no parts of files. That [`can_write`] refuses no part of a file.
 //!
 //! # In which order to read
 //!

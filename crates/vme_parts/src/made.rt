@@ -1,6 +1,6 @@
 //! The part of one file.
 
-ghost use Rattle.std.specs.Prelude.{◌≡◌, ◌≤◌, ◌∷◌, [], IfOk, None, false, length, slice_get, true};
+ghost use Rattle.std.specs.Prelude.{◌≡◌, ◌≤◌, ◌∷◌, [], All, IfErr, IfOk, None, false, length, slice_get, true};
 ghost use Rattle.std.specs.Option.{option_map};
 ghost use Rattle.vme_trace.specs.Block.{trace_of};
 ghost use Rattle.vme_trace.specs.WellFormed.{malformed_step};
@@ -12,6 +12,7 @@ ghost use Rattle.vme_part_tables.specs.Runs.{AgreesWithRuns};
 ghost use Rattle.vme_parts.specs.FileTables.{AreTablesOf};
 ghost use Rattle.vme_parts.specs.Files.{IsPartOfFile};
 ghost use Rattle.vme_parts.specs.Meeting.{ends_at, starts_at};
+ghost use Rattle.vme_parts.specs.OnlyWithMarks.{HaveNodes, IsRefusedFile};
 ghost use Rattle.vme_parts.specs.Stands.{SegmentStandsFor};
 
 use crate::part_refusal::PartRefusal;
@@ -32,8 +33,9 @@ use vme_trace::{Lines, Step};
 
 /// The table without marks of a monitor's summary.
 fn bare_table<M: Finite>(alloc: Global, summary: &M::Summary) -> Result<OutcomeTable, AllocError>
-    ensures { IfOk result (λ t. AgreesWithRuns false M.COUNT M.place_of (table_value t)
+    ensures agrees { IfOk result (λ t. AgreesWithRuns false M.COUNT M.place_of (table_value t)
         (λ p. M.outcome summary.now p)) }
+    ensures none { IfOk result (λ t. (table_value t).nodes ≡ []) }
 {
     let mut entries = Vec::with_capacity(alloc, M::COUNT)?;
     for place in 0..M::COUNT {
@@ -116,7 +118,8 @@ fn tables_of(
 ) -> Result<FileTables, PartRefusal>
     requires accepted { malformed_step (record { opening = opening.now; steps = steps.now }) ≡ None }
     requires few { length steps.now ≤ 268435456 }
-    ensures { IfOk result (AreTablesOf listing opening.now steps.now) }
+    ensures tables { IfOk result (AreTablesOf listing opening.now steps.now) }
+    ensures refused { IfErr result (IsRefusedFile listing) }
 {
     if listing {
         return marked_tables(alloc, opening, steps);
@@ -159,6 +162,8 @@ fn segment_of_steps(
     ensures first { IfOk result (λ s. s.first ≡ number) }
     ensures stands { IfOk result (λ s.
         SegmentStandsFor listing (segment_value s) (block_of number opening.now steps.now ∷ [])) }
+    ensures nodes { IfOk result (λ s. HaveNodes listing (segment_value s)) }
+    ensures refused { IfErr result (IsRefusedFile listing) }
 {
     let first = u64::from(number);
     let times = times_of(first, steps);
@@ -192,6 +197,8 @@ pub fn part_of_steps(
     ensures backplane { IfOk result (λ p. p.backplane ≡ backplane) }
     ensures listing { IfOk result (λ p. p.listing ≡ listing) }
     ensures stands { IfOk result (λ p. IsPartOfFile listing (block_of number opening.now steps.now) (part_value p)) }
+    ensures nodes { IfOk result (λ p. All (HaveNodes listing) (part_value p).segments) }
+    ensures refused { IfErr result (IsRefusedFile listing) }
 {
     let segment = segment_of_steps(alloc, listing, number, opening, steps)?;
     let mut segments = Vec::new(alloc);

@@ -9,7 +9,7 @@ use std::alloc::{AllocError, AllocFailed};
 pub enum PartRefusal {
     /// There is no memory.
     Memory,
-    /// A table has too many nodes for ways of 32 bits.
+    /// A table with marks has too many nodes for ways of 32 bits.
     TooManyNodes,
 }
 

@@ -16,8 +16,8 @@ segment_of-requires-clause-accepted c = c.steps_of_file-steps.ensures.formed c.r
 pub segment_of-requires-clause-few : goal.segment_of-requires-clause-few
 segment_of-requires-clause-few c = omega (arith, c.steps_of_file-steps.ensures.few, c.requires.few)
 
-pub returns : goal.returns
-returns c =
+pub returns-clause-stands : goal.returns-clause-stands
+returns-clause-stands c =
     let number = c.args.number in
     let made = c.segment_of.result in
     let behind = c.steps_of_file-steps.ensures in
@@ -25,4 +25,7 @@ returns c =
     subst (λ (b : Block). IfOk made (λ s. StandsForFile c.args.listing (segment_value s) b))
     (ap (λ (o : Levels). block_of number o rest) behind.opening
     ∙ ap (λ (l : List Step). block_of number (opening_of number c.args.start c.args.opening.now c.args.steps.now) l)
-    behind.steps) c.segment_of.ensures
+    behind.steps) c.segment_of.ensures.stands
+
+pub returns-clause-refused : goal.returns-clause-refused
+returns-clause-refused c = c.segment_of.ensures.refused

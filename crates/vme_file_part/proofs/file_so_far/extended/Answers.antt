@@ -1,4 +1,5 @@
 use Rattle.std.proofs.Common.{refl}
+use Rattle.std.proofs.lemmas.Result.{err_from_is_err_and}
 use Rattle.vme_file_part.proofs.file_so_far.extended.Goals as goal
 
 -- 4, 147, 13, 35 and 11 are the numbers of memories (states) of the five monitors
@@ -17,8 +18,8 @@ joined_table-requires-4 c = (35, c.requires.first.grant, c.requires.second.grant
 pub joined_table-requires-5 : goal.joined_table-requires-5
 joined_table-requires-5 c = (11, c.requires.first.acknowledge, c.requires.second.acknowledge)
 
-pub returns : goal.returns
-returns c =
+pub returns-clause-extends : goal.returns-clause-extends
+returns-clause-extends c =
     record {
       first = refl;
       order = refl;
@@ -26,9 +27,35 @@ returns c =
       opening = refl;
       left = refl;
       times = c.later_times.ensures;
-      known = c.in_ok-known.ensures;
-      handshake = c.in_ok-handshake.ensures;
-      stability = c.in_ok-stability.ensures;
-      grant = c.in_ok-grant.ensures;
-      acknowledge = c.in_ok-acknowledge.ensures;
+      known = c.in_ok-known.ensures.joins;
+      handshake = c.in_ok-handshake.ensures.joins;
+      stability = c.in_ok-stability.ensures.joins;
+      grant = c.in_ok-grant.ensures.joins;
+      acknowledge = c.in_ok-acknowledge.ensures.joins;
     }
+
+pub returns-in_err-known-clause-refused : goal.returns-in_err-known-clause-refused
+returns-in_err-known-clause-refused c listing a b =
+    let p = err_from_is_err_and c.from_residual.result c.from_residual.ensures.1 in
+    rw (p.1, p.2) (c.in_err-known.ensures.refused listing a.known b.known)
+
+pub returns-in_err-handshake-clause-refused : goal.returns-in_err-handshake-clause-refused
+returns-in_err-handshake-clause-refused c listing a b =
+    let p = err_from_is_err_and c.from_residual-in_err-handshake.result c.from_residual-in_err-handshake.ensures.1 in
+    rw (p.1, p.2) (c.in_err-handshake.ensures.refused listing a.handshake b.handshake)
+
+pub returns-in_err-stability-clause-refused : goal.returns-in_err-stability-clause-refused
+returns-in_err-stability-clause-refused c listing a b =
+    let p = err_from_is_err_and c.from_residual-in_err-stability.result c.from_residual-in_err-stability.ensures.1 in
+    rw (p.1, p.2) (c.in_err-stability.ensures.refused listing a.stability b.stability)
+
+pub returns-in_err-grant-clause-refused : goal.returns-in_err-grant-clause-refused
+returns-in_err-grant-clause-refused c listing a b =
+    let p = err_from_is_err_and c.from_residual-in_err-grant.result c.from_residual-in_err-grant.ensures.1 in
+    rw (p.1, p.2) (c.in_err-grant.ensures.refused listing a.grant b.grant)
+
+pub returns-in_err-acknowledge-clause-refused : goal.returns-in_err-acknowledge-clause-refused
+returns-in_err-acknowledge-clause-refused c listing a b =
+    let p = err_from_is_err_and c.from_residual-in_err-acknowledge.result
+    c.from_residual-in_err-acknowledge.ensures.1 in
+    rw (p.1, p.2) (c.in_err-acknowledge.ensures.refused listing a.acknowledge b.acknowledge)

@@ -18,8 +18,8 @@ with_more-requires c =
           c.args.steps.now may,
     )
 
-pub returns-in-Some : goal.returns-in-Some
-returns-in-Some c t h may =
+pub returns-in-Some-clause-found : goal.returns-in-Some-clause-found
+returns-in-Some-clause-found c t h may =
     let number = c.args.number in
     let listing = c.args.listing in
     let start = c.args.start in
@@ -28,7 +28,7 @@ returns-in-Some c t h may =
     IfOk-weaker c.with_more.result _ _
     (λ s stands. IsFoundOfFile-with_steps number listing start opening c.args.segment t h c.in-Some.segment c.in-Some.is
     y s stands)
-    (c.with_more.ensures (opening_of number start t.opening t.steps) (steps_of number start t.steps)
+    (c.with_more.ensures.stands (opening_of number start t.opening t.steps) (steps_of number start t.steps)
     (StandsForFile-so_far number listing start opening c.args.segment t h c.in-Some.segment c.in-Some.is)
     (FileMayGoOn-so_far number listing start opening c.args.segment t h c.in-Some.segment c.in-Some.is y may))
 
@@ -38,9 +38,15 @@ begun-requires c =
     FileMayGoOn-first_steps c.args.number c.args.listing c.args.start c.args.opening.now c.args.segment t h c.in-None.is
     c.args.steps.now may
 
-pub returns-in-None : goal.returns-in-None
-returns-in-None c t h may =
+pub returns-in-None-clause-found : goal.returns-in-None-clause-found
+returns-in-None-clause-found c t h may =
     IfOk-weaker c.begun.result _ _
     (λ s stands. IsFoundOfFile-first_steps c.args.number c.args.listing c.args.start c.args.opening.now c.args.segment t
     h
-    c.in-None.is c.args.steps.now s c.requires.some stands) c.begun.ensures
+    c.in-None.is c.args.steps.now s c.requires.some stands) c.begun.ensures.stands
+
+pub returns-in-Some-clause-refused : goal.returns-in-Some-clause-refused
+returns-in-Some-clause-refused c = c.with_more.ensures.refused
+
+pub returns-in-None-clause-refused : goal.returns-in-None-clause-refused
+returns-in-None-clause-refused c = c.begun.ensures.refused

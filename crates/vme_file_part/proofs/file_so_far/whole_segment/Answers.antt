@@ -9,8 +9,8 @@ use Rattle.vme_file_part.specs.Growing.{StandsForFile}
 use Rattle.vme_file_part.proofs.SoFar.{malformed_step-without_steps, StandsForFile-without_steps, StandsForFile-so_far}
 use Rattle.vme_file_part.proofs.file_so_far.whole_segment.Goals as goal
 
-pub returns-in-Some : goal.returns-in-Some
-returns-in-Some c start t h sound =
+pub returns-in-Some-clause-stands : goal.returns-in-Some-clause-stands
+returns-in-Some-clause-stands c start t h sound =
     StandsForFile-so_far c.args.number c.args.listing start c.args.opening.now c.args.segment t h c.in-Some.segment
     c.in-Some.is
 
@@ -22,11 +22,14 @@ segment_of-requires-clause-accepted c =
     ∙ malformed_step-without_steps c.args.number c.args.listing start c.args.opening.now c.args.segment t h c.in-None.is
     sound
 
-pub returns-in-None : goal.returns-in-None
-returns-in-None c start t h sound =
+pub returns-in-None-clause-stands : goal.returns-in-None-clause-stands
+returns-in-None-clause-stands c start t h sound =
     let opening = c.args.opening.now in
     IfOk-weaker c.segment_of.result _ _
     (λ s stands. StandsForFile-without_steps c.args.number c.args.listing start opening c.args.segment t h c.in-None.is
     (segment_value s)
     (subst (λ (l : List Step). StandsForFile c.args.listing (segment_value s) (block_of c.args.number opening l))
-    (c.as_slice.ensures.value ∙ c.new-none.ensures.items) stands)) c.segment_of.ensures
+    (c.as_slice.ensures.value ∙ c.new-none.ensures.items) stands)) c.segment_of.ensures.stands
+
+pub returns-in-None-clause-refused : goal.returns-in-None-clause-refused
+returns-in-None-clause-refused c = c.segment_of.ensures.refused

@@ -27,7 +27,7 @@ extended-requires-clause-first c =
 pub extended-requires-clause-second : goal.extended-requires-clause-second
 extended-requires-clause-second c =
     HasTables-of_file c.args.listing (segment_value c.in_ok-more.more)
-    (block_of c.args.number c.args.segment.left c.args.steps.now) c.in_ok-more.ensures
+    (block_of c.args.number c.args.segment.left c.args.steps.now) c.in_ok-more.ensures.stands
 
 pub extended-requires-clause-steps : goal.extended-requires-clause-steps
 extended-requires-clause-steps c =
@@ -37,16 +37,21 @@ extended-requires-clause-steps c =
       may.few,
       steps-of_file c.args.listing (segment_value c.args.segment) (block_of c.args.number o x) a,
       steps-of_file c.args.listing (segment_value c.in_ok-more.more)
-          (block_of c.args.number c.args.segment.left c.args.steps.now) c.in_ok-more.ensures,
+          (block_of c.args.number c.args.segment.left c.args.steps.now) c.in_ok-more.ensures.stands,
     )
 
-pub returns : goal.returns
-returns c o x a may =
+pub returns-clause-stands : goal.returns-clause-stands
+returns-clause-stands c o x a may =
     let s = segment_value c.args.segment in
     let t = segment_value c.in_ok-more.more in
     let y = c.args.steps.now in
     let left = left-of_file c.args.listing s (block_of c.args.number o x) a in
     IfOk-weaker c.extended.result _ _
     (λ r e. StandsForFile-grown c.args.listing s t (segment_value r) c.args.number o x y a
-    (subst (λ (v : Levels). StandsForFile c.args.listing t (block_of c.args.number v y)) left c.in_ok-more.ensures) e
-    may.formed may.few) c.extended.ensures
+    (subst (λ (v : Levels). StandsForFile c.args.listing t (block_of c.args.number v y)) left
+    c.in_ok-more.ensures.stands) e may.formed may.few) c.extended.ensures.extends
+
+pub returns-clause-refused : goal.returns-clause-refused
+returns-clause-refused c =
+    let (o, x, a, may) = c.requires in
+    c.extended.ensures.refused c.args.listing a.nodes c.in_ok-more.ensures.stands.nodes

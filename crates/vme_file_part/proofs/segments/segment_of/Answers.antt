@@ -7,8 +7,8 @@ use Rattle.vme_file_part.proofs.segments.segment_of.Goals as goal
 pub only_segment-requires : goal.only_segment-requires
 only_segment-requires c = ap (λ (l : List SegmentValue). length l) c.in_ok-part.ensures.stands.1
 
-pub returns : goal.returns
-returns c =
+pub returns-clause-stands : goal.returns-clause-stands
+returns-clause-stands c =
     StandsForFile-only_segment c.args.listing (block_of c.args.number c.args.opening.now c.args.steps.now)
     (part_value c.in_ok-part.part) (segment_value c.only_segment.result) c.in_ok-part.ensures.stands
-    c.only_segment.ensures
+    c.in_ok-part.ensures.nodes c.only_segment.ensures

@@ -27,8 +27,8 @@ loop-place-preserved g c =
           c.loop-place.invariant.rows);
     }
 
-pub returns : goal.returns
-returns g c =
+pub returns-clause-agrees : goal.returns-clause-agrees
+returns-clause-agrees g c =
     let place = g.M.Finite.place_of in
     let nth = g.M.Finite.nth_of in
     let count = g.M.Finite.COUNT in
@@ -40,3 +40,6 @@ returns g c =
     (sym none)
     (AgreesWithRuns-bare place nth says count es (omega (arith, g.met.M.Finite.few)) (search rules)
     (subst (AreRows place nth says es) whole c.loop-place.invariant.rows) g.met.M.Finite.placed g.met.M.Finite.found)
+
+pub returns-clause-none : goal.returns-clause-none
+returns-clause-none g c = ap (map node_value) c.new-nodes.ensures.items

@@ -26,18 +26,25 @@ returns c =
     record {
       known = AgreesWithRuns-unmarked_summary (observed known_observation)
           (phase_step known_begin known_start_marks known_reset_marks known_end_fault known_next) 4
-          (phase_place nil_place) _ _ o x all.known.outcomes c.in_ok-known.ensures;
+          (phase_place nil_place) _ _ o x all.known.outcomes c.in_ok-known.ensures.agrees;
       handshake = AgreesWithRuns-unmarked_summary (observed dtb_observation)
           (phase_step dtb_begin dtb_start_marks no_step_marks dtb_end_fault dtb_step) 147 (phase_place memory_place) _ _
-          o x all.handshake.outcomes c.in_ok-handshake.ensures;
+          o x all.handshake.outcomes c.in_ok-handshake.ensures.agrees;
       stability = AgreesWithRuns-unmarked_summary (observed stability_observation)
           (phase_step stability_begin stability_start_marks no_step_marks stability_end_fault stability_next) 13
-          (phase_place holding_place) _ _ o x all.stability.outcomes c.in_ok-stability.ensures;
+          (phase_place holding_place) _ _ o x all.stability.outcomes c.in_ok-stability.ensures.agrees;
       grant = AgreesWithRuns-unmarked_summary (observed grant_observation)
           (phase_step grant_begin grant_start_marks no_step_marks grant_end_fault grant_next) 35
-          (phase_place arbitration_place) _ _ o x all.grant.outcomes c.in_ok-grant.ensures;
+          (phase_place arbitration_place) _ _ o x all.grant.outcomes c.in_ok-grant.ensures.agrees;
       acknowledge = AgreesWithRuns-unmarked_summary (observed acknowledge_observation)
           (phase_step acknowledge_begin acknowledge_start_marks no_step_marks acknowledge_end_fault acknowledge_next) 11
-          (phase_place acknowledge_memory_place) _ _ o x all.acknowledge.outcomes c.in_ok-acknowledge.ensures;
+          (phase_place acknowledge_memory_place) _ _ o x all.acknowledge.outcomes c.in_ok-acknowledge.ensures.agrees;
+      nodes = record {
+        known = c.in_ok-known.ensures.none;
+        handshake = c.in_ok-handshake.ensures.none;
+        stability = c.in_ok-stability.ensures.none;
+        grant = c.in_ok-grant.ensures.none;
+        acknowledge = c.in_ok-acknowledge.ensures.none;
+      };
       left = all.left;
     }

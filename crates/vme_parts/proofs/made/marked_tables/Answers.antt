@@ -10,5 +10,6 @@ returns c =
       stability = c.in_ok-stability.ensures;
       grant = c.in_ok-grant.ensures;
       acknowledge = c.in_ok-acknowledge.ensures;
+      nodes = record { known = tt; handshake = tt; stability = tt; grant = tt; acknowledge = tt };
       left = c.lines_after-left.ensures;
     }

@@ -1,4 +1,7 @@
+use Rattle.std.proofs.Common.{[], ◌∷◌, map}
+use Rattle.std.proofs.lemmas.List.Elements.{All-cons, All-nil, All-same}
 use Rattle.vme_part_format.specs.Tables.{segment_value}
+use Rattle.vme_parts.specs.OnlyWithMarks.{HaveNodes}
 use Rattle.vme_parts.proofs.OneFile.{map-pushed_alone}
 use Rattle.vme_parts.proofs.made.part_of_steps.Goals as goal
 
@@ -11,3 +14,11 @@ returns-clause-stands c = (
   c.in_ok-segment.ensures.first,
   c.in_ok-segment.ensures.stands,
 )
+
+pub returns-clause-nodes : goal.returns-clause-nodes
+returns-clause-nodes c =
+    let s = segment_value c.in_ok-segment.segment in
+    All-same (HaveNodes c.args.listing) (map segment_value c.push.new.self.items) (s ∷ [])
+    (map-pushed_alone c.new-segments.result.items c.push.new.self.items c.in_ok-segment.segment
+    c.new-segments.ensures.items c.in_ok-push.ensures.items)
+    (All-cons (HaveNodes c.args.listing) s [] c.in_ok-segment.ensures.nodes (All-nil (HaveNodes c.args.listing)))

@@ -1,4 +1,7 @@
 -- The steps are judged, if there are any.
+use Rattle.std.proofs.Common.{Bool, subst}
+use Rattle.std.proofs.lemmas.Result.{err_from_is_err_and}
+use Rattle.vme_parts.specs.OnlyWithMarks.{IsRefusedFile}
 use Rattle.vme_file_part.proofs.SoFar.{IsFoundOfFile-file, IsFoundIn-file}
 use Rattle.vme_file_part.proofs.file_so_far.FileSoFar.go_on.Goals as goal
 
@@ -7,14 +10,20 @@ segment_with-requires-clause-found c =
     let (number, listing, start, t, h, may) = c.requires in
     (t, IsFoundIn-file number listing start c.args.self t h, may)
 
-pub returns : goal.returns
-returns c number listing start t h may = record {
+pub returns-clause-so_far : goal.returns-clause-so_far
+returns-clause-so_far c number listing start t h may = record {
   number_is = h.number_is;
   listing_is = h.listing_is;
   start_is = h.start_is;
   found = record {
     opened = h.found.opened;
     found = IsFoundOfFile-file number listing start c.args.self t h c.in_ok-segment.segment _
-        (c.in_ok-segment.ensures t (IsFoundIn-file number listing start c.args.self t h) may);
+        (c.in_ok-segment.ensures.found t (IsFoundIn-file number listing start c.args.self t h) may);
   };
 }
+
+pub returns-in_err-segment-clause-refused : goal.returns-in_err-segment-clause-refused
+returns-in_err-segment-clause-refused c number listing start t h =
+    let p = err_from_is_err_and c.from_residual.result c.from_residual.ensures.1 in
+    rw (p.1, p.2) (subst (λ (l : Bool). IsRefusedFile l c.in_err-segment.field-0.0) h.listing_is
+    c.in_err-segment.ensures.refused)
