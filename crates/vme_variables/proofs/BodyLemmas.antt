@@ -22,22 +22,22 @@ module _ {T : Type 0} (with_change : T → ℕ → List Bit → T) (with_instant
   Any done current t = Unit {0}
 
   -- reading a body follows its instants, whatever is made of them
-  Follows-fold_body : (h : Headed) (t : T) → Follows (Ends Any) (instants_from h.nets h.body)
+  Follows-instants : (h : Headed) (t : T) → Follows (Ends Any) (instants_from h.nets h.body)
       (fold_body with_change with_instant h.nets t h.body)
-  Follows-fold_body h t = Follows-fold_body with_change with_instant h.nets Any (λ done current a net bits lt made. tt)
+  Follows-instants h t = Follows-fold_body with_change with_instant h.nets Any (λ done current a net bits lt made. tt)
       (λ done current a time made. tt) h.body t tt
 
   -- a fault of reading a body is the fault of its instants
   instants_from-fails : (h : Headed) (t : T) (fault : VcdFault) → ReadFails fault
       (fold_body with_change with_instant h.nets t h.body) → ReadFails fault (instants_from h.nets h.body)
   instants_from-fails h t fault fails = ReadFails-followed (Ends Any) (instants_from h.nets h.body) _ fault
-      (Follows-fold_body h t) fails
+      (Follows-instants h t) fails
 
   -- where reading a body succeeds, the body has instants
   instants_from-ok : (h : Headed) (t end : T) → fold_body with_change with_instant h.nets t h.body ≡ Ok end
       → (instants : List Instant) × (instants_from h.nets h.body ≡ Ok instants)
   instants_from-ok h t end ok =
-      let gives = ok-followed (Ends Any) (instants_from h.nets h.body) _ end (Follows-fold_body h t) ok in
+      let gives = ok-followed (Ends Any) (instants_from h.nets h.body) _ end (Follows-instants h t) ok in
       (gives.0, gives.1)
 
   -- where reading a body succeeds, the body has instants, i.e. no fault
