@@ -110,8 +110,13 @@ fn part_in(alloc: Global, file: FileSoFar, backplane: u64) -> Result<Part, NoPar
         → FindsOfSteps number listing start backplane t result }
 {
     match file.into_part(alloc, backplane) {
-        Ok(part) if can_write(&part) => Ok(part),
-        Ok(_) => Err(NoPart::OutOfRange),
+        Ok(part) => {
+            if can_write(&part) {
+                Ok(part)
+            } else {
+                Err(NoPart::OutOfRange)
+            }
+        }
         Err(PartRefusal::TooManyNodes) => Err(NoPart::TooManyMarks),
         Err(PartRefusal::Memory) => Err(NoPart::Refused(Refusal::Memory)),
     }
