@@ -98,6 +98,14 @@ pub first_of-not_given : (m : ArgMatches) (id : Text) (r : Option (Bor (List ℕ
 first_of-not_given m id None gives e = sym (first_value-rows (found_of m) id) ∙ sym gives
 first_of-not_given m id (Some s) gives e = absurd (true≢false e)
 
+-- the first value of the argument `id` is the text that the getter reads, if it reads one
+pub first_of-read : (m : ArgMatches) (id : Text) (r o : Option (Bor (List ℕ)))
+    → option_map (λ (s : Bor (List ℕ)). s.now) r
+    ≡ first_value (found_of m) id → r ≡ o → first_of id (rows_of (found_of m))
+    ≡ option_map (λ (s : Bor (List ℕ)). s.now) o
+first_of-read m id r o gives is =
+    sym (first_value-rows (found_of m) id) ∙ sym gives ∙ ap (option_map (λ (s : Bor (List ℕ)). s.now)) is
+
 -- ---- an error of a parse
 
 -- the error of a fault, or else the other one
