@@ -51,13 +51,6 @@ $enddefinitions $end
 /// The scope of those variables, in which AS is declared.
 const BUS: &str = "$scope module bus $end\n$var wire 1 p AS $end\n";
 
-const AS: &str = "$var wire 1 p AS $end";
-
-/// A dump in which AS is declared by `declared`, with these changes.
-fn bus_dump(alloc: Global, declared: &str, changes: &str) -> Result<String, AllocError> {
-    format!(in alloc; "$scope module bus $end\n{declared}\n{DECLARED}{changes}")
-}
-
 /// A read of the bus.
 const READ: &str = "\
 #0 1p 1q 1r 1s 1t 1u
@@ -659,10 +652,10 @@ fn want_of_memory_is_the_fault(rt: HostRuntime) {
         line: 0,
         kind: BindFaultKind::Memory,
     };
-    let Ok(text) = bus_dump(rt.alloc(), AS, READ) else {
+    let Ok(text) = together(rt.alloc(), &[BUS, DECLARED, READ]) else {
         return;
     };
-    let Ok(dump) = read_vcd(rt.alloc(), text.as_bytes()) else {
+    let Ok(dump) = read_vcd(rt.alloc(), text.as_slice()) else {
         return;
     };
     match read_binding(rt.alloc(), BUS_LINES.as_bytes()) {
@@ -677,13 +670,13 @@ fn want_of_memory_is_the_fault(rt: HostRuntime) {
 /// Run with each allocation refused in turn, this shows that want of memory is the fault where the text is read.
 #[test]
 fn want_of_memory_at_a_text_is_the_fault(rt: HostRuntime) {
-    let Ok(text) = bus_dump(rt.alloc(), AS, READ) else {
+    let Ok(text) = together(rt.alloc(), &[BUS, DECLARED, READ]) else {
         return;
     };
     let Ok(binding) = read_binding(rt.alloc(), BUS_LINES.as_bytes()) else {
         return;
     };
-    match binding.capture_text(rt.alloc(), text.as_bytes()) {
+    match binding.capture_text(rt.alloc(), text.as_slice()) {
         Ok(capture) => assert_eq!(rt; capture.steps().len(), 6),
         Err(CaptureFault::Binding(fault)) => assert!(rt; fault.kind == BindFaultKind::Memory),
         Err(CaptureFault::Dump(fault)) => assert!(rt; fault.kind == FaultKind::Memory),
