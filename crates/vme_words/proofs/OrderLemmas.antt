@@ -82,6 +82,16 @@ number_in-none id rows none = go (find (λ r. bytes_eq r.id id) rows) refl
     go None e = rw e refl
     go (Some r) e = rw e (text (slice_get r.values 0) r.reading (rw e at none))
 
+-- an option that is `Some n` and `Some m` has n equal to m
+pub Some-injective : (r : Option ℕ) (n m : ℕ) → r ≡ Some n → r ≡ Some m → n ≡ m
+Some-injective r n m is same = ap (λ (o : Option ℕ). unwrap_or o 0) (sym is ∙ same)
+
+-- an option that is `Some n` isn't `None`
+pub not_None-of_Some : (r : Option ℕ) (n : ℕ) → r ≡ Some n → r ≡ None → ⊥
+not_None-of_Some r n is none =
+    let bad : Some n ≡ None = sym is ∙ none in
+    cc
+
 -- if the argument `id` isn't given, the getter reads no value
 pub is_some-not_given : (m : ArgMatches) (id : Text) (r : Option (Bor (List ℕ)))
     → option_map (λ (s : Bor (List ℕ)). s.now) r

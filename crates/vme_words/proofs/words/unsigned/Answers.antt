@@ -1,19 +1,8 @@
 -- The number of an option is the one that is read from its text, if it is from `least` on.
-use Rattle.std.proofs.Common.{◌≡◌, ◌∙◌, ℕ, Option, Some, None, ap, sym, arith}
-use Rattle.std.specs.Prelude.{unwrap_or}
+use Rattle.std.proofs.Common.{arith}
 use Rattle.std.specs.Str.Parse.{ParsesUnsigned, ExplainsUnsignedError, HasUnsignedDigitsIfOk}
-use Rattle.vme_words.proofs.OrderLemmas.{number_in-read, HasUnsignedFrom-read}
+use Rattle.vme_words.proofs.OrderLemmas.{number_in-read, HasUnsignedFrom-read, Some-injective, not_None-of_Some}
 use Rattle.vme_words.proofs.words.unsigned.Goals as goal
-
--- an option that is `Some n` and `Some m` has n equal to m
-Some-injective : (r : Option ℕ) (n m : ℕ) → r ≡ Some n → r ≡ Some m → n ≡ m
-Some-injective r n m is same = ap (λ (o : Option ℕ). unwrap_or o 0) (sym is ∙ same)
-
--- an option that is `Some n` isn't `None`
-not_None-of_Some : (r : Option ℕ) (n : ℕ) → r ≡ Some n → r ≡ None → ⊥
-not_None-of_Some r n is none =
-    let bad : Some n ≡ None = sym is ∙ none in
-    cc
 
 pub returns-in-Some-clause-value : goal.returns-in-Some-clause-value
 returns-in-Some-clause-value c =
