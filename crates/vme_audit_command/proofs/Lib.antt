@@ -5,7 +5,6 @@ pub mod LastLemmas
 pub mod PieceLemmas
 pub mod BodyPieces
 pub mod GivenPieces
-pub mod Refused
 pub mod DefinitionLemmas
 pub mod Later
 pub mod AnswerLemmas
