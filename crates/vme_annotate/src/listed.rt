@@ -5,7 +5,7 @@ ghost use Rattle.vcd_read.specs.Meaning.{dump_of};
 ghost use Rattle.vme_bind.specs.Capture.{limited};
 ghost use Rattle.vme_trace.specs.WellFormed.{malformed_step};
 ghost use Rattle.vme_stream.specs.Answers.{or_bad_binding, or_bad_dump};
-ghost use Rattle.vme_commands.specs.Listings.{listing_status, row_status, verdict_row_status};
+ghost use Rattle.vme_stream.specs.ListingStatus.{listing_status, row_status, verdict_row_status};
 ghost use Rattle.vme_annotate.specs.TimedListings.{GivesTimedListing, recording_to_list, settled_in_blocks};
 
 use crate::step_times::StepTimes;

@@ -5,7 +5,6 @@ use Rattle.std.proofs.Common.{ap, subst, ◌∙◌}
 use Rattle.std.specs.Io.KnownBytes.{Appends}
 use Rattle.std.specs.Prelude.{Option, Some, None, Result, Ok, Err, flat_map, if◌then◌else◌}
 use Rattle.std.specs.List.{last_or}
-use Rattle.std.specs.Option.{option_map_or}
 use Rattle.vcd_read.specs.Header.{◌>>=◌}
 use Rattle.vme_trace.specs.Judged.{Stretch, judged_stretches}
 use Rattle.vme_trace.specs.Trace.{Trace}
@@ -35,8 +34,8 @@ use Rattle.vme_trace.specs.Streams.{Reading, Writing}
 use Rattle.vme_stream.proofs.OutputLemmas.{take-done}
 use Rattle.vme_commands.specs.Judged.{in_blocks, limited_in_blocks}
 use Rattle.vme_commands.specs.Listings.{GivesListing, WritesListing, listing_answer_by, listing_answer_of}
-use Rattle.vme_commands.specs.Listings.{listing_status, recording_in_blocks, row_status, rows_status}
-use Rattle.vme_commands.specs.Listings.{verdict_row_status}
+use Rattle.vme_stream.specs.ListingStatus.{listing_status, rows_status, status_of_last, verdict_row_status}
+use Rattle.vme_commands.specs.Listings.{recording_in_blocks}
 use Rattle.vme_commands.specs.Settled.{settled_recording}
 
 -- ---- the status
@@ -59,10 +58,6 @@ verdict_row_status-outcome : (found : Option Break) → verdict_row_status (outc
     ≡ verdict_status (verdict_on found)
 verdict_row_status-outcome None = refl
 verdict_row_status-outcome (Some b) = verdict_row_status-break b (is_unreadable b.rule)
-
--- the status by the last row: that of a bus that is never idle, if there is none
-abbrev pub status_of_last : Option Row → ℕ
-status_of_last row = option_map_or row_status row 2
 
 -- the status of the listing of some judged stretches is that of the verdict on them
 rows_status-stretches : (t : Trace) (stretches : List Stretch)

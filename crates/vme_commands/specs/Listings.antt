@@ -1,7 +1,5 @@
 -- The listing that a command writes, and its exit status.
-use Rattle.std.specs.Prelude.{◌≡◌, ◌≢◌, ℕ, [], List, Option, None, Some, Result, Ok, Err}
-use Rattle.std.specs.List.{last_or}
-use Rattle.std.specs.Option.{option_map_or}
+use Rattle.std.specs.Prelude.{◌≡◌, ◌≢◌, ℕ, [], List, Option, Some, Result, Ok, Err}
 use Rattle.vcd_read.specs.Header.{◌>>=◌}
 use Rattle.vme_trace.specs.Streams.{Reading, Writing}
 use Rattle.vme_trace.specs.Trace.{Trace}
@@ -19,12 +17,7 @@ use Rattle.vme_stream.specs.declared.refusal.Refusal.{Refusal}
 use Rattle.vme_stream.specs.declared.refusal.Refusal.TheVariants.{Memory}
 use Rattle.vme_commands.specs.Judged.{in_blocks}
 use Rattle.vme_commands.specs.Settled.{settled_recording}
-use Rattle.vme_listing.specs.declared.row.ListedVerdict.{ListedVerdict}
-use Rattle.vme_listing.specs.declared.row.ListedVerdict.TheVariants.{Conforming, NeverIdle, Broken, Unreadable}
 use Rattle.vme_listing.specs.declared.row.Row.{Row}
-use Rattle.vme_listing.specs.declared.row.Row.TheVariants.{Start, Reset, OpenTenure, Tenure, AddressedCycle}
-use Rattle.vme_listing.specs.declared.row.Row.TheVariants.{FreeCycle, InterruptCycle, Transfer, PendingTransfer}
-use Rattle.vme_listing.specs.declared.row.Row.TheVariants.{Verdict}
 
 -- the recording that a binding makes of a dump, if it needs at most 4,096 blocks of `block` steps, or the first reason
 -- that there is none
@@ -38,33 +31,6 @@ abbrev pub GivesListing : Result Listed Refusal → Result Trace Refusal → Typ
 GivesListing (Ok listing) recording = (t : Trace) × (recording ≡ Ok t) × (listing ≡ listing_of t)
 GivesListing (Err Memory) recording = Unit {0}
 GivesListing (Err refusal) recording = recording ≡ Err refusal
-
--- ---- the exit status that a listing has by its last row
-
-abbrev pub verdict_row_status : ListedVerdict → ℕ
-verdict_row_status Conforming = 0
-verdict_row_status NeverIdle = 2
-verdict_row_status (Broken rule instant line) = 1
-verdict_row_status (Unreadable rule instant line) = 2
-
--- a listing whose last row isn't a verdict has the status of a bus that is never idle
-abbrev pub row_status : Row → ℕ
-row_status (Start instant) = 2
-row_status (Reset instant) = 2
-row_status (OpenTenure start end) = 2
-row_status (Tenure start level slot end) = 2
-row_status (AddressedCycle start class modifier address end) = 2
-row_status (FreeCycle start modifier end) = 2
-row_status (InterruptCycle start level end) = 2
-row_status (Transfer direction line start cycle answer close lanes) = 2
-row_status (PendingTransfer start direction) = 2
-row_status (Verdict outcome) = verdict_row_status outcome
-
-abbrev pub rows_status : List Row → ℕ
-rows_status rows = option_map_or row_status (last_or None rows) 2
-
-abbrev pub listing_status : Listed → ℕ
-listing_status listing = rows_status listing.rows
 
 -- ---- the answer
 

@@ -1,7 +1,6 @@
 pub mod BackplaneLemmas
 pub mod EndLemmas
 pub mod ReadLemmas
-pub mod StatusLemmas
 pub mod FileLemmas
 pub mod FoundLemmas
 pub mod CheckLemmas

@@ -1,21 +1,13 @@
 -- How the commands `join` and `tell` end.
-use Rattle.std.specs.Prelude.{◌≡◌, ◌⊎◌, ℕ, Bool, List, [], Option, None, Result, Ok, Err, codes, get_or}
-use Rattle.std.specs.List.{last_or}
-use Rattle.std.specs.Option.{option_map_or}
+use Rattle.std.specs.Prelude.{◌≡◌, ◌⊎◌, ℕ, Bool, List, [], Option, Result, Ok, Err, codes, get_or}
 use Rattle.vme_trace.specs.Streams.{Reading, Writing}
 use Rattle.vme_stream.specs.Outputs.{TriesToWrite}
 use Rattle.vme_stream.specs.Answers.{CommandAnswer, refusal_answer}
 use Rattle.vme_stream.specs.Ends.{Ends}
+use Rattle.vme_stream.specs.ListingStatus.{listing_status}
 use Rattle.vme_stream.specs.Texts.{line_of, refusal_text, verdict_status, verdict_text}
 use Rattle.vme_stream.specs.declared.refusal.Refusal.TheVariants.{Memory}
-use Rattle.vme_listing.specs.Listed.{Listed as Recorded}
 use Rattle.vme_listing.specs.RowText.{text_of}
-use Rattle.vme_listing.specs.declared.row.ListedVerdict.{ListedVerdict}
-use Rattle.vme_listing.specs.declared.row.ListedVerdict.TheVariants.{Conforming, NeverIdle, Broken, Unreadable}
-use Rattle.vme_listing.specs.declared.row.Row.{Row}
-use Rattle.vme_listing.specs.declared.row.Row.TheVariants.{Start, Reset, OpenTenure, Tenure, AddressedCycle}
-use Rattle.vme_listing.specs.declared.row.Row.TheVariants.{FreeCycle, InterruptCycle, Transfer, PendingTransfer}
-use Rattle.vme_listing.specs.declared.row.Row.TheVariants.{Verdict}
 use Rattle.vme_part_format.specs.Tables.{PartValue}
 use Rattle.vme_part_listing.specs.Listings.{DeterminesListingAnswer}
 use Rattle.vme_part_listing.specs.declared.answers.ListingAnswer.{ListingAnswer}
@@ -91,35 +83,10 @@ told_answer told.TooManySteps = refusing (told_text told.TooManySteps)
 told_answer (told.Verdict v) =
     record { out = line_of (verdict_text (verdict_of v)); error = []; status = verdict_status (verdict_of v) }
 
--- the exit status of a listing: that of its last row, the verdict
-abbrev pub verdict_row_status : ListedVerdict → ℕ
-verdict_row_status Conforming = 0
-verdict_row_status NeverIdle = 2
-verdict_row_status (Broken rule instant line) = 1
-verdict_row_status (Unreadable rule instant line) = 2
-
-abbrev pub row_status : Row → ℕ
-row_status (Start instant) = 2
-row_status (Reset instant) = 2
-row_status (OpenTenure start end) = 2
-row_status (Tenure start level slot end) = 2
-row_status (AddressedCycle start class modifier address end) = 2
-row_status (FreeCycle start modifier end) = 2
-row_status (InterruptCycle start level end) = 2
-row_status (Transfer direction line start cycle answer close lanes) = 2
-row_status (PendingTransfer start direction) = 2
-row_status (Verdict outcome) = verdict_row_status outcome
-
-abbrev pub rows_status : List Row → ℕ
-rows_status rows = option_map_or row_status (last_or None rows) 2
-
-abbrev pub listed_status : Recorded → ℕ
-listed_status listing = rows_status listing.rows
-
 -- the command's answer with the listing, or why there is none
 abbrev pub listed_answer : ListingAnswer → CommandAnswer
 listed_answer (listed.Listing listing) =
-    record { out = text_of listing; error = []; status = listed_status listing }
+    record { out = text_of listing; error = []; status = listing_status listing }
 listed_answer (listed.Refused what) = refusing (told_text what)
 listed_answer listed.Unmarked = refusing (refusing_text (codes "parts without marks"))
 listed_answer listed.TooLong = refusing (refusing_text (codes "too many steps"))

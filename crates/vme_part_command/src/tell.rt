@@ -2,12 +2,12 @@
 
 ghost use Rattle.std.specs.Prelude.{◌≡◌, map};
 ghost use Rattle.vme_stream.specs.Ends.{Ends};
+ghost use Rattle.vme_stream.specs.ListingStatus.{listing_status, row_status, verdict_row_status};
 ghost use Rattle.vme_part_format.specs.Bounds.{FitsPart};
 ghost use Rattle.vme_part_format.specs.Tables.{part_value};
 ghost use Rattle.vme_part_command.specs.PartAnswers.{ListsPart};
 ghost use Rattle.vme_part_command.specs.PartAnswers.{ListsRecording, TellsRecording};
-ghost use Rattle.vme_part_command.specs.PartAnswers.{listed_answer, listed_status, verdict_row_status};
-ghost use Rattle.vme_part_command.specs.PartAnswers.{row_status, told_answer};
+ghost use Rattle.vme_part_command.specs.PartAnswers.{listed_answer, told_answer};
 ghost use Rattle.vme_part_listing.specs.declared.answers.ListingAnswer.TheVariants as listed;
 ghost use Rattle.vme_parts.specs.declared.answers.RecordingAnswer.TheVariants as told;
 
@@ -73,7 +73,7 @@ pub fn tell_whole<P: Source, O: Sink, E: Sink>(
 
 /// The exit status of a listing: that of the verdict, its last row.
 fn status_of(listing: &Listing) -> u8
-    ensures { result ≡ listed_status listing.now }
+    ensures { result ≡ listing_status listing.now }
 {
     match listing.rows().last() {
         Some(row) => status_of_row(row),

@@ -1,7 +1,7 @@
 use Rattle.std.proofs.Common.{ap, inl, inr, refl, ◌∙◌}
 use Rattle.std.proofs.KnownBytes.{Appends-nil}
 use Rattle.vme_commands.proofs.ListLemmas.{listing_status-verdict}
-use Rattle.vme_commands.specs.Listings.{listing_status}
+use Rattle.vme_stream.specs.ListingStatus.{listing_status}
 use Rattle.vme_annotate.proofs.EndsLemmas.{annotated-IsAnnotated}
 use Rattle.vme_annotate.proofs.annotating.write_or_complain.Goals as goal
 

@@ -1,7 +1,7 @@
 use Rattle.std.proofs.Common.{List, ap, inl, inr, refl, subst, ◌∙◌, ℕ}
 use Rattle.std.proofs.KnownBytes.{Appends-nil}
 use Rattle.vme_commands.proofs.ListLemmas.{listing_status-verdict}
-use Rattle.vme_commands.specs.Listings.{listing_status}
+use Rattle.vme_stream.specs.ListingStatus.{listing_status}
 use Rattle.vme_stream.specs.Outputs.{FailsToWrite, Writes}
 use Rattle.vme_annotate.proofs.EndsLemmas.{timed_rows_text-timed_text}
 use Rattle.vme_annotate.proofs.listing_times.write_or_complain.Goals as goal

@@ -4,7 +4,7 @@ use Rattle.std.specs.Prelude.{Option, slice_get}
 use Rattle.std.specs.Option.{option_copied}
 use Rattle.vme_listing.specs.declared.row.Row.{Row}
 use Rattle.vme_summary.proofs.Times.{last_or-slice_get}
-use Rattle.vme_commands.proofs.ListLemmas.{status_of_last}
+use Rattle.vme_stream.specs.ListingStatus.{status_of_last}
 use Rattle.vme_commands.proofs.list.status.Goals as goal
 
 -- the last row, if there is one

@@ -2,7 +2,7 @@ use Rattle.std.proofs.Common.{refl, inl, inr, ap, ◌∙◌}
 use Rattle.std.proofs.KnownBytes.{Appends-nil}
 use Rattle.vme_commands.proofs.ListLemmas.{listing_status-verdict}
 use Rattle.vme_commands.proofs.ListLemmas.{Appends-front_of_same_listing, Appends-same_listing}
-use Rattle.vme_commands.specs.Listings.{listing_status}
+use Rattle.vme_stream.specs.ListingStatus.{listing_status}
 use Rattle.vme_commands.proofs.list.tell.Goals as goal
 
 pub returns-in-Ok : goal.returns-in-Ok

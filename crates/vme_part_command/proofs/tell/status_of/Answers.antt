@@ -3,7 +3,7 @@ use Rattle.std.specs.Prelude.{Option, slice_get}
 use Rattle.std.specs.Option.{option_copied}
 use Rattle.vme_listing.specs.declared.row.Row.{Row}
 use Rattle.vme_summary.proofs.Times.{last_or-slice_get}
-use Rattle.vme_part_command.proofs.StatusLemmas.{status_of_last}
+use Rattle.vme_stream.specs.ListingStatus.{status_of_last}
 use Rattle.vme_part_command.proofs.tell.status_of.Goals as goal
 
 abbrev last_in : List Row → Option Row

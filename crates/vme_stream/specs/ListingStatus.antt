@@ -1,0 +1,40 @@
+-- The exit status that a listing has by its last row.
+use Rattle.std.specs.Prelude.{ℕ, List, Option, None}
+use Rattle.std.specs.List.{last_or}
+use Rattle.std.specs.Option.{option_map_or}
+use Rattle.vme_listing.specs.Listed.{Listed}
+use Rattle.vme_listing.specs.declared.row.ListedVerdict.{ListedVerdict}
+use Rattle.vme_listing.specs.declared.row.ListedVerdict.TheVariants.{Conforming, NeverIdle, Broken, Unreadable}
+use Rattle.vme_listing.specs.declared.row.Row.{Row}
+use Rattle.vme_listing.specs.declared.row.Row.TheVariants.{Start, Reset, OpenTenure, Tenure, AddressedCycle}
+use Rattle.vme_listing.specs.declared.row.Row.TheVariants.{FreeCycle, InterruptCycle, Transfer, PendingTransfer}
+use Rattle.vme_listing.specs.declared.row.Row.TheVariants.{Verdict}
+
+abbrev pub verdict_row_status : ListedVerdict → ℕ
+verdict_row_status Conforming = 0
+verdict_row_status NeverIdle = 2
+verdict_row_status (Broken rule instant line) = 1
+verdict_row_status (Unreadable rule instant line) = 2
+
+-- a listing whose last row isn't a verdict has the status of a bus that is never idle
+abbrev pub row_status : Row → ℕ
+row_status (Start instant) = 2
+row_status (Reset instant) = 2
+row_status (OpenTenure start end) = 2
+row_status (Tenure start level slot end) = 2
+row_status (AddressedCycle start class modifier address end) = 2
+row_status (FreeCycle start modifier end) = 2
+row_status (InterruptCycle start level end) = 2
+row_status (Transfer direction line start cycle answer close lanes) = 2
+row_status (PendingTransfer start direction) = 2
+row_status (Verdict outcome) = verdict_row_status outcome
+
+-- the exit status by the last row, or 2 if there is none
+abbrev pub status_of_last : Option Row → ℕ
+status_of_last row = option_map_or row_status row 2
+
+abbrev pub rows_status : List Row → ℕ
+rows_status rows = status_of_last (last_or None rows)
+
+abbrev pub listing_status : Listed → ℕ
+listing_status listing = rows_status listing.rows
