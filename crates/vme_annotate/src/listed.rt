@@ -5,16 +5,16 @@ ghost use Rattle.vcd_read.specs.Meaning.{dump_of};
 ghost use Rattle.vme_bind.specs.Capture.{limited};
 ghost use Rattle.vme_trace.specs.WellFormed.{malformed_step};
 ghost use Rattle.vme_stream.specs.Answers.{or_bad_binding, or_bad_dump};
-ghost use Rattle.vme_stream.specs.ListingStatus.{listing_status, row_status, verdict_row_status};
+ghost use Rattle.vme_stream.specs.ListingStatus.{listing_status};
 ghost use Rattle.vme_annotate.specs.TimedListings.{GivesTimedListing, recording_to_list, settled_in_blocks};
 
 use crate::step_times::StepTimes;
 use std::alloc::Global;
 use std::marker::{Brand, Model};
 use vme_bind::Binding;
-use vme_listing::{ListedVerdict, Listing, Row};
+use vme_listing::{Listing, Row};
 use vme_skew::{GhostSkew, SettlingVisitor};
-use vme_stream::Refusal;
+use vme_stream::{Refusal, listing_status};
 use vme_summary::{Lister, NoVerdict};
 
 /// The listing of a recording, and the times of its steps.
@@ -66,29 +66,7 @@ impl TimedListing {
     pub fn status(&self) -> u8
         ensures { result ≡ listing_status self.now.listing }
     {
-        match self.rows().last() {
-            Some(row) => row_status(row),
-            None => 2,
-        }
-    }
-}
-
-fn row_status(row: &Row) -> u8
-    ensures { result ≡ row_status row.now }
-{
-    match row {
-        Row::Verdict(outcome) => verdict_row_status(*outcome),
-        _ => 2,
-    }
-}
-
-fn verdict_row_status(outcome: ListedVerdict) -> u8
-    ensures { result ≡ verdict_row_status outcome }
-{
-    match outcome {
-        ListedVerdict::Conforming => 0,
-        ListedVerdict::Broken(..) => 1,
-        ListedVerdict::Unreadable(..) | ListedVerdict::NeverIdle => 2,
+        listing_status(&self.listing)
     }
 }
 

@@ -6,7 +6,6 @@ ghost use Rattle.vme_trace.specs.Trace.{Trace};
 ghost use Rattle.vme_trace.specs.WellFormed.{malformed_step};
 ghost use Rattle.vme_stream.specs.Ends.{Ends, WritesAnswerExactly};
 ghost use Rattle.vme_stream.specs.Inputs.{IsReading, longest_input};
-ghost use Rattle.vme_stream.specs.ListingStatus.{listing_status, row_status, verdict_row_status};
 ghost use Rattle.vme_commands.specs.Judged.{limited_in_blocks};
 ghost use Rattle.vme_commands.specs.Listings.{GivesListing, WritesListing, listing_answer_by, listing_answer_of};
 ghost use Rattle.vme_commands.specs.Listings.{recording_in_blocks};
@@ -18,8 +17,8 @@ use crate::judged_settled::judged_settled;
 use crate::workers::Workers;
 use std::alloc::Global;
 use std::thread::Threads;
-use vme_listing::{ListedVerdict, Listing, Row, write_listing};
-use vme_stream::{Refusal, cannot_write_line, complain, refusal_line};
+use vme_listing::{Listing, write_listing};
+use vme_stream::{Refusal, cannot_write_line, complain, listing_status, refusal_line};
 use vme_summary::Lister;
 use vme_trace::{Sink, Source};
 
@@ -104,40 +103,11 @@ fn tell<O: Sink, E: Sink>(listing: &Listing, out: &mut O, err: &mut E) -> u8
         (O.writing out.old, O.writing out.new) (E.writing err.old, E.writing err.new) result }
 {
     match write_listing(listing, out) {
-        Ok(()) => status(listing),
+        Ok(()) => listing_status(listing),
         Err(_) => {
             complain(err, cannot_write_line());
             5
         }
-    }
-}
-
-/// The exit status of a listing: that of the verdict, its last row.
-fn status(listing: &Listing) -> u8
-    ensures { result ≡ listing_status listing.now }
-{
-    match listing.rows().last() {
-        Some(row) => row_code(row),
-        None => 2,
-    }
-}
-
-fn row_code(row: &Row) -> u8
-    ensures { result ≡ row_status row.now }
-{
-    match row {
-        Row::Verdict(outcome) => outcome_code(*outcome),
-        _ => 2,
-    }
-}
-
-fn outcome_code(outcome: ListedVerdict) -> u8
-    ensures { result ≡ verdict_row_status outcome }
-{
-    match outcome {
-        ListedVerdict::Conforming => 0,
-        ListedVerdict::Broken(..) => 1,
-        ListedVerdict::Unreadable(..) | ListedVerdict::NeverIdle => 2,
     }
 }
 

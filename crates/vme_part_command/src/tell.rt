@@ -1,8 +1,7 @@
 //! The verdict and the listing of the whole recording.
 
-ghost use Rattle.std.specs.Prelude.{◌≡◌, map};
+ghost use Rattle.std.specs.Prelude.{map};
 ghost use Rattle.vme_stream.specs.Ends.{Ends};
-ghost use Rattle.vme_stream.specs.ListingStatus.{listing_status, row_status, verdict_row_status};
 ghost use Rattle.vme_part_format.specs.Bounds.{FitsPart};
 ghost use Rattle.vme_part_format.specs.Tables.{part_value};
 ghost use Rattle.vme_part_command.specs.PartAnswers.{ListsPart};
@@ -15,11 +14,11 @@ use crate::complaints::{no_memory, refuse};
 use crate::inputs::{NamedPart, joined, refuse_joined};
 use crate::lines::{part_line, refusing_line, told_line, verdict_line, verdict_status};
 use std::alloc::Global;
-use vme_listing::{ListedVerdict, Listing, Row, write_listing};
+use vme_listing::{Listing, write_listing};
 use vme_part_format::Part;
 use vme_part_listing::{ListingAnswer, tell_listing};
 use vme_parts::{RecordingAnswer, WideVerdict, tell_verdict};
-use vme_stream::{cannot_write_line, complain, write_message};
+use vme_stream::{cannot_write_line, complain, listing_status, write_message};
 use vme_trace::{Sink, Source};
 
 /// Writes a verdict. The answer is the exit status.
@@ -71,42 +70,13 @@ pub fn tell_whole<P: Source, O: Sink, E: Sink>(
     }
 }
 
-/// The exit status of a listing: that of the verdict, its last row.
-fn status_of(listing: &Listing) -> u8
-    ensures { result ≡ listing_status listing.now }
-{
-    match listing.rows().last() {
-        Some(row) => status_of_row(row),
-        None => 2,
-    }
-}
-
-fn status_of_row(row: &Row) -> u8
-    ensures { result ≡ row_status row.now }
-{
-    match row {
-        Row::Verdict(outcome) => status_of_outcome(*outcome),
-        _ => 2,
-    }
-}
-
-fn status_of_outcome(outcome: ListedVerdict) -> u8
-    ensures { result ≡ verdict_row_status outcome }
-{
-    match outcome {
-        ListedVerdict::Conforming => 0,
-        ListedVerdict::Broken(..) => 1,
-        ListedVerdict::Unreadable(..) | ListedVerdict::NeverIdle => 2,
-    }
-}
-
 /// Writes a listing. The answer is the exit status.
 fn put_listing<O: Sink, E: Sink>(listing: &Listing, out: &mut O, err: &mut E) -> u8
     ensures { Ends (listed_answer (listed.Listing listing.now))
         (O.writing out.old, O.writing out.new) (E.writing err.old, E.writing err.new) result }
 {
     match write_listing(listing, out) {
-        Ok(()) => status_of(listing),
+        Ok(()) => listing_status(listing),
         Err(_) => {
             complain(err, cannot_write_line());
             5

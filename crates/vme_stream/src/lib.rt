@@ -1,6 +1,7 @@
 //! What a command reads and what it answers: reading a source to its end, writing all of some
 //! bytes, and lines of text that take no memory. A binding and a dump make a recording, or there is
-//! a reason that there is none. The verdict on it has a line and an exit status.
+//! a reason that there is none. The verdict on it has a line and an exit status, and its listing an
+//! exit status by the last row.
 //!
 //! # Parts
 //!
@@ -15,6 +16,7 @@
 //!   it for callers that have one of the two.
 //! - `refusal`: [`Refusal`] is the first reason that there is no recording, with its status.
 //! - `verdict`: [`verdict_on`], and [`tell_verdict`], which writes the verdict's line.
+//! - `listing`: [`listing_status`], the exit status of a listing.
 //! - `text`: the lines.
 //!
 //! # What is proved
@@ -30,6 +32,8 @@
 //!   inputs, or the first reason that there is none. [`verdict_on`] gives its verdict for every
 //!   size of block from 1 to 65,536. The lines and statuses are exactly those of `specs/Texts`.
 //!   [`tell_verdict`] writes just that line, or answers that it can't be written.
+//! - [`listing_status`] is the exit status of a listing, that of its last row
+//!   (`specs/ListingStatus`).
 //!
 //! # What isn't proved
 //!
@@ -49,6 +53,7 @@ mod byte_consumer;
 mod count;
 mod input;
 mod io;
+mod listing;
 mod message;
 mod output;
 mod recording;
@@ -59,6 +64,7 @@ mod verdict;
 pub use byte_consumer::read_by;
 pub use input::{InFault, read_all};
 pub use io::{Bytes, Io};
+pub use listing::listing_status;
 pub use message::Message;
 pub use output::{complain, write_all, write_message};
 pub use recording::{binding_from, binding_in, capture_from, recorded_from, recorded_in};

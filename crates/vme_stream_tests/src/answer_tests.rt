@@ -3,11 +3,11 @@ ghost use Rattle.std.specs.Prelude.{◌≤◌, None};
 use std::alloc::{AllocError, Global};
 use vcd_read::{FaultKind, VcdFault};
 use vme_bind::{BindFault, BindFaultKind};
-use vme_listing::ListFault;
+use vme_listing::{ListFault, read_listing};
 use vme_stream::{
     Bytes, InFault, Input, Refusal, binding_from, binding_in, cannot_write_line, capture_from,
-    recorded_from, recorded_in, refusal_line, tell_verdict, verdict_line, verdict_on,
-    verdict_status,
+    listing_status, recorded_from, recorded_in, refusal_line, tell_verdict, verdict_line,
+    verdict_on, verdict_status,
 };
 use vme_summary::NoVerdict;
 use vme_trace::{Break, Failed, Line, Rule, Sink, Verdict};
@@ -42,6 +42,25 @@ static WORKED: [(&str, &str); 4] = [
     (
         "#0 1p 1q 1r 1s 1t 1u\n#10 xp\n#20 0q\n#30 0s\n#40 1p 1q\n#50 1s\n",
         "unreadable U1 at instant 2 time 10 line AS\n",
+    ),
+];
+
+/// The listings of the same recordings, and their exit statuses.
+static LISTED: [(&str, u8); 4] = [
+    (
+        "vmecheck listing 3\nstart 1\ntenure 1 open end -\ncycle 2 S 3D FFFFFE end 5\n\
+transfer 3 of 2 read DTACK 4 close 5\nverdict conforming\n",
+        0,
+    ),
+    ("vmecheck listing 3\nverdict never-idle\n", 2),
+    (
+        "vmecheck listing 3\nstart 1\ntenure 1 open end -\ncycle 2 S 3D FFFFFE end -\n\
+verdict broken H4 3 DTACK\n",
+        1,
+    ),
+    (
+        "vmecheck listing 3\nstart 1\ntenure 1 open end -\nverdict unreadable U1 2 AS\n",
+        2,
     ),
 ];
 
@@ -186,6 +205,21 @@ fn a_verdict_is_told(rt: HostRuntime) {
     assert!(rt;
         verdict_status(&Verdict::Conforming) == 0 && verdict_status(&Verdict::NeverIdle) == 2
     );
+}
+
+/// Whether the listing with this text has this exit status.
+fn ends_with(alloc: Global, text: &str, status: u8) -> bool {
+    match read_listing(alloc, text.as_bytes()) {
+        Ok(listing) => listing_status(&listing) == status,
+        Err(_) => false,
+    }
+}
+
+#[test]
+fn a_listing_ends_as_its_verdict(rt: HostRuntime) {
+    for (text, status) in LISTED.iter() {
+        assert!(rt; ends_with(rt.alloc(), text, *status), "{text}");
+    }
 }
 
 /// Whether inputs are refused for this reason.

@@ -7,7 +7,8 @@
 //! - `answer_tests`: recordings whose verdicts are worked out by hand, and proved of the definitions
 //!   as worked recordings of vme_eval. Each verdict is compared with the line that is given beside
 //!   the dump, in blocks of several sizes and by each way to a recording. A verdict that can't be
-//!   written, the first of several reasons, and the lines of refusals are tried too.
+//!   written, the exit statuses of the listings of these recordings, the first of several reasons,
+//!   and the lines of refusals are tried too.
 //!
 //! Not tried here: real files and the command line, and inputs that are too long. These are tried
 //! in vme_commands_tests and by `./test`.

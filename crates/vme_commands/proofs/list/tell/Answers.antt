@@ -9,7 +9,7 @@ pub returns-in-Ok : goal.returns-in-Ok
 returns-in-Ok g c = λ t is. inl (record {
   out_is = (Appends-same_listing _ _ _ _ is c.in-Ok.ensures.whole, c.in-Ok.ensures.failures);
   err_is = inl (Appends-nil _, refl);
-  status_is = c.status.ensures ∙ ap listing_status is ∙ listing_status-verdict t;
+  status_is = c.listing_status.ensures.status ∙ ap listing_status is ∙ listing_status-verdict t;
 })
 
 pub returns-in-Err : goal.returns-in-Err

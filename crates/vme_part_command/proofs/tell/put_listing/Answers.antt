@@ -7,7 +7,7 @@ pub returns-in-Ok : goal.returns-in-Ok
 returns-in-Ok g c = inl (record {
   out_is = (c.in-Ok.ensures.whole, c.in-Ok.ensures.failures);
   err_is = inl (Appends-nil _, refl);
-  status_is = c.status_of.ensures;
+  status_is = c.listing_status.ensures.status;
 })
 
 pub returns-in-Err : goal.returns-in-Err
