@@ -8,8 +8,7 @@ ghost use Rattle.vme_stream.specs.Ends.{Ends, WritesAnswerExactly};
 ghost use Rattle.vme_stream.specs.Inputs.{IsReading, longest_input};
 ghost use Rattle.vme_commands.specs.Judged.{limited_in_blocks};
 ghost use Rattle.vme_commands.specs.Listings.{GivesListing, WritesListing, listing_answer_by, listing_answer_of};
-ghost use Rattle.vme_commands.specs.Listings.{recording_in_blocks};
-ghost use Rattle.vme_commands.specs.Listings.{WritesSplitExactly};
+ghost use Rattle.vme_commands.specs.Listings.{WritesSplitExactly, recording_in_blocks};
 ghost use Rattle.vme_commands.specs.Settled.{settled_recording};
 
 use crate::judged_dump::judged_dump;

@@ -10,13 +10,14 @@ use Rattle.vme_listing.specs.declared.row.Row.TheVariants.{Start, Reset, OpenTen
 use Rattle.vme_listing.specs.declared.row.Row.TheVariants.{FreeCycle, InterruptCycle, Transfer, PendingTransfer}
 use Rattle.vme_listing.specs.declared.row.Row.TheVariants.{Verdict}
 
+-- by its verdict: 0 conforming, 1 broken, 2 unreadable or never idle
 abbrev pub verdict_row_status : ListedVerdict → ℕ
 verdict_row_status Conforming = 0
 verdict_row_status NeverIdle = 2
 verdict_row_status (Broken rule instant line) = 1
 verdict_row_status (Unreadable rule instant line) = 2
 
--- a listing whose last row isn't a verdict has the status of a bus that is never idle
+-- by its last row; if this isn't a verdict, the status is that of a bus that is never idle
 abbrev pub row_status : Row → ℕ
 row_status (Start instant) = 2
 row_status (Reset instant) = 2
@@ -29,12 +30,14 @@ row_status (Transfer direction line start cycle answer close lanes) = 2
 row_status (PendingTransfer start direction) = 2
 row_status (Verdict outcome) = verdict_row_status outcome
 
--- the exit status by the last row, or 2 if there is none
+-- by the last row, or 2 if there is none
 abbrev pub status_of_last : Option Row → ℕ
 status_of_last row = option_map_or row_status row 2
 
+-- by all rows
 abbrev pub rows_status : List Row → ℕ
 rows_status rows = status_of_last (last_or None rows)
 
+-- the exit status of a listing
 abbrev pub listing_status : Listed → ℕ
 listing_status listing = rows_status listing.rows
