@@ -10,7 +10,7 @@ use Rattle.vme_listing.specs.declared.fault.ListFault.{ListFault}
 use Rattle.vme_listing.specs.declared.row.Row.{Row}
 use Rattle.vme_listing.specs.declared.row.Version.{Version}
 use Rattle.vme_stream.specs.Inputs.{IsReading}
-use Rattle.vme_stream.specs.Refusals.{listing_refusal, refused}
+use Rattle.vme_stream.specs.Refusals.{input_refusal, listing_refusal}
 use Rattle.vme_stream.specs.declared.refusal.Input.TheVariants.{Listing}
 use Rattle.vme_stream.specs.declared.refusal.Refusal.{Refusal}
 use Rattle.vme_confirm_command.specs.Confirmations.{GivesRows, listing_text, longest_listing}
@@ -99,7 +99,7 @@ IsOver None None = Unit {0}
 
 -- the refusal that the answer has for a fault of the listing
 abbrev pub rows_refusal : RowsFault → Refusal
-rows_refusal (Input fault) = refused Listing fault
+rows_refusal (Input fault) = input_refusal Listing fault
 rows_refusal (Text fault) = listing_refusal fault
 
 -- the listing was read to its end, and has these rows, and after them `more`, none if `over`; or this is its fault

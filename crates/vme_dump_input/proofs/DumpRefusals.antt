@@ -16,7 +16,7 @@ use Rattle.vme_stream.specs.Inputs.{IsReading, longest_input}
 use Rattle.vme_stream.specs.declared.input.InFault.{InFault}
 use Rattle.vme_stream.specs.declared.input.InFault.TheVariants as read
 use Rattle.vme_stream.specs.Answers.{AnswerGives, dump_read, or_bad_dump, recorded_by}
-use Rattle.vme_stream.specs.Refusals.{dump_refusal, refused}
+use Rattle.vme_stream.specs.Refusals.{dump_refusal, input_refusal}
 use Rattle.vme_stream.specs.declared.refusal.Input.TheVariants.{Dump}
 use Rattle.vme_stream.specs.declared.refusal.Refusal.{Refusal}
 use Rattle.vme_stream.specs.declared.refusal.Refusal.TheVariants.{BadDump, Memory}
@@ -37,7 +37,7 @@ dump_read-short text short r is =
 
 -- a dump that can't be had is refused for that
 pub IsDumpRefused-fails : (old now : Reading) (fault : InFault) → FailsAs longest_input old now fault
-    → IsDumpRefused old now (refused Dump fault)
+    → IsDumpRefused old now (input_refusal Dump fault)
 unfolding dump_read
 IsDumpRefused-fails old now read.Read fails = (None, fails, refl)
 IsDumpRefused-fails old now read.TooLong fails =

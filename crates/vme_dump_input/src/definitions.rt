@@ -6,7 +6,7 @@ ghost use Rattle.vme_bind.specs.TextCapture.{CaptureFailsBy};
 ghost use Rattle.vme_bind.specs.TextReading.{reading_of_text};
 ghost use Rattle.vme_listing.specs.Reading.{IsFollowedBy};
 ghost use Rattle.vme_stream.specs.Inputs.{longest_input};
-ghost use Rattle.vme_stream.specs.Refusals.{refused};
+ghost use Rattle.vme_stream.specs.Refusals.{input_refusal};
 ghost use Rattle.vme_stream.specs.declared.refusal.Input.TheVariants.{Dump};
 ghost use Rattle.vme_bind.specs.declared.fault.BindFault.{BindFault};
 ghost use Rattle.vme_dump_input.specs.declared.definitions.DumpAfterDefinitions.TheVariants.{Body, Unusable};
@@ -49,7 +49,7 @@ pub enum DumpAfterDefinitions {
 
 /// The refusal for a dump that can't be had.
 pub fn unread(fault: InFault) -> Refusal
-    ensures { result ≡ refused Dump fault }
+    ensures { result ≡ input_refusal Dump fault }
 {
     Refusal::of_input(Input::Dump, fault)
 }

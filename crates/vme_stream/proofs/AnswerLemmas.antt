@@ -32,7 +32,7 @@ use Rattle.vme_stream.specs.Answers.{AnswerGives, binding_read, bytes_within_lim
 use Rattle.vme_stream.specs.Answers.{capture_by, capture_read, judgement_of, or_bad_dump, recorded_by, recording_by}
 use Rattle.vme_stream.specs.Answers.{recording_read, verdict_in_blocks}
 use Rattle.vme_stream.specs.Inputs.{IsInTime, IsReading, longest_input}
-use Rattle.vme_stream.specs.Refusals.{refused, binding_refusal, dump_refusal, capture_refusal}
+use Rattle.vme_stream.specs.Refusals.{input_refusal, binding_refusal, dump_refusal, capture_refusal}
 use Rattle.vme_stream.proofs.InputLemmas.{in_time}
 use Rattle.vme_trace.specs.Streams.{Reading}
 
@@ -166,7 +166,7 @@ pub binding_read-fault : {A : Type 0} (old new : Reading) (result : Result A InF
     → (result ≡ Err read.TooLong → (bytes : List ℕ) × (longest_input < length bytes) × IsReading old new (Some bytes))
     → (result ≡ Err read.Memory → IsInTime old new)
     → (bytes : Option (List ℕ)) × IsReading old new bytes × AnswerGives (λ (b : BoundLines). b)
-    (Err (refused Binding fault)) (binding_read bytes)
+    (Err (input_refusal Binding fault)) (binding_read bytes)
 unfolding binding_read
 binding_read-fault old new result read.Read is cannot long memory = (None, cannot is, refl)
 binding_read-fault old new result read.TooLong is cannot long memory =
@@ -199,8 +199,8 @@ pub dump_read-fault : {A : Type 0} (old new : Reading) (result : Result A InFaul
     → (result ≡ Err read.Read → IsReading old new None)
     → (result ≡ Err read.TooLong → (bytes : List ℕ) × (longest_input < length bytes) × IsReading old new (Some bytes))
     → (result ≡ Err read.Memory → IsInTime old new)
-    → (bytes : Option (List ℕ)) × IsReading old new bytes × AnswerGives (λ (d : Contents). d) (Err (refused Dump fault))
-    (dump_read bytes)
+    → (bytes : Option (List ℕ)) × IsReading old new bytes × AnswerGives (λ (d : Contents). d)
+    (Err (input_refusal Dump fault)) (dump_read bytes)
 unfolding dump_read
 dump_read-fault old new result read.Read is cannot long memory = (None, cannot is, refl)
 dump_read-fault old new result read.TooLong is cannot long memory =

@@ -19,10 +19,10 @@ use Rattle.vme_stream.specs.declared.refusal.Refusal.TheVariants.{CannotRead, To
 use Rattle.vme_stream.specs.declared.refusal.Refusal.TheVariants.{TooManyBlocks, Memory}
 
 -- the refusal for a fault in reading an input
-abbrev pub refused : Input → InFault → Refusal
-refused input read.Read = CannotRead input
-refused input read.TooLong = TooLong input
-refused input read.Memory = Memory
+abbrev pub input_refusal : Input → InFault → Refusal
+input_refusal input read.Read = CannotRead input
+input_refusal input read.TooLong = TooLong input
+input_refusal input read.Memory = Memory
 
 -- `refusal`, or `Memory` if the kind of the dump's fault is want of memory
 abbrev pub dump_refusal_as : FaultKind → Refusal → Refusal

@@ -1,8 +1,8 @@
 //! Why a recording isn't judged, or a listing compared with it.
 
 ghost use Rattle.std.specs.Prelude.{◌≡◌};
-ghost use Rattle.vme_stream.specs.Refusals.{refused, dump_refusal, binding_refusal, capture_refusal, judging_refusal};
-ghost use Rattle.vme_stream.specs.Refusals.{listing_refusal};
+ghost use Rattle.vme_stream.specs.Refusals.{input_refusal, dump_refusal, binding_refusal, capture_refusal};
+ghost use Rattle.vme_stream.specs.Refusals.{judging_refusal, listing_refusal};
 ghost use Rattle.vme_stream.specs.Texts.{refusal_status};
 
 use crate::input::InFault;
@@ -47,7 +47,7 @@ pub enum Refusal {
 impl Refusal {
     /// The refusal for a fault in reading an input.
     pub fn of_input(input: Input, fault: InFault) -> Refusal
-        ensures { result ≡ refused input fault }
+        ensures { result ≡ input_refusal input fault }
     {
         match fault {
             InFault::Read => Refusal::CannotRead(input),
