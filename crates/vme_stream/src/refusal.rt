@@ -6,7 +6,6 @@ ghost use Rattle.vme_stream.specs.Refusals.{judging_refusal, listing_refusal};
 ghost use Rattle.vme_stream.specs.Texts.{refusal_status};
 
 use crate::input::InFault;
-use thiserror::Error;
 use vcd_read::{FaultKind, VcdFault};
 use vme_bind::{BindFault, BindFaultKind, CaptureFault};
 use vme_listing::ListFault;
