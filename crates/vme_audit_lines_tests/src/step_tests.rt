@@ -36,8 +36,8 @@ static BREAKS: [KnownBreak; 3] = [
 ];
 
 /// A known break with its category.
-fn told_of(told: &KnownBreak) -> Option<CategorizedBreak> {
-    let (category, instant, time, rule, line) = *told;
+fn break_of(known: &KnownBreak) -> Option<CategorizedBreak> {
+    let (category, instant, time, rule, line) = *known;
     Some(CategorizedBreak {
         category,
         found: AuditBreak {
@@ -49,10 +49,10 @@ fn told_of(told: &KnownBreak) -> Option<CategorizedBreak> {
     })
 }
 
-/// Whether `told` are the first of the known breaks.
-fn are_first_breaks(told: &[CategorizedBreak]) -> bool {
-    for (found, known) in told.iter().zip(BREAKS.iter()) {
-        let is_so = match told_of(known) {
+/// Whether `returned` are the first of the known breaks.
+fn are_first_breaks(returned: &[CategorizedBreak]) -> bool {
+    for (found, known) in returned.iter().zip(BREAKS.iter()) {
+        let is_so = match break_of(known) {
             Some(known) => *found == known,
             None => false,
         };
@@ -60,21 +60,21 @@ fn are_first_breaks(told: &[CategorizedBreak]) -> bool {
             return false;
         }
     }
-    told.len() <= BREAKS.len()
+    returned.len() <= BREAKS.len()
 }
 
-/// Reads the steps, which are ten time units apart, and adds the breaks that are returned to `told`.
+/// Takes the steps, which are ten time units apart, and adds the breaks that the auditor returns to `returned`.
 fn read_steps(
     alloc: Global,
     opening: &Lines,
     auditor: &mut StepAuditor<'_>,
-    told: &mut Vec<CategorizedBreak>,
+    returned: &mut Vec<CategorizedBreak>,
 ) -> Option<()> {
     for (number, text) in STEPS.iter().enumerate() {
         let time = (number as u64).saturating_mul(10);
         let step = step_of(alloc, opening, time, text)?;
         if let Some(found) = auditor.take(&step).ok()? {
-            told.push(found).ok()?;
+            returned.push(found).ok()?;
         }
     }
     Some(())
@@ -96,13 +96,13 @@ fn ended(alloc: Global, stop: Option<u64>) -> Option<EndedAudit> {
     };
     let opening = opening_of(alloc, 1, OPENING)?;
     let mut auditor = StepAuditor::new(&opening, rules);
-    let mut told = Vec::new(alloc);
-    read_steps(alloc, &opening, &mut auditor, &mut told)?;
-    if !are_first_breaks(told.as_slice()) {
+    let mut returned = Vec::new(alloc);
+    read_steps(alloc, &opening, &mut auditor, &mut returned)?;
+    if !are_first_breaks(returned.as_slice()) {
         return None;
     }
     Some((
-        told.len(),
+        returned.len(),
         auditor.is_stopped(),
         auditor.break_counts(),
         auditor.audited().counts.by_berr,
