@@ -15,7 +15,7 @@ use Rattle.vme_stream.specs.InFaults.{InputFailsBy}
 use Rattle.vme_stream.specs.declared.input.InFault.{InFault}
 use Rattle.vme_stream.specs.declared.input.InFault.TheVariants as failed
 use Rattle.vme_dump_input.specs.BufferedInputs.{FailsAs, InputSoFar, IsAllOf, IsGrown, IsReadOn, IsReadTo}
-use Rattle.vme_dump_input.specs.BufferedInputs.{IsToldWhole, MayLimit, not_read}
+use Rattle.vme_dump_input.specs.BufferedInputs.{HasAllIfWhole, MayLimit, not_read}
 
 module _ (old now : Reading) (done : List ℕ) (input : InputSoFar) (h : IsReadTo old now done input) where
   -- `IsReadTo` holds after the first `n` held bytes are taken
@@ -36,7 +36,7 @@ module _ (old now : Reading) (done : List ℕ) (input : InputSoFar) (h : IsReadT
         bounded = h.bounded;
         limits = h.limits;
         within = h.within;
-        whole = subst (λ l. IsToldWhole input.is_whole old l input.read input.limit) (sym same) h.whole;
+        whole = subst (λ l. HasAllIfWhole input.is_whole old l input.read input.limit) (sym same) h.whole;
         in_time = h.in_time;
       }
 
@@ -47,8 +47,8 @@ module _ (old now : Reading) (done : List ℕ) (input : InputSoFar) (h : IsReadT
   -- the bytes of an input that is read to its end, those that are gone and those that are held, are all of the source
   pub IsAllOf-whole : input.is_whole ≡ true → IsAllOf old now (done ++ input.held) input.limit
   IsAllOf-whole ends =
-      let told = subst (λ (b : Bool). IsToldWhole b old (done ++ input.held) input.read input.limit) ends h.whole in
-      ((IsInTime-few_reads (h.in_time ends), told.0), omega (arith, h.read, told.1))
+      let all = subst (λ (b : Bool). HasAllIfWhole b old (done ++ input.held) input.read input.limit) ends h.whole in
+      ((IsInTime-few_reads (h.in_time ends), all.0), omega (arith, h.read, all.1))
 
   -- at most 65,537 reads are full, within the limit and one read more
   full_reads-at_most : (full room read limit : ℕ) → full * room ≤ read → read ≤ limit + room → MayLimit limit room
@@ -135,10 +135,10 @@ module _ (old now : Reading) (done : List ℕ) (input : InputSoFar) (h : IsReadT
         (same : later.failures ≡ now.failures) (reads : later.reads ≡ suc now.reads) (less : input.reads < most_reads)
         (going : input.is_whole ≡ false) where
       -- nothing is asked of an input that isn't whole
-      IsToldWhole-not_whole : (flag : Bool) → flag ≡ false → (bytes : List ℕ) (read limit : ℕ)
-          → IsToldWhole flag old bytes read limit
-      IsToldWhole-not_whole true e bytes read limit = absurd (cc)
-      IsToldWhole-not_whole false e bytes read limit = tt
+      HasAllIfWhole-not_whole : (flag : Bool) → flag ≡ false → (bytes : List ℕ) (read limit : ℕ)
+          → HasAllIfWhole flag old bytes read limit
+      HasAllIfWhole-not_whole true e bytes read limit = absurd (cc)
+      HasAllIfWhole-not_whole false e bytes read limit = tt
 
       -- an input that isn't whole has no last read that has to be in time
       in_time-not_whole : (flag : Bool) → flag ≡ false → (n : ℕ) → flag ≡ true → n < most_reads
@@ -167,7 +167,7 @@ module _ (old now : Reading) (done : List ℕ) (input : InputSoFar) (h : IsReadT
             bounded = omega (arith, less);
             limits = h.limits;
             within = within;
-            whole = IsToldWhole-not_whole input.is_whole going (done ++ (input.held ++ more))
+            whole = HasAllIfWhole-not_whole input.is_whole going (done ++ (input.held ++ more))
                 (input.read + length more) input.limit;
             in_time = in_time-not_whole input.is_whole going (input.reads + 1);
           }

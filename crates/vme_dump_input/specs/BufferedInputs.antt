@@ -33,10 +33,10 @@ pub record HasFull (old now : Reading) (reads room bytes full : ℕ) : Type 0 wh
   pub counted : old.short_reads + reads ≡ now.short_reads + full
   pub enough : full * room ≤ bytes
 
--- If the input is whole, `bytes` are all bytes of its source, where these are known, and at most `limit`.
-abbrev pub IsToldWhole : Bool → Reading → List ℕ → ℕ → ℕ → Type 0
-IsToldWhole true old bytes read limit = IfSome old.left (λ told. bytes ≡ told) × (read ≤ limit)
-IsToldWhole false old bytes read limit = Unit {0}
+-- if the input is whole, `bytes` are all bytes of its source, where these are known, and at most `limit` were read
+abbrev pub HasAllIfWhole : Bool → Reading → List ℕ → ℕ → ℕ → Type 0
+HasAllIfWhole true old bytes read limit = IfSome old.left (λ all. bytes ≡ all) × (read ≤ limit)
+HasAllIfWhole false old bytes read limit = Unit {0}
 
 -- a source was read from state `old` to state `now`: of its bytes `done` were taken, and the others are held
 pub record IsReadTo (old now : Reading) (done : List ℕ) (input : InputSoFar) : Type 0 where
@@ -50,7 +50,7 @@ pub record IsReadTo (old now : Reading) (done : List ℕ) (input : InputSoFar) :
   pub bounded : input.reads ≤ most_reads
   pub limits : MayLimit input.limit input.room
   pub within : input.read ≤ input.limit + input.room
-  pub whole : IsToldWhole input.is_whole old (done ++ input.held) input.read input.limit
+  pub whole : HasAllIfWhole input.is_whole old (done ++ input.held) input.read input.limit
   pub in_time : input.is_whole ≡ true → input.reads < most_reads
 
 -- the held bytes were kept, and perhaps more were added
