@@ -8,36 +8,10 @@ use vme_bind::{
     BindFault, BindFaultKind, Binding, CaptureFault, DumpReader, SpeculativeReader, TextPieces,
     read_binding,
 };
+use vme_test_recordings::BUS_BINDING;
 use vme_trace::{Capture, Level, Line, Lines, Step, StepVisitor};
 
-/// A binding of six lines to variables, and of all others but D and SYSRESET to constant levels.
-const BUS_LINES: &str = "\
-slots 1
-AS = bus.AS
-DS0 = bus.DS0
-DS1 = bus.DS1
-DTACK = bus.DTACK
-BERR = bus.BERR
-IACK = bus.IACK
-AM0 = 1
-AM1 = 0
-AM2 = 1
-AM3 = 1
-AM4 = 1
-AM5 = 1
-LWORD = 1
-WRITE = 1
-A = 1
-BBSY = 0
-BR = 1
-BG0 = 1
-BG1 = 1
-BG2 = 1
-BG3 = 1
-IA = 1
-";
-
-/// The declarations of those variables, except AS.
+/// The declarations of the variables of `BUS_BINDING`, except AS.
 const DECLARED: &str = "\
 $var wire 1 q DS0 $end
 $var wire 1 r DS1 $end
@@ -281,14 +255,14 @@ fn is_written(alloc: Global, capture: Option<Capture>, wanted: &str) -> bool {
 fn recordings_of_the_bus(rt: HostRuntime) {
     for (more, declared, changes, wanted) in BUS_RECORDINGS.iter() {
         let dump = [BUS, *declared, DECLARED, *changes];
-        let capture = captured(rt.alloc(), &[BUS_LINES, *more], &dump);
+        let capture = captured(rt.alloc(), &[BUS_BINDING, *more], &dump);
         assert!(rt; is_written(rt.alloc(), capture, wanted), "not {wanted}");
     }
 }
 
 #[test]
 fn a_dump_that_was_read_is_recorded(rt: HostRuntime) {
-    let capture = captured_by_dump(rt.alloc(), &[BUS_LINES], &[BUS, DECLARED, READ]);
+    let capture = captured_by_dump(rt.alloc(), &[BUS_BINDING], &[BUS, DECLARED, READ]);
     assert!(rt; is_written(rt.alloc(), capture, READ_STEPS));
 }
 
@@ -359,7 +333,7 @@ fn has_data_high(lines: &Lines) -> bool {
 
 /// The level of a line in the opening, where the binding has more lines.
 fn opening_level(alloc: Global, more: &str, name: &str) -> Option<Level> {
-    let capture = captured(alloc, &[BUS_LINES, more], &[BUS, DECLARED, READ])?;
+    let capture = captured(alloc, &[BUS_BINDING, more], &[BUS, DECLARED, READ])?;
     level_of(capture.opening(), name)
 }
 
@@ -373,7 +347,7 @@ fn openings(rt: HostRuntime) {
 
 #[test]
 fn data_lines_that_are_left_out_are_high(rt: HostRuntime) {
-    let is_so = match captured(rt.alloc(), &[BUS_LINES], &[BUS, DECLARED, READ]) {
+    let is_so = match captured(rt.alloc(), &[BUS_BINDING], &[BUS, DECLARED, READ]) {
         Some(capture) => capture.opening().slots() == 1 && has_data_high(capture.opening()),
         None => false,
     };
@@ -434,7 +408,7 @@ fn faults_of_bindings(rt: HostRuntime) {
 fn faults_behind_the_lines_of_the_bus(rt: HostRuntime) {
     for (more, wanted) in MORE_FAULTS.iter() {
         assert!(rt;
-            has_fault(rt.alloc(), &[BUS_LINES, *more], wanted),
+            has_fault(rt.alloc(), &[BUS_BINDING, *more], wanted),
             "not {wanted}"
         );
     }
@@ -547,13 +521,13 @@ fn what_dumps_of_the_bus_lack(rt: HostRuntime) {
     let alloc = rt.alloc();
     let wanted = "binding line 24: NoSuchPath";
     let more = "SYSRESET = bus.RESET\n";
-    assert!(rt; has_fault_with(alloc, &[BUS_LINES, more], &[BUS, DECLARED, READ], wanted));
+    assert!(rt; has_fault_with(alloc, &[BUS_BINDING, more], &[BUS, DECLARED, READ], wanted));
     let wanted = "binding line 2: NoSuchPath";
     let dump = ["$scope module bus $end\n", DECLARED];
-    assert!(rt; has_fault_with(alloc, &[BUS_LINES], &dump, wanted));
+    assert!(rt; has_fault_with(alloc, &[BUS_BINDING], &dump, wanted));
     let wanted = "binding line 2: AmbiguousPath";
     let other = "$var wire 1 v AS $end\n";
-    assert!(rt; has_fault_with(alloc, &[BUS_LINES], &[BUS, other, DECLARED], wanted));
+    assert!(rt; has_fault_with(alloc, &[BUS_BINDING], &[BUS, other, DECLARED], wanted));
 }
 
 #[test]
@@ -606,7 +580,7 @@ const BROKEN: &[u8] = b"$enddefinitions $end\n#1\n2p";
 
 #[test]
 fn a_fault_of_the_dump_comes_before_one_of_the_binding(rt: HostRuntime) {
-    let Some(binding) = bound(rt.alloc(), &[BUS_LINES]) else {
+    let Some(binding) = bound(rt.alloc(), &[BUS_BINDING]) else {
         panic!(rt; "no binding")
     };
     let (alloc, wanted) = (rt.alloc(), "dump line 3: BadToken");
@@ -635,7 +609,7 @@ fn is_binding_only_if(alloc: Global, text: &[u8], binds_all: bool) -> bool {
 /// A prefix of a binding that lacks more than the last line feed doesn't bind all lines.
 #[test]
 fn every_prefix_of_a_binding_has_a_fault_unless_it_binds_all(rt: HostRuntime) {
-    let text = BUS_LINES.as_bytes();
+    let text = BUS_BINDING.as_bytes();
     for end in 0..text.len() {
         let binds_all = end + 1 == text.len();
         assert!(rt;
@@ -658,7 +632,7 @@ fn want_of_memory_is_the_fault(rt: HostRuntime) {
     let Ok(dump) = read_vcd(rt.alloc(), text.as_slice()) else {
         return;
     };
-    match read_binding(rt.alloc(), BUS_LINES.as_bytes()) {
+    match read_binding(rt.alloc(), BUS_BINDING.as_bytes()) {
         Ok(binding) => match binding.capture(rt.alloc(), &dump) {
             Ok(capture) => assert_eq!(rt; capture.steps().len(), 6),
             Err(fault) => assert!(rt; fault == memory, "{fault}"),
@@ -673,7 +647,7 @@ fn want_of_memory_at_a_text_is_the_fault(rt: HostRuntime) {
     let Ok(text) = together(rt.alloc(), &[BUS, DECLARED, READ]) else {
         return;
     };
-    let Ok(binding) = read_binding(rt.alloc(), BUS_LINES.as_bytes()) else {
+    let Ok(binding) = read_binding(rt.alloc(), BUS_BINDING.as_bytes()) else {
         return;
     };
     match binding.capture_text(rt.alloc(), text.as_slice()) {
@@ -768,7 +742,7 @@ fn joined(
 
 /// A dump of the bus that is read up to the end of `front`, in which its definitions end.
 fn begun(alloc: Global, front: &[&str]) -> Option<TextPieces<KeptSteps>> {
-    let binding = bound(alloc, &[BUS_LINES])?;
+    let binding = bound(alloc, &[BUS_BINDING])?;
     let front = together(alloc, front).ok()?;
     let kept = none_kept(alloc, Lines::new(1)?);
     let text = binding.begin_text(alloc, front.as_slice(), kept).ok()?;
@@ -864,7 +838,7 @@ fn stopped_behind(
 
 /// Where reading a body in three pieces stops, of which `first` follows the definitions at once.
 fn stopped_by(alloc: Global, first: &str, second: &str, third: &str) -> Option<Stopped<KeptSteps>> {
-    let binding = bound(alloc, &[BUS_LINES])?;
+    let binding = bound(alloc, &[BUS_BINDING])?;
     let front = together(alloc, &[BUS, DECLARED, first]).ok()?;
     match stopped_in_front(alloc, &binding, front.as_slice())? {
         Ok(text) => stopped_behind(alloc, text, second, third),
@@ -948,7 +922,7 @@ fn a_fault_comes_with_the_steps_before_it(rt: HostRuntime) {
 
 /// The fault of a binding that is known before the body is read, and that of the body.
 fn faults_before_and_in_body(alloc: Global) -> Option<(BindFault, VcdFault)> {
-    let binding = bound(alloc, &[BUS_LINES])?;
+    let binding = bound(alloc, &[BUS_BINDING])?;
     let front = ["$scope module bus $end\n", DECLARED, "#0 1q 2p\n"];
     let front = together(alloc, &front).ok()?;
     let kept = none_kept(alloc, Lines::new(1)?);
@@ -1005,7 +979,7 @@ fn read_in_two(
     first: &str,
     last: &str,
 ) -> Option<(Option<VcdFault>, Result<KeptSteps, CaptureFault>)> {
-    let binding = bound(alloc, &[BUS_LINES])?;
+    let binding = bound(alloc, &[BUS_BINDING])?;
     let reader = DumpReader::new(&binding, none_kept(alloc, Lines::new(1)?));
     // the definitions don't end here
     let Some((reader, left)) = left_of(alloc, reader, BUS.as_bytes()) else {

@@ -8,35 +8,10 @@ use vme_part_command::{
     NamedPart, PartOptions, list_whole, tell_whole, write_joined, write_part_of,
 };
 use vme_stream::{Bytes, Io};
+use vme_test_recordings::BUS_BINDING;
 use vme_trace::{Failed, Sink, Source};
 
-/// A binding of six lines to variables, on a backplane of one slot.
-const BINDING: &str = "slots 1
-AS = bus.AS
-DS0 = bus.DS0
-DS1 = bus.DS1
-DTACK = bus.DTACK
-BERR = bus.BERR
-IACK = bus.IACK
-AM0 = 1
-AM1 = 0
-AM2 = 1
-AM3 = 1
-AM4 = 1
-AM5 = 1
-LWORD = 1
-WRITE = 1
-A = 1
-BBSY = 0
-BR = 1
-BG0 = 1
-BG1 = 1
-BG2 = 1
-BG3 = 1
-IA = 1
-";
-
-/// The definitions of a dump with those variables. Each body below follows them.
+/// The definitions of a dump with the variables of `BUS_BINDING`. Each body below follows them.
 const HEADER: &str = "$timescale 1 ns $end
 $scope module bus $end
 $var wire 1 p AS $end
@@ -217,7 +192,7 @@ fn part_by(
 
 /// The part with marks of the dump with the body `body` as the file `number`.
 fn part_of(alloc: Global, number: u32, body: &str) -> Option<Vec<u8>> {
-    part_by(alloc, BINDING, number, true, body)
+    part_by(alloc, BUS_BINDING, number, true, body)
 }
 
 /// The name of the input with the index `place`.
@@ -286,7 +261,7 @@ fn tells(
 
 /// Whether the part of a dump, without marks, is short, and begins as a part does.
 fn writes_a_short_part(alloc: Global) -> Option<bool> {
-    let part = part_by(alloc, BINDING, 0, false, FIRST)?;
+    let part = part_by(alloc, BUS_BINDING, 0, false, FIRST)?;
     Some(part.as_slice().starts_with(b"vmepart1") && part.len() < 4096)
 }
 
@@ -346,7 +321,7 @@ fn part_by_reads(alloc: Global, number: u32, body: &str) -> Option<Vec<u8>> {
     let mut source = Io::new(ShortReader {
         left: dump.as_bytes(),
     });
-    part_from(alloc, BINDING, options, &mut source)
+    part_from(alloc, BUS_BINDING, options, &mut source)
 }
 
 /// Whether a dump has the same part however it is read.
@@ -458,7 +433,7 @@ fn is_refused(alloc: Global, dump: &str, line: &str) -> bool {
             number: 1,
             listing: true,
         },
-        &mut Bytes::new(BINDING.as_bytes()),
+        &mut Bytes::new(BUS_BINDING.as_bytes()),
         &mut Bytes::new(dump.as_bytes()),
         &mut out,
         &mut err,
@@ -502,14 +477,14 @@ fn short_files_are_judged_or_refused(rt: HostRuntime) {
 /// Whether parts of different backplanes, and with marks and without, are refused by their names.
 fn refuses_others(alloc: Global) -> Option<bool> {
     let first = part_of(alloc, 0, FIRST)?;
-    let two_slots = BINDING.replace(alloc, "slots 1", "slots 2").ok()?;
+    let two_slots = BUS_BINDING.replace(alloc, "slots 1", "slots 2").ok()?;
     let other = part_by(alloc, two_slots.as_str(), 1, true, SECOND)?;
-    let without_marks = part_by(alloc, BINDING, 1, false, SECOND)?;
+    let without_marks = part_by(alloc, BUS_BINDING, 1, false, SECOND)?;
     let backplane = ("", "vmecheck: b.part: of another backplane\n", 3);
     let without = ("", "vmecheck: b.part: without marks\n", 3);
     let with = ("", "vmecheck: b.part: with marks\n", 3);
     let unmarked = ("", "vmecheck: parts without marks\n", 3);
-    let first_without_marks = part_by(alloc, BINDING, 0, false, FIRST)?;
+    let first_without_marks = part_by(alloc, BUS_BINDING, 0, false, FIRST)?;
     Some(
         tells(
             alloc,
@@ -656,7 +631,7 @@ fn want_of_memory_is_told(rt: HostRuntime) {
     let status = write_part_of(
         alloc,
         options,
-        &mut Bytes::new(BINDING.as_bytes()),
+        &mut Bytes::new(BUS_BINDING.as_bytes()),
         &mut Bytes::new(dump.as_bytes()),
         &mut out,
         &mut err,

@@ -19,6 +19,7 @@
 //!
 //! # Parts
 //!
+//! - `bus`: [`BUS_BINDING`], a binding of six lines to variables.
 //! - `notation`: [`step_of`], the step that words denote; [`push_steps`], the steps of a text.
 //! - `recording`: [`Recording`], a recording as texts; [`opening_of`], the levels at an opening;
 //!   [`capture_of`], the recording itself.
@@ -38,8 +39,10 @@
 //! [`capture_of`] looks at whether steps are well formed.
 #![tactic(auto)]
 
+mod bus;
 mod notation;
 mod recording;
 
+pub use bus::BUS_BINDING;
 pub use notation::{push_steps, step_of};
 pub use recording::{Recording, capture_of, opening_of};
