@@ -1,11 +1,11 @@
 -- What is listed keeps the rules (`KeepsRules`), if no rule is broken before the end of the listing.
-use Rattle.std.proofs.Common.{lit<, ◌≡◌, ℕ, ◌+◌, ◌-◌, ◌<◌, ◌≤◌, Bool, true, false, ◌&&◌, ◌||◌, not}
+use Rattle.std.proofs.Common.{lit<, ◌≡◌, ℕ, ◌+◌, ◌-◌, ◌<◌, ◌≤◌, Bool, true, false, ◌&&◌, not}
 use Rattle.std.proofs.Common.{cond, if◌then◌else◌, refl, sym, ◌∙◌, ap, arith, subst, List, [], ◌∷◌, ◌++◌, map, flat_map}
 use Rattle.std.proofs.Common.{inl, inr, ◌⊎◌, All, Contains}
 use Rattle.std.specs.Prelude.{Option, None, Some, IfSome, nat_lt, nat_le, option_map, option_and_then}
 use Rattle.std.proofs.lemmas.Bool.Decides.{nat_tests}
 use Rattle.std.proofs.lemmas.List.Elements.{Contains-append_left, Contains-append_right}
-use Rattle.std.proofs.lemmas.Bool.{cases_Bool, and_parts, false_from_ne_true, not-false, not-true, lt-ltb, eqb-false}
+use Rattle.std.proofs.lemmas.Bool.{and_parts, false_from_ne_true, not-false, not-true, lt-ltb, eqb-false}
 use Rattle.vme_trace.specs.Instants.{any, least, greatest, those}
 use Rattle.vme_trace.specs.LineNumbers.{AS, BBSY, grant}
 use Rattle.vme_trace.specs.Levels.{Levels}
@@ -37,7 +37,7 @@ use Rattle.vme_split.proofs.Tenures as tenures
 use Rattle.vme_split.proofs.Answering.{least-unanswered, lasts-until_high, reply_at, is_answered-reply_at}
 use Rattle.vme_split.proofs.Answering.{least-answers, near_low-reply}
 use Rattle.vme_split.proofs.Transfers.{transfer_starts-after, CycleCovers, CycleCovers-low, CycleCovers-starts}
-use Rattle.vme_split.proofs.Transfers.{near-low_as}
+use Rattle.vme_split.proofs.Transfers.{LowNear, LowNear-near}
 use Rattle.vme_split.proofs.Classes.{cycles_of_classes}
 use Rattle.vme_split.proofs.Directions.{All-ShowsAcknowledge, All-ShowsDirection}
 use Rattle.vme_split.proofs.WrittenData.{All-ShowsData}
@@ -67,20 +67,6 @@ tenure_slot-within t i slot e = by_level (tenure_level t i) e
 tenure_level-below_4 : (t : Trace) (i level : ℕ) → tenure_level t i ≡ Some level → level < 4
 unfolding tenure_level
 tenure_level-below_4 t i level e = (least-found (λ n. low t (grant n 0) (taken_grant t i)) 0 4 level e).below
-
--- where line l is low near r, it is low at an instant k: r or the one before
-near-low_line : (t : Trace) (l s r : ℕ) → s < r → near (low t l) r ≡ true → (k : ℕ) × (s ≤ k) × (k ≤ r) × (r ≤ k + 1)
-    × (low t l k ≡ true)
-near-low_line t l s r after h = by (cases_Bool (low t l r))
-  where
-    first : (a b : Bool) → (a || b) ≡ true → b ≡ false → a ≡ true
-    first true b e f = refl
-    first false true e f = absurd (cc)
-    first false false e f = absurd (cc)
-
-    by : (low t l r ≡ true) ⊎ (low t l r ≡ false) → (k : ℕ) × (s ≤ k) × (k ≤ r) × (r ≤ k + 1) × (low t l k ≡ true)
-    by (inl now) = (r, omega arith, omega arith, omega arith, now)
-    by (inr off) = (r - 1, omega arith, omega arith, omega arith, first (low t l (r - 1)) (low t l r) h off)
 
 -- P holds of the value of an option, if there is one, if it holds of each value that it may have
 IfSome-value : (o : Option ℕ) (P : ℕ → Type 0) → ((e : ℕ) → o ≡ Some e → P e) → IfSome o P
@@ -285,7 +271,7 @@ module _ (t : Trace) (stretch : Stretch) (is : IsStretchOf t stretch) (end : ℕ
   unfolding TenureCovers
   StartsInOne-cycle i before starts =
       let down = cycle_starts-falls_after i starts in
-      let there = near-low_line t BBSY stretch.start i down.0 (near-low_busy i down.0 before down.1) in
+      let there = LowNear-near t BBSY stretch.start i down.0 (near-low_busy i down.0 before down.1) in
       let cover : TenureCovers there.0 =
       Covering-at (low t BBSY) (tenure_starts t stretch) (rises t BBSY) (rises t BBSY)
       stretch.start end
@@ -389,13 +375,9 @@ module _ (t : Trace) (stretch : Stretch) (is : IsStretchOf t stretch) (end : ℕ
             absurd (clash (strobes_high t c) close.holds (strobes_high-none c (omega (arith, close.first))
             before))
 
-    -- the address strobe is low at an instant that is r or the one before
-    abbrev Near : Type 0
-    Near = (k : ℕ) × (stretch.start ≤ k) × (k ≤ r) × (r ≤ k + 1) × (low t AS k ≡ true)
-
-    -- the address strobe is low near the answer
-    low-near_answer : Near
-    low-near_answer = near-low_as t stretch is end within most r (omega (arith, IsLeast-answer.first, starts_after))
+    -- the address strobe is low at the answer or at the instant before
+    low-near_answer : LowNear t AS stretch.start r
+    low-near_answer = LowNear-near t AS stretch.start r (omega (arith, IsLeast-answer.first, starts_after))
         (near_low-reply t stretch is end within most unbroken i r starts_after starts e)
 
     -- a cycle covers the instant near the answer at which the address strobe is low
