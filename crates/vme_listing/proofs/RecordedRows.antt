@@ -37,7 +37,7 @@ AtMostOne i kind (row ∷ []) = IsMiddle i kind row
 AtMostOne i kind (row ∷ next ∷ rows) = ⊥
 
 -- the slot of a tenure is one of the backplane, or one more than the last
-slot_within : (t : Trace) (i slot : ℕ) → tenure_slot t i ≡ Some slot → (1 ≤ slot) × (slot ≤ t.opening.slots + 1)
+pub slot_within : (t : Trace) (i slot : ℕ) → tenure_slot t i ≡ Some slot → (1 ≤ slot) × (slot ≤ t.opening.slots + 1)
 unfolding tenure_slot
 slot_within t i slot e = by_level (tenure_level t i) e
   where
@@ -54,7 +54,7 @@ slot_within t i slot e = by_level (tenure_level t i) e
         (greatest-below (has_reached t (taken_grant t i) n) 0 (t.opening.slots + 1)) f
 
 -- the level of a tenure is below 4
-level_within : (t : Trace) (i level : ℕ) → tenure_level t i ≡ Some level → level < 4
+pub level_within : (t : Trace) (i level : ℕ) → tenure_level t i ≡ Some level → level < 4
 unfolding tenure_level
 level_within t i level e = (least-found (λ n. low t (grant n 0) (taken_grant t i)) 0 4 level e).below
 

@@ -22,11 +22,11 @@ use Rattle.vme_trace.specs.declared.class.Class.{Class}
 use Rattle.vme_trace.specs.declared.class.Class.TheVariants as class
 use Rattle.vme_trace.proofs.OpenTransfers.{in_transfer-is}
 use Rattle.vme_trace.proofs.Ranges.{every-more, IsLeast, any-fails, fails-any, least-found, least-none-any, clash}
-use Rattle.vme_trace.proofs.Ranges.{greatest-below}
 use Rattle.vme_listing.specs.Recorded.{cycle_row, transfer_row, answered_row, rows_before}
 use Rattle.vme_listing.specs.declared.row.Row.{Row}
 use Rattle.vme_listing.specs.declared.row.Row.TheVariants as row
 use Rattle.vme_listing.specs.declared.row.Row.TheVariants.{OpenTenure, Tenure}
+use Rattle.vme_listing.proofs.RecordedRows.{slot_within, level_within}
 use Rattle.vme_split.specs.Split.{ShowsGrant, IsOpenAtStart, Interval, interval, Covers, StartsInOne, IsOfASlot}
 use Rattle.vme_split.specs.Split.{IsAnsweredInCycle, AwaitsAnswer, is_traffic, tenure_in, cycle_in, KeepsRules}
 use Rattle.vme_split.proofs.Lists.{past_or_below, greatest-is, greatest-found}
@@ -46,28 +46,6 @@ use Rattle.vme_split.proofs.EachRow.{Contains-map_those, All-map_those, All-rows
 use Rattle.vme_split.proofs.EachRow.{All-tenure_rows_open, All-cycle_rows}
 use Rattle.vme_split.proofs.EachRow.{All-transfer_rows}
 
--- the slot of a tenure is one of the backplane, or one more than the last
-tenure_slot-within : (t : Trace) (i slot : ℕ) → tenure_slot t i ≡ Some slot → (1 ≤ slot) × (slot ≤ t.opening.slots + 1)
-unfolding tenure_slot
-tenure_slot-within t i slot e = by_level (tenure_level t i) e
-  where
-    counted : (o : Option ℕ) → ((k : ℕ) → o ≡ Some k → k < t.opening.slots + 1) → option_map (λ k. 1 + k) o ≡ Some slot
-        → (1 ≤ slot) × (slot ≤ t.opening.slots + 1)
-    counted None h f = absurd (cc)
-    counted (Some k) h f = let same : 1 + k ≡ slot = cc in let below = h k refl in (omega arith, omega arith)
-
-    by_level : (o : Option ℕ) → option_map (λ k. 1 + k)
-        (option_and_then (λ n. greatest (has_reached t (taken_grant t i) n) 0 (t.opening.slots + 1)) o) ≡ Some slot
-        → (1 ≤ slot) × (slot ≤ t.opening.slots + 1)
-    by_level None f = absurd (cc)
-    by_level (Some n) f = counted (greatest (has_reached t (taken_grant t i) n) 0 (t.opening.slots + 1))
-        (greatest-below (has_reached t (taken_grant t i) n) 0 (t.opening.slots + 1)) f
-
--- the level of a tenure is one from 0 to 3
-tenure_level-below_4 : (t : Trace) (i level : ℕ) → tenure_level t i ≡ Some level → level < 4
-unfolding tenure_level
-tenure_level-below_4 t i level e = (least-found (λ n. low t (grant n 0) (taken_grant t i)) 0 4 level e).below
-
 -- P holds of the value of an option, if there is one, if it holds of each value that it may have
 IfSome-value : (o : Option ℕ) (P : ℕ → Type 0) → ((e : ℕ) → o ≡ Some e → P e) → IfSome o P
 IfSome-value None P h = tt
@@ -82,13 +60,13 @@ module _ (t : Trace) (stretch : Stretch) (is : IsStretchOf t stretch) (end : ℕ
   unfolding is_broken
   IsOfASlot-tenure i before starts level slot l e =
       let there = tenures.tenure_starts-falls_after t stretch is end within most unbroken i starts in
-      let bounds = tenure_slot-within t i slot e in
+      let bounds = slot_within t i slot e in
       let past = off_past (falls t BBSY i) _ there.1
       (is_broken-unbroken t stretch end most unbroken rule.B4 i BBSY there.0 before
       (lit< tt) refl) in
       let other = eqb-false slot (t.opening.slots + 1)
       (sym (ap (λ (o : Option ℕ). is_option_equal o (t.opening.slots + 1)) e) ∙ past) in
-      (tenure_level-below_4 t i level l, bounds.0, omega (arith, bounds.1, other))
+      (level_within t i level l, bounds.0, omega (arith, bounds.1, other))
     where
       off_past : (a b : Bool) → a ≡ true → (true && a && b) ≡ false → b ≡ false
       off_past true b h e = e
