@@ -2,7 +2,7 @@
 -- starts, if no rule is broken.
 use Rattle.std.proofs.Common.{◌≡◌, ◌≢◌, ◌⊎◌, ℕ, zero, suc, ◌+◌, ◌*◌, ◌/◌, ◌%◌, ◌^◌, ◌<◌, ◌≤◌, Bool, true, false, ◌&&◌}
 use Rattle.std.proofs.Common.{not, if◌then◌else◌, refl, sym, ◌∙◌, ap, arith, subst, inl, inr, All}
-use Rattle.std.specs.Prelude.{Option, None, Some, ◌==◌}
+use Rattle.std.specs.Prelude.{Option, ◌==◌}
 use Rattle.std.proofs.Math.Nat.{div-div-eq-div-mul, pow-suc, pow-succ'}
 use Rattle.std.proofs.lemmas.Bool.Decides.{nat_tests}
 use Rattle.std.proofs.lemmas.Bool.{eqb-true, eqb-false}
@@ -15,21 +15,23 @@ use Rattle.vme_trace.specs.Levels.{Levels, is_low, is_high, is_known, is_high_on
 use Rattle.vme_trace.specs.Trace.{Trace, levels_at}
 use Rattle.vme_trace.specs.Signals.{level, low, high, known, rises}
 use Rattle.vme_trace.specs.Judged.{Stretch}
-use Rattle.vme_trace.specs.Transfers.{answers}
-use Rattle.vme_trace.specs.Cycles.{cycle_starts, cycle_of}
+use Rattle.vme_trace.specs.Cycles.{cycle_starts}
 use Rattle.vme_trace.specs.Rules.{is_broken}
 use Rattle.vme_trace.specs.declared.rule.Rule.TheVariants as rule
 use Rattle.vme_trace.specs.declared.class.Class.{Class}
 use Rattle.vme_trace.specs.declared.class.Class.TheVariants as class
+use Rattle.vme_trace.specs.declared.data.Lanes.{Lanes}
 use Rattle.vme_trace.specs.declared.level.Level.{Level}
 use Rattle.vme_trace.specs.declared.level.Level.TheVariants.{Low, High, Unknown}
 use Rattle.vme_trace.proofs.Ranges.{fails-any}
-use Rattle.vme_listing.specs.Recorded.{address_to, cycle_row, transfer_row, answered_row, rows_before}
+use Rattle.vme_listing.specs.Recorded.{address_to, cycle_row, rows_before}
+use Rattle.vme_listing.specs.declared.row.AnswerLine.{AnswerLine}
+use Rattle.vme_listing.specs.declared.row.Direction.{Direction}
 use Rattle.vme_listing.specs.declared.row.Row.{Row}
-use Rattle.vme_listing.specs.declared.row.Row.TheVariants.{OpenTenure, Tenure}
+use Rattle.vme_listing.specs.declared.row.Row.TheVariants.{OpenTenure, Tenure, Transfer, PendingTransfer}
 use Rattle.vme_split.specs.Split.{bit_of, ShowNumber, address_line, ShowsModifier, ShowsAddress, IsOfItsCode}
 use Rattle.vme_split.proofs.Unbroken.{IsUnbroken, is_broken-unbroken}
-use Rattle.vme_split.proofs.EachRow.{All-rows_before, All-tenure_rows, All-cycle_rows_start, All-transfer_rows}
+use Rattle.vme_split.proofs.EachRow.{All-rows_before, All-tenure_rows, All-cycle_rows_start, All-transfer_rows_any}
 
 -- ---- a number by its bits
 
@@ -342,50 +344,30 @@ module _ (t : Trace) (stretch : Stretch) (end : ℕ) (most : end ≤ stretch.end
   All-by_cycle_rows : (P : Row → Type 0) → ((i : ℕ) → i < end → cycle_starts t stretch i ≡ true
       → P (cycle_row i (levels_at t i) (least (rises t AS) (i + 1) end) (class_of (levels_at t i))))
       → ((i : ℕ) (e : Option ℕ) → P (OpenTenure i e)) → ((i level slot : ℕ) (e : Option ℕ) → P (Tenure i level slot e))
-      → ((i : ℕ) (o : Option ℕ) → P (transfer_row t stretch end i o))
+      → ((d : Direction) (line : AnswerLine) (i cycle r : ℕ) (e : Option ℕ) (lanes : Option Lanes)
+      → P (Transfer d line i cycle r e lanes)) → ((i : ℕ) (d : Direction) → P (PendingTransfer i d))
       → All P (rows_before t stretch end end)
-  All-by_cycle_rows P cycles opened tenures transfers = All-rows_before P t stretch end
+  All-by_cycle_rows P cycles opened tenures answered pending = All-rows_before P t stretch end
       (λ i before. All-tenure_rows P t stretch end i (λ e. opened i e)
       (λ starts level slot e l s. tenures i level slot e))
       (λ i before. All-cycle_rows_start P t stretch end i (λ starts. cycles i before starts))
-      (λ i before. All-transfer_rows P t stretch end i (λ starts. transfers i (least (answers t stretch i) i end)))
+      (All-transfer_rows_any P t stretch end answered pending)
       end (omega arith)
 
   -- each row of a cycle has the modifier code that the lines show
   pub All-ShowsModifier : All (ShowsModifier t) (rows_before t stretch end end)
   All-ShowsModifier = All-by_cycle_rows (ShowsModifier t) (λ i before starts. ShowsModifier-cycle_row i before starts
-      (least (rises t AS) (i + 1) end) (class_of (levels_at t i)) refl) (λ i e. tt) (λ i l s e. tt) in_transfer
-    where
-      in_answered : (i r : ℕ) (o : Option ℕ) → ShowsModifier t (answered_row t stretch end i r o)
-      in_answered i r None = tt
-      in_answered i r (Some c) = tt
-
-      in_transfer : (i : ℕ) (o : Option ℕ) → ShowsModifier t (transfer_row t stretch end i o)
-      in_transfer i None = tt
-      in_transfer i (Some r) = in_answered i r (cycle_of t stretch r)
+      (least (rises t AS) (i + 1) end) (class_of (levels_at t i)) refl) (λ i e. tt) (λ i l s e. tt)
+      (λ d l i c r e x. tt) (λ i d. tt)
 
   -- each row of a cycle has the address or the level that the lines show
   pub All-ShowsAddress : All (ShowsAddress t) (rows_before t stretch end end)
   All-ShowsAddress = All-by_cycle_rows (ShowsAddress t) (λ i before starts. ShowsAddress-cycle_row i before starts
-      (least (rises t AS) (i + 1) end) (class_of (levels_at t i)) refl) (λ i e. tt) (λ i l s e. tt) in_transfer
-    where
-      in_answered : (i r : ℕ) (o : Option ℕ) → ShowsAddress t (answered_row t stretch end i r o)
-      in_answered i r None = tt
-      in_answered i r (Some c) = tt
-
-      in_transfer : (i : ℕ) (o : Option ℕ) → ShowsAddress t (transfer_row t stretch end i o)
-      in_transfer i None = tt
-      in_transfer i (Some r) = in_answered i r (cycle_of t stretch r)
+      (least (rises t AS) (i + 1) end) (class_of (levels_at t i)) refl) (λ i e. tt) (λ i l s e. tt)
+      (λ d l i c r e x. tt) (λ i d. tt)
 
   -- each row of a cycle has the class of its code
   pub All-IsOfItsCode : All IsOfItsCode (rows_before t stretch end end)
   All-IsOfItsCode = All-by_cycle_rows IsOfItsCode (λ i before starts. IsOfItsCode-cycle_row i before starts
-      (least (rises t AS) (i + 1) end) (class_of (levels_at t i)) refl) (λ i e. tt) (λ i l s e. tt) in_transfer
-    where
-      in_answered : (i r : ℕ) (o : Option ℕ) → IsOfItsCode (answered_row t stretch end i r o)
-      in_answered i r None = tt
-      in_answered i r (Some c) = tt
-
-      in_transfer : (i : ℕ) (o : Option ℕ) → IsOfItsCode (transfer_row t stretch end i o)
-      in_transfer i None = tt
-      in_transfer i (Some r) = in_answered i r (cycle_of t stretch r)
+      (least (rises t AS) (i + 1) end) (class_of (levels_at t i)) refl) (λ i e. tt) (λ i l s e. tt)
+      (λ d l i c r e x. tt) (λ i d. tt)

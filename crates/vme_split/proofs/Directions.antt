@@ -25,8 +25,8 @@ use Rattle.vme_split.specs.Split.{ShowsAcknowledge, ShowsDirection}
 use Rattle.vme_split.proofs.Unbroken.{IsUnbroken, is_broken-unbroken}
 use Rattle.vme_split.proofs.Known.{IsWatched, high-watched}
 use Rattle.vme_split.proofs.Transfers.{transfer_starts-after}
-use Rattle.vme_split.proofs.EachRow.{All-rows_before, All-tenure_rows, All-cycle_rows, All-cycle_rows_start}
-use Rattle.vme_split.proofs.EachRow.{All-transfer_rows}
+use Rattle.vme_split.proofs.EachRow.{All-rows_before, All-tenure_rows, All-cycle_rows_any, All-cycle_rows_start}
+use Rattle.vme_split.proofs.EachRow.{All-transfer_rows, All-transfer_rows_any}
 
 -- a known level that isn't low is high
 is_high-known_not_low : (x : Level) → is_known x ≡ true → is_low x ≡ false → is_high x ≡ true
@@ -96,17 +96,8 @@ module _ (t : Trace) (stretch : Stretch) (is : IsStretchOf t stretch) (end : ℕ
       (λ i before. All-cycle_rows_start (ShowsAcknowledge t) t stretch end i
       (λ starts. ShowsAcknowledge-cycle_row i before starts
       (least (rises t AS) (i + 1) end) (class_of (levels_at t i)) refl))
-      (λ i before. All-transfer_rows (ShowsAcknowledge t) t stretch end i
-      (λ starts. in_transfer_row i (least (answers t stretch i) i end)))
+      (All-transfer_rows_any (ShowsAcknowledge t) t stretch end (λ d l i c r e x. tt) (λ i d. tt))
       end (omega arith)
-    where
-      in_answered : (i r : ℕ) (o : Option ℕ) → ShowsAcknowledge t (answered_row t stretch end i r o)
-      in_answered i r None = tt
-      in_answered i r (Some c) = tt
-
-      in_transfer_row : (i : ℕ) (o : Option ℕ) → ShowsAcknowledge t (transfer_row t stretch end i o)
-      in_transfer_row i None = tt
-      in_transfer_row i (Some r) = in_answered i r (cycle_of t stretch r)
 
   -- WRITE is known as a transfer starts
   known-write : (i : ℕ) → i < end → transfer_starts t stretch i ≡ true → known t WRITE i ≡ true
@@ -163,14 +154,8 @@ module _ (t : Trace) (stretch : Stretch) (is : IsStretchOf t stretch) (end : ℕ
   pub All-ShowsDirection : All (ShowsDirection t) (rows_before t stretch end end)
   All-ShowsDirection = All-rows_before (ShowsDirection t) t stretch end
       (λ i before. All-tenure_rows (ShowsDirection t) t stretch end i (λ e. tt) (λ starts level slot e l s. tt))
-      (λ i before. All-cycle_rows (ShowsDirection t) t stretch end i (in_cycle i))
+      (All-cycle_rows_any (ShowsDirection t) t stretch end (λ i c m a e. tt) (λ i m e. tt) (λ i l e. tt))
       (λ i before. All-transfer_rows (ShowsDirection t) t stretch end i
       (λ starts. ShowsDirection-transfer_row i before starts
       (least (answers t stretch i) i end)))
       end (omega arith)
-    where
-      in_cycle : (i : ℕ) (c : Class) → ShowsDirection t (cycle_row i (levels_at t i) (least (rises t AS) (i + 1) end) c)
-      in_cycle i class.S = tt
-      in_cycle i class.K = tt
-      in_cycle i class.I = tt
-      in_cycle i class.F = tt

@@ -8,8 +8,7 @@ use Rattle.std.proofs.lemmas.List.Elements.{Contains-append_left, Contains-appen
 use Rattle.std.proofs.lemmas.Bool.{and_parts, false_from_ne_true, not-false, not-true, lt-ltb, eqb-false}
 use Rattle.vme_trace.specs.Instants.{any, least, greatest, those}
 use Rattle.vme_trace.specs.LineNumbers.{AS, BBSY, grant}
-use Rattle.vme_trace.specs.Levels.{Levels}
-use Rattle.vme_trace.specs.Trace.{Trace, levels_at}
+use Rattle.vme_trace.specs.Trace.{Trace}
 use Rattle.vme_trace.specs.Signals.{near, low, falls, rises}
 use Rattle.vme_trace.specs.Judged.{Stretch, IsStretchOf, is_judged}
 use Rattle.vme_trace.specs.Transfers.{strobes_high, answer_falls, transfer_starts, lasts, is_answered, answers}
@@ -18,11 +17,9 @@ use Rattle.vme_trace.specs.Cycles.{cycle_starts, cycle_of}
 use Rattle.vme_trace.specs.Tenures.{is_granting, has_reached, taken_grant, tenure_level, tenure_slot, tenure_starts}
 use Rattle.vme_trace.specs.Rules.{is_broken, is_option_equal}
 use Rattle.vme_trace.specs.declared.rule.Rule.TheVariants as rule
-use Rattle.vme_trace.specs.declared.class.Class.{Class}
-use Rattle.vme_trace.specs.declared.class.Class.TheVariants as class
 use Rattle.vme_trace.proofs.OpenTransfers.{in_transfer-is}
 use Rattle.vme_trace.proofs.Ranges.{every-more, IsLeast, any-fails, fails-any, least-found, least-none-any, clash}
-use Rattle.vme_listing.specs.Recorded.{cycle_row, transfer_row, answered_row, rows_before}
+use Rattle.vme_listing.specs.Recorded.{cycle_rows, transfer_row, answered_row, rows_before}
 use Rattle.vme_listing.specs.declared.row.Row.{Row}
 use Rattle.vme_listing.specs.declared.row.Row.TheVariants as row
 use Rattle.vme_listing.specs.declared.row.Row.TheVariants.{OpenTenure, Tenure}
@@ -43,8 +40,7 @@ use Rattle.vme_split.proofs.Directions.{All-ShowsAcknowledge, All-ShowsDirection
 use Rattle.vme_split.proofs.WrittenData.{All-ShowsData}
 use Rattle.vme_split.proofs.Codes.{All-IsOfItsCode, All-ShowsModifier, All-ShowsAddress}
 use Rattle.vme_split.proofs.EachRow.{Contains-map_those, All-map_those, All-rows_before, All-tenure_rows}
-use Rattle.vme_split.proofs.EachRow.{All-tenure_rows_open, All-cycle_rows}
-use Rattle.vme_split.proofs.EachRow.{All-transfer_rows}
+use Rattle.vme_split.proofs.EachRow.{All-tenure_rows_open, All-cycle_rows_any, All-transfer_rows, All-transfer_rows_any}
 
 -- P holds of the value of an option, if there is one, if it holds of each value that it may have
 IfSome-value : (o : Option ℕ) (P : ℕ → Type 0) → ((e : ℕ) → o ≡ Some e → P e) → IfSome o P
@@ -78,25 +74,9 @@ module _ (t : Trace) (stretch : Stretch) (is : IsStretchOf t stretch) (end : ℕ
       (λ i before. All-tenure_rows (IsOfASlot t.opening.slots) t stretch end i (λ e. tt)
       (λ starts level slot e l s. IsOfASlot-tenure i
       before starts level slot l s))
-      (λ i before. All-cycle_rows (IsOfASlot t.opening.slots) t stretch end i (in_cycle i))
-      (λ i before. All-transfer_rows (IsOfASlot t.opening.slots) t stretch end i
-      (λ starts. in_transfer_row i (least (answers t stretch i) i end)))
+      (All-cycle_rows_any (IsOfASlot t.opening.slots) t stretch end (λ i c m a e. tt) (λ i m e. tt) (λ i l e. tt))
+      (All-transfer_rows_any (IsOfASlot t.opening.slots) t stretch end (λ d l i c r e x. tt) (λ i d. tt))
       end (omega arith)
-    where
-      in_cycle : (i : ℕ) (c : Class) → IsOfASlot t.opening.slots
-          (cycle_row i (levels_at t i) (least (rises t AS) (i + 1) end) c)
-      in_cycle i class.S = tt
-      in_cycle i class.K = tt
-      in_cycle i class.I = tt
-      in_cycle i class.F = tt
-
-      in_answered : (i r : ℕ) (o : Option ℕ) → IsOfASlot t.opening.slots (answered_row t stretch end i r o)
-      in_answered i r None = tt
-      in_answered i r (Some c) = tt
-
-      in_transfer_row : (i : ℕ) (o : Option ℕ) → IsOfASlot t.opening.slots (transfer_row t stretch end i o)
-      in_transfer_row i None = tt
-      in_transfer_row i (Some r) = in_answered i r (cycle_of t stretch r)
 
   -- the nets of a tenure's level are low up to its slot, at the instant whose grant it takes
   ShowsGrant-tenure : (i : ℕ) → i < end → tenure_starts t stretch i ≡ true → (level slot : ℕ) (e : Option ℕ)
@@ -146,74 +126,28 @@ module _ (t : Trace) (stretch : Stretch) (is : IsStretchOf t stretch) (end : ℕ
       (λ i before. All-tenure_rows (ShowsGrant t) t stretch end i (λ e. tt)
       (λ starts level slot e l s. ShowsGrant-tenure i before
       starts level slot e l s))
-      (λ i before. All-cycle_rows (ShowsGrant t) t stretch end i (in_cycle i))
-      (λ i before. All-transfer_rows (ShowsGrant t) t stretch end i
-      (λ starts. in_transfer_row i (least (answers t stretch i) i end)))
+      (All-cycle_rows_any (ShowsGrant t) t stretch end (λ i c m a e. tt) (λ i m e. tt) (λ i l e. tt))
+      (All-transfer_rows_any (ShowsGrant t) t stretch end (λ d l i c r e x. tt) (λ i d. tt))
       end (omega arith)
-    where
-      in_cycle : (i : ℕ) (c : Class) → ShowsGrant t (cycle_row i (levels_at t i) (least (rises t AS) (i + 1) end) c)
-      in_cycle i class.S = tt
-      in_cycle i class.K = tt
-      in_cycle i class.I = tt
-      in_cycle i class.F = tt
-
-      in_answered : (i r : ℕ) (o : Option ℕ) → ShowsGrant t (answered_row t stretch end i r o)
-      in_answered i r None = tt
-      in_answered i r (Some c) = tt
-
-      in_transfer_row : (i : ℕ) (o : Option ℕ) → ShowsGrant t (transfer_row t stretch end i o)
-      in_transfer_row i None = tt
-      in_transfer_row i (Some r) = in_answered i r (cycle_of t stretch r)
 
   -- a tenure of the rows is open just if it begins with the stretch
   All-IsOpenAtStart : All (IsOpenAtStart stretch.start) (rows_before t stretch end end)
   All-IsOpenAtStart = All-rows_before (IsOpenAtStart stretch.start) t stretch end
       (λ i before. All-tenure_rows_open (IsOpenAtStart stretch.start) t stretch end i (λ same e. same)
       (λ starts level slot e l s. (tenures.tenure_starts-falls_after t stretch is end within most unbroken i starts).0))
-      (λ i before. All-cycle_rows (IsOpenAtStart stretch.start) t stretch end i (in_cycle i))
-      (λ i before. All-transfer_rows (IsOpenAtStart stretch.start) t stretch end i
-      (λ starts. in_transfer_row i (least (answers t stretch i) i end)))
+      (All-cycle_rows_any (IsOpenAtStart stretch.start) t stretch end (λ i c m a e. tt) (λ i m e. tt) (λ i l e. tt))
+      (All-transfer_rows_any (IsOpenAtStart stretch.start) t stretch end (λ d l i c r e x. tt) (λ i d. tt))
       end (omega arith)
-    where
-      in_cycle : (i : ℕ) (c : Class) → IsOpenAtStart stretch.start
-          (cycle_row i (levels_at t i) (least (rises t AS) (i + 1) end) c)
-      in_cycle i class.S = tt
-      in_cycle i class.K = tt
-      in_cycle i class.I = tt
-      in_cycle i class.F = tt
-
-      in_answered : (i r : ℕ) (o : Option ℕ) → IsOpenAtStart stretch.start (answered_row t stretch end i r o)
-      in_answered i r None = tt
-      in_answered i r (Some c) = tt
-
-      in_transfer_row : (i : ℕ) (o : Option ℕ) → IsOpenAtStart stretch.start (transfer_row t stretch end i o)
-      in_transfer_row i None = tt
-      in_transfer_row i (Some r) = in_answered i r (cycle_of t stretch r)
 
   -- the rows are of tenures, cycles and transfers alone
   All-is_traffic : All (λ row. is_traffic row ≡ true) (rows_before t stretch end end)
   All-is_traffic = All-rows_before (λ row. is_traffic row ≡ true) t stretch end
       (λ i before. All-tenure_rows (λ row. is_traffic row ≡ true) t stretch end i (λ e. refl)
       (λ starts level slot e l s. refl))
-      (λ i before. All-cycle_rows (λ row. is_traffic row ≡ true) t stretch end i (in_cycle i))
-      (λ i before. All-transfer_rows (λ row. is_traffic row ≡ true) t stretch end i
-      (λ starts. in_transfer_row i (least (answers t stretch i) i end)))
+      (All-cycle_rows_any (λ row. is_traffic row ≡ true) t stretch end (λ i c m a e. refl) (λ i m e. refl)
+      (λ i l e. refl))
+      (All-transfer_rows_any (λ row. is_traffic row ≡ true) t stretch end (λ d l i c r e x. refl) (λ i d. refl))
       end (omega arith)
-    where
-      in_cycle : (i : ℕ) (c : Class) → is_traffic (cycle_row i (levels_at t i) (least (rises t AS) (i + 1) end) c)
-          ≡ true
-      in_cycle i class.S = refl
-      in_cycle i class.K = refl
-      in_cycle i class.I = refl
-      in_cycle i class.F = refl
-
-      in_answered : (i r : ℕ) (o : Option ℕ) → is_traffic (answered_row t stretch end i r o) ≡ true
-      in_answered i r None = refl
-      in_answered i r (Some c) = refl
-
-      in_transfer_row : (i : ℕ) (o : Option ℕ) → is_traffic (transfer_row t stretch end i o) ≡ true
-      in_transfer_row i None = refl
-      in_transfer_row i (Some r) = in_answered i r (cycle_of t stretch r)
 
   -- BBSY is low where the address strobe falls, or just before, by rule B3
   near-low_busy : (i : ℕ) → stretch.start < i → i < end → falls t AS i ≡ true → near (low t BBSY) i ≡ true
@@ -475,7 +409,7 @@ module _ (t : Trace) (stretch : Stretch) (is : IsStretchOf t stretch) (end : ℕ
   -- P holds of each row, if it does of any row of a tenure or a cycle, and of the row of each transfer that starts
   abbrev AllByTransfers : (P : Row → Type 0) → Type 0
   AllByTransfers P = ((i : ℕ) (e : Option ℕ) → P (OpenTenure i e)) → ((i level slot : ℕ) (e : Option ℕ)
-      → P (Tenure i level slot e)) → ((i : ℕ) (v : Levels) (e : Option ℕ) (c : Class) → P (cycle_row i v e c))
+      → P (Tenure i level slot e)) → ((i : ℕ) → i < end → All P (cycle_rows t stretch end i))
       → ((i : ℕ) → transfer_starts t stretch i ≡ true → P (transfer_row t stretch end i
       (least (answers t stretch i) i end)))
       → All P (rows_before t stretch end end)
@@ -484,24 +418,9 @@ module _ (t : Trace) (stretch : Stretch) (is : IsStretchOf t stretch) (end : ℕ
   AllByTransfers-rows : (P : Row → Type 0) → AllByTransfers P
   AllByTransfers-rows P opened started cycle transfer = All-rows_before P t stretch end
       (λ i before. All-tenure_rows P t stretch end i (opened i) (λ starts level slot e l s. started i level slot e))
-      (λ i before. All-cycle_rows P t stretch end i (cycle i (levels_at t i) (least (rises t AS) (i + 1) end)))
+      cycle
       (λ i before. All-transfer_rows P t stretch end i (transfer i))
       end (omega arith)
-
-  -- the row of a cycle has no answer
-  IsAnsweredInCycle-cycle_row : (i : ℕ) (v : Levels) (e : Option ℕ) (c : Class)
-      → IsAnsweredInCycle cycles_listed (cycle_row i v e c)
-  IsAnsweredInCycle-cycle_row i v e class.S = tt
-  IsAnsweredInCycle-cycle_row i v e class.K = tt
-  IsAnsweredInCycle-cycle_row i v e class.I = tt
-  IsAnsweredInCycle-cycle_row i v e class.F = tt
-
-  -- the row of a cycle awaits no answer
-  AwaitsAnswer-cycle_row : (i : ℕ) (v : Levels) (e : Option ℕ) (c : Class) → AwaitsAnswer t end (cycle_row i v e c)
-  AwaitsAnswer-cycle_row i v e class.S = tt
-  AwaitsAnswer-cycle_row i v e class.K = tt
-  AwaitsAnswer-cycle_row i v e class.I = tt
-  AwaitsAnswer-cycle_row i v e class.F = tt
 
   -- the rows of a stretch keep the rules
   pub KeepsRules-rows_before : KeepsRules t stretch.start end (rows_before t stretch end end)
@@ -512,7 +431,8 @@ module _ (t : Trace) (stretch : Stretch) (is : IsStretchOf t stretch) (end : ℕ
     cycles_in_tenures = All-StartsInOne;
     answers_in_cycles =
         AllByTransfers-rows (IsAnsweredInCycle cycles_listed) (λ i e. tt) (λ i level slot e. tt)
-        IsAnsweredInCycle-cycle_row
+        (All-cycle_rows_any (IsAnsweredInCycle cycles_listed) t stretch end (λ i c m a e. tt) (λ i m e. tt)
+        (λ i l e. tt))
         IsAnsweredInCycle-transfer_row;
     cycles_of_classes = cycles_of_classes t stretch is end within most unbroken;
     acknowledges = All-ShowsAcknowledge t stretch is end within most unbroken;
@@ -522,7 +442,8 @@ module _ (t : Trace) (stretch : Stretch) (is : IsStretchOf t stretch) (end : ℕ
     directions = All-ShowsDirection t stretch is end within most unbroken;
     written_data = All-ShowsData t stretch is end within most unbroken;
     strobe_awaits =
-        AllByTransfers-rows (AwaitsAnswer t end) (λ i e. tt) (λ i level slot e. tt) AwaitsAnswer-cycle_row
+        AllByTransfers-rows (AwaitsAnswer t end) (λ i e. tt) (λ i level slot e. tt)
+        (All-cycle_rows_any (AwaitsAnswer t end) t stretch end (λ i c m a e. tt) (λ i m e. tt) (λ i l e. tt))
         AwaitsAnswer-transfer_row;
     nothing_else = All-is_traffic;
   }

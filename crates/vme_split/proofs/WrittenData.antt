@@ -7,17 +7,13 @@ use Rattle.std.proofs.lemmas.Bool.Decides.{nat_tests}
 use Rattle.std.proofs.lemmas.Bool.{false_from_ne_true, eq-eqb, leb-true}
 use Rattle.std.proofs.Math.Bool.{not-not}
 use Rattle.vme_trace.specs.Instants.{any, least}
-use Rattle.vme_trace.specs.LineNumbers.{AS}
 use Rattle.vme_trace.specs.Lanes.{lanes_at}
 use Rattle.vme_trace.specs.Trace.{Trace, levels_at}
-use Rattle.vme_trace.specs.Signals.{rises}
 use Rattle.vme_trace.specs.Judged.{Stretch, IsStretchOf}
 use Rattle.vme_trace.specs.Transfers.{strobes_high, transfer_starts, lasts, answers, is_write, data_at}
 use Rattle.vme_trace.specs.Cycles.{cycle_of}
-use Rattle.vme_trace.specs.declared.class.Class.{Class}
-use Rattle.vme_trace.specs.declared.class.Class.TheVariants as class
 use Rattle.vme_trace.proofs.Ranges.{any-fails, least-found, clash}
-use Rattle.vme_listing.specs.Recorded.{answer_line, answered_row, cycle_row, rows_before, transfer_row}
+use Rattle.vme_listing.specs.Recorded.{answer_line, answered_row, rows_before, transfer_row}
 use Rattle.vme_listing.specs.declared.row.Direction.TheVariants.{Read, Write}
 use Rattle.vme_listing.specs.declared.row.Row.TheVariants.{Transfer}
 use Rattle.vme_split.specs.Split.{ShowsData}
@@ -25,7 +21,7 @@ use Rattle.vme_split.proofs.Lists.{same_or_after}
 use Rattle.vme_split.proofs.Unbroken.{IsUnbroken}
 use Rattle.vme_split.proofs.Transfers.{transfer_starts-after}
 use Rattle.vme_split.proofs.Answering.{strobes_high-at_transfer}
-use Rattle.vme_split.proofs.EachRow.{All-rows_before, All-tenure_rows, All-cycle_rows, All-transfer_rows}
+use Rattle.vme_split.proofs.EachRow.{All-rows_before, All-tenure_rows, All-cycle_rows_any, All-transfer_rows}
 
 -- the first part of a conjunction of three that holds is true
 and-first_of_three : (a b c : Bool) → (a && b && c) ≡ true → a ≡ true
@@ -126,13 +122,7 @@ module _ (t : Trace) (stretch : Stretch) (is : IsStretchOf t stretch) (end : ℕ
   pub All-ShowsData : All (ShowsData t) (rows_before t stretch end end)
   All-ShowsData = All-rows_before (ShowsData t) t stretch end
       (λ i before. All-tenure_rows (ShowsData t) t stretch end i (λ e. tt) (λ starts level slot e l s. tt))
-      (λ i before. All-cycle_rows (ShowsData t) t stretch end i (in_cycle i))
+      (All-cycle_rows_any (ShowsData t) t stretch end (λ i c m a e. tt) (λ i m e. tt) (λ i l e. tt))
       (λ i before. All-transfer_rows (ShowsData t) t stretch end i
       (λ starts. ShowsData-transfer_row i before starts (least (answers t stretch i) i end) refl))
       end (omega arith)
-    where
-      in_cycle : (i : ℕ) (c : Class) → ShowsData t (cycle_row i (levels_at t i) (least (rises t AS) (i + 1) end) c)
-      in_cycle i class.S = tt
-      in_cycle i class.K = tt
-      in_cycle i class.I = tt
-      in_cycle i class.F = tt
