@@ -1,5 +1,5 @@
 -- The last steps of a recording after one more step, and what follows from them of its levels and times.
-use Rattle.std.proofs.Common.{◌≡◌, ◌+◌, ◌-◌, ◌<◌, ◌≤◌, ◌++◌, ◌∷◌, [], ℕ, suc, zero, List, drop, length, refl, sym, ap}
+use Rattle.std.proofs.Common.{◌≡◌, ◌+◌, ◌-◌, ◌≤◌, ◌++◌, ◌∷◌, [], ℕ, suc, zero, List, drop, length, refl, sym, ap}
 use Rattle.std.proofs.Common.{◌∙◌, append_assoc, arith, length-append, length-drop}
 use Rattle.std.specs.Prelude.{None, Some, slice_get}
 use Rattle.std.proofs.lemmas.List.{drop_at, take-append-le}
@@ -8,16 +8,11 @@ use Rattle.vme_trace.specs.Levels.{Levels}
 use Rattle.vme_trace.specs.Trace.{Trace, after, changed, levels_after, levels_at, time_at, time_of}
 use Rattle.vme_trace.specs.declared.step.Step.{Step}
 use Rattle.vme_trace.proofs.CutBlocks.{levels_at-taken}
+use Rattle.vme_trace.proofs.ListLaws.{slice_get-append}
 use Rattle.vme_trace.proofs.WellFormedSteps.{levels_at-step}
 use Rattle.vme_account.specs.RecentSteps.{levels_of, with_step}
 
 -- ---- the earlier instants stay
-
--- appended steps don't change those before them
-slice_get-append : (xs ys : List Step) (n : ℕ) → n < length xs → slice_get (xs ++ ys) n ≡ slice_get xs n
-slice_get-append [] ys n lt = absurd (omega (arith, lt))
-slice_get-append (x ∷ xs) ys zero lt = refl
-slice_get-append (x ∷ xs) ys (suc n) lt = slice_get-append xs ys n (omega (arith, lt))
 
 -- one more step doesn't change the levels of the instants before it
 pub levels_at-with_step : (t : Trace) (s : Step) (n : ℕ) → n ≤ length t.steps → levels_at (with_step t s) n

@@ -11,6 +11,7 @@ use Rattle.vme_trace.specs.Trace.{Trace}
 use Rattle.vme_trace.specs.WellFormed.{malformed_step}
 use Rattle.vme_trace.specs.declared.step.Step.{Step}
 use Rattle.vme_trace.specs.declared.verdict.Break.{Break}
+use Rattle.vme_trace.proofs.FollowedLaws.{with_steps-append}
 use Rattle.vme_stream.specs.Outputs.{Writes}
 use Rattle.vme_stream.proofs.OutputLemmas.{FailsToWrite-after, FailsToWrite-longer, Writes-append, Writes-nothing}
 use Rattle.vme_audit.specs.Parts.{breaks}
@@ -41,10 +42,6 @@ break_lines-with_steps law head allowances stop t more formed few =
       flat_map line on.more,
       ap (flat_map line) on.grown ∙ flat_map-append line (breaks (read_by allowances stop t)) on.more,
     )
-
--- a recording continued by x, and then by y, is the recording continued by both, one after the other
-pub with_steps-append : (t : Trace) (x y : List Step) → with_steps (with_steps t x) y ≡ with_steps t (x ++ y)
-with_steps-append t x y = ap (λ (s : List Step). record t { steps = s }) (append_assoc t.steps x y)
 
 -- if there is no memory for further steps, a prefix of their lines is written, the empty one
 pub AuditGoesOn-no_memory : (A : Type 0) → ReadGoesOn

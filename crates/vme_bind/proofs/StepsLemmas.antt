@@ -7,6 +7,7 @@ use Rattle.std.specs.List.Sorted.{IsStrictlyIncreasing}
 use Rattle.std.proofs.lemmas.Bool.{cases_Bool, cases_lt, false≢true, le-leb, lt-ltb, not-false, not-true}
 use Rattle.std.proofs.lemmas.Bool.Decides.{nat_tests}
 use Rattle.std.proofs.lemmas.List.{append-nil, length-append, length-map, map_push}
+use Rattle.std.proofs.lemmas.Option.{slice_get_within}
 use Rattle.vme_trace.specs.Instants.{any, those}
 use Rattle.vme_trace.specs.Levels.{Levels, level_at, same_level}
 use Rattle.vme_trace.specs.LineNumbers.{line_count, has_line}
@@ -18,6 +19,7 @@ use Rattle.vme_trace.specs.declared.step.Change.{Change}
 use Rattle.vme_trace.specs.declared.step.Step.{Step}
 use Rattle.vme_trace.proofs.Ranges.{any-alike, any-fails, any-empty}
 use Rattle.vme_trace.proofs.Changing.{slots-kept}
+use Rattle.vme_trace.proofs.ListLaws.{slice_get-append, slice_get-here}
 use Rattle.vme_trace.proofs.WellFormedSteps.{HasChecked, HasChecked-step, malformed_step-none}
 use Rattle.vcd_read.specs.declared.dump.Instant.{Instant}
 use Rattle.vcd_read.specs.Contents.{TimesAscend}
@@ -64,18 +66,6 @@ map-those_alike {X = X} f g p (suc n) h = by_test (p n) refl (map-those_alike f 
         let is : those p 0 (suc n) ≡ those p 0 n = ap (those p 0) (sym more) ∙ those-no p n e in
         ap (map f) is ∙ so_far ∙ ap (map g) (sym is)
 
--- an element of `xs` is at the same index in `xs ++ ys`
-slice_get-append : {X : Type 0} (xs ys : List X) (k : ℕ) (x : X) → slice_get xs k ≡ Some x → slice_get (xs ++ ys) k
-    ≡ Some x
-slice_get-append [] ys k x e = absurd cc
-slice_get-append (y ∷ xs) ys zero x e = e
-slice_get-append (y ∷ xs) ys (suc k) x e = slice_get-append xs ys k x e
-
--- the element after all of `xs` is at index `length xs`
-slice_get-last : {X : Type 0} (xs : List X) (x : X) → slice_get (xs ++ x ∷ []) (length xs) ≡ Some x
-slice_get-last [] x = refl
-slice_get-last (y ∷ xs) x = slice_get-last xs x
-
 -- a number `i` with `p` is in `those p 0 n`, after the numbers with `p` below it
 slice_get-those : (p : ℕ → Bool) (n i : ℕ) → i < n → p i ≡ true → slice_get (those p 0 n) (length (those p 0 i))
     ≡ Some i
@@ -85,8 +75,12 @@ slice_get-those p (suc n) i lt h =
     ap (λ (m : ℕ). slice_get (those p 0 m) (length (those p 0 i))) (sym more)
     ∙ elim (cases_lt i n) [
       | inl less ↦ elim (cases_Bool (p n)) [
-        | inl yes' ↦ ap (λ (xs : List ℕ). slice_get xs (length (those p 0 i))) (those-yes p n yes')
-            ∙ slice_get-append (those p 0 n) (n ∷ []) (length (those p 0 i)) i (slice_get-those p n i less h)
+        | inl yes' ↦
+            let found = slice_get-those p n i less h in
+            ap (λ (xs : List ℕ). slice_get xs (length (those p 0 i))) (those-yes p n yes')
+            ∙ slice_get-append (those p 0 n) (n ∷ []) (length (those p 0 i))
+            (slice_get_within (those p 0 n) (length (those p 0 i)) i found)
+            ∙ found
         | inr no' ↦ ap (λ (xs : List ℕ). slice_get xs (length (those p 0 i))) (those-no p n no') ∙ slice_get-those p n i
             less h
       ]
@@ -94,7 +88,7 @@ slice_get-those p (suc n) i lt h =
           let e : i ≡ n = omega (arith, lt, le) in
           ap (λ (m : ℕ). slice_get (those p 0 (n + 1)) (length (those p 0 m))) e
           ∙ ap (λ (xs : List ℕ). slice_get xs (length (those p 0 n))) (those-yes p n (ap p (sym e) ∙ h))
-          ∙ slice_get-last (those p 0 n) n ∙ ap Some (sym e)
+          ∙ slice_get-here (those p 0 n) n [] ∙ ap Some (sym e)
     ]
 
 -- if `x` is at index k, `f x` is there in the list that is mapped by `f`

@@ -21,6 +21,7 @@ use Rattle.vme_trace.proofs.Ranges.{those-none, those-split}
 use Rattle.vme_trace.proofs.OpenTransfers.{suc-sub-one, is_judged-holds}
 use Rattle.vme_trace.proofs.StretchEnds.{break_before-stays, end-is, end-past, u1-lost, u1-unlost}
 use Rattle.vme_trace.proofs.CutBlocks.{levels_after-append, levels_at-taken, take-next}
+use Rattle.vme_trace.proofs.FollowedLaws.{with_steps-append, with_steps-none}
 use Rattle.vme_listing.proofs.FoundBreaks.{least_break-judged}
 use Rattle.vme_cert.specs.Vocabulary.{Break, Change, Conforming, IsStretchOf, ListedVerdict, NeverIdle, Row, Rule}
 use Rattle.vme_cert.specs.Vocabulary.{Stretch}
@@ -696,8 +697,7 @@ slice_get-read_step t steps i step e below is = ap (λ (xs : List Step). slice_g
 -- a recording with steps is the one with the first of them, and then with the others
 pub with_steps-one_by_one : (recorded : Trace) (step : Step) (more : List Step)
     → with_steps recorded (step ∷ more) ≡ with_steps (with_steps recorded (step ∷ [])) more
-with_steps-one_by_one recorded step more =
-    ap (λ (steps : List Step). record recorded { steps = steps }) (sym (append_assoc recorded.steps (step ∷ []) more))
+with_steps-one_by_one recorded step more = sym (with_steps-append recorded (step ∷ []) more)
 
 -- the step after those of a recording is the next one
 pub slice_get-next_step : (recorded : Trace) (step : Step) (more : List Step)
@@ -714,11 +714,6 @@ pub last_levels-next_step : (recorded : Trace) (step : Step) (levels : Levels) (
 last_levels-next_step recorded step levels changes behind same =
     ap (λ (w : Levels). changed w changes) behind ∙ (ap (changed (last_levels recorded)) same
     ∙ sym (levels_after-append recorded.opening recorded.steps (step ∷ [])))
-
--- a recording with no more steps is the same
-pub with_steps-none : (recorded : Trace) → with_steps recorded [] ≡ recorded
-with_steps-none recorded =
-    ap (λ (steps : List Step). record recorded { steps = steps }) (append-nil recorded.steps)
 
 -- a checker that takes `step` has followed the recording with that step
 pub HasFollowed-next : {Source : Type 0} {recorded : Trace} {old : Checker Source} {bus : Bus} {cs : List Change}

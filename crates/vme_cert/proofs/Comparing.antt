@@ -6,7 +6,7 @@ use Rattle.std.proofs.lemmas.Bool.Decides.{nat_tests}
 use Rattle.std.proofs.lemmas.Option.{slice_get_past, slice_get_within}
 use Rattle.std.proofs.lemmas.List.{append-nil}
 use Rattle.std.proofs.lemmas.Bool.{eqb-true, cases_lt}
-use Rattle.vme_trace.proofs.ListLaws.{slice_get-here}
+use Rattle.vme_trace.proofs.ListLaws.{slice_get-here, slice_get-append}
 use Rattle.vme_cert.specs.Vocabulary.{Row}
 use Rattle.vme_cert.specs.Comparing.{Decides, Extends, IsBegun, IsCompared, IsDue, IsGiven, IsGivenNext, IsSame}
 use Rattle.vme_cert.specs.Comparing.{HasComparedRow, same_to, without}
@@ -41,12 +41,6 @@ module _ {A : Type 0} where
   list-same_items [] (y ∷ ys) h = absurd (none-not_some y (h 0))
   list-same_items (x ∷ xs) [] h = absurd (none-not_some x (sym (h 0)))
   list-same_items (x ∷ xs) (y ∷ ys) h = rw (Some-injective x y (h 0), list-same_items xs ys (λ i. h (suc i))) refl
-
-  -- an item of the first list is that of both lists together
-  pub slice_get-first_list : (xs ys : List A) (n : ℕ) → n < length xs → slice_get (xs ++ ys) n ≡ slice_get xs n
-  slice_get-first_list [] ys n h = absurd (omega arith)
-  slice_get-first_list (x ∷ xs) ys zero h = refl
-  slice_get-first_list (x ∷ xs) ys (suc n) h = slice_get-first_list xs ys n (omega arith)
 
   -- where a list has no item n, it has at most n
   length-at_most_missing : (xs : List A) (n : ℕ) → slice_get xs n ≡ None → length xs ≤ n
@@ -187,7 +181,7 @@ module _ {Whole Source : Type 0} {gave : Whole → Source → List Row → Type 
       record {
         more = given ++ row ∷ [];
         is_given = record { gave_is = asked; count = inl (length-append given (row ∷ []) ∙ ap (λ n. n + 1) all) };
-        extends = λ n below. slice_get-first_list given (row ∷ []) n (omega (arith, all, below));
+        extends = λ n below. slice_get-append given (row ∷ []) n (omega (arith, all, below));
         given_is = sym (ap (slice_get (given ++ row ∷ [])) (sym all) ∙ slice_get-here given row []);
       }
     where
@@ -265,7 +259,7 @@ DecidesListing-all is_over given more expected source (No row) (differs, known) 
         record {
           first = first;
           before = take-same_items (row - 1) (given ++ more) given
-              (λ i below. slice_get-first_list given more i (omega (arith, below, within))) ∙ differs.before;
+              (λ i below. slice_get-append given more i (omega (arith, below, within))) ∙ differs.before;
           here = λ same. differs.here
-              (sym (slice_get-first_list given more (row - 1) (omega (arith, first, within))) ∙ same);
+              (sym (slice_get-append given more (row - 1) (omega (arith, first, within))) ∙ same);
         }

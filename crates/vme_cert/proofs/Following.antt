@@ -9,6 +9,7 @@ use Rattle.std.proofs.Math.Bool.{and-not_self}
 use Rattle.vme_trace.proofs.Ranges.{clash, least-is, least-none, any-fails, any-holds, fails-any, least-found}
 use Rattle.vme_trace.proofs.Ranges.{least-none-any}
 use Rattle.vme_trace.specs.declared.class.Class.TheVariants as class
+use Rattle.vme_trace.proofs.ListLaws.{slice_get-append}
 use Rattle.vme_listing.specs.declared.row.Row.TheVariants as variant
 use Rattle.vme_cert.specs.Vocabulary.{AnswerLine, Berr, DS0, DS1, DTACK, Direction, Dtack, Lanes, One, Read, Row, Start}
 use Rattle.vme_cert.specs.Vocabulary.{Stretch, Three, Trace, Two, Version, Write, answer_falls, answered_row, answers}
@@ -31,7 +32,7 @@ use Rattle.vme_cert.specs.Instant.{starts_transfer}
 use Rattle.vme_cert.specs.State.{IsOpenTransfer, IsTransfer}
 use Rattle.vme_cert.specs.declared.state.Transfer.{Transfer}
 use Rattle.vme_cert.proofs.Comparing.{IsCompared-begun, compare_row-compared, compare_row-given, IsCompared-more_open}
-use Rattle.vme_cert.proofs.Comparing.{IsCompared-more, slice_get-first_list}
+use Rattle.vme_cert.proofs.Comparing.{IsCompared-more}
 use Rattle.vme_cert.proofs.Fields.{falls-not_if_low, low-next_instant, answers-is, is_answer-is, transfer_starts-is}
 use Rattle.vme_cert.proofs.Fields.{not-high_and_low}
 use Rattle.vme_cert.proofs.Fields.{strobes_high-between, is_answer-by_fields, falls-low, falls-not_if_rises}
@@ -191,7 +192,7 @@ module _ {Whole Source : Type 0} {gave : Whole → Source → List Row → Type 
       let more = rows_in v (expected_rows ++ expected ∷ []) in
       let begun = IsCompared-begun b g.more more (λ n. n == row.place) IsCompared-closed_rows g.extends
       (λ n below. ap (λ (xs : List Row). slice_get xs n) (rows_in-append v expected_rows (expected ∷ []))
-      ∙ slice_get-first_list expected_in_version (rows_in v (expected ∷ [])) n
+      ∙ slice_get-append expected_in_version (rows_in v (expected ∷ [])) n
       (omega (arith, below, upto, rows_in-length v expected_rows)))
       (λ n off. (none_open-after_three (is_at old.tenure n) (is_at old.cycle n) (is_at old.transfer n), off)) in
       let is : row.expected ≡ row_in v expected = b.expected_is ∙ ap (λ (w : Version). row_in w expected)
@@ -1002,7 +1003,7 @@ module _ {Whole Source : Type 0} {gave : Whole → Source → List Row → Type 
           ap (λ (rows : List Row). slice_get (rows_in v rows) n) (sym
           (append_assoc done (Start stretch.start ∷ []) rest))
           ∙ (ap (λ (rows : List Row). slice_get rows n) (rows_in-append v front rest)
-          ∙ slice_get-first_list (rows_in v front) (rows_in v rest) n
+          ∙ slice_get-append (rows_in v front) (rows_in v rest) n
           (omega (arith, below, h.taken_is, rows_in-length v front)))
 
   -- no cycle is open at the start of a stretch

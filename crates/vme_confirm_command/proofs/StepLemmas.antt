@@ -1,11 +1,11 @@
 -- The steps of a piece are compared one by one, and counted up to the limit of a recording.
 use Rattle.std.proofs.Common.{◌≡◌, ℕ, ◌+◌, ◌≤◌, ◌<◌, Bool, true, false, List, [], ◌∷◌, ◌++◌, length, take}
-use Rattle.std.proofs.Common.{get_or, Option, None, Some, refl, sym, ap, ◌∙◌, arith, append_assoc, append-nil}
+use Rattle.std.proofs.Common.{Option, None, Some, refl, sym, ap, ◌∙◌, arith, append_assoc}
 use Rattle.std.proofs.Common.{length-append}
 use Rattle.std.specs.Prelude.{Ok, Err, nat_lt, slice_get}
 use Rattle.std.proofs.lemmas.Bool.Decides.{nat_tests}
-use Rattle.std.proofs.lemmas.List.{get_or-append-add, length-take-le, take_all}
-use Rattle.std.proofs.lemmas.Option.{same_Some, slice_get-get_or, slice_get_read, slice_get_within}
+use Rattle.std.proofs.lemmas.List.{length-take-le, take_all}
+use Rattle.std.proofs.lemmas.Option.{slice_get_within}
 use Rattle.std.proofs.Math.Seq.{take-append-add}
 use Rattle.vme_trace.specs.Followed.{with_steps}
 use Rattle.vme_trace.specs.Levels.{Levels}
@@ -13,6 +13,7 @@ use Rattle.vme_trace.specs.Trace.{Trace, levels_at}
 use Rattle.vme_trace.specs.WellFormed.{are_changes, capture_limit, malformed_step}
 use Rattle.vme_trace.specs.declared.step.Step.{Step}
 use Rattle.vme_trace.proofs.CutBlocks.{levels_at-taken, take-next}
+use Rattle.vme_trace.proofs.ListLaws.{slice_get-append_past}
 use Rattle.vme_bind.specs.Capture.{limited}
 use Rattle.vme_bind.specs.declared.fault.BindFaultKind.TheVariants.{TooManySteps}
 use Rattle.vme_skew.specs.Settled.{settled_until}
@@ -26,15 +27,6 @@ use Rattle.vme_dump_input.specs.SettledSteps.{ComesOut}
 use Rattle.vme_confirm_command.specs.StepChecks.{HasDeskewed, StepsMayFollow}
 
 -- ---- one more step
-
--- an element of the second list is found after the first
-slice_get-append : (xs ys : List Step) (k : ℕ) (y : Step) → slice_get ys k ≡ Some y
-    → slice_get (xs ++ ys) (length xs + k) ≡ Some y
-slice_get-append xs ys k y is =
-    let below = slice_get_within ys k y is in
-    let same : y ≡ get_or ys k y = same_Some y (get_or ys k y) (sym is ∙ slice_get-get_or ys k y below) in
-    slice_get_read (xs ++ ys) (length (xs ++ ys)) (length xs + k) y refl
-    (omega (arith, below, length-append xs ys)) (same ∙ sym (get_or-append-add xs ys k y))
 
 module _ (recorded : Trace) (steps : List Step) (i : ℕ) (step : Step) (found : slice_get steps i ≡ Some step) where
   -- the step at `i` after those before it makes the first i + 1 steps
@@ -57,12 +49,8 @@ module _ (recorded : Trace) (steps : List Step) (i : ℕ) (step : Step) (found :
       record {
         within = omega (arith, may.within, below, few, length-append recorded.steps (take i steps));
         sound = ap (λ (w : Levels). are_changes w 0 step.changes) (sym levels)
-            ∙ are_changes-step t n step (slice_get-append recorded.steps steps i step found) may.formed;
+            ∙ are_changes-step t n step (slice_get-append_past recorded.steps steps i ∙ found) may.formed;
       }
-
--- before the first step the recording is as it was
-pub with_steps-none : (recorded : Trace) (steps : List Step) → with_steps recorded (take 0 steps) ≡ recorded
-with_steps-none recorded steps = ap (λ (l : List Step). record recorded { steps = l }) (append-nil recorded.steps)
 
 -- past the end of the list all steps are taken
 pub take-past : (steps : List Step) (i : ℕ) → length steps ≤ i → take i steps ≡ steps

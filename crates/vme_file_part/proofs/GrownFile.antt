@@ -277,10 +277,6 @@ module _ (number : ℕ) (start : Option ℕ) (t : Trace) (y : List Step) (some :
     few = omega (arith, may.few, length-steps_of number start t.steps);
   }
 
--- a recording with no more steps is the same
-pub with_steps-none : (t : Trace) → with_steps t [] ≡ t
-with_steps-none t = ap (λ (l : List Step). record t { steps = l }) (append-nil t.steps)
-
 -- ---- the only segment of a part
 
 -- a list of segments of the length 1, of which x was taken from the end, is that of x

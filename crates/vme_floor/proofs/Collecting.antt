@@ -6,6 +6,7 @@ use Rattle.std.proofs.lemmas.List.{length-replicate}
 use mathlib.Core.Logic.{dite}
 use native.Mathlib.Decide.{ℕ_discrete}
 use Rattle.vme_trace.specs.declared.block.Block.{Block}
+use Rattle.vme_trace.proofs.ListLaws.{slice_get-set_here, slice_get-set_elsewhere}
 use Rattle.vme_core.specs.Counting.{occurrences, numbers, HasPair}
 use Rattle.vme_core.specs.Stages.{rank, seen, SeesMore}
 use Rattle.vme_core.specs.Views.{joint_view}
@@ -23,7 +24,7 @@ use Rattle.vme_floor.specs.declared.answer.Answer.TheVariants.{Filed}
 use Rattle.vme_floor.specs.declared.answer.Reply.{Reply}
 use Rattle.vme_floor.specs.Collecting.{block_count, IsCollected, IsKnownTaken, OwnAreTaken, TakesOnly}
 use Rattle.vme_floor.specs.declared.collector.Collection.{Collection}
-use Rattle.vme_floor.proofs.Places.{slice_get-set_here, slice_get-set_elsewhere, slice_get-replicate}
+use Rattle.vme_floor.proofs.Places.{slice_get-replicate}
 
 -- the places of a book, each with a block or none
 abbrev Places : Type 0

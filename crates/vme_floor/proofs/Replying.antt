@@ -4,13 +4,13 @@ use Rattle.std.proofs.Common.{replicate, Option, Some, None, sym, refl, ap, ◌�
 use Rattle.std.proofs.lemmas.Option.{none-some, same_Some}
 use mathlib.Core.Logic.{dite}
 use native.Mathlib.Decide.{ℕ_discrete}
+use Rattle.vme_trace.proofs.ListLaws.{slice_get-append_one, slice_get-set_here, slice_get-set_elsewhere}
 use Rattle.vme_core.specs.Counting.{occurrences}
 use Rattle.vme_core.proofs.Sums.{occurrences-cons_other}
 use Rattle.vme_floor.specs.declared.answer.Answer.{Answer}
 use Rattle.vme_floor.specs.declared.answer.Reply.{Reply}
 use Rattle.vme_floor.specs.Works.{replied}
 use Rattle.vme_floor.specs.Accounts.{reply_of, IsTable}
-use Rattle.vme_floor.proofs.Places.{slice_get-set_here, slice_get-set_elsewhere, slice_get-append_one}
 use Rattle.vme_floor.proofs.Places.{slice_get-replicate}
 
 -- the answer to a delivery, if there is one yet

@@ -5,13 +5,13 @@ use Rattle.std.proofs.lemmas.Option.{none-some, same_Some, slice_get_within}
 use mathlib.Core.Logic.{dite}
 use native.Mathlib.Decide.{ℕ_discrete}
 use Rattle.vme_trace.specs.declared.block.Block.{Block}
+use Rattle.vme_trace.proofs.ListLaws.{slice_get-set_here, slice_get-set_elsewhere}
 use Rattle.vme_board.specs.Contents.{HasBlock}
 use Rattle.vme_book.specs.Inserted.{RefusesBlock}
 use Rattle.vme_book.specs.declared.book.InsertFault.{InsertFault}
 use Rattle.vme_book.specs.declared.book.InsertFault.TheVariants as insert_fault
 use Rattle.vme_floor.specs.Accounts.{ShareNoNumber, IsUnionBelow}
 use Rattle.vme_floor.proofs.Collecting.{slice_get-stored}
-use Rattle.vme_floor.proofs.Places.{slice_get-set_here, slice_get-set_elsewhere}
 
 -- places, each with a block or none
 abbrev Blocks : Type 0

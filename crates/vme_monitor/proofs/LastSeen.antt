@@ -5,6 +5,7 @@ use mathlib.Core.Logic.{dite}
 use native.Mathlib.Decide.{ℕ_discrete}
 use Rattle.std.specs.Prelude.{slice_get, unwrap_or}
 use Rattle.std.proofs.lemmas.Option.{slice_get_within}
+use Rattle.vme_trace.proofs.ListLaws.{slice_get-set_here, slice_get-set_elsewhere}
 use Rattle.vme_monitor.specs.Outcome.{nothing_shown}
 use Rattle.vme_monitor.specs.Walk.{outcome_of}
 use Rattle.vme_monitor.specs.declared.link.TableRow.{TableRow}
@@ -31,20 +32,6 @@ module _ {A : Type 0} where
   get_pushed [] x y (suc i) e = absurd (no_value y e)
   get_pushed (z ∷ xs) x y zero e = inl e
   get_pushed (z ∷ xs) x y (suc i) e = ⊎_elim (λ a. inl a) (λ a. inr (ap suc a.0, a.1)) (get_pushed xs x y i e)
-
-  -- the item at an index that is set is the one that it is set to
-  pub get_set : (l : List A) (i : ℕ) (a : A) → i < length l → slice_get (set l i a) i ≡ Some a
-  get_set [] i a h = absurd (omega arith)
-  get_set (x ∷ xs) zero a h = refl
-  get_set (x ∷ xs) (suc i) a h = get_set xs i a (omega arith)
-
-  -- setting an item leaves those at other indices
-  pub get_unset : (l : List A) (i j : ℕ) (a : A) → j ≢ i → slice_get (set l i a) j ≡ slice_get l j
-  get_unset [] i j a n = refl
-  get_unset (x ∷ xs) zero zero a n = absurd (n refl)
-  get_unset (x ∷ xs) zero (suc j) a n = refl
-  get_unset (x ∷ xs) (suc i) zero a n = refl
-  get_unset (x ∷ xs) (suc i) (suc j) a n = get_unset xs i j a (λ e. n (ap suc e))
 
 -- the memories of rows and one more are those of the rows, and that of the one more
 pub memories_pushed : {P : Type 0} (rows : List (TableRow P)) (row : TableRow P)
@@ -75,15 +62,16 @@ module _ {P : Type 0} (place : P → ℕ) where
   stamped_set : (stamp : ℕ) (ms : List P) (last_seen : List ℕ) (k : ℕ) → k < length last_seen → AreStamped stamp ms
       last_seen → AreStamped stamp ms (set last_seen k stamp)
   stamped_set stamp ms last_seen k below stamped i p e = dite (ℕ_discrete (place p) k)
-      (λ same. ap (λ n. slice_get (set last_seen k stamp) n) same ∙ get_set last_seen k stamp below)
-      (λ ne. get_unset last_seen k (place p) stamp ne ∙ stamped i p e)
+      (λ same. ap (λ n. slice_get (set last_seen k stamp) n) same ∙ slice_get-set_here last_seen k stamp below)
+      (λ ne. slice_get-set_elsewhere last_seen k (place p) stamp ne ∙ stamped i p e)
 
   -- after the entry at the place of m is set to `stamp`, those at the places of ms and of m are `stamp`
   pub stamped_appended : (stamp : ℕ) (ms : List P) (last_seen : List ℕ) (m : P) (k : ℕ) → k ≡ place m
       → k < length last_seen → AreStamped stamp ms last_seen → AreStamped stamp (ms ++ m ∷ []) (set last_seen k stamp)
   stamped_appended stamp ms last_seen m k is below stamped i p e =
       ⊎_elim (λ a. stamped_set stamp ms last_seen k below stamped i p a)
-      (λ a. ap (λ n. slice_get (set last_seen k stamp) n) (ap place a.1 ∙ sym is) ∙ get_set last_seen k stamp below)
+      (λ a. ap (λ n. slice_get (set last_seen k stamp) n) (ap place a.1 ∙ sym is)
+      ∙ slice_get-set_here last_seen k stamp below)
       (get_pushed ms m p i e)
 
   -- a memory m whose place has another entry than `stamp` is at another place than those of ms

@@ -2,12 +2,12 @@
 use Rattle.std.proofs.Common.{◌≡◌, ◌≢◌, ◌⊎◌, ℕ, zero, suc, ◌+◌, ◌<◌, ◌≤◌, List, [], ◌∷◌, ◌++◌, drop, length, map}
 use Rattle.std.proofs.Common.{length-append, slice_get, get_or, set, Some, sym, refl}
 use Rattle.std.proofs.Common.{ap, ◌∙◌, subst, arith, inl, inr, None}
-use Rattle.std.proofs.Common.{⊎_elim}
 use Rattle.std.specs.Prelude.{All, option_map}
 use Rattle.std.proofs.lemmas.List.{get_or-map, length-map}
 use Rattle.std.proofs.lemmas.List.Elements.{All-push}
 use Rattle.std.proofs.lemmas.Option.{none-some, same_Some, slice_get-map, slice_get_read, slice_get_within}
 use Rattle.vme_trace.specs.Streams.{Reading}
+use Rattle.vme_trace.proofs.ListLaws.{slice_get-append_one, slice_get-set_here, slice_get-set_elsewhere}
 use Rattle.vme_stream.specs.Inputs.{IsReading}
 use Rattle.vme_part_format.specs.Bounds.{FitsPart}
 use Rattle.vme_part_format.specs.PartText.{part_bytes}
@@ -18,30 +18,6 @@ use Rattle.vme_part_command.specs.declared.inputs.PartInputFault.{PartInputFault
 -- ---- the items of lists by their indices
 
 module _ {A : Type 0} where
-  -- the item that is set to x is x
-  slice_get-set_same : (xs : List A) (i : ℕ) (x : A) → i < length xs → slice_get (set xs i x) i ≡ Some x
-  slice_get-set_same [] i x h = absurd (omega arith)
-  slice_get-set_same (y ∷ ys) zero x h = refl
-  slice_get-set_same (y ∷ ys) (suc i) x h = slice_get-set_same ys i x (omega arith)
-
-  -- an item other than the one that is set stays as it was
-  slice_get-set_other : (xs : List A) (i k : ℕ) (x : A) → k ≢ i → slice_get (set xs i x) k ≡ slice_get xs k
-  slice_get-set_other [] i k x ne = refl
-  slice_get-set_other (y ∷ ys) zero zero x ne = absurd (ne refl)
-  slice_get-set_other (y ∷ ys) zero (suc k) x ne = refl
-  slice_get-set_other (y ∷ ys) (suc i) zero x ne = refl
-  slice_get-set_other (y ∷ ys) (suc i) (suc k) x ne = slice_get-set_other ys i k x (λ e. ne (ap suc e))
-
-  -- an item of a list with one more is an item of the list, or the new one
-  slice_get-append_one : (xs : List A) (x y : A) (k : ℕ) → slice_get (xs ++ x ∷ []) k ≡ Some y
-      → (slice_get xs k ≡ Some y) ⊎
-      ((k ≡ length xs) × (x ≡ y))
-  slice_get-append_one [] x y zero e = inr (refl, same_Some x y e)
-  slice_get-append_one [] x y (suc k) e = absurd (none-some y e)
-  slice_get-append_one (z ∷ zs) x y zero e = inl e
-  slice_get-append_one (z ∷ zs) x y (suc k) e =
-      ⊎_elim (λ a. inl a) (λ a. inr (ap suc a.0, a.1)) (slice_get-append_one zs x y k e)
-
   -- the first item of a list without its first j is the item j
   slice_get-drop : (ys : List A) (j : ℕ) → slice_get (drop j ys) 0 ≡ slice_get ys j
   slice_get-drop [] zero = refl
@@ -73,12 +49,12 @@ module _ {A : Type 0} (f : A → Reading) (xs ys : List A) (i : ℕ) (x y : A) (
 
   -- after it is read, the input i is as y says
   reading-after : slice_get (map f (set ys i y)) i ≡ Some (f y)
-  reading-after = slice_get-map f (set ys i y) i ∙ ap (option_map f) (slice_get-set_same ys i y within)
+  reading-after = slice_get-map f (set ys i y) i ∙ ap (option_map f) (slice_get-set_here ys i y within)
 
   -- reading the input i doesn't change another one
   reading-others : (k : ℕ) → k ≢ i → slice_get (map f ys) k ≡ slice_get (map f (set ys i y)) k
   reading-others k ne =
-      slice_get-map f ys k ∙ ap (option_map f) (sym (slice_get-set_other ys i k y ne))
+      slice_get-map f ys k ∙ ap (option_map f) (sym (slice_get-set_elsewhere ys i k y ne))
       ∙ sym (slice_get-map f (set ys i y) k)
 
   -- reading the input i doesn't change those before it

@@ -2,25 +2,14 @@
 -- or begins one.
 use Rattle.std.proofs.Common.{◌≡◌, ℕ, zero, suc, ◌+◌, ◌-◌, ◌<◌, ◌≤◌, Bool, true, false, cond, List, [], ◌∷◌, ◌++◌}
 use Rattle.std.proofs.Common.{length, refl, ap, ◌∙◌, arith}
-use Rattle.std.specs.Prelude.{Some, slice_get, ◌==◌, ◌||◌, nat_lt}
+use Rattle.std.specs.Prelude.{slice_get, ◌==◌, ◌||◌, nat_lt}
 use Rattle.vme_trace.specs.Followed.{with_steps}
 use Rattle.vme_trace.specs.Levels.{Levels}
 use Rattle.vme_trace.specs.Trace.{Trace, after, changed, levels_at, time_at, time_of}
 use Rattle.vme_trace.specs.declared.step.Step.{Step}
+use Rattle.vme_trace.proofs.ListLaws.{slice_get-append, slice_get-here}
 use Rattle.vme_bind.specs.Recording.{step_between}
 use Rattle.vme_skew.specs.Settled.{begins_after, group_start, step_to, steps_before}
-
--- an element before the last is found without the last
-slice_get-before_last : (xs : List Step) (step : Step) (i : ℕ) → i < length xs → slice_get (xs ++ step ∷ []) i
-    ≡ slice_get xs i
-slice_get-before_last [] step i lt = absurd (omega (arith, lt))
-slice_get-before_last (x ∷ xs) step zero lt = refl
-slice_get-before_last (x ∷ xs) step (suc i) lt = slice_get-before_last xs step i (omega (arith, lt))
-
--- the last element is at the index after all others
-slice_get-last : (xs : List Step) (step : Step) → slice_get (xs ++ step ∷ []) (length xs) ≡ Some step
-slice_get-last [] step = refl
-slice_get-last (x ∷ xs) step = slice_get-last xs step
 
 -- the group of an instant begins no later than the instant
 pub group_start-at_most : (skew : ℕ) (t : Trace) (i : ℕ) → group_start skew t i ≤ i
@@ -44,12 +33,12 @@ module _ (t : Trace) (step : Step) where
   levels_at-with_step zero le = refl
   levels_at-with_step (suc i) le =
       ap (λ (v : Levels). after v (slice_get with_step.steps i)) (levels_at-with_step i (omega (arith, le)))
-      ∙ ap (after (levels_at t i)) (slice_get-before_last t.steps step i (omega (arith, le)))
+      ∙ ap (after (levels_at t i)) (slice_get-append t.steps (step ∷ []) i (omega (arith, le)))
 
   -- the times of the instants before the step are as without it
   pub time_at-with_step : (i : ℕ) → i ≤ length t.steps → time_at with_step i ≡ time_at t i
   time_at-with_step zero le = refl
-  time_at-with_step (suc i) le = ap time_of (slice_get-before_last t.steps step i (omega (arith, le)))
+  time_at-with_step (suc i) le = ap time_of (slice_get-append t.steps (step ∷ []) i (omega (arith, le)))
 
   -- the step's changes lead to the levels at the last instant
   pub levels_at-last : levels_at with_step (suc (length t.steps)) ≡ changed (levels_at t (length t.steps)) step.changes
@@ -57,11 +46,11 @@ module _ (t : Trace) (step : Step) where
   levels_at-last =
       ap (λ (v : Levels). after v (slice_get with_step.steps (length t.steps)))
       (levels_at-with_step (length t.steps) (omega arith))
-      ∙ ap (after (levels_at t (length t.steps))) (slice_get-last t.steps step)
+      ∙ ap (after (levels_at t (length t.steps))) (slice_get-here t.steps step [])
 
   -- the last instant has the time of the step
   pub time_at-last : time_at with_step (suc (length t.steps)) ≡ step.time
-  time_at-last = ap time_of (slice_get-last t.steps step)
+  time_at-last = ap time_of (slice_get-here t.steps step [])
 
 module _ (skew : ℕ) (t : Trace) (step : Step) where
   -- the recording with one more step

@@ -17,6 +17,7 @@ use Rattle.vme_trace.specs.declared.step.Change.{Change}
 use Rattle.vme_trace.specs.declared.step.Step.{Step}
 use Rattle.vme_trace.proofs.Changing.{slots-kept, level-kept}
 use Rattle.vme_trace.proofs.CutBlocks.{levels_after-append, take-next}
+use Rattle.vme_trace.proofs.ListLaws.{slice_get-append, slice_get-here}
 use Rattle.vme_trace.proofs.Ranges.{any-fails, fails-any, least-none, least-none-any}
 use Rattle.vme_trace.proofs.WellFormedSteps.{fits-at}
 use Rattle.vme_bind.specs.Recording.{differs, changes_between, step_between}
@@ -331,18 +332,6 @@ record AreFormed (o : Levels) (xs : List Step) (v : Levels) (clock : ℕ) : Type
   left : levels_at (of_steps o xs) (length xs) ≡ v
   time : time_at (of_steps o xs) (length xs) ≡ clock
 
--- an element before the last is found without the last
-slice_get-before_last : (xs : List Step) (step : Step) (i : ℕ) → i < length xs → slice_get (xs ++ step ∷ []) i
-    ≡ slice_get xs i
-slice_get-before_last [] step i lt = absurd (omega (arith, lt))
-slice_get-before_last (x ∷ xs) step zero lt = refl
-slice_get-before_last (x ∷ xs) step (suc i) lt = slice_get-before_last xs step i (omega (arith, lt))
-
--- the last element is at the index after all others
-pub slice_get-last : (xs : List Step) (step : Step) → slice_get (xs ++ step ∷ []) (length xs) ≡ Some step
-slice_get-last [] step = refl
-slice_get-last (x ∷ xs) step = slice_get-last xs step
-
 -- a list has one element more with one appended
 pub length-append_one : (xs : List Step) (step : Step) → length (xs ++ step ∷ []) ≡ suc (length xs)
 length-append_one [] step = refl
@@ -355,7 +344,7 @@ unfolding is_step
 is_step-append o xs step i lt =
     let t : Trace = of_steps o xs in
     let u : Trace = of_steps o (xs ++ step ∷ []) in
-    ap (fits u i) (slice_get-before_last xs step i lt) ∙ by_step (slice_get xs i)
+    ap (fits u i) (slice_get-append xs (step ∷ []) i lt) ∙ by_step (slice_get xs i)
   where
     by_step : (found : Option Step) → fits (of_steps o (xs ++ step ∷ [])) i found ≡ fits (of_steps o xs) i found
     by_step None = refl
@@ -386,7 +375,7 @@ AreFormed-append o xs v clock step h may = record {
     last : is_step u (length xs) ≡ true
     last =
         fits-at u (length xs) v clock step (sym (levels_at-with_step t step (length xs) (omega arith) ∙ h.left))
-        (sym (time_at-with_step t step (length xs) (omega arith) ∙ h.time)) (slice_get-last xs step)
+        (sym (time_at-with_step t step (length xs) (omega arith) ∙ h.time)) (slice_get-here xs step [])
         ∙ may
 
     each : (i : ℕ) → 0 ≤ i → i < suc (length xs) → not (is_step u i) ≡ false

@@ -1,5 +1,5 @@
 -- A visitor that settles a recording has passed on all steps that came out, after each step and at the end.
-use Rattle.std.proofs.Common.{◌≡◌, ℕ, suc, ◌+◌, ◌<◌, Bool, true, ◌&&◌, List, ◌++◌, length}
+use Rattle.std.proofs.Common.{◌≡◌, ℕ, suc, ◌+◌, ◌<◌, Bool, true, ◌&&◌, List, [], ◌++◌, length}
 use Rattle.std.proofs.Common.{refl, sym, ap, ◌∙◌, subst, arith, inl, inr}
 use Rattle.std.specs.Prelude.{Option, None, min, nat_le, nat_lt, ◌==◌, ◌||◌}
 use Rattle.std.specs.Option.{option_to_list}
@@ -10,11 +10,12 @@ use Rattle.vme_trace.specs.Followed.{with_steps}
 use Rattle.vme_trace.specs.Trace.{Trace, time_at}
 use Rattle.vme_trace.specs.WellFormed.{capture_limit, malformed_step}
 use Rattle.vme_trace.specs.declared.step.Step.{Step}
+use Rattle.vme_trace.proofs.ListLaws.{slice_get-here}
 use Rattle.vme_skew.specs.PassedOn.{IsPassedOn, KeepsSettled}
 use Rattle.vme_skew.specs.Settled.{settled}
 use Rattle.vme_skew.specs.Settling.{Settling, taken}
 use Rattle.vme_skew.proofs.Growing.{time_at-with_step, time_at-last}
-use Rattle.vme_skew.proofs.Laws.{first_or_later-cases, slice_get-last, IsRecording-settled, length-append_one}
+use Rattle.vme_skew.proofs.Laws.{first_or_later-cases, IsRecording-settled, length-append_one}
 use Rattle.vme_skew.proofs.Laws.{MayFollowParts-step}
 use Rattle.vme_skew.proofs.SettlerSteps.{malformed_step-without_last, with_step}
 
@@ -56,7 +57,7 @@ IsPassedOn-taken s recorded h step out = record {
         let n : ℕ = length s.given.steps in
         let may_follow_parts = MayFollowParts-step (with_step s.given step) formed n step
         (omega (arith, length-append_one s.given.steps step))
-        (slice_get-last s.given.steps step) in
+        (slice_get-here s.given.steps step []) in
         le-first_or_later n (time_at (with_step s.given step) n) s.reached step.time
         (time_at-opening (with_step s.given step) n)
         (h.reached (malformed_step-without_last s.given step formed)

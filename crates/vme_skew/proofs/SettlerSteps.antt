@@ -14,6 +14,7 @@ use Rattle.vme_trace.specs.Trace.{Trace, changed, levels_at, time_at}
 use Rattle.vme_trace.specs.WellFormed.{is_step, malformed_step}
 use Rattle.vme_trace.specs.declared.step.Change.{Change}
 use Rattle.vme_trace.specs.declared.step.Step.{Step}
+use Rattle.vme_trace.proofs.ListLaws.{slice_get-here}
 use Rattle.vme_trace.proofs.Ranges.{any-fails, fails-any, least-none, least-none-any}
 use Rattle.vme_bind.specs.Recording.{step_between, step_in}
 use Rattle.vme_skew.specs.Group.{ChangeLines, GroupLevels, begun}
@@ -24,7 +25,7 @@ use Rattle.vme_skew.proofs.Complete.{settled_until-prefix, steps-settled_until}
 use Rattle.vme_skew.proofs.Growing.{steps_before-longer, steps_before-next, begins, levels_at-with_step}
 use Rattle.vme_skew.proofs.Growing.{group_start-longer, group_start-at_most, group_start-next}
 use Rattle.vme_skew.proofs.Growing.{time_at-with_step, time_at-last}
-use Rattle.vme_skew.proofs.Laws.{first_or_later-cases, first_or-weaker, slice_get-last, IsRecording-settled}
+use Rattle.vme_skew.proofs.Laws.{first_or_later-cases, first_or-weaker, IsRecording-settled}
 use Rattle.vme_skew.proofs.Laws.{length-append_one, step_to-opening, is_step-append}
 use Rattle.vme_skew.proofs.StepByStep.{AreReadyFor, AreSettledTo, ChangeLines-ready, AreReadyFor-over}
 use Rattle.vme_skew.proofs.StepByStep.{AreReadyFor-within, AreSettledTo-taken}
@@ -97,7 +98,7 @@ module _ (skew : ℕ) (t : Trace) (step : Step) where
 
   -- the last step is `step`
   slice_get-with_step : slice_get (with_step t step).steps last ≡ Some step
-  slice_get-with_step = slice_get-last t.steps step
+  slice_get-with_step = slice_get-here t.steps step []
 
   -- what was settled of a recording is settled of it with one more step
   AreSettledTo-with_step : (group : GroupLevels) (out : List Step) → AreSettledTo skew t last group out

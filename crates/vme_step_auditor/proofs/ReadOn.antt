@@ -8,32 +8,20 @@ use Rattle.std.proofs.lemmas.List.Elements.{All-cons, All-filter, All-head, All-
 use Rattle.std.proofs.lemmas.Option.{slice_get_past}
 use Rattle.std.specs.Prelude.{nat_lt, slice_get}
 use Rattle.std.specs.Option.{option_to_list}
-use Rattle.std.proofs.Math.Nat.{zero-add}
 use Rattle.std.proofs.lemmas.Bool.{lt-ltb, ltb-false, ltb-true}
 use Rattle.vme_trace.specs.Followed.{with_steps}
 use Rattle.vme_trace.specs.Trace.{Trace}
 use Rattle.vme_trace.specs.WellFormed.{malformed_step}
 use Rattle.vme_trace.specs.declared.step.Step.{Step}
 use Rattle.vme_trace.specs.declared.verdict.Break.{Break}
+use Rattle.vme_trace.proofs.FollowedLaws.{with_steps-append, with_steps-none}
+use Rattle.vme_trace.proofs.ListLaws.{slice_get-append, slice_get-append_past}
 use Rattle.vme_audit.specs.Allowances.{cut_at, faults, is_fault, stopped_at}
 use Rattle.vme_audit.specs.Parts.{breaks, cut_after}
 use Rattle.vme_audit.specs.declared.allowance.Allowance.{Allowance}
 use Rattle.vme_summary.proofs.Sound.{SoundParts-of_well_formed}
 use Rattle.vme_auditor.specs.Growth.{StepBreaks}
 use Rattle.vme_step_auditor.specs.ReadBy.{BreaksGoOn, is_stopped, read_by}
-
--- an index within the first of two appended lists gives the element of that list
-slice_get-in_first : {X : Type 0} (xs ys : List X) (i : ℕ) → i < length xs → slice_get (xs ++ ys) i ≡ slice_get xs i
-slice_get-in_first [] ys i h = absurd (omega arith)
-slice_get-in_first (x ∷ xs) ys zero h = refl
-slice_get-in_first (x ∷ xs) ys (suc i) h = slice_get-in_first xs ys i (omega arith)
-
--- an index past the first of two appended lists gives the element of the second list
-slice_get-in_second : {X : Type 0} (xs ys : List X) (i : ℕ) → slice_get (xs ++ ys) (length xs + i) ≡ slice_get ys i
-slice_get-in_second [] ys i = ap (slice_get ys) (zero-add i)
-slice_get-in_second (x ∷ xs) ys i =
-    let onward : suc (length xs) + i ≡ suc (length xs + i) = omega arith in
-    ap (slice_get (x ∷ xs ++ ys)) onward ∙ slice_get-in_second xs ys i
 
 -- each step of a well-formed recording breaks at most one rule, at its own instant
 abbrev pub EachStepBreaks : Type 0
@@ -49,16 +37,6 @@ BreaksWithin = (t : Trace) → malformed_step t ≡ None → t.opening.slots ≤
 cut_after-whole : (t : Trace) (j : ℕ) → length t.steps ≤ j → cut_after t j ≡ t
 cut_after-whole t j le = ap (λ (x : List Step). record { opening = t.opening; steps = x }) (take_all j t.steps le)
 
--- adding a step, and then others, is adding all at once
-pub with_steps-apart : (t : Trace) (s : Step) (steps : List Step) → with_steps (with_steps t (s ∷ [])) steps
-    ≡ with_steps t (s ∷ steps)
-with_steps-apart t s steps =
-    ap (λ (x : List Step). record { opening = t.opening; steps = x }) (append_assoc t.steps (s ∷ []) steps)
-
--- with no further steps a recording is itself
-pub with_steps-nothing : (t : Trace) → with_steps t [] ≡ t
-with_steps-nothing t = ap (λ (x : List Step). record { opening = t.opening; steps = x }) (append-nil t.steps)
-
 -- a recording is well formed if it is with further steps
 pub well_formed-front : (t : Trace) (steps : List Step) → malformed_step (with_steps t steps) ≡ None → malformed_step t
     ≡ None
@@ -73,17 +51,17 @@ pub record BreaksGrow (t : Trace) (steps : List Step) : Type 0 where
 pub BreaksGrow-steps : EachStepBreaks → (steps : List Step) (t : Trace) → malformed_step (with_steps t steps) ≡ None
     → t.opening.slots ≤ 21 → BreaksGrow t steps
 BreaksGrow-steps grow [] t ok few =
-    record { more = []; grown = ap (λ (t : Trace). breaks t) (with_steps-nothing t) ∙ sym (append-nil (breaks t)) }
+    record { more = []; grown = ap (λ (t : Trace). breaks t) (with_steps-none t) ∙ sym (append-nil (breaks t)) }
 BreaksGrow-steps grow (s ∷ steps) t ok few =
     let next = with_steps t (s ∷ []) in
     let sound : malformed_step (with_steps next steps) ≡ None =
-    subst (λ (t : Trace). malformed_step t ≡ None) (sym (with_steps-apart t s steps)) ok in
+    subst (λ (t : Trace). malformed_step t ≡ None) (sym (with_steps-append t (s ∷ []) steps)) ok in
     let first = grow t s (well_formed-front next steps sound) few in
     let rest = BreaksGrow-steps grow steps next sound few in
     record {
       more = option_to_list first.found ++ rest.more;
       grown =
-          ap (λ (t : Trace). breaks t) (sym (with_steps-apart t s steps)) ∙ rest.grown
+          ap (λ (t : Trace). breaks t) (sym (with_steps-append t (s ∷ []) steps)) ∙ rest.grown
           ∙ ap (λ (bs : List Break). bs ++ rest.more) first.grown
           ∙ append_assoc (breaks t) (option_to_list first.found) rest.more;
     }
@@ -143,7 +121,7 @@ module _ (allowances : List Allowance) where
       ∙ ap (λ (bs : List Break). cut_at allowances next (slice_get bs (n - 1)))
       (filter-append (is_fault allowances) (breaks t) (option_to_list step.found))
       ∙ ap (λ i. cut_at allowances next (slice_get (so_far ++ own) i)) at
-      ∙ ap (cut_at allowances next) (slice_get-in_second so_far own (n - 1 - length so_far))
+      ∙ ap (cut_at allowances next) (slice_get-append_past so_far own (n - 1 - length so_far))
       ∙ cut_at-last next own (n - 1 - length so_far)
       (All-filter (is_fault allowances) (λ (b : Break). b.instant ≡ length next.steps) (option_to_list step.found)
       (All-own_break (length t.steps) (length next.steps) step.found last step.own))
@@ -187,7 +165,7 @@ module _ (allowances : List Allowance) where
             ∙ ap (λ (bs : List Break). cut_at allowances (with_steps t steps) (slice_get bs (n - 1)))
             (filter-append (is_fault allowances) (breaks t) on.more)
             ∙ ap (cut_at allowances (with_steps t steps))
-            (slice_get-in_first so_far (faults allowances on.more) (n - 1) enough)
+            (slice_get-append so_far (faults allowances on.more) (n - 1) enough)
             ∙ cut_at-before t steps so_far (n - 1)
             (All-filter (is_fault allowances) (λ (b : Break). b.instant ≤ length t.steps) (breaks t)
             (within t (well_formed-front t steps ok) few)) enough
@@ -200,13 +178,13 @@ module _ (allowances : List Allowance) where
       record {
         more = [];
         grown =
-            ap (λ (t : Trace). breaks (read_by allowances stop t)) (with_steps-nothing t)
+            ap (λ (t : Trace). breaks (read_by allowances stop t)) (with_steps-none t)
             ∙ sym (append-nil (breaks (read_by allowances stop t)));
       }
   BreaksGoOn-steps grow within stop (s ∷ steps) t ok few =
       let next = with_steps t (s ∷ []) in
       let sound : malformed_step (with_steps next steps) ≡ None =
-      subst (λ (t : Trace). malformed_step t ≡ None) (sym (with_steps-apart t s steps)) ok in
+      subst (λ (t : Trace). malformed_step t ≡ None) (sym (with_steps-append t (s ∷ []) steps)) ok in
       by_stopped (BreaksGoOn-steps grow within stop steps next sound few)
       (grow t s (well_formed-front next steps sound) few)
       (is_stopped allowances stop t) refl
@@ -230,7 +208,8 @@ module _ (allowances : List Allowance) where
           record {
             more = option_to_list first.found ++ rest.more;
             grown =
-                ap (λ (t : Trace). breaks (read_by allowances stop t)) (sym (with_steps-apart t s steps)) ∙ rest.grown
+                ap (λ (t : Trace). breaks (read_by allowances stop t)) (sym (with_steps-append t (s ∷ []) steps))
+                ∙ rest.grown
                 ∙ ap (λ (bs : List Break). bs ++ rest.more) own
                 ∙ append_assoc (breaks (read_by allowances stop t)) (option_to_list first.found) rest.more;
           }

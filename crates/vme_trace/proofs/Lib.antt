@@ -3,6 +3,7 @@ pub mod Changing
 pub mod Counting
 pub mod CutBlocks
 pub mod EveryRule
+pub mod FollowedLaws
 pub mod IdleLines
 pub mod JudgedStretches
 pub mod ListLaws

@@ -1,9 +1,12 @@
 -- Laws of options and of lists, for the proofs of this crate and of those above it.
-use Rattle.std.proofs.Common.{◌≡◌, List, [], ◌∷◌, ◌++◌, length, take, drop, refl, sym}
+use Rattle.std.proofs.Common.{◌≡◌, ◌≢◌, ◌⊎◌, ℕ, zero, suc, ◌+◌, ◌<◌, List, [], ◌∷◌, ◌++◌, length, set, take, drop}
+use Rattle.std.proofs.Common.{refl, sym, ap, ◌∙◌, arith, inl, inr, ⊎_elim}
 use Rattle.std.specs.Prelude.{All, Option, None, Some, slice_get}
 use Rattle.std.specs.Option.{option_or}
+use Rattle.std.proofs.Math.Nat.{zero-add}
 use Rattle.std.proofs.Math.Seq.{drop-append_seam, take-append_seam}
 use Rattle.std.proofs.lemmas.List.Elements.{All-drop, All-same, All-take}
+use Rattle.std.proofs.lemmas.Option.{none-some, same_Some}
 
 -- an option or nothing is the option
 pub option_or-none : {A : Type 0} (o : Option A) → option_or o None ≡ o
@@ -14,6 +17,45 @@ option_or-none (Some a) = refl
 pub slice_get-here : {A : Type 0} (xs : List A) (y : A) (ys : List A) → slice_get (xs ++ y ∷ ys) (length xs) ≡ Some y
 slice_get-here [] y ys = refl
 slice_get-here (x ∷ xs) y ys = slice_get-here xs y ys
+
+-- an index within the first of two appended lists gives the element of that list
+pub slice_get-append : {A : Type 0} (xs ys : List A) (i : ℕ) → i < length xs → slice_get (xs ++ ys) i ≡ slice_get xs i
+slice_get-append [] ys i h = absurd (omega arith)
+slice_get-append (x ∷ xs) ys zero h = refl
+slice_get-append (x ∷ xs) ys (suc i) h = slice_get-append xs ys i (omega arith)
+
+-- an index past the first of two appended lists gives the element of the second list
+pub slice_get-append_past : {A : Type 0} (xs ys : List A) (i : ℕ) → slice_get (xs ++ ys) (length xs + i)
+    ≡ slice_get ys i
+slice_get-append_past [] ys i = ap (slice_get ys) (zero-add i)
+slice_get-append_past (x ∷ xs) ys i =
+    let onward : suc (length xs) + i ≡ suc (length xs + i) = omega arith in
+    ap (slice_get (x ∷ xs ++ ys)) onward ∙ slice_get-append_past xs ys i
+
+module _ {A : Type 0} where
+  -- an element of a list with one more is one of the list, or the last
+  pub slice_get-append_one : (xs : List A) (x y : A) (k : ℕ) → slice_get (xs ++ x ∷ []) k ≡ Some y
+      → (slice_get xs k ≡ Some y) ⊎
+      ((k ≡ length xs) × (x ≡ y))
+  slice_get-append_one [] x y zero e = inr (refl, same_Some x y e)
+  slice_get-append_one [] x y (suc k) e = absurd (none-some y e)
+  slice_get-append_one (z ∷ zs) x y zero e = inl e
+  slice_get-append_one (z ∷ zs) x y (suc k) e =
+      ⊎_elim (λ a. inl a) (λ a. inr (ap suc a.0, a.1)) (slice_get-append_one zs x y k e)
+
+  -- the element at an index that is set is the one that it is set to
+  pub slice_get-set_here : (xs : List A) (i : ℕ) (x : A) → i < length xs → slice_get (set xs i x) i ≡ Some x
+  slice_get-set_here [] i x h = absurd (omega arith)
+  slice_get-set_here (y ∷ ys) zero x h = refl
+  slice_get-set_here (y ∷ ys) (suc i) x h = slice_get-set_here ys i x (omega arith)
+
+  -- the element at another index stays
+  pub slice_get-set_elsewhere : (xs : List A) (i k : ℕ) (x : A) → k ≢ i → slice_get (set xs i x) k ≡ slice_get xs k
+  slice_get-set_elsewhere [] i k x ne = refl
+  slice_get-set_elsewhere (y ∷ ys) zero zero x ne = absurd (ne refl)
+  slice_get-set_elsewhere (y ∷ ys) zero (suc k) x ne = refl
+  slice_get-set_elsewhere (y ∷ ys) (suc i) zero x ne = refl
+  slice_get-set_elsewhere (y ∷ ys) (suc i) (suc k) x ne = slice_get-set_elsewhere ys i k x (λ e. ne (ap suc e))
 
 -- what all elements of `xs ++ ys` have, all of `xs` have
 pub All-front : {A : Type 0} (P : A → Type 0) (xs ys : List A) → All P (xs ++ ys) → All P xs

@@ -4,17 +4,18 @@ use Rattle.std.proofs.lemmas.Option.{slice_get_read}
 use Rattle.vme_trace.specs.Followed.{with_steps}
 use Rattle.vme_trace.specs.Trace.{Trace}
 use Rattle.vme_trace.specs.declared.step.Step.{Step}
+use Rattle.vme_trace.proofs.FollowedLaws.{with_steps-none}
 use Rattle.vme_cert.specs.Checking.{HasCompared, HasFollowed}
-use Rattle.vme_confirm_command.proofs.StepLemmas.{take-past, MayGoOn-next, with_steps-next, with_steps-none}
+use Rattle.vme_confirm_command.proofs.StepLemmas.{take-past, MayGoOn-next, with_steps-next}
 use Rattle.vme_confirm_command.proofs.step_check.check_all.Goals as goal
 
 pub loop-step-init : goal.loop-step-init
 loop-step-init g c = record {
   taken = λ recorded taken.
-      subst (λ (u : Trace). HasFollowed u c.args.checker.now) (sym (with_steps-none recorded c.args.steps.now)) taken;
+      subst (λ (u : Trace). HasFollowed u c.args.checker.now) (sym (with_steps-none recorded)) taken;
   compared = λ whole version recorded taken compared.
       subst (λ (u : Trace). HasCompared g.S.RowSource.gave g.S.RowSource.is_over whole version u c.args.checker.now)
-      (sym (with_steps-none recorded c.args.steps.now)) compared;
+      (sym (with_steps-none recorded)) compared;
 }
 
 pub take-requires : goal.take-requires
