@@ -8,7 +8,7 @@ use Rattle.std.proofs.lemmas.Bool.{not-false, not-true, or_parts}
 use Rattle.std.proofs.lemmas.Bool.Decides.{nat_tests}
 use Rattle.vme_trace.specs.declared.class.Class.TheVariants as class
 use Rattle.vme_trace.proofs.EveryRule.{every-rule, same-rule}
-use Rattle.vme_trace.proofs.Ranges.{any-fails, fails-any, least-none}
+use Rattle.vme_trace.proofs.Ranges.{any-fails, fails-any}
 use Rattle.vme_trace.proofs.Changing.{level-kept}
 use Rattle.vme_trace.proofs.StretchEnds.{slots_at}
 use Rattle.vme_cert.specs.Vocabulary.{A, BERR, Change, Class, DS0, DS1, DTACK, H1, High, LWORD, Level, Levels, Low}
@@ -290,15 +290,6 @@ module _ (t : Trace) (stretch : Stretch) where
   pub break_at-empty : (j : ℕ) → break_at t stretch [] j ≡ None
   unfolding break_at
   break_at-empty j = refl
-
-  -- if no rule is broken on any line, there is no break
-  pub break_at-none : (j : ℕ) → ((r : Rule) (l : ℕ) → l < line_count → breaks t stretch r j l ≡ false)
-      → (rs : List Rule)
-      → break_at t stretch rs j ≡ None
-  break_at-none j none [] = break_at-empty j
-  break_at-none j none (r ∷ rs) =
-      break_at-next r rs j (least-none (breaks t stretch r j) 0 line_count
-      (fails-any (breaks t stretch r j) 0 line_count (λ l a b. none r l b))) ∙ break_at-none j none rs
 
 -- no rule is broken on any line, if none is on the changed lines, and U2, U3, H1 and U4 aren't on any line
 module _ (t : Trace) (stretch : Stretch) (bus : Bus) (state : State) (cs : List Change)

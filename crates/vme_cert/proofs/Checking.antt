@@ -22,6 +22,7 @@ use Rattle.vme_trace.proofs.OpenTransfers.{suc-sub-one, is_judged-holds}
 use Rattle.vme_trace.proofs.StretchEnds.{break_before-stays, end-is, end-past, u1-lost, u1-unlost}
 use Rattle.vme_trace.proofs.CutBlocks.{levels_after-append, levels_at-taken, take-next}
 use Rattle.vme_trace.proofs.FollowedLaws.{with_steps-append, with_steps-none}
+use Rattle.vme_trace.proofs.Unjudged.{break_at-none, is_judged-early}
 use Rattle.vme_listing.proofs.FoundBreaks.{least_break-judged}
 use Rattle.vme_cert.specs.Vocabulary.{Break, Change, Conforming, IsStretchOf, ListedVerdict, NeverIdle, Row, Rule}
 use Rattle.vme_cert.specs.Vocabulary.{Stretch}
@@ -45,9 +46,8 @@ use Rattle.vme_cert.specs.declared.checker.CheckPhase.{CheckPhase}
 use Rattle.vme_cert.specs.declared.checker.CheckPhase.TheVariants.{Ended, InStretch, Waiting}
 use Rattle.vme_cert.specs.declared.open_rows.OpenRows.{OpenRows}
 use Rattle.vme_cert.specs.declared.state.State.{State}
-use Rattle.vme_cert.proofs.Ranges.{eq-fails_below, is_judged-not_up_to_start, by_option, Some-injective, eq-fails_above}
+use Rattle.vme_cert.proofs.Ranges.{eq-fails_below, by_option, Some-injective, eq-fails_above}
 use Rattle.vme_cert.proofs.Ranges.{eq-or_below}
-use Rattle.vme_cert.proofs.Breaks.{break_at-none}
 use Rattle.vme_cert.proofs.Following.{IsDue-at_last, IsDue-transfer_at_last}
 
 -- ---- The listing of a recording, stretch by stretch.
@@ -269,7 +269,7 @@ module _ (t : Trace) (stretch : Stretch) where
       ≡ None
   unfolding break_before
   break_before-none_at_start j upto order = break_before-none_up_to all_rules 0 j (omega arith) refl
-      (λ i a b. break_at-unjudged i (is_judged-not_up_to_start stretch i (omega arith))
+      (λ i a b. break_at-unjudged i (is_judged-early stretch i (omega arith))
       (λ l below. breaks-no_loss_within i l (eq-fails_below i stretch.end (omega arith)))
       all_rules)
 

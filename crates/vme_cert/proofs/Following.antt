@@ -10,6 +10,7 @@ use Rattle.vme_trace.proofs.Ranges.{clash, least-is, least-none, any-fails, any-
 use Rattle.vme_trace.proofs.Ranges.{least-none-any}
 use Rattle.vme_trace.specs.declared.class.Class.TheVariants as class
 use Rattle.vme_trace.proofs.ListLaws.{slice_get-append}
+use Rattle.vme_trace.proofs.Unjudged.{is_judged-early}
 use Rattle.vme_listing.specs.declared.row.Row.TheVariants as variant
 use Rattle.vme_cert.specs.Vocabulary.{AnswerLine, Berr, DS0, DS1, DTACK, Direction, Dtack, Lanes, One, Read, Row, Start}
 use Rattle.vme_cert.specs.Vocabulary.{Stretch, Three, Trace, Two, Version, Write, answer_falls, answered_row, answers}
@@ -42,7 +43,7 @@ use Rattle.vme_cert.proofs.Placing.{expected_to-tenure}
 use Rattle.vme_cert.proofs.Placing.{expected_to-transfer}
 use Rattle.vme_cert.proofs.Ranges.{Some-injective, any-more, any-start, greatest-found, is_judged-after_start}
 use Rattle.vme_cert.proofs.Ranges.{greatest-here, greatest-not, by_either_value}
-use Rattle.vme_cert.proofs.Ranges.{by_option, is_judged-not_up_to_start}
+use Rattle.vme_cert.proofs.Ranges.{by_option}
 use Rattle.vme_cert.proofs.Instant.{known-AS, known-control_line}
 
 -- the last edge of a row may be set before or after its data is left out
@@ -910,17 +911,17 @@ module _ (t : Trace) (stretch : Stretch) where
   -- up to the start of the stretch no cycle starts
   cycle_rows-none_up_to_start : (end i : ℕ) → i ≤ stretch.start → cycle_rows t stretch end i ≡ []
   unfolding cycle_rows cycle_starts
-  cycle_rows-none_up_to_start end i h = rw (is_judged-not_up_to_start stretch i h) refl
+  cycle_rows-none_up_to_start end i h = rw (is_judged-early stretch i h) refl
 
   -- up to the start of the stretch no transfer starts
   transfer_rows-none_up_to_start : (end i : ℕ) → i ≤ stretch.start → transfer_rows t stretch end i ≡ []
   unfolding transfer_rows transfer_starts
-  transfer_rows-none_up_to_start end i h = rw (is_judged-not_up_to_start stretch i h) refl
+  transfer_rows-none_up_to_start end i h = rw (is_judged-early stretch i h) refl
 
   -- before the start of the stretch no tenure starts
   tenure_rows-none_before_start : (end i : ℕ) → i < stretch.start → tenure_rows t stretch end i ≡ []
   unfolding tenure_rows tenure_starts
-  tenure_rows-none_before_start end i h = rw (not_the_start i h, is_judged-not_up_to_start stretch i (omega arith)) refl
+  tenure_rows-none_before_start end i h = rw (not_the_start i h, is_judged-early stretch i (omega arith)) refl
     where
       -- an instant before the start isn't the start
       not_the_start : (i : ℕ) → i < stretch.start → (i == stretch.start) ≡ false
@@ -953,7 +954,7 @@ module _ (t : Trace) (stretch : Stretch) where
   tenure_rows-free_start end free = rw (
     start-equals_itself,
     free,
-    is_judged-not_up_to_start stretch stretch.start
+    is_judged-early stretch stretch.start
         (omega arith),
   ) refl
 

@@ -190,10 +190,6 @@ pub is_judged-after_start : (stretch : Stretch) (j : ℕ) → is_judged stretch 
 is_judged-after_start stretch j judged = let after =
     ltb-true stretch.start j (and_parts (nat_lt stretch.start j) (nat_lt j stretch.end) judged).0 in omega arith
 
--- no instant up to the start of a stretch is judged
-pub is_judged-not_up_to_start : (stretch : Stretch) (i : ℕ) → i ≤ stretch.start → is_judged stretch i ≡ false
-is_judged-not_up_to_start stretch i h = grind (arith, nat_tests)
-
 -- if the last number of a range meets `p`, it is the greatest that does
 pub greatest-here : (p : ℕ → Bool) (f n : ℕ) → f ≤ n → p n ≡ true → greatest p f (n + 1) ≡ Some n
 unfolding greatest

@@ -8,7 +8,7 @@ use Rattle.std.proofs.lemmas.Bool.Decides.{nat_tests}
 use Rattle.std.proofs.lemmas.Bool.{and_from, le-ltb, lt-ltb}
 use Rattle.vme_trace.specs.LineNumbers.{BBSY, line_count}
 use Rattle.vme_trace.specs.Trace.{Trace, last_instant}
-use Rattle.vme_trace.specs.Judged.{Stretch, IsStretchOf, is_judged, is_reset_at, judged_stretches}
+use Rattle.vme_trace.specs.Judged.{Stretch, IsStretchOf, is_reset_at, judged_stretches}
 use Rattle.vme_trace.specs.Transfers.{transfer_starts}
 use Rattle.vme_trace.specs.Cycles.{cycle_starts}
 use Rattle.vme_trace.specs.Tenures.{tenure_starts}
@@ -19,6 +19,7 @@ use Rattle.vme_trace.specs.declared.rule.Rule.{Rule}
 use Rattle.vme_trace.specs.declared.rule.Rule.TheVariants.{U2, B4}
 use Rattle.vme_trace.specs.declared.verdict.Break.{Break}
 use Rattle.vme_trace.proofs.JudgedStretches.{AreInOrder, AreInOrder-judged_stretches, starts_before_end}
+use Rattle.vme_trace.proofs.Unjudged.{is_judged-early}
 use Rattle.vme_listing.specs.Places.{follows, is_allowed_outcome, is_later_place, is_never_idle, is_reset, is_rest}
 use Rattle.vme_listing.specs.Places.{is_row, is_start, is_verdict, is_well_placed, never_idles, place_of}
 use Rattle.vme_listing.specs.Recorded.{cycle_rows, listed_end, listing_before, listing_by, recorded_rows}
@@ -175,14 +176,10 @@ eq-or_below i s h = grind arith
 module _ (t : Trace) (slots : t.opening.slots ≤ 21) (few : length t.steps < 2 ^ 32) where
   -- a stretch, of which instants before `end` are listed
   module _ (stretch : Stretch) (end : ℕ) (within : end ≤ 2 ^ 32) where
-    -- no instant at the start of the stretch or before is judged
-    is_judged-not_early : (i : ℕ) → i ≤ stretch.start → is_judged stretch i ≡ false
-    is_judged-not_early i h = grind (arith, nat_tests)
-
     -- no tenure starts before the start of the stretch
     tenure_rows-none_early : (i : ℕ) → i < stretch.start → tenure_rows t stretch end i ≡ []
     unfolding tenure_rows tenure_starts
-    tenure_rows-none_early i h = rw (unlike i stretch.start h, is_judged-not_early i (omega arith)) refl
+    tenure_rows-none_early i h = rw (unlike i stretch.start h, is_judged-early stretch i (omega arith)) refl
       where
         unlike : (i s : ℕ) → i < s → (i == s) ≡ false
         unlike i s h = grind (arith, nat_tests)
@@ -190,12 +187,12 @@ module _ (t : Trace) (slots : t.opening.slots ≤ 21) (few : length t.steps < 2 
     -- no cycle starts at the start of the stretch or before
     cycle_rows-none_early : (i : ℕ) → i ≤ stretch.start → cycle_rows t stretch end i ≡ []
     unfolding cycle_rows cycle_starts
-    cycle_rows-none_early i h = rw (is_judged-not_early i h) refl
+    cycle_rows-none_early i h = rw (is_judged-early stretch i h) refl
 
     -- no transfer starts at the start of the stretch or before
     transfer_rows-none_early : (i : ℕ) → i ≤ stretch.start → transfer_rows t stretch end i ≡ []
     unfolding transfer_rows transfer_starts
-    transfer_rows-none_early i h = rw (is_judged-not_early i h) refl
+    transfer_rows-none_early i h = rw (is_judged-early stretch i h) refl
 
     -- no row of the stretch begins before its start
     rows_before-none_early : (i : ℕ) → i ≤ stretch.start → rows_before t stretch end i ≡ []

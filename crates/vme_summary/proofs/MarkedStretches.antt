@@ -12,6 +12,7 @@ use Rattle.vme_trace.specs.Signals.{low}
 use Rattle.vme_trace.specs.Judged.{Stretch, is_reset_at}
 use Rattle.vme_trace.specs.Cycles.{cycle_starts}
 use Rattle.vme_trace.proofs.Ranges.{greatest-empty}
+use Rattle.vme_trace.proofs.Unjudged.{is_judged-early}
 use Rattle.vme_listing.specs.Recorded.{cycle_rows, rows_before, tenure_rows, transfer_rows}
 use Rattle.vme_listing.specs.declared.row.Row.{Row}
 use Rattle.vme_listing.specs.declared.row.Row.TheVariants as row
@@ -31,7 +32,7 @@ use Rattle.vme_summary.proofs.Forward.{marks_from}
 use Rattle.vme_summary.proofs.MarkedCuts.{marks_on-before_start, marks_until-same}
 use Rattle.vme_summary.proofs.MarkedKinds.{cycle_starts-unjudged, tenure_starts-unjudged, transfer_starts-unjudged}
 use Rattle.vme_summary.proofs.MarkedKinds.{all_shown-shown_at, shown_at, shown_at-unjudged}
-use Rattle.vme_summary.proofs.MarkedRowsFound.{cycle_rows-of_marks, latest, latest-one_more, is_judged-not_early}
+use Rattle.vme_summary.proofs.MarkedRowsFound.{cycle_rows-of_marks, latest, latest-one_more}
 use Rattle.vme_summary.proofs.MarkedRowsFound.{tenure_rows-of_marks, transfer_rows-of_marks}
 
 -- i isn't j, if it is below j
@@ -89,12 +90,12 @@ module _ (t : Trace) (stretch : Stretch) where
       e
       ∙ (marks-of_opening_kinds (0 == stretch.start) (is_low (level_at t.opening BBSY))
       ∙ sym (ap (λ k. map (mark_at 0) (kinds_of k)) (shown_at-unjudged t stretch 0
-      (is_judged-not_early t stretch 0 (omega arith)))))
+      (is_judged-early stretch 0 (omega arith)))))
 
   -- before the start of the stretch nothing is shown
   pub pieces-none_early : (j : ℕ) → j < stretch.start → pieces (shown_at t stretch) j ≡ []
   pieces-none_early j early = ap (λ k. map (mark_at j) (kinds_of k))
-      (shown_at-unjudged t stretch j (is_judged-not_early t stretch j (omega arith)))
+      (shown_at-unjudged t stretch j (is_judged-early stretch j (omega arith)))
       ∙ rw (eq-fails_below j stretch.start early) refl
 
   -- three tests hold together, if each holds
@@ -156,7 +157,7 @@ module _ (t : Trace) (stretch : Stretch) where
     unfolding tenure_rows
     tenure_rows-none_early i early = rw (
       eq-fails_below i stretch.start early,
-      tenure_starts-unjudged t stretch i (is_judged-not_early t stretch i (omega arith)),
+      tenure_starts-unjudged t stretch i (is_judged-early stretch i (omega arith)),
     )
         refl
 
@@ -164,13 +165,13 @@ module _ (t : Trace) (stretch : Stretch) where
     cycle_rows-none_early : (i : ℕ) → i < stretch.start → cycle_rows t stretch end i ≡ []
     unfolding cycle_rows
     cycle_rows-none_early i early = rw (cycle_starts-unjudged t stretch i
-        (is_judged-not_early t stretch i (omega arith))) refl
+        (is_judged-early stretch i (omega arith))) refl
 
     -- no transfer starts before the start of the stretch
     transfer_rows-none_early : (i : ℕ) → i < stretch.start → transfer_rows t stretch end i ≡ []
     unfolding transfer_rows
     transfer_rows-none_early i early = rw
-        (transfer_starts-unjudged t stretch i (is_judged-not_early t stretch i (omega arith))) refl
+        (transfer_starts-unjudged t stretch i (is_judged-early stretch i (omega arith))) refl
 
     -- the marks of n instants after i
     abbrev later : ℕ → ℕ → List Mark
@@ -205,7 +206,7 @@ module _ (t : Trace) (stretch : Stretch) where
           | inl early ↦ rw (
             eq-fails_below i stretch.start early,
             tenure_starts-unjudged t stretch i
-                (is_judged-not_early t stretch i (omega arith)),
+                (is_judged-early stretch i (omega arith)),
           )
               (sym (tenure_rows-none_early i early))
           | inr from ↦ tenure_rows-of_marks t stretch end within i n from whole
@@ -215,7 +216,7 @@ module _ (t : Trace) (stretch : Stretch) where
     rows_of_marks-cycles : (i n : ℕ) → suc i + n ≡ end → cycle_row_of_marks i n ≡ cycle_rows t stretch end i
     rows_of_marks-cycles i n whole =
         elim (cases_lt i stretch.start) [
-          | inl early ↦ rw (cycle_starts-unjudged t stretch i (is_judged-not_early t stretch i (omega arith)))
+          | inl early ↦ rw (cycle_starts-unjudged t stretch i (is_judged-early stretch i (omega arith)))
               (sym (cycle_rows-none_early i early))
           | inr from ↦ cycle_rows-of_marks t stretch end within i n from whole
         ]

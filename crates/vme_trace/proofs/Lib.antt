@@ -13,4 +13,5 @@ pub mod Ranges
 pub mod SameLevel
 pub mod LevelsEquality
 pub mod StretchEnds
+pub mod Unjudged
 pub mod WellFormedSteps

@@ -7,7 +7,8 @@ use Rattle.std.proofs.Math.Bool.{and-false}
 use Rattle.vme_cert.specs.Vocabulary.{Rule, U1, U2, U4, all_rules, break_at, cycle_starts, is_broken, rule_count}
 use Rattle.vme_cert.specs.Vocabulary.{strobe_falls}
 use Rattle.vme_cert.specs.Instant.{named}
-use Rattle.vme_cert.proofs.Breaks.{break_at-empty, break_at-here, break_at-next, break_at-none, breaks-fails}
+use Rattle.vme_trace.proofs.Unjudged.{break_at-none}
+use Rattle.vme_cert.proofs.Breaks.{break_at-empty, break_at-here, break_at-next, breaks-fails}
 use Rattle.vme_cert.proofs.Breaks.{breaks-other_line, unbroken}
 use Rattle.vme_cert.proofs.Fields.{cycle_starts-is}
 use Rattle.vme_cert.proofs.state.State.break_at.Goals as goal
