@@ -52,13 +52,13 @@ module _ (t : Trace) (stretch : Stretch) where
 
   -- a transfer is answered at j, in a cycle of a chosen class
   abbrev pub answered_in_class : (Class → Bool) → ℕ → Bool
-  answered_in_class chosen j = is_answer t stretch j && in_cycle t stretch (λ i. chosen (class_at t stretch i)) j
+  answered_in_class chosen j = is_answer t stretch j && in_cycle t stretch (λ i. chosen (class_at t i)) j
 
   -- a transfer is answered at j, in a cycle of a chosen class, and another transfer of that cycle was answered before
   abbrev pub answered_again_in_class : (Class → Bool) → ℕ → Bool
   answered_again_in_class chosen j =
       is_answer t stretch j
-      && in_cycle t stretch (λ i. chosen (class_at t stretch i) && has_earlier_answer (answers_of t stretch i j)) j
+      && in_cycle t stretch (λ i. chosen (class_at t i) && has_earlier_answer (answers_of t stretch i j)) j
 
   -- the event happens at instant j of the stretch, after its start
   abbrev pub event_happens : Event → ℕ → Bool

@@ -212,34 +212,34 @@ module _ (t : Trace) (stretch : Stretch) where
   is_block_answered-of_answers class.F rs = refl
 
   -- the cycle at instant j is single and has an answer before j exactly if its phase before j says so
-  in_cycle-single_answered : (j : ℕ) → in_cycle t stretch (λ i. is_single (class_at t stretch i) && has_earlier_answer
+  in_cycle-single_answered : (j : ℕ) → in_cycle t stretch (λ i. is_single (class_at t i) && has_earlier_answer
       (answers_of t stretch i j)) j
       ≡ is_single_answered (cycle_before t stretch j)
   unfolding in_cycle
   in_cycle-single_answered j = by_cycle (cycle_of t stretch j)
     where
       by_cycle : (o : Option ℕ)
-          → option_map_or (λ i. is_single (class_at t stretch i) && has_earlier_answer (answers_of t stretch i j)) o
+          → option_map_or (λ i. is_single (class_at t i) && has_earlier_answer (answers_of t stretch i j)) o
           false
           ≡ is_single_answered (phase_of_cycle t stretch o j)
       by_cycle None = refl
-      by_cycle (Some i) = is_single_answered-of_answers (class_at t stretch i) (answers_of t stretch i j)
+      by_cycle (Some i) = is_single_answered-of_answers (class_at t i) (answers_of t stretch i j)
 
   -- the cycle at instant j is a block transfer and has an answer before j exactly if its phase before j says so
   in_cycle-block_answered : (j : ℕ)
-      → in_cycle t stretch (λ i. is_block_class (class_at t stretch i) && has_earlier_answer
+      → in_cycle t stretch (λ i. is_block_class (class_at t i) && has_earlier_answer
       (answers_of t stretch i j)) j
       ≡ is_block_answered (cycle_before t stretch j)
   unfolding in_cycle
   in_cycle-block_answered j = by_cycle (cycle_of t stretch j)
     where
       by_cycle : (o : Option ℕ)
-          → option_map_or (λ i. is_block_class (class_at t stretch i) && has_earlier_answer (answers_of t stretch i j))
+          → option_map_or (λ i. is_block_class (class_at t i) && has_earlier_answer (answers_of t stretch i j))
           o
           false
           ≡ is_block_answered (phase_of_cycle t stretch o j)
       by_cycle None = refl
-      by_cycle (Some i) = is_block_answered-of_answers (class_at t stretch i) (answers_of t stretch i j)
+      by_cycle (Some i) = is_block_answered-of_answers (class_at t i) (answers_of t stretch i j)
 
 -- the step from instant n to n + 1, both in the stretch, in a well-formed recording; `m` is the memory of the handshake
 -- monitor at n
@@ -346,7 +346,7 @@ module _ (t : Trace) (ok : malformed_step t ≡ None) (few : t.opening.slots ≤
   -- the step shows an answer in a cycle of a chosen class that had one before exactly if a transfer of such a cycle is
   -- answered at n + 1, if the phase says which cycles these are
   again_event : (is : CyclePhase → Bool) (chosen : Class → Bool) → ((k : Class) → is (unanswered_of k) ≡ false)
-      → in_cycle t stretch (λ i. chosen (class_at t stretch i) && has_earlier_answer (answers_of t stretch i (suc n)))
+      → in_cycle t stretch (λ i. chosen (class_at t i) && has_earlier_answer (answers_of t stretch i (suc n)))
       (suc n)
       ≡ is (cycle_before t stretch (suc n))
       → answers_again is m.cycle shown.cycle shown.answer ≡ answered_again_in_class t stretch chosen (suc n)

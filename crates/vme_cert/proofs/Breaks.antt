@@ -125,7 +125,7 @@ is_selected-only_data_lines v l h =
 
 -- at instant j the cycle that starts at i needs the line l: it runs, and isn't answered up to j
 abbrev needs_line : Trace → Stretch → ℕ → ℕ → ℕ → Bool
-needs_line t stretch j l i = cycle_starts t stretch i && cycle_runs t stretch i j && none (is_answer t stretch) i
+needs_line t stretch j l i = cycle_starts t stretch i && cycle_runs t i j && none (is_answer t stretch) i
     (j + 1)
     && is_needed
     (levels_at t i) l
@@ -143,7 +143,7 @@ module _ (t : Trace) (stretch : Stretch) (j l : ℕ) where
   unbroken_elsewhere S1 n h = ap (λ b. has_edge t l j && b)
       (fails-any (needs_line t stretch j l) (stretch.start + 1) j
       (λ i a b. rw (is_needed-only_5_to_44 (levels_at t i) l h)
-      (and-false (cycle_starts t stretch i && cycle_runs t stretch i j && none (is_answer t stretch) i (j + 1)))))
+      (and-false (cycle_starts t stretch i && cycle_runs t i j && none (is_answer t stretch) i (j + 1)))))
       ∙ and-false (has_edge t l j)
   unbroken_elsewhere S3 n h = rw (is_selected-only_data_lines (levels_at t (j - 1)) l h) refl
   unbroken_elsewhere r n h = rw h refl

@@ -433,7 +433,7 @@ module _ (t : Trace) (stretch : Stretch) (j : ℕ) (judged : is_judged stretch j
 
   -- where a cycle starts, it is the last, runs and isn't answered
   pub IsLastCycle-started : (o : Cycle) → IsCycle t stretch j j o → falls t AS j ≡ true → (c : Cycle) → c.start ≡ j
-      → c.class ≡ class_at t stretch j → c.needs ≡ needs_of (levels_at t j) → c.runs ≡ true → c.answered ≡ false
+      → c.class ≡ class_at t j → c.needs ≡ needs_of (levels_at t j) → c.runs ≡ true → c.answered ≡ false
       → c.first_writes ≡ false → c.answered_again ≡ false → c.answered_by_dtack ≡ false
       → IsLastCycle t stretch (j + 1) j c
   unfolding answers_of
@@ -443,7 +443,7 @@ module _ (t : Trace) (stretch : Stretch) (j : ℕ) (judged : is_judged stretch j
       record {
         last = greatest-here (cycle_starts t stretch) (stretch.start + 1) j (is_judged-after_start stretch j judged)
             (cycle_starts-is ∙ here) ∙ ap (λ k. Some k) (sym at);
-        class = class ∙ sym (ap (class_at t stretch) at);
+        class = class ∙ sym (ap (class_at t) at);
         needs = needs ∙ sym (ap (λ k. needs_of (levels_at t k)) at);
         runs = runs ∙ sym (ap (λ k. none (rises t AS) (k + 1) j) at
             ∙ ap not (any-start (rises t AS) (j + 1) j (omega arith)));
@@ -741,36 +741,36 @@ module _ (t : Trace) (stretch : Stretch) (j : ℕ) (judged : is_judged stretch j
     -- what rule C1 asks of the last cycle, by its fields
     pub in_cycle-breaks_read_modify_write : (w : Bool) → w ≡ answers_write t stretch j
         → (c.has_started && (is_single c.class && (c.answered && (c.answered_again || c.first_writes || not w))))
-        ≡ in_cycle t stretch (λ i. is_single (class_at t stretch i)
+        ≡ in_cycle t stretch (λ i. is_single (class_at t i)
         && breaks_read_modify_write t stretch (answers_of t stretch i j)
         j) j
     in_cycle-breaks_read_modify_write w e =
         in_cycle-by_last (is_single c.class && (c.answered && (c.answered_again || c.first_writes || not w))) _
         (λ k. rw (k.class, k.answered, k.answered_again, k.first_writes, e)
-        (ap (λ b. is_single (class_at t stretch c.start) && b)
+        (ap (λ b. is_single (class_at t c.start) && b)
         (breaks_read_modify_write-is t stretch (answers_of t stretch c.start j) j)))
 
     -- what rule C2 asks of the last cycle, by its fields
     pub in_cycle-changes_direction : (w : Bool) → w ≡ answers_write t stretch j
         → (c.has_started && (is_block_class c.class && (c.answered && not (beq c.first_writes w))))
-        ≡ in_cycle t stretch (λ i. is_block_class (class_at t stretch i)
+        ≡ in_cycle t stretch (λ i. is_block_class (class_at t i)
         && changes_direction t stretch (answers_of t stretch i j)
         j) j
     in_cycle-changes_direction w e = in_cycle-by_last
         (is_block_class c.class && (c.answered && not (beq c.first_writes w))) _
         (λ k. rw (k.class, k.answered, k.first_writes, e)
-        (ap (λ b. is_block_class (class_at t stretch c.start) && b)
+        (ap (λ b. is_block_class (class_at t c.start) && b)
         (changes_direction-is t stretch (answers_of t stretch c.start j) j)))
 
     -- the cycle of the instant is an interrupt acknowledge exactly if the fields of the last cycle say so
     pub in_cycle-interrupt : (c.has_started && is_interrupt c.class) ≡ in_cycle t stretch
-        (λ i. is_interrupt (class_at t stretch i)) j
+        (λ i. is_interrupt (class_at t i)) j
     in_cycle-interrupt = in_cycle-by_last (is_interrupt c.class) _ (λ k. ap is_interrupt k.class)
 
     -- the cycle of the instant is an interrupt acknowledge that was answered exactly if the fields of the last cycle
     -- say so
     pub in_cycle-answered_interrupt : (c.has_started && (is_interrupt c.class && c.answered))
-        ≡ in_cycle t stretch (λ i. is_interrupt (class_at t stretch i) && has_earlier_answer (answers_of t stretch i j))
+        ≡ in_cycle t stretch (λ i. is_interrupt (class_at t i) && has_earlier_answer (answers_of t stretch i j))
         j
     in_cycle-answered_interrupt = in_cycle-by_last (is_interrupt c.class && c.answered) _
         (λ k. rw (k.class, k.answered) refl)
@@ -931,7 +931,7 @@ module _ (t : Trace) (stretch : Stretch) (is : IsStretchOf t stretch) where
     module _ (l : ℕ) where
       -- the cycle that starts at i needs the line at j: it runs and isn't answered up to j
       abbrev needs : ℕ → Bool
-      needs i = cycle_starts t stretch i && cycle_runs t stretch i j && none (is_answer t stretch) i (j + 1)
+      needs i = cycle_starts t stretch i && cycle_runs t i j && none (is_answer t stretch) i (j + 1)
           && is_needed
           (levels_at t i) l
 

@@ -31,7 +31,7 @@ module _ (t : Trace) (stretch : Stretch) where
   -- `c` is the last cycle to start before `opened`, as it is before `j`
   pub record IsLastCycle (opened j : ℕ) (c : Cycle) : Type 0 where
     pub last : greatest (cycle_starts t stretch) (stretch.start + 1) opened ≡ Some c.start
-    pub class : c.class ≡ class_at t stretch c.start
+    pub class : c.class ≡ class_at t c.start
     pub needs : c.needs ≡ needs_of (levels_at t c.start)
     pub runs : c.runs ≡ none (rises t AS) (c.start + 1) j
     -- while it runs AS* is low, so none starts; and each earlier one has ended

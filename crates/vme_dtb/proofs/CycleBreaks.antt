@@ -136,7 +136,7 @@ module _ (t : Trace) (stretch : Stretch) (reads : ReadsStrobes t stretch) (n : �
 
   -- n + 1 is in a single cycle that an answer there makes other than a read and then a write
   abbrev read_modify_write_broken : Bool
-  read_modify_write_broken = in_cycle t stretch (λ i. is_single (class_at t stretch i)
+  read_modify_write_broken = in_cycle t stretch (λ i. is_single (class_at t i)
       && breaks_read_modify_write t stretch
       (answers_of t stretch i (suc n)) (suc n)) (suc n)
 
@@ -156,7 +156,7 @@ module _ (t : Trace) (stretch : Stretch) (reads : ReadsStrobes t stretch) (n : �
 
   -- n + 1 is in a block transfer whose direction an answer there changes
   abbrev direction_changed : Bool
-  direction_changed = in_cycle t stretch (λ i. is_block_class (class_at t stretch i) && changes_direction t stretch
+  direction_changed = in_cycle t stretch (λ i. is_block_class (class_at t i) && changes_direction t stretch
       (answers_of t stretch i (suc n)) (suc n)) (suc n)
 
   -- C2 is broken on a line by the tests of its parts
@@ -175,7 +175,7 @@ module _ (t : Trace) (stretch : Stretch) (reads : ReadsStrobes t stretch) (n : �
 
   -- n + 1 is in an interrupt acknowledge with an earlier answer
   abbrev answered_interrupt_acknowledge : Bool
-  answered_interrupt_acknowledge = in_cycle t stretch (λ i. is_interrupt (class_at t stretch i) && has_earlier_answer
+  answered_interrupt_acknowledge = in_cycle t stretch (λ i. is_interrupt (class_at t i) && has_earlier_answer
       (answers_of t stretch i (suc n))) (suc n)
 
   -- I5 is broken on a line by the tests of its parts
@@ -196,7 +196,7 @@ module _ (t : Trace) (stretch : Stretch) (reads : ReadsStrobes t stretch) (n : �
 
   -- n + 1 is in an interrupt acknowledge
   abbrev interrupt_acknowledge : Bool
-  interrupt_acknowledge = in_cycle t stretch (λ i. is_interrupt (class_at t stretch i)) (suc n)
+  interrupt_acknowledge = in_cycle t stretch (λ i. is_interrupt (class_at t i)) (suc n)
 
   -- I4 is broken on a line by the tests of its parts
   breaks-I4 : (l : ℕ) → breaks t stretch I4 (suc n) l ≡ (is_judged stretch (suc n) && has_line t.opening.slots l

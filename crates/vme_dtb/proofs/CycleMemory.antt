@@ -38,7 +38,7 @@ module _ (t : Trace) (stretch : Stretch) where
   -- the phase of the cycle that starts at i, by its answers before n
   abbrev pub phase_of_cycle : Option ℕ → ℕ → CyclePhase
   phase_of_cycle None n = Free
-  phase_of_cycle (Some i) n = phase_by_answers (class_at t stretch i) (answers_of t stretch i n)
+  phase_of_cycle (Some i) n = phase_by_answers (class_at t i) (answers_of t stretch i n)
 
   -- the phase of the cycle to which an answer at j belongs, by the answers before j
   abbrev pub cycle_before : ℕ → CyclePhase
@@ -129,8 +129,8 @@ module _ (t : Trace) (stretch : Stretch) where
     where
       by_start : (b : Bool) → phase_of_cycle (cond b (Some (suc n)) (cycle_of t stretch n)) (suc n)
           ≡ cycle_entered (cycle_after n) (cond b (Some (cycle_start_of (levels_at t (suc n)))) None)
-      by_start true = ap (phase_by_answers (class_at t stretch (suc n))) (answers_of-none (suc n))
-          ∙ phase_by_answers-none (class_at t stretch (suc n))
+      by_start true = ap (phase_by_answers (class_at t (suc n))) (answers_of-none (suc n))
+          ∙ phase_by_answers-none (class_at t (suc n))
       by_start false = refl
 
   -- the phase after instant j is that before j, with the answer at j if there is one
@@ -150,8 +150,8 @@ module _ (t : Trace) (stretch : Stretch) where
       by_cycle : (o : Option ℕ) → cycle_of t stretch j ≡ o → phase_of_cycle o (suc j) ≡ cond (is_answer t stretch j)
           (after_answer (phase_of_cycle o j) (answers_write t stretch j)) (phase_of_cycle o j)
       by_cycle None e = none (is_answer t stretch j) (answers_write t stretch j)
-      by_cycle (Some i) e = ap (phase_by_answers (class_at t stretch i)) (answers_of-next i j (cycle_of-within j i e))
-          ∙ by_answer (class_at t stretch i) (answers_of t stretch i j) (is_answer t stretch j)
+      by_cycle (Some i) e = ap (phase_by_answers (class_at t i)) (answers_of-next i j (cycle_of-within j i e))
+          ∙ by_answer (class_at t i) (answers_of t stretch i j) (is_answer t stretch j)
 
   -- whether an answer at j breaks C1, by the class and the phase
   breaks_read_modify_write-phase : (c : Class) (rs : List ℕ) (j : ℕ)
@@ -238,52 +238,52 @@ module _ (t : Trace) (stretch : Stretch) where
   has_earlier_answer-phase class.F rs = refl
 
   -- the test of C1 on a cycle is the one of its phase
-  pub in_broken_read_modify_write : (j : ℕ) → in_cycle t stretch (λ i. is_single (class_at t stretch i)
+  pub in_broken_read_modify_write : (j : ℕ) → in_cycle t stretch (λ i. is_single (class_at t i)
       && breaks_read_modify_write t stretch
       (answers_of t stretch i j) j) j ≡ is_read_modify_write_broken (cycle_before j) (answers_write t stretch j)
   unfolding in_cycle
   in_broken_read_modify_write j = by_cycle (cycle_of t stretch j)
     where
-      by_cycle : (o : Option ℕ) → option_map_or (λ i. is_single (class_at t stretch i)
+      by_cycle : (o : Option ℕ) → option_map_or (λ i. is_single (class_at t i)
           && breaks_read_modify_write t stretch
           (answers_of t stretch i j) j) o false ≡ is_read_modify_write_broken (phase_of_cycle o j)
           (answers_write t stretch j)
       by_cycle None = refl
-      by_cycle (Some i) = breaks_read_modify_write-phase (class_at t stretch i) (answers_of t stretch i j) j
+      by_cycle (Some i) = breaks_read_modify_write-phase (class_at t i) (answers_of t stretch i j) j
 
   -- the test of C2 on a cycle is the one of its phase
-  pub in_changed_direction : (j : ℕ) → in_cycle t stretch (λ i. is_block_class (class_at t stretch i)
+  pub in_changed_direction : (j : ℕ) → in_cycle t stretch (λ i. is_block_class (class_at t i)
       && changes_direction t stretch (answers_of t stretch i j) j) j ≡ is_direction_changed (cycle_before j)
       (answers_write t stretch j)
   unfolding in_cycle
   in_changed_direction j = by_cycle (cycle_of t stretch j)
     where
-      by_cycle : (o : Option ℕ) → option_map_or (λ i. is_block_class (class_at t stretch i)
+      by_cycle : (o : Option ℕ) → option_map_or (λ i. is_block_class (class_at t i)
           && changes_direction t stretch (answers_of t stretch i j) j) o false
           ≡ is_direction_changed (phase_of_cycle o j)
           (answers_write t stretch j)
       by_cycle None = refl
-      by_cycle (Some i) = changes_direction-phase (class_at t stretch i) (answers_of t stretch i j) j
+      by_cycle (Some i) = changes_direction-phase (class_at t i) (answers_of t stretch i j) j
 
   -- the test of I4 on a cycle is the one of its phase
-  pub in_interrupt_acknowledge : (j : ℕ) → in_cycle t stretch (λ i. is_interrupt (class_at t stretch i)) j
+  pub in_interrupt_acknowledge : (j : ℕ) → in_cycle t stretch (λ i. is_interrupt (class_at t i)) j
       ≡ is_interrupt_acknowledge (cycle_before j)
   unfolding in_cycle
   in_interrupt_acknowledge j = by_cycle (cycle_of t stretch j)
     where
-      by_cycle : (o : Option ℕ) → option_map_or (λ i. is_interrupt (class_at t stretch i)) o false
+      by_cycle : (o : Option ℕ) → option_map_or (λ i. is_interrupt (class_at t i)) o false
           ≡ is_interrupt_acknowledge (phase_of_cycle o j)
       by_cycle None = refl
-      by_cycle (Some i) = is_interrupt-phase (class_at t stretch i) (answers_of t stretch i j)
+      by_cycle (Some i) = is_interrupt-phase (class_at t i) (answers_of t stretch i j)
 
   -- the test of I5 on a cycle is the one of its phase
-  pub in_answered_interrupt_acknowledge : (j : ℕ) → in_cycle t stretch (λ i. is_interrupt (class_at t stretch i)
+  pub in_answered_interrupt_acknowledge : (j : ℕ) → in_cycle t stretch (λ i. is_interrupt (class_at t i)
       && has_earlier_answer (answers_of t stretch i j)) j ≡ is_answered_interrupt_acknowledge (cycle_before j)
   unfolding in_cycle
   in_answered_interrupt_acknowledge j = by_cycle (cycle_of t stretch j)
     where
-      by_cycle : (o : Option ℕ) → option_map_or (λ i. is_interrupt (class_at t stretch i)
+      by_cycle : (o : Option ℕ) → option_map_or (λ i. is_interrupt (class_at t i)
           && has_earlier_answer (answers_of t stretch i j)) o false
           ≡ is_answered_interrupt_acknowledge (phase_of_cycle o j)
       by_cycle None = refl
-      by_cycle (Some i) = has_earlier_answer-phase (class_at t stretch i) (answers_of t stretch i j)
+      by_cycle (Some i) = has_earlier_answer-phase (class_at t i) (answers_of t stretch i j)

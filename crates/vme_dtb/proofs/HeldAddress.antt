@@ -178,7 +178,7 @@ module _ (t : Trace) (stretch : Stretch) where
     starts = (and_parts _ _ (and_parts _ _ held).0).0
 
     -- the cycle runs at n
-    runs : cycle_runs t stretch i n ≡ true
+    runs : cycle_runs t i n ≡ true
     runs = (and_parts _ _ (and_parts _ _ held).0).1
 
     -- the cycle has no answer up to n
@@ -186,7 +186,7 @@ module _ (t : Trace) (stretch : Stretch) where
     unanswered = (and_parts _ _ held).1
 
     -- the cycle runs at each instant up to n
-    cycle_runs-to : (k : ℕ) → k ≤ n → cycle_runs t stretch i k ≡ true
+    cycle_runs-to : (k : ℕ) → k ≤ n → cycle_runs t i k ≡ true
     unfolding cycle_runs
     cycle_runs-to k h = none-shorter (rises t AS) (i + 1) (k + 1) (n + 1) (omega arith) runs
 
@@ -242,7 +242,7 @@ module _ (t : Trace) (stretch : Stretch) where
     low-cycle_start h = (and_parts _ _ (and_parts _ _ h).1).1
 
     -- AS* doesn't rise while a cycle runs
-    rises-none_in_cycle : cycle_runs t stretch i n ≡ true → (k : ℕ) → i ≤ k → suc k ≤ n
+    rises-none_in_cycle : cycle_runs t i n ≡ true → (k : ℕ) → i ≤ k → suc k ≤ n
         → (low t AS k && high t AS (suc k)) ≡ false
     unfolding cycle_runs rises
     rises-none_in_cycle h k from to =
@@ -287,7 +287,7 @@ module _ (t : Trace) (stretch : Stretch) where
     still_held = any (holds_address t stretch (suc n)) (stretch.start + 1) (suc n)
 
     -- a cycle that runs at n + 1 runs at n
-    cycle_runs-before : (i : ℕ) → cycle_runs t stretch i (suc n) ≡ true → cycle_runs t stretch i n ≡ true
+    cycle_runs-before : (i : ℕ) → cycle_runs t i (suc n) ≡ true → cycle_runs t i n ≡ true
     unfolding cycle_runs
     cycle_runs-before i h = none-shorter (rises t AS) (i + 1) (n + 1) (suc n + 1) (omega arith) h
 
@@ -295,9 +295,9 @@ module _ (t : Trace) (stretch : Stretch) where
     holds_address-before : (i : ℕ) → i ≤ n → holds_address t stretch (suc n) i ≡ true → holds_address t stretch n i
         ≡ true
     holds_address-before i order h =
-        let two = and_parts (cycle_starts t stretch i && cycle_runs t stretch i (suc n))
+        let two = and_parts (cycle_starts t stretch i && cycle_runs t i (suc n))
         (none (is_answer t stretch) i (suc n + 1)) h in
-        let one = and_parts (cycle_starts t stretch i) (cycle_runs t stretch i (suc n)) two.0 in
+        let one = and_parts (cycle_starts t stretch i) (cycle_runs t i (suc n)) two.0 in
         rw (
           one.0,
           cycle_runs-before i one.1,

@@ -125,7 +125,7 @@ direction-next_by_strobes false false l false false fresh still low back = refl
 module _ (t : Trace) (stretch : Stretch) where
   -- a cycle that started at i runs at n, and has had no answer
   abbrev pub holds_address : ℕ → ℕ → Bool
-  holds_address n i = cycle_starts t stretch i && cycle_runs t stretch i n && none (is_answer t stretch) i (n + 1)
+  holds_address n i = cycle_starts t stretch i && cycle_runs t i n && none (is_answer t stretch) i (n + 1)
 
   -- a transfer started at i, and no strobe has risen since
   abbrev pub holds_direction : ℕ → ℕ → Bool
@@ -228,13 +228,13 @@ module _ (t : Trace) (stretch : Stretch) where
         ) refl
 
     -- a cycle that started up to n runs at n + 1 exactly if it runs at n and AS* doesn't rise
-    cycle_runs-next : (i : ℕ) → i ≤ n → cycle_runs t stretch i (suc n)
-        ≡ (cycle_runs t stretch i n && not (rises t AS (suc n)))
+    cycle_runs-next : (i : ℕ) → i ≤ n → cycle_runs t i (suc n)
+        ≡ (cycle_runs t i n && not (rises t AS (suc n)))
     unfolding cycle_runs
     cycle_runs-next i h = none-next (rises t AS) (i + 1) n (omega arith)
 
     -- a cycle runs at its start
-    cycle_runs-start : cycle_runs t stretch (suc n) (suc n) ≡ true
+    cycle_runs-start : cycle_runs t (suc n) (suc n) ≡ true
     unfolding cycle_runs
     cycle_runs-start = none-empty (rises t AS) (suc n + 1)
 
@@ -242,7 +242,7 @@ module _ (t : Trace) (stretch : Stretch) where
     pub holds_address-next : (i : ℕ) → stretch.start + 1 ≤ i → i ≤ n → holds_address (suc n) i
         ≡ (holds_address n i && (not (rises t AS (suc n)) && not (is_answer t stretch (suc n))))
     holds_address-next i a b = rw (cycle_runs-next i b, none-next (is_answer t stretch) i n (omega arith))
-        (regroup (cycle_starts t stretch i) (cycle_runs t stretch i n) (not (rises t AS (suc n)))
+        (regroup (cycle_starts t stretch i) (cycle_runs t i n) (not (rises t AS (suc n)))
         (none (is_answer t stretch) i (n + 1)) (not (is_answer t stretch (suc n))))
       where
         regroup : (a b c d e : Bool) → (a && (b && c) && (d && e)) ≡ ((a && b && d) && (c && e))
