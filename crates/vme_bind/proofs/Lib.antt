@@ -3,7 +3,6 @@ pub mod BindingLemmas
 pub mod BoundGroupLemmas
 pub mod PathSearchLemmas
 pub mod FoundLemmas
-pub mod SameLevel
 pub mod RecorderLemmas
 pub mod CaptureLemmas
 pub mod StepsLemmas

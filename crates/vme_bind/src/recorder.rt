@@ -88,7 +88,7 @@ pub(crate) fn level_by_digits(line_bit: LineBit, size: u32, digits: &[u8]) -> Le
 }
 
 /// Whether the two levels are equal. One comparison of their variants decides it.
-#[tactic(auto, using(crate::proofs::SameLevel::same))]
+#[tactic(auto, using(vme_trace::proofs::SameLevel::sameb_is_same_level))]
 #[inline(always)]
 fn is_same(first: Level, second: Level) -> bool
     ensures { result ≡ same_level first second }

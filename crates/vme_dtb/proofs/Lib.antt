@@ -11,7 +11,6 @@ pub mod StillSteps
 pub mod HandshakeInstants
 pub mod HandshakeJudges
 pub mod Faults
-pub mod SameLevel
 pub mod UsualEdges
 pub mod UsualNexts
 pub mod ChangedLines

@@ -37,7 +37,7 @@ pub struct Edges {
 }
 
 /// Whether a bused line keeps its level.
-#[tactic(auto, using(crate::proofs::SameLevel::sameb_is_same_level))]
+#[tactic(auto, using(vme_trace::proofs::SameLevel::sameb_is_same_level))]
 pub(crate) fn stays(before: &Lines, after: &Lines, line: Line) -> bool
     requires { line < grant 0 0 }
     ensures { result ≡ stays_on before.now after.now line }
