@@ -2,13 +2,14 @@
 use Rattle.std.proofs.Common.{◌≡◌, ◌⊎◌, ℕ, ◌+◌, ◌<◌, ◌≤◌, Bool, true, false, ◌||◌, if◌then◌else◌, nat_eq, List, [], ◌∷◌}
 use Rattle.std.proofs.Common.{◌++◌, flat_map, length, get_or, set, take, drop, map, inl, inr}
 use Rattle.std.proofs.Common.{refl, sym, ap, subst, ◌∙◌, add-zero, append-nil, append_assoc, take-append-drop}
-use Rattle.std.specs.List.{AllZip, list_any}
+use Rattle.std.specs.List.{list_any}
 use Rattle.std.proofs.lemmas.Bool.{eq-eqb, eqb-false}
 use Rattle.std.proofs.lemmas.Grind.{flat_map-append}
 use Rattle.std.proofs.lemmas.List.{get_or-drop, map-append, take_all, take_more, take_more_set}
 use Rattle.std.proofs.lemmas.List.Folds.{list_any-append}
 use Rattle.std.proofs.lemmas.Simd.{map-map}
 use Rattle.vme_trace.specs.Streams.{Reading, Writing}
+use Rattle.vme_trace.proofs.ListLaws.{AllZip-push}
 use Rattle.vme_bind.specs.Binding.{BoundLines}
 use Rattle.vme_bind.proofs.PathSearchLemmas.{drop-set_same_rest}
 use Rattle.vme_stream.specs.Outputs.{TriesToWrite, Writes}
@@ -106,14 +107,6 @@ pub TriesEach-one : (a b : Writing) (x : List ℕ) → TriesToWrite a b x → Tr
 TriesEach-one a b x one = (b, one, refl)
 
 -- ---- each dump
-
--- two lists of which R holds, and one element more of each, of which it holds
-AllZip-push : {A B : Type 0} (R : A → B → Type 0) (xs : List A) (ys : List B) (x : A) (y : B) → AllZip R xs ys → R x y
-    → AllZip R (xs ++ x ∷ []) (ys ++ y ∷ [])
-AllZip-push R [] [] x y none is = (is, tt)
-AllZip-push R [] (y ∷ ys) u v none is = absurd none
-AllZip-push R (x ∷ xs) [] u v none is = absurd none
-AllZip-push R (x ∷ xs) (y ∷ ys) u v each is = (each.0, AllZip-push R xs ys u v each.1 is)
 
 -- what f gives for a list, and then for x, is what it gives for the list and x
 flat_map-push : {X A : Type 0} (f : X → List A) (xs : List X) (x : X) → flat_map f xs ++ f x ≡ flat_map f (xs ++ x ∷ [])

@@ -4,14 +4,7 @@ use Rattle.std.proofs.Common.{sym, ap, subst, ◌∙◌}
 use Rattle.std.specs.List.{AllZip}
 use Rattle.std.proofs.lemmas.List.{get_or-map, length-map, take_more}
 use Rattle.std.proofs.lemmas.List.Elements.{All-more}
-
--- two lists of which R holds, and one element more of each, of which it holds
-AllZip-push : {A B : Type 0} (R : A → B → Type 0) (xs : List A) (ys : List B) (x : A) (y : B) → AllZip R xs ys → R x y
-    → AllZip R (xs ++ x ∷ []) (ys ++ y ∷ [])
-AllZip-push R [] [] x y none is = (is, tt)
-AllZip-push R [] (y ∷ ys) u v none is = absurd none
-AllZip-push R (x ∷ xs) [] u v none is = absurd none
-AllZip-push R (x ∷ xs) (y ∷ ys) u v each is = (each.0, AllZip-push R xs ys u v each.1 is)
+use Rattle.vme_trace.proofs.ListLaws.{AllZip-push}
 
 -- x is the item at index i of the list
 module _ {X Y : Type 0} (f : X → Y) (xs : List X) (i : ℕ) (x : X) (lt : i < length xs) (is : x ≡ get_or xs i x) where

@@ -2,6 +2,7 @@
 use Rattle.std.proofs.Common.{◌≡◌, ◌≢◌, ◌⊎◌, ℕ, zero, suc, ◌+◌, ◌<◌, List, [], ◌∷◌, ◌++◌, length, set, take, drop}
 use Rattle.std.proofs.Common.{refl, sym, ap, ◌∙◌, arith, inl, inr, ⊎_elim}
 use Rattle.std.specs.Prelude.{All, Option, None, Some, slice_get}
+use Rattle.std.specs.List.{AllZip}
 use Rattle.std.specs.Option.{option_or}
 use Rattle.std.proofs.Math.Nat.{zero-add}
 use Rattle.std.proofs.Math.Seq.{drop-append_seam, take-append_seam}
@@ -56,6 +57,14 @@ module _ {A : Type 0} where
   slice_get-set_elsewhere (y ∷ ys) zero (suc k) x ne = refl
   slice_get-set_elsewhere (y ∷ ys) (suc i) zero x ne = refl
   slice_get-set_elsewhere (y ∷ ys) (suc i) (suc k) x ne = slice_get-set_elsewhere ys i k x (λ e. ne (ap suc e))
+
+-- two lists of which R holds, and one element more of each, of which it holds
+pub AllZip-push : {A B : Type 0} (R : A → B → Type 0) (xs : List A) (ys : List B) (x : A) (y : B) → AllZip R xs ys → R x y
+    → AllZip R (xs ++ x ∷ []) (ys ++ y ∷ [])
+AllZip-push R [] [] x y none is = (is, tt)
+AllZip-push R [] (y ∷ ys) u v none is = absurd none
+AllZip-push R (x ∷ xs) [] u v none is = absurd none
+AllZip-push R (x ∷ xs) (y ∷ ys) u v each is = (each.0, AllZip-push R xs ys u v each.1 is)
 
 -- what all elements of `xs ++ ys` have, all of `xs` have
 pub All-front : {A : Type 0} (P : A → Type 0) (xs ys : List A) → All P (xs ++ ys) → All P xs
