@@ -1,15 +1,10 @@
 -- A net that is added for a code without one leaves what is read of a body without a fault as it was.
-use Rattle.std.proofs.Common.{◌≡◌, ℕ, zero, suc, ◌+◌, ◌<◌, ◌≤◌, Bool, true, false, cond, eqb, ltb, not, List, [], ◌∷◌}
+use Rattle.std.proofs.Common.{◌≡◌, ℕ, zero, suc, ◌+◌, ◌<◌, Bool, true, false, cond, eqb, List, [], ◌∷◌}
 use Rattle.std.proofs.Common.{◌++◌}
 use Rattle.std.proofs.Common.{Option, Some, None, Result, Ok, Err, refl, sym, ap, subst, ◌∙◌, arith, length, zero-add}
 use Rattle.std.proofs.Common.{true≢false}
 use Rattle.std.specs.Prelude.{bytes_eq, map, nat_eq, nat_lt, unwrap_or, filter_map, option_map, ◌&&◌}
 use Rattle.std.specs.List.{cons_option, dedup, range_with_len}
-use Rattle.std.specs.Map.{update}
-use Rattle.std.specs.List.{position, position_or_len}
-use Rattle.std.proofs.lemmas.List.Folds.{position_or_len_push}
-use Rattle.std.proofs.lemmas.List.Sums.{prefix_len-le-length}
-use Rattle.std.proofs.lemmas.Option.{none-some}
 use Rattle.std.proofs.lemmas.Bool.Decides.{nat_tests}
 use Rattle.std.proofs.lemmas.List.{length_push, append-nil}
 use Rattle.std.proofs.lemmas.List.Elements.{filter_map-append}
@@ -20,64 +15,14 @@ use Rattle.vcd_read.specs.declared.fault.FaultKind.{FaultKind}
 use Rattle.vcd_read.specs.declared.fault.FaultKind.TheVariants.{TooWide}
 use Rattle.vcd_read.specs.declared.fault.VcdFault.{VcdFault}
 use Rattle.vcd_read.specs.Numbers.{extended, number}
-use Rattle.vcd_read.specs.Header.{◌>>=◌, Net, at_line, has_code, net_of, size_of}
+use Rattle.vcd_read.specs.Header.{◌>>=◌, Net, at_line, net_of, size_of}
 use Rattle.vcd_read.specs.Body.{BodyItem, BodyContext, at_the_end, dump_section_end, dump_section_open, change}
 use Rattle.vcd_read.specs.Body.{first_context}
 use Rattle.vcd_read.specs.Body.{fitting, skipped, context_after, context_after_all, time_item, wrong}
 use Rattle.vcd_read.specs.Meaning.{NetChange, change_of, changes_from, instant_at, instants_of, last_at, times_from}
 use Rattle.vcd_read.specs.Meaning.{value_at, values_at}
-use Rattle.vcd_read.proofs.CodesLemmas.{net_of-within}
+use Rattle.vcd_read.proofs.CodesLemmas.{net_of-push, net_of-within, size_of-before}
 use Rattle.vcd_places.proofs.SkippedLemmas.{instants_in}
-
--- ---- where the net of a code is found
-
--- the place `k`, if it is below `n`
-abbrev place_below : ℕ → ℕ → Option ℕ
-place_below k n = cond (ltb k n) (Some k) None
-
--- the place of the first element that passes, after one more element, which passes if `b` holds
-place_below-push : (k n k2 n2 : ℕ) (b : Bool) → k ≤ n → n2 ≡ n + 1 → k2 ≡ cond (eqb k n) (n + cond b 0 1) k
-    → place_below k2 n2 ≡ cond (ltb k n) (place_below k n) (cond b (Some n) None)
-place_below-push k n k2 n2 true le e is = grind (arith, nat_tests)
-place_below-push k n k2 n2 false le e is = grind (arith, nat_tests)
-
--- in a list with one more element, the first that passes is that of the list, or else the new one, if it passes
-position-push : {X : Type 0} (p : X → Bool) (xs : List X) (y : X) → position p (xs ++ y ∷ [])
-    ≡ cond (ltb (position_or_len p xs) (length xs)) (position p xs) (cond (p y) (Some (length xs)) None)
-position-push p xs y =
-    place_below-push (position_or_len p xs) (length xs) (position_or_len p (xs ++ y ∷ [])) (length (xs ++ y ∷ [])) (p y)
-    (prefix_len-le-length (λ x. not (p x)) xs) (length_push xs y) (position_or_len_push p xs y)
-
--- what was found before, or else the new place if `c` holds, is the new place if `c` holds, or else what was found
--- before: `c` holds only where nothing was found
-new_or_before : (b c : Bool) (k n : ℕ) (o before : Option ℕ) → before ≡ cond b (Some k) None → o
-    ≡ cond b before (cond c (Some n) None) → (c ≡ true → before ≡ None) → o ≡ cond c (Some n) before
-new_or_before true true k n o before e is h = absurd (none-some k (sym (h refl) ∙ e))
-new_or_before true false k n o before e is h = is
-new_or_before false true k n o before e is h = is
-new_or_before false false k n o before e is h = is ∙ sym e
-
--- after a net for `code` is added, `code` has the new net, and each other code the one that it had
-pub net_of-push : (nets : List Net) (code : List ℕ) (size : ℕ) → net_of nets code ≡ None → (other : List ℕ)
-    → net_of (nets ++ record { code = code; size = size } ∷ []) other ≡ update bytes_eq (net_of nets) code
-    (Some (length nets)) other
-net_of-push nets code size none other =
-    new_or_before (ltb (position_or_len (has_code other) nets) (length nets)) (bytes_eq code other)
-    (position_or_len (has_code other) nets) (length nets)
-    (net_of (nets ++ record { code = code; size = size } ∷ []) other) (net_of nets other)
-    refl
-    (position-push (has_code other) nets (record { code = code; size = size }))
-    (λ same. ap (net_of nets) (sym ((bytes_eq-Decides code other).0 same)) ∙ none)
-
--- ---- the size
-
--- the size of a net stays
-size_of-before : (nets : List Net) (more : Net) (net : ℕ) → net < length nets
-    → size_of (nets ++ more ∷ []) net ≡ size_of nets net
-unfolding size_of
-size_of-before [] more net lt = absurd (omega (arith, lt))
-size_of-before (n ∷ nets) more zero lt = refl
-size_of-before (n ∷ nets) more (suc net) lt = size_of-before nets more net (omega (arith, lt))
 
 -- ---- lists
 
@@ -149,7 +94,7 @@ module _ (nets : List Net) (code : List ℕ) (size : ℕ) (none : net_of nets co
   fitting-all digits other net is =
       ap (fitting all digits) (net_of-all other net is)
       ∙ ap (λ (n : ℕ). cond (nat_lt n digits) (Err TooWide) (Ok net))
-      (size_of-before nets added net (net_of-below other net is))
+      (size_of-before nets net added (net_of-below other net is))
       ∙ sym (ap (fitting nets digits) is)
 
   -- a code that fits has a net
@@ -204,7 +149,7 @@ module _ (nets : List Net) (code : List ℕ) (size : ℕ) (none : net_of nets co
         bits = extended (size_of all (unwrap_or o 0)) digits;
       }) (net_of-all other net is)
       ∙ ap (λ (n : ℕ). record { time = now; net = net; bits = extended n digits })
-      (size_of-before nets added net (net_of-below other net is))
+      (size_of-before nets net added (net_of-below other net is))
       ∙ sym (ap (λ (o : Option ℕ). record {
         time = now;
         net = unwrap_or o 0;

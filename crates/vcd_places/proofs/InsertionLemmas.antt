@@ -1,13 +1,12 @@
 -- A text into which something is put, at white space, is read as the text, with the tokens that are put in between.
-use Rattle.std.proofs.Common.{◌≡◌, ℕ, ◌+◌, Bool, true, false, cond, eqb, List, [], ◌∷◌, ◌++◌}
-use Rattle.std.proofs.Common.{refl, sym, ap, ◌∙◌, arith, append_assoc, true≢false, zero-add}
+use Rattle.std.proofs.Common.{◌≡◌, ℕ, Bool, true, false, eqb, List, [], ◌∷◌, ◌++◌}
+use Rattle.std.proofs.Common.{refl, sym, ap, ◌∙◌, append_assoc, true≢false, zero-add}
 use Rattle.std.specs.Prelude.{Option, Some, Result, Ok, Err, not, ◌||◌, flat_map, is_some, map, unwrap_or}
-use Rattle.std.specs.List.{count_by, list_all, list_any}
-use Rattle.std.proofs.lemmas.List.Sums.{sum_by-cons}
+use Rattle.std.specs.List.{list_all, list_any}
 use Rattle.std.proofs.lemmas.Bool.{and_parts, not-true}
 use Rattle.vcd_read.specs.declared.dump.Variable.{Variable}
 use Rattle.vcd_read.specs.declared.fault.VcdFault.{VcdFault}
-use Rattle.vcd_read.specs.Tokens.{Cut, Token, all_of, cut_from, is_space, next_line, token_of, tokens, tokens_from}
+use Rattle.vcd_read.specs.Tokens.{Token, all_of, cut_from, is_space, next_line, tokens_from}
 use Rattle.vcd_read.specs.Tokens.{with_byte}
 use Rattle.vcd_read.specs.Reading.{line_behind}
 use Rattle.vcd_read.specs.Header.{Header, HeaderItem, HeaderPlace, Section, between, ends_definitions, header_from}
@@ -15,47 +14,11 @@ use Rattle.vcd_read.specs.Header.{inside}
 use Rattle.vcd_read.specs.Header.{is_end, opened, opens_section, stray, unfinished, whole, with_item, with_word}
 use Rattle.vcd_read.specs.Header.{◌>>=◌, Declared, at_line, declare_all, declare_section}
 use Rattle.vcd_read.specs.Body.{body_from, ready, skipped}
+use Rattle.vcd_read.proofs.PieceLemmas.{line_behind-cons, line_behind-one, spaced, token_of-append}
+use Rattle.vcd_read.proofs.PieceLemmas.{with_byte-with_tokens, with_tokens}
 use Rattle.vcd_places.specs.Places.{ends_at_boundary, is_unfinished, starts_at_boundary}
 
 -- ---- the tokens
-
--- `cut` with the tokens `more` after it
-abbrev with_tokens : Cut → List Token → Cut
-with_tokens cut more = record { run = cut.run; others = cut.others ++ more }
-
--- the cut of a text that begins with white space: no run, and `tokens`
-abbrev spaced : List Token → Cut
-spaced tokens = record { run = []; others = tokens }
-
--- a run and the tokens after it, with `more` after these, are the run and the tokens, and then `more`
-token_of-append : (line : ℕ) (run : List ℕ) (others more : List Token) → token_of line run (others ++ more)
-    ≡ token_of line run others ++ more
-token_of-append line [] others more = refl
-token_of-append line (b ∷ run) others more = refl
-
-module _ (line b : ℕ) (cut : Cut) (more : List Token) where
-  -- whether the byte is a space (`s`) or not
-  by_space : (s : Bool) → is_space b ≡ s → with_byte line b (with_tokens cut more)
-      ≡ with_tokens (with_byte line b cut) more
-  by_space true e = rw (e, token_of-append (next_line line b) cut.run cut.others more) refl
-  by_space false e = rw e refl
-
-  -- a byte put before a cut with the tokens `more` after it is the byte put before the cut, and then `more`
-  with_byte-with_tokens : with_byte line b (with_tokens cut more) ≡ with_tokens (with_byte line b cut) more
-  with_byte-with_tokens = by_space (is_space b) refl
-
--- the line feeds of one byte more, which is one if `test` holds, are counted in the line or in the rest
-line-one_byte_more : (test : Bool) (count n line : ℕ) → count ≡ cond test 1 0 + n → count + line
-    ≡ n + cond test (line + 1) line
-line-one_byte_more true count n line e = omega (arith, e)
-line-one_byte_more false count n line e = omega (arith, e)
-
--- the line after a byte and others is that after the others, from the line after the byte on
-line_behind-cons : (line b : ℕ) (bytes : List ℕ) → line_behind line (b ∷ bytes) ≡ line_behind (next_line line b) bytes
-line_behind-cons line b bytes =
-    line-one_byte_more (eqb b 10) (count_by (λ (x : ℕ). eqb x 10) (b ∷ bytes)) (count_by (λ (x : ℕ). eqb x 10) bytes)
-    line
-    (sum_by-cons (λ (x : ℕ). cond (eqb x 10) 1 0) b bytes)
 
 -- the cut of a text that is empty or begins with white space has no run
 cut_from-detached : (line : ℕ) (rest : List ℕ) → starts_at_boundary rest ≡ true
@@ -85,10 +48,6 @@ tokens_from-append_detached front rest line e =
     let cut = cut_from line front in
     ap (all_of line) (cut_from-append_detached front rest line e) ∙ token_of-append line cut.run cut.others
     (tokens_from (line_behind line front) rest)
-
--- the line after one byte is its next line
-line_behind-one : (line b : ℕ) → line_behind line (b ∷ []) ≡ next_line line b
-line_behind-one line b = line_behind-cons line b [] ∙ zero-add (next_line line b)
 
 -- if `front`, with the byte b before it, ends with white space, the cut of both and `rest` is that of both, with the
 -- tokens of `rest` after it

@@ -52,7 +52,7 @@ new_or_before false true k n o before e is h = is
 new_or_before false false k n o before e is h = is ∙ sym e
 
 -- after a net is added for a new code, this code has it, and other codes have the nets that they had
-net_of-push : (nets : List Net) (code : List ℕ) (size : ℕ) → net_of nets code ≡ None → (other : List ℕ)
+pub net_of-push : (nets : List Net) (code : List ℕ) (size : ℕ) → net_of nets code ≡ None → (other : List ℕ)
     → net_of (nets ++ record { code = code; size = size } ∷ []) other ≡ update bytes_eq (net_of nets) code
     (Some (length nets)) other
 net_of-push nets code size none other =
@@ -101,7 +101,7 @@ code-one_byte (byte ∷ []) least below = refl
 code-one_byte (byte ∷ next ∷ rest) least below = absurd (omega (arith, below))
 
 -- a net that is added changes no size of the nets before it
-size_of-before : (nets : List Net) (i : ℕ) (n : Net) → i < length nets → size_of (nets ++ n ∷ []) i ≡ size_of nets i
+pub size_of-before : (nets : List Net) (i : ℕ) (n : Net) → i < length nets → size_of (nets ++ n ∷ []) i ≡ size_of nets i
 unfolding size_of
 size_of-before [] i n lt = absurd (omega (arith, lt))
 size_of-before (m ∷ nets) zero n lt = refl

@@ -9,11 +9,11 @@ use Rattle.vcd_read.specs.Tokens.{Cut, Token, all_of, cut_from, is_space, next_l
 use Rattle.vcd_read.specs.Reading.{line_behind}
 
 -- `cut` with the tokens `more` after it
-abbrev with_tokens : Cut → List Token → Cut
+abbrev pub with_tokens : Cut → List Token → Cut
 with_tokens cut more = record { run = cut.run; others = cut.others ++ more }
 
 -- a run and the tokens after it, with `more` after these, are the run and the tokens, and then `more`
-token_of-append : (line : ℕ) (run : List ℕ) (others more : List Token) → token_of line run (others ++ more)
+pub token_of-append : (line : ℕ) (run : List ℕ) (others more : List Token) → token_of line run (others ++ more)
     ≡ token_of line run others ++ more
 token_of-append line [] others more = refl
 token_of-append line (b ∷ run) others more = refl
@@ -26,7 +26,7 @@ module _ (line b : ℕ) (cut : Cut) (more : List Token) where
   by_space false e = rw e refl
 
   -- a byte put before a cut with the tokens `more` after it is the byte put before the cut, and then `more`
-  with_byte-with_tokens : with_byte line b (with_tokens cut more) ≡ with_tokens (with_byte line b cut) more
+  pub with_byte-with_tokens : with_byte line b (with_tokens cut more) ≡ with_tokens (with_byte line b cut) more
   with_byte-with_tokens = by_space (is_space b) refl
 
 -- the line feeds of one byte more, which is one if `test` holds, are counted in the line or in the rest
@@ -36,14 +36,15 @@ line-one_byte_more true count n line e = omega (arith, e)
 line-one_byte_more false count n line e = omega (arith, e)
 
 -- the line after a byte and others is that after the others, from the line after the byte on
-line_behind-cons : (line b : ℕ) (bytes : List ℕ) → line_behind line (b ∷ bytes) ≡ line_behind (next_line line b) bytes
+pub line_behind-cons : (line b : ℕ) (bytes : List ℕ) → line_behind line (b ∷ bytes)
+    ≡ line_behind (next_line line b) bytes
 line_behind-cons line b bytes =
     line-one_byte_more (eqb b 10) (count_by (λ (x : ℕ). eqb x 10) (b ∷ bytes)) (count_by (λ (x : ℕ). eqb x 10) bytes)
     line
     (sum_by-cons (λ (x : ℕ). cond (eqb x 10) 1 0) b bytes)
 
 -- the line after one byte is its next line
-line_behind-one : (line b : ℕ) → line_behind line (b ∷ []) ≡ next_line line b
+pub line_behind-one : (line b : ℕ) → line_behind line (b ∷ []) ≡ next_line line b
 line_behind-one line b = line_behind-cons line b [] ∙ zero-add (next_line line b)
 
 -- the line feeds before a place, and those after it, may be counted one after the other
@@ -59,8 +60,8 @@ line_behind-rest line text at =
     (count_by (λ (x : ℕ). eqb x 10) text) line
     (sum_by-take-drop (λ (x : ℕ). cond (eqb x 10) 1 0) text at)
 
--- the cut of a text that begins with a space: no run, and `tokens`
-abbrev spaced : List Token → Cut
+-- the cut of a text that begins with white space: no run, and `tokens`
+abbrev pub spaced : List Token → Cut
 spaced tokens = record { run = []; others = tokens }
 
 -- a text is cut up to and with a space, and then after it

@@ -59,8 +59,8 @@ module _ {A : Type 0} where
   slice_get-set_elsewhere (y ∷ ys) (suc i) (suc k) x ne = slice_get-set_elsewhere ys i k x (λ e. ne (ap suc e))
 
 -- two lists of which R holds, and one element more of each, of which it holds
-pub AllZip-push : {A B : Type 0} (R : A → B → Type 0) (xs : List A) (ys : List B) (x : A) (y : B) → AllZip R xs ys → R x y
-    → AllZip R (xs ++ x ∷ []) (ys ++ y ∷ [])
+pub AllZip-push : {A B : Type 0} (R : A → B → Type 0) (xs : List A) (ys : List B) (x : A) (y : B) → AllZip R xs ys
+    → R x y → AllZip R (xs ++ x ∷ []) (ys ++ y ∷ [])
 AllZip-push R [] [] x y none is = (is, tt)
 AllZip-push R [] (y ∷ ys) u v none is = absurd none
 AllZip-push R (x ∷ xs) [] u v none is = absurd none
