@@ -4,7 +4,7 @@ use Rattle.vme_trace.specs.LineNumbers.{AS, DS0, DS1, DTACK, BERR, IACK, WRITE, 
 use Rattle.vme_trace.specs.declared.rule.Rule.TheVariants.{I1, I2, I3, I4, I5}
 use Rattle.vme_trace.specs.declared.verdict.Verdict.TheVariants.{Conforming, Broken}
 use Rattle.vme_eval.specs.Recording.{Recording}
-use Rattle.vme_eval.specs.Steps.{low, high, asking, acknowledging, once_granted}
+use Rattle.vme_eval.specs.Steps.{low, high, addressing, acknowledging, once_granted}
 
 -- slot 1 passes an acknowledge of level 5 on
 unfoldable pub acknowledge_cycle : Recording
@@ -43,7 +43,7 @@ acknowledge_skips_slot = record {
 -- slot 1 passes an acknowledge on while there is none
 unfoldable pub acknowledge_outside_an_acknowledge_cycle : Recording
 acknowledge_outside_an_acknowledge_cycle = record {
-  trace = once_granted (asking ∷ (low AS ∷ []) ∷ (low DS0 ∷ []) ∷ (low (iack 1) ∷ []) ∷ []);
+  trace = once_granted (addressing ∷ (low AS ∷ []) ∷ (low DS0 ∷ []) ∷ (low (iack 1) ∷ []) ∷ []);
   verdict = Broken (record { instant = 11; time = 100; rule = I1; line = iack 1 });
   rows =
       codes "start 1" ∷ codes "tenure 5 level 3 slot 2 end -" ∷ codes "cycle 9 S 39 FFFFDE end -"
@@ -175,7 +175,8 @@ acknowledge_after_an_answer_at_the_start = record {
 unfoldable pub acknowledge_after_the_answer_of_a_data_cycle : Recording
 acknowledge_after_the_answer_of_a_data_cycle = record {
   trace =
-      once_granted (asking ∷ (low AS ∷ []) ∷ (low DS0 ∷ []) ∷ (low DTACK ∷ low IACK ∷ []) ∷ (low (iack 1) ∷ []) ∷ []);
+      once_granted (addressing ∷ (low AS ∷ []) ∷ (low DS0 ∷ []) ∷ (low DTACK ∷ low IACK ∷ []) ∷ (low (iack 1) ∷ [])
+      ∷ []);
   verdict = Broken (record { instant = 12; time = 110; rule = I3; line = iack 1 });
   rows =
       codes "start 1" ∷ codes "tenure 5 level 3 slot 2 end -" ∷ codes "cycle 9 S 39 FFFFDE end -"

@@ -4,7 +4,7 @@ use Rattle.vme_trace.specs.LineNumbers.{AS, DS0, DS1, DTACK, BERR, IACK, A}
 use Rattle.vme_trace.specs.declared.rule.Rule.TheVariants.{U1, H4, S1}
 use Rattle.vme_trace.specs.declared.verdict.Verdict.TheVariants.{Conforming, Broken, Unreadable, NeverIdle}
 use Rattle.vme_eval.specs.Recording.{Recording}
-use Rattle.vme_eval.specs.Steps.{low, high, unknown, at, asking, first_six_high, dumped, dumped_at, from_idle}
+use Rattle.vme_eval.specs.Steps.{low, high, unknown, at, addressing, first_six_high, dumped, dumped_at, from_idle}
 use Rattle.vme_eval.specs.Steps.{from_idle_but, once_granted}
 
 -- one slot, the bus busy from the opening on: a read
@@ -89,7 +89,7 @@ address_lost_between_cycles = record {
 -- of two breaks the earlier one is named, though its rule is the later one
 unfoldable pub earlier_break_of_a_later_rule : Recording
 earlier_break_of_a_later_rule = record {
-  trace = once_granted (asking ∷ (low AS ∷ []) ∷ (high (A 5) ∷ []) ∷ (unknown AS ∷ []) ∷ []);
+  trace = once_granted (addressing ∷ (low AS ∷ []) ∷ (high (A 5) ∷ []) ∷ (unknown AS ∷ []) ∷ []);
   verdict = Broken (record { instant = 10; time = 90; rule = S1; line = A 5 });
   rows =
       codes "start 1" ∷ codes "tenure 5 level 3 slot 2 end -" ∷ codes "cycle 9 S 39 FFFFDE end -"

@@ -4,7 +4,7 @@ use Rattle.vme_trace.specs.LineNumbers.{AS, DS0, DS1, DTACK, IACK, LWORD, WRITE,
 use Rattle.vme_trace.specs.declared.rule.Rule.TheVariants.{U2, U3, S1, S2}
 use Rattle.vme_trace.specs.declared.verdict.Verdict.TheVariants.{Conforming, Broken, Unreadable}
 use Rattle.vme_eval.specs.Recording.{Recording}
-use Rattle.vme_eval.specs.Steps.{low, high, unknown, asking, from_idle_but, once_granted}
+use Rattle.vme_eval.specs.Steps.{low, high, unknown, addressing, from_idle_but, once_granted}
 
 -- a short address, by modifier 29
 unfoldable pub short_address : Recording
@@ -61,7 +61,7 @@ unneeded_line_changes = record {
 -- a needed line becomes unknown after the cycle starts
 unfoldable pub address_lost_in_the_cycle : Recording
 address_lost_in_the_cycle = record {
-  trace = once_granted (asking ∷ (low AS ∷ []) ∷ (unknown (A 5) ∷ []) ∷ []);
+  trace = once_granted (addressing ∷ (low AS ∷ []) ∷ (unknown (A 5) ∷ []) ∷ []);
   verdict = Broken (record { instant = 10; time = 90; rule = S1; line = A 5 });
   rows =
       codes "start 1" ∷ codes "tenure 5 level 3 slot 2 end -" ∷ codes "cycle 9 S 39 FFFFDE end -"
@@ -83,7 +83,7 @@ highest_address_line_changes = record {
 -- a needed line changes as the address strobe rises, with no transfer before
 unfoldable pub address_changes_as_the_cycle_ends : Recording
 address_changes_as_the_cycle_ends = record {
-  trace = once_granted (asking ∷ (low AS ∷ []) ∷ (high AS ∷ high (A 5) ∷ []) ∷ (high BBSY ∷ []) ∷ []);
+  trace = once_granted (addressing ∷ (low AS ∷ []) ∷ (high AS ∷ high (A 5) ∷ []) ∷ (high BBSY ∷ []) ∷ []);
   verdict = Conforming;
   rows =
       codes "start 1" ∷ codes "tenure 5 level 3 slot 2 end 11" ∷ codes "cycle 9 S 39 FFFFDE end 10"
@@ -94,7 +94,7 @@ address_changes_as_the_cycle_ends = record {
 unfoldable pub address_changes_after_an_answer_at_the_start : Recording
 address_changes_after_an_answer_at_the_start = record {
   trace =
-      once_granted (asking ∷ (low DS0 ∷ []) ∷ (low AS ∷ low DTACK ∷ []) ∷ (high (A 5) ∷ [])
+      once_granted (addressing ∷ (low DS0 ∷ []) ∷ (low AS ∷ low DTACK ∷ []) ∷ (high (A 5) ∷ [])
       ∷ (high AS ∷ high DS0 ∷ []) ∷ (high DTACK ∷ []) ∷ (high BBSY ∷ []) ∷ []);
   verdict = Conforming;
   rows =
@@ -158,7 +158,7 @@ highest_address_line_unknown = record {
 -- the direction becomes unknown as the strobe falls
 unfoldable pub direction_unknown : Recording
 direction_unknown = record {
-  trace = once_granted (asking ∷ (low AS ∷ []) ∷ (low DS0 ∷ unknown WRITE ∷ []) ∷ []);
+  trace = once_granted (addressing ∷ (low AS ∷ []) ∷ (low DS0 ∷ unknown WRITE ∷ []) ∷ []);
   verdict = Unreadable (record { instant = 10; time = 90; rule = U3; line = WRITE });
   rows =
       codes "start 1" ∷ codes "tenure 5 level 3 slot 2 end -" ∷ codes "cycle 9 S 39 FFFFDE end -"
@@ -192,7 +192,7 @@ direction_settles_as_the_transfer_starts = record {
 -- the direction changes before the answer
 unfoldable pub direction_changes : Recording
 direction_changes = record {
-  trace = once_granted (asking ∷ (low AS ∷ []) ∷ (low DS0 ∷ low DS1 ∷ []) ∷ (low WRITE ∷ []) ∷ []);
+  trace = once_granted (addressing ∷ (low AS ∷ []) ∷ (low DS0 ∷ low DS1 ∷ []) ∷ (low WRITE ∷ []) ∷ []);
   verdict = Broken (record { instant = 11; time = 100; rule = S2; line = WRITE });
   rows =
       codes "start 1" ∷ codes "tenure 5 level 3 slot 2 end -" ∷ codes "cycle 9 S 39 FFFFDE end -"
@@ -202,7 +202,8 @@ direction_changes = record {
 -- the direction changes after the answer, before a strobe rises
 unfoldable pub direction_changes_after_the_answer : Recording
 direction_changes_after_the_answer = record {
-  trace = once_granted (asking ∷ (low AS ∷ []) ∷ (low DS0 ∷ low DS1 ∷ []) ∷ (low DTACK ∷ []) ∷ (low WRITE ∷ []) ∷ []);
+  trace =
+      once_granted (addressing ∷ (low AS ∷ []) ∷ (low DS0 ∷ low DS1 ∷ []) ∷ (low DTACK ∷ []) ∷ (low WRITE ∷ []) ∷ []);
   verdict = Broken (record { instant = 12; time = 110; rule = S2; line = WRITE });
   rows =
       codes "start 1" ∷ codes "tenure 5 level 3 slot 2 end -" ∷ codes "cycle 9 S 39 FFFFDE end -"
@@ -213,7 +214,7 @@ direction_changes_after_the_answer = record {
 unfoldable pub direction_changes_as_a_strobe_rises : Recording
 direction_changes_as_a_strobe_rises = record {
   trace =
-      once_granted (asking ∷ (low AS ∷ []) ∷ (low DS0 ∷ low DS1 ∷ []) ∷ (low DTACK ∷ [])
+      once_granted (addressing ∷ (low AS ∷ []) ∷ (low DS0 ∷ low DS1 ∷ []) ∷ (low DTACK ∷ [])
       ∷ (high DS1 ∷ low WRITE ∷ []) ∷ (high AS ∷ high DS0 ∷ []) ∷ (high DTACK ∷ []) ∷ (high BBSY ∷ []) ∷ []);
   verdict = Conforming;
   rows =

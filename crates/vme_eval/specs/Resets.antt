@@ -4,13 +4,13 @@ use Rattle.vme_trace.specs.LineNumbers.{AS, DS0, DS1, DTACK, BERR, WRITE, AM, A,
 use Rattle.vme_trace.specs.declared.rule.Rule.TheVariants.{U1, H4, H6, G5, B1, B2}
 use Rattle.vme_trace.specs.declared.verdict.Verdict.TheVariants.{Conforming, Broken, Unreadable, NeverIdle}
 use Rattle.vme_eval.specs.Recording.{Recording}
-use Rattle.vme_eval.specs.Steps.{low, high, unknown, asking, from_idle, from_idle_but, once_granted}
+use Rattle.vme_eval.specs.Steps.{low, high, unknown, addressing, from_idle, from_idle_but, once_granted}
 
 -- a reset amid a read, which ends before it is answered
 unfoldable pub reset_in_a_read : Recording
 reset_in_a_read = record {
   trace =
-      once_granted (asking ∷ (low AS ∷ []) ∷ (low DS0 ∷ low DS1 ∷ []) ∷ (low SYSRESET ∷ [])
+      once_granted (addressing ∷ (low AS ∷ []) ∷ (low DS0 ∷ low DS1 ∷ []) ∷ (low SYSRESET ∷ [])
       ∷ (high AS ∷ high DS0 ∷ high DS1 ∷ high BBSY ∷ []) ∷ (high SYSRESET ∷ []) ∷ []);
   verdict = Conforming;
   rows =
@@ -22,7 +22,7 @@ reset_in_a_read = record {
 unfoldable pub busy_after_the_reset : Recording
 busy_after_the_reset = record {
   trace =
-      once_granted (asking ∷ (low AS ∷ []) ∷ (low DS0 ∷ low DS1 ∷ []) ∷ (low SYSRESET ∷ [])
+      once_granted (addressing ∷ (low AS ∷ []) ∷ (low DS0 ∷ low DS1 ∷ []) ∷ (low SYSRESET ∷ [])
       ∷ (high AS ∷ high DS0 ∷ high DS1 ∷ []) ∷ (high SYSRESET ∷ []) ∷ []);
   verdict = Conforming;
   rows =
@@ -35,7 +35,7 @@ busy_after_the_reset = record {
 unfoldable pub answer_after_the_reset : Recording
 answer_after_the_reset = record {
   trace =
-      once_granted (asking ∷ (low AS ∷ []) ∷ (low DS0 ∷ low DS1 ∷ []) ∷ (low SYSRESET ∷ [])
+      once_granted (addressing ∷ (low AS ∷ []) ∷ (low DS0 ∷ low DS1 ∷ []) ∷ (low SYSRESET ∷ [])
       ∷ (high AS ∷ high DS0 ∷ high DS1 ∷ high BBSY ∷ []) ∷ (high SYSRESET ∷ []) ∷ (low DTACK ∷ []) ∷ []);
   verdict = Broken (record { instant = 14; time = 130; rule = H4; line = DTACK });
   rows =
@@ -48,7 +48,7 @@ answer_after_the_reset = record {
 unfoldable pub strobe_lost_with_the_reset : Recording
 strobe_lost_with_the_reset = record {
   trace =
-      once_granted (asking ∷ (low AS ∷ []) ∷ (low DS0 ∷ low DS1 ∷ []) ∷ (unknown AS ∷ low SYSRESET ∷ [])
+      once_granted (addressing ∷ (low AS ∷ []) ∷ (low DS0 ∷ low DS1 ∷ []) ∷ (unknown AS ∷ low SYSRESET ∷ [])
       ∷ (high AS ∷ high DS0 ∷ high DS1 ∷ high BBSY ∷ []) ∷ (high SYSRESET ∷ []) ∷ []);
   verdict = Conforming;
   rows =
@@ -59,7 +59,7 @@ strobe_lost_with_the_reset = record {
 -- the reset line becomes unknown
 unfoldable pub reset_line_lost : Recording
 reset_line_lost = record {
-  trace = once_granted (asking ∷ (low AS ∷ []) ∷ (low DS0 ∷ low DS1 ∷ []) ∷ (unknown SYSRESET ∷ []) ∷ []);
+  trace = once_granted (addressing ∷ (low AS ∷ []) ∷ (low DS0 ∷ low DS1 ∷ []) ∷ (unknown SYSRESET ∷ []) ∷ []);
   verdict = Unreadable (record { instant = 11; time = 100; rule = U1; line = SYSRESET });
   rows =
       codes "start 1" ∷ codes "tenure 5 level 3 slot 2 end -" ∷ codes "cycle 9 S 39 FFFFDE end -"
@@ -90,7 +90,7 @@ unfoldable pub reset_for_good : Recording
 reset_for_good = record {
   trace =
       from_idle_but SYSRESET ((low (BR 3) ∷ []) ∷ (low (grant 3 0) ∷ []) ∷ (low (grant 3 1) ∷ [])
-      ∷ (low BBSY ∷ high (BR 3) ∷ []) ∷ (high (grant 3 0) ∷ []) ∷ (high (grant 3 1) ∷ []) ∷ asking ∷ (low AS ∷ [])
+      ∷ (low BBSY ∷ high (BR 3) ∷ []) ∷ (high (grant 3 0) ∷ []) ∷ (high (grant 3 1) ∷ []) ∷ addressing ∷ (low AS ∷ [])
       ∷ (low DS0 ∷ low DS1 ∷ []) ∷ (low DTACK ∷ []) ∷ (high AS ∷ high DS0 ∷ high DS1 ∷ []) ∷ (high DTACK ∷ [])
       ∷ (high BBSY ∷ []) ∷ []);
   verdict = NeverIdle;
@@ -172,7 +172,7 @@ reset_after_a_lost_strobe = record {
 unfoldable pub address_changes_after_the_reset : Recording
 address_changes_after_the_reset = record {
   trace =
-      once_granted (asking ∷ (low AS ∷ []) ∷ (low DS0 ∷ low DS1 ∷ []) ∷ (low SYSRESET ∷ [])
+      once_granted (addressing ∷ (low AS ∷ []) ∷ (low DS0 ∷ low DS1 ∷ []) ∷ (low SYSRESET ∷ [])
       ∷ (high AS ∷ high DS0 ∷ high DS1 ∷ high BBSY ∷ []) ∷ (high SYSRESET ∷ []) ∷ (high (A 5) ∷ [])
       ∷ (high (AM 2) ∷ []) ∷ []);
   verdict = Conforming;
@@ -186,7 +186,7 @@ address_changes_after_the_reset = record {
 unfoldable pub address_changes_after_a_lost_strobe : Recording
 address_changes_after_a_lost_strobe = record {
   trace =
-      once_granted (asking ∷ (low AS ∷ []) ∷ (low DS0 ∷ low DS1 ∷ []) ∷ (low SYSRESET ∷ []) ∷ (unknown AS ∷ [])
+      once_granted (addressing ∷ (low AS ∷ []) ∷ (low DS0 ∷ low DS1 ∷ []) ∷ (low SYSRESET ∷ []) ∷ (unknown AS ∷ [])
       ∷ (high AS ∷ high DS0 ∷ high DS1 ∷ high BBSY ∷ []) ∷ (high SYSRESET ∷ []) ∷ (high (A 5) ∷ [])
       ∷ (high (AM 2) ∷ []) ∷ []);
   verdict = Conforming;
@@ -199,7 +199,7 @@ address_changes_after_a_lost_strobe = record {
 unfoldable pub direction_changes_after_the_reset : Recording
 direction_changes_after_the_reset = record {
   trace =
-      once_granted (asking ∷ (low AS ∷ []) ∷ (low DS0 ∷ low DS1 ∷ []) ∷ (low SYSRESET ∷ [])
+      once_granted (addressing ∷ (low AS ∷ []) ∷ (low DS0 ∷ low DS1 ∷ []) ∷ (low SYSRESET ∷ [])
       ∷ (high AS ∷ high DS0 ∷ high DS1 ∷ high BBSY ∷ []) ∷ (high SYSRESET ∷ []) ∷ (low WRITE ∷ []) ∷ []);
   verdict = Conforming;
   rows =
@@ -212,7 +212,7 @@ direction_changes_after_the_reset = record {
 unfoldable pub direction_changes_after_lost_strobes : Recording
 direction_changes_after_lost_strobes = record {
   trace =
-      once_granted (asking ∷ (low AS ∷ []) ∷ (low DS0 ∷ low DS1 ∷ []) ∷ (low SYSRESET ∷ [])
+      once_granted (addressing ∷ (low AS ∷ []) ∷ (low DS0 ∷ low DS1 ∷ []) ∷ (low SYSRESET ∷ [])
       ∷ (unknown DS0 ∷ unknown DS1 ∷ []) ∷ (high AS ∷ high DS0 ∷ high DS1 ∷ high BBSY ∷ []) ∷ (high SYSRESET ∷ [])
       ∷ (low WRITE ∷ []) ∷ []);
   verdict = Conforming;
@@ -225,7 +225,7 @@ direction_changes_after_lost_strobes = record {
 unfoldable pub data_changes_after_the_reset : Recording
 data_changes_after_the_reset = record {
   trace =
-      once_granted (asking ∷ (low AS ∷ low WRITE ∷ []) ∷ (low DS0 ∷ low DS1 ∷ []) ∷ (low SYSRESET ∷ [])
+      once_granted (addressing ∷ (low AS ∷ low WRITE ∷ []) ∷ (low DS0 ∷ low DS1 ∷ []) ∷ (low SYSRESET ∷ [])
       ∷ (high AS ∷ high DS0 ∷ high DS1 ∷ high BBSY ∷ []) ∷ (high SYSRESET ∷ []) ∷ (low (D 3) ∷ []) ∷ []);
   verdict = Conforming;
   rows =
@@ -238,7 +238,7 @@ data_changes_after_the_reset = record {
 unfoldable pub read_after_the_reset_of_a_write : Recording
 read_after_the_reset_of_a_write = record {
   trace =
-      once_granted (asking ∷ (low AS ∷ low WRITE ∷ []) ∷ (low DS0 ∷ low DS1 ∷ []) ∷ (low SYSRESET ∷ [])
+      once_granted (addressing ∷ (low AS ∷ low WRITE ∷ []) ∷ (low DS0 ∷ low DS1 ∷ []) ∷ (low SYSRESET ∷ [])
       ∷ (high AS ∷ unknown DS0 ∷ unknown DS1 ∷ []) ∷ (high DS0 ∷ high DS1 ∷ high WRITE ∷ unknown (D 0) ∷ [])
       ∷ (high SYSRESET ∷ []) ∷ (low AS ∷ low DS0 ∷ low DS1 ∷ []) ∷ (low (D 0) ∷ []) ∷ (low DTACK ∷ [])
       ∷ (high AS ∷ high DS0 ∷ high DS1 ∷ []) ∷ (high DTACK ∷ []) ∷ []);
@@ -256,7 +256,7 @@ read_after_the_reset_of_a_write = record {
 unfoldable pub answer_withdrawn_in_the_reset : Recording
 answer_withdrawn_in_the_reset = record {
   trace =
-      once_granted (asking ∷ (low AS ∷ []) ∷ (low DS0 ∷ low DS1 ∷ []) ∷ (low DTACK ∷ []) ∷ (low SYSRESET ∷ [])
+      once_granted (addressing ∷ (low AS ∷ []) ∷ (low DS0 ∷ low DS1 ∷ []) ∷ (low DTACK ∷ []) ∷ (low SYSRESET ∷ [])
       ∷ (high DTACK ∷ []) ∷ (high AS ∷ high DS0 ∷ high DS1 ∷ []) ∷ (high SYSRESET ∷ [])
       ∷ (low AS ∷ low DS0 ∷ low DS1 ∷ []) ∷ (low DTACK ∷ []) ∷ (high AS ∷ high DS0 ∷ high DS1 ∷ [])
       ∷ (high DTACK ∷ []) ∷ []);
@@ -272,7 +272,7 @@ answer_withdrawn_in_the_reset = record {
 unfoldable pub answer_withdrawn_early_after_the_reset : Recording
 answer_withdrawn_early_after_the_reset = record {
   trace =
-      once_granted (asking ∷ (low AS ∷ []) ∷ (low DS0 ∷ low DS1 ∷ []) ∷ (low DTACK ∷ []) ∷ (low SYSRESET ∷ [])
+      once_granted (addressing ∷ (low AS ∷ []) ∷ (low DS0 ∷ low DS1 ∷ []) ∷ (low DTACK ∷ []) ∷ (low SYSRESET ∷ [])
       ∷ (high DTACK ∷ []) ∷ (high AS ∷ high DS0 ∷ high DS1 ∷ []) ∷ (high SYSRESET ∷ [])
       ∷ (low AS ∷ low DS0 ∷ low DS1 ∷ []) ∷ (low DTACK ∷ []) ∷ (high DTACK ∷ []) ∷ []);
   verdict = Broken (record { instant = 18; time = 170; rule = H6; line = DTACK });
@@ -287,7 +287,7 @@ answer_withdrawn_early_after_the_reset = record {
 unfoldable pub answer_in_the_reset : Recording
 answer_in_the_reset = record {
   trace =
-      once_granted (asking ∷ (low AS ∷ []) ∷ (low DS0 ∷ low DS1 ∷ []) ∷ (low SYSRESET ∷ []) ∷ (low DTACK ∷ [])
+      once_granted (addressing ∷ (low AS ∷ []) ∷ (low DS0 ∷ low DS1 ∷ []) ∷ (low SYSRESET ∷ []) ∷ (low DTACK ∷ [])
       ∷ (high AS ∷ high DS0 ∷ high DS1 ∷ high DTACK ∷ high BBSY ∷ []) ∷ (high SYSRESET ∷ []) ∷ []);
   verdict = Conforming;
   rows =

@@ -6,7 +6,7 @@ use Rattle.vme_trace.specs.declared.rule.Rule.TheVariants.{U2, U3, U4, H5, S1, S
 use Rattle.vme_trace.specs.declared.rule.Rule.TheVariants.{I4}
 use Rattle.vme_trace.specs.declared.verdict.Verdict.TheVariants.{Broken, Unreadable}
 use Rattle.vme_eval.specs.Recording.{Recording}
-use Rattle.vme_eval.specs.Steps.{low, high, unknown, asking, acknowledging, from_idle, from_idle_but, once_granted}
+use Rattle.vme_eval.specs.Steps.{low, high, unknown, addressing, acknowledging, from_idle, from_idle_but, once_granted}
 use Rattle.vme_eval.specs.Steps.{passed_on}
 
 -- the address strobe and a strobe fall together: the modifier, and then the direction
@@ -45,7 +45,7 @@ data_unknown_as_the_answer_is_low = record {
 unfoldable pub answered_again_as_the_answer_is_withdrawn : Recording
 answered_again_as_the_answer_is_withdrawn = record {
   trace =
-      once_granted (asking ∷ (low AS ∷ []) ∷ (low DS0 ∷ []) ∷ (low DTACK ∷ []) ∷ (high DTACK ∷ low BERR ∷ []) ∷ []);
+      once_granted (addressing ∷ (low AS ∷ []) ∷ (low DS0 ∷ []) ∷ (low DTACK ∷ []) ∷ (high DTACK ∷ low BERR ∷ []) ∷ []);
   verdict = Broken (record { instant = 12; time = 110; rule = H5; line = BERR });
   rows =
       codes "start 1" ∷ codes "tenure 5 level 3 slot 2 end -" ∷ codes "cycle 9 S 39 FFFFDE end -"
@@ -55,7 +55,7 @@ answered_again_as_the_answer_is_withdrawn = record {
 -- the address, and then the direction
 unfoldable pub address_and_direction_change : Recording
 address_and_direction_change = record {
-  trace = once_granted (asking ∷ (low AS ∷ []) ∷ (low DS0 ∷ low DS1 ∷ []) ∷ (low WRITE ∷ high (A 5) ∷ []) ∷ []);
+  trace = once_granted (addressing ∷ (low AS ∷ []) ∷ (low DS0 ∷ low DS1 ∷ []) ∷ (low WRITE ∷ high (A 5) ∷ []) ∷ []);
   verdict = Broken (record { instant = 11; time = 100; rule = S1; line = A 5 });
   rows =
       codes "start 1" ∷ codes "tenure 5 level 3 slot 2 end -" ∷ codes "cycle 9 S 39 FFFFDE end -"

@@ -102,8 +102,8 @@ abbrev pub first_six_high : List Change
 first_six_high = high AS ∷ high DS0 ∷ high DS1 ∷ high DTACK ∷ high BERR ∷ high IACK ∷ []
 
 -- the changes that choose modifier 39 and address FFFFDE
-abbrev pub asking : List Change
-asking = low (AM 1) ∷ low (AM 2) ∷ low (A 5) ∷ []
+abbrev pub addressing : List Change
+addressing = low (AM 1) ∷ low (AM 2) ∷ low (A 5) ∷ []
 
 -- the changes that choose an acknowledge of level 5
 abbrev pub acknowledging : List Change

@@ -4,7 +4,7 @@ use Rattle.vme_trace.specs.LineNumbers.{AS, DS0, DS1, DTACK, BR, BBSY, grant}
 use Rattle.vme_trace.specs.declared.rule.Rule.TheVariants.{B1, B2, B3, B4}
 use Rattle.vme_trace.specs.declared.verdict.Verdict.TheVariants.{Conforming, Broken}
 use Rattle.vme_eval.specs.Recording.{Recording}
-use Rattle.vme_eval.specs.Steps.{low, high, asking, from_idle, from_idle_but, once_granted, passed_on}
+use Rattle.vme_eval.specs.Steps.{low, high, addressing, from_idle, from_idle_but, once_granted, passed_on}
 
 -- a grant of level 0 is taken by slot 1
 unfoldable pub tenure_on_level_0 : Recording
@@ -213,7 +213,7 @@ cycle_starts_as_the_bus_is_taken = record {
 unfoldable pub cycle_starts_as_the_bus_is_let_go : Recording
 cycle_starts_as_the_bus_is_let_go = record {
   trace =
-      once_granted (asking ∷ (low AS ∷ high BBSY ∷ []) ∷ (low DS0 ∷ low DS1 ∷ []) ∷ (low DTACK ∷ [])
+      once_granted (addressing ∷ (low AS ∷ high BBSY ∷ []) ∷ (low DS0 ∷ low DS1 ∷ []) ∷ (low DTACK ∷ [])
       ∷ (high AS ∷ high DS0 ∷ high DS1 ∷ []) ∷ (high DTACK ∷ []) ∷ []);
   verdict = Conforming;
   rows =

@@ -4,13 +4,13 @@ use Rattle.vme_trace.specs.LineNumbers.{AS, DS0, DS1, DTACK, BERR, AM, A, BBSY, 
 use Rattle.vme_trace.specs.declared.rule.Rule.TheVariants.{H1, H2, H3, H4, H5, H6, H7, H8}
 use Rattle.vme_trace.specs.declared.verdict.Verdict.TheVariants.{Conforming, Broken}
 use Rattle.vme_eval.specs.Recording.{Recording}
-use Rattle.vme_eval.specs.Steps.{low, high, asking, acknowledging, once_granted, granted_from_idle}
+use Rattle.vme_eval.specs.Steps.{low, high, addressing, acknowledging, once_granted, granted_from_idle}
 
 -- a read
 unfoldable pub read_cycle : Recording
 read_cycle = record {
   trace =
-      once_granted (asking ∷ (low AS ∷ []) ∷ (low DS0 ∷ low DS1 ∷ []) ∷ (low DTACK ∷ [])
+      once_granted (addressing ∷ (low AS ∷ []) ∷ (low DS0 ∷ low DS1 ∷ []) ∷ (low DTACK ∷ [])
       ∷ (high AS ∷ high DS0 ∷ high DS1 ∷ []) ∷ (high DTACK ∷ []) ∷ (high BBSY ∷ []) ∷ []);
   verdict = Conforming;
   rows =
@@ -22,7 +22,7 @@ read_cycle = record {
 unfoldable pub read_cycle_from_idle : Recording
 read_cycle_from_idle = record {
   trace =
-      granted_from_idle (asking ∷ (low AS ∷ []) ∷ (low DS0 ∷ low DS1 ∷ []) ∷ (low DTACK ∷ [])
+      granted_from_idle (addressing ∷ (low AS ∷ []) ∷ (low DS0 ∷ low DS1 ∷ []) ∷ (low DTACK ∷ [])
       ∷ (high AS ∷ high DS0 ∷ high DS1 ∷ []) ∷ (high DTACK ∷ []) ∷ (high BBSY ∷ []) ∷ []);
   verdict = Conforming;
   rows =
@@ -34,7 +34,7 @@ read_cycle_from_idle = record {
 unfoldable pub pipelined_cycles : Recording
 pipelined_cycles = record {
   trace =
-      once_granted (asking ∷ (low AS ∷ []) ∷ (low DS0 ∷ low DS1 ∷ []) ∷ (low DTACK ∷ []) ∷ (high AS ∷ [])
+      once_granted (addressing ∷ (low AS ∷ []) ∷ (low DS0 ∷ low DS1 ∷ []) ∷ (low DTACK ∷ []) ∷ (high AS ∷ [])
       ∷ (high (A 5) ∷ []) ∷ (low AS ∷ []) ∷ (high DS0 ∷ high DS1 ∷ []) ∷ (high DTACK ∷ [])
       ∷ (low DS0 ∷ low DS1 ∷ []) ∷ (low DTACK ∷ []) ∷ (high AS ∷ high DS0 ∷ high DS1 ∷ [])
       ∷ (high DTACK ∷ high BBSY ∷ []) ∷ []);
@@ -49,7 +49,7 @@ pipelined_cycles = record {
 unfoldable pub bus_error : Recording
 bus_error = record {
   trace =
-      once_granted (asking ∷ (low AS ∷ []) ∷ (low DS0 ∷ low DS1 ∷ []) ∷ (low BERR ∷ [])
+      once_granted (addressing ∷ (low AS ∷ []) ∷ (low DS0 ∷ low DS1 ∷ []) ∷ (low BERR ∷ [])
       ∷ (high AS ∷ high DS0 ∷ high DS1 ∷ []) ∷ (high BERR ∷ []) ∷ (high BBSY ∷ []) ∷ []);
   verdict = Conforming;
   rows =
@@ -86,7 +86,7 @@ answer_rises_as_the_next_transfer_starts = record {
 unfoldable pub strobes_rise_early : Recording
 strobes_rise_early = record {
   trace =
-      once_granted (asking ∷ (low AS ∷ []) ∷ (low DS0 ∷ low DS1 ∷ []) ∷ (high DS0 ∷ high DS1 ∷ [])
+      once_granted (addressing ∷ (low AS ∷ []) ∷ (low DS0 ∷ low DS1 ∷ []) ∷ (high DS0 ∷ high DS1 ∷ [])
       ∷ (low DTACK ∷ []) ∷ []);
   verdict = Broken (record { instant = 11; time = 100; rule = H2; line = DS0 });
   rows =
@@ -98,7 +98,7 @@ strobes_rise_early = record {
 unfoldable pub strobes_rise_with_answer : Recording
 strobes_rise_with_answer = record {
   trace =
-      once_granted (asking ∷ (low AS ∷ []) ∷ (low DS0 ∷ low DS1 ∷ []) ∷ (high DS0 ∷ high DS1 ∷ low DTACK ∷ [])
+      once_granted (addressing ∷ (low AS ∷ []) ∷ (low DS0 ∷ low DS1 ∷ []) ∷ (high DS0 ∷ high DS1 ∷ low DTACK ∷ [])
       ∷ (high AS ∷ []) ∷ (high DTACK ∷ []) ∷ (high BBSY ∷ []) ∷ []);
   verdict = Conforming;
   rows =
@@ -109,7 +109,8 @@ strobes_rise_with_answer = record {
 -- one strobe of two rises before the answer
 unfoldable pub one_strobe_rises_early : Recording
 one_strobe_rises_early = record {
-  trace = once_granted (asking ∷ (low AS ∷ []) ∷ (low DS0 ∷ low DS1 ∷ []) ∷ (high DS1 ∷ []) ∷ (low DTACK ∷ []) ∷ []);
+  trace =
+      once_granted (addressing ∷ (low AS ∷ []) ∷ (low DS0 ∷ low DS1 ∷ []) ∷ (high DS1 ∷ []) ∷ (low DTACK ∷ []) ∷ []);
   verdict = Broken (record { instant = 11; time = 100; rule = H2; line = DS1 });
   rows =
       codes "start 1" ∷ codes "tenure 5 level 3 slot 2 end -" ∷ codes "cycle 9 S 39 FFFFDE end -"
@@ -119,7 +120,7 @@ one_strobe_rises_early = record {
 -- the second strobe falls after the answer
 unfoldable pub strobe_falls_after_the_answer : Recording
 strobe_falls_after_the_answer = record {
-  trace = once_granted (asking ∷ (low AS ∷ []) ∷ (low DS0 ∷ []) ∷ (low DTACK ∷ []) ∷ (low DS1 ∷ []) ∷ []);
+  trace = once_granted (addressing ∷ (low AS ∷ []) ∷ (low DS0 ∷ []) ∷ (low DTACK ∷ []) ∷ (low DS1 ∷ []) ∷ []);
   verdict = Broken (record { instant = 12; time = 110; rule = H3; line = DS1 });
   rows =
       codes "start 1" ∷ codes "tenure 5 level 3 slot 2 end -" ∷ codes "cycle 9 S 39 FFFFDE end -"
@@ -130,7 +131,7 @@ strobe_falls_after_the_answer = record {
 unfoldable pub strobe_falls_with_the_answer : Recording
 strobe_falls_with_the_answer = record {
   trace =
-      once_granted (asking ∷ (low AS ∷ []) ∷ (low DS0 ∷ []) ∷ (low DS1 ∷ low DTACK ∷ [])
+      once_granted (addressing ∷ (low AS ∷ []) ∷ (low DS0 ∷ []) ∷ (low DS1 ∷ low DTACK ∷ [])
       ∷ (high AS ∷ high DS0 ∷ high DS1 ∷ []) ∷ (high DTACK ∷ []) ∷ (high BBSY ∷ []) ∷ []);
   verdict = Conforming;
   rows =
@@ -142,7 +143,7 @@ strobe_falls_with_the_answer = record {
 unfoldable pub second_strobe_falls_before_the_answer : Recording
 second_strobe_falls_before_the_answer = record {
   trace =
-      once_granted (asking ∷ (low AS ∷ []) ∷ (low DS1 ∷ []) ∷ (low DS0 ∷ []) ∷ (low DTACK ∷ [])
+      once_granted (addressing ∷ (low AS ∷ []) ∷ (low DS1 ∷ []) ∷ (low DS0 ∷ []) ∷ (low DTACK ∷ [])
       ∷ (high AS ∷ high DS0 ∷ high DS1 ∷ []) ∷ (high DTACK ∷ []) ∷ []);
   verdict = Conforming;
   rows =
@@ -153,7 +154,7 @@ second_strobe_falls_before_the_answer = record {
 -- an answer without a strobe
 unfoldable pub stray_answer : Recording
 stray_answer = record {
-  trace = once_granted (asking ∷ (low AS ∷ []) ∷ (low DTACK ∷ []) ∷ []);
+  trace = once_granted (addressing ∷ (low AS ∷ []) ∷ (low DTACK ∷ []) ∷ []);
   verdict = Broken (record { instant = 10; time = 90; rule = H4; line = DTACK });
   rows =
       codes "start 1" ∷ codes "tenure 5 level 3 slot 2 end -" ∷ codes "cycle 9 S 39 FFFFDE end -"
@@ -172,7 +173,7 @@ bus_error_to_nobody = record {
 unfoldable pub answered_at_its_first_instant : Recording
 answered_at_its_first_instant = record {
   trace =
-      once_granted (asking ∷ (low AS ∷ []) ∷ (low DS0 ∷ low DTACK ∷ []) ∷ (high AS ∷ high DS0 ∷ [])
+      once_granted (addressing ∷ (low AS ∷ []) ∷ (low DS0 ∷ low DTACK ∷ []) ∷ (high AS ∷ high DS0 ∷ [])
       ∷ (high DTACK ∷ []) ∷ (high BBSY ∷ []) ∷ []);
   verdict = Conforming;
   rows =
@@ -195,7 +196,7 @@ answered_by_both_lines_in_turn = record {
 -- a transfer is answered by both lines at one instant
 unfoldable pub answered_by_both_lines_at_once : Recording
 answered_by_both_lines_at_once = record {
-  trace = once_granted (asking ∷ (low AS ∷ []) ∷ (low DS0 ∷ low DS1 ∷ []) ∷ (low DTACK ∷ low BERR ∷ []) ∷ []);
+  trace = once_granted (addressing ∷ (low AS ∷ []) ∷ (low DS0 ∷ low DS1 ∷ []) ∷ (low DTACK ∷ low BERR ∷ []) ∷ []);
   verdict = Broken (record { instant = 11; time = 100; rule = H5; line = DTACK });
   rows =
       codes "start 1" ∷ codes "tenure 5 level 3 slot 2 end -" ∷ codes "cycle 9 S 39 FFFFDE end -"
@@ -206,7 +207,7 @@ answered_by_both_lines_at_once = record {
 unfoldable pub answered_again_by_the_same_line : Recording
 answered_again_by_the_same_line = record {
   trace =
-      once_granted (asking ∷ (low AS ∷ []) ∷ (low DS0 ∷ low DS1 ∷ []) ∷ (low DTACK ∷ []) ∷ (high DS0 ∷ [])
+      once_granted (addressing ∷ (low AS ∷ []) ∷ (low DS0 ∷ low DS1 ∷ []) ∷ (low DTACK ∷ []) ∷ (high DS0 ∷ [])
       ∷ (high DTACK ∷ []) ∷ (low DTACK ∷ []) ∷ []);
   verdict = Broken (record { instant = 14; time = 130; rule = H5; line = DTACK });
   rows =
@@ -217,7 +218,8 @@ answered_again_by_the_same_line = record {
 -- the answer rises while both strobes are low
 unfoldable pub answer_withdrawn_early : Recording
 answer_withdrawn_early = record {
-  trace = once_granted (asking ∷ (low AS ∷ []) ∷ (low DS0 ∷ low DS1 ∷ []) ∷ (low BERR ∷ []) ∷ (high BERR ∷ []) ∷ []);
+  trace =
+      once_granted (addressing ∷ (low AS ∷ []) ∷ (low DS0 ∷ low DS1 ∷ []) ∷ (low BERR ∷ []) ∷ (high BERR ∷ []) ∷ []);
   verdict = Broken (record { instant = 12; time = 110; rule = H6; line = BERR });
   rows =
       codes "start 1" ∷ codes "tenure 5 level 3 slot 2 end -" ∷ codes "cycle 9 S 39 FFFFDE end -"
@@ -242,7 +244,7 @@ second_answer_withdrawn_early = record {
 unfoldable pub answer_rises_with_the_strobes : Recording
 answer_rises_with_the_strobes = record {
   trace =
-      once_granted (asking ∷ (low AS ∷ []) ∷ (low DS0 ∷ low DS1 ∷ []) ∷ (low DTACK ∷ [])
+      once_granted (addressing ∷ (low AS ∷ []) ∷ (low DS0 ∷ low DS1 ∷ []) ∷ (low DTACK ∷ [])
       ∷ (high AS ∷ high DS0 ∷ high DS1 ∷ high DTACK ∷ []) ∷ (high BBSY ∷ []) ∷ []);
   verdict = Conforming;
   rows =
@@ -253,7 +255,7 @@ answer_rises_with_the_strobes = record {
 -- the address strobe rises before the answer
 unfoldable pub cycle_ends_unanswered : Recording
 cycle_ends_unanswered = record {
-  trace = once_granted (asking ∷ (low AS ∷ []) ∷ (low DS0 ∷ low DS1 ∷ []) ∷ (high AS ∷ []) ∷ []);
+  trace = once_granted (addressing ∷ (low AS ∷ []) ∷ (low DS0 ∷ low DS1 ∷ []) ∷ (high AS ∷ []) ∷ []);
   verdict = Broken (record { instant = 11; time = 100; rule = H7; line = AS });
   rows =
       codes "start 1" ∷ codes "tenure 5 level 3 slot 2 end -" ∷ codes "cycle 9 S 39 FFFFDE end -"
@@ -264,7 +266,7 @@ cycle_ends_unanswered = record {
 unfoldable pub cycle_ends_with_the_answer : Recording
 cycle_ends_with_the_answer = record {
   trace =
-      once_granted (asking ∷ (low AS ∷ []) ∷ (low DS0 ∷ []) ∷ (high AS ∷ low DTACK ∷ []) ∷ (high DS0 ∷ [])
+      once_granted (addressing ∷ (low AS ∷ []) ∷ (low DS0 ∷ []) ∷ (high AS ∷ low DTACK ∷ []) ∷ (high DS0 ∷ [])
       ∷ (high DTACK ∷ []) ∷ (high BBSY ∷ []) ∷ []);
   verdict = Conforming;
   rows =
@@ -275,7 +277,7 @@ cycle_ends_with_the_answer = record {
 -- a transfer starts and is answered as the address strobe rises
 unfoldable pub transfer_as_the_cycle_ends : Recording
 transfer_as_the_cycle_ends = record {
-  trace = once_granted (asking ∷ (low AS ∷ []) ∷ (high AS ∷ low DS0 ∷ low DTACK ∷ []) ∷ []);
+  trace = once_granted (addressing ∷ (low AS ∷ []) ∷ (high AS ∷ low DS0 ∷ low DTACK ∷ []) ∷ []);
   verdict = Conforming;
   rows =
       codes "start 1" ∷ codes "tenure 5 level 3 slot 2 end -" ∷ codes "cycle 9 S 39 FFFFDE end 10"
@@ -296,7 +298,7 @@ answer_without_a_cycle = record {
 unfoldable pub strobe_before_the_cycle : Recording
 strobe_before_the_cycle = record {
   trace =
-      once_granted (asking ∷ (low DS0 ∷ []) ∷ (low AS ∷ []) ∷ (low DTACK ∷ []) ∷ (high AS ∷ high DS0 ∷ [])
+      once_granted (addressing ∷ (low DS0 ∷ []) ∷ (low AS ∷ []) ∷ (low DTACK ∷ []) ∷ (high AS ∷ high DS0 ∷ [])
       ∷ (high DTACK ∷ []) ∷ (high BBSY ∷ []) ∷ []);
   verdict = Conforming;
   rows =
@@ -308,7 +310,7 @@ strobe_before_the_cycle = record {
 unfoldable pub transfer_between_two_cycles : Recording
 transfer_between_two_cycles = record {
   trace =
-      once_granted (asking ∷ (low AS ∷ []) ∷ (low DS0 ∷ []) ∷ (low DTACK ∷ []) ∷ (high DS0 ∷ [])
+      once_granted (addressing ∷ (low AS ∷ []) ∷ (low DS0 ∷ []) ∷ (low DTACK ∷ []) ∷ (high DS0 ∷ [])
       ∷ (high DTACK ∷ []) ∷ (high AS ∷ low DS1 ∷ []) ∷ (low AS ∷ []) ∷ (low DTACK ∷ [])
       ∷ (high AS ∷ high DS1 ∷ []) ∷ (high DTACK ∷ []) ∷ (high BBSY ∷ []) ∷ []);
   verdict = Conforming;
