@@ -25,10 +25,10 @@ use Rattle.vme_eval.specs.HeldLines.{address_changes_early, address_changes_with
 use Rattle.vme_eval.specs.HeldLines.{address_changes_as_the_cycle_ends, address_changes_after_an_answer_at_the_start}
 use Rattle.vme_eval.specs.HeldLines.{address_lost_as_the_cycle_starts, address_known_as_the_cycle_starts}
 use Rattle.vme_eval.specs.HeldLines.{direction_unknown, direction_known_as_the_transfer_starts}
-use Rattle.vme_eval.specs.HeldLines.{direction_settles_as_the_transfer_starts, direction_changes}
+use Rattle.vme_eval.specs.HeldLines.{direction_changes_as_the_transfer_starts, direction_changes}
 use Rattle.vme_eval.specs.HeldLines.{direction_changes_as_a_strobe_rises}
 use Rattle.vme_eval.specs.WriteData.{data_unknown, data_change, unmoved_data_unknown, data_of_a_read}
-use Rattle.vme_eval.specs.WriteData.{data_change_with_the_answer, second_byte_settles, unmoved_data_change}
+use Rattle.vme_eval.specs.WriteData.{data_change_with_the_answer, second_byte_changes, unmoved_data_change}
 use Rattle.vme_eval.specs.Grants.{slot_grants_ungranted, slot_grants_with_its_input, slot_grants_as_its_input_rises}
 use Rattle.vme_eval.specs.Grants.{slot_ends_its_grant_early, slot_ends_its_grant_as_its_input_falls}
 use Rattle.vme_eval.specs.Grants.{second_level_granted, another_level_granted_as_the_first_ends, grant_while_busy}
@@ -101,8 +101,8 @@ nearest S1 =
     ∷ address_changes_after_an_answer_at_the_start.trace
     ∷ unneeded_line_changes.trace
     ∷ []
-nearest S2 = direction_changes_as_a_strobe_rises.trace ∷ direction_settles_as_the_transfer_starts.trace ∷ []
-nearest S3 = data_change_with_the_answer.trace ∷ second_byte_settles.trace ∷ unmoved_data_change.trace ∷ []
+nearest S2 = direction_changes_as_a_strobe_rises.trace ∷ direction_changes_as_the_transfer_starts.trace ∷ []
+nearest S3 = data_change_with_the_answer.trace ∷ second_byte_changes.trace ∷ unmoved_data_change.trace ∷ []
 nearest C1 = read_modify_write.trace ∷ free_cycle_reads_writes_and_reads.trace ∷ []
 nearest C2 = block_read.trace ∷ free_cycle_reads_writes_and_reads.trace ∷ []
 nearest G1 = slot_grants_with_its_input.trace ∷ slot_grants_as_its_input_rises.trace ∷ []

@@ -178,8 +178,8 @@ direction_known_as_the_transfer_starts = record {
 }
 
 -- the direction changes as the strobe falls
-unfoldable pub direction_settles_as_the_transfer_starts : Recording
-direction_settles_as_the_transfer_starts = record {
+unfoldable pub direction_changes_as_the_transfer_starts : Recording
+direction_changes_as_the_transfer_starts = record {
   trace =
       once_granted ((low WRITE ∷ []) ∷ (low AS ∷ []) ∷ (low DS0 ∷ high WRITE ∷ []) ∷ (low DTACK ∷ [])
       ∷ (high AS ∷ high DS0 ∷ []) ∷ (high DTACK ∷ []) ∷ []);
@@ -290,7 +290,7 @@ held_lines = short_address ∷ address_changes_early ∷ address_changes_with_an
     ∷ address_lost_in_the_cycle ∷ highest_address_line_changes ∷ address_changes_as_the_cycle_ends
     ∷ address_changes_after_an_answer_at_the_start ∷ unknown_modifier ∷ floating_modifier
     ∷ address_lost_as_the_cycle_starts ∷ address_known_as_the_cycle_starts ∷ highest_address_line_unknown
-    ∷ direction_unknown ∷ direction_known_as_the_transfer_starts ∷ direction_settles_as_the_transfer_starts
+    ∷ direction_unknown ∷ direction_known_as_the_transfer_starts ∷ direction_changes_as_the_transfer_starts
     ∷ direction_changes ∷ direction_changes_after_the_answer ∷ direction_changes_as_a_strobe_rises
     ∷ level_of_an_acknowledge_changes ∷ acknowledge_line_changes ∷ highest_modifier_line_changes
     ∷ lowest_modifier_line_changes ∷ long_word_line_changes ∷ lowest_address_line_changes ∷ []

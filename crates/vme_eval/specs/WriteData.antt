@@ -137,8 +137,8 @@ upper_byte_alone = record {
 }
 
 -- the byte of the second strobe changes as it falls
-unfoldable pub second_byte_settles : Recording
-second_byte_settles = record {
+unfoldable pub second_byte_changes : Recording
+second_byte_changes = record {
   trace =
       once_granted ((low (AM 1) ∷ low (AM 2) ∷ low WRITE ∷ low (A 5) ∷ []) ∷ (low AS ∷ []) ∷ (low DS0 ∷ [])
       ∷ (low DS1 ∷ low (D 8) ∷ []) ∷ (low DTACK ∷ []) ∷ (high AS ∷ high DS0 ∷ high DS1 ∷ [])
@@ -312,8 +312,8 @@ strobe_rises_with_the_answer_of_a_write = record {
 }
 
 -- a data line that isn't moved as the strobe falls is unknown there, and known only once it is moved
-unfoldable pub byte_settles_once_it_is_moved : Recording
-byte_settles_once_it_is_moved = record {
+unfoldable pub byte_known_once_it_is_moved : Recording
+byte_known_once_it_is_moved = record {
   trace =
       from_idle_but BBSY ((low DS0 ∷ low LWORD ∷ low WRITE ∷ unknown (D 0) ∷ []) ∷ (high LWORD ∷ []) ∷ (low (D 0) ∷ [])
       ∷ []);
@@ -424,11 +424,11 @@ data_lost_with_a_bus_error = record {
 abbrev pub write_data : List Recording
 write_data = data_unknown ∷ unmoved_data_unknown ∷ data_change_with_the_answer ∷ data_change ∷ unmoved_data_change
     ∷ data_of_a_read ∷ second_byte_unknown ∷ second_byte_unknown_with_the_answer
-    ∷ second_byte_unknown_after_the_answer ∷ upper_byte_alone ∷ second_byte_settles ∷ data_lost
+    ∷ second_byte_unknown_after_the_answer ∷ upper_byte_alone ∷ second_byte_changes ∷ data_lost
     ∷ data_change_after_the_answer ∷ long_word ∷ long_word_unknown ∷ long_word_changes ∷ no_long_word_at_an_odd_word
     ∷ lanes_unknown ∷ answered_as_it_starts ∷ byte_lost_as_the_second_strobe_falls
     ∷ second_byte_unknown_as_the_direction_changes ∷ digits_unknown_by_an_inner_line ∷ long_word_by_one_strobe
-    ∷ strobe_rises_with_the_answer_of_a_write ∷ byte_settles_once_it_is_moved ∷ long_word_unknown_by_the_second_strobe
+    ∷ strobe_rises_with_the_answer_of_a_write ∷ byte_known_once_it_is_moved ∷ long_word_unknown_by_the_second_strobe
     ∷ no_byte_by_an_unknown_size ∷ no_long_word_by_an_unknown_size ∷ no_long_word_at_an_unknown_address
     ∷ data_known_as_the_strobe_falls ∷ second_byte_unknown_after_a_bus_error ∷ highest_line_of_a_long_word_changes
     ∷ data_unknown_in_an_acknowledge ∷ data_unknown_with_lowest_address_line_low ∷ data_lost_with_a_bus_error ∷ []

@@ -41,7 +41,7 @@ use Rattle.vme_eval.specs.HeldLines.{address_changes_early, address_changes_with
 use Rattle.vme_eval.specs.HeldLines.{address_changes_as_the_cycle_ends, address_changes_after_an_answer_at_the_start}
 use Rattle.vme_eval.specs.HeldLines.{address_lost_as_the_cycle_starts, address_known_as_the_cycle_starts}
 use Rattle.vme_eval.specs.HeldLines.{direction_unknown, direction_known_as_the_transfer_starts}
-use Rattle.vme_eval.specs.HeldLines.{direction_settles_as_the_transfer_starts, direction_changes}
+use Rattle.vme_eval.specs.HeldLines.{direction_changes_as_the_transfer_starts, direction_changes}
 use Rattle.vme_eval.specs.HeldLines.{direction_changes_as_a_strobe_rises}
 use Rattle.vme_stability_eval.proofs.HeldLinesAgree.{address_changes_early_agrees, address_changes_with_answer_agrees}
 use Rattle.vme_stability_eval.proofs.HeldLinesAgree.{unneeded_line_changes_agrees}
@@ -50,14 +50,14 @@ use Rattle.vme_stability_eval.proofs.HeldLinesAgree.{address_changes_after_an_an
 use Rattle.vme_stability_eval.proofs.HeldLinesAgree.{address_lost_as_the_cycle_starts_agrees}
 use Rattle.vme_stability_eval.proofs.HeldLinesAgree.{address_known_as_the_cycle_starts_agrees, direction_unknown_agrees}
 use Rattle.vme_stability_eval.proofs.HeldLinesAgree.{direction_known_as_the_transfer_starts_agrees}
-use Rattle.vme_stability_eval.proofs.HeldLinesAgree.{direction_settles_as_the_transfer_starts_agrees}
+use Rattle.vme_stability_eval.proofs.HeldLinesAgree.{direction_changes_as_the_transfer_starts_agrees}
 use Rattle.vme_stability_eval.proofs.HeldLinesAgree.{direction_changes_agrees}
 use Rattle.vme_stability_eval.proofs.HeldLinesAgree.{direction_changes_as_a_strobe_rises_agrees}
 use Rattle.vme_eval.specs.WriteData.{data_unknown, data_change, unmoved_data_unknown, data_of_a_read}
-use Rattle.vme_eval.specs.WriteData.{data_change_with_the_answer, second_byte_settles, unmoved_data_change}
+use Rattle.vme_eval.specs.WriteData.{data_change_with_the_answer, second_byte_changes, unmoved_data_change}
 use Rattle.vme_stability_eval.proofs.WriteDataAgree.{data_unknown_agrees, data_change_agrees}
 use Rattle.vme_stability_eval.proofs.WriteDataAgree.{unmoved_data_unknown_agrees, data_of_a_read_agrees}
-use Rattle.vme_stability_eval.proofs.WriteDataAgree.{data_change_with_the_answer_agrees, second_byte_settles_agrees}
+use Rattle.vme_stability_eval.proofs.WriteDataAgree.{data_change_with_the_answer_agrees, second_byte_changes_agrees}
 use Rattle.vme_stability_eval.proofs.WriteDataAgree.{unmoved_data_change_agrees}
 use Rattle.vme_eval.specs.Grants.{slot_grants_ungranted, slot_grants_with_its_input, slot_grants_as_its_input_rises}
 use Rattle.vme_eval.specs.Grants.{slot_ends_its_grant_early, slot_ends_its_grant_as_its_input_falls}
@@ -250,25 +250,25 @@ S1_is_shown = record {
 }
 
 S2_is_shown : IsShown S2
-unfolding direction_changes direction_changes_as_a_strobe_rises direction_settles_as_the_transfer_starts
+unfolding direction_changes direction_changes_as_a_strobe_rises direction_changes_as_the_transfer_starts
 S2_is_shown = record {
   rule = ap named_rule direction_changes_agrees.verdict;
   unreadable = ap says_unreadable direction_changes_agrees.verdict;
   some = omega arith;
-  spared = cons direction_changes_as_a_strobe_rises.trace (direction_settles_as_the_transfer_starts.trace ∷ [])
-      direction_changes_as_a_strobe_rises_agrees.verdict (single direction_settles_as_the_transfer_starts.trace
-      direction_settles_as_the_transfer_starts_agrees.verdict);
+  spared = cons direction_changes_as_a_strobe_rises.trace (direction_changes_as_the_transfer_starts.trace ∷ [])
+      direction_changes_as_a_strobe_rises_agrees.verdict (single direction_changes_as_the_transfer_starts.trace
+      direction_changes_as_the_transfer_starts_agrees.verdict);
 }
 
 S3_is_shown : IsShown S3
-unfolding data_change data_change_with_the_answer second_byte_settles unmoved_data_change
+unfolding data_change data_change_with_the_answer second_byte_changes unmoved_data_change
 S3_is_shown = record {
   rule = ap named_rule data_change_agrees.verdict;
   unreadable = ap says_unreadable data_change_agrees.verdict;
   some = omega arith;
-  spared = cons data_change_with_the_answer.trace (second_byte_settles.trace ∷ unmoved_data_change.trace ∷ [])
-      data_change_with_the_answer_agrees.verdict (cons second_byte_settles.trace (unmoved_data_change.trace ∷ [])
-      second_byte_settles_agrees.verdict (single unmoved_data_change.trace unmoved_data_change_agrees.verdict));
+  spared = cons data_change_with_the_answer.trace (second_byte_changes.trace ∷ unmoved_data_change.trace ∷ [])
+      data_change_with_the_answer_agrees.verdict (cons second_byte_changes.trace (unmoved_data_change.trace ∷ [])
+      second_byte_changes_agrees.verdict (single unmoved_data_change.trace unmoved_data_change_agrees.verdict));
 }
 
 C1_is_shown : IsShown C1

@@ -6,7 +6,7 @@ use Rattle.vme_eval.specs.HeldLines.{unneeded_line_changes, address_lost_in_the_
 use Rattle.vme_eval.specs.HeldLines.{address_changes_as_the_cycle_ends, address_changes_after_an_answer_at_the_start}
 use Rattle.vme_eval.specs.HeldLines.{unknown_modifier, floating_modifier, address_lost_as_the_cycle_starts}
 use Rattle.vme_eval.specs.HeldLines.{address_known_as_the_cycle_starts, highest_address_line_unknown, direction_unknown}
-use Rattle.vme_eval.specs.HeldLines.{direction_known_as_the_transfer_starts, direction_settles_as_the_transfer_starts}
+use Rattle.vme_eval.specs.HeldLines.{direction_known_as_the_transfer_starts, direction_changes_as_the_transfer_starts}
 use Rattle.vme_eval.specs.HeldLines.{direction_changes, direction_changes_after_the_answer}
 use Rattle.vme_eval.specs.HeldLines.{direction_changes_as_a_strobe_rises, level_of_an_acknowledge_changes}
 use Rattle.vme_eval.specs.HeldLines.{acknowledge_line_changes, highest_modifier_line_changes}
@@ -73,9 +73,9 @@ pub direction_known_as_the_transfer_starts_agrees : Agrees direction_known_as_th
 unfolding everything rows direction_known_as_the_transfer_starts
 direction_known_as_the_transfer_starts_agrees = record { well_formed = refl; verdict = refl; rows = refl }
 
-pub direction_settles_as_the_transfer_starts_agrees : Agrees direction_settles_as_the_transfer_starts
-unfolding everything rows direction_settles_as_the_transfer_starts
-direction_settles_as_the_transfer_starts_agrees = record { well_formed = refl; verdict = refl; rows = refl }
+pub direction_changes_as_the_transfer_starts_agrees : Agrees direction_changes_as_the_transfer_starts
+unfolding everything rows direction_changes_as_the_transfer_starts
+direction_changes_as_the_transfer_starts_agrees = record { well_formed = refl; verdict = refl; rows = refl }
 
 pub direction_changes_agrees : Agrees direction_changes
 unfolding everything rows direction_changes
@@ -146,7 +146,7 @@ held_lines_agree = (
                             (
                               direction_known_as_the_transfer_starts_agrees,
                               (
-                                direction_settles_as_the_transfer_starts_agrees,
+                                direction_changes_as_the_transfer_starts_agrees,
                                 (
                                   direction_changes_agrees,
                                   (

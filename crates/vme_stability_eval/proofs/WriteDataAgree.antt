@@ -4,12 +4,12 @@ use Rattle.vme_eval.specs.Recording.{Agrees, AllAgree}
 use Rattle.vme_eval.specs.WriteData.{write_data, data_unknown, unmoved_data_unknown, data_change_with_the_answer}
 use Rattle.vme_eval.specs.WriteData.{data_change, unmoved_data_change, data_of_a_read, second_byte_unknown}
 use Rattle.vme_eval.specs.WriteData.{second_byte_unknown_with_the_answer, second_byte_unknown_after_the_answer}
-use Rattle.vme_eval.specs.WriteData.{upper_byte_alone, second_byte_settles, data_lost, data_change_after_the_answer}
+use Rattle.vme_eval.specs.WriteData.{upper_byte_alone, second_byte_changes, data_lost, data_change_after_the_answer}
 use Rattle.vme_eval.specs.WriteData.{long_word, long_word_unknown, long_word_changes, no_long_word_at_an_odd_word}
 use Rattle.vme_eval.specs.WriteData.{lanes_unknown, answered_as_it_starts, byte_lost_as_the_second_strobe_falls}
 use Rattle.vme_eval.specs.WriteData.{second_byte_unknown_as_the_direction_changes, digits_unknown_by_an_inner_line}
 use Rattle.vme_eval.specs.WriteData.{long_word_by_one_strobe, strobe_rises_with_the_answer_of_a_write}
-use Rattle.vme_eval.specs.WriteData.{byte_settles_once_it_is_moved, long_word_unknown_by_the_second_strobe}
+use Rattle.vme_eval.specs.WriteData.{byte_known_once_it_is_moved, long_word_unknown_by_the_second_strobe}
 use Rattle.vme_eval.specs.WriteData.{no_byte_by_an_unknown_size, no_long_word_by_an_unknown_size}
 use Rattle.vme_eval.specs.WriteData.{no_long_word_at_an_unknown_address, data_known_as_the_strobe_falls}
 use Rattle.vme_eval.specs.WriteData.{second_byte_unknown_after_a_bus_error, highest_line_of_a_long_word_changes}
@@ -57,9 +57,9 @@ pub upper_byte_alone_agrees : Agrees upper_byte_alone
 unfolding everything rows upper_byte_alone
 upper_byte_alone_agrees = record { well_formed = refl; verdict = refl; rows = refl }
 
-pub second_byte_settles_agrees : Agrees second_byte_settles
-unfolding everything rows second_byte_settles
-second_byte_settles_agrees = record { well_formed = refl; verdict = refl; rows = refl }
+pub second_byte_changes_agrees : Agrees second_byte_changes
+unfolding everything rows second_byte_changes
+second_byte_changes_agrees = record { well_formed = refl; verdict = refl; rows = refl }
 
 pub data_lost_agrees : Agrees data_lost
 unfolding everything rows data_lost
@@ -113,9 +113,9 @@ pub strobe_rises_with_the_answer_of_a_write_agrees : Agrees strobe_rises_with_th
 unfolding everything rows strobe_rises_with_the_answer_of_a_write
 strobe_rises_with_the_answer_of_a_write_agrees = record { well_formed = refl; verdict = refl; rows = refl }
 
-pub byte_settles_once_it_is_moved_agrees : Agrees byte_settles_once_it_is_moved
-unfolding everything rows byte_settles_once_it_is_moved
-byte_settles_once_it_is_moved_agrees = record { well_formed = refl; verdict = refl; rows = refl }
+pub byte_known_once_it_is_moved_agrees : Agrees byte_known_once_it_is_moved
+unfolding everything rows byte_known_once_it_is_moved
+byte_known_once_it_is_moved_agrees = record { well_formed = refl; verdict = refl; rows = refl }
 
 pub long_word_unknown_by_the_second_strobe_agrees : Agrees long_word_unknown_by_the_second_strobe
 unfolding everything rows long_word_unknown_by_the_second_strobe
@@ -180,7 +180,7 @@ write_data_agree = (
                   (
                     upper_byte_alone_agrees,
                     (
-                      second_byte_settles_agrees,
+                      second_byte_changes_agrees,
                       (
                         data_lost_agrees,
                         (
@@ -208,7 +208,7 @@ write_data_agree = (
                                               (
                                                 strobe_rises_with_the_answer_of_a_write_agrees,
                                                 (
-                                                  byte_settles_once_it_is_moved_agrees,
+                                                  byte_known_once_it_is_moved_agrees,
                                                   (
                                                     long_word_unknown_by_the_second_strobe_agrees,
                                                     (
