@@ -39,12 +39,12 @@ slice_split-nowhere p xs none =
     (ap p (get_or_default xs k 0 d lt) ∙ here)))
 
 -- the bytes after the end, of which there are none
-abbrev pub at_end : List ℕ → List ℕ
-at_end xs = take (length xs - length xs) (drop (length xs) xs)
+abbrev pub bytes_after_end : List ℕ → List ℕ
+bytes_after_end xs = take (length xs - length xs) (drop (length xs) xs)
 
 -- there are no bytes after the end
-pub at_end-empty : (xs : List ℕ) → at_end xs ≡ []
-at_end-empty xs = let none : length xs - length xs ≡ 0 =
+pub bytes_after_end-empty : (xs : List ℕ) → bytes_after_end xs ≡ []
+bytes_after_end-empty xs = let none : length xs - length xs ≡ 0 =
     omega arith in ap (λ (n : ℕ). take n (drop (length xs) xs)) none
 
 -- ---- words
@@ -64,10 +64,10 @@ words-at line i first here =
 
 -- a line without a blank is one word, or none if it is empty
 pub words-nowhere : (line : List ℕ) → Nowhere (Passes is_blank line) 0 (length line) → words line
-    ≡ with_word line (words (at_end line))
+    ≡ with_word line (words (bytes_after_end line))
 words-nowhere line none =
     ap (λ (parts : List (List ℕ)). filter (λ w. not (is_empty w)) parts) (slice_split-nowhere is_blank line none)
-    ∙ words-with_word line [] ∙ ap (λ (rest : List ℕ). with_word line (words rest)) (sym (at_end-empty line))
+    ∙ words-with_word line [] ∙ ap (λ (rest : List ℕ). with_word line (words rest)) (sym (bytes_after_end-empty line))
 
 -- ---- lines
 
@@ -95,13 +95,13 @@ statements_from-at line rest i part e first here =
 -- the statements of a text without a line feed are those of its one line
 pub statements_from-nowhere : (line : ℕ) (rest : List ℕ) → Nowhere (Passes is_feed rest) 0 (length rest)
     → statements_from line (slice_split is_feed rest) ≡ statement_on line (words rest) ++ statements_from line
-    (slice_split is_feed (at_end rest))
+    (slice_split is_feed (bytes_after_end rest))
 unfolding statements_from
 statements_from-nowhere line rest none =
     ap (statements_from line) (slice_split-nowhere is_feed rest none)
     ∙ sym (append-nil (statement_on line (words rest)))
     ∙ ap (λ (xs : List ℕ). statement_on line (words rest) ++ statements_from line (slice_split is_feed xs))
-    (sym (at_end-empty rest))
+    (sym (bytes_after_end-empty rest))
 
 -- a text without bytes has no statements
 pub statements_from-empty : (line : ℕ) (rest : List ℕ) → length rest ≡ 0
@@ -125,14 +125,14 @@ count_by-feed_at rest i first here =
 
 -- a text without a line feed has as many of them as what is after its end, which is nothing
 pub count_by-feed_nowhere : (rest : List ℕ) → Nowhere (Passes is_feed rest) 0 (length rest) → count_by is_feed rest
-    ≡ count_by is_feed (at_end rest)
+    ≡ count_by is_feed (bytes_after_end rest)
 count_by-feed_nowhere rest none =
     omega (
       arith,
       ap length (slice_split-nowhere is_feed rest none),
       length-slice_split is_feed rest,
       ap (count_by is_feed)
-          (at_end-empty rest),
+          (bytes_after_end-empty rest),
     )
 
 -- a text without bytes has no line feeds
