@@ -23,7 +23,7 @@ use Rattle.vcd_read.specs.declared.dump.Bit.{Bit}
 use Rattle.vcd_read.specs.declared.fault.VcdFault.{VcdFault}
 use Rattle.vcd_read.proofs.DetachedLemmas.{rest_of-joined, IsReadDetached-keeps}
 use Rattle.vme_bind.specs.BuilderState.{BuilderState, builder_change, builder_instant}
-use Rattle.vme_bind.specs.Recording.{DifferWithin, RecorderLevels, all_of, changes_between, differs, end_of}
+use Rattle.vme_bind.specs.Recording.{DifferWithin, RecorderLevels, shown_as, changes_between, differs, end_of}
 use Rattle.vme_bind.specs.Recording.{ended_steps, step_between}
 use Rattle.vme_bind.specs.TextPieces.{outcome, outcome_ahead}
 use Rattle.vme_bind.specs.SpeculativeReading.{MayFollowLevels, IsJoined, IsReadSpeculatively, ReadSpeculatively}
@@ -137,7 +137,7 @@ module _ (bytes : List ℕ) (recorded : Trace) (w : SpeculativeReached) (a : Rea
       let m : BuilderState = record { line_bits = w.line_bits; progress = w.body.progress.accumulator; recorded = t } in
       ap (λ (ss : List Step). record {
         line_bits = w.line_bits;
-        progress = all_of a.from;
+        progress = shown_as a.from;
         recorded = record t
             { steps = ss };
       }) (append-nil (t.steps ++ ended))

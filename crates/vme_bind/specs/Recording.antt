@@ -21,12 +21,12 @@ pub record RecorderLevels : Type 0 where
   pub now : Levels
 
 -- `shown` and `now` are both `v`: no line has another level since the last step
-abbrev pub all_of : Levels → RecorderLevels
-all_of v = record { shown = v; now = v }
+abbrev pub shown_as : Levels → RecorderLevels
+shown_as v = record { shown = v; now = v }
 
 -- the end of an instant, whatever its time: `now` is then shown
 abbrev pub end_of : RecorderLevels → ℕ → RecorderLevels
-end_of p time = all_of p.now
+end_of p time = shown_as p.now
 
 -- an optional step as a list
 abbrev pub step_in : Option Step → List Step

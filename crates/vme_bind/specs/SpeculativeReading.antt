@@ -14,7 +14,7 @@ use Rattle.vcd_read.specs.Tokens.{Token, tokens_from}
 use Rattle.vme_bind.specs.declared.fault.BindFault.{BindFault}
 use Rattle.vme_bind.specs.declared.net_lines.NetLines.{NetLines}
 use Rattle.vme_bind.specs.BuilderState.{BuilderState, builder_change, builder_instant}
-use Rattle.vme_bind.specs.Recording.{RecorderLevels, all_of, end_of}
+use Rattle.vme_bind.specs.Recording.{RecorderLevels, shown_as, end_of}
 use Rattle.vme_bind.specs.TextPieces.{TextReached, outcome_ahead}
 use Rattle.vme_bind.specs.AssignedLines.{is_assigned}
 
@@ -50,7 +50,7 @@ pub record AreLevelsAfter (a : ReadSpeculatively) (before after : Levels) : Type
 
 -- the builder at the levels `v`, after the recording `t`
 abbrev pub builder_after : NetLines → Levels → Trace → BuilderState
-builder_after line_bits v t = record { line_bits = line_bits; progress = all_of v; recorded = t }
+builder_after line_bits v t = record { line_bits = line_bits; progress = shown_as v; recorded = t }
 
 -- the piece `a` with a builder in place of its levels, whose recording is `t`
 abbrev pub builder_ahead : NetLines → Trace → ReadDetached RecorderLevels → ReadDetached BuilderState
@@ -81,7 +81,7 @@ pub record IsReadSpeculatively
 -- the piece `a` fits after what is read so far, which leaves the levels that `a` was read from
 pub record MayFollowLevels (w : SpeculativeReached) (a : ReadSpeculatively) : Type 0 where
   pub place : MayFollow w.body a.detached
-  pub levels : entered end_of w.body.progress.accumulator (ended_at w.body.progress a.detached.time) ≡ all_of a.from
+  pub levels : entered end_of w.body.progress.accumulator (ended_at w.body.progress a.detached.time) ≡ shown_as a.from
 
 -- A piece with `bytes`, read from `levels` with the steps of `recorded`, is joined to `before`, which gives `after`.
 -- The step in `ended`, if any, ends the instant before the piece.

@@ -9,7 +9,7 @@ ghost use Rattle.vme_trace.specs.Trace.{changed, levels_after};
 ghost use Rattle.vcd_read.specs.Numbers.{extended};
 ghost use Rattle.vme_bind.specs.Capture.{level_of, level_in};
 ghost use Rattle.vme_bind.specs.NetLines.{line_bits_of};
-ghost use Rattle.vme_bind.specs.Recording.{IsLine, all_of, differs, DifferWithin, AreLines, line_change, valued};
+ghost use Rattle.vme_bind.specs.Recording.{IsLine, shown_as, differs, DifferWithin, AreLines, line_change, valued};
 ghost use Rattle.vme_bind.specs.Recording.{changes_between};
 ghost use Rattle.vme_bind.specs.Recording.{end_of, ended_steps, step_between, step_in};
 
@@ -154,7 +154,7 @@ impl Recorder {
     /// The recorder with the levels `opening`, before any step.
     pub fn new(opening: Lines) -> Recorder
         requires { length opening.levels ≡ line_count }
-        ensures { result ≡ all_of opening }
+        ensures { result ≡ shown_as opening }
     {
         Recorder {
             shown: opening,
@@ -254,7 +254,7 @@ impl Recorder {
     /// Whether no line got another level since the last step. An instant that ends then makes no step.
     #[inline(always)]
     pub fn is_untouched(&self) -> bool
-        ensures shown { result ≡ true → self.entry.now ≡ all_of self.entry.now.now }
+        ensures shown { result ≡ true → self.entry.now ≡ shown_as self.entry.now.now }
         ensures none { result ≡ true → (time : ℕ)
             → step_between time self.entry.now.shown self.entry.now.now ≡ [] }
     {
@@ -386,7 +386,7 @@ impl Recorder {
 
     /// Whether `shown` and `now` are both `levels`, once the current instant has ended, if `ended` is some time.
     pub fn begins_with(&self, ended: Option<u64>, levels: &Lines) -> bool
-        ensures { IsTrue result ↔ (entered end_of self.entry.now ended ≡ all_of levels.now) }
+        ensures { IsTrue result ↔ (entered end_of self.entry.now ended ≡ shown_as levels.now) }
     {
         match ended {
             Some(_) => self.now == *levels,
