@@ -14,7 +14,7 @@ use Rattle.vcd_read.specs.Header.{inside}
 use Rattle.vcd_read.specs.Header.{is_end, opened, opens_section, stray, unfinished, whole, with_item, with_word}
 use Rattle.vcd_read.specs.Header.{◌>>=◌, Declared, at_line, declare_all, declare_section}
 use Rattle.vcd_read.specs.Body.{body_from, ready, skipped}
-use Rattle.vcd_read.proofs.PieceLemmas.{line_behind-cons, line_behind-one, spaced, token_of-append}
+use Rattle.vcd_read.proofs.PieceLemmas.{line_behind-cons, line_behind-one, spaced, token_before-append}
 use Rattle.vcd_read.proofs.PieceLemmas.{with_byte-with_tokens, with_tokens}
 use Rattle.vcd_places.specs.Places.{ends_at_boundary, is_unfinished, starts_at_boundary}
 
@@ -46,7 +46,7 @@ pub tokens_from-append_detached : (front rest : List ℕ) (line : ℕ) → start
     → tokens_from line (front ++ rest) ≡ tokens_from line front ++ tokens_from (line_behind line front) rest
 tokens_from-append_detached front rest line e =
     let cut = cut_from line front in
-    ap (all_of line) (cut_from-append_detached front rest line e) ∙ token_of-append line cut.run cut.others
+    ap (all_of line) (cut_from-append_detached front rest line e) ∙ token_before-append line cut.run cut.others
     (tokens_from (line_behind line front) rest)
 
 -- if `front`, with the byte b before it, ends with white space, the cut of both and `rest` is that of both, with the
@@ -71,7 +71,7 @@ unfolding cut_from
 tokens_from-append_spaced [] rest line e = ap (λ (l : ℕ). tokens_from l rest) (sym (zero-add line))
 tokens_from-append_spaced (b ∷ front) rest line e =
     let cut = cut_from line (b ∷ front) in
-    ap (all_of line) (cut_from-append_spaced b front rest line e) ∙ token_of-append line cut.run cut.others
+    ap (all_of line) (cut_from-append_spaced b front rest line e) ∙ token_before-append line cut.run cut.others
     (tokens_from (line_behind line (b ∷ front)) rest)
 
 -- ---- the definitions

@@ -5,7 +5,8 @@ use Rattle.std.proofs.Common.{refl, sym, ap, subst, ◌∙◌, arith, append_ass
 use Rattle.std.proofs.lemmas.List.{drop_all, get_or-drop, length-drop, take_all, take_more}
 use Rattle.std.specs.List.{count_by}
 use Rattle.std.proofs.lemmas.List.Sums.{sum_by-cons, sum_by-take-drop}
-use Rattle.vcd_read.specs.Tokens.{Cut, Token, all_of, cut_from, is_space, next_line, token_of, tokens_from, with_byte}
+use Rattle.vcd_read.specs.Tokens.{Cut, Token, all_of, cut_from, is_space, next_line, token_before, tokens_from}
+use Rattle.vcd_read.specs.Tokens.{with_byte}
 use Rattle.vcd_read.specs.Reading.{line_behind}
 
 -- `cut` with the tokens `more` after it
@@ -13,16 +14,16 @@ abbrev pub with_tokens : Cut → List Token → Cut
 with_tokens cut more = record { run = cut.run; others = cut.others ++ more }
 
 -- a run and the tokens after it, with `more` after these, are the run and the tokens, and then `more`
-pub token_of-append : (line : ℕ) (run : List ℕ) (others more : List Token) → token_of line run (others ++ more)
-    ≡ token_of line run others ++ more
-token_of-append line [] others more = refl
-token_of-append line (b ∷ run) others more = refl
+pub token_before-append : (line : ℕ) (run : List ℕ) (others more : List Token) → token_before line run (others ++ more)
+    ≡ token_before line run others ++ more
+token_before-append line [] others more = refl
+token_before-append line (b ∷ run) others more = refl
 
 module _ (line b : ℕ) (cut : Cut) (more : List Token) where
   -- whether the byte is a space (`s`) or not
   by_space : (s : _) → is_space b ≡ s → with_byte line b (with_tokens cut more)
       ≡ with_tokens (with_byte line b cut) more
-  by_space true e = rw (e, token_of-append (next_line line b) cut.run cut.others more) refl
+  by_space true e = rw (e, token_before-append (next_line line b) cut.run cut.others more) refl
   by_space false e = rw e refl
 
   -- a byte put before a cut with the tokens `more` after it is the byte put before the cut, and then `more`
@@ -84,7 +85,7 @@ pub tokens_from-split : (front : List ℕ) (s : ℕ) (rest : List ℕ) (line : �
     ++ tokens_from (line_behind line (front ++ s ∷ [])) rest
 tokens_from-split front s rest line e =
     let cut = cut_from line (front ++ s ∷ []) in
-    ap (all_of line) (cut_from-split front s rest line e) ∙ token_of-append line cut.run cut.others
+    ap (all_of line) (cut_from-split front s rest line e) ∙ token_before-append line cut.run cut.others
     (tokens_from (line_behind line (front ++ s ∷ [])) rest)
 
 -- the tokens of an empty prefix and what follows are those of the prefix, and then those of what follows
