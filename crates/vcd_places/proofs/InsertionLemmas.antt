@@ -6,7 +6,7 @@ use Rattle.std.specs.List.{list_all, list_any}
 use Rattle.std.proofs.lemmas.Bool.{and_parts, not-true}
 use Rattle.vcd_read.specs.declared.dump.Variable.{Variable}
 use Rattle.vcd_read.specs.declared.fault.VcdFault.{VcdFault}
-use Rattle.vcd_read.specs.Tokens.{Token, all_of, cut_from, is_space, next_line, tokens_from}
+use Rattle.vcd_read.specs.Tokens.{Token, cut_from, cut_tokens, is_space, next_line, tokens_from}
 use Rattle.vcd_read.specs.Tokens.{with_byte}
 use Rattle.vcd_read.specs.Reading.{line_behind}
 use Rattle.vcd_read.specs.Header.{Header, HeaderItem, HeaderPlace, Section, between, ends_definitions, header_from}
@@ -46,7 +46,7 @@ pub tokens_from-append_detached : (front rest : List ℕ) (line : ℕ) → start
     → tokens_from line (front ++ rest) ≡ tokens_from line front ++ tokens_from (line_behind line front) rest
 tokens_from-append_detached front rest line e =
     let cut = cut_from line front in
-    ap (all_of line) (cut_from-append_detached front rest line e) ∙ token_before-append line cut.run cut.others
+    ap (cut_tokens line) (cut_from-append_detached front rest line e) ∙ token_before-append line cut.run cut.others
     (tokens_from (line_behind line front) rest)
 
 -- if `front`, with the byte b before it, ends with white space, the cut of both and `rest` is that of both, with the
@@ -71,7 +71,7 @@ unfolding cut_from
 tokens_from-append_spaced [] rest line e = ap (λ (l : ℕ). tokens_from l rest) (sym (zero-add line))
 tokens_from-append_spaced (b ∷ front) rest line e =
     let cut = cut_from line (b ∷ front) in
-    ap (all_of line) (cut_from-append_spaced b front rest line e) ∙ token_before-append line cut.run cut.others
+    ap (cut_tokens line) (cut_from-append_spaced b front rest line e) ∙ token_before-append line cut.run cut.others
     (tokens_from (line_behind line (b ∷ front)) rest)
 
 -- ---- the definitions
@@ -325,7 +325,7 @@ cut_from-word line (b ∷ word) rest is detached =
 -- a word that isn't empty, before a text that is empty or begins with white space, is the first token
 pub tokens_from-word : (line b : ℕ) (word rest : List ℕ) → IsWord (b ∷ word) → starts_at_boundary rest ≡ true
     → tokens_from line ((b ∷ word) ++ rest) ≡ record { line = line; bytes = b ∷ word } ∷ tokens_from line rest
-tokens_from-word line b word rest is detached = ap (all_of line) (cut_from-word line (b ∷ word) rest is detached)
+tokens_from-word line b word rest is detached = ap (cut_tokens line) (cut_from-word line (b ∷ word) rest is detached)
 
 -- a space before a text doesn't change its tokens
 pub tokens_from-space : (line : ℕ) (text : List ℕ) → tokens_from line (32 ∷ text) ≡ tokens_from line text

@@ -5,7 +5,7 @@ use Rattle.std.proofs.Common.{refl, sym, ap, subst, ◌∙◌, arith, append_ass
 use Rattle.std.proofs.lemmas.List.{drop_all, get_or-drop, length-drop, take_all, take_more}
 use Rattle.std.specs.List.{count_by}
 use Rattle.std.proofs.lemmas.List.Sums.{sum_by-cons, sum_by-take-drop}
-use Rattle.vcd_read.specs.Tokens.{Cut, Token, all_of, cut_from, is_space, next_line, token_before, tokens_from}
+use Rattle.vcd_read.specs.Tokens.{Cut, Token, cut_from, cut_tokens, is_space, next_line, token_before, tokens_from}
 use Rattle.vcd_read.specs.Tokens.{with_byte}
 use Rattle.vcd_read.specs.Reading.{line_behind}
 
@@ -85,7 +85,7 @@ pub tokens_from-split : (front : List ℕ) (s : ℕ) (rest : List ℕ) (line : �
     ++ tokens_from (line_behind line (front ++ s ∷ [])) rest
 tokens_from-split front s rest line e =
     let cut = cut_from line (front ++ s ∷ []) in
-    ap (all_of line) (cut_from-split front s rest line e) ∙ token_before-append line cut.run cut.others
+    ap (cut_tokens line) (cut_from-split front s rest line e) ∙ token_before-append line cut.run cut.others
     (tokens_from (line_behind line (front ++ s ∷ [])) rest)
 
 -- the tokens of an empty prefix and what follows are those of the prefix, and then those of what follows
