@@ -21,7 +21,7 @@ const MOST_TAKEN: u32 = 67_108_864;
 /// Why there is no account.
 #[derive(Clone, Copy, Debug, PartialEq, Eq)]
 pub enum NoAccount {
-    /// There was no memory.
+    /// Memory ran out.
     Memory,
     /// The recording has more than 67,108,864 steps.
     TooManyBlocks,

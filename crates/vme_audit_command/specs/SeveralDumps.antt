@@ -88,7 +88,7 @@ IsUnread named answer end =
 abbrev pub MayBeReason : NamedReading → Reading → Refusal → Type 0
 MayBeReason named after why = why ≡ CannotRead Dump → CannotBeRead named.dump after
 
--- the line gives the reason why there is no outcome of a dump, or reports that there is no memory
+-- the line gives the reason why there is no outcome of a dump, or reports that memory ran out
 abbrev pub IsErrorLine : NamedReading → Reading → List ℕ → Type 0
 IsErrorLine named after line =
     (line ≡ memory_line)

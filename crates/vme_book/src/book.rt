@@ -21,7 +21,7 @@ const MOST_BLOCKS: u32 = 4096;
 pub enum BookFault {
     /// The total is 0 or over 4,096.
     BadTotal,
-    /// There is no memory.
+    /// Memory ran out.
     Memory,
 }
 
@@ -32,7 +32,7 @@ pub enum InsertFault {
     Stranger,
     /// A block of its number was inserted before.
     Doubled,
-    /// There is no memory.
+    /// Memory ran out.
     Memory,
 }
 
@@ -43,7 +43,7 @@ pub enum CloseFault {
     Missing(u32),
     /// The block of this number doesn't join those before it; it is the least such number.
     Torn(u32),
-    /// There is no memory.
+    /// Memory ran out.
     Memory,
 }
 

@@ -21,7 +21,7 @@ use Rattle.vme_dump_input.specs.BufferedInputs.{InputSoFar, IsReadTo}
 use Rattle.vme_dump_input.specs.declared.definitions.DumpAfterDefinitions.{DumpAfterDefinitions}
 use Rattle.vme_dump_input.specs.declared.definitions.DumpAfterDefinitions.TheVariants.{Body, Unusable}
 
--- the dump is refused for this, unless there was no memory
+-- the dump is refused for this, unless memory ran out
 abbrev pub IsDumpRefused : Reading → Reading → Refusal → Type 0
 IsDumpRefused old now Memory = (bytes : Option (List ℕ)) × IsReading old now bytes
 IsDumpRefused old now refusal = (bytes : Option (List ℕ)) × IsReading old now bytes × (dump_read bytes ≡ Err refusal)
@@ -32,7 +32,7 @@ pub record IsReadDump (old now : Reading) (contents : Contents) : Type 0 where
   pub reading : IsReading old now (Some text)
   pub is : dump_read (Some text) ≡ Ok contents
 
--- a text has this fault, unless there was no memory
+-- a text has this fault, unless memory ran out
 abbrev pub HasFault : List ℕ → ℕ → FaultKind → Type 0
 HasFault text line vcd.Memory = Unit {0}
 HasFault text line kind = dump_of text ≡ Err (record { line = line; kind = kind })

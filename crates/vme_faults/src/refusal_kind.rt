@@ -58,7 +58,7 @@ pub enum RefusalKind {
     TooLong,
     /// Over 4,096 blocks of the size that was asked for.
     TooManyBlocks,
-    /// There is no memory, or none is given.
+    /// Memory ran out, or none is given.
     OutOfMemory,
 }
 

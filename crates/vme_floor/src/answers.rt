@@ -11,7 +11,7 @@ use std::alloc::{AllocError, Global};
 /// Why there is no list of answers.
 #[derive(Drop)]
 pub(crate) enum Unanswered {
-    /// There is no memory.
+    /// Memory ran out.
     Memory,
     /// A delivery has no reply.
     Undrawn,

@@ -29,7 +29,7 @@ pub enum RunFault {
     BadDraws,
     /// The number of workers isn't 1 to 64.
     BadWorkers,
-    /// There is no memory.
+    /// Memory ran out.
     Memory,
     /// A thread couldn't be started.
     NoWorker,

@@ -20,7 +20,7 @@ use vme_trace::Block;
 /// Why there is no work of all workers.
 #[derive(Drop)]
 pub(crate) enum ThreadFault {
-    /// There is no memory.
+    /// Memory ran out.
     Memory,
     /// A thread couldn't be started.
     NoWorker,

@@ -13,6 +13,6 @@ pub enum ListFault {
         /// The number of the row.
         row: usize,
     },
-    /// There is no memory.
+    /// Memory ran out.
     Memory,
 }

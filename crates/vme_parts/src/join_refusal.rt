@@ -7,7 +7,7 @@ use std::alloc::{AllocError, AllocFailed};
 /// Why parts can't be joined.
 #[derive(Clone, Copy, Debug, PartialEq, Eq)]
 pub enum JoinRefusal {
-    /// There is no memory.
+    /// Memory ran out.
     Memory,
     /// The part with this index is of another backplane than the first.
     Backplane(usize),

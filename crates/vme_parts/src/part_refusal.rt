@@ -7,7 +7,7 @@ use std::alloc::{AllocError, AllocFailed};
 /// Why no part is made.
 #[derive(Clone, Copy, Debug, PartialEq, Eq)]
 pub enum PartRefusal {
-    /// There is no memory.
+    /// Memory ran out.
     Memory,
     /// A table with marks has too many nodes for ways of 32 bits.
     TooManyNodes,

@@ -16,7 +16,7 @@ use vme_trace::Source;
 /// the end that weren't taken. Each read has room for at least 4,096 bytes.
 ///
 /// The error is Read exactly where a read failed, or 16,777,216 reads gave bytes. Else it is TooLong where there are
-/// more than 268,435,456 bytes, unless there is no memory. All but at most 65,537 of the reads that gave bytes gave
+/// more than 268,435,456 bytes, unless memory ran out. All but at most 65,537 of the reads that gave bytes gave
 /// fewer than they had room for.
 pub fn read_by<R: Source, T: ByteConsumer, M: Fn(T, &[u8]) -> Result<(T, usize), AllocError>>(
     alloc: Global,

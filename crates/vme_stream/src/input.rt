@@ -21,7 +21,7 @@ pub enum InFault {
     /// There are over 268,435,456 bytes.
     #[error("TooLong")]
     TooLong,
-    /// There is no memory.
+    /// Memory ran out.
     #[error("Memory")]
     Memory,
 }
@@ -49,7 +49,7 @@ const CHUNK: usize = 131_072;
 /// Reads a source to its end. At most 16,777,216 reads are made, each with room for 4,096 bytes at least.
 ///
 /// The error is Read exactly where a read failed, or 16,777,216 reads gave bytes. Else it is TooLong where there are
-/// more than 268,435,456 bytes, unless there is no memory. All but at most 65,537 of the reads that gave bytes gave
+/// more than 268,435,456 bytes, unless memory ran out. All but at most 65,537 of the reads that gave bytes gave
 /// fewer than they had room for.
 pub fn read_all<R: Source>(alloc: Global, source: &mut R) -> Result<Vec<u8>, InFault>
     ensures bytes { IfOk result (λ v. IsReading (R.reading source.old) (R.reading source.new) (Some v.items)) }

@@ -33,7 +33,7 @@ pub fn capture_from<B: Source, D: Source>(
 }
 
 /// Reads a dump. The result is the recording that `bound` makes of it, or the fault by which it makes none. The error
-/// says why there is no dump, or that there is no memory.
+/// says why there is no dump, or that memory ran out.
 pub fn recorded_from<D: Source>(
     alloc: Global,
     bound: &Binding,
@@ -66,8 +66,8 @@ pub fn recorded_in(
     }
 }
 
-/// Reads a binding. The error says why there is none: the text can't be read, is too long or isn't a binding, or there
-/// is no memory. How much of the source is read then isn't specified.
+/// Reads a binding. The error says why there is none: the text can't be read, is too long or isn't a binding, or memory
+/// ran out. How much of the source is read then isn't specified.
 pub fn binding_from<R: Source>(alloc: Global, source: &mut R) -> Result<Binding, Refusal>
     ensures { (bytes : Option (List ℕ))
         × IsReading (R.reading source.old) (R.reading source.new) bytes

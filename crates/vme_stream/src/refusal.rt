@@ -39,7 +39,7 @@ pub enum Refusal {
     BadListing(ListFault),
     /// There would be over 4,096 blocks.
     TooManyBlocks,
-    /// There is no memory.
+    /// Memory ran out.
     Memory,
 }
 

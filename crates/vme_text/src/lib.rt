@@ -7,8 +7,8 @@
 //!
 //! # What is proved
 //!
-//! A text grows by exactly what was pushed (`ok`), and every call leaves it as it was where there
-//! is no memory (`err`). Bytes that aren't printable characters of ASCII are escaped as `\xHH` (`ok`
+//! A text grows by exactly what was pushed (`ok`), and every call leaves it as it was where memory
+//! ran out (`err`). Bytes that aren't printable characters of ASCII are escaped as `\xHH` (`ok`
 //! of `push_escaped`, `items`). `escaped_text` keeps line feeds; its result has printable characters
 //! and line feeds alone (`visible`).
 //!

@@ -21,7 +21,7 @@ pub enum CutFault {
     BadSize,
     /// There would be over 4,096 blocks.
     TooManyBlocks,
-    /// There is no memory.
+    /// Memory ran out.
     Memory,
 }
 

@@ -1,4 +1,4 @@
--- The dump is read to its end, unless there was no memory.
+-- The dump is read to its end, unless memory ran out.
 use Rattle.std.proofs.Common.{Option, subst}
 use Rattle.vcd_read.specs.declared.fault.VcdFault.{VcdFault}
 use Rattle.vme_dump_input.specs.BodyPieces.{FailsPiece}
