@@ -1,4 +1,5 @@
--- How the text of a binding is cut into lines, and a line into words, where each line feed or blank is found.
+-- A binding text that is cut at its first line feed, and a line that is cut at its first blank: its statements, or its
+-- words, by those of both sides.
 use Rattle.std.proofs.Common.{◌≡◌, ℕ, ◌+◌, ◌-◌, ◌<◌, Bool, not, List, [], ◌∷◌, ◌++◌, length, take, drop}
 use Rattle.std.proofs.Common.{refl, sym, ap, ◌∙◌, arith}
 use Rattle.std.specs.Prelude.{filter, count_by}
@@ -12,11 +13,11 @@ use Rattle.vcd_read.specs.Numbers.{is_empty}
 use Rattle.vme_bind.specs.Text.{is_feed, is_blank, words, without_return, statement_on, statements_from}
 use Rattle.vme_bind.specs.Reading.{with_word}
 
--- the bytes after place i
+-- the bytes after place i, as the slice of the code has them, from i + 1 to the end
 abbrev pub bytes_after : List ℕ → ℕ → List ℕ
 bytes_after xs i = take (length xs - (i + 1)) (drop (i + 1) xs)
 
--- the bytes after place i are all that are left
+-- without the bytes up to place i the bytes after it are left
 drop-bytes_after : (xs : List ℕ) (i : ℕ) → drop (i + 1) xs ≡ bytes_after xs i
 drop-bytes_after xs i = sym (take_rest xs (i + 1))
 
@@ -38,7 +39,7 @@ slice_split-nowhere p xs none =
     slice_split_none p xs (λ k d lt. false_from_ne_true _ (λ here. none k (omega arith) lt
     (ap p (get_or_default xs k 0 d lt) ∙ here)))
 
--- the bytes after the end, of which there are none
+-- the bytes after the end, as the slice of the code has them, from the end to the end
 abbrev pub bytes_after_end : List ℕ → List ℕ
 bytes_after_end xs = take (length xs - length xs) (drop (length xs) xs)
 
@@ -71,7 +72,7 @@ words-nowhere line none =
 
 -- ---- lines
 
--- the statements of a line that is followed by others are its own, and those of the others
+-- the statements of a line and of the lines after it are its own, and then theirs
 statements_from-part : (line : ℕ) (part : List ℕ) (parts : List (List ℕ)) → 0 < length parts
     → statements_from line (part ∷ parts)
     ≡ statement_on line (words (without_return part)) ++ statements_from (line + 1) parts
@@ -123,7 +124,7 @@ count_by-feed_at rest i first here =
           is_feed (bytes_after rest i),
     )
 
--- a text without a line feed has as many of them as what is after its end, which is nothing
+-- a text without a line feed has as many of them as the bytes after its end: none
 pub count_by-feed_nowhere : (rest : List ℕ) → Nowhere (Passes is_feed rest) 0 (length rest) → count_by is_feed rest
     ≡ count_by is_feed (bytes_after_end rest)
 count_by-feed_nowhere rest none =

@@ -29,7 +29,7 @@ share g h = nat_lt g.first (h.first + g.count) && nat_lt h.first (g.first + h.co
 abbrev pub single : ℕ → ℕ → Option Group
 single slots l = if has_line slots l then Some (down_from l 1) else None
 
--- the lines that `name` denotes on a backplane of `slots` slots, the leftmost first
+-- the lines that `name` denotes on a backplane of `slots` slots
 abbrev pub group_named : ℕ → List ℕ → Option Group
 group_named slots name =
     if bytes_eq name (codes "AM") then Some (down_from (AM 5) 6)

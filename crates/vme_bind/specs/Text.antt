@@ -11,7 +11,7 @@ is_feed b = b == 10
 abbrev pub is_blank : ℕ → Bool
 is_blank b = b == 32 || b == 9
 
--- the longest runs of bytes that are no blanks
+-- the longest runs of bytes without a blank
 abbrev pub words : List ℕ → List (List ℕ)
 words line = filter (λ word. not (is_empty word)) (slice_split is_blank line)
 

@@ -1,4 +1,4 @@
-//! How far the recording of a dump is made.
+//! The state of making a recording of a dump's text, which comes in pieces.
 
 ghost use Rattle.std.specs.Option.{ForSome};
 ghost use Rattle.vme_bind.specs.TextCapture.{IsOfBinding};

@@ -1,5 +1,5 @@
 //! Reads the next row of a listing. Before that more bytes are held than a line has at most, unless
-//! the listing ends.
+//! the listing's input ends.
 
 ghost use Rattle.std.specs.Prelude.{◌≡◌, ◌+◌, ◌^◌, ◌<◌, ◌≤◌, ℕ, List, [], true, false, Option, Some, None, Ok, IfErr};
 ghost use Rattle.std.specs.Prelude.{IfOk, IfSome, OnOk, length};
@@ -36,7 +36,7 @@ fn fill<L: Source>(source: &mut L, input: &mut BufferedInput) -> Result<(), InFa
     Ok(())
 }
 
-/// Begins after the header of a listing, of which nothing is read yet.
+/// Takes the header of a listing of which nothing is read yet. The result gives its rows.
 pub(crate) fn begin_rows<L: Source>(
     source: &mut L,
     input: &mut BufferedInput,
@@ -60,7 +60,7 @@ pub(crate) fn begin_rows<L: Source>(
     }
 }
 
-/// The next row, or none where the listing is whole.
+/// The next row, or none where the listing has ended.
 pub(crate) fn next_row<L: Source>(
     source: &mut L,
     input: &mut BufferedInput,

@@ -1,4 +1,4 @@
--- Recordings of one slot, as from a dump, and where judging starts and ends.
+-- Recordings of one slot, as from a dump; and where judging starts and ends, and which of two breaks is named.
 use Rattle.std.specs.Prelude.{List, [], ◌∷◌, codes}
 use Rattle.vme_trace.specs.LineNumbers.{AS, DS0, DS1, DTACK, BERR, IACK, A}
 use Rattle.vme_trace.specs.declared.rule.Rule.TheVariants.{U1, H4, S1}

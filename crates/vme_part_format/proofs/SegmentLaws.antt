@@ -319,7 +319,7 @@ SegmentTaken-of_fields listing before bytes n st sl op le ti a b c d f h t =
       IsAfter-of_test before s h.numbers-are.2,
     )
 
--- each monitor has at least 3 memories
+-- each monitor has at least 3 memories: that of U1 has 4, then there are 147, 13, 35 and 11, in the order of the tables
 least_4 : 3 ≤ 4
 least_4 = omega arith
 
@@ -389,7 +389,7 @@ table_at-then listing memories steps bytes k x some low fits e =
     let t = bind_ok (table_at listing memories steps bytes) k x e in
     (t.0, table_at-ok listing memories steps bytes t.0 some low fits t.1, t.2)
 
--- if the first four tables were read, and the last table is, five tables are
+-- if the first four tables were read, and now the last one is, five tables were read
 IsTables-from_acknowledge : (listing : Bool) (h : HeadFields) (bytes : List ℕ) (a b c d : TableValue × List ℕ)
     (x : SegmentValue
     × List ℕ)
@@ -409,7 +409,7 @@ IsTables-from_acknowledge listing h bytes a b c d x low ta tb tc td e =
       is = Ok-injective (with_tables h a.0 b.0 c.0 d.0 t.0.0, t.0.1) x t.2;
     }
 
--- if the first three tables were read, and the rest is, five tables are
+-- if the first three tables were read, and now the others are, five tables were read
 IsTables-from_grant : (listing : Bool) (h : HeadFields) (bytes : List ℕ) (a b c : TableValue × List ℕ)
     (x : SegmentValue × List ℕ)
     → h.steps < 2 ^ 64 → TableTaken listing 4 h.steps bytes a → TableTaken listing 147 h.steps a.1 b
@@ -419,7 +419,7 @@ IsTables-from_grant listing h bytes a b c x low ta tb tc e =
     let t = table_at-then listing 35 h.steps c.1 k x least_35 low tc.0.rest_fits e in
     IsTables-from_acknowledge listing h bytes a b c t.0 x low ta tb tc t.1 t.2
 
--- if the first two tables were read, and the rest is, five tables are
+-- if the first two tables were read, and now the others are, five tables were read
 IsTables-from_stability : (listing : Bool) (h : HeadFields) (bytes : List ℕ) (a b : TableValue × List ℕ)
     (x : SegmentValue × List ℕ)
     → h.steps < 2 ^ 64 → TableTaken listing 4 h.steps bytes a → TableTaken listing 147 h.steps a.1 b
@@ -429,7 +429,7 @@ IsTables-from_stability listing h bytes a b x low ta tb e =
     let t = table_at-then listing 13 h.steps b.1 k x least_13 low tb.0.rest_fits e in
     IsTables-from_grant listing h bytes a b t.0 x low ta tb t.1 t.2
 
--- if the first table was read, and the rest is, five tables are
+-- if the first table was read, and now the others are, five tables were read
 IsTables-from_handshake : (listing : Bool) (h : HeadFields) (bytes : List ℕ) (a : TableValue × List ℕ)
     (x : SegmentValue × List ℕ)
     → h.steps < 2 ^ 64 → TableTaken listing 4 h.steps bytes a → at_handshake listing h a.0 a.1 ≡ Ok x
@@ -439,7 +439,7 @@ IsTables-from_handshake listing h bytes a x low ta e =
     let t = table_at-then listing 147 h.steps a.1 k x least_147 low ta.0.rest_fits e in
     IsTables-from_stability listing h bytes a t.0 x low ta t.1 t.2
 
--- if the rest of a segment from the tables on is read, five tables are
+-- if the rest of a segment from the tables on is read, five tables were read
 IsTables-from_known : (listing : Bool) (h : HeadFields) (bytes : List ℕ) (x : SegmentValue × List ℕ) → h.steps < 2 ^ 64
     → IsBytes bytes → at_known listing h bytes ≡ Ok x → IsTables listing h bytes x
 IsTables-from_known listing h bytes x low fits e =

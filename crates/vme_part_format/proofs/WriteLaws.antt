@@ -1,4 +1,5 @@
--- What fits may be written, piece by piece.
+-- From the bounds of tables and segments follows what the functions that write them ask of each node, entry and
+-- segment.
 use Rattle.std.proofs.Common.{ℕ, zero, suc, ◌^◌, ◌<◌, ◌≤◌, Bool, List, [], ◌∷◌, length, get_or, map, Option}
 use Rattle.std.proofs.Common.{Some}
 use Rattle.std.proofs.Common.{arith}

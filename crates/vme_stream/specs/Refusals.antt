@@ -45,7 +45,7 @@ abbrev pub capture_refusal : CaptureFault → Refusal
 capture_refusal (capture.Dump fault) = dump_refusal fault
 capture_refusal (capture.Binding fault) = binding_refusal fault
 
--- the refusal for a recording that isn't judged
+-- the refusal for a recording that isn't judged: too many steps are a fault of the binding, with line 0
 abbrev pub judging_refusal : NoVerdict → Refusal
 judging_refusal judge.TooManySteps = BadBinding (record { line = 0; kind = bind.TooManySteps })
 judging_refusal judge.TooManyBlocks = TooManyBlocks

@@ -1,4 +1,4 @@
-//! Why a recording isn't judged, or a listing compared with it.
+//! Refusals, by what they are for: a fault of an input, too many blocks or want of memory.
 
 ghost use Rattle.std.specs.Prelude.{◌≡◌};
 ghost use Rattle.vme_stream.specs.Refusals.{input_refusal, dump_refusal, binding_refusal, capture_refusal};
@@ -22,7 +22,7 @@ pub enum Input {
     Listing,
 }
 
-/// Why a recording isn't judged, or a listing compared with it.
+/// Why a recording isn't judged, or why a listing isn't compared with it.
 #[derive(Clone, Copy, Debug, PartialEq, Eq)]
 pub enum Refusal {
     /// A file can't be opened.
@@ -85,7 +85,8 @@ impl Refusal {
         }
     }
 
-    /// The refusal for a recording that isn't judged.
+    /// The refusal for a recording that isn't judged. Too many steps are a fault of the binding, with line 0: a step is
+    /// an instant at which a line of the backplane changes that it binds.
     pub fn of_judging(why: NoVerdict) -> Refusal
         ensures { result ≡ judging_refusal why }
     {

@@ -10,7 +10,7 @@ use Rattle.vme_bind.specs.SpeculativeReading.{ReadSpeculatively, SpeculativeReac
 use Rattle.vme_bind.proofs.SpeculativeReadingLemmas.{ahead_of, IsJoined-by_fields, speculative_of}
 use Rattle.vme_bind.proofs.speculative_reader.SpeculativeReader.join.Goals as goal
 
--- the end of an instant changes no level that is now
+-- the current levels stay as they are where an instant ends, if one does
 now-entered : (p : RecorderLevels) (e : Option ℕ) → (entered end_of p e).now ≡ p.now
 now-entered p None = refl
 now-entered p (Some time) = refl
