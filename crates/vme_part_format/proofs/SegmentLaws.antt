@@ -371,7 +371,7 @@ abbrev at_known : Bool → HeadFields → List ℕ → Result (SegmentValue × L
 at_known listing h bytes = table_at listing 4 h.steps bytes >>= λ a. at_handshake listing h a.0 a.1
 
 -- five tables that were read
-record IsTables (listing : Bool) (h : HeadFields) (bytes : List ℕ) (x : SegmentValue × List ℕ) : Type 0 where
+record ReadTables (listing : Bool) (h : HeadFields) (bytes : List ℕ) (x : SegmentValue × List ℕ) : Type 0 where
   a : TableValue × List ℕ
   b : TableValue × List ℕ
   c : TableValue × List ℕ
@@ -390,13 +390,13 @@ table_at-then listing memories steps bytes k x some low fits e =
     (t.0, table_at-ok listing memories steps bytes t.0 some low fits t.1, t.2)
 
 -- if the first four tables were read, and now the last one is, five tables were read
-IsTables-from_acknowledge : (listing : Bool) (h : HeadFields) (bytes : List ℕ) (a b c d : TableValue × List ℕ)
+ReadTables-from_acknowledge : (listing : Bool) (h : HeadFields) (bytes : List ℕ) (a b c d : TableValue × List ℕ)
     (x : SegmentValue
     × List ℕ)
     → h.steps < 2 ^ 64 → TableTaken listing 4 h.steps bytes a → TableTaken listing 147 h.steps a.1 b
     → TableTaken listing 13 h.steps b.1 c → TableTaken listing 35 h.steps c.1 d
-    → at_acknowledge listing h a.0 b.0 c.0 d.0 d.1 ≡ Ok x → IsTables listing h bytes x
-IsTables-from_acknowledge listing h bytes a b c d x low ta tb tc td e =
+    → at_acknowledge listing h a.0 b.0 c.0 d.0 d.1 ≡ Ok x → ReadTables listing h bytes x
+ReadTables-from_acknowledge listing h bytes a b c d x low ta tb tc td e =
     let k = λ (f : TableValue × List ℕ). segment_ok (with_tables h a.0 b.0 c.0 d.0 f.0, f.1) in
     let t = table_at-then listing 11 h.steps d.1 k x least_11 low td.0.rest_fits e in
     record {
@@ -410,42 +410,42 @@ IsTables-from_acknowledge listing h bytes a b c d x low ta tb tc td e =
     }
 
 -- if the first three tables were read, and now the others are, five tables were read
-IsTables-from_grant : (listing : Bool) (h : HeadFields) (bytes : List ℕ) (a b c : TableValue × List ℕ)
+ReadTables-from_grant : (listing : Bool) (h : HeadFields) (bytes : List ℕ) (a b c : TableValue × List ℕ)
     (x : SegmentValue × List ℕ)
     → h.steps < 2 ^ 64 → TableTaken listing 4 h.steps bytes a → TableTaken listing 147 h.steps a.1 b
-    → TableTaken listing 13 h.steps b.1 c → at_grant listing h a.0 b.0 c.0 c.1 ≡ Ok x → IsTables listing h bytes x
-IsTables-from_grant listing h bytes a b c x low ta tb tc e =
+    → TableTaken listing 13 h.steps b.1 c → at_grant listing h a.0 b.0 c.0 c.1 ≡ Ok x → ReadTables listing h bytes x
+ReadTables-from_grant listing h bytes a b c x low ta tb tc e =
     let k = λ (d : TableValue × List ℕ). at_acknowledge listing h a.0 b.0 c.0 d.0 d.1 in
     let t = table_at-then listing 35 h.steps c.1 k x least_35 low tc.0.rest_fits e in
-    IsTables-from_acknowledge listing h bytes a b c t.0 x low ta tb tc t.1 t.2
+    ReadTables-from_acknowledge listing h bytes a b c t.0 x low ta tb tc t.1 t.2
 
 -- if the first two tables were read, and now the others are, five tables were read
-IsTables-from_stability : (listing : Bool) (h : HeadFields) (bytes : List ℕ) (a b : TableValue × List ℕ)
+ReadTables-from_stability : (listing : Bool) (h : HeadFields) (bytes : List ℕ) (a b : TableValue × List ℕ)
     (x : SegmentValue × List ℕ)
     → h.steps < 2 ^ 64 → TableTaken listing 4 h.steps bytes a → TableTaken listing 147 h.steps a.1 b
-    → at_stability listing h a.0 b.0 b.1 ≡ Ok x → IsTables listing h bytes x
-IsTables-from_stability listing h bytes a b x low ta tb e =
+    → at_stability listing h a.0 b.0 b.1 ≡ Ok x → ReadTables listing h bytes x
+ReadTables-from_stability listing h bytes a b x low ta tb e =
     let k = λ (c : TableValue × List ℕ). at_grant listing h a.0 b.0 c.0 c.1 in
     let t = table_at-then listing 13 h.steps b.1 k x least_13 low tb.0.rest_fits e in
-    IsTables-from_grant listing h bytes a b t.0 x low ta tb t.1 t.2
+    ReadTables-from_grant listing h bytes a b t.0 x low ta tb t.1 t.2
 
 -- if the first table was read, and now the others are, five tables were read
-IsTables-from_handshake : (listing : Bool) (h : HeadFields) (bytes : List ℕ) (a : TableValue × List ℕ)
+ReadTables-from_handshake : (listing : Bool) (h : HeadFields) (bytes : List ℕ) (a : TableValue × List ℕ)
     (x : SegmentValue × List ℕ)
     → h.steps < 2 ^ 64 → TableTaken listing 4 h.steps bytes a → at_handshake listing h a.0 a.1 ≡ Ok x
-    → IsTables listing h bytes x
-IsTables-from_handshake listing h bytes a x low ta e =
+    → ReadTables listing h bytes x
+ReadTables-from_handshake listing h bytes a x low ta e =
     let k = λ (b : TableValue × List ℕ). at_stability listing h a.0 b.0 b.1 in
     let t = table_at-then listing 147 h.steps a.1 k x least_147 low ta.0.rest_fits e in
-    IsTables-from_stability listing h bytes a t.0 x low ta t.1 t.2
+    ReadTables-from_stability listing h bytes a t.0 x low ta t.1 t.2
 
 -- if the rest of a segment from the tables on is read, five tables were read
-IsTables-from_known : (listing : Bool) (h : HeadFields) (bytes : List ℕ) (x : SegmentValue × List ℕ) → h.steps < 2 ^ 64
-    → IsBytes bytes → at_known listing h bytes ≡ Ok x → IsTables listing h bytes x
-IsTables-from_known listing h bytes x low fits e =
+ReadTables-from_known : (listing : Bool) (h : HeadFields) (bytes : List ℕ) (x : SegmentValue × List ℕ)
+    → h.steps < 2 ^ 64 → IsBytes bytes → at_known listing h bytes ≡ Ok x → ReadTables listing h bytes x
+ReadTables-from_known listing h bytes x low fits e =
     let k = λ (a : TableValue × List ℕ). at_handshake listing h a.0 a.1 in
     let t = table_at-then listing 4 h.steps bytes k x least_4 low fits e in
-    IsTables-from_handshake listing h bytes t.0 x low t.1 t.2
+    ReadTables-from_handshake listing h bytes t.0 x low t.1 t.2
 
 -- reads the rest of a segment from one of the fields before the tables on
 abbrev at_times : Bool → ℕ × ℕ → ℕ → Levels → Levels → List ℕ → Result (SegmentValue × List ℕ) FieldFault
@@ -488,7 +488,7 @@ module _ (listing : Bool) (before : Option ℕ) (bytes : List ℕ) (x : SegmentV
       let t = times_at-ok n.0.0 n.0.1 st.0 le.1 ti.0 was.taken.rest_fits ti.1 in
       let head : HeadFields =
       record { numbers = n.0; steps = st.0; opening = op.0; left = le.0; times = ti.0.0 } in
-      let tables = IsTables-from_known listing head ti.0.1 x h.few t.0.rest_fits ti.2 in
+      let tables = ReadTables-from_known listing head ti.0.1 x h.few t.0.rest_fits ti.2 in
       let all : HeadTaken before bytes n st sl op le ti.0 =
       record {
         numbers-are = h.numbers-are;
