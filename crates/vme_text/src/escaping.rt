@@ -1,7 +1,7 @@
 //! Escaping of bytes in text for people: no byte steers a terminal or turns the direction of a line.
 
 ghost use Rattle.std.specs.Prelude.{◌≡◌, ◌<◌, ◌++◌, IfOk, OnErr, OnOk, flat_map};
-ghost use Rattle.vme_text.specs.Escaping.{IsVisible, digit_of, hex_escaped_byte, hex_escaped_in_text};
+ghost use Rattle.vme_text.specs.Escaping.{IsVisible, hex_digit, hex_escaped_byte, hex_escaped_in_text};
 
 use crate::text::Text;
 use std::alloc::{AllocError, Global};
@@ -65,14 +65,14 @@ fn push_escaped_byte(all: &mut Vec<u8>, byte: u8) -> Result<(), AllocError>
     if 0x20 <= byte && byte <= 0x7E {
         all.extend_from_slice(&[byte])
     } else {
-        all.extend_from_slice(&[b'\\', b'x', digit_of(byte / 16 % 16), digit_of(byte % 16)])
+        all.extend_from_slice(&[b'\\', b'x', hex_digit(byte / 16 % 16), hex_digit(byte % 16)])
     }
 }
 
 /// The hexadecimal digit of a number below 16.
-fn digit_of(number: u8) -> u8
+fn hex_digit(number: u8) -> u8
     requires { number < 16 }
-    ensures { result ≡ digit_of number }
+    ensures { result ≡ hex_digit number }
 {
     if number < 10 {
         b'0' + number
