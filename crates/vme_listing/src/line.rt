@@ -103,8 +103,8 @@ fn front_number(text: &[u8]) -> Option<(u32, &[u8])>
     Some((number as u32, &text[count..]))
 }
 
-/// A digit in base 16: 0 to 9, A to F.
-fn hexadecimal_digit(byte: u8) -> Option<u8>
+/// The number of a digit in base 16: 0 to 9, A to F.
+fn hexadecimal_value(byte: u8) -> Option<u8>
     ensures small { IfSome result (λ digit. digit < 16) }
     ensures glyph { IfSome result (λ digit. digit_glyph true digit ≡ byte) }
     ensures none { result ≡ None → is_hexadecimal byte ≡ false }
@@ -125,7 +125,7 @@ fn hexadecimal_word(word: &[u8]) -> Option<u32>
 {
     let mut number: u32 = 0;
     for byte in word {
-        let Some(digit) = hexadecimal_digit(*byte) else {
+        let Some(digit) = hexadecimal_value(*byte) else {
             return None;
         };
         number = number * 16 + u32::from(digit);
