@@ -273,6 +273,8 @@ append-segment_fields : (a st lo ll ti tb : List ℕ) (o s : ℕ)
 append-segment_fields a st lo ll ti tb o s = simp append_assoc
 
 -- if the fields before the tables, and the tables, were read one after the other, the segment was read
+-- (n, st, sl, op, le and ti are the fields in the order of `HeadTaken`; a, b, c, d and f are the tables; each with the
+-- bytes after it)
 SegmentTaken-of_fields : (listing : Bool) (before : Option ℕ) (bytes : List ℕ) (n : (ℕ × ℕ) × List ℕ)
     (st sl : ℕ × List ℕ)
     (op le : Levels × List ℕ) (ti : Option SegmentTimes × List ℕ) (a b c d f : TableValue × List ℕ)
