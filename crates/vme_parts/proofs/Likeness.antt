@@ -8,7 +8,7 @@ use Rattle.std.proofs.lemmas.Option.{slice_get-get_or, slice_get-map}
 use Rattle.vme_part_format.specs.Tables.{PartValue, part_value}
 use Rattle.vme_part_format.specs.declared.part.Part.{Part}
 use Rattle.vme_trace.specs.declared.block.Block.{Block}
-use Rattle.vme_parts.specs.Alike.{AreRefused, AreRefusedBy, HasUnlikeAt, HaveApart, IsLike, IsNoDifference}
+use Rattle.vme_parts.specs.Alike.{AreRefused, AreRefusedBy, HasUnlikeAt, HaveApart, IsLike, IsSegmentRefusal}
 use Rattle.vme_parts.specs.Alike.{HaveManyNodes, SomeHaveTooManySteps, first_backplane, first_listing}
 use Rattle.vme_parts.specs.Files.{IsPartOf}
 use Rattle.vme_parts.specs.Gathering.{segments_of}
@@ -53,37 +53,37 @@ pub AreRefused-by_first : (backplane : ℕ) (listing : Bool) (ps : List PartValu
 AreRefused-by_first backplane listing ps why e f h =
     subst (λ b. AreRefusedBy b (first_listing ps) ps why) e (subst (λ l. AreRefusedBy backplane l ps why) f h)
 
--- parts are refused truly for a difference if two of their segments of the same files differ
+-- a refusal of parts for a difference is true if two of their segments of the same files differ
 pub AreRefused-differs : (ps : List PartValue) (why : JoinRefusal) (number : ℕ) → why ≡ refusal.Differs number
     → HaveApart (segments_of ps) number → AreRefused ps why
 AreRefused-differs ps why number e h = subst (AreRefused ps) (sym e) h
 
--- a refusal for too many nodes isn't for a difference, if there are too many
-pub IsNoDifference-many_nodes : (P R : Type 0) (why : JoinRefusal) → why ≡ refusal.TooManyNodes → R
-    → IsNoDifference P R why
-IsNoDifference-many_nodes P R why e h = subst (IsNoDifference P R) (sym e) h
+-- two segments may be refused for too many nodes if there are too many
+pub IsSegmentRefusal-many_nodes : (P R : Type 0) (why : JoinRefusal) → why ≡ refusal.TooManyNodes → R
+    → IsSegmentRefusal P R why
+IsSegmentRefusal-many_nodes P R why e h = subst (IsSegmentRefusal P R) (sym e) h
 
--- a refusal that isn't for a difference stays one if `Q` follows from `P`, and `S` from `R`
-pub IsNoDifference-map : (P Q R S : Type 0) (why : JoinRefusal) → (P → Q) → (R → S) → IsNoDifference P R why
-    → IsNoDifference Q S why
-IsNoDifference-map P Q R S refusal.Memory f g h = tt
-IsNoDifference-map P Q R S (refusal.Backplane place) f g h = absurd h
-IsNoDifference-map P Q R S (refusal.Marks place) f g h = absurd h
-IsNoDifference-map P Q R S (refusal.Differs number) f g h = absurd h
-IsNoDifference-map P Q R S refusal.TooManySteps f g h = f h
-IsNoDifference-map P Q R S refusal.TooManyNodes f g h = g h
-IsNoDifference-map P Q R S refusal.TooManySegments f g h = absurd h
+-- a refusal of two segments stays one if `Q` follows from `P`, and `S` from `R`
+pub IsSegmentRefusal-map : (P Q R S : Type 0) (why : JoinRefusal) → (P → Q) → (R → S) → IsSegmentRefusal P R why
+    → IsSegmentRefusal Q S why
+IsSegmentRefusal-map P Q R S refusal.Memory f g h = tt
+IsSegmentRefusal-map P Q R S (refusal.Backplane place) f g h = absurd h
+IsSegmentRefusal-map P Q R S (refusal.Marks place) f g h = absurd h
+IsSegmentRefusal-map P Q R S (refusal.Differs number) f g h = absurd h
+IsSegmentRefusal-map P Q R S refusal.TooManySteps f g h = f h
+IsSegmentRefusal-map P Q R S refusal.TooManyNodes f g h = g h
+IsSegmentRefusal-map P Q R S refusal.TooManySegments f g h = absurd h
 
--- parts are refused truly if the refusal isn't for a difference, if some files have too many steps where it is for
--- these, and if their segments have too many nodes where it is for these
-pub AreRefused-no_difference : (ps : List PartValue) (why : JoinRefusal)
-    → IsNoDifference ((files : List Block) → All (IsPartOf files) ps → SomeHaveTooManySteps files)
+-- a refusal of two segments is a true one of the parts, if some of the parts' files have too many steps where it is for
+-- steps, and their segments have too many nodes where it is for nodes
+pub AreRefused-by_segments : (ps : List PartValue) (why : JoinRefusal)
+    → IsSegmentRefusal ((files : List Block) → All (IsPartOf files) ps → SomeHaveTooManySteps files)
     (HaveManyNodes (segments_of ps)) why
     → AreRefused ps why
-AreRefused-no_difference ps refusal.Memory h = tt
-AreRefused-no_difference ps (refusal.Backplane place) h = absurd h
-AreRefused-no_difference ps (refusal.Marks place) h = absurd h
-AreRefused-no_difference ps (refusal.Differs number) h = absurd h
-AreRefused-no_difference ps refusal.TooManySteps h = h
-AreRefused-no_difference ps refusal.TooManyNodes h = h
-AreRefused-no_difference ps refusal.TooManySegments h = absurd h
+AreRefused-by_segments ps refusal.Memory h = tt
+AreRefused-by_segments ps (refusal.Backplane place) h = absurd h
+AreRefused-by_segments ps (refusal.Marks place) h = absurd h
+AreRefused-by_segments ps (refusal.Differs number) h = absurd h
+AreRefused-by_segments ps refusal.TooManySteps h = h
+AreRefused-by_segments ps refusal.TooManyNodes h = h
+AreRefused-by_segments ps refusal.TooManySegments h = absurd h

@@ -122,13 +122,13 @@ AreRefusedBy backplane listing ps refusal.TooManySegments = HaveManySegments ps
 abbrev pub AreRefused : List PartValue → JoinRefusal → Type 0
 AreRefused ps why = AreRefusedBy (first_backplane ps) (first_listing ps) ps why
 
--- a refusal for which two segments aren't joined: it isn't for a difference between parts, nor for too many segments;
--- if it is for too many steps, `Steps` holds, and if it is for too many nodes, `Nodes`
-abbrev pub IsNoDifference : Type 0 → Type 0 → JoinRefusal → Type 0
-IsNoDifference Steps Nodes refusal.Memory = Unit {0}
-IsNoDifference Steps Nodes (refusal.Backplane place) = ⊥
-IsNoDifference Steps Nodes (refusal.Marks place) = ⊥
-IsNoDifference Steps Nodes (refusal.Differs number) = ⊥
-IsNoDifference Steps Nodes refusal.TooManySteps = Steps
-IsNoDifference Steps Nodes refusal.TooManyNodes = Nodes
-IsNoDifference Steps Nodes refusal.TooManySegments = ⊥
+-- a refusal for which two segments aren't joined: for want of memory; for too many steps, and then `Steps` holds; or
+-- for too many nodes, and then `Nodes` holds
+abbrev pub IsSegmentRefusal : Type 0 → Type 0 → JoinRefusal → Type 0
+IsSegmentRefusal Steps Nodes refusal.Memory = Unit {0}
+IsSegmentRefusal Steps Nodes (refusal.Backplane place) = ⊥
+IsSegmentRefusal Steps Nodes (refusal.Marks place) = ⊥
+IsSegmentRefusal Steps Nodes (refusal.Differs number) = ⊥
+IsSegmentRefusal Steps Nodes refusal.TooManySteps = Steps
+IsSegmentRefusal Steps Nodes refusal.TooManyNodes = Nodes
+IsSegmentRefusal Steps Nodes refusal.TooManySegments = ⊥

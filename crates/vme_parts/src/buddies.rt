@@ -5,7 +5,7 @@ ghost use Rattle.vme_part_format.specs.Bounds.{FitsNumbers};
 ghost use Rattle.vme_part_format.specs.Sizes.{IsCompact};
 ghost use Rattle.vme_part_format.specs.Tables.{last_of, segment_value, table_value};
 ghost use Rattle.vme_part_tables.specs.Ways.{HasWays};
-ghost use Rattle.vme_parts.specs.Alike.{HaveManyNodes, IsNoDifference};
+ghost use Rattle.vme_parts.specs.Alike.{HaveManyNodes, IsSegmentRefusal};
 ghost use Rattle.vme_parts.specs.Buddies.{AreBuddies, FewNodes, HasTables, HaveFewNodes, SegmentGoesOn};
 ghost use Rattle.vme_parts.specs.Buddies.{are_buddies as are_buddies_of};
 ghost use Rattle.vme_parts.specs.Joined.{IsOfBoth};
@@ -117,7 +117,7 @@ pub(crate) fn joined(alloc: Global, first: Segment, second: Segment) -> Result<S
     requires goes_on { SegmentGoesOn (segment_value first) (segment_value second) }
     ensures both { IfOk result (λ r. IsOfBoth (segment_value first) (segment_value second) (segment_value r)) }
     ensures compact { IfOk result (λ r. IsCompact (segment_value r)) }
-    ensures refused { IfErr result (IsNoDifference (2 ^ 64 ≤ first.steps + second.steps)
+    ensures refused { IfErr result (IsSegmentRefusal (2 ^ 64 ≤ first.steps + second.steps)
         (HaveManyNodes (segment_value first ∷ segment_value second ∷ []))) }
 {
     let Some(steps) = first.steps.checked_add(second.steps) else {

@@ -7,7 +7,7 @@ ghost use Rattle.std.specs.List.{last_or};
 ghost use Rattle.std.specs.List.Sorted.{IsNonDecreasingBy};
 ghost use Rattle.vme_part_format.specs.Tables.{SegmentValue, last_of, segment_value};
 ghost use Rattle.vme_part_format.specs.declared.segment.Segment.{Segment};
-ghost use Rattle.vme_parts.specs.Alike.{AreTooLong, HaveManyNodes, IsNoDifference};
+ghost use Rattle.vme_parts.specs.Alike.{AreTooLong, HaveManyNodes, IsSegmentRefusal};
 ghost use Rattle.vme_parts.specs.Gathering.{BeginsInLast, Gathered, IsSegment, Precedes, order_key as order_key_of};
 
 use crate::buddies::{LAST_ORDER, are_joinable, joined, last_file};
@@ -30,7 +30,7 @@ fn join_back(
     ensures gathered { IfOk result (λ s. (done : List SegmentValue)
         → Gathered done (map segment_value segments.old.items ++ segment_value next ∷ [])
         → Gathered done (map segment_value segments.new.items ++ segment_value s ∷ [])) }
-    ensures refused { IfErr result (IsNoDifference
+    ensures refused { IfErr result (IsSegmentRefusal
         ((done : List SegmentValue) → Gathered done (map segment_value segments.old.items ++ segment_value next ∷ [])
         → AreTooLong done)
         ((done : List SegmentValue) → Gathered done (map segment_value segments.old.items ++ segment_value next ∷ [])
@@ -75,7 +75,7 @@ fn add(alloc: Global, segments: &mut Vec<Segment>, next: Segment) -> Result<(), 
         (λ last. Precedes last (segment_value next))) }
     ensures gathered { OnOk result ((done : List SegmentValue) → Gathered done (map segment_value segments.old.items)
         → Gathered (done ++ segment_value next ∷ []) (map segment_value segments.new.items)) }
-    ensures refused { IfErr result (IsNoDifference
+    ensures refused { IfErr result (IsSegmentRefusal
         ((done : List SegmentValue) → Gathered done (map segment_value segments.old.items)
         → AreTooLong (done ++ segment_value next ∷ []))
         ((done : List SegmentValue) → Gathered done (map segment_value segments.old.items)
@@ -113,7 +113,7 @@ pub(crate) fn gather(alloc: Global, all: Vec<Segment>) -> Result<Vec<Segment>, J
     requires segments { All IsSegment (map segment_value all.items) }
     requires order { IsNonDecreasingBy (λ (s : Segment). order_key_of (segment_value s)) all.items }
     ensures gathered { IfOk result (λ v. Gathered (map segment_value all.items) (map segment_value v.items)) }
-    ensures refused { IfErr result (IsNoDifference (AreTooLong (map segment_value all.items))
+    ensures refused { IfErr result (IsSegmentRefusal (AreTooLong (map segment_value all.items))
         (HaveManyNodes (map segment_value all.items))) }
 {
     let mut segments = Vec::new(alloc);

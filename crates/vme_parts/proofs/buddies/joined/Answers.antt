@@ -1,7 +1,7 @@
 use Rattle.std.proofs.Common.{◌+◌, ◌≤◌, ◌^◌, [], ◌∷◌, arith}
 use Rattle.vme_part_format.specs.Tables.{segment_value}
 use Rattle.vme_parts.specs.Alike.{HaveManyNodes}
-use Rattle.vme_parts.proofs.Likeness.{IsNoDifference-many_nodes}
+use Rattle.vme_parts.proofs.Likeness.{IsSegmentRefusal-many_nodes}
 use Rattle.vme_parts.proofs.ManyNodes.{HaveManyNodes-not_compact, HaveManyNodes-not_few}
 use Rattle.vme_parts.proofs.buddies.joined.Goals as goal
 
@@ -21,5 +21,5 @@ returns-in-Err-clause-refused c =
     let s = segment_value c.args.first in
     let t = segment_value c.args.second in
     let (why_is, not_compact) = c.in-Err.ensures.refused in
-    IsNoDifference-many_nodes (2 ^ 64 ≤ s.steps + t.steps) (HaveManyNodes (s ∷ t ∷ [])) c.in-Err.why why_is
+    IsSegmentRefusal-many_nodes (2 ^ 64 ≤ s.steps + t.steps) (HaveManyNodes (s ∷ t ∷ [])) c.in-Err.why why_is
     (HaveManyNodes-not_compact s t (segment_value c.in-Ok.segment) c.requires.first c.in-Ok.ensures not_compact)

@@ -6,7 +6,7 @@ use Rattle.std.proofs.lemmas.List.Elements.{All-push, All-same}
 use Rattle.vme_part_format.specs.Tables.{SegmentValue, segment_value}
 use Rattle.vme_parts.specs.Alike.{AreTooLong, HaveManyNodes}
 use Rattle.vme_parts.specs.Gathering.{Gathered, IsSegment, Precedes}
-use Rattle.vme_parts.proofs.Likeness.{IsNoDifference-map}
+use Rattle.vme_parts.proofs.Likeness.{IsSegmentRefusal-map}
 use Rattle.vme_parts.proofs.Ordering.{Gathered-after_last, Gathered-in_last, last_or-push}
 use Rattle.vme_parts.proofs.gather.add.Goals as goal
 
@@ -53,7 +53,7 @@ returns-in-Err-clause-refused c =
     let old = map segment_value c.args.segments.now.items in
     let next = segment_value c.args.next in
     let behind = rw c.as_slice.ensures.value at (c.begins_in_last.ensures.behind c.if-begins_in_last.false) in
-    IsNoDifference-map ((done : List SegmentValue) → Gathered done (old ++ next ∷ []) → AreTooLong done)
+    IsSegmentRefusal-map ((done : List SegmentValue) → Gathered done (old ++ next ∷ []) → AreTooLong done)
     ((done : List SegmentValue) → Gathered done old → AreTooLong (done ++ next ∷ []))
     ((done : List SegmentValue) → Gathered done (old ++ next ∷ []) → HaveManyNodes done)
     ((done : List SegmentValue) → Gathered done old → HaveManyNodes (done ++ next ∷ [])) c.in-Err.why

@@ -12,7 +12,7 @@ use Rattle.vme_parts.specs.Alike.{AreTooLong, HaveManyNodes}
 use Rattle.vme_parts.specs.Gathering.{Gathered, IsSegment, Precedes}
 use Rattle.vme_parts.proofs.Backward.{AreTooLong-append, HaveManyNodes-first}
 use Rattle.vme_parts.proofs.Gathering.{Gathered-nothing}
-use Rattle.vme_parts.proofs.Likeness.{IsNoDifference-map}
+use Rattle.vme_parts.proofs.Likeness.{IsSegmentRefusal-map}
 use Rattle.vme_parts.proofs.Ordering.{Precedes-next_of_sorted, Precedes-last_and_all, Precedes-last_and_head}
 use Rattle.vme_parts.proofs.gather.gather.Goals as goal
 
@@ -90,7 +90,7 @@ returns-in-Err-clause-refused c =
     let more = into_iter_items c.next.new.self in
     let steps : into_iter_items at.segment-iterator ≡ x ∷ more = c.in-Some.ensures.steps.0 in
     let old = map segment_value at.segments.items in
-    IsNoDifference-map ((done : List SegmentValue) → Gathered done old → AreTooLong (done ++ segment_value x ∷ []))
+    IsSegmentRefusal-map ((done : List SegmentValue) → Gathered done old → AreTooLong (done ++ segment_value x ∷ []))
     (AreTooLong (map segment_value c.args.all.items))
     ((done : List SegmentValue) → Gathered done old → HaveManyNodes (done ++ segment_value x ∷ []))
     (HaveManyNodes (map segment_value c.args.all.items)) c.in-Err.why

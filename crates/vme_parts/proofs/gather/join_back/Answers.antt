@@ -7,7 +7,7 @@ use Rattle.vme_parts.specs.Gathering.{Gathered, IsSegment}
 use Rattle.vme_parts.proofs.Backward.{IsSegment-first, IsSegment-popped_front, IsSegment-popped_last}
 use Rattle.vme_parts.proofs.Backward.{AreTooLong-buddies, Gathered-buddies_joined, HaveManyNodes-buddies}
 use Rattle.vme_parts.proofs.Halves.{Precedes-of_both, IsSegment-of_both}
-use Rattle.vme_parts.proofs.Likeness.{IsNoDifference-map}
+use Rattle.vme_parts.proofs.Likeness.{IsSegmentRefusal-map}
 use Rattle.vme_parts.proofs.Ordering.{Precedes-reflexive}
 use Rattle.vme_parts.proofs.gather.join_back.Goals as goal
 
@@ -91,7 +91,7 @@ returns-in-Err-clause-refused c =
     let s = segment_value c.in-Some.last in
     let t = segment_value c.loop-last.next in
     let all = map segment_value c.args.segments.now.items ++ segment_value c.args.next ∷ [] in
-    IsNoDifference-map (2 ^ 64 ≤ s.steps + t.steps) ((done : List SegmentValue) → Gathered done all → AreTooLong done)
+    IsSegmentRefusal-map (2 ^ 64 ≤ s.steps + t.steps) ((done : List SegmentValue) → Gathered done all → AreTooLong done)
     (HaveManyNodes (s ∷ t ∷ [])) ((done : List SegmentValue) → Gathered done all → HaveManyNodes done) c.in-Err.why
     (λ many done g.
     AreTooLong-buddies done c.loop-last.segments.items c.pop.new.self.items c.in-Some.last t c.in-Some.ensures.items

@@ -12,7 +12,7 @@ use Rattle.vme_parts.specs.Gathering.{segments_of}
 use Rattle.vme_parts.proofs.JoinedParts.{AllAlike-unsorted, JoinsParts-sorted, HaveApart-unsorted, IsCompactPart-sorted}
 use Rattle.vme_parts.proofs.JoinedParts.{FitsPart-sorted, Gathered-unsorted, SomeHaveTooManySteps-sorted}
 use Rattle.vme_parts.proofs.JoinedParts.{HaveManyNodes-unsorted, IsSegment-sorted}
-use Rattle.vme_parts.proofs.Likeness.{IsNoDifference-map, AreRefused-differs, AreRefused-no_difference}
+use Rattle.vme_parts.proofs.Likeness.{IsSegmentRefusal-map, AreRefused-differs, AreRefused-by_segments}
 use Rattle.vme_parts.proofs.join.join_parts.Goals as goal
 
 pub gather-requires-clause-segments : goal.gather-requires-clause-segments
@@ -140,8 +140,8 @@ returns-in-Err-gather-clause-refused c =
     let listed : All (λ (p : PartValue). p.listing ≡ listing) parts =
     All-weaker (IsLike backplane listing) (λ (p : PartValue). p.listing ≡ listing) (λ p like. like.1) parts
     (rw c.as_slice-3.ensures.value at c.in_ok-check_alike.ensures.like) in
-    AreRefused-no_difference parts c.in-Err-gather.why
-    (IsNoDifference-map (AreTooLong sorted)
+    AreRefused-by_segments parts c.in-Err-gather.why
+    (IsSegmentRefusal-map (AreTooLong sorted)
     ((files : List Block) → All (IsPartOf files) parts → SomeHaveTooManySteps files) (HaveManyNodes sorted)
     (HaveManyNodes (segments_of parts)) c.in-Err-gather.why
     (λ long.
