@@ -15,7 +15,7 @@ use Rattle.vme_part_format.specs.Sizes.{IsCompact, IsCompactPart}
 use Rattle.vme_part_format.specs.Tables.{PartValue, SegmentValue, TableValue, last_of, part_value, segment_value}
 use Rattle.vme_part_format.specs.declared.part.Part.{Part}
 use Rattle.vme_part_tables.proofs.Fitting.{has_ways}
-use Rattle.vme_parts.specs.Alike.{AllAlike, AreTooLong, HaveApart, HaveManyNodes, SomeHaveTooManySteps}
+use Rattle.vme_parts.specs.Alike.{AllAlike, AreTooLong, HaveManyNodes, SegmentsDifferAt, SomeHaveTooManySteps}
 use Rattle.vme_parts.specs.Buddies.{IsTableOf}
 use Rattle.vme_parts.specs.Files.{AllStand, IsPartOf, JoinsParts, SegmentsCover, SomeCovers}
 use Rattle.vme_parts.specs.Files.{files_of}
@@ -255,8 +255,9 @@ module _ (ps : List PartValue) (made sorted : List SegmentValue) (e : made ≡ s
       }
 
   -- if two of the sorted segments of the same files differ, they do so in the parts
-  pub HaveApart-unsorted : (number : ℕ) → HaveApart sorted number → HaveApart (segments_of ps) number
-  HaveApart-unsorted number a =
+  pub SegmentsDifferAt-unsorted : (number : ℕ) → SegmentsDifferAt sorted number
+      → SegmentsDifferAt (segments_of ps) number
+  SegmentsDifferAt-unsorted number a =
       record {
         one = a.one;
         other = a.other;
@@ -264,7 +265,7 @@ module _ (ps : List PartValue) (made sorted : List SegmentValue) (e : made ≡ s
         other_there = Contains-unsorted a.other a.other_there;
         numbered = a.numbered;
         same_files = a.same_files;
-        apart = a.apart;
+        differ = a.differ;
       }
 
 -- the part r, whose segments are gathered from all segments of the parts ps, sorted

@@ -8,8 +8,8 @@ use Rattle.std.proofs.lemmas.Option.{slice_get-get_or, slice_get-map}
 use Rattle.vme_part_format.specs.Tables.{PartValue, part_value}
 use Rattle.vme_part_format.specs.declared.part.Part.{Part}
 use Rattle.vme_trace.specs.declared.block.Block.{Block}
-use Rattle.vme_parts.specs.Alike.{AreRefused, AreRefusedBy, HasUnlikeAt, HaveApart, IsLike, IsSegmentRefusal}
-use Rattle.vme_parts.specs.Alike.{HaveManyNodes, SomeHaveTooManySteps, first_backplane, first_listing}
+use Rattle.vme_parts.specs.Alike.{AreRefused, AreRefusedBy, HasUnlikeAt, IsLike, IsSegmentRefusal}
+use Rattle.vme_parts.specs.Alike.{HaveManyNodes, SegmentsDifferAt, SomeHaveTooManySteps, first_backplane, first_listing}
 use Rattle.vme_parts.specs.Files.{IsPartOf}
 use Rattle.vme_parts.specs.Gathering.{segments_of}
 use Rattle.vme_parts.specs.declared.join_refusal.JoinRefusal.{JoinRefusal}
@@ -55,7 +55,7 @@ AreRefused-by_first backplane listing ps why e f h =
 
 -- a refusal of parts for a difference is true if two of their segments of the same files differ
 pub AreRefused-differs : (ps : List PartValue) (why : JoinRefusal) (number : ℕ) → why ≡ refusal.Differs number
-    → HaveApart (segments_of ps) number → AreRefused ps why
+    → SegmentsDifferAt (segments_of ps) number → AreRefused ps why
 AreRefused-differs ps why number e h = subst (AreRefused ps) (sym e) h
 
 -- two segments may be refused for too many nodes if there are too many

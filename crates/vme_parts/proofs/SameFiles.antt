@@ -7,7 +7,7 @@ use Rattle.std.proofs.lemmas.Bool.{cases_order}
 use Rattle.std.proofs.lemmas.List.{get_or-map, length-map}
 use Rattle.vme_part_format.specs.Tables.{SegmentValue, TableValue, segment_value}
 use Rattle.vme_part_format.specs.declared.segment.Segment.{Segment}
-use Rattle.vme_parts.specs.Alike.{AllAlike, AreAlike, AreTablesAlike, HaveApart, HaveSameFiles}
+use Rattle.vme_parts.specs.Alike.{AllAlike, AreAlike, AreTablesAlike, HaveSameFiles, SegmentsDifferAt}
 use Rattle.vme_parts.specs.Gathering.{IsSegment, Precedes, order_key}
 use Rattle.vme_parts.proofs.Ordering.{Precedes-by_key}
 
@@ -217,11 +217,11 @@ pub AllAlike-neighbours : (xs : List Segment) → All IsSegment (map segment_val
 AllAlike-neighbours [] all sorted next = λ s t p q same. absurd (omega (arith, p.1))
 AllAlike-neighbours (x ∷ xs) all sorted next = AllAlike-in_order (x ∷ xs) all sorted next x
 
--- if two neighbours of the same files differ, `HaveApart` holds
-pub HaveApart-neighbours : (xs : List Segment) (n : ℕ) (a b : Segment) → 0 < n → n < length xs → a ≡ get_or xs (n - 1) a
-    → b ≡ get_or xs n b → HaveSameFiles (segment_value a) (segment_value b)
-    → (AreAlike (segment_value a) (segment_value b) → ⊥) → HaveApart (map segment_value xs) a.first
-HaveApart-neighbours xs n a b some h is-a is-b same apart =
+-- if two neighbours of the same files differ, `SegmentsDifferAt` holds
+pub SegmentsDifferAt-neighbours : (xs : List Segment) (n : ℕ) (a b : Segment) → 0 < n → n < length xs
+    → a ≡ get_or xs (n - 1) a → b ≡ get_or xs n b → HaveSameFiles (segment_value a) (segment_value b)
+    → (AreAlike (segment_value a) (segment_value b) → ⊥) → SegmentsDifferAt (map segment_value xs) a.first
+SegmentsDifferAt-neighbours xs n a b some h is-a is-b same differ =
     record {
       one = segment_value a;
       other = segment_value b;
@@ -229,7 +229,7 @@ HaveApart-neighbours xs n a b some h is-a is-b same apart =
       other_there = there n b h is-b;
       numbered = refl;
       same_files = same;
-      apart = apart;
+      differ = differ;
     }
   where
     there : (k : ℕ) (x : Segment) → k < length xs → x ≡ get_or xs k x

@@ -40,14 +40,14 @@ abbrev pub AllAlike : List SegmentValue → Type 0
 AllAlike ss = (s t : SegmentValue) → Contains ss s → Contains ss t → HaveSameFiles s t → AreAlike s t
 
 -- two segments of the same files, from `number` on, differ
-pub record HaveApart (ss : List SegmentValue) (number : ℕ) : Type 0 where
+pub record SegmentsDifferAt (ss : List SegmentValue) (number : ℕ) : Type 0 where
   pub one : SegmentValue
   pub other : SegmentValue
   pub one_there : Contains ss one
   pub other_there : Contains ss other
   pub numbered : one.first ≡ number
   pub same_files : HaveSameFiles one other
-  pub apart : AreAlike one other → ⊥
+  pub differ : AreAlike one other → ⊥
 
 -- the part p is of `backplane`, and has marks if `listing` is `true`, else none
 abbrev pub IsLike : ℕ → Bool → PartValue → Type 0
@@ -113,7 +113,7 @@ AreRefusedBy backplane listing ps (refusal.Backplane place) =
     HasUnlikeAt backplane listing ps place (λ p. p.backplane ≡ backplane → ⊥)
 AreRefusedBy backplane listing ps (refusal.Marks place) =
     HasUnlikeAt backplane listing ps place (λ p. (p.backplane ≡ backplane) × (p.listing ≡ listing → ⊥))
-AreRefusedBy backplane listing ps (refusal.Differs number) = HaveApart (segments_of ps) number
+AreRefusedBy backplane listing ps (refusal.Differs number) = SegmentsDifferAt (segments_of ps) number
 AreRefusedBy backplane listing ps refusal.TooManySteps =
     (files : List Block) → All (IsPartOf files) ps → SomeHaveTooManySteps files
 AreRefusedBy backplane listing ps refusal.TooManyNodes = HaveManyNodes (segments_of ps)

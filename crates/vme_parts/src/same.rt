@@ -5,7 +5,7 @@ ghost use Rattle.std.specs.List.Sorted.{IsNonDecreasingBy};
 ghost use Rattle.vme_part_format.specs.Tables.{segment_value, table_value};
 ghost use Rattle.vme_part_format.specs.declared.segment.Segment.{Segment};
 ghost use Rattle.vme_part_tables.specs.Ways.{HasWays, outcome_in};
-ghost use Rattle.vme_parts.specs.Alike.{AllAlike, AreAlike, AreTablesAlike, HaveApart, HaveSameFiles};
+ghost use Rattle.vme_parts.specs.Alike.{AllAlike, AreAlike, AreTablesAlike, HaveSameFiles, SegmentsDifferAt};
 ghost use Rattle.vme_parts.specs.Buddies.{HasTables};
 ghost use Rattle.vme_parts.specs.Gathering.{IsSegment, order_key};
 ghost use Rattle.vme_parts.specs.declared.join_refusal.JoinRefusal.TheVariants as refusal;
@@ -163,7 +163,7 @@ pub(crate) fn compare_all(segments: &[Segment]) -> Result<(), JoinRefusal>
     requires order { IsNonDecreasingBy (λ (s : Segment). order_key (segment_value s)) segments.now }
     ensures alike { OnOk result (AllAlike (map segment_value segments.now)) }
     ensures apart { IfErr result (λ why. (number : ℕ) × (why ≡ refusal.Differs number)
-        × HaveApart (map segment_value segments.now) number) }
+        × SegmentsDifferAt (map segment_value segments.now) number) }
 {
     for place in 1..segments.len() {
         if let Err(why) = compare(&segments[place - 1], &segments[place]) {

@@ -9,7 +9,8 @@ use Rattle.vme_part_format.specs.Tables.{PartValue, part_value, segment_value}
 use Rattle.vme_parts.specs.Alike.{AreTooLong, HaveManyNodes, IsLike, SomeHaveTooManySteps}
 use Rattle.vme_parts.specs.Files.{IsPartOf}
 use Rattle.vme_parts.specs.Gathering.{segments_of}
-use Rattle.vme_parts.proofs.JoinedParts.{AllAlike-unsorted, JoinsParts-sorted, HaveApart-unsorted, IsCompactPart-sorted}
+use Rattle.vme_parts.proofs.JoinedParts.{AllAlike-unsorted, JoinsParts-sorted, SegmentsDifferAt-unsorted}
+use Rattle.vme_parts.proofs.JoinedParts.{IsCompactPart-sorted}
 use Rattle.vme_parts.proofs.JoinedParts.{FitsPart-sorted, Gathered-unsorted, SomeHaveTooManySteps-sorted}
 use Rattle.vme_parts.proofs.JoinedParts.{HaveManyNodes-unsorted, IsSegment-sorted}
 use Rattle.vme_parts.proofs.Likeness.{IsSegmentRefusal-map, AreRefused-differs, AreRefused-by_segments}
@@ -126,7 +127,7 @@ returns-in-Err-clause-refused c =
     let parts = map part_value c.args.parts.items in
     let (number, same, apart) = c.in-Err.ensures.apart in
     AreRefused-differs parts c.in-Err.why number same
-    (HaveApart-unsorted parts (map segment_value c.in_ok-all.all.items)
+    (SegmentsDifferAt-unsorted parts (map segment_value c.in_ok-all.all.items)
     (map segment_value c.sort_segments.new.segments.items) c.in_ok-all.ensures
     (IsPermutation-map segment_value c.in_ok-all.all.items c.sort_segments.new.segments.items
     c.sort_segments.ensures.same) number (rw c.as_slice-4.ensures.value at apart))

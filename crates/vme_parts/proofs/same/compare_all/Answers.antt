@@ -1,6 +1,6 @@
 use Rattle.std.proofs.Common.{◌-◌, arith}
 use Rattle.vme_parts.proofs.Ordering.{IsSegment-item_at}
-use Rattle.vme_parts.proofs.SameFiles.{AllAlike-neighbours, HaveApart-neighbours, NextAlike-next}
+use Rattle.vme_parts.proofs.SameFiles.{AllAlike-neighbours, SegmentsDifferAt-neighbours, NextAlike-next}
 use Rattle.vme_parts.proofs.same.compare_all.Goals as goal
 
 pub loop-place-init : goal.loop-place-init
@@ -23,7 +23,7 @@ returns-in-Err-clause-apart c =
     let (same, files, apart) = c.in-Err.ensures.apart in (
       a.first,
       same,
-      HaveApart-neighbours c.args.segments.now c.loop-place.place a b (omega arith) c.loop-place-test.true
+      SegmentsDifferAt-neighbours c.args.segments.now c.loop-place.place a b (omega arith) c.loop-place-test.true
           c.index-segments-place.is
           c.index-segments-place-in-loop-place.is files apart,
     )
