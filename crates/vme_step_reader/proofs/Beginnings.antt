@@ -143,22 +143,22 @@ module _ (b : BoundLines) (front : List ℕ) (k : ℕ) (apart : IsApart front k)
       ∙ ap (whole_reading r) (drop-cut n rest long))
 
   -- a beginning of each text that begins with the tokens of `cut` is one of `front` with any bytes after it
-  pub BeginsAt-each : (result : Result (Option (StepReading × ℕ)) CaptureFault) → EndsAfterSpace cut
+  pub BeginsAt-from_cut : (result : Result (Option (StepReading × ℕ)) CaptureFault) → EndsAfterSpace cut
       → IfOk result (λ found. IfSome found (λ begun. begun.1 ≤ length cut))
       → IfOk result (λ found. IfSome found (λ begun.
       line_behind begun.0.speculative.body.line (drop begun.1 cut) ≡ line_behind 1 cut))
       → IfOk result (λ found. IfSome found (λ begun. BeginsAt begun.0 begun.1))
       → IfOk result (λ found. IfSome found (λ begun. (rest : List ℕ)
       → reading_of_text b (front ++ rest) ≡ Ok (whole_reading begun.0 (drop begun.1 front ++ rest))))
-  BeginsAt-each (Ok (Some begun)) space long line begins = reading_of_text-from_cut begun.0 begun.1 space long line
+  BeginsAt-from_cut (Ok (Some begun)) space long line begins = reading_of_text-from_cut begun.0 begun.1 space long line
       begins
-  BeginsAt-each (Ok None) space long line begins = tt
-  BeginsAt-each (Err fault) space long line begins = tt
+  BeginsAt-from_cut (Ok None) space long line begins = tt
+  BeginsAt-from_cut (Err fault) space long line begins = tt
 
   -- a fault of each text that begins with the tokens of `cut` is one of `front` with any bytes after it
-  pub CaptureFailsBy-each : (result : Result (Option (StepReading × ℕ)) CaptureFault)
+  pub CaptureFailsBy-from_cut : (result : Result (Option (StepReading × ℕ)) CaptureFault)
       → IfErr result (λ fault. (whole : List ℕ) (more : List Token) → tokens whole ≡ tokens cut ++ more
       → CaptureFailsBy fault (reading_of_text b whole))
       → IfErr result (λ fault. (rest : List ℕ) → CaptureFailsBy fault (reading_of_text b (front ++ rest)))
-  CaptureFailsBy-each (Ok found) fails = tt
-  CaptureFailsBy-each (Err fault) fails = λ rest. fails (front ++ rest) _ (tokens-cut front k apart rest)
+  CaptureFailsBy-from_cut (Ok found) fails = tt
+  CaptureFailsBy-from_cut (Err fault) fails = λ rest. fails (front ++ rest) _ (tokens-cut front k apart rest)
