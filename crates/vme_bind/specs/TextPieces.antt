@@ -12,7 +12,7 @@ use Rattle.vcd_read.specs.Tokens.{Token, tokens, tokens_from}
 use Rattle.vcd_read.specs.declared.fault.VcdFault.{VcdFault}
 use Rattle.vme_bind.specs.declared.fault.BindFault.{BindFault}
 use Rattle.vme_bind.specs.declared.fault.CaptureFault.{CaptureFault}
-use Rattle.vme_bind.specs.declared.text_state.TextPieces.{TextPieces}
+use Rattle.vme_bind.specs.declared.text_reader.TextReader.{TextReader}
 use Rattle.vme_bind.specs.declared.fault.CaptureFault.TheVariants.{Dump, Binding}
 use Rattle.vme_bind.specs.BuilderState.{BuilderState, builder_change, builder_instant}
 use Rattle.vme_bind.specs.TextCapture.{CaptureFailsBy, body_recording, or_dump, recording_of_text}
@@ -35,7 +35,7 @@ pub record TextReached : Type 0 where
   pub fault : Option BindFault
   pub body : Reached BuilderState
 
-abbrev pub text_reached : {F : Type 0} {follows : Ghosts F} → TextPieces F follows → TextReached
+abbrev pub text_reached : {F : Type 0} {follows : Ghosts F} → TextReader F follows → TextReached
 text_reached text = record { fault = text.fault; body = reached (λ made. made) text.pieces }
 
 -- the result for `tokens` and then `more`, from the state `t`
@@ -44,7 +44,7 @@ outcome_ahead t tokens more = outcome t.fault (rest_of builder_change builder_in
     >>= at_end builder_instant)
 
 -- the result for the bytes `piece` and then the tokens `more`, from the state of `text`
-abbrev pub outcome_from : {F : Type 0} {follows : Ghosts F} → TextPieces F follows → List ℕ → List Token
+abbrev pub outcome_from : {F : Type 0} {follows : Ghosts F} → TextReader F follows → List ℕ → List Token
     → Result Trace CaptureFault
 outcome_from text piece more =
     let reached = text_reached text in

@@ -26,7 +26,7 @@ use Rattle.vme_bind.specs.Capture.{recording}
 use Rattle.vme_bind.specs.BuilderState.{BuilderState, builder_change, builder_instant}
 use Rattle.vme_bind.specs.TextCapture.{or_binding, or_dump}
 use Rattle.vme_bind.specs.TextPieces.{TextReached, text_reached}
-use Rattle.vme_bind.specs.declared.text_state.TextPieces.{TextPieces}
+use Rattle.vme_bind.specs.declared.text_reader.TextReader.{TextReader}
 
 -- The recording of the instants of a body that are complete, the first fault of the body, if it has one, and the last
 -- time in the body before that fault or its end: 0 where there is none.
@@ -88,7 +88,7 @@ or_fault None reading = Ok reading
 or_fault (Some fault) reading = Err (Binding fault)
 
 -- the reading of the bytes `piece` and then the tokens `more`, from the state of `text`, or the fault of the binding
-abbrev pub reading_from : {F : Type 0} {follows : Ghosts F} → TextPieces F follows → List ℕ → List Token
+abbrev pub reading_from : {F : Type 0} {follows : Ghosts F} → TextReader F follows → List ℕ → List Token
     → Result TextReading CaptureFault
 reading_from text piece more =
     let reached = text_reached text in

@@ -10,20 +10,20 @@ ghost use Rattle.vme_bind.specs.declared.fault.CaptureFault.TheVariants.{Dump};
 use crate::binding::Binding;
 use crate::fault::CaptureFault;
 use crate::input_fault::{InputFault, is_want};
-use crate::text_state::TextPieces;
+use crate::text_reader::TextReader;
 use std::alloc::{AllocError, Global};
 use vcd_read::{ByteConsumer, VcdFault, whole_tokens};
 use vme_trace::StepVisitor;
 
 /// Reads a dump as its text comes, and gives its recording by a binding to a visitor. No text is kept: the caller holds
-/// the bytes that aren't taken. A caller that reads a body in another way, as several workers do, uses the `TextPieces`
-/// of `Body`, and continues with a `Body` of the `TextPieces` that reading gives.
+/// the bytes that aren't taken. A caller that reads a body in another way, as several workers do, uses the `TextReader`
+/// of `Body`, and continues with a `Body` of the `TextReader` that reading gives.
 #[derive(Drop)]
 pub enum DumpReader<'b, F: StepVisitor> {
     /// The definitions don't end in the bytes that were seen, and no byte was taken.
     Definitions(&'b Binding, F),
     /// The definitions are read, and what was taken of the body.
-    Body(TextPieces<F>),
+    Body(TextReader<F>),
     /// The dump, or the binding for it, has a fault.
     Failed(InputFault),
 }

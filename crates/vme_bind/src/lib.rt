@@ -12,7 +12,7 @@
 //!   steps at which they change.
 //! - `capture`, `text_capture`: the recording of a dump that was read, and of a text that is read
 //!   once and isn't kept.
-//! - `text_pieces`, `text_state`: the recording of a text that comes piece by piece.
+//! - `text_pieces`, `text_reader`: the recording of a text that comes piece by piece.
 //! - `dump_reader`, `input_fault`: a dump that is read as its text comes, its definitions first; its
 //!   fault, if one is met.
 //! - `laws`: the recording before a place of a text is a prefix of the recording of the text.
@@ -26,7 +26,7 @@
 //! - `Binding::capture` answers exactly the recording that binding and dump give, or the first
 //!   faulty line of the binding (`capture_of`). `Binding::capture_text` answers the same of the
 //!   dump's text; the dump's first fault takes precedence over one of the binding.
-//! - `Binding::record_text` and [`TextPieces`] give that recording step by step to a `StepVisitor`,
+//! - `Binding::record_text` and [`TextReader`] give that recording step by step to a `StepVisitor`,
 //!   and keep none of it (`gives`, `formed`, `TextContinuesAs`). With a fault of the dump comes the
 //!   visitor, which has the steps of the instants that are complete before the fault, and the last
 //!   time before it (`ReadingContinuesAs`). A fault of the binding is known before the body is read
@@ -80,7 +80,7 @@ mod statements;
 mod step_collector;
 mod text_capture;
 mod text_pieces;
-mod text_state;
+mod text_reader;
 mod words;
 
 pub use binding::{Binding, read_binding};
@@ -90,4 +90,4 @@ pub use input_fault::InputFault;
 pub use laws::recorded_before_is_a_prefix;
 pub use speculative_reader::{SpeculativeChunk, SpeculativeReader};
 pub use step_collector::StepCollector;
-pub use text_state::TextPieces;
+pub use text_reader::TextReader;

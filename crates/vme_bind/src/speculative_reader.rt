@@ -15,7 +15,7 @@ use crate::capture_builder::{CaptureBuilder, ChangeDiscarder, SpeculativeBuilder
 use crate::fault::BindFault;
 use crate::net_lines::NetLines;
 use crate::recorder::Recorder;
-use crate::text_state::TextPieces;
+use crate::text_reader::TextReader;
 use std::alloc::{AllocError, Global};
 use std::marker::Model;
 use vcd_read::{BodyReader, DetachedPiece};
@@ -79,12 +79,12 @@ impl Model for SpeculativeChunk {
         × ((l : ℕ) → is_assigned a.assigned l ≡ true → IsLine a.from.slots l) };
 }
 
-impl<F: StepVisitor> TextPieces<F> {
+impl<F: StepVisitor> TextReader<F> {
     /// Separates the visitor from the rest, so that pieces can be read ahead.
     pub fn into_speculative(self) -> (SpeculativeReader, F)
         ensures { with_recording (F.recorded result.1) result.0 ≡ text_reached self }
     {
-        let TextPieces { pieces, fault } = self;
+        let TextReader { pieces, fault } = self;
         let (pieces, made) = pieces.with_visitor(ChangeDiscarder);
         let (line_bits, recorder, visitor) = made.into_parts();
         let speculative = SpeculativeReader {
@@ -99,7 +99,7 @@ impl<F: StepVisitor> TextPieces<F> {
 
 impl SpeculativeReader {
     /// Continues the recording with `visitor`.
-    pub fn with_step_visitor<F: StepVisitor>(self, visitor: F) -> TextPieces<F>
+    pub fn with_step_visitor<F: StepVisitor>(self, visitor: F) -> TextReader<F>
         ensures { text_reached result ≡ with_recording (F.recorded visitor) self }
     {
         let SpeculativeReader {
@@ -109,7 +109,7 @@ impl SpeculativeReader {
             recorder,
         } = self;
         let (pieces, _) = pieces.with_visitor(CaptureBuilder::new(line_bits, recorder, visitor));
-        TextPieces { pieces, fault }
+        TextReader { pieces, fault }
     }
 
     /// The line that the next piece begins on, from 1.

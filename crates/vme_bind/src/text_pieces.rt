@@ -26,7 +26,7 @@ use crate::capture_builder::CaptureBuilder;
 use crate::fault::{BindFault, BindFaultKind, CaptureFault};
 use crate::search::Search;
 use crate::text_capture::{builder_of, want_of_memory};
-use crate::text_state::TextPieces;
+use crate::text_reader::TextReader;
 use std::alloc::Global;
 use vcd_read::{Front, Stopped, read_front};
 use vme_trace::{Lines, StepVisitor};
@@ -40,7 +40,7 @@ fn begin_bound_groups<'a, F: StepVisitor>(
     fault: Option<BindFault>,
     front: Front<'a>,
     visitor: F,
-) -> Result<(TextPieces<F>, &'a [u8]), CaptureFault>
+) -> Result<(TextReader<F>, &'a [u8]), CaptureFault>
     requires lines { lines.now.levels ≡ replicate line_count Unknown }
     requires own { ForSome fault IsOfBinding }
     ensures line { IfOk result (λ begun. line_behind (text_reached begun.0).body.line begun.1.now ≡ front.entry.line) }
@@ -56,7 +56,7 @@ fn begin_bound_groups<'a, F: StepVisitor>(
     match builder_of(alloc, lines, bound_groups, visitor) {
         Ok(made) => {
             let (pieces, rest) = front.before_body(made);
-            Ok((TextPieces { pieces, fault }, rest))
+            Ok((TextReader { pieces, fault }, rest))
         }
         Err(_) => Err(CaptureFault::Binding(want_of_memory())),
     }
@@ -88,7 +88,7 @@ impl Binding {
         alloc: Global,
         front: &[u8],
         visitor: F,
-    ) -> Result<Result<TextPieces<F>, F>, CaptureFault>
+    ) -> Result<Result<TextReader<F>, F>, CaptureFault>
         ensures line { IfOk result (λ begun. IfOk begun (λ text. (text_reached text).body.line
             ≡ line_behind 1 front.now)) }
         ensures begins { TextBeginsAs (λ text. outcome_ahead (text_reached text) []) self.now front.now result }
@@ -110,7 +110,7 @@ impl Binding {
         alloc: Global,
         front: &'a [u8],
         visitor: F,
-    ) -> Result<Result<(TextPieces<F>, &'a [u8]), F>, CaptureFault>
+    ) -> Result<Result<(TextReader<F>, &'a [u8]), F>, CaptureFault>
         ensures line { IfOk result (λ found. IfOk found (λ begun.
             line_behind (text_reached begun.0).body.line begun.1.now ≡ line_behind 1 front.now)) }
         ensures left { IfOk result (λ found. IfOk found (λ begun.
@@ -147,7 +147,7 @@ impl Binding {
         front: Front<'a>,
         search: &Search<'_>,
         visitor: F,
-    ) -> Result<(TextPieces<F>, &'a [u8]), CaptureFault>
+    ) -> Result<(TextReader<F>, &'a [u8]), CaptureFault>
         ensures line { IfOk result (λ begun.
             line_behind (text_reached begun.0).body.line begun.1.now ≡ front.entry.line) }
         ensures left { IfOk result (λ begun. begun.1.now ≡ front.entry.left) }
@@ -180,7 +180,7 @@ impl Binding {
     }
 }
 
-impl<F: StepVisitor> TextPieces<F> {
+impl<F: StepVisitor> TextReader<F> {
     /// Why the binding makes no recording of the dump, if it makes none.
     pub fn binding_fault(&self) -> Option<BindFault>
         ensures { result ≡ (text_reached self.now).fault }
@@ -190,30 +190,30 @@ impl<F: StepVisitor> TextPieces<F> {
 
     /// Takes the next piece of the text, which ends after a space, or where the text does. With the first fault comes
     /// the visitor, which has the steps of the instants that a later time follows before the fault.
-    pub fn read_until_fault(self, alloc: Global, piece: &[u8]) -> Result<TextPieces<F>, Stopped<F>>
+    pub fn read_until_fault(self, alloc: Global, piece: &[u8]) -> Result<TextReader<F>, Stopped<F>>
         ensures fault { IfOk result (λ text. (text_reached text).fault ≡ (text_reached self).fault) }
         ensures line { IfOk result (λ text. (text_reached text).body.line
             ≡ line_behind (text_reached self).body.line piece.now) }
         ensures rest { ReadingContinuesAs (λ text. reading_ahead (text_reached text) []) (λ f. F.recorded f) result
             (reading_ahead (text_reached self) (tokens_from (text_reached self).body.line piece.now)) }
     {
-        let TextPieces { pieces, fault } = self;
+        let TextReader { pieces, fault } = self;
         match pieces.read_until_fault(alloc, piece) {
-            Ok(pieces) => Ok(TextPieces { pieces, fault }),
+            Ok(pieces) => Ok(TextReader { pieces, fault }),
             Err(stopped) => Err(visitor_of(stopped)),
         }
     }
 
     /// Takes the next piece of the text, which ends after a space, or where the text does.
-    pub fn read(self, alloc: Global, piece: &[u8]) -> Result<TextPieces<F>, CaptureFault>
+    pub fn read(self, alloc: Global, piece: &[u8]) -> Result<TextReader<F>, CaptureFault>
         ensures line { IfOk result (λ text. (text_reached text).body.line
             ≡ line_behind (text_reached self).body.line piece.now) }
         ensures rest { TextContinuesAs (λ text. outcome_ahead (text_reached text) []) result
             (outcome_ahead (text_reached self) (tokens_from (text_reached self).body.line piece.now)) }
     {
-        let TextPieces { pieces, fault } = self;
+        let TextReader { pieces, fault } = self;
         match pieces.read(alloc, piece) {
-            Ok(pieces) => Ok(TextPieces { pieces, fault }),
+            Ok(pieces) => Ok(TextReader { pieces, fault }),
             Err(fault) => Err(CaptureFault::Dump(fault)),
         }
     }
@@ -245,7 +245,7 @@ impl<F: StepVisitor> TextPieces<F> {
     pub fn finish(self, alloc: Global) -> Result<F, CaptureFault>
         ensures { GivesBy (λ f. F.recorded f) result (outcome_ahead (text_reached self) [] []) }
     {
-        let TextPieces { pieces, fault } = self;
+        let TextReader { pieces, fault } = self;
         match pieces.finish(alloc) {
             Ok(made) => match fault {
                 None => Ok(made.into_visitor()),

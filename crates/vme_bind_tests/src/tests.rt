@@ -5,7 +5,7 @@ use std::process::Abort;
 use std::test::Fail;
 use vcd_read::{FaultKind, Stopped, VcdFault, read_vcd};
 use vme_bind::{
-    BindFault, BindFaultKind, Binding, CaptureFault, DumpReader, SpeculativeReader, TextPieces,
+    BindFault, BindFaultKind, Binding, CaptureFault, DumpReader, SpeculativeReader, TextReader,
     read_binding,
 };
 use vme_test_recordings::BUS_BINDING;
@@ -741,7 +741,7 @@ fn joined(
 }
 
 /// A dump of the bus that is read up to the end of `front`, in which its definitions end.
-fn begun(alloc: Global, front: &[&str]) -> Option<TextPieces<KeptSteps>> {
+fn begun(alloc: Global, front: &[&str]) -> Option<TextReader<KeptSteps>> {
     let binding = bound(alloc, &[BUS_BINDING])?;
     let front = together(alloc, front).ok()?;
     let kept = none_kept(alloc, Lines::new(1)?);
@@ -811,7 +811,7 @@ fn stopped_in_front(
     alloc: Global,
     binding: &Binding,
     front: &[u8],
-) -> Option<Result<TextPieces<KeptSteps>, Stopped<KeptSteps>>> {
+) -> Option<Result<TextReader<KeptSteps>, Stopped<KeptSteps>>> {
     let kept = none_kept(alloc, Lines::new(1)?);
     let begun = binding.begin_before_body(alloc, front, kept).ok()?;
     let (text, rest) = begun.ok()?;
@@ -821,7 +821,7 @@ fn stopped_in_front(
 /// Where reading further pieces of a body stops.
 fn stopped_behind(
     alloc: Global,
-    text: TextPieces<KeptSteps>,
+    text: TextReader<KeptSteps>,
     second: &str,
     third: &str,
 ) -> Option<Stopped<KeptSteps>> {

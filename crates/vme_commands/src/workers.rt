@@ -8,7 +8,7 @@ ghost use Rattle.vme_stream.specs.Inputs.{longest_input};
 
 use std::alloc::Global;
 use std::thread::Threads;
-use vme_bind::{CaptureFault, TextPieces};
+use vme_bind::{CaptureFault, TextReader};
 use vme_summary::chunk_judge::ChunkJudge;
 use vme_summary::stream_judge::StreamJudge;
 use vme_text_workers::{Speculation, read_by_workers};
@@ -73,9 +73,9 @@ impl<'r, R: Threads + Sync> Workers<'r, R> {
     pub fn read<J: ChunkJudge + Send>(
         &self,
         alloc: Global,
-        text: TextPieces<StreamJudge<J>>,
+        text: TextReader<StreamJudge<J>>,
         piece: &[u8],
-    ) -> Result<TextPieces<StreamJudge<J>>, CaptureFault>
+    ) -> Result<TextReader<StreamJudge<J>>, CaptureFault>
         ensures line { IfOk result (λ next. (text_reached next).body.line
             ≡ line_behind (text_reached text).body.line piece.now) }
         ensures rest { TextContinuesAs (λ next. outcome_ahead (text_reached next) []) result

@@ -17,11 +17,11 @@ use crate::pieces::none_taken;
 use crate::step_reader::StepReader;
 use std::alloc::Global;
 use vcd_read::whole_tokens;
-use vme_bind::{Binding, CaptureFault, StepCollector, TextPieces};
+use vme_bind::{Binding, CaptureFault, StepCollector, TextReader};
 use vme_summary::GhostSteps;
 
 /// The reader after the definitions, where nothing of the body is read yet. A fault of the binding is found here.
-fn before_steps(text: TextPieces<StepCollector>) -> Result<StepReader, CaptureFault>
+fn before_steps(text: TextReader<StepCollector>) -> Result<StepReader, CaptureFault>
     requires none { (text_reached text).body.progress.accumulator.recorded.steps ≡ [] }
     requires formed { (ts more : List Token)
         → malformed_step (reading_ahead (text_reached text) ts more).recorded ≡ None }

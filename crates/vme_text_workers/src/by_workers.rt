@@ -22,7 +22,7 @@ use crate::speculative::{
 use std::alloc::{AllocError, Global};
 use std::thread::Threads;
 use vcd_read::{FaultKind, VcdFault};
-use vme_bind::{CaptureFault, SpeculativeChunk, SpeculativeReader, TextPieces};
+use vme_bind::{CaptureFault, SpeculativeChunk, SpeculativeReader, TextReader};
 use vme_summary::chunk_judge::ChunkJudge;
 use vme_summary::stream_judge::StreamJudge;
 use vme_trace::StepVisitor;
@@ -65,7 +65,7 @@ fn take_ahead<R: Threads + Sync, J: ChunkJudge + Send>(
     stream_judge: StreamJudge<J>,
     pieces: &[DumpPiece<'_>],
     speculation: &Speculation,
-) -> Result<(TextPieces<StreamJudge<J>>, usize), AllocError>
+) -> Result<(TextReader<StreamJudge<J>>, usize), AllocError>
     ensures count { IfOk result (λ taken. taken.1 ≤ length pieces.now) }
     ensures taken { IfOk result (λ taken. AreTaken pieces.now (with_recording stream_judge speculative)
         (text_reached taken.0) (drop taken.1 pieces.now)) }
@@ -89,11 +89,11 @@ fn take_ahead<R: Threads + Sync, J: ChunkJudge + Send>(
 fn read_body<R: Threads + Sync, J: ChunkJudge + Send>(
     rt: &R,
     alloc: Global,
-    text: TextPieces<StreamJudge<J>>,
+    text: TextReader<StreamJudge<J>>,
     piece: &[u8],
     workers: u32,
     speculation: &Speculation,
-) -> Result<TextPieces<StreamJudge<J>>, CaptureFault>
+) -> Result<TextReader<StreamJudge<J>>, CaptureFault>
     ensures line { IfOk result (λ text'. (text_reached text').body.line
         ≡ line_behind (text_reached text).body.line piece.now) }
     ensures rest { TextContinuesAs (λ text'. outcome_ahead (text_reached text') []) result
@@ -120,7 +120,7 @@ fn read_body<R: Threads + Sync, J: ChunkJudge + Send>(
 /// `piece` cut at its last time. If an item or a dump section is open before it, no part of it would fit, and it isn't
 /// cut.
 fn cut_to_read_ahead<'a, F: StepVisitor>(
-    text: &TextPieces<F>,
+    text: &TextReader<F>,
     piece: &'a [u8],
 ) -> Option<(&'a [u8], &'a [u8])>
     ensures { IfSome result (λ cut. IsCutIn piece.now cut.0.now cut.1.now) }
@@ -136,11 +136,11 @@ fn cut_to_read_ahead<'a, F: StepVisitor>(
 fn read_up_to_last_time<R: Threads + Sync, J: ChunkJudge + Send>(
     rt: &R,
     alloc: Global,
-    text: TextPieces<StreamJudge<J>>,
+    text: TextReader<StreamJudge<J>>,
     piece: &[u8],
     workers: u32,
     speculation: &Speculation,
-) -> Result<TextPieces<StreamJudge<J>>, CaptureFault>
+) -> Result<TextReader<StreamJudge<J>>, CaptureFault>
     ensures line { IfOk result (λ text'. (text_reached text').body.line
         ≡ line_behind (text_reached text).body.line piece.now) }
     ensures rest { TextContinuesAs (λ text'. outcome_ahead (text_reached text') []) result
@@ -156,17 +156,17 @@ fn read_up_to_last_time<R: Threads + Sync, J: ChunkJudge + Send>(
 /// Takes the next `piece` of the text, which ends after a space, or where the text does. From its first time to its
 /// last it is read and judged by `workers` workers, each in a thread of its own, as far as its parts fit together. All
 /// else is read in order. `speculation` is the one that the pieces before were read with, or a new one: it changes no
-/// answer. Errors are those of `TextPieces::read`. It is never inlined, so that a caller with one worker, which reads
+/// answer. Errors are those of `TextReader::read`. It is never inlined, so that a caller with one worker, which reads
 /// in order without it, takes no room for it.
 #[inline(never)]
 pub fn read_by_workers<R: Threads + Sync, J: ChunkJudge + Send>(
     rt: &R,
     alloc: Global,
-    text: TextPieces<StreamJudge<J>>,
+    text: TextReader<StreamJudge<J>>,
     piece: &[u8],
     workers: u32,
     speculation: &Speculation,
-) -> Result<TextPieces<StreamJudge<J>>, CaptureFault>
+) -> Result<TextReader<StreamJudge<J>>, CaptureFault>
     ensures line { IfOk result (λ text'. (text_reached text').body.line
         ≡ line_behind (text_reached text).body.line piece.now) }
     ensures rest { TextContinuesAs (λ text'. outcome_ahead (text_reached text') []) result

@@ -6,7 +6,7 @@ ghost use Rattle.vme_text_workers.specs.Cuts.{line_after_pieces, tokens_of};
 
 use crate::cut::DumpPiece;
 use std::alloc::Global;
-use vme_bind::{CaptureFault, TextPieces};
+use vme_bind::{CaptureFault, TextReader};
 use vme_trace::StepVisitor;
 
 /// Takes the next pieces of the text, one after the other. It is a function of its own for the same reason as
@@ -14,9 +14,9 @@ use vme_trace::StepVisitor;
 #[inline(never)]
 pub(crate) fn read_in_order<F: StepVisitor>(
     alloc: Global,
-    text: TextPieces<F>,
+    text: TextReader<F>,
     pieces: &[DumpPiece<'_>],
-) -> Result<TextPieces<F>, CaptureFault>
+) -> Result<TextReader<F>, CaptureFault>
     ensures line { IfOk result (λ text'. (text_reached text').body.line
         ≡ line_after_pieces (text_reached text).body.line pieces.now) }
     ensures rest { TextContinuesAs (λ text'. outcome_ahead (text_reached text') []) result

@@ -2,7 +2,7 @@
 //!
 //! # Parts
 //!
-//! - `by_workers`: [`read_by_workers`] does with a piece what `TextPieces::read` of vme_bind does.
+//! - `by_workers`: [`read_by_workers`] does with a piece what `TextReader::read` of vme_bind does.
 //!   What precedes its first time and follows its last is read in order.
 //! - `cut`: the rest is cut where times begin.
 //! - `speculative`, `chunks`: each part is read ahead of those before it, from the levels that

@@ -6,7 +6,7 @@ use Rattle.vme_bind.specs.BuilderState.{BuilderState, builder_change, builder_in
 use Rattle.vme_bind.specs.TextPieces.{text_reached}
 use Rattle.vme_bind.specs.TextReading.{reading_until_fault}
 use Rattle.vme_bind.proofs.TextReadingLemmas.{StopsAs-piece}
-use Rattle.vme_bind.proofs.text_state.TextPieces.read_until_fault.Goals as goal
+use Rattle.vme_bind.proofs.text_reader.TextReader.read_until_fault.Goals as goal
 
 pub returns-in-Ok-clause-rest : goal.returns-in-Ok-clause-rest
 returns-in-Ok-clause-rest g c = λ more. ap (λ (read : UntilFault BuilderState). reading_until_fault read)

@@ -7,7 +7,7 @@ use Rattle.vcd_read.specs.declared.fault.VcdFault.{VcdFault}
 use Rattle.vme_bind.specs.BuilderState.{BuilderState, builder_change, builder_instant}
 use Rattle.vme_bind.specs.TextPieces.{outcome}
 use Rattle.vme_bind.proofs.TextPieceLemmas.{CaptureFailsBy-outcome}
-use Rattle.vme_bind.proofs.text_state.TextPieces.read.Goals as goal
+use Rattle.vme_bind.proofs.text_reader.TextReader.read.Goals as goal
 
 pub returns-in-Ok-clause-rest : goal.returns-in-Ok-clause-rest
 returns-in-Ok-clause-rest g c = λ more. ap (λ (r : Result (State BuilderState) VcdFault). outcome c.args.self.fault

@@ -1,6 +1,6 @@
 use Rattle.vme_bind.specs.TextPieces.{text_reached}
 use Rattle.vme_bind.proofs.TextReadingLemmas.{StopsAs-at_end, reading_until_fault-at_end}
-use Rattle.vme_bind.proofs.text_state.TextPieces.finish_or_stop.Goals as goal
+use Rattle.vme_bind.proofs.text_reader.TextReader.finish_or_stop.Goals as goal
 
 pub returns-in-Ok : goal.returns-in-Ok
 returns-in-Ok g c = reading_until_fault-at_end _ _ (text_reached c.args.self).body c.into_visitor.ensures

@@ -1,4 +1,4 @@
-//! The state of making a recording of a dump's text, which comes in pieces.
+//! The reader that makes the recording of a dump's text, which comes in pieces.
 
 ghost use Rattle.std.specs.Option.{ForSome};
 ghost use Rattle.vme_bind.specs.TextCapture.{IsOfBinding};
@@ -10,7 +10,7 @@ use vme_trace::StepVisitor;
 
 /// The recording that a binding makes of a dump, after some pieces of the dump's text.
 #[derive(Drop)]
-pub struct TextPieces<F: StepVisitor> {
+pub struct TextReader<F: StepVisitor> {
     pub(crate) pieces: BodyReader<CaptureBuilder<F>>,
     /// Why the binding makes no recording of the dump. It is reported at the end, if the dump has no fault.
     pub(crate) fault: Option<BindFault>,

@@ -4,7 +4,7 @@ use Rattle.vcd_read.specs.BodyFold.{body_fold}
 use Rattle.vme_bind.specs.BuilderState.{builder_change, builder_instant}
 use Rattle.vme_bind.specs.TextPieces.{outcome}
 use Rattle.vme_bind.proofs.TextPieceLemmas.{CaptureFailsBy-at_end, CaptureFailsBy-binding}
-use Rattle.vme_bind.proofs.text_state.TextPieces.finish.Goals as goal
+use Rattle.vme_bind.proofs.text_reader.TextReader.finish.Goals as goal
 
 pub returns-in-None : goal.returns-in-None
 returns-in-None g c =
