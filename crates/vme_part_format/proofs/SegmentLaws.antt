@@ -322,20 +322,20 @@ SegmentTaken-of_fields listing before bytes n st sl op le ti a b c d f h t =
     )
 
 -- each monitor has at least 3 memories: that of U1 has 4, then there are 147, 13, 35 and 11, in the order of the tables
-least_4 : 3 ≤ 4
-least_4 = omega arith
+enough_4 : 3 ≤ 4
+enough_4 = omega arith
 
-least_147 : 3 ≤ 147
-least_147 = omega arith
+enough_147 : 3 ≤ 147
+enough_147 = omega arith
 
-least_13 : 3 ≤ 13
-least_13 = omega arith
+enough_13 : 3 ≤ 13
+enough_13 = omega arith
 
-least_35 : 3 ≤ 35
-least_35 = omega arith
+enough_35 : 3 ≤ 35
+enough_35 = omega arith
 
-least_11 : 3 ≤ 11
-least_11 = omega arith
+enough_11 : 3 ≤ 11
+enough_11 = omega arith
 
 -- a segment that was read without a fault
 abbrev segment_ok : {A : Type 0} → A → Result A FieldFault
@@ -400,7 +400,7 @@ ReadTables-from_acknowledge : (listing : Bool) (h : HeadFields) (bytes : List �
     → at_acknowledge listing h a.0 b.0 c.0 d.0 d.1 ≡ Ok x → ReadTables listing h bytes x
 ReadTables-from_acknowledge listing h bytes a b c d x low ta tb tc td e =
     let k = λ (f : TableValue × List ℕ). segment_ok (with_tables h a.0 b.0 c.0 d.0 f.0, f.1) in
-    let t = table_at-then listing 11 h.steps d.1 k x least_11 low td.0.rest_fits e in
+    let t = table_at-then listing 11 h.steps d.1 k x enough_11 low td.0.rest_fits e in
     record {
       a = a;
       b = b;
@@ -418,7 +418,7 @@ ReadTables-from_grant : (listing : Bool) (h : HeadFields) (bytes : List ℕ) (a 
     → TableTaken listing 13 h.steps b.1 c → at_grant listing h a.0 b.0 c.0 c.1 ≡ Ok x → ReadTables listing h bytes x
 ReadTables-from_grant listing h bytes a b c x low ta tb tc e =
     let k = λ (d : TableValue × List ℕ). at_acknowledge listing h a.0 b.0 c.0 d.0 d.1 in
-    let t = table_at-then listing 35 h.steps c.1 k x least_35 low tc.0.rest_fits e in
+    let t = table_at-then listing 35 h.steps c.1 k x enough_35 low tc.0.rest_fits e in
     ReadTables-from_acknowledge listing h bytes a b c t.0 x low ta tb tc t.1 t.2
 
 -- if the first two tables were read, and now the others are, five tables were read
@@ -428,7 +428,7 @@ ReadTables-from_stability : (listing : Bool) (h : HeadFields) (bytes : List ℕ)
     → at_stability listing h a.0 b.0 b.1 ≡ Ok x → ReadTables listing h bytes x
 ReadTables-from_stability listing h bytes a b x low ta tb e =
     let k = λ (c : TableValue × List ℕ). at_grant listing h a.0 b.0 c.0 c.1 in
-    let t = table_at-then listing 13 h.steps b.1 k x least_13 low tb.0.rest_fits e in
+    let t = table_at-then listing 13 h.steps b.1 k x enough_13 low tb.0.rest_fits e in
     ReadTables-from_grant listing h bytes a b t.0 x low ta tb t.1 t.2
 
 -- if the first table was read, and now the others are, five tables were read
@@ -438,7 +438,7 @@ ReadTables-from_handshake : (listing : Bool) (h : HeadFields) (bytes : List ℕ)
     → ReadTables listing h bytes x
 ReadTables-from_handshake listing h bytes a x low ta e =
     let k = λ (b : TableValue × List ℕ). at_stability listing h a.0 b.0 b.1 in
-    let t = table_at-then listing 147 h.steps a.1 k x least_147 low ta.0.rest_fits e in
+    let t = table_at-then listing 147 h.steps a.1 k x enough_147 low ta.0.rest_fits e in
     ReadTables-from_stability listing h bytes a t.0 x low ta t.1 t.2
 
 -- if the rest of a segment from the tables on is read, five tables were read
@@ -446,7 +446,7 @@ ReadTables-from_known : (listing : Bool) (h : HeadFields) (bytes : List ℕ) (x 
     → h.steps < 2 ^ 64 → IsBytes bytes → at_known listing h bytes ≡ Ok x → ReadTables listing h bytes x
 ReadTables-from_known listing h bytes x low fits e =
     let k = λ (a : TableValue × List ℕ). at_handshake listing h a.0 a.1 in
-    let t = table_at-then listing 4 h.steps bytes k x least_4 low fits e in
+    let t = table_at-then listing 4 h.steps bytes k x enough_4 low fits e in
     ReadTables-from_handshake listing h bytes t.0 x low t.1 t.2
 
 -- reads the rest of a segment from one of the fields before the tables on
