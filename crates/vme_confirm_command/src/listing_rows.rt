@@ -15,7 +15,7 @@ use crate::rows_fault::RowsFault;
 use std::alloc::{AllocError, Global};
 use vme_cert::RowSource;
 use vme_dump_input::BufferedInput;
-use vme_listing::{ListingPieces, Row, Version};
+use vme_listing::{ListingReader, Row, Version};
 use vme_trace::Source;
 
 /// How many bytes a listing has at most: 512 for each step that a recording may have, more than the rows of an instant
@@ -31,7 +31,7 @@ pub(crate) struct ListingRows<L: Source + Drop> {
     source: L,
     input: BufferedInput,
     /// How far the rows are read, unless there is a fault.
-    pieces: Option<ListingPieces>,
+    pieces: Option<ListingReader>,
     fault: Option<RowsFault>,
     ghost counted: { AreCounted pieces fault input },
 }

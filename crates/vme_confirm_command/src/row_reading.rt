@@ -12,7 +12,7 @@ ghost use Rattle.vme_confirm_command.specs.RowsOfListing.{AreRead, HoldsMore, Is
 
 use crate::rows_fault::RowsFault;
 use vme_dump_input::BufferedInput;
-use vme_listing::{LONGEST_LINE, ListFault, ListingPieces, Row};
+use vme_listing::{LONGEST_LINE, ListFault, ListingReader, Row};
 use vme_stream::InFault;
 use vme_trace::Source;
 
@@ -40,7 +40,7 @@ fn fill<L: Source>(source: &mut L, input: &mut BufferedInput) -> Result<(), InFa
 pub(crate) fn begin_rows<L: Source>(
     source: &mut L,
     input: &mut BufferedInput,
-) -> Result<ListingPieces, RowsFault>
+) -> Result<ListingReader, RowsFault>
     requires small { input.old.read < 2 ^ 62 }
     requires held { length input.old.held ≤ input.old.read }
     ensures begun { (old : Reading) → IsReadTo old (L.reading source.old) [] input.old
@@ -51,7 +51,7 @@ pub(crate) fn begin_rows<L: Source>(
     if let Err(fault) = fill(source, input) {
         return Err(RowsFault::Input(fault));
     }
-    match ListingPieces::begin(input.bytes(), input.is_whole()) {
+    match ListingReader::begin(input.bytes(), input.is_whole()) {
         Some((pieces, count)) => {
             input.take_first(count);
             Ok(pieces)
@@ -64,7 +64,7 @@ pub(crate) fn begin_rows<L: Source>(
 pub(crate) fn next_row<L: Source>(
     source: &mut L,
     input: &mut BufferedInput,
-    pieces: &mut ListingPieces,
+    pieces: &mut ListingReader,
 ) -> Result<Option<Row>, RowsFault>
     requires counted { IsCounted pieces.old input.old }
     ensures row { (old : Reading) (rows : List Row) → AreRead old (L.reading source.old) input.old (Ok pieces.old) rows

@@ -8,7 +8,7 @@
 //! - `text`, `write`: the text of rows; a listing written in pieces ([`write_listing`]).
 //! - `words`, `read`, `fault`: the row that a line may be; a listing from its text
 //!   ([`read_listing`]); the first fault of a text.
-//! - `listing_pieces`: the rows of a text that comes in pieces, one by one ([`ListingPieces`]);
+//! - `listing_reader`: the rows of a text that comes in pieces, one by one ([`ListingReader`]);
 //!   `row_reader`: those of a whole text ([`RowReader`]).
 //!
 //! # What is proved
@@ -20,7 +20,7 @@
 //! - [`listings_are_well_placed`]: the listing of every recording is, so what is written of it is
 //!   read back as it was.
 //! - [`RowReader::next`] gives the rows of a text one by one, and by the same reading the first
-//!   fault. [`ListingPieces::next`] does so from the next bytes of a text: no line has more than
+//!   fault. [`ListingReader::next`] does so from the next bytes of a text: no line has more than
 //!   [`LONGEST_LINE`] bytes, so the row at their start doesn't depend on the bytes after them.
 //!
 //! # What isn't proved
@@ -43,7 +43,7 @@
 pub mod fault;
 mod line;
 pub mod listing;
-pub mod listing_pieces;
+pub mod listing_reader;
 mod place;
 pub mod read;
 pub mod row;
@@ -54,7 +54,7 @@ pub mod write;
 
 pub use fault::ListFault;
 pub use listing::{Listing, listings_are_well_placed};
-pub use listing_pieces::ListingPieces;
+pub use listing_reader::ListingReader;
 pub use read::read_listing;
 pub use row::{AnswerLine, Direction, ListedVerdict, Row, Version};
 pub use row_reader::RowReader;

@@ -8,14 +8,14 @@ ghost use Rattle.vme_listing.specs.declared.fault.ListFault.TheVariants.{BadHead
 ghost use Rattle.vme_listing.specs.declared.row.Row.{Row};
 
 use crate::fault::ListFault;
-use crate::listing_pieces::ListingPieces;
+use crate::listing_reader::ListingReader;
 use crate::row::{Row, Version};
 use std::marker::Model;
 
 /// The text of a listing after its header and the rows that have been read.
 #[derive(Drop)]
 pub struct RowReader<'a> {
-    pieces: ListingPieces,
+    pieces: ListingReader,
     rest: &'a [u8],
 }
 
@@ -38,7 +38,7 @@ impl<'a> RowReader<'a> {
         ensures fault { result ≡ None → IsFirstFault text.now BadHeader }
         ensures none { result ≡ None → HasNoListing text.now }
     {
-        let (pieces, count) = ListingPieces::begin(text, true)?;
+        let (pieces, count) = ListingReader::begin(text, true)?;
         Some(RowReader {
             pieces,
             rest: &text[count..],

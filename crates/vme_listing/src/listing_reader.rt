@@ -20,7 +20,7 @@ use std::marker::Model;
 /// Each call is passed the next bytes of the text, and whether they are its rest. If they aren't, they are more than
 /// [`LONGEST_LINE`](crate::LONGEST_LINE) bytes: then the row at their start doesn't depend on the bytes after them.
 #[derive(Drop)]
-pub struct ListingPieces {
+pub struct ListingReader {
     version: Version,
     /// The last row that was read, and how many were.
     last: Option<Row>,
@@ -37,7 +37,7 @@ fn is_last(row: Option<Row>) -> bool
     }
 }
 
-impl Model for ListingPieces {
+impl Model for ListingReader {
     ghost use Rattle.vme_listing.specs.Reading.{RowsSoFar};
 
     ghost Value = { RowsSoFar };
@@ -45,10 +45,10 @@ impl Model for ListingPieces {
     ghost view = { λ a. record { version = a.version; last = a.last; count = a.count } };
 }
 
-impl ListingPieces {
+impl ListingReader {
     /// Begins after the header of a text, if the text has one. `bytes` are the first bytes of the text. Also returns
     /// how many of them the header has.
-    pub fn begin(bytes: &[u8], is_rest: bool) -> Option<(ListingPieces, usize)>
+    pub fn begin(bytes: &[u8], is_rest: bool) -> Option<(ListingReader, usize)>
         requires { is_rest ≡ false → LONGEST_LINE < length bytes.now }
         ensures read { (future : List ℕ) → IfSome result (λ begun. HasRead (bytes.now ++ future) []
             (behind_rows begun.0 (drop begun.1 bytes.now ++ future))) }
@@ -60,7 +60,7 @@ impl ListingPieces {
         ensures first { IfSome result (λ begun. begun.0.count ≡ 0) }
     {
         let (version, rest) = front_header(bytes)?;
-        let pieces = ListingPieces {
+        let pieces = ListingReader {
             version,
             last: None,
             count: 0,

@@ -1,7 +1,7 @@
 use Rattle.vme_listing.proofs.KnownFronts.{header-known_if_enough}
 use Rattle.vme_listing.proofs.Readings.{HasNoListing-no_header}
 use Rattle.std.proofs.Common.{◌++◌, refl}
-use Rattle.vme_listing.proofs.listing_pieces.ListingPieces.begin.Goals as goal
+use Rattle.vme_listing.proofs.listing_reader.ListingReader.begin.Goals as goal
 
 pub returns-in_err-version-clause-fault : goal.returns-in_err-version-clause-fault
 returns-in_err-version-clause-fault c future ends e version rest split =

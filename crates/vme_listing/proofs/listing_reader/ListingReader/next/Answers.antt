@@ -8,7 +8,7 @@ use Rattle.vme_listing.proofs.KnownFronts.{IsFront-known, IsFront-with_future, d
 use Rattle.vme_listing.proofs.Readings.{IsFaultOfText-bad_row, follows-from_parts, follows-parts, HasRead-append}
 use Rattle.vme_listing.proofs.Readings.{IsFaultOfText-unsorted}
 use Rattle.vme_listing.proofs.Readings.{IsTextOfListing-by_last}
-use Rattle.vme_listing.proofs.listing_pieces.ListingPieces.next.Goals as goal
+use Rattle.vme_listing.proofs.listing_reader.ListingReader.next.Goals as goal
 
 pub returns-then-is_last-clause-whole : goal.returns-then-is_last-clause-whole
 returns-then-is_last-clause-whole c text future rows ends h e =
