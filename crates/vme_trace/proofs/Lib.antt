@@ -1,4 +1,3 @@
-pub mod AnswerData
 pub mod Changing
 pub mod Counting
 pub mod CutBlocks
