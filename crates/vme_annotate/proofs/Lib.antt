@@ -2,7 +2,6 @@ pub mod WritingLemmas
 pub mod HasTimesLemmas
 pub mod PutLemmas
 pub mod ChangeLemmas
-pub mod TimedLemmas
 pub mod PutTexts
 pub mod PlannedLemmas
 pub mod ListedLemmas
