@@ -40,23 +40,12 @@ last_or_before j n h = grind arith
 same_or_after : (s n : ℕ) → s ≤ n → (s ≡ n) ⊎ (s < n)
 same_or_after s n h = grind arith
 
--- n is before w, w itself, or after it
-trichotomy : (n w : ℕ) → (n < w) ⊎ ((w ≡ n) ⊎ (w < n))
-trichotomy n w = grind arith
-
 module _ (t : Trace) where
   -- instant n is in the stretch that starts at s, its start included
   pub record IsIn (s n : ℕ) : Type 0 where
     pub starts : stretch_starts t s ≡ true
     pub from : s ≤ n
     pub before : n < stretch_end t s
-
-  -- after instant n the next idle instant starts a stretch (`awaiting`), or n is in the stretch that starts at s
-  -- (`judging`), or a stretch was cut off, and none comes any more (`over`)
-  pub data InstantCase (n : ℕ) : Type 0 where
-    awaiting : Awaits t (suc n) → InstantCase n
-    judging : (s : ℕ) → IsIn s n → InstantCase n
-    over : any (is_cut_off t) 0 (suc n) ≡ true → InstantCase n
 
   -- where the bus is idle, no control line is lost
   pub idle-unlost_at : (n : ℕ) → is_idle_at t n ≡ true → loses_control_at t n ≡ false
@@ -320,37 +309,6 @@ module _ (t : Trace) where
   or-false_first true b h k = absurd (cc)
   or-false_first false b h k = k
 
-  -- an instant at which a stretch is awaited has its case
-  InstantCase-awaited : (n : ℕ) → n ≤ last_instant t → Awaits t n → InstantCase n
-  InstantCase-awaited n within w =
-      elim (cases_Bool (is_idle_at t n)) [
-        | inl idle ↦ judging n (in-first n (awaits-starts n w ∙ idle) within)
-        | inr busy ↦ awaiting (awaits-next n w busy)
-      ]
-
-  -- each instant has its case of `InstantCase`
-  pub InstantCase-at : (n : ℕ) → n ≤ last_instant t → InstantCase n
-  InstantCase-at zero within = InstantCase-awaited zero within awaits-first
-  InstantCase-at (suc n) within =
-      elim (InstantCase-at n (omega arith)) [
-        | awaiting w ↦ InstantCase-awaited (suc n) within w
-        | judging s h ↦
-            elim (trichotomy (suc n) (stretch_end t s)) [
-              | inl before ↦ judging s (in-next s n h before)
-              | inr not_before ↦
-                  elim not_before [
-                    | inl e ↦
-                        let stops = ap (stops_at t) (sym e) ∙ end-stops s (omega (arith, e)) in
-                        elim (cases_Bool (is_reset_at t (suc n))) [
-                          | inl reset ↦ awaiting (in-reset s n h reset)
-                          | inr unreset ↦ over (in-lost s n h (or-false_first _ _ unreset stops))
-                        ]
-                    | inr past ↦ absurd (omega (arith, h.before))
-                  ]
-            ]
-        | over cut ↦ over (cut-next (suc n) ∙ or_left _ _ cut)
-      ]
-
   -- a stretch of a recording is the one that starts at its start
   stretch_from-start : (stretch : Stretch) → IsStretchOf t stretch → stretch ≡ stretch_from t stretch.start
   stretch_from-start stretch is = ap (λ end. from_to stretch.start end) is.ends
@@ -462,26 +420,6 @@ module _ (t : Trace) where
       by_test false e past = absurd
           (clash _ is_next.starts (stretch_final stretch next.start is (omega (arith, is_next.within)) e (omega arith)))
 
-  -- stretches with the same start are the same
-  pub stretches-same_start : (stretch other : Stretch) → IsStretchOf t stretch → IsStretchOf t other → stretch.start
-      ≡ other.start → stretch ≡ other
-  stretches-same_start stretch other is is_other e = stretch_from-start stretch is
-      ∙ (ap (stretch_from t) e ∙ sym (stretch_from-start other is_other))
-
-  -- stretches with a common instant are the same
-  pub stretches-common_instant : (stretch other : Stretch) (n : ℕ) → IsStretchOf t stretch → IsStretchOf t other
-      → stretch.start ≤ n → n < stretch.end
-      → other.start ≤ n → n < other.end → stretch ≡ other
-  stretches-common_instant stretch other n is is_other from before from_other before_other =
-      elim (trichotomy stretch.start other.start) [
-        | inl order ↦ absurd (omega (arith, (stretches-apart stretch other is is_other order).1))
-        | inr not_before ↦
-            elim not_before [
-              | inl e ↦ stretches-same_start stretch other is is_other (sym e)
-              | inr order ↦ absurd (omega (arith, (stretches-apart other stretch is_other is order).1))
-            ]
-      ]
-
   -- the stretches that start before an instant
   abbrev pub stretches_before : ℕ → List Stretch
   stretches_before n = map (stretch_from t) (those (stretch_starts t) 0 n)
@@ -506,16 +444,6 @@ module _ (t : Trace) where
   -- where no stretch starts at n, none is added
   pub stretches_before-no_start : (n : ℕ) → stretch_starts t n ≡ false → stretches_before (suc n) ≡ stretches_before n
   stretches_before-no_start n h = ap (map (stretch_from t)) (those-same (stretch_starts t) 0 n h)
-
-  -- where a stretch is awaited at f and no instant from f on is idle, no stretch comes
-  pub stretches_after-none : (f : ℕ) → Awaits t f → any (is_idle_at t) f (last_instant t + 1) ≡ false
-      → stretches_after t f
-      ≡ []
-  stretches_after-none f w busy =
-      ap (map (stretch_from t))
-      (those-none (stretch_starts t) f (last_instant t + 1)
-      (fails-any (stretch_starts t) f (last_instant t + 1)
-      (λ i a b. busy-no_start i (any-fails (is_idle_at t) f (last_instant t + 1) i busy a b))))
 
   -- where no stretch starts from f on and before m, the starts from f on are those from m on
   those-same_starts : (f m : ℕ) → f ≤ m → ((j : ℕ) → f ≤ j → j < m → stretch_starts t j ≡ false)
@@ -578,35 +506,6 @@ module _ (t : Trace) where
             ∙ ap (λ stretches. stretch_from t i ∷ stretches) (stretches_after-past_end (stretch_from t i) is),
       )
 
-  -- no stretch comes after one that doesn't end by a reset
-  pub stretches_after-final : (stretch : Stretch) → IsStretchOf t stretch
-      → (stretch.end ≤ last_instant t → is_reset_at t stretch.end ≡ false)
-      → stretches_after t (stretch.end + 1) ≡ []
-  stretches_after-final stretch is unreset =
-      ap (map (stretch_from t))
-      (those-none (stretch_starts t) (stretch.end + 1) (last_instant t + 1)
-      (fails-any (stretch_starts t) (stretch.end + 1) (last_instant t + 1)
-      (λ j a b. stretch_final stretch j is (omega arith)
-      (unreset (omega arith)) (omega arith))))
-
-  -- `judged_stretches` is the stretches that start before `stretch`, then `stretch`, then those
-  -- that start after its end
-  pub judged_stretches-split : (stretch : Stretch) → IsStretchOf t stretch → judged_stretches t
-      ≡ stretches_before stretch.start
-      ++ stretch
-      ∷ stretches_after t (stretch.end + 1)
-  judged_stretches-split stretch is =
-      judged_stretches-before
-      ∙ (ap (map (stretch_from t)) (those-split (stretch_starts t) 0 stretch.start (last_instant t + 1) (omega arith)
-      (omega (arith, is.within)))
-      ∙ (map-append (stretch_from t) (those (stretch_starts t) 0 stretch.start)
-      (those (stretch_starts t) stretch.start (last_instant t + 1))
-      ∙ ap (λ stretches. stretches_before stretch.start ++ stretches)
-      (stretches_after-here stretch.start is.within is.starts
-      ∙ (ap (λ first. first ∷ stretches_after t (stretch.start + 1)) (sym (stretch_from-start stretch is))
-      ∙ ap (λ stretches. stretch ∷ stretches)
-      (stretches_after-past_end stretch is)))))
-
 -- the stretches are ones of t, in order: each but the last ends by a reset, before the next one starts
 abbrev pub AreInOrder : Trace → List Stretch → Type 0
 AreInOrder t [] = Unit {0}
@@ -668,28 +567,3 @@ module _ (t : Trace) where
   pub AreInOrder-judged_stretches : AreInOrder t (judged_stretches t)
   AreInOrder-judged_stretches = subst (AreInOrder t) (sym (judged_stretches-after_first t))
       (AreInOrder-stretches_after (last_instant t + 1) 0 (omega arith))
-
-  -- from the end of a stretch on and before the start of the next one, no instant is idle
-  pub busy_between : (stretch next : Stretch) (n : ℕ) → IsStretchOf t stretch → IsStretchOf t next
-      → stretch.start < next.start
-      → ((j : ℕ) → stretch.start < j → j < next.start → stretch_starts t j ≡ false) → stretch.end ≤ n → n < next.start
-      → is_idle_at t n ≡ false
-  busy_between stretch next n is is_next order none from before =
-      elim (same_or_after stretch.end n from) [
-        | inl e ↦ ap (is_idle_at t) (sym e) ∙ reset-busy_at t stretch.end apart.0
-        | inr after ↦ any-fails (is_idle_at t) (suc stretch.end) next.start n
-            (by_test (any (is_idle_at t) (suc stretch.end) next.start) refl) after before
-      ]
-    where
-      apart : (is_reset_at t stretch.end ≡ true) × (stretch.end < next.start)
-      apart = stretches-apart t stretch next is is_next order
-
-      by_test : (b : Bool) → any (is_idle_at t) (suc stretch.end) next.start ≡ b → b ≡ false
-      by_test false e = refl
-      by_test true e =
-          let i = any-least (is_idle_at t) (suc stretch.end) next.start e in
-          let found = least-found (is_idle_at t) (suc stretch.end) next.start i.0 i.1 in
-          let starts = awaits-starts t i.0 (awaits-until t (suc stretch.end) i.0 (stretch_reset t stretch is apart.0)
-          found.first
-          found.least) ∙ found.holds in
-          absurd (clash _ starts (none i.0 (omega (arith, found.first, starts_before_end t stretch is)) found.below))
