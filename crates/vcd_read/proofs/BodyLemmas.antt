@@ -7,10 +7,9 @@ use Rattle.vcd_read.specs.declared.fault.FaultKind.TheVariants.{Memory, BadToken
 use Rattle.vcd_read.specs.declared.fault.VcdFault.{VcdFault}
 use Rattle.vcd_read.specs.Tokens.{Token}
 use Rattle.std.specs.Result.{IsErrAnd}
-use Rattle.vcd_read.specs.Reading.{left_at, line_of, token_at}
+use Rattle.vcd_read.specs.Reading.{left_at}
 use Rattle.vcd_read.specs.declared.body_piece.BodyPiece.{BodyPiece}
 use Rattle.vcd_read.specs.declared.body_piece.Start.{Start}
-use Rattle.vcd_read.specs.declared.body_piece.Start.TheVariants.{Here}
 use Rattle.vcd_read.specs.declared.open_item.OpenItem.{OpenItem}
 use Rattle.vcd_read.specs.declared.open_item.OpenItem.TheVariants.{Ready, Vector, Foreign, Comment}
 use Rattle.vcd_read.specs.Header.{◌>>=◌, Net, is_end}
@@ -151,17 +150,6 @@ KeepsTaken-same a (Err fault) = by_kind a fault.kind
     by_kind : {A : Type 0} (a : A) (kind : FaultKind) → KeepsAs kind a a
     by_kind a Memory = tt
     by_kind a kind = refl
-
--- a call after which what was taken equals what was taken before keeps it
-pub KeepsTaken-equal : {A X : Type 0} (before taken : A) (r : Result X VcdFault) → taken ≡ before
-    → KeepsTaken before taken r
-KeepsTaken-equal {A = A} before taken r e = subst (λ (a : A). KeepsTaken before a r) (sym e) (KeepsTaken-same before r)
-
--- after want of memory nothing is said of what was taken
-pub KeepsTaken-memory : {A X : Type 0} (before taken : A) (r : Result X VcdFault)
-    → IsErrAnd r (λ e. e ≡ record { line = 0; kind = Memory }) → KeepsTaken before taken r
-KeepsTaken-memory before taken (Ok x) is = tt
-KeepsTaken-memory before taken (Err fault) is = subst (λ (f : VcdFault). KeepsAs f.kind before taken) (sym is) tt
 
 -- if the end of a body gives what the visitor took, and its only fault is want of memory, `GivesOrStops` holds
 pub GivesOrStops-memory : {A T : Type 0} (taken : T → A) (before : BodyFold A) (end : A) (r : Result T (Stopped T))
@@ -332,34 +320,6 @@ module _ {A : Type 0} (with_change : A → ℕ → List Bit → A) (with_instant
       → (more : List Token) → until_fault with_change with_instant nets2 s (body_from place (left ++ more))
       ≡ until_fault with_change with_instant nets s (body_from place more)
   until_fault-only_more nets nets2 s place left n e more = rw (n, e) refl
-
-  -- to read from `at` on is to read the token there, and then from `after` on
-  pub until_fault-token : (nets : List Net) (text text2 : BodyPiece) (timed : BodyFold A) (dump_section : Option Start)
-      (at at2 after : ℕ) (bytes : List ℕ) → text2 ≡ text → at2 ≡ at
-      → left_at text at ≡ token_at text at bytes ∷ left_at text after
-      → (more : List Token) → until_fault with_change with_instant nets (state_of text timed dump_section)
-      (body_from ready (left_at text at ++ more))
-      ≡ until_fault with_change with_instant nets (state_of text2 timed dump_section)
-      (body_from ready (token_at text2 at2 bytes ∷ (left_at text2 after ++ more)))
-  until_fault-token nets text text2 timed dump_section at at2 after bytes t a cut more =
-      rw (t, a) (ap (λ (ts : List Token). until_fault with_change with_instant nets (state_of text timed dump_section)
-      (body_from ready (ts ++ more))) cut)
-
-  -- to read from the digits of a vector on is to read its code and the rest, from `after` on
-  pub until_fault-vector : (nets : List Net) (text text2 : BodyPiece) (timed : BodyFold A) (dump_section : Option Start)
-      (at at2 after : ℕ) (bytes digits : List ℕ) → text2 ≡ text → at2 ≡ at
-      → shape_of bytes ≡ vector digits → left_at text at ≡ token_at text at bytes ∷ left_at text after
-      → (more : List Token) → until_fault with_change with_instant nets (state_of text timed dump_section)
-      (body_from ready (left_at text at ++ more))
-      ≡ until_fault with_change with_instant nets (state_of text2 timed dump_section)
-      (body_from (code_of_vector (line_of text2 (Here at2)) digits) (left_at text2 after ++ more))
-  until_fault-vector nets text text2 timed dump_section at at2 after bytes digits t a shape cut more =
-      rw (t, a)
-      (ap (λ (ts : List Token). until_fault with_change with_instant nets (state_of text timed dump_section)
-      (body_from ready (ts ++ more))) cut
-      ∙ ap (until_fault with_change with_instant nets (state_of text timed dump_section)) (body_from-shape
-      (token_at text at bytes)
-      (left_at text after ++ more) (vector digits) (sym shape)))
 
   -- an item or a dump section that isn't ended is a fault at the end of the body
   pub finished-unfinished : (nets : List Net) (timed : BodyFold A) (dump_section : Option ℕ) (place : OpenItem)

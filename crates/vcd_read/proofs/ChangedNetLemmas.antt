@@ -1,10 +1,9 @@
 -- The values of the nets that have one, moved one by one in the order of the nets, are the values of an instant.
 use Rattle.std.proofs.Common.{◌≡◌, ◌≢◌, ℕ, zero, suc, ◌+◌, ◌<◌, ◌≤◌, List, [], ◌∷◌, ◌++◌, length, get_or, replicate}
 use Rattle.std.proofs.Common.{slice_set, Option, Some, None, IsSome, refl, sym, ap, ◌∙◌, arith, inl, inr}
-use Rattle.std.specs.Prelude.{Contains}
 use Rattle.std.specs.List.Sorted.{IsNonDecreasing, IsPermutation}
 use Rattle.std.proofs.lemmas.List.Sorted.{All-permutation, Contains-permutation}
-use Rattle.std.proofs.lemmas.List.{append-nil, append_assoc, length-set, get_or_default, get_or-set_other}
+use Rattle.std.proofs.lemmas.List.{append-nil, append_assoc, length-set, get_or-set_other}
 use Rattle.std.proofs.lemmas.Bool.{cases_eq}
 use Rattle.vcd_read.specs.declared.dump.Bit.{Bit}
 use Rattle.vcd_read.specs.declared.dump.Value.{Value}
@@ -48,26 +47,6 @@ pub record IsMoved (changed_nets : List ℕ) (place : ℕ) (start current : Curr
     pub room : length current ≡ length start
     pub listed : (net : ℕ) → IsSome (get_or current net None) → IsListedFrom changed_nets place net
 
--- a net in the list is listed from its first place on
-IsListedFrom-Contains : (changed_nets : List ℕ) (net : ℕ) → Contains changed_nets net → IsListedFrom changed_nets 0 net
-IsListedFrom-Contains changed_nets net h = record {
-  at = h.0;
-  low = omega arith;
-  high = h.1;
-  is = get_or_default changed_nets h.0 0 net h.1
-      ∙ h.2;
-}
-
--- at the first place of the list no value is moved yet
-pub IsMoved-start : (changed_nets : List ℕ) (start : CurrentValues) → ListsChangedNets changed_nets start
-    → IsMoved changed_nets 0 start start
-    []
-IsMoved-start changed_nets start h = record {
-  values = refl;
-  room = refl;
-  listed = λ net some. IsListedFrom-Contains changed_nets net (h.listed net some);
-}
-
 -- with no value below a net, its value is the first
 values_from-first : (base net : ℕ) (current : CurrentValues) (bits : List Bit) → get_or current net None ≡ Some bits
     → ((k : ℕ) → k < net → get_or current k None ≡ no_bits)
@@ -90,11 +69,6 @@ values_from-first base (suc net) (None ∷ current) bits e none =
 None-not_IsSome : (bits : Option (List Bit)) → (IsSome bits → ⊥) → bits ≡ None
 None-not_IsSome None h = refl
 None-not_IsSome (Some bits) h = absurd (h refl)
-
--- bits that are `Some` are a value that is there
-IsSome-Some : (bits : Option (List Bit)) (b : List Bit) → bits ≡ Some b → IsSome bits
-IsSome-Some None b e = absurd (cc)
-IsSome-Some (Some bits) b e = refl
 
 -- to take the value of a net that has none changes nothing
 slice_set-no_bits : (current : CurrentValues) (net : ℕ) → get_or current net None ≡ no_bits → slice_set current net None

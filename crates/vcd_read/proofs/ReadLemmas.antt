@@ -82,12 +82,6 @@ pub ReadFails-first : {X Y : Type 0} (fault : VcdFault) (r : Result X VcdFault) 
     (whole : Result Y VcdFault) → whole ≡ (r >>= next) → ReadFails fault r → ReadFails fault whole
 ReadFails-first fault r next whole e h = rw e (ReadFailsAs-then fault.line fault.kind r next h)
 
--- what is given of one reading is given of an equal one
-pub ReadGives-same : {X Y : Type 0} (view : X → Y) (r : Result X VcdFault) (whole read : Result Y VcdFault) → whole
-    ≡ read
-    → ReadGives view r read → ReadGives view r whole
-ReadGives-same view r whole read e h = rw e h
-
 -- if reading fails with `fault`, `ReadGives` holds of the error `fault`, as `?` returns it
 pub ReadGives-error : {X Y : Type 0} (view : X → Y) (r : Result X VcdFault) (fault : VcdFault)
     (read : Result Y VcdFault)

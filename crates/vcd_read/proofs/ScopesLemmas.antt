@@ -138,12 +138,6 @@ pub IsLaidOut-push : (path part name starts starts' : List ℕ) (start : ℕ) �
 IsLaidOut-push path part name starts starts' start e s more laid =
     rw (more, reverse-push starts start, e, s) (IsLaidOut-open path name (reverse starts) laid)
 
--- a scope with an empty name, too, keeps the path laid out
-pub IsLaidOut-push_none : (path path' starts starts' : List ℕ) (start : ℕ) → path' ≡ path → start ≡ length path
-    → starts' ≡ starts ++ start ∷ [] → IsLaidOut path (reverse starts) → IsLaidOut path' (reverse starts')
-IsLaidOut-push_none path path' starts starts' start same s more laid =
-    rw (same, ← append-nil path) (IsLaidOut-push path [] [] starts starts' start refl s more laid)
-
 -- a scope that closes keeps the path laid out, where the starts stand in the order in which the scopes were opened
 pub IsLaidOut-pop : (path starts starts' : List ℕ) (start : ℕ) → starts ≡ starts' ++ start ∷ []
     → IsLaidOut path (reverse starts) → IsLaidOut (take start path) (reverse starts')
