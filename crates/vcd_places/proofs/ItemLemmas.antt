@@ -51,11 +51,6 @@ last_time-push (dump_section_open l ∷ items) now line digits = last_time-push 
 last_time-push (dump_section_end l ∷ items) now line digits = last_time-push items now line digits
 last_time-push (wrong l kind ∷ items) now line digits = last_time-push items now line digits
 
--- no items have no times
-pub item_times-empty : item_times [] ≡ []
-unfolding item_times
-item_times-empty = refl
-
 -- ---- whole items
 
 -- the tokens `ts` are whole items, and `times` are their times below 2^64

@@ -6,17 +6,15 @@ use Rattle.std.specs.Prelude.{nat_le, ◌&&◌, ◌||◌, Option, Some, None}
 use Rattle.std.specs.List.{last_or, list_any}
 use Rattle.std.specs.Option.{option_map_or}
 use Rattle.std.proofs.Math.Seq.{drop-cons, take-append_seam}
-use Rattle.std.proofs.lemmas.Bool.{cases_lt, eqb-true, le-leb, and_parts, or_cases, or_from}
+use Rattle.std.proofs.lemmas.Bool.{cases_lt, eqb-true, le-leb, and_parts, or_cases}
 use Rattle.std.proofs.lemmas.List.{append-nil, length-drop, length-take, take-append-drop, take_more}
-use Rattle.std.proofs.lemmas.List.Folds.{list_any-append}
 use Rattle.std.proofs.Math.Bool.{or-true}
 use Rattle.vcd_read.specs.Tokens.{Token, cut_from, is_space, tokens, tokens_from}
 use Rattle.vcd_read.specs.Reading.{tokens_after}
-use Rattle.vcd_read.specs.Header.{is_end}
 use Rattle.vcd_read.proofs.TokenLemmas.{between, tokens_after-end, tokens_after_space, line_in, token_in}
 use Rattle.vcd_read.proofs.TokenLemmas.{tokens_after-token}
 use Rattle.vcd_places.specs.Places.{ends_at_boundary, starts_at_boundary}
-use Rattle.vcd_places.specs.NextTokens.{IsNextToken, IsTakenToEnd, IsTokenAt, ends_section, is_token_boundary}
+use Rattle.vcd_places.specs.NextTokens.{IsNextToken, IsTokenAt, ends_section, is_token_boundary}
 use Rattle.vcd_places.proofs.InsertionLemmas.{tokens_from-append_detached, tokens_from-append_spaced}
 
 -- ---- token boundaries
@@ -243,57 +241,6 @@ pub record IsTakenSoFar (text : List ℕ) (at next : ℕ) : Type 0 where
   pub left : tokens_after 1 text at ≡ words ++ tokens_after 1 text next
   pub taken : tokens (take next text) ≡ tokens (take at text) ++ words
 
--- at first no tokens are taken
-pub IsTakenSoFar-none : (text : List ℕ) (at : ℕ) → IsTakenSoFar text at at
-IsTakenSoFar-none text at = record {
-  words = [];
-  none = refl;
-  moves = omega arith;
-  left = refl;
-  taken = sym (append-nil (tokens (take at text)));
-}
-
--- the next token isn't `$end`, and is taken
-pub IsTakenSoFar-token : (text : List ℕ) (at mid next : ℕ) (bytes : List ℕ) → IsTakenSoFar text at mid
-    → IsNextToken text mid next bytes → is_end bytes ≡ false → IsTakenSoFar text at next
-IsTakenSoFar-token text at mid next bytes so one no_end =
-    let token : Token = record { line = one.line; bytes = bytes } in
-    record {
-      words = so.words ++ token ∷ [];
-      none = list_any-append ends_section so.words (token ∷ [])
-          ∙ or_from (list_any ends_section so.words) (is_end bytes || false) so.none
-          (or_from (is_end bytes) false no_end refl);
-      moves = omega (arith, so.moves, one.moves);
-      left = so.left ∙ ap (λ (ts : List Token). so.words ++ ts) one.left
-          ∙ sym (append_assoc so.words (token ∷ []) (tokens_after 1 text next));
-      taken = one.taken ∙ ap (λ (ts : List Token). ts ++ token ∷ []) so.taken
-          ∙ append_assoc (tokens (take at text)) so.words (token ∷ []);
-    }
-
--- the next token is `$end`, and is taken
-pub IsTakenToEnd-token : (text : List ℕ) (at mid next : ℕ) (bytes : List ℕ) → IsTakenSoFar text at mid
-    → IsNextToken text mid next bytes → is_end bytes ≡ true → IsTakenToEnd text at next
-IsTakenToEnd-token text at mid next bytes so one is =
-    let token : Token = record { line = one.line; bytes = bytes } in
-    record {
-      words = so.words;
-      last = token;
-      none = so.none;
-      ends = is;
-      moves = omega (arith, so.moves, one.moves);
-      within = one.within;
-      detached = one.detached;
-      left = so.left ∙ ap (λ (ts : List Token). so.words ++ ts) one.left;
-      taken = one.taken ∙ ap (λ (ts : List Token). ts ++ token ∷ []) so.taken
-          ∙ append_assoc (tokens (take at text)) so.words (token ∷ []);
-    }
-
--- if none of the tokens taken is `$end`, and no token is left, no `$end` follows `at`
-pub ends_section-none_left : (text : List ℕ) (at mid : ℕ) → IsTakenSoFar text at mid → tokens_after 1 text mid ≡ []
-    → list_any ends_section (tokens_after 1 text at) ≡ false
-ends_section-none_left text at mid so none =
-    ap (list_any ends_section) (so.left ∙ ap (λ (ts : List Token). so.words ++ ts) none ∙ append-nil so.words) ∙ so.none
-
 -- ---- what holds of no token
 
 -- `p` holds of no token before the start
@@ -307,14 +254,3 @@ pub list_any-all_tokens : (p : Token → Bool) (text : List ℕ) (at : ℕ) → 
 list_any-all_tokens p text at boundary none left =
     ap (list_any p) (tokens-at_boundary text at boundary ∙ ap (λ (ts : List Token). tokens (take at text) ++ ts) left
     ∙ append-nil (tokens (take at text))) ∙ none
-
--- if `p` holds neither of a token before `at` nor of the next one, it holds of no token before `next`
-pub list_any-next_token : (p : Token → Bool) (text : List ℕ) (at next : ℕ) (bytes : List ℕ)
-    (one : IsNextToken text at next bytes)
-    → list_any p (tokens (take at text)) ≡ false → p (record { line = one.line; bytes = bytes }) ≡ false
-    → list_any p (tokens (take next text)) ≡ false
-list_any-next_token p text at next bytes one none differs =
-    ap (list_any p) one.taken
-    ∙ list_any-append p (tokens (take at text)) (record { line = one.line; bytes = bytes } ∷ [])
-    ∙ or_from (list_any p (tokens (take at text))) (p (record { line = one.line; bytes = bytes }) || false) none
-    (or_from (p (record { line = one.line; bytes = bytes })) false differs refl)

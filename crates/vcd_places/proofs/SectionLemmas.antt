@@ -1,21 +1,20 @@
 -- After a section that is taken, or a token outside one, the definitions continue, end, or never end.
-use Rattle.std.proofs.Common.{◌≡◌, ℕ, Bool, true, false, List, [], ◌∷◌, ◌++◌, Option, Some, None, length}
-use Rattle.std.proofs.Common.{take, drop, refl, sym, ap, ◌∙◌, true≢false}
+use Rattle.std.proofs.Common.{◌≡◌, ℕ, Bool, true, false, List, [], ◌∷◌, ◌++◌, Option, Some, None}
+use Rattle.std.proofs.Common.{take, refl, sym, ap, ◌∙◌, true≢false}
 use Rattle.std.specs.Prelude.{not, ◌&&◌, ◌||◌, bytes_eq, codes, is_some, unwrap_or}
 use Rattle.std.specs.List.{list_any}
 use Rattle.std.proofs.lemmas.List.{append-nil}
 use Rattle.std.proofs.lemmas.List.Folds.{list_any-append}
-use Rattle.std.proofs.lemmas.Slice.Eq.{bytes_eq-Decides}
-use Rattle.std.proofs.lemmas.Bool.{and_from, and_parts, not-true, or_parts}
+use Rattle.std.proofs.lemmas.Bool.{and_parts, not-true, or_parts}
 use Rattle.vcd_read.specs.Tokens.{Token, cut_from, tokens}
 use Rattle.vcd_read.specs.Reading.{tokens_after}
 use Rattle.vcd_read.specs.Header.{Header, HeaderItem, Section, between, ends_definitions, header_from, inside, is_end}
 use Rattle.vcd_read.specs.Header.{opened, opens_section, stray, whole, with_item, with_word}
 use Rattle.vcd_read.specs.Body.{body_from, ready}
 use Rattle.vcd_read.specs.Meaning.{last_time}
-use Rattle.vcd_places.specs.Places.{IsAtTime, begins_with_token, body_in, ends_at_boundary, ends_definitions_at}
-use Rattle.vcd_places.specs.Places.{is_between_sections, is_unfinished, item_times, starts_at_boundary, times_of_body}
-use Rattle.vcd_places.specs.NextTokens.{IsNextToken, IsTakenToEnd, IsTokenAt, ends_section, is_token_boundary}
+use Rattle.vcd_places.specs.Places.{IsAtTime, body_in}
+use Rattle.vcd_places.specs.Places.{is_between_sections, is_unfinished, item_times, times_of_body}
+use Rattle.vcd_places.specs.NextTokens.{IsNextToken, IsTakenToEnd, ends_section, is_token_boundary}
 use Rattle.vcd_places.specs.Times.{IsBetweenItems, times_left}
 use Rattle.vcd_places.proofs.InsertionLemmas.{IsBetweenSections, after_items, ExtendsBody-all, SplitsHeader-all}
 use Rattle.vcd_places.proofs.ItemLemmas.{AreTaken-section, token}
@@ -203,25 +202,6 @@ module _ (text : List ℕ) (at next : ℕ) (bytes : List ℕ) (between_sections 
         (ap (λ (ts : List Token). (header_from between ts).body) (tokens-detached text end e.detached)
         ∙ ap (λ (h : Header). h.body)
         (ExtendsBody-all (tokens_after 1 text end) (tokens (take end text)) between [] (body_in-end_definitions is))))
-
-  -- if the token is `$enddefinitions`, the section that ends the definitions begins at its start
-  pub ends_definitions_at-start : (start : ℕ) → IsTokenAt text at next start bytes
-      → bytes_eq bytes (codes "$enddefinitions") ≡ true
-      → ends_definitions_at text start ≡ true
-  ends_definitions_at-start start stands is =
-      let word : bytes ≡ codes "$enddefinitions" = (bytes_eq-Decides bytes (codes "$enddefinitions")).0 is in
-      let len : length bytes ≡ 15 = ap (λ (bs : List ℕ). length bs) word in
-      let begins : take 15 (drop start text) ≡ codes "$enddefinitions" =
-      sym (stands.bytes_are ∙ ap (λ (n : ℕ). take n (drop start text)) len) ∙ word in
-      and_from (ends_at_boundary (take start text) && is_between_sections (take start text))
-      (begins_with_token (codes "$enddefinitions") (drop start text))
-      (and_from (ends_at_boundary (take start text)) (is_between_sections (take start text)) stands.start_detached
-      (ap (λ (ts : List Token). not (is_some (header_from between ts).body)
-      && not (list_any is_unfinished (header_from between ts).items)) stands.same_tokens ∙ between_sections))
-      (and_from (bytes_eq (take 15 (drop start text)) (codes "$enddefinitions"))
-      (starts_at_boundary (drop 15 (drop start text)))
-      ((bytes_eq-Decides (take 15 (drop start text)) (codes "$enddefinitions")).1 begins)
-      (ap (λ (n : ℕ). starts_at_boundary (drop n (drop start text))) (sym len) ∙ stands.end_detached))
 
   -- if a section has no `$end`, the text has no body
   pub body_in-endless_section : is_token_boundary text at ≡ true → opens_section bytes ≡ true
