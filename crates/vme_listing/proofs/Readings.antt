@@ -1,6 +1,6 @@
 -- How a listing is read, row by row: what is known of the text when some rows were read, and after one more row or a
 -- fault.
-use Rattle.std.proofs.Common.{◌≡◌, ◌≢◌, ℕ, ◌+◌, ◌<◌, Bool, true, false, List, [], ◌∷◌, ◌++◌, drop, get_or, length, refl}
+use Rattle.std.proofs.Common.{◌≡◌, ◌≢◌, ℕ, ◌+◌, Bool, true, false, List, [], ◌∷◌, ◌++◌, length, refl}
 use Rattle.std.proofs.Common.{sym, ap, ◌∙◌, subst, arith, length-append}
 use Rattle.std.specs.Prelude.{Option, None, Some, not, ◌&&◌, flat_map}
 use Rattle.std.proofs.lemmas.Bool.{and_from, and_parts, false≢true}
@@ -18,7 +18,6 @@ use Rattle.vme_listing.specs.declared.fault.ListFault.{ListFault}
 use Rattle.vme_listing.specs.declared.fault.ListFault.TheVariants.{BadHeader, BadRow, Unsorted, Memory}
 use Rattle.vme_listing.specs.declared.row.Row.{Row}
 use Rattle.vme_listing.specs.declared.row.Version.{Version}
-use Rattle.vme_listing.specs.declared.row.Version.TheVariants.{One, Two, Three}
 use Rattle.vme_listing.specs.Listed.{Listed}
 
 -- if a && b && c holds, each does
@@ -71,11 +70,6 @@ is_rest-from_placed version before (row ∷ rows) p e =
     let parts = and_parts (follows version before row) (are_placed version (Some row) rows) p in
     and_from _ _ parts.0 (is_rest-from_placed version (Some row) rows parts.1 e)
 
--- after the header, no rows have been read
-pub IsRead-no_rows : (text : List ℕ) (version : Version) (rest : List ℕ) → text ≡ header version ++ rest
-    → IsRead text version [] rest
-IsRead-no_rows text version rest e = record { placed = refl; split = e }
-
 -- the lines of some rows and then that of a row are those of all these rows
 flat_map-one_more_line : (rows : List Row) (row : Row) (more : List ℕ) → flat_map line_of rows ++ (line_of row ++ more)
     ≡ flat_map line_of (rows ++ row ∷ []) ++ more
@@ -93,32 +87,6 @@ IsRead-append text version rows rest row more read f e =
       placed = are_placed-append version None rows row read.placed f;
       split = read.split ∙ ap (λ l. header version ++ (flat_map line_of rows ++ l)) e.0 ∙ ap (λ l. header version ++ l)
           (flat_map-one_more_line rows row more);
-    }
-
--- texts that begin with headers are equal only where the versions are equal, and what follows the headers
-pub header-injective : (v w : Version) (a b : List ℕ) → header v ++ a ≡ header w ++ b → (v ≡ w) × (a ≡ b)
-header-injective One One a b e = (refl, ap (drop 19) e)
-header-injective Two Two a b e = (refl, ap (drop 19) e)
-header-injective Three Three a b e = (refl, ap (drop 19) e)
-header-injective One Two a b e = absurd (omega (arith, ap (λ l. get_or l 17 0) e))
-header-injective One Three a b e = absurd (omega (arith, ap (λ l. get_or l 17 0) e))
-header-injective Two One a b e = absurd (omega (arith, ap (λ l. get_or l 17 0) e))
-header-injective Two Three a b e = absurd (omega (arith, ap (λ l. get_or l 17 0) e))
-header-injective Three One a b e = absurd (omega (arith, ap (λ l. get_or l 17 0) e))
-header-injective Three Two a b e = absurd (omega (arith, ap (λ l. get_or l 17 0) e))
-
--- after the header, each well placed listing of the text begins with no rows
-pub AllBegin-no_rows : (text : List ℕ) (version : Version) (rest : List ℕ) → text ≡ header version ++ rest
-    → AllBegin text version [] rest
-AllBegin-no_rows text version rest e all w t =
-    let one = header-injective all.version version (flat_map line_of all.rows) rest (t ∙ e) in
-    record {
-      same = one.0;
-      others = all.rows;
-      split = refl;
-      placed = subst (λ v. is_rest v None all.rows ≡ true) one.0
-          w;
-      lines = one.1;
     }
 
 -- no rows follow a verdict
@@ -237,17 +205,6 @@ IsFirstFault-of_row text version rows rest read unfinished (BadRow n) h = (versi
 IsFirstFault-of_row text version rows rest read unfinished (Unsorted n) h = (version, rows, rest, (read, unfinished, h))
 IsFirstFault-of_row text version rows rest read unfinished Memory h = absurd h
 
--- after the header, no rows have been read, and the rest of the text is left
-pub HasRead-no_rows : (text : List ℕ) (version : Version) (rest : List ℕ) → text ≡ header version ++ rest
-    → HasRead text [] (record { version = version; rest = rest; last = None; count = 0 })
-HasRead-no_rows text version rest e = record {
-  read = IsRead-no_rows text version rest e;
-  begin = AllBegin-no_rows text version rest e;
-  closed = λ end. absurd (false≢true end);
-  last = refl;
-  count = refl;
-}
-
 -- `rows` have been read from the text
 module _ (text : List ℕ) (rows : List Row) (old : Unread) (has : HasRead text rows old) where
   -- if the last row that was read isn't a verdict, the rows don't end with one
@@ -327,7 +284,3 @@ module _ (text : List ℕ) (rows : List Row) (old : Unread) (has : HasRead text 
         (λ other behind f there. let parts = follows-parts old.version old.last other f in
         absurd (false≢true (sym down ∙ (ap (ascends old.version old.last) (found other behind parts.0 there)
         ∙ parts.2))))
-
--- what is left after a row is shorter than before
-pub length-after_row : (rest : List ℕ) (row : Row) (more : List ℕ) → IsFront rest row more → length more < length rest
-length-after_row rest row more e = omega (arith, ap length e.0, length-append (line_of row) more, length-append {A = ℕ})
