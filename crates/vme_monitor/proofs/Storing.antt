@@ -1,7 +1,6 @@
 -- How many marks (events of the bus with their instants) a table stores: after a shift or a merge as many as before,
 -- and after two tables are put together as many as both.
 use Rattle.std.proofs.Common.{◌≡◌, ℕ, ◌+◌, List, [], ◌∷◌, ◌++◌, length, map, refl, ap, ◌∙◌, arith}
-use Rattle.std.specs.Prelude.{min}
 use Rattle.std.specs.List.{sum_by}
 use Rattle.std.proofs.lemmas.List.{length-map}
 use Rattle.std.proofs.lemmas.List.Sums.{sum_by-append, sum_by-cons}
@@ -139,12 +138,3 @@ module _ {P : Type 0} (place : P → ℕ) where
       = ap (sum_by layer_marks) e2 ∙ sum_by-append layer_marks h1 (map (map (later_link_value n)) bs) in
       let ends : sum_by row_marks rows ≡ sum_by row_marks rbs = ap (sum_by row_marks) er ∙ sum_by-later_rows n rbs in
       omega (arith, between, middle, one, last, sum_by-later_layers n bs, ends)
-
--- a saturating sum of saturated sums is the saturated sum; `most` is the greatest number
-pub capped_sum : (a b c d count most : ℕ) → c ≡ min a most → d ≡ min b most → count ≡ min (c + d) most → count
-    ≡ min (a + b) most
-capped_sum a b c d count most first second sum = omega (arith, first, second, sum)
-
--- a saturating sum with one saturated number is the saturated sum; `most` is the greatest number
-pub capped_add : (a b c count most : ℕ) → c ≡ min a most → count ≡ min (c + b) most → count ≡ min (a + b) most
-capped_add a b c count most first sum = omega (arith, first, sum)
