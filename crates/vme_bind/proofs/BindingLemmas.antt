@@ -47,10 +47,6 @@ pub binding_of-no_statement : (text : List ℕ) (line : ℕ) → statements_of t
 unfolding binding_of
 binding_of-no_statement text line e h = rw (e, ← h) refl
 
--- the binding of the whole text, from the result of binding its statements
-abbrev pub rest_bound : List ℕ → Result BoundLines BindFault → Result BoundLines BindFault
-rest_bound text r = r >>= finished (end_line text)
-
 -- the binding of a text is made of its first statement, which states the slots, and the others
 binding_of-statements : (text : List ℕ) (s : StatementText) (ss : List StatementText) → statements_of text ≡ s ∷ ss
     → binding_of text ≡ (at_line s.line (slots_stated s.first s.others) >>= λ slots. bound_all (no_assignments slots) ss

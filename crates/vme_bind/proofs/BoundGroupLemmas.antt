@@ -1,11 +1,11 @@
 -- The bound groups of a binding, found one after the other: each assignment adds one, from the only candidate among the
 -- variables.
-use Rattle.std.proofs.Common.{◌≡◌, ℕ, ◌+◌, ◌<◌, Bool, true, false, cond, ◌&&◌, ◌≤◌, List, [], ◌∷◌, ◌++◌, length, get_or}
-use Rattle.std.proofs.Common.{drop, Option, Some, None, Result, Ok, Err, refl, sym, ap, ◌∙◌, arith, add-one}
+use Rattle.std.proofs.Common.{◌≡◌, ℕ, ◌+◌, ◌<◌, cond, ◌≤◌, List, [], ◌∷◌, ◌++◌, length, get_or}
+use Rattle.std.proofs.Common.{drop, Option, Some, None, Result, Ok, Err, refl, sym, ap, ◌∙◌, add-one}
 use Rattle.std.proofs.Common.{append_assoc}
 use Rattle.std.proofs.Math.Seq.{drop-cons}
 use Rattle.std.proofs.Math.ListN.{drop_of_length-le}
-use Rattle.std.specs.List.{filter_map, list_all}
+use Rattle.std.specs.List.{list_all}
 use Rattle.std.proofs.lemmas.List.{append-nil}
 use Rattle.vcd_read.specs.declared.dump.Variable.{Variable}
 use Rattle.vcd_read.specs.Header.{◌>>=◌}
@@ -13,10 +13,9 @@ use Rattle.vme_bind.specs.declared.assignment.Assignment.{Assignment}
 use Rattle.vme_bind.specs.declared.fault.BindFault.{BindFault}
 use Rattle.vme_bind.specs.declared.fault.BindFaultKind.{BindFaultKind}
 use Rattle.vme_bind.specs.declared.fault.BindFaultKind.TheVariants.{AmbiguousPath}
-use Rattle.vme_bind.specs.declared.source.VariableSelector.{VariableSelector}
 use Rattle.vme_bind.specs.declared.bound_groups.BitRange.{BitRange}
 use Rattle.vme_bind.specs.declared.bound_groups.BoundGroup.{BoundGroup}
-use Rattle.vme_bind.specs.BoundGroups.{candidate, only, same_bits, bound_group_in, bound_groups_in}
+use Rattle.vme_bind.specs.BoundGroups.{only, same_bits, bound_group_in, bound_groups_in}
 
 -- the rest of a list from place `i` on is element `i` and the rest after it
 pub drop-element : {X : Type 0} (xs : List X) (i : ℕ) (x : X) → i < length xs → x ≡ get_or xs i x → drop i xs ≡ x
@@ -27,44 +26,6 @@ drop-element xs i x lt e = rw add-one (drop-cons xs i x lt) ∙ ap (λ y. y ∷ 
 abbrev pub only_from : Option BitRange → List BitRange → Result BitRange BindFaultKind
 only_from None found = only found
 only_from (Some bits) others = cond (list_all (same_bits bits) others) (Ok bits) (Err AmbiguousPath)
-
--- the only candidate with one more, if `Some`, between that found before and those in the list
-abbrev pub only_with : Option BitRange → Option BitRange → List BitRange → Result BitRange BindFaultKind
-only_with found None others = only_from found others
-only_with None (Some bits) others = only_from (Some bits) others
-only_with (Some bits) (Some next) others = cond (same_bits bits next) (only_from (Some bits) others) (Err AmbiguousPath)
-
--- the only candidate among one more variable, whose candidate is `next`, and others is that with `next` added to what
--- was found before
-only_from-next : (found next : Option BitRange) (named : VariableSelector) (v : Variable) (vs : List Variable)
-    → candidate named v ≡ next
-    → only_from found (filter_map (candidate named) (v ∷ vs)) ≡ only_with found next (filter_map (candidate named) vs)
-only_from-next None None named v vs e = rw e refl
-only_from-next None (Some bits) named v vs e = rw e refl
-only_from-next (Some bits) None named v vs e = rw e refl
-only_from-next (Some bits) (Some next) named v vs e = rw e (by_same (same_bits bits next))
-  where
-    by_same : (b : Bool) → cond (b && list_all (same_bits bits) (filter_map (candidate named) vs)) (Ok bits)
-        (Err AmbiguousPath) ≡ cond b (cond (list_all (same_bits bits) (filter_map (candidate named) vs)) (Ok bits)
-        (Err AmbiguousPath)) (Err AmbiguousPath)
-    by_same true = refl
-    by_same false = refl
-
--- the candidate of variable `i` is added to what was found before it
-pub only_from-candidate : (found next : Option BitRange) (named : VariableSelector) (vs : List Variable) (i : ℕ)
-    (v : Variable)
-    → i < length vs → v ≡ get_or vs i v → next ≡ candidate named v
-    → only_from found (filter_map (candidate named) (drop i vs)) ≡ only_with found next
-    (filter_map (candidate named) (drop (i + 1) vs))
-only_from-candidate found next named vs i v lt e is =
-    ap (λ (rest : List Variable). only_from found (filter_map (candidate named) rest)) (drop-element vs i v lt e)
-    ∙ only_from-next found next named v (drop (i + 1) vs) (sym is)
-
--- after the last variable, the result is that of what was found
-pub only_from-all : (found : Option BitRange) (named : VariableSelector) (vs : List Variable) (i : ℕ) → length vs ≡ i
-    → only_from found (filter_map (candidate named) (drop i vs)) ≡ only_from found []
-only_from-all found named vs i e = ap (λ (rest : List Variable). only_from found (filter_map (candidate named) rest))
-    (drop_of_length-le vs (omega (arith, e)))
 
 -- the bound groups so far, followed by those that are still to be found
 abbrev pub after_bound_groups : List BoundGroup → Result (List BoundGroup) BindFault → Result (List BoundGroup)

@@ -1,7 +1,7 @@
 -- The number of open scopes that the path of a search begins with is right after each scope that opens or closes, and
 -- says which variables have that path.
 use Rattle.std.proofs.Common.{◌≡◌, ℕ, ◌+◌, ◌<◌, ◌≤◌, eqb, Bool, true, false, cond, ◌&&◌, List, [], ◌∷◌, ◌++◌, length}
-use Rattle.std.proofs.Common.{get_or, take, drop, map, refl, sym, ap, ◌∙◌, add-zero, arith, append_assoc, length-append}
+use Rattle.std.proofs.Common.{get_or, take, drop, map, refl, sym, ap, ◌∙◌, add-zero, arith, append_assoc}
 use Rattle.std.specs.Prelude.{bytes_eq, min}
 use Rattle.std.specs.Bool.{Decides}
 use Rattle.std.specs.List.{All}
@@ -70,15 +70,6 @@ pub begins_with-append : (front part text : List ℕ) → begins_with (front ++ 
 begins_with-append front part text = same_from_decides (begins_with (front ++ part) text) (begins_with front text
     && begins_with part (drop (length front) text)) (begins_with-Decides (front ++ part) text)
     (begins_with-Decides_append front part text)
-
--- a text that is shorter than `front` doesn't begin with it
-pub begins_with-short : (front text : List ℕ) → length text < length front → begins_with front text ≡ false
-begins_with-short front text lt = by_test (begins_with front text) (begins_with-Decides front text)
-  where
-    by_test : (b : Bool) → Decides b (Begins front text) → b ≡ false
-    by_test false d = refl
-    by_test true d = let h = d.0 refl in
-        absurd (omega (arith, lt, ap (λ (xs : List ℕ). length xs) h.1, length-append front h.0))
 
 -- `text` is `front ++ name` exactly if it begins with `front` and its rest is `name`
 append-Decides : (front name text : List ℕ) → Decides (begins_with front text && bytes_eq (drop (length front) text)

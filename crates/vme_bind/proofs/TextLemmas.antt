@@ -135,8 +135,3 @@ count_by-feed_nowhere rest none =
       ap (count_by is_feed)
           (bytes_after_end-empty rest),
     )
-
--- a text without bytes has no line feeds
-pub count_by-feed_empty : (rest : List ℕ) → length rest ≡ 0 → count_by is_feed rest ≡ 0
-count_by-feed_empty [] e = refl
-count_by-feed_empty (b ∷ rest) e = absurd (omega (arith, e))
