@@ -133,12 +133,6 @@ module _ (v w : Levels) where
     has_known_modifier-same = every-alike (is_modifier_bit_known w) (is_modifier_bit_known v) 0 6
         (λ b from few. ap is_known (alike b few))
 
-  -- if IACK* is low in both, the class is the same
-  class_of-same_interrupt : level_at w IACK ≡ level_at v IACK → is_low (level_at v IACK) ≡ true → class_of w
-      ≡ class_of v
-  unfolding class_of
-  class_of-same_interrupt e h = rw (e, h) refl
-
   -- if IACK* is low, the class is I
   class_of-interrupt : (u : Levels) → is_low (level_at u IACK) ≡ true → class_of u ≡ class.I
   unfolding class_of
