@@ -40,10 +40,6 @@ away-not_filled x e = cc
 empty-not_filled : (x : Block) → empty ≡ filled x → ⊥
 empty-not_filled x e = cc
 
--- no content isn't a block
-None-not_some_block : (x : Block) → ◌≡◌ {A = Option Block} None (Some x) → ⊥
-None-not_some_block x e = cc
-
 -- slots that are filled alike have the same block
 filled-injective : (x b : Block) → filled x ≡ filled b → x ≡ b
 filled-injective x b e = cc

@@ -46,26 +46,6 @@ module _ (v : View) (n : ℕ) where
       by_taken zero h = absurd (omega arith)
       by_taken (suc t) h = refl
 
-  -- a number that was seen filed and not taken was seen at the stage Filed
-  pub seen-Filed : occurrences n v.taken ≡ 0 → 0 < occurrences n v.filed → seen v n ≡ Filed
-  seen-Filed = by_filed (occurrences n v.taken) (occurrences n v.filed)
-    where
-      by_filed : (t f : ℕ) → t ≡ 0 → 0 < f → stage_of t f (occurrences n v.claimed) ≡ Filed
-      by_filed t zero e h = absurd (omega arith)
-      by_filed zero (suc f) e h = refl
-      by_filed (suc t) (suc f) e h = absurd (omega arith)
-
-  -- a number that was seen claimed, and neither filed nor taken, was seen at the stage Claimed
-  pub seen-Claimed : occurrences n v.taken ≡ 0 → occurrences n v.filed ≡ 0 → 0 < occurrences n v.claimed → seen v n
-      ≡ Claimed
-  seen-Claimed = by_claimed (occurrences n v.taken) (occurrences n v.filed) (occurrences n v.claimed)
-    where
-      by_claimed : (t f c : ℕ) → t ≡ 0 → f ≡ 0 → 0 < c → stage_of t f c ≡ Claimed
-      by_claimed t f zero e g h = absurd (omega arith)
-      by_claimed (suc t) f c e g h = absurd (omega arith)
-      by_claimed zero (suc f) c e g h = absurd (omega arith)
-      by_claimed zero zero (suc c) e g h = refl
-
   -- a number that was seen neither claimed nor filed nor taken was seen at the stage Free
   pub seen-Free : occurrences n v.taken ≡ 0 → occurrences n v.filed ≡ 0 → occurrences n v.claimed ≡ 0 → seen v n ≡ Free
   seen-Free = by_free (occurrences n v.taken) (occurrences n v.filed) (occurrences n v.claimed)

@@ -1,4 +1,5 @@
--- A list of numbers below a limit, in which each n occurs at most f n times, is at most as long as the sum of f.
+-- A list of numbers below a limit, in which each n occurs at most f n times, and the numbers that are missing from it
+-- are together at most as many as the sum of f.
 use Rattle.std.proofs.Common.{◌≡◌, ℕ, zero, suc, ◌+◌, ◌<◌, ◌≤◌, List, [], ◌∷◌, length, sym, refl, ap, arith, subst}
 use mathlib.Core.Logic.{dite}
 use native.Mathlib.Decide.{ℕ_discrete}
@@ -79,15 +80,6 @@ sum_below-agree f g (suc k) h = omega (arith, h k (omega arith), sum_below-agree
 -- the case that f is positive only below `limit`, and each n occurs in xs at most f n times
 module _ (f : ℕ → ℕ) (limit : ℕ) (within : (n : ℕ) → 0 < f n → n < limit) (xs : List ℕ)
     (few : (n : ℕ) → occurrences n xs ≤ f n) where
-  -- the list is at most as long as the sum of f
-  pub length-at_most_sum : length xs ≤ sum_below f limit
-  length-at_most_sum = omega (
-    arith,
-    length-sum_below xs limit (λ n z. within n (omega (arith, few n, z))),
-    sum_below-monotone
-        (λ n. occurrences n xs) f limit few,
-  )
-
   -- a number that was seen and isn't had, and one that is had, are together at most `one`, if that is 1 where it was
   -- seen
   lack-at_most_one : (saw had one : ℕ) → had ≤ one → (0 < saw → one ≡ 1) → lack saw had + had ≤ one
