@@ -67,11 +67,6 @@ pub record IsTaken (slots n : ℕ) (b : Block) (before last : SeatState) : Type 
   pub few : length before.0.takes < slots
   pub same_blocks : SameBlocks last.0
 
--- the value of the slot that was checked out last
-abbrev top : List (ℕ × Option Block) → Option Block
-top [] = None
-top (x ∷ xs) = x.1
-
 -- the seat's state after the take succeeded
 pub seat-after_take : (before won : SeatState) (n : ℕ) (b : Block) → before.1 ≡ [] → won
     ≡ (after_take before.0 n b, (n, Some b) ∷ before.1) → won ≡ (after_take before.0 n b, (n, Some b) ∷ [])
@@ -83,11 +78,6 @@ pub has_slot : (before won : SeatState) (n : ℕ) (b : Block) → won ≡ (after
     ≡ (n, Some b) ∷ rest won.1
 has_slot before won n b e = subst (λ (cs : List (ℕ × Option Block)). cs ≡ (n, Some b) ∷ rest cs)
     (sym (ap (λ (m : SeatState). m.1) e)) refl
-
--- the exchange returned the block b
-pub block-lifted : (before won : SeatState) (n : ℕ) (b : Block) (x : Option Block) → won
-    ≡ (after_take before.0 n b, (n, Some b) ∷ []) → won.1 ≡ (n, x) ∷ rest won.1 → x ≡ Some b
-block-lifted before won n b x e f = ap top (sym f ∙ ap (λ (m : SeatState). m.1) e)
 
 -- the seat's state after the exchange: its slot is empty
 pub seat-after_lift : (before won put : SeatState) (n : ℕ) (b : Block) → won

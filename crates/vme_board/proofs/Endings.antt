@@ -28,12 +28,6 @@ use Rattle.vme_board.specs.Words.{bit_of, Homes, IsEmpty, IsFilled, Holds, kept}
 use Rattle.vme_board.specs.Contents.{DidAll, HasBlock, filled_bit, filled_at, filled_count}
 use Rattle.vme_board.proofs.Bits.{bit_of-at_most_one}
 
--- an element of a list is at an index below its length
-get_elem-within : {A : Type 0} (l : List A) (i : ℕ) (a : A) → get_elem? l i ≡ some a → i < length l
-get_elem-within [] i a e = absurd (some-ne-none a (sym e))
-get_elem-within (x ∷ xs) zero a e = omega arith
-get_elem-within (x ∷ xs) (suc i) a e = omega (arith, get_elem-within xs i a e)
-
 -- an element of a list is what is read at its index
 get_elem-get_or : {A : Type 0} (l : List A) (i : ℕ) (a d : A) → get_elem? l i ≡ some a → get_or l i d ≡ a
 get_elem-get_or [] i a d e = absurd (some-ne-none a (sym e))

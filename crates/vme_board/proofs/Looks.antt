@@ -13,7 +13,7 @@ use Rattle.vme_trace.specs.declared.block.Block.{Block}
 use Rattle.vme_core.specs.declared.view.View.{View}
 use Rattle.vme_core.specs.Counting.{occurrences, set_bits}
 use Rattle.vme_core.specs.Stages.{SeesMore}
-use Rattle.vme_core.specs.Views.{after_claim, after_filing, after_take, with_claimed, with_filed, with_taken}
+use Rattle.vme_core.specs.Views.{after_claim, after_filing, with_claimed, with_filed, with_taken}
 use Rattle.vme_core.proofs.Sums.{occurrences-append}
 use Rattle.vme_core.proofs.SetBits.{set_bits-true, set_bits-all}
 use Rattle.vme_board.specs.Postconditions.{SeatState, ClaimedLookPost, FiledLookPost, TakenLookPost}
@@ -139,15 +139,6 @@ SeesMore-taken a b ns e = subst (λ (m : SeatState). SeesMore a.0 m.0) (sym e)
       taken = λ n. omega (arith, occurrences-append n ns a.0.taken);
     })
 
--- if v sees more than u, and w more than v, then w sees more than u
-pub SeesMore-trans : (u v w : View) → SeesMore u v → SeesMore v w → SeesMore u w
-SeesMore-trans u v w a b = record {
-  found = λ d. let x = a.found d in let y = b.found d in omega (arith, x, y);
-  claimed = λ d. let x = a.claimed d in let y = b.claimed d in omega (arith, x, y);
-  filed = λ d. let x = a.filed d in let y = b.filed d in omega (arith, x, y);
-  taken = λ d. let x = a.taken d in let y = b.taken d in omega (arith, x, y);
-}
-
 -- a bench sees more after it claimed and filed a number
 pub SeesMore-filing : (v : View) (n : ℕ) (b : Block) → SeesMore v (after_filing (after_claim v n) n b)
 SeesMore-filing v n b = record {
@@ -156,14 +147,4 @@ SeesMore-filing v n b = record {
   filed = λ m. omega arith;
   taken = λ m.
       le_refl _;
-}
-
--- a bench sees more after it took a number
-pub SeesMore-taking : (v : View) (n : ℕ) (b : Block) → SeesMore v (after_take v n b)
-SeesMore-taking v n b = record {
-  found = λ d. le_refl _;
-  claimed = λ m. omega arith;
-  filed = λ m. omega arith;
-  taken = λ m.
-      omega arith;
 }
