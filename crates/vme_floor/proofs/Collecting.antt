@@ -131,10 +131,6 @@ module _ (total : ℕ) (v w : View) (c e : Collection) (m n : ℕ) (b : Block) (
   book-at_number : e.book ≡ set c.book n (Some b)
   book-at_number = book ∙ ap (λ (l : ℕ). set c.book l (Some b)) is
 
-  -- the place of the number was free
-  book-free : slice_get c.book n ≡ Some no_block
-  book-free = ap (slice_get c.book) (sym is) ∙ free
-
   -- the place of the number has the block now
   book-here : slice_get e.book n ≡ Some (Some b)
   book-here =

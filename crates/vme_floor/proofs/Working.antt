@@ -122,17 +122,6 @@ pub AllFound-joint : (v w u : View) (k : ℕ) → u ≡ joint_view v w → AllFo
 AllFound-joint v w u k is all d low =
     let a = all d low in let b = (SeesMore-joint_left v w u is).found d in omega (arith, a, b)
 
--- `IsWork` holds of a bench that has drawn and filed nothing, and no replies
-pub IsWork-nothing : (total : ℕ) (ds : List Block) (v : View) → v.list ≡ [] → v.draws ≡ [] → IsWork total ds v []
-IsWork-nothing total ds v l d = record {
-  drew = λ k. ap (occurrences k) d;
-  filed = λ n. ap (λ (xs : List (ℕ × Block)). occurrences n (numbers xs)) l;
-  right = tt;
-  doubled = tt;
-  draws_once = λ k. let z = ap (occurrences k) d in omega (arith, z);
-  files_once = λ n. let z = ap (λ (xs : List (ℕ × Block)). occurrences n (numbers xs)) l in omega (arith, z);
-}
-
 -- a delivery adds the number of its block to the list if it is filed, and else nothing
 module _ (old new : List (ℕ × Block)) (b : Block) where
   -- the numbers of the list after the delivery, counted
