@@ -3,19 +3,18 @@
 use Rattle.std.proofs.Common.{◌≡◌, ℕ, suc, ◌+◌, ◌-◌, ◌<◌, Bool, true, false, cond, List, [], ◌∷◌, ◌++◌}
 use Rattle.std.proofs.Common.{length, sym, ap, ◌∙◌, subst, arith}
 use Rattle.std.specs.Prelude.{Option, None, Some, nat_lt, slice_get, ◌==◌, ◌||◌}
-use Rattle.std.proofs.lemmas.Bool.{eq-eqb, ne_eqb, or_from, or_left, or_right}
+use Rattle.std.proofs.lemmas.Bool.{ne_eqb, or_from, or_right}
 use Rattle.std.proofs.lemmas.List.Elements.{All-cons, All-nil}
 use Rattle.vme_trace.specs.Levels.{Levels}
-use Rattle.vme_trace.specs.LineNumbers.{line_count}
 use Rattle.vme_trace.specs.Trace.{Trace, after, changed, levels_at, time_at, time_of}
 use Rattle.vme_trace.specs.WellFormed.{are_changes, malformed_step}
 use Rattle.vme_trace.specs.declared.step.Change.{Change}
 use Rattle.vme_trace.specs.declared.step.Step.{Step}
 use Rattle.vme_bind.specs.Recording.{IsLine, step_between}
 use Rattle.vme_skew.specs.Group.{ChangeLines, GroupLevels, begun}
-use Rattle.vme_skew.specs.Settled.{begins_after, group_start, settled, steps_before}
+use Rattle.vme_skew.specs.Settled.{begins_after, group_start, steps_before}
 use Rattle.vme_skew.proofs.Between.{below-has_line, AreChangesFrom-are_changes}
-use Rattle.vme_skew.proofs.Laws.{IsRecording-settled, MayFollowParts-step}
+use Rattle.vme_skew.proofs.Laws.{MayFollowParts-step}
 
 -- changes that may be made are of lines that exist
 ChangeLines-are_changes : (v : Levels) (k : ℕ) (cs : List Change) → are_changes v k cs ≡ true → ChangeLines v.slots cs
@@ -44,17 +43,6 @@ module _ (skew : ℕ) (t : Trace) where
     pub before : group.before ≡ levels_at t (group_start skew t i - 1)
     pub now : group.now ≡ levels_at t i
     pub made : steps ≡ steps_before skew t i
-
-  -- `AreSettledTo` holds at the opening, where nothing is settled yet
-  pub AreSettledTo-opening : (group : GroupLevels) (steps : List Step) (opening : Levels) → group ≡ begun 0 opening
-      → opening ≡ t.opening → steps ≡ [] → AreSettledTo 0 group steps
-  unfolding group_start steps_before levels_at
-  AreSettledTo-opening group steps opening e first none = record {
-    start = ap (λ (g : GroupLevels). g.start) e;
-    before = ap (λ (g : GroupLevels). g.before) e ∙ first;
-    now = ap (λ (g : GroupLevels). g.now) e ∙ first;
-    made = none;
-  }
 
   -- `group` is the group to which the step after instant `i` belongs, as far as that instant, and `steps` are those of
   -- the groups before it
@@ -126,14 +114,6 @@ module _ (skew : ℕ) (t : Trace) where
       ap (λ (time : ℕ). (i == 0) || nat_lt (time + skew) (time_at t (suc i))) (sym h.start)
       ∙ ap (λ (found : Option Step). (i == 0) || nat_lt (group.start + skew) (time_of found)) found
 
-  -- `AreReadyFor` holds of the group that begins with the first step
-  pub AreReadyFor-first : (i : ℕ) (group : GroupLevels) (steps : List Step) (step : Step) → AreSettledTo i group steps
-      → slice_get t.steps i ≡ Some step → i ≡ 0
-      → AreReadyFor i (begun step.time group.now) (steps ++ step_between group.start group.before group.now)
-  AreReadyFor-first i group steps step h found first =
-      AreReadyFor-next_group i group steps step h found (begins_after-group i group steps step h found
-      ∙ or_left (i == 0) (nat_lt (group.start + skew) step.time) (eq-eqb i 0 first))
-
   -- `AreReadyFor` holds of the group that begins with a step that is too late for the current group
   pub AreReadyFor-over : (i : ℕ) (group : GroupLevels) (steps : List Step) (step : Step) → AreSettledTo i group steps
       → slice_get t.steps i ≡ Some step → nat_lt (group.start + skew) step.time ≡ true
@@ -163,27 +143,3 @@ module _ (skew : ℕ) (t : Trace) where
             ∙ levels_at-next i step group.now h.now found;
         made = h.made;
       })
-
-  -- at the last instant the steps so far, and the one that the group makes, are those of the settled recording
-  pub steps-settled : (i : ℕ) (group : GroupLevels) (steps : List Step) → AreSettledTo i group steps → i
-      ≡ length t.steps
-      → steps ++ step_between group.start group.before group.now ≡ (settled skew t).steps
-  unfolding settled
-  steps-settled i group steps h end =
-      step_between-group i group steps h
-      ∙ ap (λ (n : ℕ). steps_before skew t n ++ step_between (time_at t (group_start skew t n))
-      (levels_at t (group_start skew t n - 1)) (levels_at t n)) end
-
-  -- a recording with the opening and the steps of the settled recording is that
-  pub of_parts-settled : (opening : Levels) (steps : List Step) → opening ≡ t.opening → steps ≡ (settled skew t).steps
-      → of_parts opening steps ≡ settled skew t
-  unfolding settled
-  of_parts-settled opening steps first e = ap (λ (v : Levels). of_parts v steps) first ∙ ap (of_parts t.opening) e
-
-  -- a settled recording is well formed
-  pub malformed_step-settled : length t.opening.levels ≡ line_count → malformed_step t ≡ None → (opening : Levels)
-      (steps : List Step) → opening ≡ t.opening → steps ≡ (settled skew t).steps
-      → malformed_step (of_parts opening steps) ≡ None
-  malformed_step-settled whole formed opening steps first e =
-      ap malformed_step (of_parts-settled opening steps first e)
-      ∙ (IsRecording-settled skew t (record { whole = whole; formed = formed })).formed
