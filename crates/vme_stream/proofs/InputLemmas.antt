@@ -111,16 +111,6 @@ IsReading-many_reads old new bytes read long reads short failures =
       told = told-at_least old.left new.left bytes most_reads read long;
     })
 
--- `most_reads` reads gave bytes, the first `filled` ones of a buffer: reading is given up
-pub IsReading-many_reads_buffer : (old new : Reading) (bytes : List ℕ) (filled reads : ℕ) → Consumes old.left new.left
-    (take filled bytes)
-    → filled ≤ length bytes → reads ≤ filled → IsRoomy old new reads filled → most_reads ≤ reads
-    → new.reads ≡ old.reads + most_reads → new.failures ≡ old.failures → IsReading old new None
-IsReading-many_reads_buffer old new bytes filled reads read fits counted roomy many reads_are failures =
-    IsReading-many_reads old new (take filled bytes) read (rw (length-take-le filled bytes fits) (omega arith))
-    reads_are
-    (omega (arith, roomy.few)) failures
-
 -- a number is less than itself plus `most_reads`
 lt-plus_most_reads : (n : ℕ) → n < n + most_reads
 lt-plus_most_reads n = omega arith
