@@ -14,7 +14,7 @@ use Rattle.vme_audit.specs.AskedRules.{is_asked}
 use Rattle.vme_audit.specs.Counted.{counts, rows_of}
 use Rattle.vme_audit.specs.Covered.{hang, hanging, is_judged_part}
 use Rattle.vme_audit.specs.Parts.{breaks, last_part, parts}
-use Rattle.vme_auditor.specs.Audited.{AuditReached, HasAudited, reached_after, reached_at}
+use Rattle.vme_auditor.specs.Audited.{HasAudited, reached_after, reached_at}
 use Rattle.vme_auditor.specs.Breaks.{last_instant_of}
 use Rattle.vme_auditor.specs.Events.{asks_by, nothing_happened}
 use Rattle.vme_auditor.specs.Findings.{started_at}
@@ -62,10 +62,6 @@ started_at-last_part t (Some start) = refl
 
 module _ (finds : FindsFirst) (o : Levels) (x : List Step) (n : ℕ) (view : StepView) (a : Audit)
     (keeps : HasAudited o x n view a) (ok : malformed_step (recorded o x) ≡ None) (few : o.slots ≤ 21) where
-  -- what the audit has reached after the steps
-  abbrev reached : AuditReached
-  reached = reached_after o x
-
   -- the last break is that of the recording
   pub last_break-found : a.last_break ≡ last_instant_of (breaks (recorded o x))
   unfolding reached_after
