@@ -1,5 +1,5 @@
 -- What the visitor has after one more step.
-use Rattle.std.proofs.Common.{◌≡◌, ◌+◌, ◌<◌, ◌≤◌, ℕ, List, [], ◌∷◌, ◌++◌, length, min, Option, None, Some, arith}
+use Rattle.std.proofs.Common.{◌≡◌, ◌+◌, ◌<◌, ◌≤◌, ℕ, List, [], ◌∷◌, ◌++◌, length, min, Option, Some, arith}
 use Rattle.std.proofs.Common.{length-append}
 use Rattle.std.specs.Global.{Box}
 use Rattle.std.specs.Prelude.{Err, IfOk, IfSome, Ok, Result}
@@ -19,11 +19,6 @@ pub IsRunning-first : (o : Levels) (a : Option (Box RunningAccount)) → IfSome 
     → IsRunning o [] a 0
 IsRunning-first o a keeps = record { counted = omega arith; kept = λ e. keeps }
 
--- `IsRunning` holds of the same count without an account, as after a failed allocation
-pub IsRunning-lost : (o : Levels) (x : List Step) (a : Option (Box RunningAccount)) (count : ℕ) → IsRunning o x a count
-    → IsRunning o x None count
-IsRunning-lost o x a count i = record { counted = i.counted; kept = λ e. tt }
-
 module _ (o : Levels) (x : List Step) (s : Step) (a : Option (Box RunningAccount)) (count more : ℕ)
     (i : IsRunning o x a count) (next : more ≡ min (count + 1) (capture_limit + 1)) where
   -- one more step makes the number of steps one greater
@@ -33,10 +28,6 @@ module _ (o : Levels) (x : List Step) (s : Step) (a : Option (Box RunningAccount
   -- the count with one more is that of the steps
   counted : more ≡ min (length (x ++ s ∷ [])) (capture_limit + 1)
   counted = omega (arith, next, i.counted, length-next)
-
-  -- if there are too many steps, or an allocation failed, a step is counted and not kept
-  pub IsRunning-passed : IsRunning o (x ++ s ∷ []) None more
-  IsRunning-passed = record { counted = counted; kept = λ few. tt }
 
   -- a step that is kept
   module _ (few : more ≤ 67108864) (b : Box RunningAccount) (some : a ≡ Some b) where
