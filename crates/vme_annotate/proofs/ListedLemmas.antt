@@ -13,7 +13,6 @@ use Rattle.vme_bind.specs.declared.fault.CaptureFault.{CaptureFault}
 use Rattle.vme_skew.specs.Settled.{settled, settled_or}
 use Rattle.vme_trace.specs.Trace.{Trace}
 use Rattle.vme_trace.specs.WellFormed.{capture_limit}
-use Rattle.vme_listing.specs.Recorded.{listing_of}
 use Rattle.vme_stream.specs.Answers.{AnswerGives, binding_read, capture_by, dump_read, or_bad_binding}
 use Rattle.vme_stream.specs.Answers.{or_bad_dump, recording_by}
 use Rattle.vme_stream.specs.Refusals.{capture_refusal}
@@ -28,8 +27,7 @@ use Rattle.vme_commands.proofs.JudgedLemmas.{limited_in_blocks-short}
 use Rattle.vme_commands.proofs.SettledLemmas.{settled_read-refused, settled_recording-refused, settled_or-within}
 use Rattle.vme_commands.proofs.SettledLemmas.{settled_or-refused}
 use Rattle.vme_commands.proofs.SettledLemmas.{length-settled_within}
-use Rattle.vme_annotate.specs.TimedListings.{GivesTimedListing, TimedListingValue, recording_to_list, settled_in_blocks}
-use Rattle.vme_annotate.specs.TimedListings.{times_of}
+use Rattle.vme_annotate.specs.TimedListings.{GivesTimedListing, recording_to_list, settled_in_blocks}
 
 -- a recording is found that is the one that is read, or a refusal
 abbrev GivesTrace : Result Trace Refusal → Result Trace Refusal → Type 0
@@ -111,13 +109,6 @@ module _ (skew block : ℕ) (t made : Trace) (within : nat_lt capture_limit (len
   settled_in_blocks-settled_refused r given =
       GivesTimedListing-from_AnswerGives r (settled_in_blocks skew block (or_bad_binding (limited t)))
       (subst (GivesTrace (Err r)) (sym settled_in_blocks-limited) given)
-
-  -- the listing of the deskewed recording, with its times, is the listing that is asked for
-  pub settled_in_blocks-listed : (found : TimedListingValue) → limited_in_blocks block made ≡ Ok made
-      → found.listing ≡ listing_of made → found.times ≡ times_of made.steps
-      → GivesTimedListing (Ok found) (settled_in_blocks skew block (or_bad_binding (limited t)))
-  settled_in_blocks-listed found fits listing times =
-      (made, settled_in_blocks-limited ∙ fits, record { listing_is = listing; times_are = times })
 
 -- ---- what is read
 

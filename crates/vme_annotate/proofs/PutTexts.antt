@@ -10,11 +10,6 @@ pub append-declaration : (made code name : List ℕ)
     ≡ made ++ flat_map with_space (codes "$var" ∷ codes "string" ∷ codes "1" ∷ code ∷ name ∷ codes "$end" ∷ [])
 append-declaration made code name = simp append_assoc refl
 
--- the parts of a change are its text and its code
-pub append-change : (made text code : List ℕ)
-    → made ++ (codes " s" ++ text) ++ codes " " ++ code ≡ made ++ (codes " s" ++ (text ++ (codes " " ++ code)))
-append-change made text code = simp append_assoc refl
-
 -- the scope and the declarations of its four variables are the declarations that are added
 pub append-declarations : (made scope : List ℕ) (own : List (List ℕ))
     → made ++ codes "$scope module " ++ scope ++ codes " $end " ++ flat_map with_space (declaration own shown.Tenure)

@@ -223,13 +223,6 @@ get_or-past (x ∷ xs) (suc i) e = get_or-past xs i e
 -- ---- within the dump
 
 module _ (w : WritingPlace) (is : StaysWithin w) where
-  -- writing that continues after the next time stamp stays within the text
-  pub StaysWithin-at_next : (found : TimePlace) → w.next ≡ Some found → (count : ℕ) → count ≡ max found.end w.count
-      → StaysWithin (record w { count = count })
-  StaysWithin-at_next found next count here =
-      let end = subst (λ (o : Option TimePlace). IfSome o (λ f. f.end ≤ length w.places.text)) next is.next in
-      record { count = omega (arith, here, end, is.count); next = is.next }
-
   -- the end of a later time stamp is within the text
   end-within : (text : List ℕ) (later : Option TimePlace) → IfSome later (λ f. IsAtTime text f.time f.end)
       → IfSome later (λ f. f.end ≤ length text)
