@@ -53,18 +53,6 @@ pub IsOver-none : (fault : Option RowsFault) → IsOver None fault
 IsOver-none None = tt
 IsOver-none (Some fault) = tt
 
--- rows that are over are so where the fault is none
-pub IsOver-with_no_fault : (so_far : RowsSoFar) (fault : Option RowsFault) → fault ≡ None → IsOver (Some so_far) None
-    → IsOver (Some so_far) fault
-IsOver-with_no_fault so_far None none over = over
-IsOver-with_no_fault so_far (Some fault) none over = tt
-
--- rows that are over where the fault is none are over
-pub IsOver-without_fault : (so_far : RowsSoFar) (fault : Option RowsFault) → fault ≡ None → IsOver (Some so_far) fault
-    → IsOver (Some so_far) None
-IsOver-without_fault so_far None none over = over
-IsOver-without_fault so_far (Some fault) none over = absurd (cc)
-
 -- one more row is given, or no more are
 
 module _ (old : Reading) (version : Version) (now : Reading) (input : InputSoFar) (pieces : Option RowsSoFar)

@@ -84,19 +84,6 @@ module _ (old now : Reading) (done : List ℕ) (input : InputSoFar) (h : IsReadT
         (sym (append-taken done input.held n future)) (has future ends),
   )
 
--- rows stay counted when more bytes are held
-pub IsCounted-filled : (so_far : RowsSoFar) (old new : InputSoFar)
-    → new.read + length old.held ≡ old.read + length new.held → (old.read < 2 ^ 62 → new.read < 2 ^ 62)
-    → IsCounted so_far old → IsCounted so_far new
-IsCounted-filled so_far old new same small counted = (omega (arith, same, counted.0), small counted.1)
-
--- one more row stays counted, with the `n` bytes that it takes
-pub IsCounted-next : (old new : RowsSoFar) (input : InputSoFar) (n : ℕ) → IsCounted old input → new.count
-    ≡ old.count + 1
-    → 0 < n → n ≤ length input.held → IsCounted new (record input { held = drop n input.held })
-IsCounted-next old new input n counted one some within =
-    (omega (arith, counted.0, one, some, within, length-drop n input.held), counted.1)
-
 -- without rows, the count is right
 pub IsCounted-first : (so_far : RowsSoFar) (input : InputSoFar) (n : ℕ) → so_far.count ≡ 0 → input.read < 2 ^ 62
     → length input.held ≤ input.read → IsCounted so_far (record input { held = drop n input.held })
@@ -140,16 +127,6 @@ AreCounted-no_fault so_far fault input counted = by_fault fault (counted so_far 
     by_fault : (f : Option RowsFault) → is_none f ≡ true → f ≡ None
     by_fault None e = refl
     by_fault (Some own) e = absurd (cc)
-
--- where there is no fault, rows that are counted are counted so
-pub AreCounted-IsCounted : (so_far : RowsSoFar) (fault : Option RowsFault) (input : InputSoFar) → fault ≡ None
-    → IsCounted so_far input → AreCounted (Some so_far) fault input
-AreCounted-IsCounted so_far fault input none counted x is =
-    (ap is_none none, subst (λ (u : RowsSoFar). IsCounted u input) (same x is) counted)
-  where
-    -- rows so far that are there are these
-    same : (x : RowsSoFar) → ◌≡◌ {A = Option RowsSoFar} (Some so_far) (Some x) → so_far ≡ x
-    same x e = cc
 
 -- while rows are read they are counted
 pub IsCounted-AreCounted : (so_far : RowsSoFar) (fault : Option RowsFault) (input : InputSoFar)
