@@ -231,13 +231,6 @@ body_ahead-piece_fails front r piece fault ends fails rest =
     (body_ahead front r (piece ++ rest)) (ap (with_count (variables_in front)) (count_ahead-parts r piece rest ends))
     (fails more)
 
--- a fault of the last bytes of the body is the fault of the survey
-pub body_ahead-last_fails : (front : List ℕ) (r : Reached ℕ) (rest : List ℕ) (fault : VcdFault)
-    → FailsAhead fault r (tokens_from r.line rest) → ReadFails fault (body_ahead front r rest)
-body_ahead-last_fails front r rest fault fails =
-    with_count-fails fault (variables_in front) (rest_of same_count next_count r (tokens_from r.line rest) [])
-    (body_ahead front r rest) refl (fails [])
-
 -- ---- the definitions
 
 -- the survey of a text that begins with `front`, from the tokens of `front` and of the rest
