@@ -1,5 +1,5 @@
 -- Why a dump is refused: it can't be read, is too long, has a fault, or the binding can't be used on it.
-use Rattle.std.proofs.Common.{◌≡◌, ◌≤◌, ℕ, List, length, Option, None, Some, refl, ap, ◌∙◌}
+use Rattle.std.proofs.Common.{◌≡◌, ◌≤◌, ℕ, List, length, None, Some, refl, ap, ◌∙◌}
 use Rattle.std.specs.Prelude.{Result, Ok, Err}
 use Rattle.vcd_read.specs.Contents.{Contents}
 use Rattle.vcd_read.specs.Header.{◌>>=◌}
@@ -12,7 +12,7 @@ use Rattle.vme_trace.specs.Trace.{Trace}
 use Rattle.vme_bind.specs.Binding.{BoundLines}
 use Rattle.vme_bind.specs.Capture.{capture_of}
 use Rattle.vme_bind.specs.declared.fault.BindFault.{BindFault}
-use Rattle.vme_stream.specs.Inputs.{IsReading, longest_input}
+use Rattle.vme_stream.specs.Inputs.{longest_input}
 use Rattle.vme_stream.specs.declared.input.InFault.{InFault}
 use Rattle.vme_stream.specs.declared.input.InFault.TheVariants as read
 use Rattle.vme_stream.specs.Answers.{AnswerGives, dump_read, or_bad_dump, recorded_by}
@@ -51,12 +51,6 @@ pub IsDumpRefused-fault : (old now : Reading) (text : List ℕ) → IsAllOf old 
 IsDumpRefused-fault old now text all line vcd.Memory has = (Some text, all.0)
 IsDumpRefused-fault old now text all line kind has =
     (Some text, all.0, dump_read-short text all.1 (Err (record { line = line; kind = kind })) has)
-
--- a dump that is refused has some reading
-pub IsReading-refused : (old now : Reading) (refusal : Refusal) → IsDumpRefused old now refusal
-    → (bytes : Option (List ℕ)) × IsReading old now bytes
-IsReading-refused old now Memory is = is
-IsReading-refused old now refusal is = (is.0, is.1)
 
 -- ---- a binding that can't be used
 

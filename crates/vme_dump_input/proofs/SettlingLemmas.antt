@@ -91,26 +91,6 @@ all_taken-next first now later steps out outs i step made is next grown lt at =
     (ap (λ (d : Step). take i steps ++ d ∷ []) at ∙ sym (take_more steps i step lt))
     ∙ ap (λ (l : List Step). all_taken first (take (i + 1) steps) l) (sym grown)
 
--- what came out after the steps, and at most one step more, are what came out before them and then `outs`
-pub out-append : (first now : Settling) (steps out outs : List Step) (made : Option Step)
-    → now ≡ all_taken first steps out → outs ≡ out ++ option_to_list made
-    → now.out ++ option_to_list made ≡ first.out ++ outs
-out-append first now steps out outs made is grown =
-    ap (λ (s : Settling). s.out ++ option_to_list made) is ∙ append_assoc first.out out (option_to_list made)
-    ∙ ap (λ (l : List Step). first.out ++ l) (sym grown)
-
--- where a time is reached after the steps, `settled_to` is what is settled
-pub settled_to-reached : (first now later : Settling) (steps out outs : List Step) (time : ℕ) (made : Option Step)
-    → now ≡ all_taken first steps out
-    → later ≡ record now { out = now.out ++ option_to_list made; reached = max now.reached time }
-    → outs ≡ out ++ option_to_list made → later ≡ settled_to first steps time outs
-settled_to-reached first now later steps out outs time made is next grown =
-    next
-    ∙ ap (λ (l : List Step). record now { out = l; reached = max now.reached time })
-    (out-append first now steps out outs
-    made is grown)
-    ∙ ap (λ (s : Settling). record s { out = first.out ++ outs; reached = max s.reached time }) is
-
 -- ---- steps in order
 
 -- steps that may follow one another are in order
