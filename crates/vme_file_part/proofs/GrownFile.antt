@@ -1,7 +1,6 @@
 -- The segment of one file of a recording, when more steps of the file are given, stands for the file with these steps.
 use Rattle.std.proofs.Common.{◌≡◌, ℕ, zero, suc, ◌+◌, ◌<◌, ◌≤◌, ◌^◌, Bool, true, false, List, [], ◌∷◌, ◌++◌, length}
-use Rattle.std.proofs.Common.{Option, None, Some, refl, sym, ap, subst, ◌∙◌, arith, append-nil, length-append, map}
-use Rattle.std.proofs.lemmas.List.{length-map}
+use Rattle.std.proofs.Common.{Option, None, Some, refl, sym, ap, subst, ◌∙◌, arith, append-nil, length-append}
 use Rattle.std.proofs.lemmas.List.Elements.{All-head, All-same}
 use Rattle.std.proofs.lemmas.Nat.{pow-add, pow_pos}
 use Rattle.std.specs.Prelude.{All, if◌then◌else◌, slice_get}
@@ -25,8 +24,7 @@ use Rattle.vme_summary.specs.Joins.{block_of, first_time, last_time}
 use Rattle.vme_summary.specs.Runs.{known_run, handshake_run, stability_run, grant_run, acknowledge_run}
 use Rattle.vme_summary.proofs.Sound.{SoundParts-of_well_formed}
 use Rattle.vme_summary.proofs.Times.{first_time-append, last_time-append}
-use Rattle.vme_part_format.specs.Tables.{PartValue, SegmentValue, TableValue, segment_value}
-use Rattle.vme_part_format.specs.declared.segment.Segment.{Segment}
+use Rattle.vme_part_format.specs.Tables.{PartValue, SegmentValue, TableValue}
 use Rattle.vme_parts.specs.Files.{IsPartOfFile}
 use Rattle.vme_part_format.specs.declared.segment.SegmentTimes.{SegmentTimes}
 use Rattle.vme_part_tables.specs.Runs.{AgreesWithRuns, IsComposition}
@@ -278,19 +276,6 @@ module _ (number : ℕ) (start : Option ℕ) (t : Trace) (y : List Step) (some :
   }
 
 -- ---- the only segment of a part
-
--- a list of segments of the length 1, of which x was taken from the end, is that of x
-pub map-only_segment : (old new : List Segment) (x : Segment) → old ≡ new ++ x ∷ [] → length (map segment_value old) ≡ 1
-    → map segment_value old ≡ segment_value x ∷ []
-map-only_segment old [] x is one = ap (map segment_value) is
-map-only_segment old (y ∷ ys) x is one =
-    absurd (omega (
-      arith,
-      one,
-      ap (λ (l : List Segment). length (map segment_value l)) is,
-      length-map (y ∷ (ys ++ x ∷ [])) segment_value,
-      length-append ys (x ∷ []),
-    ))
 
 -- a segment of one file has the order 0
 order-zero : (order : ℕ) → 1 ≡ 2 ^ order → order ≡ 0
