@@ -1,7 +1,7 @@
 -- Parts are read from inputs, one after the other: what holds when some of the inputs have been read.
 use Rattle.std.proofs.Common.{◌≡◌, ◌≢◌, ◌⊎◌, ℕ, zero, suc, ◌+◌, ◌<◌, ◌≤◌, List, [], ◌∷◌, ◌++◌, drop, length, map}
 use Rattle.std.proofs.Common.{length-append, slice_get, get_or, set, Some, sym, refl}
-use Rattle.std.proofs.Common.{ap, ◌∙◌, subst, arith, inl, inr, None}
+use Rattle.std.proofs.Common.{ap, ◌∙◌, subst, arith, inl, inr}
 use Rattle.std.specs.Prelude.{All, option_map}
 use Rattle.std.proofs.lemmas.List.{get_or-map, length-map}
 use Rattle.std.proofs.lemmas.List.Elements.{All-push}
@@ -143,17 +143,3 @@ map-set_same_name g [] i x y within same = refl
 map-set_same_name g (z ∷ zs) zero x y within same = ap (λ n. n ∷ map g zs) same
 map-set_same_name g (z ∷ zs) (suc i) x y within same =
     ap (λ l. g z ∷ l) (map-set_same_name g zs i x y (omega arith) same)
-
--- the name of the item i is the item i of the names
-pub get_or-name : {A : Type 0} (g : A → List ℕ) (xs : List A) (i : ℕ) (x : A) → slice_get xs i ≡ Some x
-    → g x ≡ get_or (map g xs) i []
-get_or-name g [] i x there = absurd (none-some x there)
-get_or-name g (y ∷ ys) zero x there = ap g (sym (same_Some y x there))
-get_or-name g (y ∷ ys) (suc i) x there = get_or-name g ys i x there
-
--- where there is no item i, there is no name i
-pub get_or-no_name : {A : Type 0} (g : A → List ℕ) (xs : List A) (i : ℕ) → slice_get xs i ≡ None
-    → [] ≡ get_or (map g xs) i []
-get_or-no_name g [] i none = refl
-get_or-no_name g (y ∷ ys) zero none = absurd (none-some y (sym none))
-get_or-no_name g (y ∷ ys) (suc i) none = get_or-no_name g ys i none
