@@ -1,12 +1,11 @@
 -- Which nodes of a table are kept: what the loops that mark and collect them preserve.
 use Rattle.std.proofs.Common.{inl, inr, ◌≡◌, ℕ, zero, suc, ◌+◌, ◌-◌, ◌<◌, ◌≤◌, Bool, true, false, List, [], ◌∷◌, length}
-use Rattle.std.proofs.Common.{map, drop, ◌≢◌}
+use Rattle.std.proofs.Common.{map, drop}
 use Rattle.std.proofs.Common.{get_or, refl, ap, sym, subst, ◌∙◌, arith, ◌++◌, Some, add-one, reverse, take}
 use Rattle.std.specs.Prelude.{◌⊎◌}
-use Rattle.std.proofs.Math.ListN.{set, length-set}
 use Rattle.std.proofs.Math.Seq.{drop-cons}
-use Rattle.std.proofs.lemmas.Bool.{cases_lt, cases_order}
-use Rattle.std.proofs.lemmas.List.{get_or-drop, get_or-set_other, get_or-set_same, get_or-take, length-drop, length-map}
+use Rattle.std.proofs.lemmas.Bool.{cases_lt}
+use Rattle.std.proofs.lemmas.List.{get_or-drop, get_or-take, length-drop, length-map}
 use Rattle.std.proofs.lemmas.List.{reverse-append, take-take}
 use Rattle.vme_part_format.specs.Tables.{node_value}
 use Rattle.vme_part_format.specs.declared.table.TableNode.{TableNode}
@@ -14,36 +13,8 @@ use Rattle.vme_part_tables.specs.Ways.{NodesGoOn}
 use Rattle.vme_part_tables.specs.Pruned.{IsKept, KeptGoOn, node_kept, nodes_kept}
 use Rattle.vme_part_tables.proofs.Stepping.{get_or-any_default}
 
--- setting the item i of xs to `true` leaves each item that is `true`
-pub get_or-set_true : (xs : List Bool) (i k : ℕ) → i < length xs → get_or xs k false ≡ true
-    → get_or (set xs i true) k false
-    ≡ true
-get_or-set_true xs i k h e = by_order (cases_order k i)
-  where
-    by_order : ((k ≡ i) ⊎ ((k < i) ⊎ (i < k))) → get_or (set xs i true) k false ≡ true
-    by_order (inl same) = rw (same, get_or-set_same xs i true false h) refl
-    by_order (inr (inl below)) =
-        let other : k ≢ i = omega arith in
-        rw (get_or-set_other xs i k true false other) e
-    by_order (inr (inr above)) =
-        let other : k ≢ i = omega arith in
-        rw (get_or-set_other xs i k true false other) e
-
 -- there are m memories; a way below m is a memory, another one the node w - m
 module _ (m : ℕ) where
-  -- what is kept stays so if one more node is kept
-  pub IsKept-set_true : (xs : List Bool) (i w : ℕ) → i < length xs → IsKept m xs w → IsKept m (set xs i true) w
-  IsKept-set_true xs i w h k past =
-      let there = k past in (rw length-set there.0, get_or-set_true xs i (w - m) h there.1)
-
-  -- a node that is set to be kept is kept
-  pub IsKept-node_set : (xs : List Bool) (w : ℕ) → w - m < length xs → IsKept m (set xs (w - m) true) w
-  IsKept-node_set xs w h past = (rw length-set h, get_or-set_same xs (w - m) true false h)
-
-  -- a memory is kept
-  pub IsKept-memory : (xs : List Bool) (w : ℕ) → w < m → IsKept m xs w
-  IsKept-memory xs w h past = absurd (omega arith)
-
   -- the way w, which counts the nodes after the node k, leads to a kept node
   pub IsKept-after_node : (xs : List Bool) (k w : ℕ) → suc k + (w - m) < length xs → get_or xs (suc k + (w - m)) false
       ≡ true
@@ -63,14 +34,6 @@ module _ (m : ℕ) where
   pub IsKept-superset : (xs ys : List Bool) → length ys ≡ length xs
       → ((k : ℕ) → get_or xs k false ≡ true → get_or ys k false ≡ true) → (w : ℕ) → IsKept m xs w → IsKept m ys w
   IsKept-superset xs ys len more w kept past = let there = kept past in (rw len there.0, more (w - m) there.1)
-
-  -- what is kept among the nodes after the node k stays so if one more node is kept
-  pub IsKept-after_node_set_true : (xs : List Bool) (i k w : ℕ) → i < length xs → IsKept m (drop (suc k) xs) w
-      → IsKept m (drop (suc k) (set xs i true)) w
-  IsKept-after_node_set_true xs i k w h kept past =
-      let there = IsKept-node_after xs k w past kept in
-      IsKept-after_node (set xs i true) k w (rw length-set there.0) (get_or-set_true xs i (suc k + (w - m)) h there.1)
-      past
 
   -- a node continues with a memory or a node after it
   pub NodesGoOn-next_bound : (ns : List TableNode) (k : ℕ) (d : TableNode) → NodesGoOn m (map node_value ns)

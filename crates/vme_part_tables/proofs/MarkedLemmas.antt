@@ -290,18 +290,6 @@ onward_at-way_within m made os k ways h = by_place (slice_get_cases os k).1
         rw e (subst (λ (x : Onward). x.way < m + length made) there.3 (ways k there.0 there.1))
     by_place (inr past) = absurd (omega arith)
 
--- the way of any item k, even the default one, is below m + length made
-pub onward_at-way_below : (m : ℕ) (made : List NodeValue) (os : List Onward) (k : ℕ) → 0 < m → AreMade m made os
-    → (onward_at os k).way < m + length made
-onward_at-way_below m made os k some ways = by_place (slice_get_cases os k).1
-  where
-    by_place : ((x : Onward) × (k < length os) × (slice_get os k ≡ Some x) × (get_or os k x ≡ x))
-        ⊎ ((length os ≤ k) × (slice_get os k ≡ None)) → (onward_at os k).way < m + length made
-    by_place (inl there) =
-        let e = there.2 in
-        rw e (subst (λ (x : Onward). x.way < m + length made) there.3 (ways k there.0 there.1))
-    by_place (inr past) = let e = past.1 in rw e (omega arith)
-
 -- the outcomes from the ways to memories and to the nodes `first` stay the same with the nodes `new`
 abbrev pub OutcomesStay : ℕ → List TableNode → List TableNode → Type 0
 OutcomesStay m first new =

@@ -236,11 +236,6 @@ FitNodes-merged m steps (x ∷ xs) (suc i) (suc k) d n j at e h f order few go_o
 
 -- ---- all of it
 
--- nodes have the outcomes of themselves
-pub SayTheSame-refl : (m : ℕ) (ns : List NodeValue) → NodesGoOn m ns → SayTheSame m ns ns
-SayTheSame-refl m ns g =
-    record { as_many = refl; go_on = g; fit = λ steps f. f; says = λ w. refl }
-
 -- nodes with the outcomes of others that have those of ns have those of ns
 pub SayTheSame-trans : (m : ℕ) (ns ms ks : List NodeValue) → SayTheSame m ns ms → SayTheSame m ms ks
     → SayTheSame m ns ks
