@@ -1,8 +1,8 @@
 -- The result of workers, and how the command ends by it, compared with the answer of a check.
-use Rattle.std.proofs.Common.{◌≡◌, ◌≤◌, ◌<◌, ◌↔◌, ℕ, suc, List, Bool, true, false, Result, Ok, Err, refl, sym, subst}
+use Rattle.std.proofs.Common.{◌≡◌, ◌≤◌, ◌↔◌, ℕ, suc, List, Bool, true, false, Result, Ok, Err, refl, sym, subst}
 use Rattle.std.proofs.Common.{arith}
 use Rattle.std.specs.Prelude.{nat_lt, if◌then◌else◌, Option, Some}
-use Rattle.std.proofs.lemmas.Bool.{le-ltb, lt-ltb}
+use Rattle.std.proofs.lemmas.Bool.{le-ltb}
 use Rattle.vme_stream.specs.Answers.{answer_by, answer_of, judgement_of, verdict_in_blocks}
 use Rattle.vme_stream.specs.Ends.{WritesAnswer}
 use Rattle.vme_stream.specs.declared.refusal.Refusal.{Refusal}
@@ -43,12 +43,6 @@ cond-judged : (test : Bool) (v : Verdict) → test ≡ false → (if test then E
 cond-judged true v e = cc
 cond-judged false v e = refl
 
--- if the test for too many blocks succeeds, the judgement is the refusal
-cond-refused : (test : Bool) (v : Verdict) → test ≡ true → (if test then Err refused.TooManyBlocks else Ok v)
-    ≡ Err refused.TooManyBlocks
-cond-refused true v e = refl
-cond-refused false v e = cc
-
 -- a recording of at most 4,096 blocks has its verdict as judgement
 verdict_in_blocks-few : (block : ℕ) (t : Trace) → block_count block t ≤ 4096 → verdict_in_blocks block t
     ≡ Ok (verdict_by rules_in_force t)
@@ -60,12 +54,6 @@ pub Finds-few_blocks : (block : ℕ) (t : Trace) (given : Result Verdict Unjudge
     → Finds given (Ok (verdict_by rules_in_force t)) → Finds given (verdict_in_blocks block t)
 Finds-few_blocks block t given few is = subst (λ (there : Result Verdict Refusal). Finds given there)
     (sym (verdict_in_blocks-few block t few)) is
-
--- a recording of more than 4,096 blocks is refused
-pub verdict_in_blocks-many : (block : ℕ) (t : Trace) → 4096 < block_count block t → verdict_in_blocks block t
-    ≡ Err refused.TooManyBlocks
-verdict_in_blocks-many block t many = cond-refused (nat_lt 4096 (block_count block t)) (verdict_by rules_in_force t)
-    (lt-ltb 4096 (block_count block t) many)
 
 -- ---- how the command ends
 
