@@ -60,10 +60,6 @@ module _ (before after : Trace) (chunks rest : List Trace) (chunk : Trace) (at :
   Follow-first : Follow (levels_after before.opening before.steps) (chunk ∷ rest)
   Follow-first = subst (Follow (levels_after before.opening before.steps)) at follow
 
-  -- the first chunk opens with the levels to which what was passed before leads
-  pub opening-first : chunk.opening ≡ levels_after before.opening before.steps
-  opening-first = Follow-first.0
-
   -- once the first chunk is passed, the rest follow
   pub Follow-rest : after ≡ with_steps before chunk.steps → Follow (levels_after after.opening after.steps) rest
   Follow-rest is =

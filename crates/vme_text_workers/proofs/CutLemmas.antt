@@ -29,10 +29,6 @@ line_after_pieces-append line [] piece = refl
 line_after_pieces-append line (first ∷ pieces) piece =
     line_after_pieces-append (line_behind line first.bytes.now) pieces piece
 
--- `IsCutSoFar` holds before any piece is cut off: all of the text is left
-pub IsCutSoFar-none : (text : List ℕ) → IsCutSoFar text [] text
-IsCutSoFar-none text = record { tokens = λ line. refl; lines = λ line. refl }
-
 module _ (text : List ℕ) (pieces : List DumpPiece) (piece : DumpPiece) where
   -- `IsCutSoFar` still holds after one more piece is cut off
   pub IsCutSoFar-next : (left rest : List ℕ) → IsCutSoFar text pieces left → IsCutIn left piece.bytes.now rest

@@ -14,10 +14,8 @@ use Rattle.vcd_read.specs.Reading.{line_behind}
 use Rattle.vcd_read.specs.BodyFold.{at_end, state_at, steps}
 use Rattle.vcd_read.specs.Tokens.{Token, tokens_from}
 use Rattle.vme_bind.specs.BuilderState.{builder_change, builder_instant}
-use Rattle.vme_bind.specs.TextCapture.{CaptureFailsBy}
 use Rattle.vme_bind.specs.TextPieces.{TextReached, outcome, outcome_ahead}
 use Rattle.vme_bind.specs.SpeculativeReading.{IsJoined, ReadSpeculatively, SpeculativeReached, with_recording}
-use Rattle.vme_bind.specs.declared.fault.CaptureFault.{CaptureFault}
 use Rattle.vme_bind.specs.declared.net_lines.NetLines.{NetLines}
 use Rattle.vme_text_workers.specs.Cuts.{line_after_pieces, tokens_of}
 use Rattle.vme_text_workers.specs.SpeculativeChunks.{AreAhead, AreTaken, IsAheadAt, IsJudgedAhead, IsNextOf}
@@ -67,14 +65,6 @@ module _ (pieces : List DumpPiece) (t u : TextReached) (piece : DumpPiece) (left
         outcome_ahead-next more ∙ read (tokens_of (line_behind u.body.line piece.bytes.now) left ++ more)
         ∙ ap (λ (l : ℕ). outcome_ahead v (tokens_of l left) more) (sym line);
   }
-
-  -- a fault of the next piece is the fault of all pieces
-  pub CaptureFailsBy-next : (fault : CaptureFault)
-      → ((more : List Token) → CaptureFailsBy fault (outcome_ahead u (tokens_from u.body.line piece.bytes.now) more))
-      → (more : List Token) → CaptureFailsBy fault (outcome_ahead t (tokens_of t.body.line pieces) more)
-  CaptureFailsBy-next fault fails more =
-      subst (CaptureFailsBy fault) (sym (outcome_ahead-next more))
-      (fails (tokens_of (line_behind u.body.line piece.bytes.now) left ++ more))
 
 -- ---- pieces that were read ahead
 
