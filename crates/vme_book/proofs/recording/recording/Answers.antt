@@ -11,11 +11,6 @@ use Rattle.vme_book.proofs.Prefixes.{prefix-of_all, length-places, length-joined
 use Rattle.vme_book.proofs.Prefixes.{prefix-value_at, recording-next_block, read-of_get_or, joined_trace-of_all}
 use Rattle.vme_book.proofs.recording.recording.Goals as goal
 
--- a list of length 0 is empty
-nil-no_length : {A : Type 0} (xs : List A) → length xs ≡ 0 → xs ≡ []
-nil-no_length [] e = refl
-nil-no_length (x ∷ xs) e = absurd (omega arith)
-
 -- where no block is left, the steps so far are all steps
 steps-none_left : (items : List (Option Block)) (bs : List Block) (steps all : List Step) → length items ≡ 0 → items
     ≡ map Some bs → steps ++ joined_steps bs ≡ all → steps ≡ all
