@@ -8,8 +8,8 @@ use Rattle.std.proofs.lemmas.Option.{slice_get-get_or, slice_get-map}
 use Rattle.vme_part_format.specs.Tables.{PartValue, part_value}
 use Rattle.vme_part_format.specs.declared.part.Part.{Part}
 use Rattle.vme_trace.specs.declared.block.Block.{Block}
-use Rattle.vme_parts.specs.Alike.{AreRefused, AreRefusedBy, HasUnlikeAt, IsLike, IsSegmentRefusal}
-use Rattle.vme_parts.specs.Alike.{HaveManyNodes, SegmentsDifferAt, SomeHaveTooManySteps, first_backplane, first_listing}
+use Rattle.vme_parts.specs.Alike.{AreRefused, HasUnlikeAt, IsLike, IsSegmentRefusal}
+use Rattle.vme_parts.specs.Alike.{HaveManyNodes, SegmentsDifferAt, SomeHaveTooManySteps}
 use Rattle.vme_parts.specs.Files.{IsPartOf}
 use Rattle.vme_parts.specs.Gathering.{segments_of}
 use Rattle.vme_parts.specs.declared.join_refusal.JoinRefusal.{JoinRefusal}
@@ -45,13 +45,6 @@ module _ (backplane : ℕ) (listing : Bool) (xs : List Part) (i : ℕ) where
   )
 
 -- ---- why parts can't be joined
-
--- a refusal by the backplane and the listing of the first part is one of the parts
-pub AreRefused-by_first : (backplane : ℕ) (listing : Bool) (ps : List PartValue) (why : JoinRefusal)
-    → backplane ≡ first_backplane ps → listing ≡ first_listing ps → AreRefusedBy backplane listing ps why
-    → AreRefused ps why
-AreRefused-by_first backplane listing ps why e f h =
-    subst (λ b. AreRefusedBy b (first_listing ps) ps why) e (subst (λ l. AreRefusedBy backplane l ps why) f h)
 
 -- a refusal of parts for a difference is true if two of their segments of the same files differ
 pub AreRefused-differs : (ps : List PartValue) (why : JoinRefusal) (number : ℕ) → why ≡ refusal.Differs number

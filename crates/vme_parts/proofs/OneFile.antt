@@ -1,10 +1,9 @@
 -- The segment of one file.
 use Rattle.std.proofs.Common.{◌≡◌, ℕ, ◌+◌, ◌-◌, ◌<◌, Bool, List, [], ◌∷◌, ◌++◌, length, map}
-use Rattle.std.proofs.Common.{get_or, take, refl, ap, sym}
+use Rattle.std.proofs.Common.{take, refl, ap, sym}
 use Rattle.std.proofs.Common.{◌∙◌, arith, append-nil, Some, None}
 use Rattle.std.specs.Prelude.{slice_get}
 use Rattle.std.specs.Option.{option_map}
-use Rattle.std.proofs.lemmas.Option.{slice_get-get_or}
 use Rattle.vme_trace.specs.Block.{trace_of}
 use Rattle.vme_trace.specs.Blocks.{joined_steps}
 use Rattle.vme_trace.specs.Levels.{Levels}
@@ -40,14 +39,6 @@ last_time-last_step xs x e = ap (option_map (λ (s : Step). s.time)) (sym e ∙ 
 pub last_time-no_steps : (xs : List Step) → slice_get xs 0 ≡ None → None ≡ last_time xs
 last_time-no_steps [] e = refl
 last_time-no_steps (x ∷ xs) e = absurd (cc)
-
--- if there is a first step, there is a last one
-pub last_step-exists : (xs : List Step) (x : Step) → slice_get xs 0 ≡ Some x → slice_get xs (length xs - 1) ≡ None → ⊥
-last_step-exists [] x e n = absurd (cc)
-last_step-exists (y ∷ ys) x e n =
-    let last : ℕ = length (y ∷ ys) - 1 in
-    let bad : Some (get_or (y ∷ ys) last y) ≡ None = sym (slice_get-get_or (y ∷ ys) last y (omega arith)) ∙ n in
-    absurd (cc)
 
 -- the levels after k + 1 steps are those after k steps with the changes of the step k
 pub levels_after-take_next : (o : Levels) (xs : List Step) (k : ℕ) (x : Step) → k < length xs → take (k + 1) xs
