@@ -15,7 +15,7 @@ use Rattle.vme_stream.specs.InFaults.{InputFailsBy}
 use Rattle.vme_stream.specs.declared.input.InFault.{InFault}
 use Rattle.vme_stream.specs.declared.input.InFault.TheVariants as failed
 use Rattle.vme_dump_input.specs.BufferedInputs.{FailsAs, InputSoFar, IsAllOf, IsGrown, IsReadOn, IsReadTo}
-use Rattle.vme_dump_input.specs.BufferedInputs.{HasAllIfWhole, AreLimits, not_read}
+use Rattle.vme_dump_input.specs.BufferedInputs.{HasAllIfWhole, IsRoomFor, not_read}
 
 module _ (old now : Reading) (done : List ℕ) (input : InputSoFar) (h : IsReadTo old now done input) where
   -- `IsReadTo` holds after the first `n` held bytes are taken
@@ -51,7 +51,7 @@ module _ (old now : Reading) (done : List ℕ) (input : InputSoFar) (h : IsReadT
       ((IsInTime-few_reads (h.in_time ends), all.0), omega (arith, h.read, all.1))
 
   -- at most 65,537 reads are full, within the limit and one read more
-  full_reads-at_most : (full room read limit : ℕ) → full * room ≤ read → read ≤ limit + room → AreLimits limit room
+  full_reads-at_most : (full room read limit : ℕ) → full * room ≤ read → read ≤ limit + room → IsRoomFor limit room
       → full ≤ 65537
   full_reads-at_most full room read limit most within may = by_order (cases_lt full 65538)
     where
@@ -195,7 +195,7 @@ module _ (old now : Reading) (done : List ℕ) (input : InputSoFar) (h : IsReadT
               (full_reads-next h.full input.room input.read (length more) h.has_full.enough all)
 
 -- `IsReadTo` holds before the first read
-pub IsReadTo-not_read : (here : Reading) (limit room : ℕ) → AreLimits limit room
+pub IsReadTo-not_read : (here : Reading) (limit room : ℕ) → IsRoomFor limit room
     → IsReadTo here here [] (not_read limit room)
 IsReadTo-not_read here limit room may = record {
   consumed = nothing here.left;

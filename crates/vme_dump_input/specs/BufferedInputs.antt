@@ -19,7 +19,7 @@ pub record InputSoFar : Type 0 where
   pub is_whole : Bool
 
 -- each read has room for 1 to 4,194,304 bytes, and the limit is at most what 65,536 full reads give
-pub record AreLimits (limit room : ℕ) : Type 0 where
+pub record IsRoomFor (limit room : ℕ) : Type 0 where
   pub some : 0 < room
   pub few : limit ≤ 65536 * room
   pub small : room ≤ 4194304
@@ -48,7 +48,7 @@ pub record IsReadTo (old now : Reading) (done : List ℕ) (input : InputSoFar) :
   pub full : ℕ
   pub has_full : HasFull old now input.reads input.room input.read full
   pub bounded : input.reads ≤ most_reads
-  pub limits : AreLimits input.limit input.room
+  pub limits : IsRoomFor input.limit input.room
   pub within : input.read ≤ input.limit + input.room
   pub whole : HasAllIfWhole input.is_whole old (done ++ input.held) input.read input.limit
   pub in_time : input.is_whole ≡ true → input.reads < most_reads

@@ -7,7 +7,7 @@ ghost use Rattle.vme_stream.specs.InFaults.{InputFailsBy};
 ghost use Rattle.vme_trace.specs.Streams.{CountsRead, CountsShortRead, Reading};
 ghost use Rattle.vme_listing.specs.Reading.{IsFollowedBy};
 ghost use Rattle.vme_stream.specs.declared.input.InFault.{InFault};
-ghost use Rattle.vme_dump_input.specs.BufferedInputs.{FailsAs, IsAllOf, IsGrown, IsReadTo, AreLimits, not_read};
+ghost use Rattle.vme_dump_input.specs.BufferedInputs.{FailsAs, IsAllOf, IsGrown, IsReadTo, IsRoomFor, not_read};
 ghost use Rattle.vme_dump_input.specs.BufferedInputs.{reads_left};
 
 use std::alloc::{AllocError, Global};
@@ -38,7 +38,7 @@ pub struct BufferedInput {
 impl Model for BufferedInput {
     ghost use Rattle.std.specs.Prelude.{◌+◌, ◌≤◌, ◌<◌, ◌^◌, drop, vec_len};
     ghost use Rattle.vme_stream.specs.Inputs.{most_reads};
-    ghost use Rattle.vme_dump_input.specs.BufferedInputs.{InputSoFar, AreLimits};
+    ghost use Rattle.vme_dump_input.specs.BufferedInputs.{InputSoFar, IsRoomFor};
 
     ghost Value = { InputSoFar };
 
@@ -51,7 +51,7 @@ impl Model for BufferedInput {
       is_whole = a.is_whole;
     } };
 
-    ghost invariant = { λ a. (a.start ≤ vec_len a.held) × AreLimits a.limit (vec_len a.room)
+    ghost invariant = { λ a. (a.start ≤ vec_len a.held) × IsRoomFor a.limit (vec_len a.room)
         × (a.read ≤ a.limit + vec_len a.room) × (a.reads ≤ most_reads) };
 }
 
@@ -96,7 +96,7 @@ fn read_after<R: Source>(
 impl BufferedInput {
     /// The input before the first read. Each read has room for `room` bytes.
     pub fn new(alloc: Global, limit: u64, room: usize) -> Result<BufferedInput, AllocError>
-        requires { AreLimits limit room }
+        requires { IsRoomFor limit room }
         ensures { IfOk result (λ input. input ≡ not_read limit room) }
     {
         let room = Vec::from_elem(alloc, 0, room)?;
