@@ -36,7 +36,7 @@ pub record TextReached : Type 0 where
   pub body : Reached BuilderState
 
 abbrev pub text_reached : {F : Type 0} {follows : Ghosts F} → TextReader F follows → TextReached
-text_reached text = record { fault = text.fault; body = reached (λ made. made) text.pieces }
+text_reached text = record { fault = text.fault; body = reached (λ made. made) text.body_reader }
 
 -- the result for `tokens` and then `more`, from the state `t`
 abbrev pub outcome_ahead : TextReached → List Token → List Token → Result Trace CaptureFault

@@ -25,7 +25,7 @@ use vme_trace::{LINE_COUNT, Line, Lines, Step, StepVisitor};
 /// steps.
 #[derive(Drop)]
 pub struct SpeculativeReader {
-    pieces: BodyReader<ChangeDiscarder>,
+    body_reader: BodyReader<ChangeDiscarder>,
     fault: Option<BindFault>,
     line_bits: NetLines,
     recorder: Recorder,
@@ -43,8 +43,11 @@ impl Model for SpeculativeReader {
 
     ghost Value = { SpeculativeReached };
 
-    ghost view = { λ w. record
-        { fault = w.fault; line_bits = w.line_bits; body = with_taken w.recorder (reached (λ p. tt {0}) w.pieces) } };
+    ghost view = { λ w. record {
+      fault = w.fault;
+      line_bits = w.line_bits;
+      body = with_taken w.recorder (reached (λ p. tt {0}) w.body_reader);
+    } };
 
     ghost invariant = { λ w. ForSome w.fault IsOfBinding
         × ((net : ℕ) → AreLines w.recorder.now.slots (line_bits_of w.line_bits net)) };
@@ -84,11 +87,11 @@ impl<F: StepVisitor> TextReader<F> {
     pub fn into_speculative(self) -> (SpeculativeReader, F)
         ensures { with_recording (F.recorded result.1) result.0 ≡ text_reached self }
     {
-        let TextReader { pieces, fault } = self;
-        let (pieces, made) = pieces.with_visitor(ChangeDiscarder);
+        let TextReader { body_reader, fault } = self;
+        let (body_reader, made) = body_reader.with_visitor(ChangeDiscarder);
         let (line_bits, recorder, visitor) = made.into_parts();
         let speculative = SpeculativeReader {
-            pieces,
+            body_reader,
             fault,
             line_bits,
             recorder,
@@ -103,27 +106,29 @@ impl SpeculativeReader {
         ensures { text_reached result ≡ with_recording (F.recorded visitor) self }
     {
         let SpeculativeReader {
-            pieces,
+            body_reader,
             fault,
             line_bits,
             recorder,
         } = self;
-        let (pieces, _) = pieces.with_visitor(CaptureBuilder::new(line_bits, recorder, visitor));
-        TextReader { pieces, fault }
+        let (body_reader, _) = body_reader.with_visitor(CaptureBuilder::new(
+            line_bits, recorder, visitor,
+        ));
+        TextReader { body_reader, fault }
     }
 
     /// The line that the next piece begins on, from 1.
     pub fn line(&self) -> u64
         ensures { result ≡ self.now.body.line }
     {
-        self.pieces.line()
+        self.body_reader.line()
     }
 
     /// The last time that was read, or 0.
     pub fn time(&self) -> u64
         ensures { result ≡ self.now.body.progress.time }
     {
-        self.pieces.time()
+        self.body_reader.time()
     }
 
     /// The levels after the steps so far.
@@ -165,7 +170,7 @@ impl SpeculativeReader {
             return None;
         }
         let builder = SpeculativeBuilder::new(&self.line_bits, Recorder::new(*from), visitor);
-        let detached = self.pieces.detached(alloc, piece, line, builder)?;
+        let detached = self.body_reader.detached(alloc, piece, line, builder)?;
         let (detached, builder) = detached.with_visitor(ChangeDiscarder);
         let (recorder, visitor, assigned) = builder.into_parts();
         let ahead = SpeculativeChunk {
@@ -182,10 +187,10 @@ impl SpeculativeReader {
     pub fn may_join(&self, ahead: &SpeculativeChunk) -> bool
         ensures { IsTrue result ↔ MayFollowLevels self.now ahead.now }
     {
-        if !self.pieces.may_join(&ahead.detached) {
+        if !self.body_reader.may_join(&ahead.detached) {
             return false;
         }
-        let ended = self.pieces.ended_by(&ahead.detached);
+        let ended = self.body_reader.ended_by(&ahead.detached);
         self.recorder.begins_with(ended, &ahead.from)
     }
 
@@ -202,7 +207,7 @@ impl SpeculativeReader {
             → IsJoined bytes recorded ahead.from self joined.0 (step_in joined.1)) }
     {
         let SpeculativeReader {
-            pieces,
+            body_reader,
             fault,
             line_bits,
             mut recorder,
@@ -213,10 +218,10 @@ impl SpeculativeReader {
             recorder: behind,
             assigned: _,
         } = ahead;
-        let step = recorder.end(alloc, pieces.ended_by(&detached))?;
-        let (pieces, _) = pieces.join(detached);
+        let step = recorder.end(alloc, body_reader.ended_by(&detached))?;
+        let (body_reader, _) = body_reader.join(detached);
         let speculative = SpeculativeReader {
-            pieces,
+            body_reader,
             fault,
             line_bits,
             recorder: behind,

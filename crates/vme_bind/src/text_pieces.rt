@@ -55,8 +55,8 @@ fn begin_bound_groups<'a, F: StepVisitor>(
 {
     match builder_of(alloc, lines, bound_groups, visitor) {
         Ok(made) => {
-            let (pieces, rest) = front.before_body(made);
-            Ok((TextReader { pieces, fault }, rest))
+            let (body_reader, rest) = front.before_body(made);
+            Ok((TextReader { body_reader, fault }, rest))
         }
         Err(_) => Err(CaptureFault::Binding(want_of_memory())),
     }
@@ -197,9 +197,9 @@ impl<F: StepVisitor> TextReader<F> {
         ensures rest { ReadingContinuesAs (λ text. reading_ahead (text_reached text) []) (λ f. F.recorded f) result
             (reading_ahead (text_reached self) (tokens_from (text_reached self).body.line piece.now)) }
     {
-        let TextReader { pieces, fault } = self;
-        match pieces.read_until_fault(alloc, piece) {
-            Ok(pieces) => Ok(TextReader { pieces, fault }),
+        let TextReader { body_reader, fault } = self;
+        match body_reader.read_until_fault(alloc, piece) {
+            Ok(body_reader) => Ok(TextReader { body_reader, fault }),
             Err(stopped) => Err(visitor_of(stopped)),
         }
     }
@@ -211,9 +211,9 @@ impl<F: StepVisitor> TextReader<F> {
         ensures rest { TextContinuesAs (λ text. outcome_ahead (text_reached text) []) result
             (outcome_ahead (text_reached self) (tokens_from (text_reached self).body.line piece.now)) }
     {
-        let TextReader { pieces, fault } = self;
-        match pieces.read(alloc, piece) {
-            Ok(pieces) => Ok(TextReader { pieces, fault }),
+        let TextReader { body_reader, fault } = self;
+        match body_reader.read(alloc, piece) {
+            Ok(body_reader) => Ok(TextReader { body_reader, fault }),
             Err(fault) => Err(CaptureFault::Dump(fault)),
         }
     }
@@ -224,7 +224,7 @@ impl<F: StepVisitor> TextReader<F> {
         ensures { IsTrue result ↔ ((text_reached self.now).body.place ≡ ready)
             × ((text_reached self.now).body.dump_section ≡ None) }
     {
-        self.pieces.is_between_items()
+        self.body_reader.is_between_items()
     }
 
     /// Ends the text. The result is the visitor that took the recording, whether or not the binding has a fault. With a
@@ -234,7 +234,7 @@ impl<F: StepVisitor> TextReader<F> {
         ensures { ReadingEndsAs (λ f. F.recorded f) (text_reached self).body.progress.time result
             (reading_ahead (text_reached self) [] []) }
     {
-        match self.pieces.finish_or_stop(alloc) {
+        match self.body_reader.finish_or_stop(alloc) {
             Ok(made) => Ok(made.into_visitor()),
             Err(stopped) => Err(visitor_of(stopped)),
         }
@@ -245,8 +245,8 @@ impl<F: StepVisitor> TextReader<F> {
     pub fn finish(self, alloc: Global) -> Result<F, CaptureFault>
         ensures { GivesBy (λ f. F.recorded f) result (outcome_ahead (text_reached self) [] []) }
     {
-        let TextReader { pieces, fault } = self;
-        match pieces.finish(alloc) {
+        let TextReader { body_reader, fault } = self;
+        match body_reader.finish(alloc) {
             Ok(made) => match fault {
                 None => Ok(made.into_visitor()),
                 Some(fault) => Err(CaptureFault::Binding(fault)),

@@ -8,10 +8,10 @@ use crate::fault::BindFault;
 use vcd_read::BodyReader;
 use vme_trace::StepVisitor;
 
-/// The recording that a binding makes of a dump, after some pieces of the dump's text.
+/// Makes the recording of a dump by a binding, as far as the pieces of the dump's text were taken.
 #[derive(Drop)]
 pub struct TextReader<F: StepVisitor> {
-    pub(crate) pieces: BodyReader<CaptureBuilder<F>>,
+    pub(crate) body_reader: BodyReader<CaptureBuilder<F>>,
     /// Why the binding makes no recording of the dump. It is reported at the end, if the dump has no fault.
     pub(crate) fault: Option<BindFault>,
     ghost own: { ForSome fault IsOfBinding },

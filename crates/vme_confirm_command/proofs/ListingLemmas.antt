@@ -55,22 +55,22 @@ IsOver-none (Some fault) = tt
 
 -- one more row is given, or no more are
 
-module _ (old : Reading) (version : Version) (now : Reading) (input : InputSoFar) (pieces : Option RowsSoFar)
+module _ (old : Reading) (version : Version) (now : Reading) (input : InputSoFar) (reader : Option RowsSoFar)
     (fault : Option RowsFault) (given : List Row) where
   -- one more row is given, or all are given
   abbrev Gives : Option Row → Type 0
-  Gives row = MatchOption row (ListingGaveAllRows old version now input pieces fault given)
-      (λ r. ListingGaveRows old version now input pieces fault (given ++ r ∷ []))
+  Gives row = MatchOption row (ListingGaveAllRows old version now input reader fault given)
+      (λ r. ListingGaveRows old version now input reader fault (given ++ r ∷ []))
 
   -- if there is a row, it is one more
   pub Gives-row : (row : Option Row) → is_some row ≡ true → Gives row
-      → (r : Row) × ListingGaveRows old version now input pieces fault (given ++ r ∷ [])
+      → (r : Row) × ListingGaveRows old version now input reader fault (given ++ r ∷ [])
   Gives-row (Some r) some h = (r, h)
   Gives-row None some h = absurd (cc)
 
   -- if there is no row, all are given
   pub Gives-no_row : (row : Option Row) → is_some row ≡ false → Gives row
-      → ListingGaveAllRows old version now input pieces fault given
+      → ListingGaveAllRows old version now input reader fault given
   Gives-no_row None none h = h
   Gives-no_row (Some r) none h = absurd (cc)
 
@@ -83,11 +83,11 @@ is_some-not_None (Some r) some none = cc
 
 -- a listing of which all rows were given, without a fault, is read to its end
 pub IsListingRead-whole : (old : Reading) (version : Version) (now : Reading) (input : InputSoFar)
-    (pieces : Option RowsSoFar)
+    (reader : Option RowsSoFar)
     (fault : Option RowsFault) → fault ≡ None → (rows more : List Row) (over : Type 0) → (over → more ≡ [])
-    → ListingGaveAllRows old version now input pieces fault (rows ++ more)
+    → ListingGaveAllRows old version now input reader fault (rows ++ more)
     → IsListingRead old version now rows over (Ok tt)
-IsListingRead-whole old version now input pieces (Some fault) none rows more over none_more ends = absurd (cc)
+IsListingRead-whole old version now input reader (Some fault) none rows more over none_more ends = absurd (cc)
 IsListingRead-whole old version now input None None none rows more over none_more ends = absurd ends
 IsListingRead-whole old version now input (Some so_far) None none rows more over none_more ends =
     let (done, read, whole) = ends.1 in
@@ -102,13 +102,13 @@ IsListingRead-whole old version now input (Some so_far) None none rows more over
 
 -- rows that were given up to a fault were given with this fault
 pub ListingGaveRows-fault : (old : Reading) (version : Version) (now : Reading) (input : InputSoFar)
-    (pieces : Option RowsSoFar)
+    (reader : Option RowsSoFar)
     (given : Option RowsFault) (fault : RowsFault) → given ≡ Some fault → (rows : List Row)
-    → ListingGaveAllRows old version now input pieces given rows
-    → ListingGaveRows old version now input pieces (Some fault) rows
-ListingGaveRows-fault old version now input pieces None fault is rows ends = absurd (cc)
-ListingGaveRows-fault old version now input pieces (Some own) fault is rows ends =
-    subst (λ (f : Option RowsFault). ListingGaveRows old version now input pieces f rows) is ends
+    → ListingGaveAllRows old version now input reader given rows
+    → ListingGaveRows old version now input reader (Some fault) rows
+ListingGaveRows-fault old version now input reader None fault is rows ends = absurd (cc)
+ListingGaveRows-fault old version now input reader (Some own) fault is rows ends =
+    subst (λ (f : Option RowsFault). ListingGaveRows old version now input reader f rows) is ends
 
 -- a listing that was read, and has `rows ++ more`, has `rows` and more rows after them
 pub IsListingRead-more : (old : Reading) (version : Version) (now : Reading) (rows more : List Row) (over : Type 0)

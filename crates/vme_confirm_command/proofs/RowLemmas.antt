@@ -139,13 +139,13 @@ AreCounted-none fault input x is = absurd (cc)
 
 -- what was read of a source is some reading of it
 pub IsSomeReading-rows : (old : Reading) (version : Version) (now : Reading) (input : InputSoFar)
-    (pieces : Option RowsSoFar)
-    (fault : Option RowsFault) (rows : List Row) → ListingGaveRows old version now input pieces fault rows
+    (reader : Option RowsSoFar)
+    (fault : Option RowsFault) (rows : List Row) → ListingGaveRows old version now input reader fault rows
     → IsSomeReading old now
-IsSomeReading-rows old version now input pieces (Some (Text fault)) rows gave =
+IsSomeReading-rows old version now input reader (Some (Text fault)) rows gave =
     let (done, read, has) = gave.1 in
     IsReading-some old now done input read
-IsSomeReading-rows old version now input pieces (Some (Input fault)) rows gave = fails-some fault gave.1
+IsSomeReading-rows old version now input reader (Some (Input fault)) rows gave = fails-some fault gave.1
   where
     -- a fault of the input comes of some reading
     fails-some : (fault : InFault) → FailsAs longest_listing old now fault → IsSomeReading old now

@@ -31,7 +31,7 @@ IsCounted so_far input = (so_far.count + length input.held ≤ input.read) × (i
 
 -- while rows are read they are counted so, and there is no fault
 abbrev pub AreCounted : Option RowsSoFar → Option RowsFault → InputSoFar → Type 0
-AreCounted pieces fault input = ForSome pieces (λ so_far. (is_none fault ≡ true) × IsCounted so_far input)
+AreCounted reader fault input = ForSome reader (λ so_far. (is_none fault ≡ true) × IsCounted so_far input)
 
 module _ (done : List ℕ) (input : InputSoFar) where
   -- the bytes `done` were taken, and the rows in them, `rows`, were read, whatever follows the bytes that are held
@@ -68,7 +68,7 @@ ReadsRow old now input so_far rows (Err fault) = AreRead old now input (Err faul
 -- these rows of a listing in this version were given so far, or reading ended with the fault
 abbrev pub ListingGaveRows : Reading → Version → Reading → InputSoFar → Option RowsSoFar → Option RowsFault → List Row
     → Type 0
-ListingGaveRows old version now input pieces (Some fault) rows =
+ListingGaveRows old version now input reader (Some fault) rows =
     (input.limit ≡ longest_listing) × AreRead old now input (Err fault) rows
 ListingGaveRows old version now input (Some so_far) None rows =
     (input.limit ≡ longest_listing) × (so_far.version ≡ version) × AreRead old now input (Ok so_far) rows
@@ -78,8 +78,8 @@ ListingGaveRows old version now input None None rows = ⊥
 abbrev pub ListingGaveAllRows : Reading → Version → Reading → InputSoFar → Option RowsSoFar → Option RowsFault
     → List Row
     → Type 0
-ListingGaveAllRows old version now input pieces (Some fault) rows =
-    ListingGaveRows old version now input pieces (Some fault) rows
+ListingGaveAllRows old version now input reader (Some fault) rows =
+    ListingGaveRows old version now input reader (Some fault) rows
 ListingGaveAllRows old version now input (Some so_far) None rows =
     ListingGaveRows old version now input (Some so_far) None rows
     × ((done : List ℕ) × IsReadTo old now done input × IsWholeText done input version rows)
@@ -91,7 +91,7 @@ bytes_left input = input.limit + input.room + length input.held - input.read
 
 -- no more rows are given
 abbrev pub IsOver : Option RowsSoFar → Option RowsFault → Type 0
-IsOver pieces (Some fault) = Unit {0}
+IsOver reader (Some fault) = Unit {0}
 IsOver (Some so_far) None = ends_listing so_far.last ≡ true
 IsOver None None = Unit {0}
 

@@ -197,8 +197,8 @@ fn comparison_found<L: Source + Drop>(
     rows: ListingRows<L>,
 ) -> (Result<Answer, Refusal>, L)
     ensures { (old : Reading) (version : Version) (given : List Row) (expected_rows : Result (List Row) BindFault)
-        → ListingGaveRows old version (L.reading rows.source) rows.input rows.pieces rows.fault given
-        → IsAnswerByRows version expected_rows found given (IsOver rows.pieces rows.fault)
+        → ListingGaveRows old version (L.reading rows.source) rows.input rows.reader rows.fault given
+        → IsAnswerByRows version expected_rows found given (IsOver rows.reader rows.fault)
         → IsAnswerToListing old version (L.reading result.1) expected_rows result.0 }
 {
     let (ended, listing) = rows.finish();

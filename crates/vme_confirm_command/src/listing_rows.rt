@@ -31,9 +31,9 @@ pub(crate) struct ListingRows<L: Source + Drop> {
     source: L,
     input: BufferedInput,
     /// How far the rows are read, unless there is a fault.
-    pieces: Option<ListingReader>,
+    reader: Option<ListingReader>,
     fault: Option<RowsFault>,
-    ghost counted: { AreCounted pieces fault input },
+    ghost counted: { AreCounted reader fault input },
 }
 
 /// The buffer that a listing is read into.
@@ -47,19 +47,19 @@ impl<L: Source + Drop> ListingRows<L> {
     /// Begins after the header, if there is one.
     pub fn begin(source: L, input: BufferedInput) -> ListingRows<L>
         requires { input ≡ not_read LONGEST_LISTING LISTING_ROOM }
-        ensures gave { (version : Version) → IfSome result.pieces (λ so_far. so_far.version ≡ version)
-            → ListingGaveRows (L.reading source) version (L.reading result.source) result.input result.pieces
+        ensures gave { (version : Version) → IfSome result.reader (λ so_far. so_far.version ≡ version)
+            → ListingGaveRows (L.reading source) version (L.reading result.source) result.input result.reader
             result.fault [] }
     {
         let mut source = source;
         let mut input = input;
-        let pieces = match begin_rows(&mut source, &mut input) {
-            Ok(pieces) => pieces,
+        let reader = match begin_rows(&mut source, &mut input) {
+            Ok(reader) => reader,
             Err(fault) => {
                 return ListingRows {
                     source,
                     input,
-                    pieces: None,
+                    reader: None,
                     fault: Some(fault),
                 };
             }
@@ -67,17 +67,17 @@ impl<L: Source + Drop> ListingRows<L> {
         ListingRows {
             source,
             input,
-            pieces: Some(pieces),
+            reader: Some(reader),
             fault: None,
         }
     }
 
     /// The version in the header. Without a header it is any.
     pub fn version(&self) -> Version
-        ensures { IfSome self.now.pieces (λ so_far. so_far.version ≡ result) }
+        ensures { IfSome self.now.reader (λ so_far. so_far.version ≡ result) }
     {
-        match &self.pieces {
-            Some(pieces) => pieces.version(),
+        match &self.reader {
+            Some(reader) => reader.version(),
             None => Version::Three,
         }
     }
@@ -85,21 +85,21 @@ impl<L: Source + Drop> ListingRows<L> {
     /// The next row, if there is one.
     fn give(&mut self) -> Option<Row>
         ensures gave { (old : Reading) (version : Version) (rows : List Row)
-            → ListingGaveRows old version (L.reading self.old.source) self.old.input self.old.pieces self.old.fault rows
+            → ListingGaveRows old version (L.reading self.old.source) self.old.input self.old.reader self.old.fault rows
             → MatchOption result (ListingGaveAllRows old version (L.reading self.new.source) self.new.input
-            self.new.pieces
+            self.new.reader
             self.new.fault rows) (λ row. ListingGaveRows old version (L.reading self.new.source) self.new.input
-            self.new.pieces self.new.fault (rows ++ row ∷ [])) }
-        ensures over { result ≡ None → IsOver self.new.pieces self.new.fault }
-        ensures stays { IsOver self.old.pieces self.old.fault → result ≡ None }
+            self.new.reader self.new.fault (rows ++ row ∷ [])) }
+        ensures over { result ≡ None → IsOver self.new.reader self.new.fault }
+        ensures stays { IsOver self.old.reader self.old.fault → result ≡ None }
         ensures shorter { IfSome result (λ row. bytes_left self.new.input < bytes_left self.old.input) }
     {
-        let Some(mut pieces) = self.pieces.take() else {
+        let Some(mut reader) = self.reader.take() else {
             return None;
         };
-        match next_row(&mut self.source, &mut self.input, &mut pieces) {
+        match next_row(&mut self.source, &mut self.input, &mut reader) {
             Ok(row) => {
-                self.pieces = Some(pieces);
+                self.reader = Some(reader);
                 row
             }
             Err(fault) => {
@@ -112,15 +112,15 @@ impl<L: Source + Drop> ListingRows<L> {
     /// Reads the rest. Returns the first fault of the listing, if it has one, and the source of the listing.
     pub fn finish(self) -> (Result<(), RowsFault>, L)
         ensures { (old : Reading) (version : Version) (rows : List Row)
-            → ListingGaveRows old version (L.reading self.source) self.input self.pieces self.fault rows
-            → IsListingRead old version (L.reading result.1) rows (IsOver self.pieces self.fault) result.0 }
+            → ListingGaveRows old version (L.reading self.source) self.input self.reader self.fault rows
+            → IsListingRead old version (L.reading result.1) rows (IsOver self.reader self.fault) result.0 }
     {
         let mut rows = self;
         while rows.give().is_some() {}
         let ListingRows {
             source,
             input,
-            pieces: _,
+            reader: _,
             fault,
         } = rows;
         match fault {
@@ -132,13 +132,13 @@ impl<L: Source + Drop> ListingRows<L> {
     /// The source of the listing.
     pub fn into_source(self) -> L
         ensures { (old : Reading) (version : Version) (rows : List Row)
-            → ListingGaveRows old version (L.reading self.source) self.input self.pieces self.fault rows
+            → ListingGaveRows old version (L.reading self.source) self.input self.reader self.fault rows
             → IsSomeReading old (L.reading result) }
     {
         let ListingRows {
             source,
             input: _,
-            pieces: _,
+            reader: _,
             fault: _,
         } = self;
         source
@@ -151,8 +151,8 @@ fn read_to_end<L: Source + Drop>(
     input: BufferedInput,
     fault: RowsFault,
 ) -> (Result<(), RowsFault>, L)
-    ensures { (old : Reading) (version : Version) (rows : List Row) (pieces : Option RowsSoFar)
-        → ListingGaveRows old version (L.reading source) input pieces (Some fault) rows
+    ensures { (old : Reading) (version : Version) (rows : List Row) (reader : Option RowsSoFar)
+        → ListingGaveRows old version (L.reading source) input reader (Some fault) rows
         → IsListingRead old version (L.reading result.1) rows (Unit {0}) result.0 }
 {
     let mut source = source;
@@ -174,9 +174,9 @@ impl<L: Source + Drop> RowSource for ListingRows<L> {
 
     ghost Whole = { Reading × Version };
 
-    ghost gave = { λ whole s rows. ListingGaveRows whole.0 whole.1 (L.reading s.source) s.input s.pieces s.fault rows };
+    ghost gave = { λ whole s rows. ListingGaveRows whole.0 whole.1 (L.reading s.source) s.input s.reader s.fault rows };
 
-    ghost is_over = { λ s. IsOver s.pieces s.fault };
+    ghost is_over = { λ s. IsOver s.reader s.fault };
 
     fn next(&mut self) -> Option<Row> {
         self.give()

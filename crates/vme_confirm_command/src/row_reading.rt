@@ -52,9 +52,9 @@ pub(crate) fn begin_rows<L: Source>(
         return Err(RowsFault::Input(fault));
     }
     match ListingReader::begin(input.bytes(), input.is_whole()) {
-        Some((pieces, count)) => {
+        Some((reader, count)) => {
             input.take_first(count);
-            Ok(pieces)
+            Ok(reader)
         }
         None => Err(RowsFault::Text(ListFault::BadHeader)),
     }
@@ -64,23 +64,23 @@ pub(crate) fn begin_rows<L: Source>(
 pub(crate) fn next_row<L: Source>(
     source: &mut L,
     input: &mut BufferedInput,
-    pieces: &mut ListingReader,
+    reader: &mut ListingReader,
 ) -> Result<Option<Row>, RowsFault>
-    requires counted { IsCounted pieces.old input.old }
-    ensures row { (old : Reading) (rows : List Row) → AreRead old (L.reading source.old) input.old (Ok pieces.old) rows
+    requires counted { IsCounted reader.old input.old }
+    ensures row { (old : Reading) (rows : List Row) → AreRead old (L.reading source.old) input.old (Ok reader.old) rows
         → input.old.limit ≡ longest_listing
-        → ReadsRow old (L.reading source.new) input.new pieces.new rows result }
-    ensures counted { OnOk result (IsCounted pieces.new input.new) }
-    ensures version { pieces.new.version ≡ pieces.old.version }
+        → ReadsRow old (L.reading source.new) input.new reader.new rows result }
+    ensures counted { OnOk result (IsCounted reader.new input.new) }
+    ensures version { reader.new.version ≡ reader.old.version }
     ensures limit { input.new.limit ≡ input.old.limit }
-    ensures over { result ≡ Ok None → ends_listing pieces.new.last ≡ true }
+    ensures over { result ≡ Ok None → ends_listing reader.new.last ≡ true }
     ensures shorter { IfOk result (λ row. IfSome row (λ _. bytes_left input.new < bytes_left input.old)) }
-    ensures stays { ends_listing pieces.old.last ≡ true → IfOk result (λ row. row ≡ None) }
+    ensures stays { ends_listing reader.old.last ≡ true → IfOk result (λ row. row ≡ None) }
 {
     if let Err(fault) = fill(source, input) {
         return Err(RowsFault::Input(fault));
     }
-    match pieces.next(input.bytes(), input.is_whole()) {
+    match reader.next(input.bytes(), input.is_whole()) {
         Ok(Some((row, count))) => {
             input.take_first(count);
             Ok(Some(row))

@@ -11,7 +11,7 @@ use Rattle.vme_declarations.specs.Surveys.{Survey, body_ahead, survey_of}
 
 -- how far the body is read, with the number of instants so far
 abbrev pub body_reached : SurveyedBody → Reached ℕ
-body_reached body = reached (λ (l : LevelsSeen). l.instants) body.pieces
+body_reached body = reached (λ (l : LevelsSeen). l.instants) body.body_reader
 
 -- the survey of a dump in this stage whose text continues with `rest`, or its first fault
 abbrev pub stage_ahead : SurveyStage → List ℕ → Result Survey VcdFault

@@ -26,7 +26,7 @@ pub(crate) struct SurveyedBody {
     /// The prefix of the text in which the definitions end.
     front: Vec<u8>,
     names: DeclaredNames,
-    pieces: BodyReader<LevelsSeen>,
+    body_reader: BodyReader<LevelsSeen>,
 }
 
 /// How far a dump is surveyed.
@@ -73,12 +73,12 @@ impl SurveyedBody {
         let reader = NamesReader::new(alloc)?;
         match read_front(alloc, front, reader) {
             Ok(Some((head, reader))) => {
-                let (pieces, left) = head.before_body(LevelsSeen::none(alloc));
-                match pieces.read(alloc, left) {
-                    Ok(pieces) => Ok(Some(SurveyedBody {
+                let (body_reader, left) = head.before_body(LevelsSeen::none(alloc));
+                match body_reader.read(alloc, left) {
+                    Ok(body_reader) => Ok(Some(SurveyedBody {
                         front: Vec::from_slice(alloc, front)?,
                         names: reader.into_names(),
-                        pieces,
+                        body_reader,
                     })),
                     Err(fault) => Err(fault),
                 }
@@ -99,13 +99,13 @@ impl SurveyedBody {
         let SurveyedBody {
             front,
             names,
-            pieces,
+            body_reader,
         } = self;
-        let pieces = pieces.read(alloc, piece)?;
+        let body_reader = body_reader.read(alloc, piece)?;
         Ok(SurveyedBody {
             front,
             names,
-            pieces,
+            body_reader,
         })
     }
 
@@ -116,9 +116,9 @@ impl SurveyedBody {
         let SurveyedBody {
             front,
             names,
-            pieces,
+            body_reader,
         } = self;
-        match pieces.finish(alloc) {
+        match body_reader.finish(alloc) {
             Ok(levels) => Ok(SurveyedDump {
                 front,
                 names,

@@ -60,12 +60,12 @@ impl ListingReader {
         ensures first { IfSome result (λ begun. begun.0.count ≡ 0) }
     {
         let (version, rest) = front_header(bytes)?;
-        let pieces = ListingReader {
+        let reader = ListingReader {
             version,
             last: None,
             count: 0,
         };
-        Some((pieces, bytes.len() - rest.len()))
+        Some((reader, bytes.len() - rest.len()))
     }
 
     /// The version of the header.

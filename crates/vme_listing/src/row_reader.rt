@@ -15,7 +15,7 @@ use std::marker::Model;
 /// The text of a listing after its header and the rows that have been read.
 #[derive(Drop)]
 pub struct RowReader<'a> {
-    pieces: ListingReader,
+    reader: ListingReader,
     rest: &'a [u8],
 }
 
@@ -26,9 +26,9 @@ impl<'a> Model for RowReader<'a> {
 
     ghost use Rattle.std.specs.Prelude.{◌+◌, ◌^◌, ◌<◌, length};
 
-    ghost view = { λ a. behind_rows a.pieces a.rest.now };
+    ghost view = { λ a. behind_rows a.reader a.rest.now };
 
-    ghost invariant = { λ a. a.pieces.count + length a.rest.now < 2 ^ 63 };
+    ghost invariant = { λ a. a.reader.count + length a.rest.now < 2 ^ 63 };
 }
 
 impl<'a> RowReader<'a> {
@@ -38,9 +38,9 @@ impl<'a> RowReader<'a> {
         ensures fault { result ≡ None → IsFirstFault text.now BadHeader }
         ensures none { result ≡ None → HasNoListing text.now }
     {
-        let (pieces, count) = ListingReader::begin(text, true)?;
+        let (reader, count) = ListingReader::begin(text, true)?;
         Some(RowReader {
-            pieces,
+            reader,
             rest: &text[count..],
         })
     }
@@ -49,7 +49,7 @@ impl<'a> RowReader<'a> {
     pub fn version(&self) -> Version
         ensures { result ≡ self.now.version }
     {
-        self.pieces.version()
+        self.reader.version()
     }
 
     /// The next row, or `None` where the listing is whole; or the first fault of the text, and the reader is left as it
@@ -67,7 +67,7 @@ impl<'a> RowReader<'a> {
         ensures stays { ends_listing self.old.last ≡ true → (result ≡ Ok None) × (self.new ≡ self.old) }
         ensures left { IfErr result (λ fault. self.new ≡ self.old) }
     {
-        match self.pieces.next(self.rest, true) {
+        match self.reader.next(self.rest, true) {
             Ok(Some((row, count))) => {
                 self.rest = &self.rest[count..];
                 Ok(Some(row))

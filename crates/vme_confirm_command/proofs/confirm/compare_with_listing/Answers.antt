@@ -29,15 +29,15 @@ returns-in-Ok-found g c bound old begun limit =
     let whole : Reading × Version = (listing, version) in
     let gave = c.begin-rows.ensures.gave version c.version-version.ensures in
     let (contents, dump, finds) = Compares-found whole rows
-    (λ (w : Reading × Version) s (l : List Row). ListingGaveRows w.0 w.1 (g.L.Source.reading s.source) s.input s.pieces
+    (λ (w : Reading × Version) s (l : List Row). ListingGaveRows w.0 w.1 (g.L.Source.reading s.source) s.input s.reader
     s.fault l)
-    (λ s. IsOver s.pieces s.fault) version bound c.args.skew old now
+    (λ s. IsOver s.reader s.fault) version bound c.args.skew old now
     c.compare_with_rows-found.result.0 (c.compare_with_rows-found.ensures bound old whole gave begun limit)
     c.in-Ok-found.found c.in-Ok-found.is in
     let (expected_rows, given, gives, is, confirms) = IsAnswerByRows-for_dump whole rows
-    (λ (w : Reading × Version) s (l : List Row). ListingGaveRows w.0 w.1 (g.L.Source.reading s.source) s.input s.pieces
+    (λ (w : Reading × Version) s (l : List Row). ListingGaveRows w.0 w.1 (g.L.Source.reading s.source) s.input s.reader
     s.fault l)
-    (λ s. IsOver s.pieces s.fault) version bound c.args.skew contents
+    (λ s. IsOver s.reader s.fault) version bound c.args.skew contents
     (Some dump.text) dump.is c.in-Ok-found.found finds in
     let (bytes, said, reading, read_rows, answer) = c.comparison_found.ensures listing version given expected_rows gives
     is in
@@ -52,9 +52,9 @@ returns-in-Err g c bound old begun limit =
     let whole : Reading × Version = (listing, version) in
     let gave = c.begin-rows.ensures.gave version c.version-version.ensures in
     let (refused, rest) = Compares-refused whole rows
-    (λ (w : Reading × Version) s (l : List Row). ListingGaveRows w.0 w.1 (g.L.Source.reading s.source) s.input s.pieces
+    (λ (w : Reading × Version) s (l : List Row). ListingGaveRows w.0 w.1 (g.L.Source.reading s.source) s.input s.reader
     s.fault l)
-    (λ s. IsOver s.pieces s.fault) version bound c.args.skew old now
+    (λ s. IsOver s.reader s.fault) version bound c.args.skew old now
     c.compare_with_rows-found.result.0 (c.compare_with_rows-found.ensures bound old whole gave begun limit)
     c.in-Err.refusal c.in-Err.is in
     let (given, gives) = rest in

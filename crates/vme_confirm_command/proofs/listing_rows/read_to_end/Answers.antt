@@ -7,17 +7,17 @@ use Rattle.vme_confirm_command.proofs.ListingLemmas.{IsListingRead-input_fault, 
 use Rattle.vme_confirm_command.proofs.listing_rows.read_to_end.Goals as goal
 
 pub returns-in-Input : goal.returns-in-Input
-returns-in-Input g c old version rows pieces gave =
+returns-in-Input g c old version rows reader gave =
     let now = g.L.Source.reading c.args.source in
-    let had = subst (λ (f : RowsFault). ListingGaveRows old version now c.args.input pieces (Some f) rows) c.in-Input.is
+    let had = subst (λ (f : RowsFault). ListingGaveRows old version now c.args.input reader (Some f) rows) c.in-Input.is
     gave
     in
     IsListingRead-input_fault old version now rows c.in-Input.fault had.1
 
 pub returns-in-Ok : goal.returns-in-Ok
-returns-in-Ok g c old version rows pieces gave =
+returns-in-Ok g c old version rows reader gave =
     let had = subst (λ (f : RowsFault). ListingGaveRows old version (g.L.Source.reading c.args.source) c.args.input
-    pieces
+    reader
     (Some f) rows) c.in-Text.is gave in
     let (done, read, has) = had.1 in
     let now = g.L.Source.reading c.read_rest.new.source in
@@ -26,9 +26,9 @@ returns-in-Ok g c old version rows pieces gave =
     (subst (IsAllOf old now (done ++ (c.args.input.held ++ more))) had.0 all) has ends
 
 pub returns : goal.returns
-returns g c old version rows pieces gave =
+returns g c old version rows reader gave =
     let had = subst (λ (f : RowsFault). ListingGaveRows old version (g.L.Source.reading c.args.source) c.args.input
-    pieces
+    reader
     (Some f) rows) c.in-Text.is gave in
     let (done, read, has) = had.1 in
     let now = g.L.Source.reading c.read_rest.new.source in

@@ -17,11 +17,11 @@ pub returns-in-Some-clause-begun : goal.returns-in-Some-clause-begun
 returns-in-Some-clause-begun g c old read limit =
     let now = g.L.Source.reading c.fill.new.source in
     let n = c.in-Some.count in
-    let pieces = c.in-Some.pieces in
-    subst (λ (i : InputSoFar). AreRead old now i (Ok pieces) []) (sym c.take_first.ensures)
+    let reader = c.in-Some.reader in
+    subst (λ (i : InputSoFar). AreRead old now i (Ok reader) []) (sym c.take_first.ensures)
     (AreRead-taken old now [] c.fill.new.input (c.in_default.ensures.read old [] read) n
-    (subst (λ (l : List ℕ). n ≤ length l) c.bytes.ensures.held c.in-Some.ensures.within) pieces []
-    (λ future ends. subst (λ (l : List ℕ). HasRead (l ++ future) [] (behind_rows pieces (drop n l ++ future)))
+    (subst (λ (l : List ℕ). n ≤ length l) c.bytes.ensures.held c.in-Some.ensures.within) reader []
+    (λ future ends. subst (λ (l : List ℕ). HasRead (l ++ future) [] (behind_rows reader (drop n l ++ future)))
     c.bytes.ensures.held (c.in-Some.ensures.read future)))
 
 pub returns-in-None-clause-begun : goal.returns-in-None-clause-begun
@@ -39,6 +39,6 @@ returns-in-None-clause-begun g c old read limit = (
 
 pub returns-in-Some-clause-counted : goal.returns-in-Some-clause-counted
 returns-in-Some-clause-counted g c =
-    subst (IsCounted c.in-Some.pieces) (sym c.take_first.ensures)
-    (IsCounted-first c.in-Some.pieces c.fill.new.input c.in-Some.count c.in-Some.ensures.first
+    subst (IsCounted c.in-Some.reader) (sym c.take_first.ensures)
+    (IsCounted-first c.in-Some.reader c.fill.new.input c.in-Some.count c.in-Some.ensures.first
     (c.fill.ensures.small c.requires.small) (omega (arith, c.fill.ensures.counted, c.requires.held)))

@@ -23,7 +23,7 @@ returns-in-Ok-Some-clause-row g c old rows are limit =
     let row = c.in-Ok-Some.row in
     let n = c.in-Ok-Some.count in
     let next = c.next.new.self in
-    let filled = HasReadRows-filled done c.args.input.now c.fill.new.input c.args.pieces.now rows
+    let filled = HasReadRows-filled done c.args.input.now c.fill.new.input c.args.reader.now rows
     c.in_default.ensures.filled
     has in
     let within = subst (λ (l : List ℕ). n ≤ length l) c.bytes.ensures.held
@@ -35,7 +35,7 @@ returns-in-Ok-Some-clause-row g c old rows are limit =
     (λ future ends.
     let follows = subst (λ (b : Bool). IsFollowedBy b future) (sym c.is_whole.ensures) ends in
     let text = done ++ (held ++ future) in
-    let given = subst (λ (l : List ℕ). HasRead text rows (behind_rows c.args.pieces.now (l ++ future)))
+    let given = subst (λ (l : List ℕ). HasRead text rows (behind_rows c.args.reader.now (l ++ future)))
     (sym c.bytes.ensures.held) (filled future ends) in
     subst (λ (l : List ℕ). HasRead text (rows ++ row ∷ []) (behind_rows next (drop n l ++ future))) c.bytes.ensures.held
     (subst (λ (found : Option (Row × ℕ)). IfSome found (λ more. HasRead text (rows ++ more.0 ∷ [])
@@ -46,8 +46,8 @@ pub returns-in-Ok-None-clause-row : goal.returns-in-Ok-None-clause-row
 returns-in-Ok-None-clause-row g c old rows are limit =
     let (done, read, has) = are in
     let held = c.fill.new.input.held in
-    let pieces = c.args.pieces.now in
-    let filled = HasReadRows-filled done c.args.input.now c.fill.new.input pieces rows c.in_default.ensures.filled has
+    let reader = c.args.reader.now in
+    let filled = HasReadRows-filled done c.args.input.now c.fill.new.input reader rows c.in_default.ensures.filled has
     in
     let now_read = c.in_default.ensures.read old done read in
     let is_none = ap (λ (found : Option (Row × ℕ)). Ok found) c.in-Ok-None.field-0-is in
@@ -65,7 +65,7 @@ returns-in-Ok-None-clause-row g c old rows are limit =
         λ future ends.
             let follows = subst (λ (b : Bool). IsFollowedBy b future) (sym c.is_whole.ensures) ends in
             let text = done ++ (held ++ future) in
-            let given = subst (λ (l : List ℕ). HasRead text rows (behind_rows pieces (l ++ future)))
+            let given = subst (λ (l : List ℕ). HasRead text rows (behind_rows reader (l ++ future)))
             (sym c.bytes.ensures.held) (filled future ends) in
             subst (λ (v : Version). IsTextOfListing text (listed v rows)) (sym c.next.ensures.version)
             (c.in-Ok-None.ensures.whole text future rows follows given is_none),
@@ -76,15 +76,15 @@ pub returns-in-Err-next-clause-row : goal.returns-in-Err-next-clause-row
 returns-in-Err-next-clause-row g c old rows are limit =
     let (done, read, has) = are in
     let held = c.fill.new.input.held in
-    let pieces = c.args.pieces.now in
-    let filled = HasReadRows-filled done c.args.input.now c.fill.new.input pieces rows c.in_default.ensures.filled has
+    let reader = c.args.reader.now in
+    let filled = HasReadRows-filled done c.args.input.now c.fill.new.input reader rows c.in_default.ensures.filled has
     in (
       done,
       c.in_default.ensures.read old done read,
       λ future ends.
           let follows = subst (λ (b : Bool). IsFollowedBy b future) (sym c.is_whole.ensures) ends in
           let text = done ++ (held ++ future) in
-          let given = subst (λ (l : List ℕ). HasRead text rows (behind_rows pieces (l ++ future)))
+          let given = subst (λ (l : List ℕ). HasRead text rows (behind_rows reader (l ++ future)))
           (sym c.bytes.ensures.held) (filled future ends) in
           c.in-Err-next.ensures.fault text future rows follows given,
     )

@@ -32,14 +32,14 @@ pub returns : goal.returns
 returns c =
     let inside = c.self.inside in
     let ahead = c.ahead.inside in
-    let r : Reached (Unit {0}) = reached (λ p. tt {0}) inside.pieces in
+    let r : Reached (Unit {0}) = reached (λ p. tt {0}) inside.body_reader in
     let u : ReadDetached (Unit {0}) = read_detached (λ p. tt {0}) ahead.detached in
     let view : c.args.self ≡ speculative_of inside.fault inside.line_bits inside.recorder r = search rules in
     let seen : c.args.ahead ≡ ahead_of ahead.from ahead.recorder u ahead.assigned = search rules in
     λ bytes recorded is.
     IsJoined-by_fields bytes recorded c.args.self c.args.ahead inside.fault inside.line_bits inside.recorder
     ahead.recorder r
-    (reached (λ p. tt {0}) c.join-pieces.result.0) ahead.from u
+    (reached (λ p. tt {0}) c.join-body_reader.result.0) ahead.from u
     ahead.assigned view seen is c.requires c.ended_by.result (step_in c.in_ok-step.step) c.end.new.self
-    c.ended_by.ensures c.join-pieces.ensures.behind
+    c.ended_by.ensures c.join-body_reader.ensures.behind
     c.in_ok-step.ensures.step c.in_ok-step.ensures.ended c.in_ok-step.ensures.leads

@@ -16,7 +16,7 @@ use Rattle.vme_bind.proofs.speculative_reader.SpeculativeReader.read_ahead.Goals
 pub invariant_of-ahead : goal.invariant_of-ahead
 invariant_of-ahead g c =
     let inside = c.self.inside in
-    let r : Reached (Unit {0}) = reached (λ p. tt {0}) inside.pieces in
+    let r : Reached (Unit {0}) = reached (λ p. tt {0}) inside.body_reader in
     let a : ReadDetached SpeculativeBuilderState = read_detached (λ m. m) c.in_ok-detached.detached in
     let is : IsReadDetached speculative_change speculative_instant r.nets c.args.piece.now c.new-builder.result a
     = c.in_ok-detached.ensures.read in
@@ -46,7 +46,7 @@ invariant_of-ahead g c =
 pub returns-clause-opening : goal.returns-clause-opening
 returns-clause-opening g c =
     let inside = c.self.inside in
-    let r : Reached (Unit {0}) = reached (λ p. tt {0}) inside.pieces in
+    let r : Reached (Unit {0}) = reached (λ p. tt {0}) inside.body_reader in
     let a : ReadDetached SpeculativeBuilderState = read_detached (λ m. m) c.in_ok-detached.detached in
     let is : IsReadDetached speculative_change speculative_instant r.nets c.args.piece.now c.new-builder.result a
     = c.in_ok-detached.ensures.read in
@@ -59,7 +59,7 @@ returns-clause-opening g c =
 pub returns-clause-read : goal.returns-clause-read
 returns-clause-read g c =
     let inside = c.self.inside in
-    let r : Reached (Unit {0}) = reached (λ p. tt {0}) inside.pieces in
+    let r : Reached (Unit {0}) = reached (λ p. tt {0}) inside.body_reader in
     let a : ReadDetached SpeculativeBuilderState = read_detached (λ m. m) c.in_ok-detached.detached in
     let is : IsReadDetached speculative_change speculative_instant r.nets c.args.piece.now c.new-builder.result a
     = c.in_ok-detached.ensures.read in

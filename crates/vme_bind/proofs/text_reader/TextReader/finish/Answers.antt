@@ -18,7 +18,7 @@ returns-in-Some g c =
 
 pub returns-in-Err : goal.returns-in-Err
 returns-in-Err g c =
-    let p = c.args.self.pieces in
+    let p = c.args.self.body_reader in
     CaptureFailsBy-at_end c.args.self.fault c.in-Err.fault (finished builder_change builder_instant p.codes
     (body_fold p.state.timed.visitor p.state.timed.clock) p.state.dump_section (place_of p.state.place))
     c.in-Err.ensures

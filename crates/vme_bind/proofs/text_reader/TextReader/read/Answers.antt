@@ -15,7 +15,7 @@ returns-in-Ok-clause-rest g c = λ more. ap (λ (r : Result (State BuilderState)
 
 pub returns-in-Err-clause-rest : goal.returns-in-Err-clause-rest
 returns-in-Err-clause-rest g c =
-    let p = c.args.self.pieces in
+    let p = c.args.self.body_reader in
     let read = ahead builder_change builder_instant p.codes (body_fold p.state.timed.visitor p.state.timed.clock)
     p.state.dump_section (place_of p.state.place) (tokens_from p.line c.args.piece.now) in
     CaptureFailsBy-outcome c.args.self.fault c.in-Err.fault (λ more. outcome c.args.self.fault

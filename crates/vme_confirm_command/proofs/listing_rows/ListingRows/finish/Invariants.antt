@@ -11,13 +11,13 @@ invariant-loop g l =
     record {
       gave : (old : Reading) (version : Version) (rows : List Row)
           → ListingGaveRows old version (g.L.Source.reading l.initial.rows.source) l.initial.rows.input
-          l.initial.rows.pieces
+          l.initial.rows.reader
           l.initial.rows.fault rows
           → (more : List Row) × ListingGaveRows old version (g.L.Source.reading l.rows.source) l.rows.input
-          l.rows.pieces
+          l.rows.reader
           l.rows.fault (rows ++ more)
-          × (IsOver l.initial.rows.pieces l.initial.rows.fault → more ≡ []);
-      over : IsOver l.initial.rows.pieces l.initial.rows.fault → IsOver l.rows.pieces l.rows.fault;
+          × (IsOver l.initial.rows.reader l.initial.rows.fault → more ≡ []);
+      over : IsOver l.initial.rows.reader l.initial.rows.fault → IsOver l.rows.reader l.rows.fault;
     }
 
 abbrev pub decreases-loop : goal.decreases-loop

@@ -11,7 +11,7 @@ pub next_row-requires : goal.next_row-requires
 next_row-requires g c =
     let self = c.args.self.now in
     record {
-      counted = IsCounted-AreCounted c.in-Some.pieces self.fault self.input
+      counted = IsCounted-AreCounted c.in-Some.reader self.fault self.input
           (subst (λ (p : Option RowsSoFar). AreCounted p self.fault self.input)
           (sym c.take.ensures.value ∙ c.in-Some.is) self.counted);
     }
@@ -33,7 +33,7 @@ returns-in_default-clause-over g c _ =
 pub returns-in-Ok-clause-gave : goal.returns-in-Ok-clause-gave
 returns-in-Ok-clause-gave g c old version rows gave =
     let self = c.args.self.now in
-    let so_far = c.in-Some.pieces in
+    let so_far = c.in-Some.reader in
     let now = g.L.Source.reading c.next_row.new.source in
     let none = AreCounted-no_fault so_far self.fault self.input
     (subst (λ (p : Option RowsSoFar). AreCounted p self.fault self.input) (sym c.take.ensures.value ∙ c.in-Some.is)
@@ -44,14 +44,14 @@ returns-in-Ok-clause-gave g c old version rows gave =
     (subst (λ (p : Option RowsSoFar). ListingGaveRows old version (g.L.Source.reading self.source) self.input p
     self.fault
     rows) (sym c.take.ensures.value ∙ c.in-Some.is) gave) in
-    ReadsRow-gives old version now c.next_row.new.input rows c.next_row.new.pieces self.fault none
+    ReadsRow-gives old version now c.next_row.new.input rows c.next_row.new.reader self.fault none
     (c.next_row.ensures.limit ∙ limit) (c.next_row.ensures.version ∙ same) c.in-Ok.row
     (c.in-Ok.ensures.row old rows are limit)
 
 pub returns-in-Err-clause-gave : goal.returns-in-Err-clause-gave
 returns-in-Err-clause-gave g c old version rows gave =
     let self = c.args.self.now in
-    let so_far = c.in-Some.pieces in
+    let so_far = c.in-Some.reader in
     let none = AreCounted-no_fault so_far self.fault self.input
     (subst (λ (p : Option RowsSoFar). AreCounted p self.fault self.input) (sym c.take.ensures.value ∙ c.in-Some.is)
     self.counted) in
