@@ -21,7 +21,7 @@
 //! tables can be written in a part, so can the result (`IsComposition`). [`marked_table`] gives for
 //! each memory what the summary does: the memory in which the run ends, the first break and, where
 //! they are needed, the marks (`AgreesWithRuns`). They are needed for each memory in which the
-//! table before ends (`AreNeeded`).
+//! table before ends (`AreNeeded`). It has at most one node for each memory.
 //!
 //! # What isn't proved
 //!

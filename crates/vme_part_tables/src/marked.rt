@@ -210,6 +210,7 @@ fn made_table(
         ≡ onward_outcome memories (map node_value made.nodes.items) (onward_at_of onward.now k)) }
     ensures ways { IfOk result (λ t. HasWays (table_value t)) }
     ensures counted { IfOk result (λ t. length t.entries.items ≡ memories) }
+    ensures nodes { IfOk result (λ t. length t.nodes.items ≡ length made.nodes.items) }
 {
     let count = made.nodes.len() as u32;
     let mut entries = Vec::with_capacity(alloc, memories)?;
@@ -233,8 +234,9 @@ pub fn marked_table<M: Finite>(
     needs: &[bool],
 ) -> Result<OutcomeTable, AllocError>
     requires { 0 < M.COUNT }
-    ensures { IfOk result (λ t. AgreesWithRuns true M.COUNT M.place_of (table_value t)
+    ensures agrees { IfOk result (λ t. AgreesWithRuns true M.COUNT M.place_of (table_value t)
         (λ p. if_needed (is_needed_of needs.now (M.place_of p)) (M.outcome summary.now p))) }
+    ensures few { IfOk result (λ t. length (table_value t).nodes ≤ M.COUNT) }
 {
     let mut made = Made {
         memories: M::COUNT as u32,

@@ -1,6 +1,7 @@
-use Rattle.std.proofs.Common.{ap, ◌∙◌, arith, map, rules}
-use Rattle.std.proofs.lemmas.List.{length-map}
+use Rattle.std.proofs.Common.{List, ap, ◌∙◌, arith, length, map, rules}
+use Rattle.std.proofs.lemmas.List.{length-map, length-reverse}
 use Rattle.vme_part_format.specs.Tables.{node_value}
+use Rattle.vme_part_format.specs.declared.table.TableNode.{TableNode}
 use Rattle.vme_part_tables.proofs.MarkedLemmas.{map-reverse, outcome_in-made_table, HasWays-made_table}
 use Rattle.vme_part_tables.proofs.marked.made_table.Goals as goal
 
@@ -25,3 +26,7 @@ returns-clause-ways c =
     (λ k h. rw (many, ← c.requires.memories)
     (c.loop-place.invariant.entries k (omega (arith, c.loop-place-test.false))))
     (ap (map node_value) c.reverse.ensures.items ∙ map-reverse node_value c.args.made.nodes.items)
+
+pub returns-clause-nodes : goal.returns-clause-nodes
+returns-clause-nodes c =
+    ap (λ (ns : List TableNode). length ns) c.reverse.ensures.items ∙ length-reverse c.args.made.nodes.items

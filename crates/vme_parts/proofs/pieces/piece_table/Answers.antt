@@ -14,4 +14,4 @@ returns g c =
     (λ p. if_needed (is_needed needs (place p)) (g.M.Monitor.outcome c.in_ok-summary.summary p))
     (λ p. if_needed (is_needed needs (place p)) (g.M.Monitor.run p c.args.opening.now c.args.steps.now))
     (λ p. ap (if_needed (is_needed needs (place p))) (c.in_ok-summary.ensures.stands.outcomes p)) s)
-    c.marked_table.ensures
+    c.marked_table.ensures.agrees
