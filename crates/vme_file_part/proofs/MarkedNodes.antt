@@ -5,7 +5,10 @@ use Rattle.vme_part_format.specs.Bounds.{HasNodes}
 use Rattle.vme_part_format.specs.Tables.{NodeValue, SegmentValue, TableValue}
 use Rattle.vme_part_tables.specs.Ways.{HasWays}
 use Rattle.vme_parts.specs.Buddies.{FewNodes}
-use Rattle.vme_parts.specs.OnlyWithMarks.{HaveNodes}
+use Rattle.vme_parts.specs.NodeCounts.{IsLackOfMemory}
+use Rattle.vme_parts.specs.OnlyWithMarks.{HaveNodes, IsRefusedFile}
+use Rattle.vme_parts.specs.declared.part_refusal.PartRefusal.{PartRefusal}
+use Rattle.vme_parts.specs.declared.part_refusal.PartRefusal.TheVariants as refusal
 use Rattle.vme_file_part.specs.Growing.{IsExtended}
 
 -- if c has at most as many nodes as a and b together, and these have nodes only with marks, so has c
@@ -40,3 +43,8 @@ listing-too_many_nodes false a b ways p q many =
     let none_of_a : length a.nodes ≡ 0 = ap (λ (ns : List NodeValue). length ns) p in
     let none_of_b : length b.nodes ≡ 0 = ap (λ (ns : List NodeValue). length ns) q in
     absurd (many (omega (arith, ways.few, none_of_a, none_of_b)))
+
+-- a refusal for lack of memory is true with marks and without
+pub IsRefusedFile-of_memory : (listing : Bool) (why : PartRefusal) → IsLackOfMemory why → IsRefusedFile listing why
+IsRefusedFile-of_memory listing refusal.Memory h = tt
+IsRefusedFile-of_memory listing refusal.TooManyNodes h = absurd h

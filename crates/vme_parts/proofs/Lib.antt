@@ -23,3 +23,4 @@ pub mod WholeFiles
 pub mod ToldFiles
 mod Measures
 mod PieceLemmas
+pub mod NodeCounts

@@ -1,5 +1,5 @@
 -- The tables of one file.
-use Rattle.std.specs.Prelude.{◌≡◌, Bool, List}
+use Rattle.std.specs.Prelude.{◌≡◌, ℕ, Bool, List, length}
 use Rattle.vme_trace.specs.Levels.{Levels}
 use Rattle.vme_trace.specs.Trace.{levels_after}
 use Rattle.vme_trace.specs.declared.step.Step.{Step}
@@ -13,6 +13,7 @@ use Rattle.vme_summary.specs.Runs.{known_run, handshake_run, stability_run, gran
 use Rattle.vme_part_format.specs.Bounds.{HasNodes}
 use Rattle.vme_part_format.specs.Tables.{table_value}
 use Rattle.vme_part_tables.specs.Runs.{AgreesWithRuns}
+use Rattle.vme_parts.specs.NodeCounts.{HasNodesAtMost, tables_for}
 use Rattle.vme_parts.specs.declared.made.FileTables.{FileTables}
 
 -- each of the tables has nodes only with marks (`true`)
@@ -23,8 +24,16 @@ pub record TablesHaveNodes (listing : Bool) (all : FileTables) : Type 0 where
   pub grant : HasNodes listing (table_value all.grant).nodes
   pub acknowledge : HasNodes listing (table_value all.acknowledge).nodes
 
+-- each of the tables has at most k nodes for each of its memories
+pub record TablesHaveNodesAtMost (k : ℕ) (all : FileTables) : Type 0 where
+  pub known : HasNodesAtMost 4 k (table_value all.known)
+  pub handshake : HasNodesAtMost 147 k (table_value all.handshake)
+  pub stability : HasNodesAtMost 13 k (table_value all.stability)
+  pub grant : HasNodesAtMost 35 k (table_value all.grant)
+  pub acknowledge : HasNodesAtMost 11 k (table_value all.acknowledge)
+
 -- the tables agree with the monitors' runs over the steps x from the opening o, they have nodes only with marks
--- (`listing`), and `all.left` is the levels after x
+-- (`listing`), and not too many for x, and `all.left` is the levels after x
 pub record AreTablesOf (listing : Bool) (o : Levels) (x : List Step) (all : FileTables) : Type 0 where
   pub known : AgreesWithRuns listing 4 (phase_place nil_place) (table_value all.known) (λ p. known_run p o x)
   pub handshake : AgreesWithRuns listing 147 (phase_place memory_place) (table_value all.handshake)
@@ -35,4 +44,5 @@ pub record AreTablesOf (listing : Bool) (o : Levels) (x : List Step) (all : File
   pub acknowledge : AgreesWithRuns listing 11 (phase_place acknowledge_memory_place) (table_value all.acknowledge)
       (λ p. acknowledge_run p o x)
   pub nodes : TablesHaveNodes listing all
+  pub few : TablesHaveNodesAtMost (tables_for (length x)) all
   pub left : all.left ≡ levels_after o x

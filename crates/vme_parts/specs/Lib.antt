@@ -10,4 +10,5 @@ pub mod Covering
 pub mod Telling
 pub mod Alike
 pub mod OnlyWithMarks
+pub mod NodeCounts
 pub mod FileTables

@@ -19,8 +19,9 @@
 //!
 //! - The part of a file has one segment. Its tables agree with the runs of the five monitors over
 //!   the file's steps, from each memory in which it may begin (`SegmentStandsFor`,
-//!   [`part_of_steps`]). Without marks they have no nodes (`HaveNodes`), and a file is refused only
-//!   for lack of memory (`IsRefusedFile`).
+//!   [`part_of_steps`]). Without marks they have no nodes (`HaveNodes`). With marks each has at most
+//!   n / 1024 + 2 nodes for each of its memories, for n steps (`HaveNodesAtMost`). So a file is
+//!   refused only for lack of memory (`IsLackOfMemory`).
 //! - If parts are of the files of a recording, [`join_parts`] answers a part of the same files. It
 //!   covers exactly the files that any of them covers (`JoinsParts`), and it can be written. The
 //!   joined parts are of one backplane, all have marks or none has, and no two of their segments of
@@ -37,8 +38,8 @@
 //!
 //! # What isn't proved
 //!
-//! That memory suffices. That with marks [`part_of_steps`] refuses no file for too many nodes, and
-//! [`join_parts`] no parts of files. That [`can_write`] refuses no part of a file.
+//! That memory suffices. That [`join_parts`] refuses no parts of files with marks for too many
+//! nodes. That [`can_write`] refuses no part of a file.
 //!
 //! # In which order to read
 //!

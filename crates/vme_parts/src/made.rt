@@ -12,7 +12,8 @@ ghost use Rattle.vme_part_tables.specs.Runs.{AgreesWithRuns};
 ghost use Rattle.vme_parts.specs.FileTables.{AreTablesOf};
 ghost use Rattle.vme_parts.specs.Files.{IsPartOfFile};
 ghost use Rattle.vme_parts.specs.Meeting.{ends_at, starts_at};
-ghost use Rattle.vme_parts.specs.OnlyWithMarks.{HaveNodes, IsRefusedFile};
+ghost use Rattle.vme_parts.specs.NodeCounts.{HaveNodesAtMost, IsLackOfMemory, tables_for};
+ghost use Rattle.vme_parts.specs.OnlyWithMarks.{HaveNodes};
 ghost use Rattle.vme_parts.specs.Stands.{SegmentStandsFor};
 
 use crate::part_refusal::PartRefusal;
@@ -91,7 +92,8 @@ fn bare_tables(alloc: Global, opening: &Lines, steps: &[Step]) -> Result<FileTab
 fn marked_tables(alloc: Global, opening: &Lines, steps: &[Step]) -> Result<FileTables, PartRefusal>
     requires accepted { malformed_step (record { opening = opening.now; steps = steps.now }) ≡ None }
     requires few { length steps.now ≤ 268435456 }
-    ensures { IfOk result (AreTablesOf true opening.now steps.now) }
+    ensures tables { IfOk result (AreTablesOf true opening.now steps.now) }
+    ensures refused { IfErr result IsLackOfMemory }
 {
     let known = table_with_marks::<Known>(alloc, opening, steps)?;
     let handshake = table_with_marks::<Dtb>(alloc, opening, steps)?;
@@ -119,7 +121,7 @@ fn tables_of(
     requires accepted { malformed_step (record { opening = opening.now; steps = steps.now }) ≡ None }
     requires few { length steps.now ≤ 268435456 }
     ensures tables { IfOk result (AreTablesOf listing opening.now steps.now) }
-    ensures refused { IfErr result (IsRefusedFile listing) }
+    ensures refused { IfErr result IsLackOfMemory }
 {
     if listing {
         return marked_tables(alloc, opening, steps);
@@ -163,7 +165,8 @@ fn segment_of_steps(
     ensures stands { IfOk result (λ s.
         SegmentStandsFor listing (segment_value s) (block_of number opening.now steps.now ∷ [])) }
     ensures nodes { IfOk result (λ s. HaveNodes listing (segment_value s)) }
-    ensures refused { IfErr result (IsRefusedFile listing) }
+    ensures few { IfOk result (λ s. HaveNodesAtMost (tables_for (length steps.now)) (segment_value s)) }
+    ensures refused { IfErr result IsLackOfMemory }
 {
     let first = u64::from(number);
     let times = times_of(first, steps);
@@ -198,7 +201,9 @@ pub fn part_of_steps(
     ensures listing { IfOk result (λ p. p.listing ≡ listing) }
     ensures stands { IfOk result (λ p. IsPartOfFile listing (block_of number opening.now steps.now) (part_value p)) }
     ensures nodes { IfOk result (λ p. All (HaveNodes listing) (part_value p).segments) }
-    ensures refused { IfErr result (IsRefusedFile listing) }
+    ensures few { IfOk result
+        (λ p. All (HaveNodesAtMost (tables_for (length steps.now))) (part_value p).segments) }
+    ensures refused { IfErr result IsLackOfMemory }
 {
     let segment = segment_of_steps(alloc, listing, number, opening, steps)?;
     let mut segments = Vec::new(alloc);

@@ -1,7 +1,7 @@
 //! A table with marks, made from pieces of the steps. In a piece, each memory in which the steps before may end has its
 //! own marks. Runs that end the piece in the same memory share what follows.
 
-ghost use Rattle.std.specs.Prelude.{◌≡◌, ◌+◌, ◌≤◌, ◌<◌, ◌^◌, ◌++◌, IfOk, List, None, length, true};
+ghost use Rattle.std.specs.Prelude.{◌≡◌, ◌+◌, ◌≤◌, ◌<◌, ◌^◌, ◌++◌, IfErr, IfOk, List, None, length, true};
 ghost use Rattle.vme_trace.specs.Levels.{Levels};
 ghost use Rattle.vme_trace.specs.Trace.{levels_after};
 ghost use Rattle.vme_trace.specs.WellFormed.{malformed_step};
@@ -10,6 +10,7 @@ ghost use Rattle.vme_part_format.specs.Tables.{table_value};
 ghost use Rattle.vme_part_tables.specs.Marked.{if_needed, is_needed};
 ghost use Rattle.vme_part_tables.specs.Runs.{AgreesWithRuns};
 ghost use Rattle.vme_parts.specs.Buddies.{IsTableOf};
+ghost use Rattle.vme_parts.specs.NodeCounts.{HasNodesAtMost, IsLackOfMemory, IsPartRefusal, tables_for};
 
 use crate::buddies::nodes_are_few;
 use crate::part_refusal::PartRefusal;
@@ -44,8 +45,9 @@ fn piece_table<M: Finite>(
     requires accepted { malformed_step (record { opening = opening.now; steps = steps.now }) ≡ None }
     requires few { length steps.now ≤ 268435456 }
     requires some { 0 < M.COUNT }
-    ensures { IfOk result (λ t. AgreesWithRuns true M.COUNT M.place_of (table_value t)
+    ensures agrees { IfOk result (λ t. AgreesWithRuns true M.COUNT M.place_of (table_value t)
         (λ p. if_needed (is_needed needs.now (M.place_of p)) (M.run p opening.now steps.now))) }
+    ensures few { IfOk result (λ t. length (table_value t).nodes ≤ M.COUNT) }
 {
     let summary = M::summarise(alloc, opening, steps)?;
     marked_table::<M>(alloc, &summary, needs)
@@ -64,9 +66,14 @@ fn with_piece<M: Finite>(
     requires some { 0 < M.COUNT }
     requires table { IsTableOf M.COUNT (table_value table) }
     requires fits { done + length piece.now < 2 ^ 64 }
-    ensures { IfOk result (λ t. (o : Levels) (x : List Step) → opening.now ≡ levels_after o x → done ≡ length x
+    ensures agrees { IfOk result
+        (λ t. (o : Levels) (x : List Step) → opening.now ≡ levels_after o x → done ≡ length x
         → AgreesWithRuns true M.COUNT M.place_of (table_value table) (λ p. M.run p o x)
         → AgreesWithRuns true M.COUNT M.place_of (table_value t) (λ p. M.run p o (x ++ piece.now))) }
+    ensures few { IfOk result
+        (λ t. length (table_value t).nodes ≤ length (table_value table).nodes + M.COUNT) }
+    ensures refused { IfErr result
+        (IsPartRefusal (2 ^ 32 ≤ M.COUNT + (length (table_value table).nodes + M.COUNT))) }
 {
     let needs = left_memories(alloc, &table)?;
     let next = piece_table::<M>(alloc, opening, piece, needs.as_slice())?;
@@ -86,8 +93,11 @@ pub(crate) fn table_with_marks<M: Finite>(
     requires accepted { malformed_step (record { opening = opening.now; steps = steps.now }) ≡ None }
     requires few { length steps.now ≤ 268435456 }
     requires some { 0 < M.COUNT }
-    ensures { IfOk result (λ t. AgreesWithRuns true M.COUNT M.place_of (table_value t)
+    ensures agrees { IfOk result (λ t. AgreesWithRuns true M.COUNT M.place_of (table_value t)
         (λ p. M.run p opening.now steps.now)) }
+    ensures few { IfOk result
+        (λ t. HasNodesAtMost M.COUNT (tables_for (length steps.now)) (table_value t)) }
+    ensures refused { IfErr result IsLackOfMemory }
 {
     let mut table = piece_table::<M>(alloc, opening, &steps[..0], &[])?;
     let mut lines = *opening;
@@ -95,7 +105,10 @@ pub(crate) fn table_with_marks<M: Finite>(
     while done < steps.len() {
         let end = steps.len().min(done + PIECE);
         let piece = &steps[done..end];
-        table = with_piece::<M>(alloc, table, done, &lines, piece)?;
+        table = match with_piece::<M>(alloc, table, done, &lines, piece) {
+            Ok(grown) => grown,
+            Err(why) => return Err(why),
+        };
         lines = lines_after(&lines, piece);
         done = end;
     }

@@ -1,4 +1,5 @@
--- The tables are of the runs without marks.
+-- The tables are of the runs without marks, and have no nodes.
+use Rattle.std.proofs.Common.{length}
 use Rattle.vme_monitor.specs.OverStretches.{observed, phase_place, phase_step}
 use Rattle.vme_monitor.specs.Run.{no_step_marks}
 use Rattle.vme_monitor.specs.KnownRules.{known_begin, known_end_fault, known_next, known_start_marks, known_reset_marks}
@@ -14,6 +15,9 @@ use Rattle.vme_chains.specs.AcknowledgeRules.{acknowledge_begin, acknowledge_end
 use Rattle.vme_chains.specs.AcknowledgeRules.{acknowledge_start_marks, acknowledge_observation}
 use Rattle.vme_chains.specs.AcknowledgeRules.{acknowledge_memory_place}
 use Rattle.vme_summary.specs.Runs.{known_run, handshake_run, stability_run, grant_run, acknowledge_run}
+use Rattle.vme_part_format.specs.Tables.{table_value}
+use Rattle.vme_parts.specs.NodeCounts.{tables_for}
+use Rattle.vme_parts.proofs.NodeCounts.{HasNodesAtMost-none}
 use Rattle.vme_parts.proofs.Unmarked.{AgreesWithRuns-unmarked_summary}
 use Rattle.vme_parts.proofs.made.bare_tables.Goals as goal
 
@@ -22,6 +26,7 @@ unfolding known_run handshake_run stability_run grant_run acknowledge_run
 returns c =
     let o = c.args.opening.now in
     let x = c.args.steps.now in
+    let k = tables_for (length x) in
     let all = c.in_ok-summaries.ensures in
     record {
       known = AgreesWithRuns-unmarked_summary (observed known_observation)
@@ -45,6 +50,16 @@ returns c =
         stability = c.in_ok-stability.ensures.none;
         grant = c.in_ok-grant.ensures.none;
         acknowledge = c.in_ok-acknowledge.ensures.none;
+      };
+      few = record {
+        known = HasNodesAtMost-none 4 k (table_value c.in_ok-known.known) c.in_ok-known.ensures.none;
+        handshake = HasNodesAtMost-none 147 k (table_value c.in_ok-handshake.handshake)
+            c.in_ok-handshake.ensures.none;
+        stability = HasNodesAtMost-none 13 k (table_value c.in_ok-stability.stability)
+            c.in_ok-stability.ensures.none;
+        grant = HasNodesAtMost-none 35 k (table_value c.in_ok-grant.grant) c.in_ok-grant.ensures.none;
+        acknowledge = HasNodesAtMost-none 11 k (table_value c.in_ok-acknowledge.acknowledge)
+            c.in_ok-acknowledge.ensures.none;
       };
       left = all.left;
     }

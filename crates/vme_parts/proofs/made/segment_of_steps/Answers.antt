@@ -21,3 +21,14 @@ returns-clause-nodes c =
       grant = nodes.grant;
       acknowledge = nodes.acknowledge;
     }
+
+pub returns-clause-few : goal.returns-clause-few
+returns-clause-few c =
+    let few = c.in_ok-tables.ensures.tables.few in
+    record {
+      known = few.known;
+      handshake = few.handshake;
+      stability = few.stability;
+      grant = few.grant;
+      acknowledge = few.acknowledge;
+    }

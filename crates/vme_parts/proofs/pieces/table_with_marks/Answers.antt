@@ -1,12 +1,13 @@
 use Rattle.std.proofs.Common.{◌≡◌, ◌+◌, ◌-◌, ◌≤◌, List, [], None, true, length, take, drop, refl, ap, sym, ◌∙◌}
 use Rattle.std.proofs.Common.{subst, arith}
-use Rattle.std.proofs.lemmas.List.{length-take-le}
+use Rattle.std.proofs.lemmas.List.{length-take-le, take_all}
 use Rattle.vme_trace.specs.Levels.{Levels}
 use Rattle.vme_trace.specs.Trace.{levels_after}
 use Rattle.vme_trace.specs.WellFormed.{malformed_step}
 use Rattle.vme_trace.specs.declared.step.Step.{Step}
 use Rattle.vme_part_format.specs.Tables.{table_value}
 use Rattle.vme_part_tables.specs.Runs.{AgreesWithRuns}
+use Rattle.vme_parts.proofs.NodeCounts.{HasPieces-all, HasPieces-more, HasPieces-none, IsLackOfMemory-few_pieces}
 use Rattle.vme_parts.proofs.PieceLemmas.{AgreesWithRuns-no_steps, malformed_step-no_steps, levels_after-piece}
 use Rattle.vme_parts.proofs.PieceLemmas.{take-piece, malformed_step-piece}
 use Rattle.vme_parts.proofs.pieces.table_with_marks.Goals as goal
@@ -30,7 +31,9 @@ loop-done-init g c =
       within = omega arith;
       lines = refl;
       agrees = AgreesWithRuns-no_steps g.M.Finite.place_of g.M.Finite.COUNT (table_value c.in_ok-table.table) []
-          (λ p. g.M.Monitor.run p o []) (λ p. g.met.M.Monitor.nothing p o) c.in_ok-table.ensures;
+          (λ p. g.M.Monitor.run p o []) (λ p. g.met.M.Monitor.nothing p o) c.in_ok-table.ensures.agrees;
+      few = HasPieces-none g.M.Finite.COUNT (length c.args.steps.now) (table_value c.in_ok-table.table)
+          c.in_ok-table.ensures.few;
     }
 
 pub loop-done-preserved : goal.loop-done-preserved
@@ -49,7 +52,29 @@ loop-done-preserved g c =
           ∙ levels_after-piece o xs n k c.min-end.result up);
       agrees = subst
           (λ (ys : List Step). AgreesWithRuns true g.M.Finite.COUNT g.M.Finite.place_of
-          (table_value c.in_ok-table-2.table)
+          (table_value c.in-Ok.grown)
           (λ p. g.M.Monitor.run p o ys)) (take-piece xs n k c.min-end.result up)
-          (c.in_ok-table-2.ensures o (take n xs) c.loop-done.invariant.lines (sym many) c.loop-done.invariant.agrees);
+          (c.in-Ok.ensures.agrees o (take n xs) c.loop-done.invariant.lines (sym many) c.loop-done.invariant.agrees);
+      few = HasPieces-more g.M.Finite.COUNT n c.min-end.result (length xs) (table_value c.loop-done.table)
+          (table_value c.in-Ok.grown) (omega (arith, c.loop-done-test.true))
+          (omega (arith, c.min-end.ensures, c.loop-done-test.true)) (omega (arith, c.min-end.ensures))
+          c.in-Ok.ensures.few c.loop-done.invariant.few;
     }
+
+pub returns-in-Err-clause-refused : goal.returns-in-Err-clause-refused
+returns-in-Err-clause-refused g c =
+    IsLackOfMemory-few_pieces g.M.Finite.COUNT c.loop-done.done (length c.args.steps.now)
+    (table_value c.loop-done.table) c.in-Err.why (omega (arith, g.met.M.Finite.few)) c.requires.few
+    (omega (arith, c.loop-done-test.true)) c.loop-done.invariant.few c.in-Err.ensures.refused
+
+pub returns-clause-agrees : goal.returns-clause-agrees
+returns-clause-agrees g c =
+    subst
+    (λ (ys : List Step). AgreesWithRuns true g.M.Finite.COUNT g.M.Finite.place_of (table_value c.loop-done.table)
+    (λ p. g.M.Monitor.run p c.args.opening.now ys))
+    (take_all c.loop-done.done c.args.steps.now (omega (arith, c.loop-done-test.false))) c.loop-done.invariant.agrees
+
+pub returns-clause-few : goal.returns-clause-few
+returns-clause-few g c =
+    HasPieces-all g.M.Finite.COUNT c.loop-done.done (length c.args.steps.now) (table_value c.loop-done.table)
+    c.loop-done.invariant.within c.loop-done.invariant.few
