@@ -1,3 +1,4 @@
 mod MarkedNodes
+mod CountedNodes
 pub mod GrownFile
 pub mod SoFar

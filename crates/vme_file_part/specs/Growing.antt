@@ -1,5 +1,5 @@
 -- A file whose steps are given some at a time.
-use Rattle.std.specs.Prelude.{◌≡◌, ℕ, ◌+◌, ◌<◌, ◌≤◌, Bool, List, [], ◌∷◌, length, Option, None, Some}
+use Rattle.std.specs.Prelude.{◌≡◌, ℕ, ◌+◌, ◌*◌, ◌^◌, ◌<◌, ◌≤◌, Bool, List, [], ◌∷◌, length, Option, None, Some}
 use Rattle.vme_trace.specs.Followed.{with_steps}
 use Rattle.vme_trace.specs.Levels.{Levels}
 use Rattle.vme_trace.specs.Trace.{Trace}
@@ -11,6 +11,7 @@ use Rattle.vme_part_format.specs.declared.segment.Segment.{Segment}
 use Rattle.vme_part_tables.specs.Runs.{IsComposition}
 use Rattle.vme_parts.specs.Joined.{joined_times}
 use Rattle.vme_file_part.specs.FileOf.{file_of}
+use Rattle.vme_parts.specs.NodeCounts.{HaveNodesAtMost}
 use Rattle.vme_parts.specs.OnlyWithMarks.{HaveNodes}
 use Rattle.vme_parts.specs.Stands.{SegmentStandsFor}
 use Rattle.vme_file_part.specs.declared.file_so_far.FileSoFar.{FileSoFar}
@@ -60,3 +61,17 @@ pub record IsFileSoFar (number : ℕ) (listing : Bool) (start : Option ℕ) (f :
   pub listing_is : f.listing ≡ listing
   pub start_is : f.start ≡ start
   pub found : IsFoundIn number listing start f.opening f.segment t
+
+-- each table of the segment, if there is one, has at most k nodes for each of its memories
+abbrev pub HaveNodesSoFar : ℕ → Option Segment → Type 0
+HaveNodesSoFar k None = Unit {0}
+HaveNodesSoFar k (Some s) = HaveNodesAtMost k (segment_value s)
+
+-- each table of the file f so far has at most k nodes for each of its memories
+abbrev pub FileHasNodesAtMost : ℕ → FileSoFar → Type 0
+FileHasNodesAtMost k f = HaveNodesSoFar k f.segment
+
+-- k nodes for each memory may be too many: 32 bits can't number them and the memories, where there are 147, the most
+-- that a monitor has
+abbrev pub AreTooManyNodes : ℕ → Type 0
+AreTooManyNodes k = 2 ^ 32 ≤ 147 * (k + 1)

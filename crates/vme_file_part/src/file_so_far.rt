@@ -11,9 +11,10 @@ ghost use Rattle.vme_summary.specs.Joins.{block_of};
 ghost use Rattle.vme_part_format.specs.Tables.{part_value, segment_value};
 ghost use Rattle.vme_parts.specs.Buddies.{HasTables};
 ghost use Rattle.vme_parts.specs.Files.{IsPartOfFile};
+ghost use Rattle.vme_parts.specs.NodeCounts.{HaveNodesAtMost, IsLackOfMemory, IsPartRefusal, tables_for};
 ghost use Rattle.vme_parts.specs.OnlyWithMarks.{HaveNodes, IsRefusedFile};
 ghost use Rattle.vme_file_part.specs.Growing.{IsExtended, IsFileSoFar, IsFoundOfFile, IsFoundIn, FileMayGoOn};
-ghost use Rattle.vme_file_part.specs.Growing.{StandsForFile};
+ghost use Rattle.vme_file_part.specs.Growing.{AreTooManyNodes, FileHasNodesAtMost, HaveNodesSoFar, StandsForFile};
 ghost use Rattle.vme_file_part.specs.FileOf.{file_of};
 
 use crate::segments::{joined_table, later_times, segment_of};
@@ -44,6 +45,8 @@ fn extended(alloc: Global, first: Segment, second: Segment) -> Result<Segment, P
     ensures extends { IfOk result (λ r. IsExtended (segment_value first) (segment_value second) (segment_value r)) }
     ensures refused { (listing : Bool) → HaveNodes listing (segment_value first)
         → HaveNodes listing (segment_value second) → IfErr result (IsRefusedFile listing) }
+    ensures many { (k j : ℕ) → HaveNodesAtMost k (segment_value first) → HaveNodesAtMost j (segment_value second)
+        → IfErr result (IsPartRefusal (AreTooManyNodes (k + j))) }
 {
     let by = first.steps;
     let known = joined_table(alloc, first.known, second.known, by)?;
@@ -79,7 +82,11 @@ fn with_more(
     ensures stands { (o : Levels) (x : List Step) → StandsForFile listing (segment_value segment) (block_of number o x)
         → FileMayGoOn (record { opening = o; steps = x }) steps.now
         → IfOk result (λ s. StandsForFile listing (segment_value s) (block_of number o (x ++ steps.now))) }
+    ensures nodes { (k : ℕ) → HaveNodesAtMost k (segment_value segment)
+        → IfOk result (λ s. HaveNodesAtMost (k + tables_for (length steps.now)) (segment_value s)) }
     ensures refused { IfErr result (IsRefusedFile listing) }
+    ensures many { (k : ℕ) → HaveNodesAtMost k (segment_value segment)
+        → IfErr result (IsPartRefusal (AreTooManyNodes (k + tables_for (length steps.now)))) }
 {
     let more = segment_of(alloc, listing, number, &segment.left, steps)?;
     extended(alloc, segment, more)
@@ -97,7 +104,8 @@ fn begun(
     requires { FileMayGoOn (record { opening = opening.now; steps = [] }) steps.now }
     ensures stands { IfOk result (λ s. StandsForFile listing (segment_value s)
         (file_of number start (record { opening = opening.now; steps = steps.now }))) }
-    ensures refused { IfErr result (IsRefusedFile listing) }
+    ensures few { IfOk result (λ s. HaveNodesAtMost (tables_for (length steps.now)) (segment_value s)) }
+    ensures refused { IfErr result IsLackOfMemory }
 {
     let mut opening = *opening;
     let steps = steps_of_file(number, start, &mut opening, steps);
@@ -119,7 +127,11 @@ fn segment_with(
     requires found { (t : Trace) × IsFoundIn number listing start opening.now segment t × FileMayGoOn t steps.now }
     ensures found { (t : Trace) → IsFoundIn number listing start opening.now segment t → FileMayGoOn t steps.now
         → IfOk result (λ s. IsFoundOfFile number listing start (Some s) (with_steps t steps.now)) }
+    ensures nodes { (k : ℕ) → HaveNodesSoFar k segment
+        → IfOk result (λ s. HaveNodesAtMost (k + tables_for (length steps.now)) (segment_value s)) }
     ensures refused { IfErr result (IsRefusedFile listing) }
+    ensures many { (k : ℕ) → HaveNodesSoFar k segment
+        → IfErr result (IsPartRefusal (AreTooManyNodes (k + tables_for (length steps.now)))) }
 {
     match segment {
         Some(segment) => with_more(alloc, listing, number, segment, steps),
@@ -140,7 +152,7 @@ fn whole_segment(
     ensures stands { (start : Option ℕ) (t : Trace) → IsFoundIn number listing start opening.now segment t
         → malformed_step t ≡ None
         → IfOk result (λ s. StandsForFile listing (segment_value s) (file_of number start t)) }
-    ensures refused { IfErr result (IsRefusedFile listing) }
+    ensures refused { IfErr result IsLackOfMemory }
 {
     match segment {
         Some(segment) => Ok(segment),
@@ -161,7 +173,7 @@ fn part_with(
     ensures backplane { IfOk result (λ p. p.backplane ≡ backplane) }
     ensures listing { IfOk result (λ p. p.listing ≡ listing) }
     ensures one { IfOk result (λ p. (part_value p).segments ≡ segment_value segment ∷ []) }
-    ensures refused { IfErr result (IsRefusedFile listing) }
+    ensures refused { IfErr result IsLackOfMemory }
 {
     let mut segments = Vec::new(alloc);
     segments.push(segment)?;
@@ -176,7 +188,8 @@ impl FileSoFar {
     /// The file `number`, without steps so far. Its dump has the first time `start`, if it has one, and the levels
     /// `opening` before any change.
     pub fn new(number: u32, listing: bool, start: Option<u64>, opening: &Lines) -> FileSoFar
-        ensures { IsFileSoFar number listing start result (record { opening = opening.now; steps = [] }) }
+        ensures so_far { IsFileSoFar number listing start result (record { opening = opening.now; steps = [] }) }
+        ensures none { FileHasNodesAtMost 0 result }
     {
         FileSoFar {
             number,
@@ -194,8 +207,12 @@ impl FileSoFar {
         ensures so_far { (number : ℕ) (listing : Bool) (start : Option ℕ) (t : Trace)
             → IsFileSoFar number listing start self t → FileMayGoOn t steps.now
             → IfOk result (λ f. IsFileSoFar number listing start f (with_steps t steps.now)) }
+        ensures nodes { (k : ℕ) → FileHasNodesAtMost k self
+            → IfOk result (FileHasNodesAtMost (k + tables_for (length steps.now))) }
         ensures refused { (number : ℕ) (listing : Bool) (start : Option ℕ) (t : Trace)
             → IsFileSoFar number listing start self t → IfErr result (IsRefusedFile listing) }
+        ensures many { (k : ℕ) → FileHasNodesAtMost k self
+            → IfErr result (IsPartRefusal (AreTooManyNodes (k + tables_for (length steps.now)))) }
     {
         if steps.is_empty() {
             return Ok(self);
@@ -226,8 +243,7 @@ impl FileSoFar {
         ensures stands { (number : ℕ) (listing : Bool) (start : Option ℕ) (t : Trace)
             → IsFileSoFar number listing start self t → malformed_step t ≡ None
             → IfOk result (λ p. IsPartOfFile listing (file_of number start t) (part_value p)) }
-        ensures refused { (number : ℕ) (listing : Bool) (start : Option ℕ) (t : Trace)
-            → IsFileSoFar number listing start self t → IfErr result (IsRefusedFile listing) }
+        ensures refused { IfErr result IsLackOfMemory }
     {
         let FileSoFar {
             number,

@@ -6,8 +6,9 @@ ghost use Rattle.vme_summary.specs.Joins.{block_of};
 ghost use Rattle.vme_part_format.specs.Bounds.{HasNodes};
 ghost use Rattle.vme_part_format.specs.Tables.{part_value, segment_value, table_value};
 ghost use Rattle.vme_part_tables.specs.Runs.{IsComposition};
-ghost use Rattle.vme_parts.specs.Buddies.{IsTableOf};
+ghost use Rattle.vme_parts.specs.Buddies.{FewNodes, IsTableOf};
 ghost use Rattle.vme_parts.specs.Joined.{joined_times};
+ghost use Rattle.vme_parts.specs.NodeCounts.{HaveNodesAtMost, IsLackOfMemory, IsPartRefusal, tables_for};
 ghost use Rattle.vme_parts.specs.OnlyWithMarks.{IsRefusedFile};
 ghost use Rattle.vme_file_part.specs.Growing.{StandsForFile};
 
@@ -45,7 +46,8 @@ pub(crate) fn segment_of(
     requires few { length steps.now ≤ 268435456 }
     ensures stands { IfOk result
         (λ s. StandsForFile listing (segment_value s) (block_of number opening.now steps.now)) }
-    ensures refused { IfErr result (IsRefusedFile listing) }
+    ensures few { IfOk result (λ s. HaveNodesAtMost (tables_for (length steps.now)) (segment_value s)) }
+    ensures refused { IfErr result IsLackOfMemory }
 {
     let part = part_of_steps(alloc, 0, listing, number, opening, steps)?;
     Ok(only_segment(part))
@@ -62,6 +64,7 @@ pub(crate) fn joined_table(
     ensures joins { IfOk result (λ t. IsComposition steps (table_value first) (table_value second) (table_value t)) }
     ensures refused { (listing : Bool) → HasNodes listing (table_value first).nodes
         → HasNodes listing (table_value second).nodes → IfErr result (IsRefusedFile listing) }
+    ensures many { IfErr result (IsPartRefusal (FewNodes (table_value first) (table_value second) → ⊥)) }
 {
     if !are_few_together(&first, &second) {
         return Err(PartRefusal::TooManyNodes);

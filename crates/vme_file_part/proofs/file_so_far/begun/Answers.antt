@@ -1,13 +1,16 @@
 -- The first step may belong to the opening.
-use Rattle.std.proofs.Common.{List, ap, subst, arith, ◌∙◌}
+use Rattle.std.proofs.Common.{List, ap, length, subst, arith, ◌∙◌}
 use Rattle.std.specs.Prelude.{IfOk}
+use Rattle.std.proofs.lemmas.Result.{IfOk-weaker}
 use Rattle.vme_trace.specs.Levels.{Levels}
 use Rattle.vme_trace.specs.declared.block.Block.{Block}
 use Rattle.vme_trace.specs.declared.step.Step.{Step}
 use Rattle.vme_summary.specs.Joins.{block_of}
 use Rattle.vme_part_format.specs.Tables.{segment_value}
+use Rattle.vme_parts.specs.NodeCounts.{tables_for}
 use Rattle.vme_parts.specs.Opened.{opening_of}
 use Rattle.vme_file_part.specs.Growing.{StandsForFile}
+use Rattle.vme_file_part.proofs.CountedNodes.{HaveNodesAtMost-more}
 use Rattle.vme_file_part.proofs.file_so_far.begun.Goals as goal
 
 pub segment_of-requires-clause-accepted : goal.segment_of-requires-clause-accepted
@@ -29,3 +32,10 @@ returns-clause-stands c =
 
 pub returns-clause-refused : goal.returns-clause-refused
 returns-clause-refused c = c.segment_of.ensures.refused
+
+pub returns-clause-few : goal.returns-clause-few
+returns-clause-few c =
+    let rest = c.steps_of_file-steps.result.now in
+    IfOk-weaker c.segment_of.result _ _
+    (λ s few. HaveNodesAtMost-more (tables_for (length rest)) (tables_for (length c.args.steps.now)) (segment_value s)
+    (omega (arith, c.steps_of_file-steps.ensures.few)) few) c.segment_of.ensures.few

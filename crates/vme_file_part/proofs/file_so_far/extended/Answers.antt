@@ -1,5 +1,7 @@
-use Rattle.std.proofs.Common.{refl}
+use Rattle.std.proofs.Common.{arith, refl}
 use Rattle.std.proofs.lemmas.Result.{err_from_is_err_and}
+use Rattle.vme_part_format.specs.Tables.{table_value}
+use Rattle.vme_file_part.proofs.CountedNodes.{IsPartRefusal-not_few}
 use Rattle.vme_file_part.proofs.file_so_far.extended.Goals as goal
 
 -- 4, 147, 13, 35 and 11 are the numbers of memories (states) of the five monitors
@@ -59,3 +61,39 @@ returns-in_err-acknowledge-clause-refused c listing a b =
     let p = err_from_is_err_and c.from_residual-in_err-acknowledge.result
     c.from_residual-in_err-acknowledge.ensures.1 in
     rw (p.1, p.2) (c.in_err-acknowledge.ensures.refused listing a.acknowledge b.acknowledge)
+
+pub returns-in_err-known-clause-many : goal.returns-in_err-known-clause-many
+returns-in_err-known-clause-many c k j a b =
+    let p = err_from_is_err_and c.from_residual.result c.from_residual.ensures.1 in
+    rw (p.1, p.2) (IsPartRefusal-not_few 4 k j (table_value c.args.first.known)
+    (table_value c.args.second.known) c.in_err-known.field-0.0 c.requires.first.known (omega arith)
+    a.known b.known c.in_err-known.ensures.many)
+
+pub returns-in_err-handshake-clause-many : goal.returns-in_err-handshake-clause-many
+returns-in_err-handshake-clause-many c k j a b =
+    let p = err_from_is_err_and c.from_residual-in_err-handshake.result c.from_residual-in_err-handshake.ensures.1 in
+    rw (p.1, p.2) (IsPartRefusal-not_few 147 k j (table_value c.args.first.handshake)
+    (table_value c.args.second.handshake) c.in_err-handshake.field-0.0 c.requires.first.handshake (omega arith)
+    a.handshake b.handshake c.in_err-handshake.ensures.many)
+
+pub returns-in_err-stability-clause-many : goal.returns-in_err-stability-clause-many
+returns-in_err-stability-clause-many c k j a b =
+    let p = err_from_is_err_and c.from_residual-in_err-stability.result c.from_residual-in_err-stability.ensures.1 in
+    rw (p.1, p.2) (IsPartRefusal-not_few 13 k j (table_value c.args.first.stability)
+    (table_value c.args.second.stability) c.in_err-stability.field-0.0 c.requires.first.stability (omega arith)
+    a.stability b.stability c.in_err-stability.ensures.many)
+
+pub returns-in_err-grant-clause-many : goal.returns-in_err-grant-clause-many
+returns-in_err-grant-clause-many c k j a b =
+    let p = err_from_is_err_and c.from_residual-in_err-grant.result c.from_residual-in_err-grant.ensures.1 in
+    rw (p.1, p.2) (IsPartRefusal-not_few 35 k j (table_value c.args.first.grant)
+    (table_value c.args.second.grant) c.in_err-grant.field-0.0 c.requires.first.grant (omega arith)
+    a.grant b.grant c.in_err-grant.ensures.many)
+
+pub returns-in_err-acknowledge-clause-many : goal.returns-in_err-acknowledge-clause-many
+returns-in_err-acknowledge-clause-many c k j a b =
+    let p = err_from_is_err_and c.from_residual-in_err-acknowledge.result
+    c.from_residual-in_err-acknowledge.ensures.1 in
+    rw (p.1, p.2) (IsPartRefusal-not_few 11 k j (table_value c.args.first.acknowledge)
+    (table_value c.args.second.acknowledge) c.in_err-acknowledge.field-0.0 c.requires.first.acknowledge (omega arith)
+    a.acknowledge b.acknowledge c.in_err-acknowledge.ensures.many)

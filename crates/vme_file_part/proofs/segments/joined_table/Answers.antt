@@ -1,8 +1,8 @@
-use Rattle.std.proofs.Common.{◌≡◌, ◌+◌, ◌<◌, ◌^◌, true, length, map, arith}
-use Rattle.std.proofs.lemmas.Bool.{both_ways}
+use Rattle.std.proofs.Common.{arith}
 use Rattle.std.proofs.lemmas.List.{length-map}
 use Rattle.vme_part_format.specs.Tables.{node_value, table_value}
 use Rattle.vme_parts.proofs.Halves.{CanCompose-few_nodes}
+use Rattle.vme_file_part.proofs.CountedNodes.{not_few-by_test}
 use Rattle.vme_file_part.proofs.MarkedNodes.{listing-too_many_nodes}
 use Rattle.vme_file_part.proofs.segments.joined_table.Goals as goal
 
@@ -23,12 +23,11 @@ composed-requires c =
 pub returns-then-not-are_few_together-clause-refused : goal.returns-then-not-are_few_together-clause-refused
 returns-then-not-are_few_together-clause-refused c listing p q =
     let (n, s, t) = c.requires in
-    let a = c.args.first in
-    let b = c.args.second in
-    listing-too_many_nodes listing (table_value a) (table_value b) s.ways p q
-    (λ few.
-    let within : length a.entries.items
-    + (length (map node_value a.nodes.items) + length (map node_value b.nodes.items)) < 2 ^ 32 = few in
-    let yes : c.are_few_together.result ≡ true = c.are_few_together.ensures.1
-    (omega (arith, within, length-map a.nodes.items node_value, length-map b.nodes.items node_value)) in
-    both_ways c.are_few_together.result c.if-not-are_few_together.true yes)
+    listing-too_many_nodes listing (table_value c.args.first) (table_value c.args.second) s.ways p q
+    (not_few-by_test c.args.first c.args.second c.are_few_together.result c.are_few_together.ensures.1
+    c.if-not-are_few_together.true)
+
+pub returns-then-not-are_few_together-clause-many : goal.returns-then-not-are_few_together-clause-many
+returns-then-not-are_few_together-clause-many c =
+    not_few-by_test c.args.first c.args.second c.are_few_together.result c.are_few_together.ensures.1
+    c.if-not-are_few_together.true

@@ -1,12 +1,11 @@
--- A part is refused for too many marks only if it has marks.
+-- A part is never refused for too many nodes.
 use Rattle.std.proofs.Common.{subst}
-use Rattle.vme_parts.specs.OnlyWithMarks.{IsRefusedFile}
+use Rattle.vme_parts.specs.NodeCounts.{IsLackOfMemory}
 use Rattle.vme_parts.specs.declared.part_refusal.PartRefusal.{PartRefusal}
 use Rattle.vme_part_command.proofs.file_check.part_in.Goals as goal
 
 pub returns-in-Err-TooManyNodes : goal.returns-in-Err-TooManyNodes
-returns-in-Err-TooManyNodes c number listing start t h sound within = (
-  within,
-  subst (λ (why : PartRefusal). IsRefusedFile listing why) c.in-Err-TooManyNodes.field-0-is
-      (c.in-Err-TooManyNodes.ensures.refused number listing start t h),
-)
+returns-in-Err-TooManyNodes c number listing start t h sound within =
+    absurd
+    (subst (λ (why : PartRefusal). IsLackOfMemory why) c.in-Err-TooManyNodes.field-0-is
+    c.in-Err-TooManyNodes.ensures.refused)

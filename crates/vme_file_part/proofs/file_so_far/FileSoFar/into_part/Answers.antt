@@ -1,8 +1,5 @@
-use Rattle.std.proofs.Common.{Bool, subst}
-use Rattle.std.specs.Prelude.{IfErr}
 use Rattle.std.proofs.lemmas.Result.{IfOk-weaker, err_from_is_err_and}
 use Rattle.vme_part_format.specs.Tables.{part_value, segment_value}
-use Rattle.vme_parts.specs.OnlyWithMarks.{IsRefusedFile}
 use Rattle.vme_file_part.proofs.SoFar.{IsFoundIn-file, IsPartOfFile-file}
 use Rattle.vme_file_part.proofs.file_so_far.FileSoFar.into_part.Goals as goal
 
@@ -20,11 +17,9 @@ returns-clause-stands c number listing start t h sound =
     one) c.part_with.ensures.one
 
 pub returns-in_err-segment-clause-refused : goal.returns-in_err-segment-clause-refused
-returns-in_err-segment-clause-refused c number listing start t h =
+returns-in_err-segment-clause-refused c =
     let p = err_from_is_err_and c.from_residual.result c.from_residual.ensures.1 in
-    rw (p.1, p.2) (subst (λ (l : Bool). IsRefusedFile l c.in_err-segment.field-0.0) h.listing_is
-    c.in_err-segment.ensures.refused)
+    rw (p.1, p.2) c.in_err-segment.ensures.refused
 
 pub returns-clause-refused : goal.returns-clause-refused
-returns-clause-refused c number listing start t h =
-    subst (λ (l : Bool). IfErr c.part_with.result (IsRefusedFile l)) h.listing_is c.part_with.ensures.refused
+returns-clause-refused c = c.part_with.ensures.refused

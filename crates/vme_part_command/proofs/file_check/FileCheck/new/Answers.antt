@@ -12,6 +12,6 @@ returns-clause-taken c =
       record {
         judged = first;
         all = ap (λ (l : List Step). with_steps first l) c.new-2.ensures.items;
-        found = c.new.ensures;
+        found = c.new.ensures.so_far;
       },
     )
