@@ -1,6 +1,6 @@
 -- The steps of one file are counted and judged as they are read: what is pending, and what holds when all have been
 -- judged.
-use Rattle.std.proofs.Common.{◌≡◌, ℕ, ◌+◌, ◌≤◌, ◌<◌, Bool, true, false, List, ◌++◌, length, Option, refl, arith}
+use Rattle.std.proofs.Common.{◌≡◌, ℕ, ◌+◌, ◌*◌, ◌≤◌, ◌<◌, Bool, true, false, List, ◌++◌, length, Option, refl, arith}
 use Rattle.std.proofs.Common.{length-append, append_assoc, ap, sym, subst, ◌∙◌, take, drop, take-append-drop}
 use Rattle.std.specs.Prelude.{Ok, Err, nat_lt}
 use Rattle.std.specs.Global.{Vec}
@@ -9,13 +9,14 @@ use Rattle.vme_trace.specs.Trace.{Trace}
 use Rattle.vme_trace.specs.Followed.{with_steps}
 use Rattle.vme_trace.specs.WellFormed.{capture_limit, malformed_step}
 use Rattle.vme_trace.specs.declared.step.Step.{Step}
-use Rattle.std.specs.Prelude.{None}
+use Rattle.std.specs.Prelude.{None, Some}
 use Rattle.vme_bind.specs.Capture.{limited}
 use Rattle.vme_bind.specs.declared.fault.BindFaultKind.TheVariants.{TooManySteps}
-use Rattle.vme_file_part.specs.Growing.{FileMayGoOn}
+use Rattle.vme_parts.specs.NodeCounts.{tables_for}
+use Rattle.vme_file_part.specs.Growing.{AreTooManyNodes, FileHasNodesAtMost, FileMayGoOn}
 use Rattle.vme_file_part.specs.declared.file_so_far.FileSoFar.{FileSoFar}
 use Rattle.vme_summary.proofs.Sound.{SoundParts-of_well_formed}
-use Rattle.vme_part_command.specs.FileChecks.{FileComesTo, IsFoundSoFar, IsPending, MayBeJudged}
+use Rattle.vme_part_command.specs.FileChecks.{FileComesTo, HasFewNodes, IsFoundSoFar, IsPending, MayBeJudged}
 
 module _ (number : ℕ) (listing : Bool) (start : Option ℕ) (file : Option FileSoFar) (pending : List Step) where
   -- if t has too many steps, or the count with `steps` is over the limit, t with `steps` has too many
@@ -56,6 +57,7 @@ module _ (number : ℕ) (listing : Bool) (start : Option ℕ) (file : Option Fil
       all = ap (λ (l : List Step). record p.judged { steps = l }) (sym (append_assoc p.judged.steps pending steps))
           ∙ ap (λ (u : Trace). with_steps u steps) p.all;
       found = p.found;
+      few = p.few;
     }
 
     -- if t may be judged, the judged steps may go on with the pending ones
@@ -96,12 +98,30 @@ module _ (number : ℕ) (listing : Bool) (start : Option ℕ) (file : Option Fil
       -- after judging the first n pending steps, the others are pending
       pub IsPending-after_judging : (next : Option FileSoFar)
           → IsFoundSoFar number listing start next (with_steps p.judged (take n pending))
+          → HasFewNodes next (with_steps p.judged (take n pending))
           → IsPending number listing start next (drop n pending) t
-      IsPending-after_judging next found = record {
+      IsPending-after_judging next found few = record {
         judged = with_steps p.judged (take n pending);
         all = with_steps-judged_and_pending;
         found = found;
+        few = few;
       }
+
+-- ---- the nodes of a file
+
+-- a file with few nodes that goes on within the limit doesn't have too many
+pub not_too_many-within_limit : (k : ℕ) (t : Trace) (steps : List Step) → 16384 * k ≤ 18 * length t.steps
+    → FileMayGoOn t steps
+    → AreTooManyNodes (k + tables_for (length steps)) → ⊥
+not_too_many-within_limit k t steps few may many = omega (arith, few, may.few, many)
+
+-- a file with few nodes that goes on with a batch has few nodes
+pub HasFewNodes-batch : (k : ℕ) (file : FileSoFar) (t : Trace) (steps : List Step)
+    → 16384 * k ≤ 18 * length t.steps
+    → length steps ≡ 16384 → FileHasNodesAtMost (k + tables_for (length steps)) file
+    → HasFewNodes (Some file) (with_steps t steps)
+HasFewNodes-batch k file t steps few whole most =
+    (k + tables_for (length steps), omega (arith, few, whole, length-append t.steps steps), most)
 
 -- ---- the limit of a recording
 

@@ -125,11 +125,7 @@ module _ (o : PartOptions) where
         read.reading,
         dump_recording-captured (limited given) captured ∙ recorded-refused (limited given) refusal finds,
       )
-      FindsOfDump-found start starts backplane same (Err none.TooManyMarks) finds = (
-        Some read.text,
-        read.reading,
-        (record { start = start_of contents; recording = given }, dump_recording-limited finds.0, finds.1),
-      )
+      FindsOfDump-found start starts backplane same (Err none.TooManyMarks) finds = absurd finds
       FindsOfDump-found start starts backplane same (Err none.OutOfRange) fits = (
         Some read.text,
         read.reading,

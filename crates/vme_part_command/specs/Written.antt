@@ -1,5 +1,5 @@
 -- What the command `part` makes of a dump, and how it ends.
-use Rattle.std.specs.Prelude.{◌≡◌, ℕ, true, List, [], Option, Result, Ok, Err, codes}
+use Rattle.std.specs.Prelude.{◌≡◌, ℕ, List, [], Option, Result, Ok, Err, codes}
 use Rattle.vcd_read.specs.Contents.{Contents}
 use Rattle.vcd_read.specs.Header.{◌>>=◌}
 use Rattle.vcd_start.specs.Starts.{start_of}
@@ -49,13 +49,13 @@ pub record IsPartOfRecording (o : PartOptions) (d : DumpRecording) (p : PartValu
   pub stands : IsPartOfFile o.listing (file_of o.number d.start d.recording) p
 
 -- The result for a recording that `read` gives: a part of it, as a value by `view`; or why there is no recording,
--- unless memory ran out; or, where there is a recording, that its part would be out of bounds: of too many marks only
--- where marks were asked for.
+-- unless memory ran out; or, where there is a recording, that its part would be out of bounds, but never that it has
+-- too many marks.
 abbrev pub FindsPart : {X : Type 0} → (X → PartValue) → PartOptions → Result DumpRecording Refusal → Result X NoPart
     → Type 0
 FindsPart view o read (Ok part) = (d : DumpRecording) × (read ≡ Ok d) × IsPartOfRecording o d (view part)
 FindsPart view o read (Err (none.Refused refusal)) = AnswerGives (λ (d : DumpRecording). d) (Err refusal) read
-FindsPart view o read (Err none.TooManyMarks) = (d : DumpRecording) × (read ≡ Ok d) × (o.listing ≡ true)
+FindsPart view o read (Err none.TooManyMarks) = ⊥
 FindsPart view o read (Err none.OutOfRange) = (d : DumpRecording) × (read ≡ Ok d)
 
 -- `FindsPart` for the recording that the binding `bound` makes of a dump, which is read

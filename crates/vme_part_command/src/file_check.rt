@@ -8,7 +8,8 @@ ghost use Rattle.vme_trace.specs.Trace.{Trace};
 ghost use Rattle.vme_trace.specs.WellFormed.{capture_limit, malformed_step};
 ghost use Rattle.vme_trace.specs.declared.step.Step.{Step};
 ghost use Rattle.vme_file_part.specs.Growing.{IsFileSoFar, FileMayGoOn};
-ghost use Rattle.vme_part_command.specs.FileChecks.{FindsOfSteps, HasTakenSteps, IsFoundSoFar, IsPending, MayBeJudged};
+ghost use Rattle.vme_part_command.specs.FileChecks.{FindsOfSteps, HasFewNodes, HasTakenSteps, IsFoundSoFar, IsPending};
+ghost use Rattle.vme_part_command.specs.FileChecks.{MayBeJudged};
 
 use crate::no_part::NoPart;
 use std::alloc::{AllocError, Global};
@@ -23,12 +24,13 @@ use vme_trace::{Lines, Step};
 const MOST_STEPS: usize = 268_435_456;
 
 /// How many steps are judged at once, however they are read. So the part of a dump doesn't depend on how it is read.
+/// Nor does a table get too many nodes, as it might if few steps were judged at once.
 const BATCH: usize = 16_384;
 
 /// The state of judging the steps of a dump.
 #[derive(Drop)]
 pub(crate) struct FileCheck {
-    /// The file with the steps judged so far, or `None` if a table has too many nodes. Then no more steps are judged.
+    /// The file with the steps judged so far. It would be `None` if a table had too many nodes, which none has.
     file: Option<FileSoFar>,
     /// The steps after those that are judged.
     pending: Vec<Step>,
@@ -37,7 +39,7 @@ pub(crate) struct FileCheck {
     is_too_long: bool,
 }
 
-/// Judges the steps that follow. The result is `None` if a table has too many nodes.
+/// Judges the steps that follow. The result would be `None` if a table had too many nodes.
 fn judge_more(
     alloc: Global,
     file: Option<FileSoFar>,
@@ -45,9 +47,11 @@ fn judge_more(
 ) -> Result<Option<FileSoFar>, AllocError>
     requires { (number : ℕ) × (listing : Bool) × (start : Option ℕ) × (t : Trace)
         × IsFoundSoFar number listing start file t × FileMayGoOn t steps.now }
-    ensures { (number : ℕ) (listing : Bool) (start : Option ℕ) (t : Trace)
-        → IsFoundSoFar number listing start file t → FileMayGoOn t steps.now
+    ensures found { (number : ℕ) (listing : Bool) (start : Option ℕ) (t : Trace)
+        → IsFoundSoFar number listing start file t → HasFewNodes file t → FileMayGoOn t steps.now
         → IfOk result (λ file. IsFoundSoFar number listing start file (with_steps t steps.now)) }
+    ensures few { (t : Trace) → HasFewNodes file t → length steps.now ≡ 16384
+        → IfOk result (λ file. HasFewNodes file (with_steps t steps.now)) }
 {
     match file {
         Some(file) => match file.go_on(alloc, steps) {

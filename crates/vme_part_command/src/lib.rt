@@ -18,8 +18,7 @@
 //!
 //! - [`write_part_of`]: the encoding of a part of the recording that the binding makes of the dump.
 //!   For a number over 0 the levels after the dump's first time are its opening. Or the first reason
-//!   that there is no recording (`WritesPart`). Without marks no dump is refused for too many of
-//!   them (`FindsPart`).
+//!   that there is no recording (`WritesPart`). No dump is refused for too many marks (`FindsPart`).
 //! - [`write_joined`]: the encoding of one part joined from the parts in the inputs, or the first
 //!   input that is no part, and why, or why the parts can't be joined (`WritesJoin`).
 //! - [`tell_whole`] and [`list_whole`]: the verdict and the listing of the recording that the files
@@ -29,8 +28,8 @@
 //!
 //! That memory suffices: the dump up to its second time is held in memory, and the longest token,
 //! with what a piece of the dump takes. Where the binding can't be used on the dump, all of it is
-//! held. That no dump is refused as out of the range of parts. That with marks no dump is refused
-//! for too many of them, and no parts that were made of dumps.
+//! held. That no dump is refused as out of the range of parts. That no parts with marks that were
+//! made of dumps are refused for too many of them.
 #![tactic(auto)]
 
 mod backplane;

@@ -51,7 +51,7 @@ returns c number listing start t h may =
     (λ file found. IsFoundSoFar-all number listing start c.in_ok-file.file file c.in_ok-file.rest.items
     (with_steps t steps)
     made (rw (sym c.as_slice.ensures.value) found))
-    (c.judge_more.ensures number listing start made.judged made.found
+    (c.judge_more.ensures.found number listing start made.judged made.found made.few
     (subst (FileMayGoOn made.judged) (sym c.as_slice.ensures.value)
     (FileMayGoOn-all_pending number listing start c.in_ok-file.file c.in_ok-file.rest.items (with_steps t steps) made
     may)))

@@ -1,9 +1,10 @@
 -- A batch is judged, and the steps after it are left.
-use Rattle.std.proofs.Common.{List, subst, sym, ◌∙◌}
+use Rattle.std.proofs.Common.{List, ap, arith, length, subst, sym, ◌∙◌}
+use Rattle.std.proofs.lemmas.List.{length-take-le}
 use Rattle.vme_trace.specs.Followed.{with_steps}
 use Rattle.vme_trace.specs.declared.step.Step.{Step}
 use Rattle.vme_file_part.specs.Growing.{FileMayGoOn}
-use Rattle.vme_part_command.specs.FileChecks.{IsFoundSoFar, IsPending}
+use Rattle.vme_part_command.specs.FileChecks.{HasFewNodes, IsFoundSoFar, IsPending}
 use Rattle.vme_part_command.proofs.CheckLemmas.{IsPending-after_judging, FileMayGoOn-first_pending}
 use Rattle.vme_part_command.proofs.file_check.judge_batches.Goals as goal
 
@@ -32,7 +33,10 @@ loop-alloc-preserved c = record {
       (IsPending-after_judging number listing start c.loop-alloc.file c.loop-alloc.pending.items t h 16384
       c.in_ok-file.file
       (subst (λ (l : List Step). IsFoundSoFar number listing start c.in_ok-file.file (with_steps h.judged l)) batch
-      (c.in_ok-file.ensures number listing start h.judged h.found
+      (c.in_ok-file.ensures.found number listing start h.judged h.found h.few
       (subst (FileMayGoOn h.judged) (sym batch)
-      (FileMayGoOn-first_pending number listing start c.loop-alloc.file c.loop-alloc.pending.items t h 16384 may)))));
+      (FileMayGoOn-first_pending number listing start c.loop-alloc.file c.loop-alloc.pending.items t h 16384 may))))
+      (subst (λ (l : List Step). HasFewNodes c.in_ok-file.file (with_steps h.judged l)) batch
+      (c.in_ok-file.ensures.few h.judged h.few
+      (ap (λ (l : List Step). length l) batch ∙ length-take-le 16384 c.loop-alloc.pending.items (omega arith)))));
 }

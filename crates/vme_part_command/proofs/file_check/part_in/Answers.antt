@@ -6,6 +6,5 @@ use Rattle.vme_part_command.proofs.file_check.part_in.Goals as goal
 
 pub returns-in-Err-TooManyNodes : goal.returns-in-Err-TooManyNodes
 returns-in-Err-TooManyNodes c number listing start t h sound within =
-    absurd
-    (subst (λ (why : PartRefusal). IsLackOfMemory why) c.in-Err-TooManyNodes.field-0-is
-    c.in-Err-TooManyNodes.ensures.refused)
+    subst (λ (why : PartRefusal). IsLackOfMemory why) c.in-Err-TooManyNodes.field-0-is
+    c.in-Err-TooManyNodes.ensures.refused

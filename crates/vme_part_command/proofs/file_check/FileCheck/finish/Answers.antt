@@ -94,8 +94,6 @@ returns-in-Ok-None c number listing start t h formed =
     let pending = IsPending-same number listing start old.file new.file old.pending new.pending t counts.left.0
     counts.left.1 was in
     let may = MayBeJudged-counted t steps old.count c.counts.new.self.count same
-    (omega (arith, (counts.few some).0, c.len.ensures)) (counts.within some few) formed in (
-      limited-few_steps (with_steps t steps) may.few,
-      subst (λ (f : Option FileSoFar). IsFoundSoFar number listing start f (with_steps t steps))
-          c.in-Ok-None.field-0-is (c.in-Ok-None.ensures number listing start t pending may),
-    )
+    (omega (arith, (counts.few some).0, c.len.ensures)) (counts.within some few) formed in
+    subst (λ (f : Option FileSoFar). IsFoundSoFar number listing start f (with_steps t steps))
+    c.in-Ok-None.field-0-is (c.in-Ok-None.ensures number listing start t pending may)

@@ -13,5 +13,6 @@ returns-clause-taken c =
         judged = first;
         all = ap (λ (l : List Step). with_steps first l) c.new-2.ensures.items;
         found = c.new.ensures.so_far;
+        few = (0, omega arith, c.new.ensures.none);
       },
     )
