@@ -9,16 +9,16 @@ use Rattle.vme_trace.specs.Trace.{Trace}
 use Rattle.vme_trace.specs.Followed.{with_steps}
 use Rattle.vme_trace.specs.WellFormed.{capture_limit, malformed_step}
 use Rattle.vme_trace.specs.declared.step.Step.{Step}
-use Rattle.std.specs.Prelude.{None, Some}
+use Rattle.std.specs.Prelude.{None}
 use Rattle.vme_bind.specs.Capture.{limited}
 use Rattle.vme_bind.specs.declared.fault.BindFaultKind.TheVariants.{TooManySteps}
 use Rattle.vme_parts.specs.NodeCounts.{tables_for}
-use Rattle.vme_file_part.specs.Growing.{AreTooManyNodes, FileHasNodesAtMost, FileMayGoOn}
+use Rattle.vme_file_part.specs.Growing.{AreTooManyNodes, FileHasNodesAtMost, FileMayGoOn, IsFileSoFar}
 use Rattle.vme_file_part.specs.declared.file_so_far.FileSoFar.{FileSoFar}
 use Rattle.vme_summary.proofs.Sound.{SoundParts-of_well_formed}
-use Rattle.vme_part_command.specs.FileChecks.{FileComesTo, HasFewNodes, IsFoundSoFar, IsPending, MayBeJudged}
+use Rattle.vme_part_command.specs.FileChecks.{FileComesTo, HasFewNodes, IsPending, MayBeJudged}
 
-module _ (number : ℕ) (listing : Bool) (start : Option ℕ) (file : Option FileSoFar) (pending : List Step) where
+module _ (number : ℕ) (listing : Bool) (start : Option ℕ) (file : FileSoFar) (pending : List Step) where
   -- if t has too many steps, or the count with `steps` is over the limit, t with `steps` has too many
   pub too_many-with_steps : (t : Trace) (count : ℕ) (flag : Bool) (steps : List Step)
       → FileComesTo number listing start file pending count flag t
@@ -56,7 +56,7 @@ module _ (number : ℕ) (listing : Bool) (start : Option ℕ) (file : Option Fil
       judged = p.judged;
       all = ap (λ (l : List Step). record p.judged { steps = l }) (sym (append_assoc p.judged.steps pending steps))
           ∙ ap (λ (u : Trace). with_steps u steps) p.all;
-      found = p.found;
+      so_far = p.so_far;
       few = p.few;
     }
 
@@ -96,14 +96,14 @@ module _ (number : ℕ) (listing : Bool) (start : Option ℕ) (file : Option Fil
       }
 
       -- after judging the first n pending steps, the others are pending
-      pub IsPending-after_judging : (next : Option FileSoFar)
-          → IsFoundSoFar number listing start next (with_steps p.judged (take n pending))
+      pub IsPending-after_judging : (next : FileSoFar)
+          → IsFileSoFar number listing start next (with_steps p.judged (take n pending))
           → HasFewNodes next (with_steps p.judged (take n pending))
           → IsPending number listing start next (drop n pending) t
-      IsPending-after_judging next found few = record {
+      IsPending-after_judging next so_far few = record {
         judged = with_steps p.judged (take n pending);
         all = with_steps-judged_and_pending;
-        found = found;
+        so_far = so_far;
         few = few;
       }
 
@@ -119,7 +119,7 @@ not_too_many-within_limit k t steps few may many = omega (arith, few, may.few, m
 pub HasFewNodes-batch : (k : ℕ) (file : FileSoFar) (t : Trace) (steps : List Step)
     → 16384 * k ≤ 18 * length t.steps
     → length steps ≡ 16384 → FileHasNodesAtMost (k + tables_for (length steps)) file
-    → HasFewNodes (Some file) (with_steps t steps)
+    → HasFewNodes file (with_steps t steps)
 HasFewNodes-batch k file t steps few whole most =
     (k + tables_for (length steps), omega (arith, few, whole, length-append t.steps steps), most)
 
@@ -151,18 +151,18 @@ MayBeJudged-counted t steps count next same more few formed =
     record { formed = formed; few = omega (arith, same, more, few, length-append t.steps steps) }
 
 -- after judging all pending steps, `next` is the file with all steps of t
-pub IsFoundSoFar-all : (number : ℕ) (listing : Bool) (start : Option ℕ) (file next : Option FileSoFar)
+pub IsFileSoFar-all : (number : ℕ) (listing : Bool) (start : Option ℕ) (file next : FileSoFar)
     (pending : List Step)
     (t : Trace) (p : IsPending number listing start file pending t)
-    → IsFoundSoFar number listing start next (with_steps p.judged pending)
-    → IsFoundSoFar number listing start next t
-IsFoundSoFar-all number listing start file next pending t p found =
-    subst (IsFoundSoFar number listing start next) p.all found
+    → IsFileSoFar number listing start next (with_steps p.judged pending)
+    → IsFileSoFar number listing start next t
+IsFileSoFar-all number listing start file next pending t p so_far =
+    subst (IsFileSoFar number listing start next) p.all so_far
 
 -- counting steps doesn't change which are judged
-pub IsPending-same : (number : ℕ) (listing : Bool) (start : Option ℕ) (file next : Option FileSoFar) (p q : Vec Step)
+pub IsPending-same : (number : ℕ) (listing : Bool) (start : Option ℕ) (file next : FileSoFar) (p q : Vec Step)
     (t : Trace) → next ≡ file → q ≡ p → IsPending number listing start file p.items t
     → IsPending number listing start next q.items t
 IsPending-same number listing start file next p q t is left h =
-    subst (λ (f : Option FileSoFar). IsPending number listing start f q.items t) (sym is)
+    subst (λ (f : FileSoFar). IsPending number listing start f q.items t) (sym is)
     (subst (λ (v : Vec Step). IsPending number listing start file v.items t) (sym left) h)

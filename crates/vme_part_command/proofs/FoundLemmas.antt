@@ -125,7 +125,6 @@ module _ (o : PartOptions) where
         read.reading,
         dump_recording-captured (limited given) captured ∙ recorded-refused (limited given) refusal finds,
       )
-      FindsOfDump-found start starts backplane same (Err none.TooManyMarks) finds = absurd finds
       FindsOfDump-found start starts backplane same (Err none.OutOfRange) fits = (
         Some read.text,
         read.reading,

@@ -1,6 +1,5 @@
 -- How far the steps of a dump that is a file are judged.
-use Rattle.std.specs.Prelude.{◌≡◌, ℕ, ◌*◌, ◌≤◌, ◌<◌, Bool, true, false, List, length, Option, None, Some, Result}
-use Rattle.std.specs.Prelude.{Ok, Err}
+use Rattle.std.specs.Prelude.{◌≡◌, ℕ, ◌*◌, ◌≤◌, ◌<◌, Bool, true, false, List, length, Option, None, Result, Ok, Err}
 use Rattle.vme_trace.specs.Followed.{with_steps}
 use Rattle.vme_trace.specs.Trace.{Trace}
 use Rattle.vme_trace.specs.WellFormed.{capture_limit, malformed_step}
@@ -21,23 +20,17 @@ use Rattle.vme_part_command.specs.declared.file_check.FileCheck.{FileCheck}
 use Rattle.vme_part_command.specs.declared.no_part.NoPart.{NoPart}
 use Rattle.vme_part_command.specs.declared.no_part.NoPart.TheVariants as none
 
--- `file` is the file with the steps of t so far; no table has too many nodes (`None`)
-abbrev pub IsFoundSoFar : ℕ → Bool → Option ℕ → Option FileSoFar → Trace → Type 0
-IsFoundSoFar number listing start None t = ⊥
-IsFoundSoFar number listing start (Some file) t = IsFileSoFar number listing start file t
-
 -- for each batch of 16,384 steps of t, each table of `file` has at most 18 nodes for each of its memories: one for each
 -- piece of 1,024 steps, and two more
-abbrev pub HasFewNodes : Option FileSoFar → Trace → Type 0
-HasFewNodes None t = Unit {0}
-HasFewNodes (Some file) t = (k : ℕ) × (16384 * k ≤ 18 * length t.steps) × FileHasNodesAtMost k file
+abbrev pub HasFewNodes : FileSoFar → Trace → Type 0
+HasFewNodes file t = (k : ℕ) × (16384 * k ≤ 18 * length t.steps) × FileHasNodesAtMost k file
 
 -- `file` is the file with the steps of t before `pending`, the last ones, and has few nodes
-pub record IsPending (number : ℕ) (listing : Bool) (start : Option ℕ) (file : Option FileSoFar) (pending : List Step)
+pub record IsPending (number : ℕ) (listing : Bool) (start : Option ℕ) (file : FileSoFar) (pending : List Step)
     (t : Trace) : Type 0 where
   pub judged : Trace
   pub all : with_steps judged pending ≡ t
-  pub found : IsFoundSoFar number listing start file judged
+  pub so_far : IsFileSoFar number listing start file judged
   pub few : HasFewNodes file judged
 
 -- t is well-formed and has at most as many steps as a recording may have
@@ -46,7 +39,7 @@ pub record MayBeJudged (t : Trace) : Type 0 where
   pub few : length t.steps ≤ capture_limit
 
 -- the steps of t are counted, and all but `pending` are judged; or (`true`) they are too many
-abbrev pub FileComesTo : ℕ → Bool → Option ℕ → Option FileSoFar → List Step → ℕ → Bool → Trace → Type 0
+abbrev pub FileComesTo : ℕ → Bool → Option ℕ → FileSoFar → List Step → ℕ → Bool → Trace → Type 0
 FileComesTo number listing start file pending count true t = capture_limit < length t.steps
 FileComesTo number listing start file pending count false t =
     (count ≡ length t.steps) × (count ≤ capture_limit) × IsPending number listing start file pending t
@@ -73,12 +66,10 @@ pub record IsPartOfSteps (number : ℕ) (listing : Bool) (start : Option ℕ) (b
     pub compact : IsCompactPart (part_value p)
     pub stands : IsPartOfFile listing (file_of number start t) (part_value p)
 
--- the result for all steps of t: the part, or why there is none: never for too many marks; of `OutOfRange` it says only
--- that t isn't too long
+-- the result for all steps of t: the part, or why there is none; of `OutOfRange` it says only that t isn't too long
 abbrev pub FindsOfSteps : ℕ → Bool → Option ℕ → ℕ → Trace → Result Part NoPart → Type 0
 FindsOfSteps number listing start backplane t (Ok part) =
     (limited t ≡ Ok t) × IsPartOfSteps number listing start backplane t part
 FindsOfSteps number listing start backplane t (Err (none.Refused refusal)) =
     AnswerGives (λ (u : Trace). u) (Err refusal) (or_bad_binding (limited t))
-FindsOfSteps number listing start backplane t (Err none.TooManyMarks) = ⊥
 FindsOfSteps number listing start backplane t (Err none.OutOfRange) = limited t ≡ Ok t

@@ -49,13 +49,11 @@ pub record IsPartOfRecording (o : PartOptions) (d : DumpRecording) (p : PartValu
   pub stands : IsPartOfFile o.listing (file_of o.number d.start d.recording) p
 
 -- The result for a recording that `read` gives: a part of it, as a value by `view`; or why there is no recording,
--- unless memory ran out; or, where there is a recording, that its part would be out of bounds, but never that it has
--- too many marks.
+-- unless memory ran out; or, where there is a recording, that its part would be out of bounds.
 abbrev pub FindsPart : {X : Type 0} → (X → PartValue) → PartOptions → Result DumpRecording Refusal → Result X NoPart
     → Type 0
 FindsPart view o read (Ok part) = (d : DumpRecording) × (read ≡ Ok d) × IsPartOfRecording o d (view part)
 FindsPart view o read (Err (none.Refused refusal)) = AnswerGives (λ (d : DumpRecording). d) (Err refusal) read
-FindsPart view o read (Err none.TooManyMarks) = ⊥
 FindsPart view o read (Err none.OutOfRange) = (d : DumpRecording) × (read ≡ Ok d)
 
 -- `FindsPart` for the recording that the binding `bound` makes of a dump, which is read
@@ -68,12 +66,10 @@ FindsOfDump o bound old now found =
 
 abbrev pub no_part_text : NoPart → List ℕ
 no_part_text (none.Refused refusal) = refusal_text refusal
-no_part_text none.TooManyMarks = refusing_text (codes "too many marks")
 no_part_text none.OutOfRange = refusing_text (codes "out of the range of parts")
 
 abbrev pub no_part_status : NoPart → ℕ
 no_part_status (none.Refused refusal) = refusal_status refusal
-no_part_status none.TooManyMarks = 3
 no_part_status none.OutOfRange = 3
 
 -- the answer with `text` on standard output and status 0

@@ -8,8 +8,7 @@ ghost use Rattle.vme_trace.specs.Trace.{Trace};
 ghost use Rattle.vme_trace.specs.WellFormed.{capture_limit, malformed_step};
 ghost use Rattle.vme_trace.specs.declared.step.Step.{Step};
 ghost use Rattle.vme_file_part.specs.Growing.{IsFileSoFar, FileMayGoOn};
-ghost use Rattle.vme_part_command.specs.FileChecks.{FindsOfSteps, HasFewNodes, HasTakenSteps, IsFoundSoFar, IsPending};
-ghost use Rattle.vme_part_command.specs.FileChecks.{MayBeJudged};
+ghost use Rattle.vme_part_command.specs.FileChecks.{FindsOfSteps, HasFewNodes, HasTakenSteps, IsPending, MayBeJudged};
 
 use crate::no_part::NoPart;
 use std::alloc::{AllocError, Global};
@@ -30,45 +29,38 @@ const BATCH: usize = 16_384;
 /// The state of judging the steps of a dump.
 #[derive(Drop)]
 pub(crate) struct FileCheck {
-    /// The file with the steps judged so far. It would be `None` if a table had too many nodes, which none has.
-    file: Option<FileSoFar>,
+    /// The file with the steps judged so far.
+    file: FileSoFar,
     /// The steps after those that are judged.
     pending: Vec<Step>,
-    /// How many steps were given, and whether they are too many. Then no more steps are judged either.
+    /// How many steps were given, and whether they are too many. Then no more steps are judged.
     count: usize,
     is_too_long: bool,
 }
 
-/// Judges the steps that follow. The result would be `None` if a table had too many nodes.
-fn judge_more(
-    alloc: Global,
-    file: Option<FileSoFar>,
-    steps: &[Step],
-) -> Result<Option<FileSoFar>, AllocError>
+/// Judges the steps that follow.
+fn judge_more(alloc: Global, file: FileSoFar, steps: &[Step]) -> Result<FileSoFar, AllocError>
     requires { (number : ℕ) × (listing : Bool) × (start : Option ℕ) × (t : Trace)
-        × IsFoundSoFar number listing start file t × FileMayGoOn t steps.now }
-    ensures found { (number : ℕ) (listing : Bool) (start : Option ℕ) (t : Trace)
-        → IsFoundSoFar number listing start file t → HasFewNodes file t → FileMayGoOn t steps.now
-        → IfOk result (λ file. IsFoundSoFar number listing start file (with_steps t steps.now)) }
+        × IsFileSoFar number listing start file t × HasFewNodes file t × FileMayGoOn t steps.now }
+    ensures so_far { (number : ℕ) (listing : Bool) (start : Option ℕ) (t : Trace)
+        → IsFileSoFar number listing start file t → FileMayGoOn t steps.now
+        → IfOk result (λ file. IsFileSoFar number listing start file (with_steps t steps.now)) }
     ensures few { (t : Trace) → HasFewNodes file t → length steps.now ≡ 16384
         → IfOk result (λ file. HasFewNodes file (with_steps t steps.now)) }
 {
-    match file {
-        Some(file) => match file.go_on(alloc, steps) {
-            Ok(file) => Ok(Some(file)),
-            Err(PartRefusal::TooManyNodes) => Ok(None),
-            Err(PartRefusal::Memory) => Err(AllocError),
-        },
-        None => Ok(None),
+    match file.go_on(alloc, steps) {
+        Ok(file) => Ok(file),
+        Err(PartRefusal::TooManyNodes) => unreachable!(),
+        Err(PartRefusal::Memory) => Err(AllocError),
     }
 }
 
 /// Judges `pending` in batches, as long as there is a whole batch. The rest is returned.
 fn judge_batches(
     alloc: Global,
-    file: Option<FileSoFar>,
+    file: FileSoFar,
     pending: Vec<Step>,
-) -> Result<(Option<FileSoFar>, Vec<Step>), AllocError>
+) -> Result<(FileSoFar, Vec<Step>), AllocError>
     requires { (number : ℕ) × (listing : Bool) × (start : Option ℕ) × (t : Trace)
         × IsPending number listing start file pending.items t × MayBeJudged t }
     ensures { (number : ℕ) (listing : Bool) (start : Option ℕ) (t : Trace)
@@ -88,15 +80,15 @@ fn judge_batches(
 /// Judges `pending` and then `steps`, the last steps.
 fn judge_all(
     alloc: Global,
-    file: Option<FileSoFar>,
+    file: FileSoFar,
     pending: Vec<Step>,
     steps: Vec<Step>,
-) -> Result<Option<FileSoFar>, AllocError>
+) -> Result<FileSoFar, AllocError>
     requires { (number : ℕ) × (listing : Bool) × (start : Option ℕ) × (t : Trace)
         × IsPending number listing start file pending.items t × MayBeJudged (with_steps t steps.items) }
     ensures { (number : ℕ) (listing : Bool) (start : Option ℕ) (t : Trace)
         → IsPending number listing start file pending.items t → MayBeJudged (with_steps t steps.items)
-        → IfOk result (λ file. IsFoundSoFar number listing start file (with_steps t steps.items)) }
+        → IfOk result (λ file. IsFileSoFar number listing start file (with_steps t steps.items)) }
 {
     let mut pending = pending;
     let mut steps = steps;
@@ -121,7 +113,7 @@ fn part_in(alloc: Global, file: FileSoFar, backplane: u64) -> Result<Part, NoPar
                 Err(NoPart::OutOfRange)
             }
         }
-        Err(PartRefusal::TooManyNodes) => Err(NoPart::TooManyMarks),
+        Err(PartRefusal::TooManyNodes) => unreachable!(),
         Err(PartRefusal::Memory) => Err(NoPart::Refused(Refusal::Memory)),
     }
 }
@@ -140,7 +132,7 @@ impl FileCheck {
         ensures whole { length opening.now.levels ≡ line_count }
     {
         FileCheck {
-            file: Some(FileSoFar::new(number, listing, start, opening)),
+            file: FileSoFar::new(number, listing, start, opening),
             pending: Vec::new(alloc),
             count: 0,
             is_too_long: false,
@@ -216,8 +208,7 @@ impl FileCheck {
             is_too_long: _,
         } = check;
         match judge_all(alloc, file, pending, steps) {
-            Ok(Some(file)) => part_in(alloc, file, backplane),
-            Ok(None) => Err(NoPart::TooManyMarks),
+            Ok(file) => part_in(alloc, file, backplane),
             Err(_) => Err(NoPart::Refused(Refusal::Memory)),
         }
     }

@@ -7,8 +7,6 @@ use vme_stream::Refusal;
 pub(crate) enum NoPart {
     /// An input is refused, or memory runs out.
     Refused(Refusal),
-    /// A table with marks has too many nodes for ways of 32 bits. No dump leads to it.
-    TooManyMarks,
     /// The part would be out of the range of parts.
     OutOfRange,
 }

@@ -73,7 +73,6 @@ fn refuse_part<E: Sink>(why: NoPart, err: &mut E) -> u8
             complain(err, refusal_line(&refusal));
             refusal.status()
         }
-        NoPart::TooManyMarks => refuse(refusing_line(b"too many marks"), err),
         NoPart::OutOfRange => refuse(refusing_line(b"out of the range of parts"), err),
     }
 }

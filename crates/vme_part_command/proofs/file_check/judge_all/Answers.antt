@@ -5,7 +5,7 @@ use Rattle.vme_trace.specs.Followed.{with_steps}
 use Rattle.vme_trace.specs.declared.step.Step.{Step}
 use Rattle.vme_file_part.specs.Growing.{FileMayGoOn}
 use Rattle.vme_part_command.specs.FileChecks.{IsPending}
-use Rattle.vme_part_command.proofs.CheckLemmas.{FileMayGoOn-all_pending, IsFoundSoFar-all, IsPending-append}
+use Rattle.vme_part_command.proofs.CheckLemmas.{FileMayGoOn-all_pending, IsFileSoFar-all, IsPending-append}
 use Rattle.vme_part_command.proofs.file_check.judge_all.Goals as goal
 
 pub judge_batches-requires : goal.judge_batches-requires
@@ -34,7 +34,8 @@ judge_more-requires c =
       listing,
       start,
       made.judged,
-      made.found,
+      made.so_far,
+      made.few,
       subst (FileMayGoOn made.judged) (sym c.as_slice.ensures.value)
           (FileMayGoOn-all_pending number listing start c.in_ok-file.file c.in_ok-file.rest.items (with_steps t steps)
           made may),
@@ -48,10 +49,10 @@ returns c number listing start t h may =
     (sym c.in_ok-append.ensures.items)
     (IsPending-append number listing start c.args.file c.args.pending.items t h steps)) may in
     IfOk-weaker c.judge_more.result _ _
-    (λ file found. IsFoundSoFar-all number listing start c.in_ok-file.file file c.in_ok-file.rest.items
+    (λ file so_far. IsFileSoFar-all number listing start c.in_ok-file.file file c.in_ok-file.rest.items
     (with_steps t steps)
-    made (rw (sym c.as_slice.ensures.value) found))
-    (c.judge_more.ensures.found number listing start made.judged made.found made.few
+    made (rw (sym c.as_slice.ensures.value) so_far))
+    (c.judge_more.ensures.so_far number listing start made.judged made.so_far
     (subst (FileMayGoOn made.judged) (sym c.as_slice.ensures.value)
     (FileMayGoOn-all_pending number listing start c.in_ok-file.file c.in_ok-file.rest.items (with_steps t steps) made
     may)))

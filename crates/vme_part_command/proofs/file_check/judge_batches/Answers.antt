@@ -3,8 +3,8 @@ use Rattle.std.proofs.Common.{List, ap, arith, length, subst, sym, ◌∙◌}
 use Rattle.std.proofs.lemmas.List.{length-take-le}
 use Rattle.vme_trace.specs.Followed.{with_steps}
 use Rattle.vme_trace.specs.declared.step.Step.{Step}
-use Rattle.vme_file_part.specs.Growing.{FileMayGoOn}
-use Rattle.vme_part_command.specs.FileChecks.{HasFewNodes, IsFoundSoFar, IsPending}
+use Rattle.vme_file_part.specs.Growing.{FileMayGoOn, IsFileSoFar}
+use Rattle.vme_part_command.specs.FileChecks.{HasFewNodes, IsPending}
 use Rattle.vme_part_command.proofs.CheckLemmas.{IsPending-after_judging, FileMayGoOn-first_pending}
 use Rattle.vme_part_command.proofs.file_check.judge_batches.Goals as goal
 
@@ -19,7 +19,8 @@ judge_more-requires c =
       listing,
       start,
       h.judged,
-      h.found,
+      h.so_far,
+      h.few,
       subst (FileMayGoOn h.judged) (sym (c.as_slice.ensures.value ∙ c.in_ok-rest.ensures.items))
           (FileMayGoOn-first_pending number listing start c.loop-alloc.file c.loop-alloc.pending.items t h 16384 may),
     )
@@ -32,8 +33,8 @@ loop-alloc-preserved c = record {
       subst (λ (l : List Step). IsPending number listing start c.in_ok-file.file l t) (sym c.in_ok-rest.ensures.tail)
       (IsPending-after_judging number listing start c.loop-alloc.file c.loop-alloc.pending.items t h 16384
       c.in_ok-file.file
-      (subst (λ (l : List Step). IsFoundSoFar number listing start c.in_ok-file.file (with_steps h.judged l)) batch
-      (c.in_ok-file.ensures.found number listing start h.judged h.found h.few
+      (subst (λ (l : List Step). IsFileSoFar number listing start c.in_ok-file.file (with_steps h.judged l)) batch
+      (c.in_ok-file.ensures.so_far number listing start h.judged h.so_far
       (subst (FileMayGoOn h.judged) (sym batch)
       (FileMayGoOn-first_pending number listing start c.loop-alloc.file c.loop-alloc.pending.items t h 16384 may))))
       (subst (λ (l : List Step). HasFewNodes c.in_ok-file.file (with_steps h.judged l)) batch

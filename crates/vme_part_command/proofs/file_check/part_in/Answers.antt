@@ -4,7 +4,7 @@ use Rattle.vme_parts.specs.NodeCounts.{IsLackOfMemory}
 use Rattle.vme_parts.specs.declared.part_refusal.PartRefusal.{PartRefusal}
 use Rattle.vme_part_command.proofs.file_check.part_in.Goals as goal
 
-pub returns-in-Err-TooManyNodes : goal.returns-in-Err-TooManyNodes
-returns-in-Err-TooManyNodes c number listing start t h sound within =
+pub unreachable-requires : goal.unreachable-requires
+unreachable-requires c =
     subst (λ (why : PartRefusal). IsLackOfMemory why) c.in-Err-TooManyNodes.field-0-is
     c.in-Err-TooManyNodes.ensures.refused

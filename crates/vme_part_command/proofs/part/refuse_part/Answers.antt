@@ -14,17 +14,9 @@ returns-in-Refused g c =
     subst (λ (w : NoPart). Complains (no_part_answer w) err c.status.result) (sym c.in-Refused.is)
     (record { err_is = rw c.refusal_line.ensures at c.complain.ensures; status_is = c.status.ensures })
 
-pub returns-in-TooManyMarks : goal.returns-in-TooManyMarks
-returns-in-TooManyMarks g c =
-    let err : Writing × Writing = (g.E.Sink.writing c.args.err.now, g.E.Sink.writing c.refuse.new.err) in
-    subst (λ (w : NoPart). Complains (no_part_answer w) err c.refuse.result) (sym c.in-TooManyMarks.is)
-    (Complains-refusing (refusing_text (codes "too many marks")) err c.refuse.result
-    (rw c.refusing_line.ensures at c.refuse.ensures.told) c.refuse.ensures.status)
-
 pub returns-in-OutOfRange : goal.returns-in-OutOfRange
 returns-in-OutOfRange g c =
-    let err : Writing × Writing = (g.E.Sink.writing c.args.err.now, g.E.Sink.writing c.refuse-in-OutOfRange.new.err) in
-    subst (λ (w : NoPart). Complains (no_part_answer w) err c.refuse-in-OutOfRange.result) (sym c.in-OutOfRange.is)
-    (Complains-refusing (refusing_text (codes "out of the range of parts")) err c.refuse-in-OutOfRange.result
-    (rw c.refusing_line-in-OutOfRange.ensures at c.refuse-in-OutOfRange.ensures.told)
-    c.refuse-in-OutOfRange.ensures.status)
+    let err : Writing × Writing = (g.E.Sink.writing c.args.err.now, g.E.Sink.writing c.refuse.new.err) in
+    subst (λ (w : NoPart). Complains (no_part_answer w) err c.refuse.result) (sym c.in-OutOfRange.is)
+    (Complains-refusing (refusing_text (codes "out of the range of parts")) err c.refuse.result
+    (rw c.refusing_line.ensures at c.refuse.ensures.told) c.refuse.ensures.status)

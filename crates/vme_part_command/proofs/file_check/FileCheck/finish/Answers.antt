@@ -1,9 +1,7 @@
 -- All steps are counted and judged.
-use Rattle.std.proofs.Common.{Option, ap, subst, arith}
+use Rattle.std.proofs.Common.{ap, arith}
 use Rattle.vme_stream.specs.Answers.{or_bad_binding}
 use Rattle.vme_trace.specs.Followed.{with_steps}
-use Rattle.vme_file_part.specs.declared.file_so_far.FileSoFar.{FileSoFar}
-use Rattle.vme_part_command.specs.FileChecks.{IsFoundSoFar}
 use Rattle.vme_part_command.proofs.CheckLemmas.{limited-few_steps, limited-many_steps, too_many-with_steps}
 use Rattle.vme_part_command.proofs.CheckLemmas.{MayBeJudged-counted, FileComesTo-few}
 use Rattle.vme_part_command.proofs.CheckLemmas.{IsPending-same}
@@ -56,17 +54,15 @@ part_in-requires c =
       listing,
       start,
       with_steps t steps,
-      subst (λ (f : Option FileSoFar). IsFoundSoFar number listing start f (with_steps t steps))
-          c.in-Ok-Some.field-0-is
-          (c.in-Ok-Some.ensures number listing start t pending
+      c.in-Ok.ensures number listing start t pending
           (MayBeJudged-counted t steps old.count c.counts.new.self.count same
           (omega (arith, (counts.few some).0, c.len.ensures))
-          (counts.within some few) formed)),
+          (counts.within some few) formed),
       formed,
     )
 
-pub returns-in-Ok-Some : goal.returns-in-Ok-Some
-returns-in-Ok-Some c number listing start t h formed =
+pub returns-in-Ok : goal.returns-in-Ok
+returns-in-Ok c number listing start t h formed =
     let old = c.args.self in
     let steps = c.args.steps.items in
     let counts = c.counts.ensures in
@@ -78,22 +74,5 @@ returns-in-Ok-Some c number listing start t h formed =
     counts.left.1 was in
     let may = MayBeJudged-counted t steps old.count c.counts.new.self.count same
     (omega (arith, (counts.few some).0, c.len.ensures)) (counts.within some few) formed in
-    c.part_in.ensures number listing start (with_steps t steps)
-    (subst (λ (f : Option FileSoFar). IsFoundSoFar number listing start f (with_steps t steps)) c.in-Ok-Some.field-0-is
-    (c.in-Ok-Some.ensures number listing start t pending may)) formed (limited-few_steps (with_steps t steps) may.few)
-
-pub returns-in-Ok-None : goal.returns-in-Ok-None
-returns-in-Ok-None c number listing start t h formed =
-    let old = c.args.self in
-    let steps = c.args.steps.items in
-    let counts = c.counts.ensures in
-    let some = c.if-not-counts.false in
-    let new = c.counts.new.self in
-    let (same, few, was) = FileComesTo-few number listing start old.file old.pending.items t old.count old.is_too_long h
-    (counts.few some).2 in
-    let pending = IsPending-same number listing start old.file new.file old.pending new.pending t counts.left.0
-    counts.left.1 was in
-    let may = MayBeJudged-counted t steps old.count c.counts.new.self.count same
-    (omega (arith, (counts.few some).0, c.len.ensures)) (counts.within some few) formed in
-    subst (λ (f : Option FileSoFar). IsFoundSoFar number listing start f (with_steps t steps))
-    c.in-Ok-None.field-0-is (c.in-Ok-None.ensures number listing start t pending may)
+    c.part_in.ensures number listing start (with_steps t steps) (c.in-Ok.ensures number listing start t pending may)
+    formed (limited-few_steps (with_steps t steps) may.few)

@@ -12,7 +12,7 @@ returns-clause-taken c =
       record {
         judged = first;
         all = ap (λ (l : List Step). with_steps first l) c.new-2.ensures.items;
-        found = c.new.ensures.so_far;
+        so_far = c.new.ensures.so_far;
         few = (0, omega arith, c.new.ensures.none);
       },
     )
