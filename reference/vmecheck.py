@@ -944,7 +944,7 @@ def read_listing(text):
 
 
 def may_follow(before, kind, line):
-    """Whether a row of this kind may stand behind one of that."""
+    """Whether a row of this kind may stand after one of that."""
     if before is None:
         return kind == "start" or line == "verdict never-idle"
     if line == "verdict never-idle":
@@ -1006,7 +1006,7 @@ def shown_by(row):
 
 
 def places_of(text):
-    """Where the section that ends the definitions begins and ends, and behind which byte each time stands first."""
+    """Where the section that ends the definitions begins and ends, and after which byte each time stands first."""
     tokens = re.finditer(rb"[^ \t\r\n]+", text)
     for token in tokens:
         section = next(end for end in tokens if end[0] == b"$end")
@@ -1090,7 +1090,7 @@ class Part:
         self.rows = [row.split(" ") for row in self.judged.rows()[:-1]]
 
     def asked(self):
-        """The rules that are asked: their event happens at a judged instant that isn't behind the break."""
+        """The rules that are asked: their event happens at a judged instant that isn't after the break."""
         behind = self.judged.found[0] + 1 if self.judged.found else len(self.judged.recording.levels)
         rules = {"U1"} if self.judged.stretches else set()
         for rule_names, happens in EVENTS.items():
@@ -1100,7 +1100,7 @@ class Part:
         return rules
 
     def hang(self):
-        """The instant of the first transfer that is pending with no reset behind it."""
+        """The instant of the first transfer that is pending with no reset after it."""
         resets = [at for at, row in enumerate(self.rows) if row[0] == "reset"]
         open_rows = self.rows[resets[-1] + 1:] if resets else self.rows
         return next((int(row[1]) for row in open_rows if row[0] == "transfer" and row[-1] == "pending"), None)

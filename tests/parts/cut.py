@@ -2,7 +2,7 @@
 
 
 def head_and_body(text):
-    """The definitions of a dump, and the items behind them: times and value changes, one a line, without comments and
+    """The definitions of a dump, and the items after them: times and value changes, one a line, without comments and
     without the brackets that some stand in."""
     end = text.index("$enddefinitions") + len("$enddefinitions")
     end = text.index("$end", end) + len("$end")

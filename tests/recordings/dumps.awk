@@ -144,7 +144,7 @@ function write(name, trace, verdict, base, names, i, lines) {
   listing(base ".listing", 0, "")
   for (i = 1; i <= count; i++) {
     listing(base "." i ".changed", i, changed(row[i]))
-    # behind a reset stands a start or the verdict, and no start elsewhere
+    # after a reset stands a start or the verdict, and no start elsewhere
     if (i > 1 && i < count && (row[i] !~ /^(start|reset)/ || i == count - 1)) listing(base "." i ".left_out", i, "")
   }
   print name, binding
