@@ -11,7 +11,7 @@ use Rattle.vme_part_format.specs.Tables.{node_value}
 use Rattle.vme_part_format.specs.declared.table.TableNode.{TableNode}
 use Rattle.vme_part_tables.specs.Ways.{NodesGoOn}
 use Rattle.vme_part_tables.specs.Pruned.{IsKept, KeptGoOn, node_kept, nodes_kept}
-use Rattle.vme_part_tables.proofs.Stepping.{get_or-any_default}
+use Rattle.vme_part_tables.proofs.InPlaceChanges.{get_or-any_default}
 
 -- there are m memories; a way below m is a memory, another one the node w - m
 module _ (m : ℕ) where

@@ -1,4 +1,4 @@
-mod Stepping
+mod InPlaceChanges
 mod Walking
 pub mod Composing
 pub mod Joining

@@ -1,7 +1,7 @@
 use Rattle.std.proofs.Common.{rules, ap, sym, ◌∙◌}
 use Rattle.vme_monitor.proofs.Stepped.{drop-set_next}
 use Rattle.vme_part_tables.specs.Composed.{entry_on}
-use Rattle.vme_part_tables.proofs.Stepping.{take-map_one_more}
+use Rattle.vme_part_tables.proofs.InPlaceChanges.{take-map_one_more}
 use Rattle.vme_part_tables.proofs.compose.connect_entries.Goals as goal
 
 pub loop-entry-preserved : goal.loop-entry-preserved

@@ -4,7 +4,7 @@ use Rattle.vme_monitor.proofs.Stepped.{drop-set_next}
 use Rattle.vme_part_format.specs.Tables.{node_value}
 use Rattle.vme_part_tables.specs.Composed.{node_on, nodes_on}
 use Rattle.vme_part_tables.proofs.Composing.{length-nodes_on}
-use Rattle.vme_part_tables.proofs.Stepping.{take-map_rest_set}
+use Rattle.vme_part_tables.proofs.InPlaceChanges.{take-map_rest_set}
 use Rattle.vme_part_tables.proofs.compose.connect_nodes.Goals as goal
 
 pub loop-node-preserved : goal.loop-node-preserved

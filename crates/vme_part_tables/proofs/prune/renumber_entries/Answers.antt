@@ -2,7 +2,7 @@ use Rattle.std.proofs.Common.{rules, ap, sym, subst, ◌∙◌}
 use Rattle.vme_monitor.proofs.Stepped.{drop-set_next}
 use Rattle.vme_part_format.specs.declared.table.TableEntry.{TableEntry}
 use Rattle.vme_part_tables.specs.Pruned.{IsKept, entry_kept}
-use Rattle.vme_part_tables.proofs.Stepping.{get_or-same_from, take-map_one_more}
+use Rattle.vme_part_tables.proofs.InPlaceChanges.{get_or-same_from, take-map_one_more}
 use Rattle.vme_part_tables.proofs.prune.renumber_entries.Goals as goal
 
 pub renumber_entry-requires-clause-kept : goal.renumber_entry-requires-clause-kept
