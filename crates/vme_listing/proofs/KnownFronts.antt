@@ -9,7 +9,7 @@ use Rattle.vme_listing.specs.RowText.{header, line_of}
 use Rattle.vme_listing.specs.declared.row.Row.{Row}
 use Rattle.vme_listing.specs.declared.row.Version.{Version}
 use Rattle.vme_listing.specs.declared.row.Version.TheVariants.{One, Two, Three}
-use Rattle.vme_listing.proofs.RowLengths.{line-short-enough}
+use Rattle.vme_listing.proofs.RowLengths.{line_of-at_most_96}
 
 -- the bytes are the rest of a text, or more than 96 bytes; a line has at most 96
 abbrev pub IsEnough : Bool → List ℕ → Type 0
@@ -65,7 +65,7 @@ module _ (version : Version) (is_rest : Bool) (bytes future : List ℕ) (ends : 
         let last = front.1 verdict in
         let whole : bytes ≡ line_of row = front.0 ∙ ap (λ l. line_of row ++ l) last ∙ append-nil (line_of row) in
         ap (λ l. l ++ future) last ∙ nothing_follows-line is_rest bytes future (line_of row) ends enough
-        (line-short-enough version row is) whole,
+        (line_of-at_most_96 version row is) whole,
   )
 
   -- the line of a row at the start of the text is at the start of the known bytes
@@ -73,7 +73,7 @@ module _ (version : Version) (is_rest : Bool) (bytes future : List ℕ) (ends : 
       → (known : List ℕ) × IsFront bytes row known × (known ++ future ≡ more)
   IsFront-known more front =
       let (known, split, rest) = word-known_if_enough is_rest (line_of row) bytes future more ends enough
-      (line-short-enough version row is) front.0 in
+      (line_of-at_most_96 version row is) front.0 in
       (known, (split, λ verdict. append-nil_first known future (rest ∙ front.1 verdict)), rest)
 
 -- a header has 19 bytes

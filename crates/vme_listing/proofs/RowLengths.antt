@@ -89,8 +89,8 @@ unfolding digits
 line_names-short = refl
 
 -- the name of a line of the bus has at most 16 bytes
-line-short : (line : ℕ) → nat_lt line line_count ≡ true → length (line_name line) ≤ 16
-line-short line h = leb-true (length (line_name line)) 16
+line_name-short : (line : ℕ) → nat_lt line line_count ≡ true → length (line_name line) ≤ 16
+line_name-short line h = leb-true (length (line_name line)) 16
     (agree_below_at (λ l. nat_le (length (line_name l)) 16) (λ l. true) line_count line line_names-short
     (ltb-true line line_count h))
 
@@ -98,7 +98,7 @@ line-short line h = leb-true (length (line_name line)) 16
 break-short : (rule : Rule) (instant line : ℕ) → is_number instant ≡ true → nat_lt line line_count ≡ true
     → length (break_text rule instant line) ≤ 30
 break-short rule instant line p q =
-    simp length-append (omega (arith, rule-short rule, number-short instant p, line-short line q))
+    simp length-append (omega (arith, rule-short rule, number-short instant p, line_name-short line q))
 
 -- the text of the row of an allowed verdict has at most 95 bytes
 outcome-short : (outcome : ListedVerdict) → is_allowed_outcome outcome ≡ true → length (row_text (Verdict outcome)) ≤ 95
@@ -169,6 +169,6 @@ row-short version (PendingTransfer start direction) h =
 row-short version (Verdict outcome) h = outcome-short outcome h
 
 -- the line of a row, with its line feed, has at most 96 bytes
-pub line-short-enough : (version : Version) (row : Row) → is_row version row ≡ true → length (line_of row) ≤ 96
-line-short-enough version row h =
+pub line_of-at_most_96 : (version : Version) (row : Row) → is_row version row ≡ true → length (line_of row) ≤ 96
+line_of-at_most_96 version row h =
     simp length-append (omega (arith, row-short version row h))
