@@ -1,4 +1,5 @@
--- The search for the least unknown line that a cycle needs: what is known after each line, and at its end.
+-- The search for the least unknown line that a cycle needs: what is known after each line, and at its end. Such a line
+-- is called lacked (`lacks`).
 use Rattle.std.proofs.Common.{◌≡◌, ℕ, ◌+◌, ◌<◌, ◌≤◌, Bool, true, false, ◌&&◌, not, refl, ◌∙◌, arith, inl, inr, ◌⊎◌}
 use Rattle.std.specs.Prelude.{None, Some, nat_le}
 use Rattle.std.proofs.Math.Bool.{and-false}
@@ -24,7 +25,7 @@ and-not_parts true false h = (refl, refl)
 and-not_parts false k h = absurd (cc)
 
 module _ (v : Levels) where
-  -- no line is lacked that isn't among those from 5 to below 45
+  -- a line is lacked only if it is one of those from 5 to 44
   lacks-outside : (l : ℕ) → (5 ≤ l → l < 45 → ⊥) → lacks v l ≡ false
   unfolding is_needed
   lacks-outside l h = and-false_first (is_within (needs_of v) l) (not (is_known_on v l))

@@ -1,4 +1,5 @@
--- A data line that was examined is undriven exactly if the transfer moves it and it is unknown.
+-- After each data line of the loop no line so far is both moved by the transfer and unknown (`is_undriven`), or the
+-- least such line has been returned.
 use Rattle.std.proofs.Common.{ℕ, ◌+◌, ◌∙◌, ap, sym, arith, Some}
 use Rattle.vme_trace.specs.Instants.{every}
 use Rattle.vme_trace.specs.Levels.{is_known, is_known_on}

@@ -1,4 +1,5 @@
--- A line that was examined is lacked exactly if the cycle needs it and it is unknown.
+-- After each line of the loop no line so far is both needed by the cycle and unknown (`lacks`), or the least such line
+-- has been returned.
 use Rattle.std.proofs.Common.{ℕ, ◌+◌, ◌∙◌, ap, sym, arith, Some}
 use Rattle.vme_trace.specs.Instants.{every}
 use Rattle.vme_trace.specs.Levels.{is_known, is_known_on}
