@@ -1,3 +1,5 @@
+-- A reason that there is no recording is one that there is no verdict; else the verdict is on the recording that was
+-- judged as its dump was read.
 use Rattle.std.proofs.lemmas.Result.{err_from_is_err_and}
 use Rattle.vme_stream.proofs.AnswerLemmas.{capture_read-unrecorded, judgement_of-refused}
 use Rattle.vme_commands.proofs.JudgedLemmas.{judgement_of-recorded}

@@ -1,3 +1,4 @@
+-- Where a file may not be written at its place, only the line that says so is written; else the recording is explained.
 use Rattle.std.proofs.Common.{inl, inr, refl}
 use Rattle.std.proofs.KnownBytes.{Appends-nil}
 use Rattle.vme_program.proofs.explain.explain_unless_refused.Goals as goal

@@ -1,3 +1,4 @@
+-- A text is written as it is; where there is none, the line of the refusal is, and after it its page.
 use Rattle.std.proofs.Common.{[], refl, inl}
 use Rattle.std.proofs.KnownBytes.{Appends-nil}
 use Rattle.vme_text_commands.proofs.variables.tell_or_complain.Goals as goal

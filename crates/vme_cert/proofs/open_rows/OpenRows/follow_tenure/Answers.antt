@@ -1,3 +1,5 @@
+-- Where BBSY neither falls nor rises, an open row of a tenure stays. Where it falls, such a row starts, unless no level
+-- is granted or the grant has come to no slot.
 use Rattle.std.proofs.Common.{◌∙◌, sym}
 use Rattle.vme_cert.proofs.Following.{WithTenure-begins, WithTenure-no_level, WithTenure-no_slot, WithTenure-stays}
 use Rattle.vme_cert.proofs.open_rows.OpenRows.follow_tenure.Goals as goal
