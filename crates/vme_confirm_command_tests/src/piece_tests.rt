@@ -1,4 +1,4 @@
-//! Inputs that come in pieces, readers that fail, and pages that are full.
+//! Inputs that come in pieces, readers that fail, and outputs that are full.
 
 use crate::tests::{BINDING, DUMP, LISTING, WantedConfirmation, confirms_from};
 use std::alloc::Global;
@@ -137,7 +137,7 @@ fn torn_listings(rt: HostRuntime) {
 }
 
 #[test]
-fn full_pages(rt: HostRuntime) {
+fn full_outputs(rt: HostRuntime) {
     let mut dump = Bytes::new(DUMP.as_bytes());
     let listing = Bytes::new(LISTING.as_bytes());
     let wanted = ("", "vmecheck: cannot write\n", 5);

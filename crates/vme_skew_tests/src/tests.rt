@@ -89,7 +89,7 @@ const MANY_AT_ONCE: [Row; 3] = [
 
 /// Steps after an opening with each line high, a skew, and the steps to which they settle.
 static WORKED: [(&[Row], u64, &[Row]); 17] = [
-    // a step at just the skew belongs to the group, whose lines come in their order
+    // a step that is exactly the skew later belongs to the group, whose lines come in their order
     (
         &THREE_FALLS,
         3,
@@ -172,7 +172,7 @@ static LARGE: [(&[Row], &[Row]); 1] = [(&MANY, &MANY_AT_ONCE)];
 
 /// A skew and a time, and what is complete of the three falls once that time is reached.
 static TIMES: [(u64, u64, &[Row]); 6] = [
-    // a time that is later than a group by just the skew doesn't end it
+    // a time that is exactly the skew later than the start of a group doesn't end it
     (3, 18, &[(10, &[(AS, LOW), (DTACK, LOW)])]),
     // a time that is later by one more ends it
     (
@@ -294,8 +294,8 @@ fn complete_at(
     Ok(out)
 }
 
-/// What a visitor passes on of these steps, by a skew that is a type's parameter, and whether there are too many. A
-/// step of another recording comes first, which the opening ends.
+/// What a visitor passes on of these steps, settled by a skew that is also a parameter of its type, and whether there are
+/// too many. Before these it takes a step of another recording, which `open` drops.
 fn passed_on_by<K: GhostSkew>(
     alloc: Global,
     opening: &Lines,
@@ -325,7 +325,7 @@ fn passed_on_by<K: GhostSkew>(
     Ok((visitor.finish(alloc)?, is_too_long))
 }
 
-/// As `passed_on_by`, by any skew.
+/// `passed_on_by`, with a type that stands for `skew`.
 fn passed_on(
     alloc: Global,
     opening: &Lines,
@@ -350,7 +350,7 @@ fn steps_settle_as_they_come(rt: HostRuntime) {
 }
 
 /// Whether a visitor passes on `settled` of these steps, and they aren't too many.
-fn gives_on(alloc: Global, rows: &[Row], skew: u64, settled: &[Row]) -> Option<bool> {
+fn passes_on(alloc: Global, rows: &[Row], skew: u64, settled: &[Row]) -> Option<bool> {
     let opening = high_lines()?;
     let (taken, is_too_long) = passed_on(alloc, &opening, rows, skew).ok()?;
     Some(taken.opening == opening && are_steps(&taken.steps, settled) && !is_too_long)
@@ -359,7 +359,7 @@ fn gives_on(alloc: Global, rows: &[Row], skew: u64, settled: &[Row]) -> Option<b
 #[test]
 fn settled_steps_are_passed_on(rt: HostRuntime) {
     for (rows, skew, settled) in WORKED.iter() {
-        let is_so = gives_on(rt.alloc(), rows, *skew, settled).unwrap_or(false);
+        let is_so = passes_on(rt.alloc(), rows, *skew, settled).unwrap_or(false);
         assert!(rt; is_so, "{skew} {}", rows.len());
     }
 }
@@ -387,9 +387,9 @@ fn what_is_settled_stays(rt: HostRuntime) {
     }
 }
 
-/// Whether these steps settle to `settled` by a skew of 4 as they come, and as they are passed on, or memory is
-/// refused.
-fn comes_if_at_all(alloc: Global, rows: &[Row], settled: &[Row]) -> bool {
+/// Whether these steps settle to `settled` by a skew of 4, as they come and as they are passed on, unless memory runs
+/// out.
+fn settles_if_memory_suffices(alloc: Global, rows: &[Row], settled: &[Row]) -> bool {
     let Some(opening) = high_lines() else {
         return true;
     };
@@ -404,10 +404,10 @@ fn comes_if_at_all(alloc: Global, rows: &[Row], settled: &[Row]) -> bool {
         }
 }
 
-/// Run with each allocation refused in turn, this shows that the answer is then want of memory, and else the recording.
+/// `tests/memory/run` refuses each allocation in turn: then the error is want of memory, and else the steps are settled.
 #[test]
 fn want_of_memory_is_the_error(rt: HostRuntime) {
     for (rows, settled) in LARGE.iter() {
-        assert!(rt; comes_if_at_all(rt.alloc(), rows, settled));
+        assert!(rt; settles_if_memory_suffices(rt.alloc(), rows, settled));
     }
 }
