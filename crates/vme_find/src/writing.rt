@@ -23,11 +23,11 @@ pub struct FoundBinding {
     /// The text of the binding.
     pub text: Text,
     /// A line for people, from `vmecheck: ` to its end: how many of the 19 groups of lines are bound to variables, in
-    /// which scope, which aren't, and why a check by the binding judges nothing, if so. It has visible characters
-    /// alone.
+    /// which scope, which aren't, and why a check by the binding would judge no cycle, no transfer or no answer, if so.
+    /// It has visible characters alone.
     pub report: Text,
     /// Whether AS, a strobe and DTACK are bound to variables, and AS moves in the dump: else a check by the binding
-    /// judges no cycle, no transfer or no answer.
+    /// would judge no cycle, no transfer or no answer.
     pub is_bus: bool,
     ghost visible: { IsVisible report },
 }

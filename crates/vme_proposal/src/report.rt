@@ -86,7 +86,7 @@ fn state_of(proposal: &Proposal<'_>, group: &LineGroup) -> GroupState {
 
 /// Why a check by the binding would judge no cycle, no transfer or no answer, if so: a cycle needs AS, a transfer a
 /// strobe and an answer.
-fn judges_nothing(proposal: &Proposal<'_>) -> Option<&'static str> {
+fn why_no_bus(proposal: &Proposal<'_>) -> Option<&'static str> {
     let is_bound = |line: Line| proposal.count_bound(line.number(), 1) == 1;
     if !is_bound(Line::AS) {
         Some("without AS no cycle is judged")
@@ -103,11 +103,11 @@ fn judges_nothing(proposal: &Proposal<'_>) -> Option<&'static str> {
 
 /// Whether a check by the binding judges cycles, transfers and answers.
 pub(crate) fn is_bus(proposal: &Proposal<'_>) -> bool {
-    judges_nothing(proposal).is_none()
+    why_no_bus(proposal).is_none()
 }
 
 /// The line that says how many groups are bound, in which scope, of how many slots, and which aren't; and why a check
-/// by the binding judges nothing, if so.
+/// by the binding would judge no cycle, no transfer or no answer, if so.
 pub(crate) fn report(alloc: Global, proposal: &Proposal<'_>, slots: u8) -> Result<Text, AllocError>
     ensures { IfOk result (λ text. IsVisible text) }
 {
@@ -136,7 +136,7 @@ fn report_line(alloc: Global, proposal: &Proposal<'_>, slots: u8) -> Result<Text
     push_groups(&mut text, proposal, slots, GroupState::NotFound)?;
     push_groups(&mut text, proposal, slots, GroupState::InPart)?;
     push_groups(&mut text, proposal, slots, GroupState::Constant)?;
-    if let Some(why) = judges_nothing(proposal) {
+    if let Some(why) = why_no_bus(proposal) {
         text.push(b"; ")?;
         text.push(why.as_bytes())?;
         if why != STILL {

@@ -56,7 +56,7 @@ abbrev pub no_scope_text : List ℕ
 no_scope_text =
     codes "vmecheck: no variable of the dump stands in that scope: `vmecheck variables` lists their paths"
 
--- a binding is written, and the line about it, with status 7 if a check by the binding judges nothing
+-- a binding is written, and the line about it, with status 7 if the binding has no bus to judge
 abbrev pub found_answer : FoundBinding → CommandAnswer
 found_answer found = record { out = found.text; error = found.report; status = if found.is_bus then 0 else 7 }
 

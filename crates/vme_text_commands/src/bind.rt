@@ -54,9 +54,9 @@ fn no_scope_line() -> Message
 /// slots, 1 to 21, or as many as the daisy chains show. It binds the lines in the scope with the path `scope`, or in
 /// the best one. If the dump can't be read, writes to `err` why, as `check` does, and then what the dump, named `name`,
 /// has there and what the refusal means. If the dump lacks the scope, writes that to `err`. Returns the exit status: 0;
-/// 7 where AS, a strobe or DTACK wasn't found, or AS never moves, so that a check by the binding judges nothing, and
-/// the line says why; 3 where the dump is refused or lacks the scope, 4 for want of memory, 5 where the binding can't
-/// be written.
+/// 7 where AS, both strobes or DTACK are bound to constants, or AS never moves, so that a check by the binding would
+/// judge no cycle, no transfer or no answer, and the line says why; 3 where the dump is refused or lacks the scope, 4
+/// for want of memory, 5 where the binding can't be written.
 ///
 /// What it writes is a binding by the format, and it makes a recording of the dump without a fault. A failure of `err`
 /// is ignored.
