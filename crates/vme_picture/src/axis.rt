@@ -11,8 +11,8 @@ use vme_explain::{OtherEvent, Subject, shown_time, time_name};
 use vme_text::Text;
 use vme_trace::Break;
 
-/// The heights of the marks of events, of the instants, and of the times.
-const MARKS: u64 = 45;
+/// The vertical positions of the names of events, of the instants, and of the times.
+const EVENT_NAMES: u64 = 45;
 
 const INSTANTS: u64 = 60;
 
@@ -64,12 +64,12 @@ fn push_row_name(
     )
 }
 
-/// The letter of an event, by its index in the text below the picture.
+/// The letter of an event, by its index in the text below the picture: `a` for 0, up to `z` for 25 and above.
 pub(crate) fn letter(place: usize) -> u8 {
     b'a' + (place.min(25) as u8)
 }
 
-/// The letters of the events at an instant.
+/// The letters of the events at an instant. Two points stand for those after the first `MOST_LETTERS`.
 fn letters_at(alloc: Global, others: &[OtherEvent], instant: u32) -> Result<Text, AllocError> {
     let mut letters = Text::new(alloc);
     let mut count: usize = 0;
@@ -132,13 +132,13 @@ fn push_break(
     let area = Rectangle {
         corner: Point {
             x: x.saturating_sub(width / 2),
-            y: MARKS - 10,
+            y: EVENT_NAMES - 10,
         },
         width,
         height: 13,
     };
     push_box(markup, alloc, BoxFill::Black, area)?;
-    let at = Point { x, y: MARKS };
+    let at = Point { x, y: EVENT_NAMES };
     push_text_at(markup, alloc, at, TextStyle::Inverse, words.as_bytes())
 }
 
@@ -151,11 +151,11 @@ fn push_other(
     x: u64,
 ) -> Result<(), AllocError> {
     push_event_line(markup, alloc, PathKind::EventMarker, x, layout)?;
-    let at = Point { x, y: MARKS };
+    let at = Point { x, y: EVENT_NAMES };
     push_text_at(markup, alloc, at, TextStyle::Middle, letters)
 }
 
-/// Adds a line from the mark of an event down through all rows, interrupted at the instant and the time.
+/// Adds a line from the name of an event down through all rows, interrupted at the instant and the time.
 fn push_event_line(
     markup: &mut Markup,
     alloc: Global,
@@ -164,7 +164,15 @@ fn push_event_line(
     layout: &Layout,
 ) -> Result<(), AllocError> {
     let mut points = Text::new(alloc);
-    push_point(&mut points, alloc, b"M", Point { x, y: MARKS + 3 })?;
+    push_point(
+        &mut points,
+        alloc,
+        b"M",
+        Point {
+            x,
+            y: EVENT_NAMES + 3,
+        },
+    )?;
     push_axis_line(&mut points, alloc, b"V", INSTANTS - 9)?;
     push_point(&mut points, alloc, b"M", Point { x, y: TOP - 2 })?;
     push_axis_line(&mut points, alloc, b"V", layout.bottom().saturating_add(2))?;

@@ -46,12 +46,12 @@ pub(crate) struct Layout {
 }
 
 impl Layout {
-    /// The layout of an excerpt. `broken` is the index of the break among its instants, if there is a break.
+    /// The layout of an excerpt. `break_index` is the index of the break among its instants, if there is a break.
     pub(crate) fn of(
         alloc: Global,
         subject: &Subject<'_>,
         excerpt: &Excerpt,
-        broken: Option<u32>,
+        break_index: Option<u32>,
     ) -> Result<Layout, AllocError> {
         let time = digits_of(alloc, shown_time(subject.account, excerpt.last))?;
         let names = names_width(alloc, subject, excerpt)?;
@@ -65,9 +65,9 @@ impl Layout {
         let fitting = room / needed(time, excerpt).max(1);
         let most = fitting.min(u64::from(count)).max(1) as u32;
         let spare = count.saturating_sub(most);
-        let left_out = match broken {
+        let left_out = match break_index {
             // the break is after two thirds of the columns, earlier at a recording's start, and later at its end
-            Some(place) => spare.min(place.saturating_sub(most.saturating_mul(2) / 3)),
+            Some(index) => spare.min(index.saturating_sub(most.saturating_mul(2) / 3)),
             None => spare,
         };
         let columns = count.saturating_sub(left_out).min(most).max(1);

@@ -1,4 +1,4 @@
-//! The whole picture.
+//! The whole picture: an SVG file. Its lengths are in quarters of a millimetre.
 
 ghost use Rattle.std.specs.Prelude.{◌≡◌, IfOk, nat_eq};
 ghost use Rattle.std.specs.List.{starts_with};
@@ -25,15 +25,15 @@ fn comment_line() -> &'static [u8]
     b"<!-- written by vmecheck explain -->\n"
 }
 
-/// Whether a file begins like a picture of this program.
+/// Whether a file that begins with the bytes `begin` has the first line of a picture of this program.
 pub fn is_picture(begin: &[u8]) -> bool
     ensures { result ≡ starts_with nat_eq begin.now picture_first_line }
 {
     begin.starts_with(comment_line())
 }
 
-/// The picture of an explanation, with this title: the levels around the break, or at the end of the recording if there
-/// is no break.
+/// The picture of an explanation, as the text of an SVG file: the levels around the break, or at the end of the
+/// recording if there is no break. Its title is the first line of `title`. It fails if memory runs out.
 pub fn picture(alloc: Global, subject: &Subject<'_>, title: &[u8]) -> Result<Text, AllocError>
     ensures whole { IfOk result IsPicture }
     ensures visible { IfOk result (λ text. IsVisible text) }
@@ -52,7 +52,7 @@ pub fn picture(alloc: Global, subject: &Subject<'_>, title: &[u8]) -> Result<Tex
     Ok(text)
 }
 
-/// The first line of a text.
+/// The first line of a text, without its line feed.
 fn first_line(text: &[u8]) -> &[u8] {
     match text.iter().position(|byte| *byte == b'\n') {
         Some(end) => &text[..end],
@@ -60,56 +60,58 @@ fn first_line(text: &[u8]) -> &[u8] {
     }
 }
 
-/// The attributes and the content of a picture's element.
+/// The attributes and the content of the element `svg` of a picture.
 #[derive(Drop)]
 struct Parts {
     attributes: Attributes,
     inner: Markup,
 }
 
+/// The element `svg` of a picture with the title `title`.
 fn parts_of(alloc: Global, subject: &Subject<'_>, title: &[u8]) -> Result<Parts, AllocError> {
     let found = break_of(subject.verdict);
     let excerpt = excerpt_of(alloc, subject)?;
-    let others = match found {
+    let other_events = match found {
         Some(found) => others_of(alloc, subject, found)?,
         None => Vec::new(alloc),
     };
-    let place = match found {
+    let break_index = match found {
         Some(found) => Some(found.instant.saturating_sub(excerpt.first)),
         None => None,
     };
-    let layout = Layout::of(alloc, subject, &excerpt, place)?;
-    let words = paragraphs(alloc, subject, found, others.as_slice())?;
-    let below = layout.bottom().saturating_add(8);
-    let height = height_of(below, line_count(words.as_bytes()));
+    let layout = Layout::of(alloc, subject, &excerpt, break_index)?;
+    let text = paragraphs(alloc, subject, found, other_events.as_slice())?;
+    let text_top = layout.bottom().saturating_add(8);
+    let height = height_of(text_top, line_count(text.as_bytes()));
     let mut inner = Markup::new(alloc);
     inner.push_end_of_line()?;
     push_head(&mut inner, alloc, title, height)?;
     push_axis(&mut inner, alloc, subject, &layout)?;
-    push_events(&mut inner, alloc, found, others.as_slice(), &layout)?;
-    let broken = match found {
+    push_events(&mut inner, alloc, found, other_events.as_slice(), &layout)?;
+    let broken_line = match found {
         Some(found) => Some(found.line),
         None => None,
     };
-    push_waves(&mut inner, alloc, &excerpt, broken, &layout)?;
+    push_waves(&mut inner, alloc, &excerpt, broken_line, &layout)?;
     push_buses(&mut inner, alloc, &excerpt, &layout)?;
-    push_paragraphs(&mut inner, alloc, words.as_bytes(), below)?;
+    push_paragraphs(&mut inner, alloc, text.as_bytes(), text_top)?;
     Ok(Parts {
-        attributes: whole_attributes(alloc, height)?,
+        attributes: svg_attributes(alloc, height)?,
         inner,
     })
 }
 
-/// The height of a picture with `lines` lines of text from height `below` on, rounded up to whole millimetres.
-fn height_of(below: u64, lines: usize) -> u64 {
-    let end = below
+/// The height of a picture whose text begins at the height `text_top`, counted from the top, and has `lines` lines. It
+/// is rounded up to whole millimetres.
+fn height_of(text_top: u64, lines: usize) -> u64 {
+    let end = text_top
         .saturating_add(LINE.saturating_mul(lines as u64))
         .saturating_add(MARGIN);
     (end.saturating_add(3) / 4).saturating_mul(4)
 }
 
-/// The attributes of a picture of this height.
-fn whole_attributes(alloc: Global, height: u64) -> Result<Attributes, AllocError> {
+/// The attributes of the element `svg` of a picture of the height `height`.
+fn svg_attributes(alloc: Global, height: u64) -> Result<Attributes, AllocError> {
     let mut attributes = Attributes::new(alloc);
     attributes.push(alloc, Attribute::Xmlns, b"http://www.w3.org/2000/svg")?;
     attributes.push(
@@ -137,7 +139,7 @@ fn whole_attributes(alloc: Global, height: u64) -> Result<Attributes, AllocError
     Ok(attributes)
 }
 
-/// The length of `units`, which are whole millimetres, as text.
+/// The length of `units` quarters of a millimetre, a multiple of 4, as text in millimetres.
 fn millimetres(alloc: Global, units: u64) -> Result<Text, AllocError> {
     let mut text = Text::new(alloc);
     text.push_decimal(alloc, units / 4)?;
@@ -145,16 +147,22 @@ fn millimetres(alloc: Global, units: u64) -> Result<Text, AllocError> {
     Ok(text)
 }
 
-/// Adds the title, the hatching pattern, and the white background.
+/// Adds the title as an element, the hatching pattern, the white background, and the title as a text.
 fn push_head(
     markup: &mut Markup,
     alloc: Global,
     title: &[u8],
     height: u64,
 ) -> Result<(), AllocError> {
-    let mut called = Markup::new(alloc);
-    called.push_characters(alloc, title)?;
-    push_element_line(markup, alloc, Tag::Title, &Attributes::new(alloc), &called)?;
+    let mut characters = Markup::new(alloc);
+    characters.push_characters(alloc, title)?;
+    push_element_line(
+        markup,
+        alloc,
+        Tag::Title,
+        &Attributes::new(alloc),
+        &characters,
+    )?;
     push_hatching(markup, alloc)?;
     let page = Rectangle {
         corner: Point { x: 0, y: 0 },
