@@ -112,7 +112,8 @@ pub(crate) fn push_others(
     Ok(())
 }
 
-/// The other events of a break, in the order of the text.
+/// The other events that the rule of the break `found` refers to, in the order in which an explanation names them. It
+/// fails if memory runs out.
 pub fn others_of(
     alloc: Global,
     subject: &Subject<'_>,

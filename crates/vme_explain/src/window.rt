@@ -9,9 +9,10 @@ use std::alloc::{AllocError, Global};
 use vme_account::Account;
 use vme_trace::{Break, Line, Lines, Verdict};
 
-/// How many instants an excerpt shows before and after the break.
+/// How many instants an excerpt shows before the break.
 const BEFORE: u32 = 8;
 
+/// How many instants an excerpt shows after the break.
 const AFTER: u32 = 3;
 
 /// What an excerpt shows.
@@ -46,7 +47,9 @@ fn window(account: &Account, around: u32) -> (u32, u32)
     (first.min(last), last)
 }
 
-/// What is shown around the break, or at the end of the recording if there is no break.
+/// What is shown around the break, or at the end of the recording if there is no break. Of the instants that the
+/// account keeps these are the break's own, at most 8 before it and at most 3 after it, or the last 12 at most. It
+/// fails if memory runs out.
 pub fn excerpt_of(alloc: Global, subject: &Subject<'_>) -> Result<Excerpt, AllocError> {
     let account = subject.account;
     let found = break_of(subject.verdict);
