@@ -1,4 +1,4 @@
-//! Takes the steps of a recording, and makes its account.
+//! Takes the steps of a recording, and makes its account: what an explanation reports of it.
 
 ghost use Rattle.std.specs.Prelude.{◌≡◌, ◌+◌, ◌<◌, ◌≤◌, [], Err, IfErr, IfOk, None, length, min};
 ghost use Rattle.vme_trace.specs.Trace.{Trace};
@@ -15,7 +15,7 @@ use vme_trace::{Lines, Step, StepVisitor};
 /// The greatest number of steps of a recording.
 const MOST_STEPS: u32 = 268_435_456;
 
-/// The greatest number of steps of an account: 4,096 blocks of 16,384 steps.
+/// The greatest number of steps of a recording that has an account: 4,096 blocks of 16,384 steps.
 const MOST_TAKEN: u32 = 67_108_864;
 
 /// Why there is no account.
@@ -30,7 +30,7 @@ pub enum NoAccount {
 }
 
 /// Takes the steps of a recording as they come, and keeps what its account has. Its size doesn't depend on the number
-/// of steps.
+/// of steps. After it ran out of memory it has no account.
 #[derive(Drop)]
 pub struct AccountVisitor {
     alloc: Global,
@@ -54,7 +54,8 @@ impl Model for AccountVisitor {
 }
 
 impl AccountVisitor {
-    /// The visitor before the first step.
+    /// The visitor before the first step of a recording with these opening levels. If memory runs out,
+    /// [`AccountVisitor::finish`] answers it.
     pub fn new(alloc: Global, opening: &Lines) -> AccountVisitor
         ensures { result ≡ record { opening = opening.now; steps = [] } }
     {
@@ -67,7 +68,7 @@ impl AccountVisitor {
         }
     }
 
-    /// The account of the recording, which ends here.
+    /// The account of the recording, which ends here. Too many steps are answered before lack of memory.
     pub fn finish(self) -> Result<Account, NoAccount>
         ensures account { malformed_step self ≡ None → IfOk result (λ account. IsAccountOf account self) }
         ensures short { IfOk result (λ account. length self.steps ≤ 67108864) }
@@ -89,14 +90,14 @@ impl AccountVisitor {
             return Err(NoAccount::TooManyBlocks);
         }
         match running {
-            Some(running) => ended(running, opening),
+            Some(running) => account_at_end(running, opening),
             None => Err(NoAccount::Memory),
         }
     }
 }
 
 /// The account of a recording that ends here.
-fn ended(running: Box<RunningAccount>, opening: Lines) -> Result<Account, NoAccount>
+fn account_at_end(running: Box<RunningAccount>, opening: Lines) -> Result<Account, NoAccount>
     ensures account { (t : Trace) → KeepsAccount t.opening t.steps running.value → opening ≡ t.opening
         → malformed_step t ≡ None → IfOk result (λ account. IsAccountOf account t) }
     ensures memory { IfErr result (λ e. e ≡ NoAccount.Memory) }
@@ -107,8 +108,8 @@ fn ended(running: Box<RunningAccount>, opening: Lines) -> Result<Account, NoAcco
     }
 }
 
-/// `count` and one more, at most `MOST_STEPS + 1`.
-fn with_one(count: u32) -> u32
+/// One more than `count`, at most `MOST_STEPS + 1`.
+fn next_count(count: u32) -> u32
     ensures { result ≡ min (count + 1) (capture_limit + 1) }
 {
     if count > MOST_STEPS {
@@ -130,7 +131,7 @@ impl StepVisitor for AccountVisitor {
 
     fn step(&mut self, _alloc: Global, step: Step) -> Result<(), AllocError> {
         let taken = self.taken.and(&step);
-        let count = with_one(self.count);
+        let count = next_count(self.count);
         if let Some(mut running) = self.running.take() {
             if count <= MOST_TAKEN {
                 running.take(step)?;

@@ -17,7 +17,7 @@ pub trait StepVisitor: Drop {
     fn open(&mut self, opening: &Lines)
         ensures { recorded self.new ≡ record { opening = opening.now; steps = [] } };
 
-    /// Takes the step that follows.
+    /// Takes the step that follows. It fails if memory runs out; what is recorded then isn't said.
     fn step(&mut self, alloc: Global, step: Step) -> Result<(), AllocError>
         ensures { OnOk result (recorded self.new ≡ with_steps (recorded self.old) (step ∷ [])) };
 }

@@ -12,14 +12,15 @@ returns-in-Some-clause-account c =
     let t : Trace = record { opening = i.opening; steps = i.taken.items } in
     let keeps : IfSome i.running (λ b. KeepsAccount i.opening i.taken.items b.value) =
     c.self.invariant.kept c.if-count-gt-MOST_TAKEN.false in
-    subst (λ (t : Trace). malformed_step t ≡ None → IfOk c.ended.result (λ account. IsAccountOf account t))
+    subst
+    (λ (t : Trace). malformed_step t ≡ None → IfOk c.account_at_end.result (λ account. IsAccountOf account t))
     c.self.view_is
-    (λ ok. c.ended.ensures.account t (rw c.in-Some.is at keeps) refl ok)
+    (λ ok. c.account_at_end.ensures.account t (rw c.in-Some.is at keeps) refl ok)
 
 pub returns-in-Some-clause-short : goal.returns-in-Some-clause-short
 returns-in-Some-clause-short c =
-    subst (λ (t : Trace). IfOk c.ended.result (λ account. length t.steps ≤ 67108864)) c.self.view_is
-    (IfOk-constant (omega (arith, c.self.invariant.counted, c.if-count-gt-MOST_TAKEN.false)) c.ended.result)
+    subst (λ (t : Trace). IfOk c.account_at_end.result (λ account. length t.steps ≤ 67108864)) c.self.view_is
+    (IfOk-constant (omega (arith, c.self.invariant.counted, c.if-count-gt-MOST_TAKEN.false)) c.account_at_end.result)
 
 pub returns-then-count-gt-MOST_STEPS-clause-too_many_steps : goal.returns-then-count-gt-MOST_STEPS-clause-too_many_steps
 returns-then-count-gt-MOST_STEPS-clause-too_many_steps c = λ is.
