@@ -54,6 +54,7 @@ fn shift_marks(marks: &mut [Mark], by: u32)
     }
 }
 
+/// The break `found`, if there is one, with its instant later by `by`, but at most `u32::MAX`. Its time stays.
 pub fn later_break(found: Option<Break>, by: u32) -> Option<Break>
     ensures { result ≡ option_map (later_break_of by) found }
 {
@@ -68,6 +69,7 @@ pub fn later_break(found: Option<Break>, by: u32) -> Option<Break>
     }
 }
 
+/// A copy of `marks` with all instants later by `by`, but at most `u32::MAX`. It fails if memory runs out.
 pub fn later_marks(alloc: Global, marks: &[Mark], by: u32) -> Result<Vec<Mark>, AllocError>
     ensures { IfOk result (λ v. v.items ≡ map (later_mark by) marks.now) }
 {
@@ -76,6 +78,7 @@ pub fn later_marks(alloc: Global, marks: &[Mark], by: u32) -> Result<Vec<Mark>, 
     Ok(all)
 }
 
+/// A copy of `links` with all instants later by `by`, but at most `u32::MAX`. It fails if memory runs out.
 pub fn later_links(alloc: Global, links: &[Link], by: u32) -> Result<Vec<Link>, AllocError>
     ensures { IfOk result (λ v. map link_value v.items ≡ map (later_link_value by) (map link_value links.now)) }
 {
@@ -91,6 +94,7 @@ pub fn later_links(alloc: Global, links: &[Link], by: u32) -> Result<Vec<Link>, 
     Ok(all)
 }
 
+/// A copy of `rows` with all instants later by `by`, but at most `u32::MAX`. It fails if memory runs out.
 pub fn later_rows<P: Copy>(
     alloc: Global,
     rows: &[TableRow<P>],
@@ -110,7 +114,8 @@ pub fn later_rows<P: Copy>(
     Ok(all)
 }
 
-/// A link from each row to the place of its memory, with all instants later by `by`.
+/// A link from each row to the place, i.e. the number, of its memory, with all instants later by `by`, but at most
+/// `u32::MAX`. It fails if memory runs out.
 pub fn links_to_places<P: Enumerable>(
     alloc: Global,
     rows: &[TableRow<P>],
@@ -169,7 +174,8 @@ pub fn shift_rows<P: Copy>(rows: &mut [TableRow<P>], by: u32)
     }
 }
 
-/// Turns each row into a link to the place of its memory. The links are put into `room`, whose capacity suffices.
+/// Turns each row into a link to the place, i.e. the number, of its memory. The links are put into `room`, whose
+/// capacity suffices.
 pub fn links_in<P: Enumerable>(room: Vec<Link>, rows: Vec<TableRow<P>>) -> Vec<Link>
     requires empty { room.items ≡ [] }
     requires fits { vec_len rows ≤ vec_capacity room }
@@ -188,7 +194,7 @@ pub fn links_in<P: Enumerable>(room: Vec<Link>, rows: Vec<TableRow<P>>) -> Vec<L
     links
 }
 
-/// A row for each memory, with nothing shown yet.
+/// A row for each memory, with nothing shown yet. It fails if memory runs out.
 pub fn fresh_rows<P: Copy>(alloc: Global, memories: &[P]) -> Result<Vec<TableRow<P>>, AllocError>
     ensures { IfOk result (λ v. map outcome_of v.items ≡ map nothing_shown memories.now) }
 {
@@ -334,7 +340,8 @@ fn break_of(fault: Fault, instant: u32, time: u64) -> Break
 }
 
 impl<P: Copy> TableRow<P> {
-    /// Advances the row by a step that gives `next`.
+    /// Advances the row by the step at instant `instant` and time `time`, which gives `next`. It fails if memory runs
+    /// out; the row then has its old memory, but may have the break and some marks of the step.
     #[inline(always)]
     pub fn extend(&mut self, next: Next<P>, instant: u32, time: u64) -> Result<(), AllocError>
         ensures { OnOk result (outcome_of self.new ≡ extended (outcome_of self.old) (outcome_at instant time next)) }
