@@ -19,7 +19,7 @@ use Rattle.vme_part_format.specs.PartText.{body_bytes, flag, name_bytes, part_by
 use Rattle.vme_part_format.specs.PartText.{version_byte}
 use Rattle.vme_part_format.specs.Reading.{body_at, fault_at, flag_at, has_its_sum, number_at, part_at, read_whole}
 use Rattle.vme_part_format.specs.Reading.{segments_at, summed_part, with_place, written_sum}
-use Rattle.vme_part_format.specs.Sums.{DifferInOne, sum_of, sum_start}
+use Rattle.vme_part_format.specs.Sums.{DifferInOne, offset_basis, sum_of}
 use Rattle.vme_part_format.specs.Tables.{PartValue}
 use Rattle.vme_part_format.proofs.FieldLaws.{IsBytes, IsBytes-drop, IsBytes-take, Takes, Takes-append, bind_ok}
 use Rattle.vme_part_format.proofs.FieldLaws.{flag_at-of_bytes}
@@ -177,7 +177,7 @@ part_at-of_bytes p fits =
     ap (λ (k : ℕ). take k bytes) n-is ∙ take_at front sum (length front) refl in
     let backs : drop (length bytes - 8) bytes ≡ sum =
     ap (λ (k : ℕ). drop k bytes) n-is ∙ drop_at front sum (length front) refl in
-    let low : sum_of front < 2 ^ 64 = fold_summed-below front sum_start (omega arith) in
+    let low : sum_of front < 2 ^ 64 = fold_summed-below front offset_basis (omega arith) in
     let right : sum_of (summed_part bytes) ≡ written_sum bytes =
     ap sum_of fronts ∙ sym (ap (from_le_bytes w64) backs ∙ from_le_bytes-to_le_bytes_8 (sum_of front) low) in
     let has : has_its_sum bytes ≡ true =

@@ -11,7 +11,7 @@ use Rattle.std.proofs.lemmas.Bool.{cases_lt}
 use Rattle.std.proofs.lemmas.List.{append_cancel_left, drop_at, take-append-le, take_at}
 use Rattle.std.proofs.lemmas.Nat.{from_le_bytes-to_le_bytes_8, mul-mod_first, xor_comm, xor_lt}
 use Rattle.std.proofs.lemmas.Nat.Bits.{bit_at-lt, bit_at_xor, same_from_bits}
-use Rattle.vme_part_format.specs.Sums.{DifferInOne, sum_factor, sum_of, sum_start, summed}
+use Rattle.vme_part_format.specs.Sums.{DifferInOne, fnv_prime, offset_basis, sum_of, summed}
 use Rattle.vme_part_format.proofs.FieldLaws.{IsBytes, IsBytes-rest, IsBytes-take}
 
 -- two bits that give the same sum with a third, modulo 2, are equal
@@ -25,28 +25,28 @@ bit_xor-injective s a b e =
     (bit_at (bit_xor s b) i) (bit_at-lt s i) (bit_at-lt a i) (bit_at-lt b i) (bit_at_xor s a i) (bit_at_xor s b i)
     (ap (λ (n : ℕ). bit_at n i) e))
 
--- the inverse of the factor modulo 2 ^ 64
-inverse_factor : ℕ
-inverse_factor = 14886173955864302971
+-- the inverse of FNV's prime modulo 2 ^ 64
+inverse_of_prime : ℕ
+inverse_of_prime = 14886173955864302971
 
--- x multiplied by the factor and by its inverse is x modulo 2 ^ 64
-factor_times_inverse : (x : ℕ) → x * sum_factor * inverse_factor ≡ x + (x * 887285111055) * 2 ^ 64
-unfolding inverse_factor
-factor_times_inverse x = omega arith
+-- x multiplied by the prime and by its inverse is x modulo 2 ^ 64
+prime_times_inverse : (x : ℕ) → x * fnv_prime * inverse_of_prime ≡ x + (x * 887285111055) * 2 ^ 64
+unfolding inverse_of_prime
+prime_times_inverse x = omega arith
 
--- a number below 2^64 that is multiplied by the factor, and then by its inverse, is itself modulo 2^64
-times_factor-inverse : (x : ℕ) → x < 2 ^ 64 → ((x * sum_factor) % 2 ^ 64 * inverse_factor) % 2 ^ 64 ≡ x
-times_factor-inverse x low =
-    mul-mod_first (x * sum_factor) inverse_factor (2 ^ 64)
-    ∙ ap (λ (n : ℕ). n % 2 ^ 64) (factor_times_inverse x)
+-- a number below 2^64 that is multiplied by the prime, and then by its inverse, is itself modulo 2^64
+times_prime-inverse : (x : ℕ) → x < 2 ^ 64 → ((x * fnv_prime) % 2 ^ 64 * inverse_of_prime) % 2 ^ 64 ≡ x
+times_prime-inverse x low =
+    mul-mod_first (x * fnv_prime) inverse_of_prime (2 ^ 64)
+    ∙ ap (λ (n : ℕ). n % 2 ^ 64) (prime_times_inverse x)
     ∙ add-mul-mod_self_right x (x * 887285111055) (2 ^ 64)
     ∙ omega arith
 
--- multiplying numbers below 2^64 by the factor, modulo 2^64, is injective
-times_factor-injective : (x y : ℕ) → x < 2 ^ 64 → y < 2 ^ 64 → (x * sum_factor) % 2 ^ 64 ≡ (y * sum_factor) % 2 ^ 64 → x
+-- multiplying numbers below 2^64 by the prime, modulo 2^64, is injective
+times_prime-injective : (x y : ℕ) → x < 2 ^ 64 → y < 2 ^ 64 → (x * fnv_prime) % 2 ^ 64 ≡ (y * fnv_prime) % 2 ^ 64 → x
     ≡ y
-times_factor-injective x y lx ly e =
-    sym (times_factor-inverse x lx) ∙ ap (λ (n : ℕ). (n * inverse_factor) % 2 ^ 64) e ∙ times_factor-inverse y ly
+times_prime-injective x y lx ly e =
+    sym (times_prime-inverse x lx) ∙ ap (λ (n : ℕ). (n * inverse_of_prime) % 2 ^ 64) e ∙ times_prime-inverse y ly
 
 -- a byte is below 2^64
 byte-below_64_bits : (b : ℕ) → b < 256 → b < 2 ^ 64
@@ -55,7 +55,7 @@ byte-below_64_bits b low = omega arith
 -- from the same sum, two bytes that give the same sum are equal
 pub summed-injective_in_byte : (s a b : ℕ) → s < 2 ^ 64 → a < 256 → b < 256 → summed s a ≡ summed s b → a ≡ b
 summed-injective_in_byte s a b ls la lb e =
-    bit_xor-injective s a b (times_factor-injective (bit_xor s a) (bit_xor s b)
+    bit_xor-injective s a b (times_prime-injective (bit_xor s a) (bit_xor s b)
     (xor_lt 64 s a ls (byte-below_64_bits a la))
     (xor_lt 64 s b ls (byte-below_64_bits b lb)) e)
 
@@ -63,7 +63,7 @@ summed-injective_in_byte s a b ls la lb e =
 pub summed-injective_in_sum : (s t b : ℕ) → s < 2 ^ 64 → t < 2 ^ 64 → b < 256 → summed s b ≡ summed t b → s ≡ t
 summed-injective_in_sum s t b ls lt lb e =
     bit_xor-injective b s t (xor_comm b s
-    ∙ times_factor-injective (bit_xor s b) (bit_xor t b) (xor_lt 64 s b ls (byte-below_64_bits b lb))
+    ∙ times_prime-injective (bit_xor s b) (bit_xor t b) (xor_lt 64 s b ls (byte-below_64_bits b lb))
     (xor_lt 64 t b lt (byte-below_64_bits b lb)) e
     ∙ xor_comm t b)
 
@@ -107,7 +107,7 @@ sum_of-differ_in_one bytes others fits d e =
     let rest = IsBytes-back d.front (d.one ∷ d.back) there in
     let same : sum_of (d.front ++ d.one ∷ d.back) ≡ sum_of (d.front ++ d.other ∷ d.back) =
     sym (ap sum_of d.bytes-are) ∙ sym e ∙ ap sum_of d.others-are in
-    d.apart (fold_summed-injective_in_byte d.front d.back d.one d.other sum_start (omega arith) (rest 0) d.byte
+    d.apart (fold_summed-injective_in_byte d.front d.back d.one d.other offset_basis (omega arith) (rest 0) d.byte
     (IsBytes-rest d.one d.back rest) same)
 
 -- `bytes` with their sum at the end
@@ -117,9 +117,9 @@ with_sum bytes = bytes ++ to_le_bytes w64 (sum_of bytes)
 -- sums of which the bytes are equal are equal
 sum_bytes-injective : (a b : List ℕ) → to_le_bytes w64 (sum_of a) ≡ to_le_bytes w64 (sum_of b) → sum_of a ≡ sum_of b
 sum_bytes-injective a b e =
-    sym (from_le_bytes-to_le_bytes_8 (sum_of a) (fold_summed-below a sum_start (omega arith)))
+    sym (from_le_bytes-to_le_bytes_8 (sum_of a) (fold_summed-below a offset_basis (omega arith)))
     ∙ ap (from_le_bytes w64) e
-    ∙ from_le_bytes-to_le_bytes_8 (sum_of b) (fold_summed-below b sum_start (omega arith))
+    ∙ from_le_bytes-to_le_bytes_8 (sum_of b) (fold_summed-below b offset_basis (omega arith))
 
 -- if a and b with their sums are equal except for one byte before the sum, that byte is equal too
 with_sum-same_before_sum : (a b front back : List ℕ) (one other r : ℕ) → IsBytes (with_sum a) → with_sum a ≡ front
@@ -145,7 +145,7 @@ with_sum-same_before_sum a b front back one other r fits ea eb la lb byte =
     let same : sum_of (front ++ one ∷ take r back) ≡ sum_of (front ++ other ∷ take r back) =
     sym (ap sum_of a-is) ∙ sum_bytes-injective a b (sum_a-is ∙ sym sum_b-is) ∙ ap sum_of b-is in
     let rest = IsBytes-back front (one ∷ back) (subst (λ (xs : List ℕ). IsBytes xs) ea fits) in
-    fold_summed-injective_in_byte front (take r back) one other sum_start (omega arith) (rest 0) byte
+    fold_summed-injective_in_byte front (take r back) one other offset_basis (omega arith) (rest 0) byte
     (IsBytes-take r back (IsBytes-rest one back rest)) same
 
 -- if a and b with their sums are equal except for one byte of the sum, that byte is equal too

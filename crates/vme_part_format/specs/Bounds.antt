@@ -28,6 +28,8 @@ pub record FitsEntry (steps ways : ℕ) (e : TableEntry) : Type 0 where
   pub next : e.next < ways
   pub first_break : IfSome e.first_break (FitsBreak steps)
 
+-- the values of a mark are in their ranges: a level below 4, a slot from 1 to 22, a modifier code below 64, an address
+-- and data below 2^32, a bit for each of 8 unknown digits; and an answer is on DTACK or BERR
 abbrev pub FitsKind : MarkKind → Type 0
 FitsKind kind.Reset = Unit {0}
 FitsKind kind.Start = Unit {0}
@@ -47,6 +49,7 @@ pub record FitsMark (steps before : ℕ) (m : WideMark) : Type 0 where
   pub kind : FitsKind m.kind
   pub instant : (0 < m.instant) × (before ≤ m.instant) × (m.instant ≤ steps) × (m.instant < 2 ^ 64)
 
+-- marks at instants from `before` to `steps`, and not 0, none before the one in front of it
 abbrev pub FitMarks : ℕ → ℕ → List WideMark → Type 0
 FitMarks steps before [] = Unit {0}
 FitMarks steps before (m ∷ ms) = FitsMark steps before m × FitMarks steps m.instant ms
@@ -68,6 +71,7 @@ pub record FitsNode (count steps behind : ℕ) (n : NodeValue) : Type 0 where
   pub some : (0 < length n.marks) × (length n.marks < 2 ^ 32)
   pub marks : FitMarks steps 0 n.marks
 
+-- nodes of a table of `count` memories
 abbrev pub FitNodes : ℕ → ℕ → List NodeValue → Type 0
 FitNodes count steps [] = Unit {0}
 FitNodes count steps (n ∷ ns) = FitsNode count steps (length ns) n × FitNodes count steps ns
@@ -81,6 +85,7 @@ abbrev pub HasNodes : Bool → List NodeValue → Type 0
 HasNodes true ns = Unit {0}
 HasNodes false ns = ns ≡ []
 
+-- a table of `count` memories, of a segment of `steps` steps, in a part with or without marks (`listing`)
 pub record FitsTable (listing : Bool) (count steps : ℕ) (t : TableValue) : Type 0 where
   pub as_many : length t.entries ≡ count
   pub ended : (front : List TableEntry) × (back : List TableEntry) × (length front ≡ 2)
@@ -102,6 +107,7 @@ FitsTimes first order steps None = steps ≡ 0
 FitsTimes first order steps (Some t) =
     (0 < steps) × (first ≤ t.number) × (t.number ≤ last_of first order) × (t.first ≤ t.last) × (t.last < 2 ^ 64)
 
+-- a segment of a part with or without marks (`listing`)
 pub record FitsSegment (listing : Bool) (s : SegmentValue) : Type 0 where
   pub numbers : FitsNumbers s.first s.order
   pub steps : s.steps < 2 ^ 64
@@ -120,11 +126,13 @@ abbrev pub IsAfter : Option ℕ → SegmentValue → Type 0
 IsAfter None s = Unit {0}
 IsAfter (Some last) s = last < s.first
 
+-- segments of a part with or without marks (`listing`), in ascending order; `before` is the last file before them
 abbrev pub FitSegments : Bool → Option ℕ → List SegmentValue → Type 0
 FitSegments listing before [] = Unit {0}
 FitSegments listing before (s ∷ ss) =
     FitsSegment listing s × IsAfter before s × FitSegments listing (Some (last_of s.first s.order)) ss
 
+-- a part that can be written
 pub record FitsPart (p : PartValue) : Type 0 where
   pub backplane : p.backplane < 2 ^ 64
   pub few : length p.segments < 2 ^ 32

@@ -23,6 +23,7 @@ use Rattle.vme_part_format.specs.Tables.{NodeValue, PartValue, SegmentValue, Tab
 
 -- ---- levels
 
+-- the code of a level
 abbrev pub level_code : Level → ℕ
 level_code Low = 0
 level_code High = 1
@@ -32,6 +33,7 @@ level_code Unknown = 2
 abbrev pub quad : Level → Level → Level → Level → ℕ
 quad a b c d = level_code a + 4 * level_code b + 16 * level_code c + 64 * level_code d
 
+-- levels, four in a byte; how many there are is a multiple of 4
 abbrev pub packed : List Level → List ℕ
 packed [] = []
 packed (a ∷ []) = []
@@ -43,14 +45,17 @@ packed (a ∷ b ∷ c ∷ d ∷ ls) = quad a b c d ∷ packed ls
 abbrev pub seen_level : Levels → ℕ → Level
 seen_level v l = if has_line v.slots l then level_at v l else Unknown
 
+-- the levels of all lines, by their numbers
 abbrev pub seen_levels : Levels → List Level
 seen_levels v = map (seen_level v) (range_with_len 0 line_count)
 
+-- the levels of all lines as bytes
 unfoldable pub levels_bytes : Levels → List ℕ
 levels_bytes v = packed (seen_levels v)
 
 -- ---- breaks and entries
 
+-- a first break: 0 if there is none; else the number of its rule and 1, its line, its instant and its time
 abbrev pub first_break_bytes : Option WideBreak → List ℕ
 first_break_bytes None = 0 ∷ []
 first_break_bytes (Some b) =
@@ -61,6 +66,7 @@ abbrev pub way_bytes : Bool → ℕ → List ℕ
 way_bytes true next = to_le_bytes w32 next
 way_bytes false next = next ∷ []
 
+-- an entry: its way and its first break
 abbrev pub entry_bytes : Bool → TableEntry → List ℕ
 entry_bytes listing e = way_bytes listing e.next ++ first_break_bytes e.first_break
 
@@ -72,17 +78,20 @@ width_code n =
     if n == 0 then 0 else if nat_lt n 256 then 1 else if nat_lt n 65536 then 2 else if nat_lt n 4294967296 then 3
     else 4
 
+-- the number n in the width with the code `code`
 abbrev pub bytes_of_width : ℕ → ℕ → List ℕ
 bytes_of_width code n =
     if code == 0 then [] else if code == 1 then n ∷ [] else if code == 2 then to_le_bytes w16 n
     else if code == 3 then to_le_bytes w32 n else to_le_bytes w64 n
 
+-- the code of the start of a cycle of this class
 abbrev pub class_code : Class → ℕ
 class_code class.S = 5
 class_code class.K = 6
 class_code class.I = 7
 class_code class.F = 8
 
+-- the code of the bytes that a write moves
 abbrev pub moved_code : MovedBytes → ℕ
 moved_code Nothing = 0
 moved_code OddByte = 1
@@ -90,6 +99,7 @@ moved_code EvenByte = 2
 moved_code Word = 3
 moved_code LongWord = 4
 
+-- the code of a kind of mark
 abbrev pub kind_code : MarkKind → ℕ
 kind_code kind.Reset = 0
 kind_code kind.Start = 1
@@ -103,6 +113,7 @@ kind_code (kind.Answer line) = if line == DTACK then 12 else 13
 kind_code (kind.WriteAnswer line moved unknown value) = if line == DTACK then 14 else 15
 kind_code kind.Close = 16
 
+-- the values of a mark of this kind
 abbrev pub kind_bytes : MarkKind → List ℕ
 kind_bytes kind.Reset = []
 kind_bytes kind.Start = []
@@ -125,12 +136,14 @@ spaced_bytes n k =
 abbrev pub mark_bytes : ℕ → WideMark → List ℕ
 mark_bytes before m = spaced_bytes (m.instant - before) m.kind
 
+-- marks, each by the distance of its instant from that of the mark before it; that of the first is from `before`
 abbrev pub marks_bytes : ℕ → List WideMark → List ℕ
 marks_bytes before [] = []
 marks_bytes before (m ∷ ms) = mark_bytes before m ++ marks_bytes m.instant ms
 
 -- ---- tables
 
+-- a node: its way, its first break, how many marks it has, and these
 unfoldable pub node_bytes : NodeValue → List ℕ
 node_bytes n =
     to_le_bytes w32 n.next
@@ -140,10 +153,12 @@ node_bytes n =
 abbrev pub written : List TableEntry → List TableEntry
 written es = take 2 es ++ drop 3 es
 
+-- the number n of nodes in a part with marks (`true`), and nothing in any other
 abbrev pub count_bytes : Bool → ℕ → List ℕ
 count_bytes true n = to_le_bytes w32 n
 count_bytes false n = []
 
+-- a table: how many nodes it has, its entries, and its nodes
 unfoldable pub table_bytes : Bool → TableValue → List ℕ
 table_bytes listing t =
     count_bytes listing (length t.nodes)
@@ -151,6 +166,7 @@ table_bytes listing t =
 
 -- ---- segments
 
+-- 0 if a segment has no steps; else 1, its first file with a step, and the times of its first and last step
 abbrev pub times_bytes : Option SegmentTimes → List ℕ
 times_bytes None = 0 ∷ []
 times_bytes (Some t) = 1 ∷ (to_le_bytes w64 t.number ++ (to_le_bytes w64 t.first ++ to_le_bytes w64 t.last))
@@ -172,18 +188,22 @@ head_bytes s = to_le_bytes w64 s.first ++ (s.order ∷ to_le_bytes w64 s.steps)
 abbrev pub lines_bytes : SegmentValue → List ℕ
 lines_bytes s = s.opening.slots ∷ (levels_bytes s.opening ++ levels_bytes s.left)
 
+-- a segment
 unfoldable pub segment_bytes : Bool → SegmentValue → List ℕ
 segment_bytes listing s = head_bytes s ++ (lines_bytes s ++ (times_bytes s.times ++ tables_bytes listing s))
 
 -- ---- the whole
 
+-- a truth value as a byte
 abbrev pub flag : Bool → ℕ
 flag true = 1
 flag false = 0
 
+-- what each part begins with
 abbrev pub name_bytes : List ℕ
 name_bytes = codes "vmepart"
 
+-- the version, `1`, which follows
 abbrev pub version_byte : ℕ
 version_byte = 49
 
@@ -191,6 +211,7 @@ version_byte = 49
 abbrev pub front_bytes : PartValue → List ℕ
 front_bytes p = to_le_bytes w64 p.backplane ++ (flag p.listing ∷ to_le_bytes w32 (length p.segments))
 
+-- what follows the version, without the sum
 unfoldable pub body_bytes : PartValue → List ℕ
 body_bytes p = front_bytes p ++ flat_map (segment_bytes p.listing) p.segments
 
@@ -198,5 +219,6 @@ body_bytes p = front_bytes p ++ flat_map (segment_bytes p.listing) p.segments
 abbrev pub summed_bytes : PartValue → List ℕ
 summed_bytes p = name_bytes ++ version_byte ∷ body_bytes p
 
+-- the encoding of a part, with the sum at its end
 unfoldable pub part_bytes : PartValue → List ℕ
 part_bytes p = summed_bytes p ++ to_le_bytes w64 (sum_of (summed_bytes p))

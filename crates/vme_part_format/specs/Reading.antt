@@ -32,6 +32,7 @@ use Rattle.vme_part_format.specs.Tables.{NodeValue, PartValue, SegmentValue, Tab
 use Rattle.vme_part_format.specs.Bounds.{stays}
 use Rattle.vme_part_format.specs.PartText.{name_bytes, version_byte, width_code}
 
+-- goes on with what was read, if there was no fault
 infixl 10 ◌>>=◌
 abbrev pub ◌>>=◌ : {A B : Type 0} → Result A FieldFault → (A → Result B FieldFault) → Result B FieldFault
 (Ok x) >>= f = f x
@@ -64,15 +65,18 @@ after_items front read = read >>= λ x. Ok (front ++ x.0, x.1)
 
 -- ---- numbers
 
+-- reads a byte
 abbrev pub byte_at : List ℕ → Result (ℕ × List ℕ) FieldFault
 byte_at [] = Err (fault_at fault.CutShort [])
 byte_at (b ∷ rest) = Ok (b, rest)
 
+-- reads a number of the width w, its least byte first
 abbrev pub number_at : Width → List ℕ → Result (ℕ × List ℕ) FieldFault
 number_at w bytes =
     if nat_lt (length bytes) (byte_len w) then Err (fault_at fault.CutShort bytes)
     else Ok (from_le_bytes w (take (byte_len w) bytes), drop (byte_len w) bytes)
 
+-- reads a truth value: 0 or 1
 unfoldable pub flag_at : List ℕ → Result (Bool × List ℕ) FieldFault
 flag_at [] = Err (fault_at fault.CutShort [])
 flag_at (zero ∷ rest) = Ok (false, rest)
@@ -88,6 +92,7 @@ coded_level slots l code =
     then (if code == 0 then Some Low else if code == 1 then Some High else if code == 2 then Some Unknown else None)
     else (if code == 2 then Some Unknown else None)
 
+-- the four levels, if all are there
 abbrev pub four : Option Level → Option Level → Option Level → Option Level → Option (List Level)
 four (Some a) (Some b) (Some c) (Some d) = Some (a ∷ b ∷ c ∷ d ∷ [])
 four None b c d = None
@@ -117,6 +122,7 @@ SetsFour true old l byte new =
     (ls : List Level) × (unpacked old.slots l byte ≡ Some ls) × (new ≡ with_levels old l ls)
 SetsFour false old l byte new = unpacked old.slots l byte ≡ None
 
+-- what is there, or else the fault f
 abbrev pub or_fault : {A : Type 0} → FieldFault → Option A → Result A FieldFault
 or_fault f None = Err f
 or_fault f (Some x) = Ok x
@@ -130,6 +136,7 @@ packed_at slots l (suc n) bytes = do
   others ← packed_at slots (l + 4) n byte.1
   Ok (levels ++ others.0, others.1)
 
+-- reads the levels of all lines of a backplane of `slots` slots
 unfoldable pub levels_at : ℕ → List ℕ → Result (Levels × List ℕ) FieldFault
 levels_at slots bytes = do
   levels ← packed_at slots 0 48 bytes
@@ -137,12 +144,15 @@ levels_at slots bytes = do
 
 -- ---- breaks and entries
 
+-- in a segment of `steps` steps a rule may be broken on this line at this instant
 abbrev pub may_break : ℕ → ℕ → ℕ → Bool
 may_break steps line instant = nat_lt line line_count && nat_lt 0 instant && nat_le instant steps
 
+-- a break by its fields
 abbrev pub read_break : Rule → ℕ → ℕ → ℕ → WideBreak
 read_break rule line instant time = record { instant = instant; time = time; rule = rule; line = line }
 
+-- reads the line, the instant and the time of a break of `rule`; `bad` is the fault if they can't be
 unfoldable pub break_at : ℕ → Rule → FieldFault → List ℕ → Result (Option WideBreak × List ℕ) FieldFault
 break_at steps rule bad bytes = do
   line ← byte_at bytes
@@ -156,6 +166,7 @@ first_break_by steps bad number bytes =
     if number == 0 then Ok (None, bytes)
     else (or_fault bad (slice_get all_rules (number - 1)) >>= λ rule. break_at steps rule bad bytes)
 
+-- reads a first break, or that there is none, in a segment of `steps` steps
 unfoldable pub first_break_at : ℕ → List ℕ → Result (Option WideBreak × List ℕ) FieldFault
 first_break_at steps bytes = do
   number ← byte_at bytes
@@ -166,17 +177,20 @@ abbrev pub way_number_at : Bool → List ℕ → Result (ℕ × List ℕ) FieldF
 way_number_at true bytes = number_at w32 bytes
 way_number_at false bytes = byte_at bytes
 
+-- reads a way below `ways`, the number of the memories and nodes with which a run may continue
 unfoldable pub way_at : Bool → ℕ → List ℕ → Result (ℕ × List ℕ) FieldFault
 way_at listing ways bytes = do
   n ← way_number_at listing bytes
   if nat_lt n.0 ways then Ok n else Err (fault_at fault.BadWay bytes)
 
+-- reads an entry
 unfoldable pub entry_at : Bool → ℕ → ℕ → List ℕ → Result (TableEntry × List ℕ) FieldFault
 entry_at listing steps ways bytes = do
   next ← way_at listing ways bytes
   first_break ← first_break_at steps next.1
   Ok (record { next = next.0; first_break = first_break.0 }, first_break.1)
 
+-- reads as many entries as the last number says
 unfoldable pub entries_at : Bool → ℕ → ℕ → ℕ → List ℕ → Result (List TableEntry × List ℕ) FieldFault
 entries_at listing steps ways zero bytes = Ok ([], bytes)
 entries_at listing steps ways (suc n) bytes = do
@@ -186,6 +200,7 @@ entries_at listing steps ways (suc n) bytes = do
 
 -- ---- marks
 
+-- reads a distance in the width with the code `code`
 abbrev pub distance_number_at : ℕ → List ℕ → Result (ℕ × List ℕ) FieldFault
 distance_number_at code bytes =
     if code == 0 then Ok (0, bytes) else if code == 1 then byte_at bytes else if code == 2 then number_at w16 bytes
@@ -197,23 +212,27 @@ distance_at bad code bytes = do
   n ← distance_number_at code bytes
   if width_code n.0 == code then Ok n else Err bad
 
+-- reads the level and the slot of the start of a tenure
 unfoldable pub tenure_at : FieldFault → List ℕ → Result (MarkKind × List ℕ) FieldFault
 tenure_at bad bytes = do
   level ← byte_at bytes
   slot ← byte_at level.1
   if nat_lt level.0 4 && nat_lt 0 slot.0 && nat_le slot.0 22 then Ok (kind.Tenure level.0 slot.0, slot.1) else Err bad
 
+-- reads the modifier code and the address of the start of a cycle of the class c
 unfoldable pub cycle_at : FieldFault → Class → List ℕ → Result (MarkKind × List ℕ) FieldFault
 cycle_at bad c bytes = do
   am ← byte_at bytes
   address ← number_at w32 am.1
   if nat_lt am.0 64 then Ok (kind.Cycle c am.0 address.0, address.1) else Err bad
 
+-- the bytes that a write moves, by their code
 abbrev pub moved_of : ℕ → Option MovedBytes
 moved_of n =
     if n == 0 then Some Nothing else if n == 1 then Some OddByte else if n == 2 then Some EvenByte
     else if n == 3 then Some Word else if n == 4 then Some LongWord else None
 
+-- reads the data of a write that `line` answers
 unfoldable pub write_answer_at : FieldFault → ℕ → List ℕ → Result (MarkKind × List ℕ) FieldFault
 write_answer_at bad line bytes = do
   code ← byte_at bytes
@@ -222,6 +241,7 @@ write_answer_at bad line bytes = do
   moved ← or_fault bad (moved_of code.0)
   Ok (kind.WriteAnswer line moved unknown.0 value.0, value.1)
 
+-- reads the values of a mark of the kind with the code `code`
 unfoldable pub kind_at : FieldFault → ℕ → List ℕ → Result (MarkKind × List ℕ) FieldFault
 kind_at bad code bytes =
     if code == 0 then Ok (kind.Reset, bytes)
@@ -249,6 +269,7 @@ instant_at bad steps before code bytes = do
   n ← distance_at bad code bytes
   if nat_lt 0 (before + n.0) && nat_le (before + n.0) steps then Ok (before + n.0, n.1) else Err bad
 
+-- reads a mark of a segment of `steps` steps; `before` is the instant of the mark before it, or 0
 unfoldable pub mark_at : ℕ → ℕ → List ℕ → Result (WideMark × List ℕ) FieldFault
 mark_at steps before bytes = do
   tag ← byte_at bytes
@@ -256,6 +277,7 @@ mark_at steps before bytes = do
   kind ← kind_at (fault_at fault.BadMark bytes) (tag.0 % 32) instant.1
   Ok (record { instant = instant.0; kind = kind.0 }, kind.1)
 
+-- reads as many marks as the last number says
 unfoldable pub marks_at : ℕ → ℕ → ℕ → List ℕ → Result (List WideMark × List ℕ) FieldFault
 marks_at steps before zero bytes = Ok ([], bytes)
 marks_at steps before (suc n) bytes = do
@@ -265,11 +287,13 @@ marks_at steps before (suc n) bytes = do
 
 -- ---- tables
 
+-- reads how many marks a node has, at least 1
 unfoldable pub mark_count_at : List ℕ → Result (ℕ × List ℕ) FieldFault
 mark_count_at bytes = do
   n ← number_at w32 bytes
   if n.0 == 0 then Err (fault_at fault.BadMark bytes) else Ok n
 
+-- reads a node with a way below `ways`, in a segment of `steps` steps
 unfoldable pub node_at : ℕ → ℕ → List ℕ → Result (NodeValue × List ℕ) FieldFault
 node_at steps ways bytes = do
   next ← way_at true ways bytes
@@ -286,6 +310,7 @@ nodes_at memories steps (suc n) bytes = do
   others ← nodes_at memories steps n first.1
   Ok (first.0 ∷ others.0, others.1)
 
+-- reads how many nodes a table has as it is written; `node_count_at` requires that memories and nodes are below 2^32
 abbrev pub node_number_at : Bool → List ℕ → Result (ℕ × List ℕ) FieldFault
 node_number_at true bytes = number_at w32 bytes
 node_number_at false bytes = Ok (0, bytes)
@@ -307,13 +332,16 @@ table_at listing memories steps bytes = do
 
 -- ---- segments
 
+-- a segment of 2^order files may begin with the file `first`
 abbrev pub are_numbers : ℕ → ℕ → Bool
 are_numbers first order = nat_lt first (2 ^ 63) && nat_lt order 63 && (first % 2 ^ order == 0)
 
+-- the file `first` is after the last file of the segment before, if there is one
 abbrev pub is_after : Option ℕ → ℕ → Bool
 is_after None first = true
 is_after (Some last) first = nat_lt last first
 
+-- a segment of 2^order files may begin with the file `first` after a segment whose last file is `before`
 abbrev pub may_begin : Option ℕ → ℕ → ℕ → Bool
 may_begin before first order = are_numbers first order && is_after before first
 
@@ -324,16 +352,19 @@ numbers_at before bytes = do
   order ← byte_at first.1
   if may_begin before first.0 order.0 then Ok ((first.0, order.0), order.1) else Err (fault_at fault.BadNumber bytes)
 
+-- reads the number of slots, from 1 to 21
 unfoldable pub slots_at : List ℕ → Result (ℕ × List ℕ) FieldFault
 slots_at bytes = do
   slots ← byte_at bytes
   if nat_le 1 slots.0 && nat_le slots.0 21 then Ok slots else Err (fault_at fault.BadLevels bytes)
 
+-- a segment of 2^order files from the file `first` on, with `steps` steps, may have these times
 abbrev pub are_times : ℕ → ℕ → ℕ → Option SegmentTimes → Bool
 are_times first order steps None = steps == 0
 are_times first order steps (Some t) =
     nat_lt 0 steps && nat_le first t.number && nat_le t.number (last_of first order) && nat_le t.first t.last
 
+-- reads when the steps of a segment are, if it has some (`true`)
 abbrev pub step_times_at : Bool → List ℕ → Result (Option SegmentTimes × List ℕ) FieldFault
 step_times_at false bytes = Ok (None, bytes)
 step_times_at true bytes = do
@@ -342,12 +373,14 @@ step_times_at true bytes = do
   last ← number_at w64 first.1
   Ok (Some (record { number = number.0; first = first.0; last = last.0 }), last.1)
 
+-- reads whether a segment has steps, and when they are
 unfoldable pub times_at : ℕ → ℕ → ℕ → List ℕ → Result (Option SegmentTimes × List ℕ) FieldFault
 times_at first order steps bytes = do
   there ← flag_at bytes
   times ← step_times_at there.0 there.1
   if are_times first order steps times.0 then Ok times else Err (fault_at fault.BadSteps bytes)
 
+-- a segment by its fields
 abbrev pub read_segment : ℕ × ℕ → ℕ → Levels → Levels → Option SegmentTimes → TableValue → TableValue → TableValue
     → TableValue → TableValue → SegmentValue
 read_segment numbers steps opening left times known handshake stability grant acknowledge =
@@ -365,6 +398,7 @@ read_segment numbers steps opening left times known handshake stability grant ac
       acknowledge = acknowledge;
     }
 
+-- reads a segment; `before` is the last file of the segment before it
 unfoldable pub segment_at : Bool → Option ℕ → List ℕ → Result (SegmentValue × List ℕ) FieldFault
 segment_at listing before bytes = do
   numbers ← numbers_at before bytes
@@ -383,6 +417,7 @@ segment_at listing before bytes = do
     acknowledge.1,
   )
 
+-- reads as many segments as the last number says; `before` is the last file of the segment before them
 unfoldable pub segments_at : Bool → Option ℕ → ℕ → List ℕ → Result (List SegmentValue × List ℕ) FieldFault
 segments_at listing before zero bytes = Ok ([], bytes)
 segments_at listing before (suc n) bytes = do
@@ -392,6 +427,7 @@ segments_at listing before (suc n) bytes = do
 
 -- ---- the whole
 
+-- a part by its fields
 abbrev pub read_whole : ℕ → Bool → List SegmentValue → PartValue
 read_whole backplane listing segments =
     record { backplane = backplane; listing = listing; segments = segments }
@@ -406,10 +442,11 @@ body_at bytes = do
   if length segments.1 == 0 then Ok (read_whole backplane.0 listing.0 segments.0)
       else Err (fault_at fault.Trailing segments.1)
 
--- the bytes before the sum, and the sum
+-- the bytes before the sum
 abbrev pub summed_part : List ℕ → List ℕ
 summed_part bytes = take (length bytes - 8) bytes
 
+-- the sum that is written at the end
 abbrev pub written_sum : List ℕ → ℕ
 written_sum bytes = from_le_bytes w64 (drop (length bytes - 8) bytes)
 
@@ -422,6 +459,7 @@ abbrev pub with_place : {A : Type 0} → ℕ → Result A FieldFault → Result 
 with_place end (Ok x) = Ok x
 with_place end (Err f) = Err (record { kind = f.kind; place = end - f.left })
 
+-- the part whose encoding `bytes` is, or their first fault
 unfoldable pub part_at : List ℕ → Result PartValue PartFault
 part_at bytes =
     if not (bytes_eq name_bytes (take 7 bytes)) then Err (record { kind = fault.NotAPart; place = 0 })

@@ -10,6 +10,7 @@ use Rattle.vme_part_format.specs.declared.table.TableNode.{TableNode}
 use Rattle.vme_part_format.specs.declared.wide.WideBreak.{WideBreak}
 use Rattle.vme_part_format.specs.declared.wide.WideMark.{WideMark}
 
+-- a node: the way by which its runs continue, their first break up to there, and their marks
 pub record NodeValue : Type 0 where
   pub next : ℕ
   pub first_break : Option WideBreak
@@ -18,6 +19,7 @@ pub record NodeValue : Type 0 where
 abbrev pub node_value : TableNode → NodeValue
 node_value n = record { next = n.next; first_break = n.first_break; marks = n.marks.items }
 
+-- a table: an entry for each memory, and the nodes that runs share
 pub record TableValue : Type 0 where
   pub entries : List TableEntry
   pub nodes : List NodeValue
@@ -25,6 +27,8 @@ pub record TableValue : Type 0 where
 abbrev pub table_value : OutcomeTable → TableValue
 table_value t = record { entries = t.entries.items; nodes = map node_value t.nodes.items }
 
+-- a segment: 2^order files from the file `first` on, how many steps they have, the levels before the first step and
+-- after the last file, when the steps are, and a table for each monitor
 pub record SegmentValue : Type 0 where
   pub first : ℕ
   pub order : ℕ
@@ -54,10 +58,11 @@ segment_value s =
       acknowledge = table_value s.acknowledge;
     }
 
--- the number of the last file of a segment
+-- the number of the last file of a segment of 2^order files from the file `first` on
 abbrev pub last_of : ℕ → ℕ → ℕ
 last_of first order = first + (2 ^ order - 1)
 
+-- a part: the sum of its backplane, whether it has marks, and its segments
 pub record PartValue : Type 0 where
   pub backplane : ℕ
   pub listing : Bool

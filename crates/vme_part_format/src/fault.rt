@@ -1,4 +1,4 @@
-//! Why bytes are no part.
+//! Why bytes are no part, i.e. not the bytes that `write_part` writes for some part.
 
 ghost use Rattle.std.specs.Prelude.{◌≡◌};
 
@@ -13,27 +13,33 @@ pub enum PartFaultKind {
     OtherVersion,
     /// They are fewer than 16, or the sum at their end isn't that of the bytes before it.
     Damaged,
-    /// A field extends past the end.
+    /// A field extends past the end of the bytes.
     CutShort,
     /// A flag is neither 0 nor 1.
     BadFlag,
-    /// No segment has this first number and order, or the segment doesn't come after the one before it.
+    /// The order of a segment is over 62. Or the number of its first file is 2^63 or more, isn't a multiple of 2^order,
+    /// or isn't greater than the last of the segment before.
     BadNumber,
-    /// A number of slots or a code of a level is invalid, or a line that the backplane doesn't have isn't Unknown.
+    /// A number of slots isn't from 1 to 21, a code of a level is 3, or a line that the backplane doesn't have isn't
+    /// Unknown.
     BadLevels,
-    /// Steps without times, times without steps, or times that are impossible.
+    /// A segment has steps without times, or times without steps. Or the file that is said to have its first step isn't
+    /// one of its files, or its last time is before its first.
     BadSteps,
-    /// The rule, the line or the instant of a break is invalid.
+    /// A break has a rule or a line that isn't there, or an instant that is 0 or over the number of steps.
     BadBreak,
-    /// A run continues in a memory or a node that isn't there, or there are too many nodes.
+    /// A way, i.e. the number of the memory or of the node with which a run continues, is too large. Or a table has
+    /// 2^32 memories and nodes or more.
     BadWay,
-    /// A mark is invalid, or a node has no marks.
+    /// A mark has a kind that isn't there or a value out of its range, its instant is out of the segment, or its
+    /// distance from the mark before isn't written in as few bytes as possible. Or a node has no marks.
     BadMark,
     /// There are bytes between the last segment and the sum.
     Trailing,
 }
 
-/// A field that no part has there. `left` is the number of bytes from its start to the end of the fields.
+/// A field that no part has there: what is wrong with it, and the number of bytes from its start to the end of the last
+/// field, which the sum follows.
 #[derive(Clone, Copy, Debug, PartialEq, Eq)]
 pub struct FieldFault {
     pub kind: PartFaultKind,
@@ -67,7 +73,7 @@ impl<T: Drop> From<AllocFailed<T>> for FieldError {
     }
 }
 
-/// The first fault of the bytes. `place` is the index at which the field with the fault begins.
+/// The first fault of the bytes, and the index of the byte at which the field with the fault begins.
 #[derive(Clone, Copy, Debug, PartialEq, Eq)]
 pub struct PartFault {
     pub kind: PartFaultKind,

@@ -35,6 +35,7 @@ impl<'a> Model for Fields<'a> {
 }
 
 impl<'a> Fields<'a> {
+    /// All of `bytes` is left.
     pub(crate) fn new(bytes: &'a [u8]) -> Fields<'a>
         ensures { result ≡ bytes.now }
     {
@@ -58,6 +59,7 @@ impl<'a> Fields<'a> {
         }
     }
 
+    /// Reads a byte.
     pub(crate) fn byte(&mut self) -> Result<u8, FieldError>
         ensures { Gives (λ x. x) result self.new (byte_at self.old) }
     {
@@ -70,6 +72,7 @@ impl<'a> Fields<'a> {
         }
     }
 
+    /// Reads a number of 2 bytes, the least first.
     pub(crate) fn u16(&mut self) -> Result<u16, FieldError>
         ensures { Gives (λ x. x) result self.new (number_at w16 self.old) }
     {
@@ -81,6 +84,7 @@ impl<'a> Fields<'a> {
         Ok(u16::from_le_bytes([front[0], front[1]]))
     }
 
+    /// Reads a number of 4 bytes, the least first.
     pub(crate) fn u32(&mut self) -> Result<u32, FieldError>
         ensures { Gives (λ x. x) result self.new (number_at w32 self.old) }
     {
@@ -92,6 +96,7 @@ impl<'a> Fields<'a> {
         Ok(u32::from_le_bytes([front[0], front[1], front[2], front[3]]))
     }
 
+    /// Reads a number of 8 bytes, the least first.
     pub(crate) fn u64(&mut self) -> Result<u64, FieldError>
         ensures { Gives (λ x. x) result self.new (number_at w64 self.old) }
     {
@@ -105,6 +110,7 @@ impl<'a> Fields<'a> {
         ]))
     }
 
+    /// Reads a byte that has to be 0 for `false` or 1 for `true`.
     #[tactic(auto, unfolding(crate::specs::Reading::flag_at))]
     pub(crate) fn flag(&mut self) -> Result<bool, FieldError>
         ensures { Gives (λ x. x) result self.new (flag_at self.old) }
@@ -188,7 +194,7 @@ impl<'a> Fields<'a> {
         }
     }
 
-    /// Reads a way below `ways`.
+    /// Reads a way, which has to be below `ways`, the number of the memories and nodes with which the run may continue.
     #[tactic(auto, unfolding(crate::specs::Reading::way_at))]
     pub(crate) fn way(&mut self, listing: bool, ways: u32) -> Result<u32, FieldError>
         ensures { Gives (λ x. x) result self.new (way_at listing ways self.old) }
@@ -202,6 +208,8 @@ impl<'a> Fields<'a> {
         }
     }
 
+    /// Reads an entry of a table of a segment of `steps` steps. Its way has to be below `ways`, the number of memories
+    /// and nodes.
     #[tactic(auto, unfolding(crate::specs::Reading::entry_at))]
     pub(crate) fn entry(
         &mut self,

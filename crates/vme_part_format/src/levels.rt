@@ -13,6 +13,7 @@ use vme_trace::{Change, Level, Line, Lines};
 /// How many bytes the levels of all lines have.
 const LEVEL_BYTES: u8 = 48;
 
+/// The code of a level.
 fn code_of(level: Level) -> u8
     ensures { result ≡ level_code level }
 {

@@ -29,6 +29,7 @@ fn width_of(distance: u64) -> u8
     }
 }
 
+/// Adds `distance` in as few of 0, 1, 2, 4 or 8 bytes as hold it.
 fn put_distance(out: &mut Vec<u8>, distance: u64) -> Result<(), AllocError>
     ensures { OnOk result (out.new.items ≡ out.old.items ++ bytes_of_width (width_code distance) distance) }
 {
@@ -41,6 +42,7 @@ fn put_distance(out: &mut Vec<u8>, distance: u64) -> Result<(), AllocError>
     }
 }
 
+/// The code of the start of a cycle of this class.
 fn class_number(class: Class) -> u8
     ensures code { result ≡ class_code class }
     ensures few { result < 32 }
@@ -53,6 +55,7 @@ fn class_number(class: Class) -> u8
     }
 }
 
+/// The code of the bytes that a write moves.
 fn moved_number(moved: MovedBytes) -> u8
     ensures { result ≡ moved_code moved }
 {
@@ -65,6 +68,7 @@ fn moved_number(moved: MovedBytes) -> u8
     }
 }
 
+/// The code of a kind of mark.
 fn kind_number(kind: MarkKind) -> u8
     ensures code { result ≡ kind_code kind }
     ensures few { result < 32 }
@@ -84,6 +88,7 @@ fn kind_number(kind: MarkKind) -> u8
     }
 }
 
+/// Adds the values of a mark of this kind, such as the level and the slot of a tenure.
 fn put_kind(out: &mut Vec<u8>, kind: MarkKind) -> Result<(), AllocError>
     ensures { OnOk result (out.new.items ≡ out.old.items ++ kind_bytes kind) }
 {
@@ -139,6 +144,7 @@ pub(crate) fn put_marks(out: &mut Vec<u8>, marks: &[WideMark]) -> Result<(), All
     Ok(())
 }
 
+/// Reads a distance in the width with the code `code`.
 fn read_distance_number(fields: &mut Fields, code: u8) -> Result<u64, FieldError>
     ensures { Gives (λ x. x) result fields.new (distance_number_at code fields.old) }
 {
@@ -151,6 +157,8 @@ fn read_distance_number(fields: &mut Fields, code: u8) -> Result<u64, FieldError
     }
 }
 
+/// Reads a distance in the width with the code `code`, which has to be the least that holds it. If it isn't, `bad` is
+/// returned.
 #[tactic(auto, unfolding(crate::specs::Reading::distance_at))]
 fn read_distance(fields: &mut Fields, bad: FieldFault, code: u8) -> Result<u64, FieldError>
     ensures { Gives (λ x. x) result fields.new (distance_at bad code fields.old) }
@@ -181,6 +189,7 @@ fn read_instant(
     }
 }
 
+/// Reads the level and the slot of the start of a tenure. `bad` is returned if they are out of range.
 #[tactic(auto, unfolding(crate::specs::Reading::tenure_at))]
 fn read_tenure(fields: &mut Fields, bad: FieldFault) -> Result<MarkKind, FieldError>
     ensures { Gives (λ x. x) result fields.new (tenure_at bad fields.old) }
@@ -194,6 +203,7 @@ fn read_tenure(fields: &mut Fields, bad: FieldFault) -> Result<MarkKind, FieldEr
     }
 }
 
+/// Reads the modifier code and the address of the start of a cycle. `bad` is returned if the code is over 63.
 #[tactic(auto, unfolding(crate::specs::Reading::cycle_at))]
 fn read_cycle(fields: &mut Fields, bad: FieldFault, class: Class) -> Result<MarkKind, FieldError>
     ensures { Gives (λ x. x) result fields.new (cycle_at bad class fields.old) }
@@ -207,6 +217,7 @@ fn read_cycle(fields: &mut Fields, bad: FieldFault, class: Class) -> Result<Mark
     }
 }
 
+/// The bytes that a write moves, by their code, if there is such a code.
 fn moved_of(code: u8) -> Option<MovedBytes>
     ensures { result ≡ moved_by code }
 {
@@ -220,6 +231,7 @@ fn moved_of(code: u8) -> Option<MovedBytes>
     }
 }
 
+/// Reads the data of a write that `line` answers. `bad` is returned if there is no such code of moved bytes.
 #[tactic(auto, unfolding(crate::specs::Reading::write_answer_at))]
 fn read_write_answer(
     fields: &mut Fields,
@@ -242,6 +254,7 @@ fn read_write_answer(
     }
 }
 
+/// Reads the values of a mark of the kind with the code `code`. `bad` is returned if there is no such kind.
 #[tactic(auto, unfolding(crate::specs::Reading::kind_at))]
 fn read_kind(fields: &mut Fields, bad: FieldFault, code: u8) -> Result<MarkKind, FieldError>
     ensures { Gives (λ x. x) result fields.new (kind_at bad code fields.old) }
@@ -268,6 +281,7 @@ fn read_kind(fields: &mut Fields, bad: FieldFault, code: u8) -> Result<MarkKind,
     }
 }
 
+/// Reads a mark of a segment of `steps` steps. `before` is the instant of the mark before it, or 0.
 #[tactic(auto, unfolding(crate::specs::Reading::mark_at))]
 fn read_mark(fields: &mut Fields, steps: u64, before: u64) -> Result<WideMark, FieldError>
     ensures { Gives (λ x. x) result fields.new (mark_at steps before fields.old) }
@@ -279,7 +293,7 @@ fn read_mark(fields: &mut Fields, steps: u64, before: u64) -> Result<WideMark, F
     Ok(WideMark { instant, kind })
 }
 
-/// Reads `count` marks. The distance of the first is that from 0.
+/// Reads `count` marks of a segment of `steps` steps. The distance of the first is that from 0.
 pub(crate) fn read_marks(
     alloc: Global,
     fields: &mut Fields,

@@ -65,6 +65,7 @@ fn read_numbers(fields: &mut Fields, before: Option<u64>) -> Result<(u64, u8), F
     }
 }
 
+/// Reads the number of slots, from 1 to 21.
 #[tactic(auto, unfolding(crate::specs::Reading::slots_at))]
 fn read_slots(fields: &mut Fields) -> Result<u8, FieldError>
     ensures slots { Gives (λ x. x) result fields.new (slots_at fields.old) }
@@ -80,6 +81,7 @@ fn read_slots(fields: &mut Fields) -> Result<u8, FieldError>
     }
 }
 
+/// Reads when the steps of a segment are, if `there` says that it has some.
 fn read_step_times(fields: &mut Fields, there: bool) -> Result<Option<SegmentTimes>, FieldError>
     ensures { Gives (λ x. x) result fields.new (step_times_at there fields.old) }
 {
@@ -112,6 +114,7 @@ fn are_times(first: u64, order: u8, steps: u64, times: Option<SegmentTimes>) -> 
     }
 }
 
+/// Reads whether a segment of 2^`order` files from the file `first` on, with `steps` steps, has times, and which.
 #[tactic(auto, unfolding(crate::specs::Reading::times_at))]
 fn read_times(
     fields: &mut Fields,
@@ -223,6 +226,7 @@ fn has_its_sum(bytes: &[u8]) -> bool
     sum_of_bytes(summed) == written
 }
 
+/// The refusal of bytes for a fault of the kind `kind` at the index `place`.
 fn refusal(kind: PartFaultKind, place: usize) -> ReadError
     ensures { result ≡ ReadError.Fault (record { kind = kind; place = place }) }
 {
@@ -261,7 +265,7 @@ fn read_checked(alloc: Global, bytes: &[u8]) -> Result<Part, ReadError>
     read_fields(alloc, bytes)
 }
 
-/// The part whose encoding is the whole of `bytes`.
+/// The part whose encoding is the whole of `bytes`; else their first fault, or that memory ran out.
 pub fn read_part(alloc: Global, bytes: &[u8]) -> Result<Part, ReadError>
     // If a part is read, `bytes` is its encoding.
     ensures found { IfOk result (λ p. FitsPart (part_value p) × (bytes.now ≡ part_bytes (part_value p))) }

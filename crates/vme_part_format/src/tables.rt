@@ -1,4 +1,5 @@
-//! Writing and reading tables.
+//! Writing and reading the tables of a segment. A *way* is the number of the memory or of the node with which a run
+//! continues. `listing` is whether the part has marks.
 
 ghost use Rattle.std.specs.Prelude.{◌≡◌, ◌+◌, ◌^◌, ◌<◌, ◌≤◌, ◌++◌, ℕ, OnOk, IfOk, Some, All, flat_map, length, map};
 ghost use Rattle.std.specs.Int.{w32, to_le_bytes};
@@ -20,6 +21,7 @@ use std::alloc::{AllocError, Global};
 /// How many entries come before that of memory 2, in which judging has ended.
 const BEFORE_ENDED: u32 = 2;
 
+/// Adds the break `found`: the place of its rule in `Rule::ALL` and 1, its line, its instant and its time.
 fn put_break(out: &mut Vec<u8>, found: WideBreak) -> Result<(), AllocError>
     ensures { OnOk result (out.new.items ≡ out.old.items ++ first_break_bytes (Some found)) }
 {
@@ -28,6 +30,7 @@ fn put_break(out: &mut Vec<u8>, found: WideBreak) -> Result<(), AllocError>
     put_pair(out, found.instant, found.time)
 }
 
+/// Adds the first break of a run, or that it has none.
 fn put_first_break(out: &mut Vec<u8>, first_break: Option<WideBreak>) -> Result<(), AllocError>
     ensures { OnOk result (out.new.items ≡ out.old.items ++ first_break_bytes first_break) }
 {
@@ -37,6 +40,7 @@ fn put_first_break(out: &mut Vec<u8>, first_break: Option<WideBreak>) -> Result<
     }
 }
 
+/// Adds the way `next`: 4 bytes in a part with marks, else 1.
 fn put_way(out: &mut Vec<u8>, listing: bool, next: u32) -> Result<(), AllocError>
     requires { CanWrite listing next }
     ensures { OnOk result (out.new.items ≡ out.old.items ++ way_bytes listing next) }
@@ -48,6 +52,7 @@ fn put_way(out: &mut Vec<u8>, listing: bool, next: u32) -> Result<(), AllocError
     }
 }
 
+/// Adds an entry.
 fn put_entry(out: &mut Vec<u8>, listing: bool, entry: &TableEntry) -> Result<(), AllocError>
     requires { CanWrite listing entry.now.next }
     ensures { OnOk result (out.new.items ≡ out.old.items ++ entry_bytes listing entry.now) }
@@ -56,6 +61,7 @@ fn put_entry(out: &mut Vec<u8>, listing: bool, entry: &TableEntry) -> Result<(),
     put_first_break(out, entry.first_break)
 }
 
+/// Adds these entries.
 fn put_entries(out: &mut Vec<u8>, listing: bool, entries: &[TableEntry]) -> Result<(), AllocError>
     requires { All (λ e. CanWrite listing e.next) entries.now }
     ensures { OnOk result (out.new.items ≡ out.old.items ++ flat_map (entry_bytes listing) entries.now) }
@@ -66,6 +72,7 @@ fn put_entries(out: &mut Vec<u8>, listing: bool, entries: &[TableEntry]) -> Resu
     Ok(())
 }
 
+/// Adds the number of marks of a node.
 fn put_mark_count(out: &mut Vec<u8>, marks: &[WideMark]) -> Result<(), AllocError>
     requires { length marks.now < 2 ^ 32 }
     ensures { OnOk result (out.new.items ≡ out.old.items ++ to_le_bytes w32 (length marks.now)) }
@@ -73,6 +80,7 @@ fn put_mark_count(out: &mut Vec<u8>, marks: &[WideMark]) -> Result<(), AllocErro
     out.extend_from_slice(&(marks.len() as u32).to_le_bytes())
 }
 
+/// Adds the number of marks of a node, and then these marks.
 fn put_counted_marks(out: &mut Vec<u8>, marks: &[WideMark]) -> Result<(), AllocError>
     requires few { length marks.now < 2 ^ 32 }
     requires ascend { AreAscending 0 marks.now }
@@ -83,6 +91,7 @@ fn put_counted_marks(out: &mut Vec<u8>, marks: &[WideMark]) -> Result<(), AllocE
     put_marks(out, marks)
 }
 
+/// Adds a node.
 #[tactic(auto, unfolding(crate::specs::PartText::node_bytes))]
 fn put_node(out: &mut Vec<u8>, node: &TableNode) -> Result<(), AllocError>
     requires few { length node.now.marks.items < 2 ^ 32 }
@@ -94,6 +103,7 @@ fn put_node(out: &mut Vec<u8>, node: &TableNode) -> Result<(), AllocError>
     put_counted_marks(out, node.marks.as_slice())
 }
 
+/// Adds these nodes.
 fn put_nodes(out: &mut Vec<u8>, nodes: &[TableNode]) -> Result<(), AllocError>
     requires few { All (λ n. length n.marks.items < 2 ^ 32) nodes.now }
     requires ascend { All (λ n. AreAscending 0 n.marks.items) nodes.now }
@@ -105,6 +115,7 @@ fn put_nodes(out: &mut Vec<u8>, nodes: &[TableNode]) -> Result<(), AllocError>
     Ok(())
 }
 
+/// Adds the number of nodes of a table, if the part has marks.
 fn put_node_count(out: &mut Vec<u8>, listing: bool, nodes: &[TableNode]) -> Result<(), AllocError>
     requires { length nodes.now < 2 ^ 32 }
     ensures { OnOk result (out.new.items ≡ out.old.items ++ count_bytes listing (length nodes.now)) }
@@ -128,7 +139,7 @@ fn put_written(out: &mut Vec<u8>, listing: bool, entries: &[TableEntry]) -> Resu
     put_entries(out, listing, &entries[ended + 1..])
 }
 
-/// Adds `table`.
+/// Adds a table.
 #[tactic(auto, unfolding(crate::specs::PartText::table_bytes))]
 pub(crate) fn put_table(
     out: &mut Vec<u8>,
@@ -144,7 +155,8 @@ pub(crate) fn put_table(
     put_nodes(out, table.nodes.as_slice())
 }
 
-/// Reads `count` entries of a table in which `next` is below `ways`.
+/// Reads `count` entries of a table of a segment of `steps` steps. Each way has to be below `ways`, the number of
+/// memories and nodes.
 fn read_entries(
     alloc: Global,
     fields: &mut Fields,
@@ -163,6 +175,7 @@ fn read_entries(
     Ok(entries)
 }
 
+/// Reads the number of marks of a node. It must not be 0.
 #[tactic(auto, unfolding(crate::specs::Reading::mark_count_at))]
 fn read_mark_count(fields: &mut Fields) -> Result<u32, FieldError>
     ensures { Gives (λ x. x) result fields.new (mark_count_at fields.old) }
@@ -176,6 +189,8 @@ fn read_mark_count(fields: &mut Fields) -> Result<u32, FieldError>
     }
 }
 
+/// Reads a node of a table of a segment of `steps` steps. Its way has to be below `ways`, the number of memories and of
+/// the nodes after it.
 #[tactic(auto, unfolding(crate::specs::Reading::node_at))]
 fn read_node(
     alloc: Global,
@@ -196,7 +211,7 @@ fn read_node(
     })
 }
 
-/// Reads `count` nodes of a table of `memories` memories.
+/// Reads the `count` nodes of a table of `memories` memories, of a segment of `steps` steps.
 fn read_nodes(
     alloc: Global,
     fields: &mut Fields,
@@ -216,13 +231,15 @@ fn read_nodes(
     Ok(nodes)
 }
 
+/// Reads a number of nodes as it is written, and 0 in a part without marks. `read_node_count` refuses one that is too
+/// large.
 fn read_node_number(fields: &mut Fields, listing: bool) -> Result<u32, FieldError>
     ensures { Gives (λ x. x) result fields.new (node_number_at listing fields.old) }
 {
     if listing { fields.u32() } else { Ok(0) }
 }
 
-/// Reads how many nodes a table of `memories` memories has.
+/// Reads how many nodes a table of `memories` memories has. Memories and nodes have to be fewer than 2^32.
 #[tactic(auto, unfolding(crate::specs::Reading::node_count_at))]
 fn read_node_count(fields: &mut Fields, listing: bool, memories: u32) -> Result<u32, FieldError>
     ensures counted { Gives (λ x. x) result fields.new (node_count_at listing memories fields.old) }
@@ -236,7 +253,7 @@ fn read_node_count(fields: &mut Fields, listing: bool, memories: u32) -> Result<
     }
 }
 
-/// Reads a table of `memories` memories.
+/// Reads a table of `memories` memories, of a segment of `steps` steps.
 #[tactic(auto, unfolding(crate::specs::Reading::table_at))]
 pub(crate) fn read_table(
     alloc: Global,

@@ -17,6 +17,7 @@ use crate::sum::sum_of_bytes;
 use crate::tables::put_table;
 use std::alloc::{AllocError, Global};
 
+/// Adds that a segment has steps, and when they are.
 fn put_step_times(out: &mut Vec<u8>, times: SegmentTimes) -> Result<(), AllocError>
     ensures { OnOk result (out.new.items ≡ out.old.items ++ times_bytes (Some times)) }
 {
@@ -25,6 +26,7 @@ fn put_step_times(out: &mut Vec<u8>, times: SegmentTimes) -> Result<(), AllocErr
     put_pair(out, times.first, times.last)
 }
 
+/// Adds whether a segment has steps, and when they are.
 fn put_times(out: &mut Vec<u8>, times: Option<SegmentTimes>) -> Result<(), AllocError>
     ensures { OnOk result (out.new.items ≡ out.old.items ++ times_bytes times) }
 {
@@ -72,6 +74,7 @@ fn put_tables(out: &mut Vec<u8>, listing: bool, segment: &Segment) -> Result<(),
     put_chains(out, listing, segment)
 }
 
+/// Adds a segment.
 #[tactic(auto, unfolding(crate::specs::PartText::segment_bytes))]
 fn put_segment(out: &mut Vec<u8>, listing: bool, segment: &Segment) -> Result<(), AllocError>
     requires { FitsSegment listing (segment_value segment.now) }
@@ -83,6 +86,7 @@ fn put_segment(out: &mut Vec<u8>, listing: bool, segment: &Segment) -> Result<()
     put_tables(out, listing, segment)
 }
 
+/// Adds these segments.
 fn put_segments(out: &mut Vec<u8>, listing: bool, segments: &[Segment]) -> Result<(), AllocError>
     requires { FitSegments listing None (map segment_value segments.now) }
     ensures { OnOk result (out.new.items
@@ -94,6 +98,7 @@ fn put_segments(out: &mut Vec<u8>, listing: bool, segments: &[Segment]) -> Resul
     Ok(())
 }
 
+/// Adds whether the part has marks.
 fn put_flag(out: &mut Vec<u8>, listing: bool) -> Result<(), AllocError>
     ensures { OnOk result (out.new.items ≡ out.old.items ++ (flag listing ∷ [])) }
 {
@@ -136,7 +141,7 @@ fn write_whole(alloc: Global, part: &Part) -> Result<Vec<u8>, AllocError>
     Ok(out)
 }
 
-/// The bytes of a part.
+/// The bytes of a part, with the sum at their end. It fails if memory runs out.
 pub fn write_part(alloc: Global, part: &Part) -> Result<Vec<u8>, AllocError>
     requires { FitsPart (part_value part.now) }
     ensures bytes { IfOk result (λ out. out.items ≡ part_bytes (part_value part.now)) }
