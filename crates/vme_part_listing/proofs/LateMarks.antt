@@ -9,8 +9,8 @@ use Rattle.vme_monitor.specs.declared.mark.Mark.{Mark}
 use Rattle.vme_part_format.specs.declared.wide.WideMark.{WideMark}
 use Rattle.vme_part_tables.specs.Runs.{mark_of}
 use Rattle.vme_part_listing.specs.Late.{HasLateMark}
-use Rattle.vme_part_listing.specs.Marks.{marks_of_ways}
-use Rattle.vme_part_listing.specs.declared.listing.Ways.{Ways}
+use Rattle.vme_part_listing.specs.Marks.{marks_of_runs}
+use Rattle.vme_part_listing.specs.declared.listing.MonitorRuns.{MonitorRuns}
 
 -- the marks before `a` and those after it are all
 front-append_rest : (a : Mark) (bs : List Mark) → front a bs ++ rest a bs ≡ bs
@@ -61,7 +61,8 @@ HasLateMark-merged_second : (xs bs : List Mark) → HasLateMark bs → HasLateMa
 HasLateMark-merged_second xs bs late = (late.0, Contains-merged_second late.0 xs bs late.1, late.2)
 
 -- a late mark of the run of the monitor of U1 is one of all together
-pub HasLateMark-known : (w : Ways) → HasLateMark (map mark_of w.known.marks.items) → HasLateMark (marks_of_ways w)
+pub HasLateMark-known : (w : MonitorRuns) → HasLateMark (map mark_of w.known.marks.items)
+    → HasLateMark (marks_of_runs w)
 HasLateMark-known w late =
     let grant = map mark_of w.grant.marks.items in
     let acknowledge = map mark_of w.acknowledge.marks.items in
@@ -71,8 +72,8 @@ HasLateMark-known w late =
     HasLateMark-merged_first (map mark_of w.known.marks.items) started late
 
 -- a late mark of the run of the monitor of the handshake is one of all together
-pub HasLateMark-handshake : (w : Ways) → HasLateMark (map mark_of w.handshake.marks.items)
-    → HasLateMark (marks_of_ways w)
+pub HasLateMark-handshake : (w : MonitorRuns) → HasLateMark (map mark_of w.handshake.marks.items)
+    → HasLateMark (marks_of_runs w)
 HasLateMark-handshake w late =
     let chains = merged (map mark_of w.grant.marks.items) (map mark_of w.acknowledge.marks.items) in
     let held = merged (map mark_of w.stability.marks.items) chains in
@@ -81,8 +82,8 @@ HasLateMark-handshake w late =
     (HasLateMark-merged_first handshake held late)
 
 -- a late mark of the run of the monitor of the lines that have to be stable is one of all together
-pub HasLateMark-stability : (w : Ways) → HasLateMark (map mark_of w.stability.marks.items)
-    → HasLateMark (marks_of_ways w)
+pub HasLateMark-stability : (w : MonitorRuns) → HasLateMark (map mark_of w.stability.marks.items)
+    → HasLateMark (marks_of_runs w)
 HasLateMark-stability w late =
     let chains = merged (map mark_of w.grant.marks.items) (map mark_of w.acknowledge.marks.items) in
     let stability = map mark_of w.stability.marks.items in
@@ -92,9 +93,9 @@ HasLateMark-stability w late =
     (HasLateMark-merged_second handshake held (HasLateMark-merged_first stability chains late))
 
 -- a late mark of the two monitors of the chains is one of all together
-HasLateMark-chains : (w : Ways)
+HasLateMark-chains : (w : MonitorRuns)
     → HasLateMark (merged (map mark_of w.grant.marks.items) (map mark_of w.acknowledge.marks.items))
-    → HasLateMark (marks_of_ways w)
+    → HasLateMark (marks_of_runs w)
 HasLateMark-chains w late =
     let chains = merged (map mark_of w.grant.marks.items) (map mark_of w.acknowledge.marks.items) in
     let stability = map mark_of w.stability.marks.items in
@@ -104,14 +105,15 @@ HasLateMark-chains w late =
     (HasLateMark-merged_second handshake held (HasLateMark-merged_second stability chains late))
 
 -- a late mark of the run of the monitor of the arbitration is one of all together
-pub HasLateMark-grant : (w : Ways) → HasLateMark (map mark_of w.grant.marks.items) → HasLateMark (marks_of_ways w)
+pub HasLateMark-grant : (w : MonitorRuns) → HasLateMark (map mark_of w.grant.marks.items)
+    → HasLateMark (marks_of_runs w)
 HasLateMark-grant w late =
     HasLateMark-chains w (HasLateMark-merged_first (map mark_of w.grant.marks.items)
     (map mark_of w.acknowledge.marks.items) late)
 
 -- a late mark of the run of the monitor of the interrupt acknowledge is one of all together
-pub HasLateMark-acknowledge : (w : Ways) → HasLateMark (map mark_of w.acknowledge.marks.items)
-    → HasLateMark (marks_of_ways w)
+pub HasLateMark-acknowledge : (w : MonitorRuns) → HasLateMark (map mark_of w.acknowledge.marks.items)
+    → HasLateMark (marks_of_runs w)
 HasLateMark-acknowledge w late =
     HasLateMark-chains w (HasLateMark-merged_second (map mark_of w.grant.marks.items)
     (map mark_of w.acknowledge.marks.items) late)

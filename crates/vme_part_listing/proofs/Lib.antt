@@ -1,3 +1,3 @@
 mod LateMarks
-mod MarkedWays
+mod MarkedRuns
 mod MarkedFiles

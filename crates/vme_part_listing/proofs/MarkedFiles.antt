@@ -30,7 +30,7 @@ use Rattle.vme_part_tables.specs.Runs.{break_of}
 use Rattle.vme_parts.specs.Covering.{AreNext}
 use Rattle.vme_parts.specs.Files.{AllStand, AreFiles, files_of}
 use Rattle.vme_part_listing.specs.Late.{HasLateMark}
-use Rattle.vme_part_listing.specs.Marks.{HasMarks, ListsFiles, ShowLate, ShowsFiles, marks_of_ways}
+use Rattle.vme_part_listing.specs.Marks.{HasMarks, ListsFiles, ShowLate, ShowsFiles, marks_of_runs}
 use Rattle.vme_parts.specs.Progress.{FoundAll, HasJudgedFiles, StopsAt, TellsAll}
 use Rattle.vme_parts.specs.Stands.{SegmentStandsFor, extent_of}
 use Rattle.vme_part_listing.specs.Listings.{DeterminesListingAnswer}
@@ -41,8 +41,8 @@ use Rattle.vme_parts.specs.declared.answers.RecordingAnswer.{RecordingAnswer}
 use Rattle.vme_parts.specs.declared.judged_segments.JudgedSegments.{JudgedSegments}
 use Rattle.vme_parts.specs.declared.judged_segments.JudgingFault.{JudgingFault}
 use Rattle.vme_parts.specs.declared.judged_segments.JudgingFault.TheVariants as stop
-use Rattle.vme_part_listing.specs.declared.listing.Ways.{Ways}
-use Rattle.vme_part_listing.proofs.MarkedWays.{opening-of_recording}
+use Rattle.vme_part_listing.specs.declared.listing.MonitorRuns.{MonitorRuns}
+use Rattle.vme_part_listing.proofs.MarkedRuns.{opening-of_recording}
 use Rattle.vme_parts.proofs.SegmentLemmas.{TellsAll-stands_for}
 use Rattle.vme_parts.proofs.ToldFiles.{Contains-segment_at, drop-segment_values}
 use Rattle.vme_parts.proofs.WholeFiles.{HasComeTo, HasComeTo-first, HasComeTo-next, take-and_files_of}
@@ -50,20 +50,22 @@ use Rattle.vme_parts.proofs.WholeFiles.{FoundAll-judged_files}
 
 -- if the runs are `before` after `steps` steps, and the tables of s agree with the steps after these, then the runs are
 -- `after` after both
-abbrev pub PastMarks : Ways → Ways → ℕ → SegmentValue → Type 0
+abbrev pub PastMarks : MonitorRuns → MonitorRuns → ℕ → SegmentValue → Type 0
 PastMarks before after steps s =
     (o v : Levels) (x y : List Step) → v ≡ levels_after o x → steps ≡ length x → length x + length y < 2 ^ 64
     → HasMarks before o x → TellsAll true s v y → HasMarks after o (x ++ y)
 
 -- j and w are the states of judging and of the runs after the segments of s ∷ ss up to those in `left`
-pub record MarksTo (j : JudgedSegments) (w : Ways) (s : SegmentValue) (ss left : List SegmentValue) : Type 0 where
+pub record MarksTo (j : JudgedSegments) (w : MonitorRuns) (s : SegmentValue) (ss left : List SegmentValue)
+    : Type 0 where
   pub come : (files : List Block) (end : ℕ) → AreFiles files → AllStand true files (s ∷ ss) → AreNext 0 (s ∷ ss) end
       → (n : ℕ) × HasComeTo j s.opening files n × AreNext n left end × HasMarks w s.opening
       (joined_steps (take n files))
 
 -- if j is the state after judging the files of s, and w are the runs after the tables of s, both are those after the
 -- first of s ∷ ss
-pub MarksTo-first : (j : JudgedSegments) (begun w : Ways) (s : SegmentValue) (ss : List SegmentValue) → j.steps < 2 ^ 64
+pub MarksTo-first : (j : JudgedSegments) (begun w : MonitorRuns) (s : SegmentValue) (ss : List SegmentValue)
+    → j.steps < 2 ^ 64
     → ((listing : Bool) (bs : List Block) → SegmentStandsFor listing s bs → HasJudgedFiles j (extent_of s) bs)
     → HasMarks begun s.opening [] → PastMarks begun w 0 s → MarksTo j w s ss ss
 MarksTo-first j begun w s ss small judged none past =
@@ -118,7 +120,7 @@ not_StopsAt-joined bs ys rest stop.TooManySteps joins small many =
     ))
 
 -- j and w are the states of judging and of the runs after the segments before x, which has the index i
-module _ (j : JudgedSegments) (w : Ways) (s : SegmentValue) (xs : List Segment) (i : ℕ) (x : Segment)
+module _ (j : JudgedSegments) (w : MonitorRuns) (s : SegmentValue) (xs : List Segment) (i : ℕ) (x : Segment)
     (h : i < length xs) (e : x ≡ get_or xs i x)
     (was : MarksTo j w s (map segment_value xs) (drop i (map segment_value xs))) where
   -- if judging stops at x, the files don't follow one another or have more steps than 64 bits count, so `ShowLate`
@@ -154,7 +156,7 @@ module _ (j : JudgedSegments) (w : Ways) (s : SegmentValue) (xs : List Segment) 
       (stops_there true c.1.extent bs ys c.1.judged p (to.0 ∙ sym c.1.last)))
 
   -- if r and v are j and w after the files of x as well, they are those after the segments up to x
-  pub MarksTo-next : (r : JudgedSegments) (v : Ways) → r.steps < 2 ^ 64
+  pub MarksTo-next : (r : JudgedSegments) (v : MonitorRuns) → r.steps < 2 ^ 64
       → ((listing : Bool) (e : Extent) (bs ys : List Block) → HasJudgedFiles j e bs
       → SegmentStandsFor listing (segment_value x) ys → x.first ≡ e.last + 1
       → HasJudgedFiles r (joined_extent e (extent_of (segment_value x))) (bs ++ ys))
@@ -206,12 +208,12 @@ joined_steps-of_recording (b ∷ bs) t is =
     ap (λ (k : Trace). k.steps) whole
 
 -- if no segments are left, the marks of the runs are those of the recording
-pub ShowsFiles-none_left : (j : JudgedSegments) (w : Ways) (s : SegmentValue) (xs : List Segment) (i : ℕ)
+pub ShowsFiles-none_left : (j : JudgedSegments) (w : MonitorRuns) (s : SegmentValue) (xs : List Segment) (i : ℕ)
     → length xs ≤ i
     → ((t : Trace) → malformed_step t ≡ None → t.opening.slots ≤ 21 → HasMarks w t.opening t.steps
-    → marks_of_ways w ≡ all_marks t)
+    → marks_of_runs w ≡ all_marks t)
     → MarksTo j w s (map segment_value xs) (drop i (map segment_value xs))
-    → ShowsFiles s.opening (s ∷ map segment_value xs) (marks_of_ways w)
+    → ShowsFiles s.opening (s ∷ map segment_value xs) (marks_of_runs w)
 ShowsFiles-none_left j w s xs i h law was files end are stand next t is few =
     let c = was.come files end are stand next in
     let none : drop i (map segment_value xs) ≡ []

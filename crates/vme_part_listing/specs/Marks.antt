@@ -28,30 +28,31 @@ use Rattle.vme_part_listing.specs.Late.{HasLateMark, IsTooLongToList}
 use Rattle.vme_part_listing.specs.declared.answers.ListingAnswer.{ListingAnswer}
 use Rattle.vme_part_listing.specs.declared.answers.ListingAnswer.TheVariants as listed
 use Rattle.vme_parts.specs.declared.judged_segments.JudgedSegments.{JudgedSegments}
-use Rattle.vme_part_listing.specs.declared.listing.Way.{Way}
-use Rattle.vme_part_listing.specs.declared.listing.Ways.{Ways}
+use Rattle.vme_part_listing.specs.declared.listing.MonitorRun.{MonitorRun}
+use Rattle.vme_part_listing.specs.declared.listing.MonitorRuns.{MonitorRuns}
 use Rattle.vme_parts.specs.Covering.{AreNext}
 use Rattle.vme_parts.specs.Files.{AllStand, AreFiles}
 use Rattle.vme_parts.specs.Progress.{FoundAll, HasJudgedFiles}
 
--- w is the run, over the steps x, of a monitor that began at the opening o: its memory and its marks
-pub record HasWay {P : Type 0} (run : P → Levels → List Step → Outcome P) (begin : Levels → P) (place : P → ℕ) (w : Way)
-    (o : Levels) (x : List Step) : Type 0 where
+-- w has the run over the steps x of a monitor that begins at the opening o: the memory in which it ends, by its number
+-- (`place`), and its marks
+pub record HasRun {P : Type 0} (run : P → Levels → List Step → Outcome P) (begin : Levels → P) (place : P → ℕ)
+    (w : MonitorRun) (o : Levels) (x : List Step) : Type 0 where
   pub leaving : w.memory ≡ place (run (begin o) o x).leaving
   pub marks : map mark_of w.marks.items ≡ (run (begin o) o x).marks
 
 -- w has the run of each monitor over the steps x, from the opening o
-pub record HasMarks (w : Ways) (o : Levels) (x : List Step) : Type 0 where
-  pub known : HasWay known_run (start_in known_begin) (phase_place nil_place) w.known o x
-  pub handshake : HasWay handshake_run (start_in dtb_begin) (phase_place memory_place) w.handshake o x
-  pub stability : HasWay stability_run (start_in stability_begin) (phase_place holding_place) w.stability o x
-  pub grant : HasWay grant_run (start_in grant_begin) (phase_place arbitration_place) w.grant o x
-  pub acknowledge : HasWay acknowledge_run (start_in acknowledge_begin)
+pub record HasMarks (w : MonitorRuns) (o : Levels) (x : List Step) : Type 0 where
+  pub known : HasRun known_run (start_in known_begin) (phase_place nil_place) w.known o x
+  pub handshake : HasRun handshake_run (start_in dtb_begin) (phase_place memory_place) w.handshake o x
+  pub stability : HasRun stability_run (start_in stability_begin) (phase_place holding_place) w.stability o x
+  pub grant : HasRun grant_run (start_in grant_begin) (phase_place arbitration_place) w.grant o x
+  pub acknowledge : HasRun acknowledge_run (start_in acknowledge_begin)
       (phase_place acknowledge_memory_place) w.acknowledge o
       x
 
 -- each memory is below the number of its monitor's memories
-pub record FitWays (w : Ways) : Type 0 where
+pub record FitRuns (w : MonitorRuns) : Type 0 where
   pub known : w.known.memory < 4
   pub handshake : w.handshake.memory < 147
   pub stability : w.stability.memory < 13
@@ -59,8 +60,8 @@ pub record FitWays (w : Ways) : Type 0 where
   pub acknowledge : w.acknowledge.memory < 11
 
 -- the marks of all monitors, in order
-abbrev pub marks_of_ways : Ways → List Mark
-marks_of_ways w =
+abbrev pub marks_of_runs : MonitorRuns → List Mark
+marks_of_runs w =
     merged (map mark_of w.known.marks.items)
     (merged (map mark_of w.handshake.marks.items)
     (merged (map mark_of w.stability.marks.items)

@@ -14,7 +14,7 @@ ghost use Rattle.vme_part_tables.specs.Ways.{later_mark, outcome_in};
 ghost use Rattle.vme_parts.specs.Buddies.{HasTables};
 ghost use Rattle.vme_parts.specs.Gathering.{IsSegment};
 ghost use Rattle.vme_part_listing.specs.Late.{HasLateMark};
-ghost use Rattle.vme_part_listing.specs.Marks.{FitWays, HasMarks, ListsFiles, ShowLate, ShowsFiles, marks_of_ways};
+ghost use Rattle.vme_part_listing.specs.Marks.{FitRuns, HasMarks, ListsFiles, ShowLate, ShowsFiles, marks_of_runs};
 ghost use Rattle.vme_parts.specs.Progress.{FitStates, TellsAll};
 ghost use Rattle.vme_part_listing.specs.Listings.{DeterminesListingAnswer};
 
@@ -29,7 +29,7 @@ use vme_monitor::finite::Finite;
 use vme_monitor::known::{Known, known_over_recordings};
 use vme_monitor::mark::Mark;
 use vme_part_format::{OutcomeTable, Part, Segment, WideBreak, WideMark};
-use vme_part_tables::{follow, put_marks_on_way};
+use vme_part_tables::{follow, put_marks_of_run};
 use vme_parts::{JudgedSegments, judged};
 use vme_summary::listing_by;
 use vme_trace::{Break, Lines};
@@ -84,12 +84,12 @@ fn narrow_break(found: Option<WideBreak>) -> Option<Option<Break>>
 
 /// The run of one monitor through segments: the memory (state) that it is in, and its marks so far.
 #[derive(Drop)]
-struct Way {
+struct MonitorRun {
     memory: u32,
     marks: Vec<WideMark>,
 }
 
-impl Way {
+impl MonitorRun {
     /// Runs through the table of a segment, where `steps` steps come before the segment.
     fn go_past(&mut self, table: &OutcomeTable, steps: u64) -> Result<(), AllocError>
         requires few { length table.now.entries.items < 2 ^ 32 }
@@ -98,7 +98,7 @@ impl Way {
         ensures marks { OnOk result (self.new.marks.items ≡ self.old.marks.items
             ++ map (later_mark steps) (outcome_in (table_value table.now) self.old.memory).marks) }
     {
-        put_marks_on_way(&mut self.marks, table, self.memory, steps)?;
+        put_marks_of_run(&mut self.marks, table, self.memory, steps)?;
         let (memory, _) = follow(table, self.memory);
         self.memory = memory;
         Ok(())
@@ -114,13 +114,13 @@ impl Way {
 }
 
 /// The run of a monitor at the opening of a recording.
-fn begin<M: Finite>(alloc: Global, opening: &Lines) -> Way
+fn begin<M: Finite>(alloc: Global, opening: &Lines) -> MonitorRun
     ensures memory { result.memory ≡ M.place_of (M.begin opening.now) }
     ensures low { result.memory < M.COUNT }
     ensures marks { result.marks.items ≡ [] }
 {
     let memory = M::place(M::start(opening)) as u32;
-    Way {
+    MonitorRun {
         memory,
         marks: Vec::new(alloc),
     }
@@ -128,21 +128,21 @@ fn begin<M: Finite>(alloc: Global, opening: &Lines) -> Way
 
 /// The runs of all monitors through segments.
 #[derive(Drop)]
-struct Ways {
-    known: Way,
-    handshake: Way,
-    stability: Way,
-    grant: Way,
-    acknowledge: Way,
+struct MonitorRuns {
+    known: MonitorRun,
+    handshake: MonitorRun,
+    stability: MonitorRun,
+    grant: MonitorRun,
+    acknowledge: MonitorRun,
 }
 
-impl Ways {
+impl MonitorRuns {
     /// The runs before any step.
-    fn at(alloc: Global, opening: &Lines) -> Ways
-        ensures fit { FitWays result }
+    fn at(alloc: Global, opening: &Lines) -> MonitorRuns
+        ensures fit { FitRuns result }
         ensures shows { HasMarks result opening.now [] }
     {
-        Ways {
+        MonitorRuns {
             known: begin::<Known>(alloc, opening),
             handshake: begin::<Dtb>(alloc, opening),
             stability: begin::<Stability>(alloc, opening),
@@ -153,9 +153,9 @@ impl Ways {
 
     /// Runs through a segment, where `steps` steps come before it.
     fn go_past(&mut self, segment: &Segment, steps: u64) -> Result<(), AllocError>
-        requires fit { FitWays self.old }
+        requires fit { FitRuns self.old }
         requires tables { HasTables (segment_value segment.now) }
-        ensures fit { OnOk result (FitWays self.new) }
+        ensures fit { OnOk result (FitRuns self.new) }
         ensures shows { OnOk result ((o v : Levels) (x y : List Step) → v ≡ levels_after o x → steps ≡ length x
             → length x + length y < 2 ^ 64 → HasMarks self.old o x → TellsAll true (segment_value segment.now) v y
             → HasMarks self.new o (x ++ y)) }
@@ -170,8 +170,8 @@ impl Ways {
 
     /// The marks of all monitors, in order, if their instants fit in 32 bits.
     fn together(self, alloc: Global) -> Result<Option<Vec<Mark>>, AllocError>
-        ensures same { IfOk result (λ found. IfSome found (λ v. v.items ≡ marks_of_ways self)) }
-        ensures late { IfOk result (λ found. found ≡ None → HasLateMark (marks_of_ways self)) }
+        ensures same { IfOk result (λ found. IfSome found (λ v. v.items ≡ marks_of_runs self)) }
+        ensures late { IfOk result (λ found. found ≡ None → HasLateMark (marks_of_runs self)) }
     {
         let Some(known) = self.known.narrow_marks(alloc)? else {
             return Ok(None);
@@ -223,20 +223,20 @@ fn marks_from(
     grants_over_recordings();
     acknowledge_over_recordings();
     let mut judging = JudgedSegments::of(first);
-    let mut ways = Ways::at(alloc, &first.opening);
-    ways.go_past(first, 0)?;
+    let mut runs = MonitorRuns::at(alloc, &first.opening);
+    runs.go_past(first, 0)?;
     for segment in rest {
         let steps = judging.steps;
         match judging.go_past(segment) {
             Ok(()) => {
                 // the steps fit in 64 bits
                 let _after = step_count(&judging);
-                ways.go_past(segment, steps)?
+                runs.go_past(segment, steps)?
             }
             Err(_) => return Ok(None),
         }
     }
-    ways.together(alloc)
+    runs.together(alloc)
 }
 
 /// The listing of a recording whose segments, `first` and then `rest`, were judged.
@@ -288,7 +288,7 @@ fn list_all(
 }
 
 /// The listing, from a part with marks, of a recording of `files` files or, if `files` is `None`, of those up to the
-/// last that is covered.
+/// last that is covered; or the reason why there is none. It fails if memory runs out.
 pub fn tell_listing(
     alloc: Global,
     part: &Part,

@@ -1,4 +1,4 @@
-//! Runs through a table.
+//! Runs through a table: from the entry of a memory on, and through the nodes with which it continues.
 
 ghost use Rattle.std.specs.Prelude.{◌≡◌, ◌<◌, ◌^◌, ◌++◌, OnOk, length, map};
 ghost use Rattle.std.specs.Option.{option_map};
@@ -8,7 +8,7 @@ ghost use Rattle.vme_part_tables.specs.Ways.{later_break as later_break_of, late
 use std::alloc::AllocError;
 use vme_part_format::{OutcomeTable, WideBreak, WideMark};
 
-/// The break `found` with its instant `by` later.
+/// The break `found`, if there is one, with its instant later by `by`, but at most `u64::MAX`. Its time stays.
 pub fn later_break(found: Option<WideBreak>, by: u64) -> Option<WideBreak>
     ensures { result ≡ option_map (later_break_of by) found }
 {
@@ -23,7 +23,7 @@ pub fn later_break(found: Option<WideBreak>, by: u64) -> Option<WideBreak>
     }
 }
 
-/// The memory in which the run from `memory` ends, and the run's first break.
+/// The number of the memory in which the run from the memory with the number `memory` ends, and the run's first break.
 pub fn follow(table: &OutcomeTable, memory: u32) -> (u32, Option<WideBreak>)
     requires few { length table.now.entries.items < 2 ^ 32 }
     requires memory { memory < length table.now.entries.items }
@@ -48,7 +48,7 @@ pub fn follow(table: &OutcomeTable, memory: u32) -> (u32, Option<WideBreak>)
     (way, first_break)
 }
 
-/// Adds the marks `more` with their instants `by` later.
+/// Adds the marks `more` with their instants later by `by`, but at most `u64::MAX`.
 fn put_later_marks(marks: &mut Vec<WideMark>, more: &[WideMark], by: u64) -> Result<(), AllocError>
     ensures { OnOk result (marks.new.items ≡ marks.old.items ++ map (later_mark by) more.now) }
 {
@@ -61,8 +61,9 @@ fn put_later_marks(marks: &mut Vec<WideMark>, more: &[WideMark], by: u64) -> Res
     Ok(())
 }
 
-/// Adds the marks of the run from `memory`, with their instants `by` later.
-pub fn put_marks_on_way(
+/// Adds the marks of the run from the memory with the number `memory`, with their instants later by `by`, but at most
+/// `u64::MAX`. It fails if memory runs out; some of the marks are then added.
+pub fn put_marks_of_run(
     marks: &mut Vec<WideMark>,
     table: &OutcomeTable,
     memory: u32,

@@ -7,7 +7,7 @@ use Rattle.vme_part_format.specs.Tables.{segment_value}
 use Rattle.vme_summary.specs.MarkedRows.{listed}
 use Rattle.vme_part_listing.specs.Marks.{ShowsFiles}
 use Rattle.vme_part_listing.proofs.MarkedFiles.{ListsFiles-late_break, ListsFiles-late_mark}
-use Rattle.vme_part_listing.proofs.MarkedWays.{listing_of-of_parts}
+use Rattle.vme_part_listing.proofs.MarkedRuns.{listing_of-of_parts}
 use Rattle.vme_part_listing.proofs.listing.listing_from.Goals as goal
 
 pub returns-in_default : goal.returns-in_default

@@ -7,7 +7,7 @@ use Rattle.vme_summary.specs.Runs.{known_run, handshake_run, stability_run, gran
 use Rattle.vme_summary.proofs.Together.{merged-marks_of_monitors}
 use Rattle.vme_part_format.specs.Tables.{segment_value}
 use Rattle.vme_part_listing.specs.Late.{HasLateMark}
-use Rattle.vme_part_listing.specs.Marks.{ShowLate, ShowsFiles, marks_of_ways}
+use Rattle.vme_part_listing.specs.Marks.{ShowLate, ShowsFiles, marks_of_runs}
 use Rattle.vme_part_listing.proofs.MarkedFiles.{ShowLate-shown, MarksTo-first, MarksTo-next, ShowsFiles-none_left}
 use Rattle.vme_part_listing.proofs.MarkedFiles.{ShowLate-stops}
 use Rattle.vme_parts.proofs.Ordering.{IsSegment-item_at}
@@ -35,9 +35,9 @@ pub loop-segment-init : goal.loop-segment-init
 loop-segment-init c =
     record {
       fit = c.of-judging.ensures.fit;
-      ways = c.in_ok-go_past.ensures.fit;
-      come = MarksTo-first c.of-judging.result c.at-ways.result c.go_past.new.self (segment_value c.args.first.now)
-          (map segment_value c.args.rest.now) (omega arith) c.of-judging.ensures.judged c.at-ways.ensures.shows
+      runs = c.in_ok-go_past.ensures.fit;
+      come = MarksTo-first c.of-judging.result c.at-runs.result c.go_past.new.self (segment_value c.args.first.now)
+          (map segment_value c.args.rest.now) (omega arith) c.of-judging.ensures.judged c.at-runs.ensures.shows
           c.in_ok-go_past.ensures.shows;
     }
 
@@ -46,8 +46,8 @@ loop-segment-preserved c =
     let lt : c.loop-segment.segment-index < length c.args.rest.now = omega arith in
     record {
       fit = c.go_past-in-loop-segment.ensures.fit;
-      ways = c.in_ok-go_past-in-Ok.ensures.fit;
-      come = MarksTo-next c.loop-segment.judging c.loop-segment.ways (segment_value c.args.first.now) c.args.rest.now
+      runs = c.in_ok-go_past-in-Ok.ensures.fit;
+      come = MarksTo-next c.loop-segment.judging c.loop-segment.runs (segment_value c.args.first.now) c.args.rest.now
           c.loop-segment.segment-index c.segment-item.result lt c.segment-item.is c.loop-segment.invariant.come
           c.go_past-in-loop-segment.new.self c.go_past-in-Ok.new.self (omega arith) c.in-Ok.ensures.judged
           c.in_ok-go_past-in-Ok.ensures.shows;
@@ -58,8 +58,8 @@ unfolding known_run handshake_run stability_run grant_run acknowledge_run
 returns c =
     let s = segment_value c.args.first.now in
     let ss = s ∷ map segment_value c.args.rest.now in
-    let ms = marks_of_ways c.loop-segment.ways in
-    let whole = ShowsFiles-none_left c.loop-segment.judging c.loop-segment.ways s c.args.rest.now
+    let ms = marks_of_runs c.loop-segment.runs in
+    let whole = ShowsFiles-none_left c.loop-segment.judging c.loop-segment.runs s c.args.rest.now
     c.loop-segment.segment-index
     (omega (arith, c.loop-segment-test.false))
     (λ t sound few has.
@@ -84,6 +84,6 @@ pub returns-in-Err-clause-late : goal.returns-in-Err-clause-late
 returns-in-Err-clause-late c =
     λ none.
     let lt : c.loop-segment.segment-index < length c.args.rest.now = omega arith in
-    ShowLate-stops c.loop-segment.judging c.loop-segment.ways (segment_value c.args.first.now) c.args.rest.now
+    ShowLate-stops c.loop-segment.judging c.loop-segment.runs (segment_value c.args.first.now) c.args.rest.now
     c.loop-segment.segment-index c.segment-item.result lt c.segment-item.is c.loop-segment.invariant.come
     c.go_past-in-loop-segment.result _ c.in-Err.is c.go_past-in-loop-segment.ensures.stops

@@ -23,21 +23,21 @@ use Rattle.vme_part_format.specs.Tables.{TableValue}
 use Rattle.vme_part_tables.specs.Runs.{AgreesWithRun, AgreesWithRuns, mark_of}
 use Rattle.vme_part_tables.specs.Ways.{WideOutcome, later_mark, outcome_in}
 use Rattle.vme_part_tables.proofs.Joining.{ShowsMarks-followed_by}
-use Rattle.vme_part_listing.specs.Marks.{HasWay}
+use Rattle.vme_part_listing.specs.Marks.{HasRun}
 use Rattle.vme_parts.specs.Progress.{HasJudgedFiles}
 use Rattle.vme_parts.specs.declared.judged_segments.JudgedSegments.{JudgedSegments}
-use Rattle.vme_part_listing.specs.declared.listing.Way.{Way}
+use Rattle.vme_part_listing.specs.declared.listing.MonitorRun.{MonitorRun}
 use Rattle.vme_summary.specs.declared.extent.Extent.{Extent}
 use Rattle.vme_parts.proofs.Runs.{IsRun}
 
 -- if a monitor has the run w over the steps x, and the table t agrees with its runs over y, it has the run r over both
-pub HasWay-next : {P : Type 0} (run : P → Levels → List Step → Outcome P) → IsRun run → (begin : Levels → P)
-    (place : P → ℕ) (count : ℕ) (t : TableValue) (w r : Way) (o v : Levels) (x y : List Step) (steps : ℕ)
+pub HasRun-next : {P : Type 0} (run : P → Levels → List Step → Outcome P) → IsRun run → (begin : Levels → P)
+    (place : P → ℕ) (count : ℕ) (t : TableValue) (w r : MonitorRun) (o v : Levels) (x y : List Step) (steps : ℕ)
     → r.memory ≡ (outcome_in t w.memory).leaving
     → r.marks.items ≡ w.marks.items ++ map (later_mark steps) (outcome_in t w.memory).marks → v ≡ levels_after o x
-    → steps ≡ length x → length x + length y < 2 ^ 64 → HasWay run begin place w o x
-    → AgreesWithRuns true count place t (λ p. run p v y) → HasWay run begin place r o (x ++ y)
-HasWay-next {P} run law begin place count t w r o v x y steps memory marks opens counted fits was agrees =
+    → steps ≡ length x → length x + length y < 2 ^ 64 → HasRun run begin place w o x
+    → AgreesWithRuns true count place t (λ p. run p v y) → HasRun run begin place r o (x ++ y)
+HasRun-next {P} run law begin place count t w r o v x y steps memory marks opens counted fits was agrees =
     let p = (run (begin o) o x).leaving in
     let a : WideOutcome = record { leaving = w.memory; first_break = None; marks = w.marks.items } in
     let b : AgreesWithRun true place (outcome_in t w.memory) (run p v y) = rw was.leaving (agrees.agrees p) in

@@ -1,6 +1,6 @@
 use Rattle.vme_part_listing.proofs.LateMarks.{HasLateMark-acknowledge, HasLateMark-grant, HasLateMark-handshake}
 use Rattle.vme_part_listing.proofs.LateMarks.{HasLateMark-known, HasLateMark-stability}
-use Rattle.vme_part_listing.proofs.listing.Ways.together.Goals as goal
+use Rattle.vme_part_listing.proofs.listing.MonitorRuns.together.Goals as goal
 
 pub returns-in_default-clause-late : goal.returns-in_default-clause-late
 returns-in_default-clause-late c = λ none. HasLateMark-known c.args.self (c.in_ok-known.ensures.late c.in_default.is)

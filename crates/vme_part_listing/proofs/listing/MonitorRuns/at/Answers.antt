@@ -2,7 +2,7 @@
 use Rattle.std.proofs.Common.{ap, map}
 use Rattle.vme_summary.specs.Runs.{known_run, handshake_run, stability_run, grant_run, acknowledge_run}
 use Rattle.vme_part_tables.specs.Runs.{mark_of}
-use Rattle.vme_part_listing.proofs.listing.Ways.at.Goals as goal
+use Rattle.vme_part_listing.proofs.listing.MonitorRuns.at.Goals as goal
 
 pub returns-clause-shows : goal.returns-clause-shows
 unfolding known_run handshake_run stability_run grant_run acknowledge_run

@@ -1,4 +1,4 @@
-use Rattle.vme_part_listing.proofs.listing.Way.narrow_marks.Goals as goal
+use Rattle.vme_part_listing.proofs.listing.MonitorRun.narrow_marks.Goals as goal
 
 pub returns-clause-same : goal.returns-clause-same
 returns-clause-same c = rw c.as_slice.ensures.value at c.narrow.ensures.same

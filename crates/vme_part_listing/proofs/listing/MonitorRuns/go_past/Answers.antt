@@ -11,10 +11,10 @@ use Rattle.vme_chains.specs.GrantRules.{grant_begin}
 use Rattle.vme_chains.specs.AcknowledgeRules.{acknowledge_begin, acknowledge_memory_place}
 use Rattle.vme_summary.specs.Runs.{known_run, handshake_run, stability_run, grant_run, acknowledge_run}
 use Rattle.vme_part_format.specs.Tables.{table_value}
-use Rattle.vme_part_listing.proofs.MarkedWays.{HasWay-next}
+use Rattle.vme_part_listing.proofs.MarkedRuns.{HasRun-next}
 use Rattle.vme_parts.proofs.Runs.{IsRun-acknowledge, IsRun-grant, IsRun-handshake, IsRun-known, IsRun-stability}
 use Rattle.vme_parts.proofs.StateLemmas.{leaving-below}
-use Rattle.vme_part_listing.proofs.listing.Ways.go_past.Goals as goal
+use Rattle.vme_part_listing.proofs.listing.MonitorRuns.go_past.Goals as goal
 
 pub go_past-requires-clause-memory : goal.go_past-requires-clause-memory
 go_past-requires-clause-memory c = omega (arith, c.requires.fit.known, c.requires.tables.known.counted)
@@ -58,21 +58,21 @@ pub returns-clause-shows : goal.returns-clause-shows
 returns-clause-shows c =
     λ o v x y opens counted fits was agrees.
     record {
-      known = HasWay-next known_run IsRun-known (start_in known_begin) (phase_place nil_place) 4
+      known = HasRun-next known_run IsRun-known (start_in known_begin) (phase_place nil_place) 4
           (table_value c.args.segment.now.known) c.args.self.now.known c.go_past.new.self o v x y c.args.steps
           c.in_ok-go_past.ensures.memory c.in_ok-go_past.ensures.marks opens counted fits was.known agrees.known;
-      handshake = HasWay-next handshake_run IsRun-handshake (start_in dtb_begin) (phase_place memory_place) 147
+      handshake = HasRun-next handshake_run IsRun-handshake (start_in dtb_begin) (phase_place memory_place) 147
           (table_value c.args.segment.now.handshake) c.args.self.now.handshake c.go_past-2.new.self o v x y c.args.steps
           c.in_ok-go_past-2.ensures.memory c.in_ok-go_past-2.ensures.marks opens counted fits was.handshake
           agrees.handshake;
-      stability = HasWay-next stability_run IsRun-stability (start_in stability_begin) (phase_place holding_place) 13
+      stability = HasRun-next stability_run IsRun-stability (start_in stability_begin) (phase_place holding_place) 13
           (table_value c.args.segment.now.stability) c.args.self.now.stability c.go_past-3.new.self o v x y c.args.steps
           c.in_ok-go_past-3.ensures.memory c.in_ok-go_past-3.ensures.marks opens counted fits was.stability
           agrees.stability;
-      grant = HasWay-next grant_run IsRun-grant (start_in grant_begin) (phase_place arbitration_place) 35
+      grant = HasRun-next grant_run IsRun-grant (start_in grant_begin) (phase_place arbitration_place) 35
           (table_value c.args.segment.now.grant) c.args.self.now.grant c.go_past-4.new.self o v x y c.args.steps
           c.in_ok-go_past-4.ensures.memory c.in_ok-go_past-4.ensures.marks opens counted fits was.grant agrees.grant;
-      acknowledge = HasWay-next acknowledge_run IsRun-acknowledge (start_in acknowledge_begin)
+      acknowledge = HasRun-next acknowledge_run IsRun-acknowledge (start_in acknowledge_begin)
           (phase_place acknowledge_memory_place) 11
           (table_value c.args.segment.now.acknowledge) c.args.self.now.acknowledge c.go_past-5.new.self o v x y
           c.args.steps

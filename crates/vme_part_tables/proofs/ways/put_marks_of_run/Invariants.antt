@@ -3,7 +3,7 @@
 use Rattle.std.proofs.Common.{◌≡◌, ◌++◌, drop, length, map}
 use Rattle.vme_part_format.specs.Tables.{node_value, table_value}
 use Rattle.vme_part_tables.specs.Ways.{later_mark, outcome_in, run_from}
-use Rattle.vme_part_tables.proofs.ways.put_marks_on_way.Given as goal
+use Rattle.vme_part_tables.proofs.ways.put_marks_of_run.Given as goal
 
 abbrev pub invariant-loop-node : goal.invariant-loop-node
 invariant-loop-node l =
