@@ -62,7 +62,7 @@ fn put_later_marks(marks: &mut Vec<WideMark>, more: &[WideMark], by: u64) -> Res
 }
 
 /// Adds the marks of the run from the memory with the number `memory`, with their instants later by `by`, but at most
-/// `u64::MAX`. It fails if memory runs out; some of the marks are then added.
+/// `u64::MAX`. It fails if memory runs out; some of the marks may then be there.
 pub fn put_marks_of_run(
     marks: &mut Vec<WideMark>,
     table: &OutcomeTable,

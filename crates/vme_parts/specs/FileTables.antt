@@ -1,4 +1,5 @@
--- The tables of one file.
+-- The tables of one file, one for each of the five monitors. The monitors have 4, 147, 13, 35 and 11 memories (states),
+-- and `phase_place` gives the number of a memory.
 use Rattle.std.specs.Prelude.{◌≡◌, ℕ, Bool, List, length}
 use Rattle.vme_trace.specs.Levels.{Levels}
 use Rattle.vme_trace.specs.Trace.{levels_after}
@@ -16,7 +17,7 @@ use Rattle.vme_part_tables.specs.Runs.{AgreesWithRuns}
 use Rattle.vme_parts.specs.NodeCounts.{HasNodesAtMost, tables_for}
 use Rattle.vme_parts.specs.declared.made.FileTables.{FileTables}
 
--- each of the tables has nodes only with marks (`true`)
+-- each of the tables has nodes only if the part has marks (`listing`)
 pub record TablesHaveNodes (listing : Bool) (all : FileTables) : Type 0 where
   pub known : HasNodes listing (table_value all.known).nodes
   pub handshake : HasNodes listing (table_value all.handshake).nodes
@@ -32,8 +33,8 @@ pub record TablesHaveNodesAtMost (k : ℕ) (all : FileTables) : Type 0 where
   pub grant : HasNodesAtMost 35 k (table_value all.grant)
   pub acknowledge : HasNodesAtMost 11 k (table_value all.acknowledge)
 
--- the tables agree with the monitors' runs over the steps x from the opening o, they have nodes only with marks
--- (`listing`), and not too many for x, and `all.left` is the levels after x
+-- each table agrees with the runs of its monitor from each memory p, over the steps x after the opening levels o; the
+-- tables have nodes only if the part has marks (`listing`), and not too many for x; and `all.left` is the levels after x
 pub record AreTablesOf (listing : Bool) (o : Levels) (x : List Step) (all : FileTables) : Type 0 where
   pub known : AgreesWithRuns listing 4 (phase_place nil_place) (table_value all.known) (λ p. known_run p o x)
   pub handshake : AgreesWithRuns listing 147 (phase_place memory_place) (table_value all.handshake)

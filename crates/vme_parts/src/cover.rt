@@ -1,4 +1,4 @@
-//! Which files segments cover.
+//! Which files of a recording segments cover. A segment covers files that follow one another (`last_file`).
 
 ghost use Rattle.std.specs.Prelude.{◌≡◌, ◌+◌, All, IfErr, IfOk, IfSome, IsTrue, None, false, map};
 ghost use Rattle.vme_part_format.specs.Bounds.{FitsNumbers};
@@ -9,16 +9,16 @@ ghost use Rattle.vme_parts.specs.Gathering.{IsSegment};
 use crate::buddies::last_file;
 use vme_part_format::Segment;
 
-/// The number after that of a segment's last file.
-fn end_of(segment: &Segment) -> u64
+/// The number of the file after a segment's last one.
+fn next_file(segment: &Segment) -> u64
     requires { FitsNumbers segment.now.first segment.now.order }
     ensures { result ≡ last_of segment.now.first segment.now.order + 1 }
 {
     last_file(segment) + 1
 }
 
-/// If the segments cover all files from 0 to their last, the number after the last. Else the least number that they
-/// don't cover.
+/// If the segments cover all files from 0 to their last, the number after the last, which is 0 without segments. Else
+/// the error is the least number of a file that they don't cover.
 pub(crate) fn covered(segments: &[Segment]) -> Result<u64, u64>
     requires { All IsSegment (map segment_value segments.now) }
     ensures next { IfOk result (λ end. AreNext 0 (map segment_value segments.now) end) }
@@ -29,12 +29,13 @@ pub(crate) fn covered(segments: &[Segment]) -> Result<u64, u64>
         if segment.first != next {
             return Err(next);
         }
-        next = end_of(segment);
+        next = next_file(segment);
     }
     Ok(next)
 }
 
-/// The last file that is covered, if its number isn't below `files`.
+/// The number of the last file that is covered, if it isn't below `files`, the number of files of the recording. `None`
+/// if `files` is.
 pub(crate) fn beyond(segments: &[Segment], files: Option<u64>) -> Option<u64>
     requires { All IsSegment (map segment_value segments.now) }
     ensures beyond { IfSome result (λ k. IsBeyond (map segment_value segments.now) files k) }

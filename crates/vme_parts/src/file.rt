@@ -6,7 +6,8 @@ ghost use Rattle.vme_parts.specs.Opened.{opening_of, steps_of};
 
 use vme_trace::{Lines, Step};
 
-fn behind_opening<'a>(
+/// The steps of `steps_of_file`, with the same arguments.
+fn steps_after_opening<'a>(
     number: u32,
     first_time: Option<u64>,
     opening: &mut Lines,
@@ -42,5 +43,5 @@ pub fn steps_of_file<'a>(
         → malformed_step (record { opening = opening.new; steps = result.now }) ≡ None }
     ensures few { length result.now ≤ length steps.now }
 {
-    behind_opening(number, first_time, opening, steps)
+    steps_after_opening(number, first_time, opening, steps)
 }

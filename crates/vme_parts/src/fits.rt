@@ -80,6 +80,7 @@ fn first_break_fits(first_break: Option<WideBreak>, steps: u64) -> bool
     }
 }
 
+/// Whether the values of a mark of this kind are within the bounds.
 fn kind_fits(kind: MarkKind) -> bool
     ensures { IsTrue result → FitsKind kind }
 {
@@ -126,6 +127,7 @@ fn node_fits(node: &TableNode, memories: u32, steps: u64, behind: u32) -> bool
         && marks_fit(node.marks.as_slice(), steps)
 }
 
+/// Whether the nodes of a table of `memories` memories, of a segment of `steps` steps, are within the bounds.
 fn nodes_fit(nodes: &[TableNode], memories: u32, steps: u64) -> bool
     requires { memories + length nodes.now < 2 ^ 32 }
     ensures { IsTrue result → FitNodes memories steps (map node_value nodes.now) }
@@ -140,12 +142,15 @@ fn nodes_fit(nodes: &[TableNode], memories: u32, steps: u64) -> bool
     true
 }
 
+/// Whether an entry has a way below `ways`, the number of memories and nodes, and its break is one of a segment of
+/// `steps` steps.
 fn entry_fits(entry: &TableEntry, ways: u32, steps: u64) -> bool
     ensures { IsTrue result → FitsEntry steps ways entry.now }
 {
     entry.next < ways && first_break_fits(entry.first_break, steps)
 }
 
+/// Whether `entry_fits` holds of all of `entries`.
 fn entries_fit(entries: &[TableEntry], ways: u32, steps: u64) -> bool
     ensures { IsTrue result → All (FitsEntry steps ways) entries.now }
 {
@@ -262,7 +267,7 @@ fn backplane_of(part: &Part) -> u64
 }
 
 /// Whether a segment can be written, and each table has at most two nodes a memory.
-fn segment_can(segment: &Segment, listing: bool) -> bool
+fn is_fit_and_compact(segment: &Segment, listing: bool) -> bool
     ensures fits { IsTrue result → FitsSegment listing (segment_value segment.now) }
     ensures compact { IsTrue result → IsCompact (segment_value segment.now) }
 {
@@ -278,7 +283,7 @@ pub fn can_write(part: &Part) -> bool
     // the backplane may be any number of 64 bits
     let _backplane = backplane_of(part);
     match part.segments.as_slice() {
-        [segment] => segment_can(segment, part.listing),
+        [segment] => is_fit_and_compact(segment, part.listing),
         _ => false,
     }
 }

@@ -72,7 +72,7 @@ fn are_too_many(count: usize) -> bool
     (u32::MAX as usize) < count
 }
 
-/// Joins `parts`, which may be in any order, into one part.
+/// Joins `parts`, which may be in any order, into one part, or answers why it doesn't.
 pub fn join_parts(alloc: Global, parts: Vec<Part>) -> Result<Part, JoinRefusal>
     requires { All (λ (p : Part). FitsPart (part_value p)) parts.items }
     ensures joins { IfOk result (λ r. JoinsParts (map part_value parts.items) (part_value r)) }

@@ -17,7 +17,8 @@ pub enum JoinRefusal {
     Differs(u64),
     /// Files that follow one another have more steps than 64 bits count.
     TooManySteps,
-    /// A table has too many nodes for ways of 32 bits, or more than two a memory.
+    /// A table has too many nodes: 32 bits can't number its memories and nodes, or it has more than two for each
+    /// memory.
     TooManyNodes,
     /// There are more segments, after joining, than 32 bits count.
     TooManySegments,

@@ -23,13 +23,16 @@ pub enum JudgingFault {
     TooManySteps,
 }
 
-/// The state of judging segments in order: the levels that the files judged so far leave, the times and the number of
-/// their steps, and the monitors' states after them.
+/// The state of judging segments in order.
 #[derive(Clone, Copy)]
 pub struct JudgedSegments {
+    /// The levels that the files judged so far leave.
     pub left: Lines,
+    /// When their steps are, if they have any.
     pub times: Option<SegmentTimes>,
+    /// The number of their steps.
     pub steps: u64,
+    /// The states of the monitors after them.
     pub states: States,
 }
 
@@ -50,7 +53,7 @@ impl JudgedSegments {
         }
     }
 
-    /// Judges the segment that comes next. The error says why judging stops there.
+    /// Judges the segment that comes next. The error says why judging stops there, and then the state is as it was.
     pub fn go_past(&mut self, segment: &Segment) -> Result<(), JudgingFault>
         requires fit { FitStates self.old.states }
         requires tables { HasTables (segment_value segment.now) }

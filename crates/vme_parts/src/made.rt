@@ -132,6 +132,7 @@ fn tables_of(
     }
 }
 
+/// When the steps of the file `number` are, if it has any.
 fn times_of(number: u64, steps: &[Step]) -> Option<SegmentTimes>
     ensures starts { starts_at result ≡ first_time steps.now }
     ensures ends { ends_at result ≡ last_time steps.now }
@@ -186,7 +187,8 @@ fn segment_of_steps(
     })
 }
 
-/// The part of one file, from its number, its opening and its steps. `backplane` is the sum of the backplane.
+/// The part of one file, with marks (`listing`) or without, from its number, its opening and its steps; or why there is
+/// none. `backplane` is the sum of the backplane.
 pub fn part_of_steps(
     alloc: Global,
     backplane: u64,

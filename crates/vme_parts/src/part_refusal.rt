@@ -9,7 +9,7 @@ use std::alloc::{AllocError, AllocFailed};
 pub enum PartRefusal {
     /// Memory ran out.
     Memory,
-    /// A table with marks has too many nodes for ways of 32 bits.
+    /// A table with marks has too many nodes: 32 bits can't number its memories and nodes.
     TooManyNodes,
 }
 

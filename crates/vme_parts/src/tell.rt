@@ -54,7 +54,8 @@ fn answer_of(stop: JudgingFault) -> RecordingAnswer
 }
 
 /// Judges all segments of `part`, if they cover all files of the recording and no others. The recording has `files`
-/// files or, if `files` is `None`, those up to the last that is covered.
+/// files or, if `files` is `None`, those up to the last that is covered. Else the error is the answer about the
+/// recording, which is no verdict.
 pub fn judged(part: &Part, files: Option<u64>) -> Result<JudgedSegments, RecordingAnswer>
     requires { FitsPart (part_value part.now) }
     ensures fit { IfOk result (λ j. FitStates j.states) }

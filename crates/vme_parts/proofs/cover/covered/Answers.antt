@@ -6,8 +6,8 @@ use Rattle.vme_parts.proofs.Ordering.{IsSegment-item_at}
 use Rattle.vme_parts.proofs.ToldFiles.{drop-segment_values}
 use Rattle.vme_parts.proofs.cover.covered.Goals as goal
 
-pub end_of-next-requires : goal.end_of-next-requires
-end_of-next-requires c =
+pub next_file-next-requires : goal.next_file-next-requires
+next_file-next-requires c =
     (IsSegment-item_at c.args.segments.now c.loop-segment.segment-index c.segment-item.result (omega arith)
     c.segment-item.is
     c.requires).numbers
@@ -31,10 +31,11 @@ loop-segment-preserved c =
     record {
       next = λ end a.
           c.loop-segment.invariant.next end
-          (subst (λ (left : List SegmentValue). AreNext n left end) (sym at) (same, rw c.end_of-next.ensures at a));
+          (subst (λ (left : List SegmentValue). AreNext n left end) (sym at) (same, rw c.next_file-next.ensures at a));
       gap = λ k g.
           c.loop-segment.invariant.gap k
-          (subst (λ (left : List SegmentValue). HasGap n left k) (sym at) (inr (same, rw c.end_of-next.ensures at g)));
+          (subst (λ (left : List SegmentValue). HasGap n left k) (sym at)
+          (inr (same, rw c.next_file-next.ensures at g)));
     }
 
 pub returns-clause-next : goal.returns-clause-next
