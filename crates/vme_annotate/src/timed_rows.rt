@@ -3,7 +3,7 @@
 ghost use Rattle.std.specs.Prelude.{◌≡◌, ◌+◌, ◌≤◌, ◌++◌, [], length};
 ghost use Rattle.vme_listing.specs.RowText.{answer_text, class_text, data_text, direction_text};
 ghost use Rattle.vme_listing.specs.declared.row.Row.TheVariants.{AddressedCycle, Tenure, Transfer, Verdict};
-ghost use Rattle.vme_annotate.specs.TimedRows.{timed, timed_break, timed_edge, timed_line, timed_row};
+ghost use Rattle.vme_annotate.specs.TimedRows.{timed, timed_break, timed_end_instant, timed_line, timed_row};
 
 use crate::listed::TimedListing;
 use crate::short_text::{MOST, ShortText};
@@ -63,10 +63,10 @@ impl ShortText {
     }
 
     /// Appends `word`, then `instant` with its time, or a hyphen where there is no instant.
-    fn push_edge(&mut self, listing: &TimedListing, word: &[u8], instant: Option<u32>)
+    fn push_end_instant(&mut self, listing: &TimedListing, word: &[u8], instant: Option<u32>)
         requires room { length self.old + 61 ≤ MOST }
         requires short { length word.now ≤ 20 }
-        ensures text { self.new ≡ self.old ++ word.now ++ timed_edge listing.now.times instant }
+        ensures text { self.new ≡ self.old ++ word.now ++ timed_end_instant listing.now.times instant }
         ensures length { length self.new ≤ length self.old + length word.now + 41 }
     {
         match instant {
@@ -95,7 +95,7 @@ impl ShortText {
         self.push_decimal(u64::from(level));
         self.push(b" slot ");
         self.push_decimal(u64::from(slot));
-        self.push_edge(listing, b" end ", end);
+        self.push_end_instant(listing, b" end ", end);
     }
 
     fn push_timed_cycle(
@@ -118,7 +118,7 @@ impl ShortText {
         self.push_hexadecimal(2, u32::from(modifier));
         self.push(b" ");
         self.push_hexadecimal(address_digits(modifier), address);
-        self.push_edge(listing, b" end ", end);
+        self.push_end_instant(listing, b" end ", end);
     }
 
     fn push_timed_data(&mut self, lanes: Option<Lanes>)
@@ -154,7 +154,7 @@ impl ShortText {
         self.push(b" ");
         self.push(answer_text(line));
         self.push_instant(listing, b" ", answer);
-        self.push_edge(listing, b" close ", close);
+        self.push_end_instant(listing, b" close ", close);
         self.push_timed_data(lanes);
     }
 
@@ -205,7 +205,7 @@ impl ShortText {
             Row::Reset { instant } => self.push_instant(listing, b"reset ", instant),
             Row::OpenTenure { start, end } => {
                 self.push_instant(listing, b"tenure ", start);
-                self.push_edge(listing, b" open end ", end);
+                self.push_end_instant(listing, b" open end ", end);
             }
             Row::Tenure {
                 start,
@@ -228,13 +228,13 @@ impl ShortText {
                 self.push_instant(listing, b"cycle ", start);
                 self.push(b" F ");
                 self.push_hexadecimal(2, u32::from(modifier));
-                self.push_edge(listing, b" end ", end);
+                self.push_end_instant(listing, b" end ", end);
             }
             Row::InterruptCycle { start, level, end } => {
                 self.push_instant(listing, b"cycle ", start);
                 self.push(b" I ");
                 self.push_decimal(u64::from(level));
-                self.push_edge(listing, b" end ", end);
+                self.push_end_instant(listing, b" end ", end);
             }
             Row::Transfer {
                 start,

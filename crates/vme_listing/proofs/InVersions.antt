@@ -8,7 +8,7 @@ use Rattle.std.proofs.lemmas.Bool.{and_from, and_parts}
 use Rattle.std.proofs.lemmas.List.{map-id}
 use Rattle.vme_trace.specs.Trace.{Trace}
 use Rattle.vme_listing.specs.Listed.{includes_resets}
-use Rattle.vme_listing.specs.Places.{is_number, is_edge, has_data, is_row, is_start, is_reset, is_verdict}
+use Rattle.vme_listing.specs.Places.{is_number, is_end_instant, has_data, is_row, is_start, is_reset, is_verdict}
 use Rattle.vme_listing.specs.Places.{is_never_idle, is_later_place, place_of, may_follow, ascends, follows}
 use Rattle.vme_listing.specs.Places.{ends_listing}
 use Rattle.vme_listing.specs.Places.{can_include, is_rest, is_well_placed}
@@ -37,7 +37,7 @@ is_row-in_version One (AddressedCycle start class modifier address end) told h =
 is_row-in_version One (FreeCycle start modifier end) told h = h
 is_row-in_version One (InterruptCycle start level end) told h = h
 is_row-in_version One (Transfer direction line start cycle answer close lanes) told h =
-    and_from _ _ (and_parts (is_number start && is_number cycle && is_number answer && is_edge close)
+    and_from _ _ (and_parts (is_number start && is_number cycle && is_number answer && is_end_instant close)
     (has_data Three direction lanes) h).0 refl
 is_row-in_version One (PendingTransfer start direction) told h = h
 is_row-in_version One (Verdict outcome) told h = h

@@ -22,9 +22,10 @@ use Rattle.vme_trace.proofs.EveryRule.{every-rule}
 use Rattle.vme_listing.proofs.Glyphs.{are_glyphs, are_glyphs-decimal, are_glyphs-hexadecimal}
 use Rattle.vme_listing.proofs.LaneTexts.{lanes_text-no_line_feed}
 use Rattle.vme_listing.specs.Listed.{includes_resets}
-use Rattle.vme_listing.specs.Places.{is_number, is_edge, has_class, is_address, is_allowed_outcome, has_data, is_row}
-use Rattle.vme_listing.specs.RowText.{edge_text, hexadecimal, address_digits, class_text, direction_text, answer_text}
-use Rattle.vme_listing.specs.RowText.{data_text, break_text, row_text, line_of}
+use Rattle.vme_listing.specs.Places.{is_number, is_end_instant, has_class, is_address, is_allowed_outcome, has_data}
+use Rattle.vme_listing.specs.Places.{is_row}
+use Rattle.vme_listing.specs.RowText.{end_instant_text, hexadecimal, address_digits, class_text, direction_text}
+use Rattle.vme_listing.specs.RowText.{answer_text, data_text, break_text, row_text, line_of}
 use Rattle.vme_listing.specs.declared.row.AnswerLine.{AnswerLine}
 use Rattle.vme_listing.specs.declared.row.AnswerLine.TheVariants.{Dtack, Berr}
 use Rattle.vme_listing.specs.declared.row.Direction.{Direction}
@@ -61,10 +62,11 @@ has_no_line_feed-decimal n h = has_no_line_feed-glyphs (decimal n) (are_glyphs-d
 has_no_line_feed-number : (n : ℕ) → is_number n ≡ true → has_no_line_feed (decimal n) ≡ true
 has_no_line_feed-number n h = has_no_line_feed-decimal n (ltb-true n (2 ^ 32) h)
 
--- the text of the instant of an edge, or of its absence, has no line feed
-has_no_line_feed-edge : (edge : Option ℕ) → is_edge edge ≡ true → has_no_line_feed (edge_text edge) ≡ true
-has_no_line_feed-edge None h = refl
-has_no_line_feed-edge (Some n) h = has_no_line_feed-number n h
+-- the text of the instant of an end, or of its absence, has no line feed
+has_no_line_feed-end_instant : (end : Option ℕ) → is_end_instant end ≡ true
+    → has_no_line_feed (end_instant_text end) ≡ true
+has_no_line_feed-end_instant None h = refl
+has_no_line_feed-end_instant (Some n) h = has_no_line_feed-number n h
 
 -- a number in base 16 has no line feed
 has_no_line_feed-hexadecimal : (k n : ℕ) → has_no_line_feed (hexadecimal k n) ≡ true
@@ -162,46 +164,48 @@ has_no_line_feed-row version (Start instant) h = has_no_line_feed-number instant
 has_no_line_feed-row version (Reset instant) h = has_no_line_feed-number instant
     (and_parts (includes_resets version) (is_number instant) h).1
 has_no_line_feed-row version (OpenTenure start end) h =
-    let p = and_parts (is_number start) (is_edge end) h in
+    let p = and_parts (is_number start) (is_end_instant end) h in
     let s = has_no_line_feed-number start p.0 in
-    let e = has_no_line_feed-edge end p.1 in
+    let e = has_no_line_feed-end_instant end p.1 in
     simp (list_all-append, s, e)
 has_no_line_feed-row version (Tenure start level slot end) h =
-    let p = and_parts-five (is_number start) (nat_lt level 4) (nat_le 1 slot) (nat_le slot 21) (is_edge end) h in
+    let p = and_parts-five (is_number start) (nat_lt level 4) (nat_le 1 slot) (nat_le slot 21) (is_end_instant end) h in
     let s = has_no_line_feed-number start p.0 in
     let l = has_no_line_feed-decimal level (omega (arith, ltb-true level 4 p.1)) in
     let n = has_no_line_feed-decimal slot (omega (arith, leb-true slot 21 p.3)) in
-    let e = has_no_line_feed-edge end p.4 in
+    let e = has_no_line_feed-end_instant end p.4 in
     simp (list_all-append, s, l, n, e)
 has_no_line_feed-row version (AddressedCycle start class modifier address end) h =
-    let p = and_parts-four (is_number start) (has_class modifier class) (is_address modifier address) (is_edge end) h in
+    let p = and_parts-four (is_number start) (has_class modifier class) (is_address modifier address)
+    (is_end_instant end) h in
     let s = has_no_line_feed-number start p.0 in
     let k = has_no_line_feed-class class in
     let m = has_no_line_feed-hexadecimal 2 modifier in
     let a = has_no_line_feed-hexadecimal (address_digits modifier) address in
-    let e = has_no_line_feed-edge end p.3 in
+    let e = has_no_line_feed-end_instant end p.3 in
     simp (list_all-append, s, k, m, a, e)
 has_no_line_feed-row version (FreeCycle start modifier end) h =
-    let p = and_parts-four (is_number start) (nat_lt modifier 64) (highest_address modifier == 0) (is_edge end) h in
+    let p = and_parts-four (is_number start) (nat_lt modifier 64) (highest_address modifier == 0)
+    (is_end_instant end) h in
     let s = has_no_line_feed-number start p.0 in
     let m = has_no_line_feed-hexadecimal 2 modifier in
-    let e = has_no_line_feed-edge end p.3 in
+    let e = has_no_line_feed-end_instant end p.3 in
     simp (list_all-append, s, m, e)
 has_no_line_feed-row version (InterruptCycle start level end) h =
-    let p = and_parts-three (is_number start) (nat_lt level 8) (is_edge end) h in
+    let p = and_parts-three (is_number start) (nat_lt level 8) (is_end_instant end) h in
     let s = has_no_line_feed-number start p.0 in
     let l = has_no_line_feed-decimal level (omega (arith, ltb-true level 8 p.1)) in
-    let e = has_no_line_feed-edge end p.2 in
+    let e = has_no_line_feed-end_instant end p.2 in
     simp (list_all-append, s, l, e)
 has_no_line_feed-row version (Transfer direction line start cycle answer close lanes) h =
-    let p = and_parts-five (is_number start) (is_number cycle) (is_number answer) (is_edge close)
+    let p = and_parts-five (is_number start) (is_number cycle) (is_number answer) (is_end_instant close)
     (has_data version direction lanes) h in
     let s = has_no_line_feed-number start p.0 in
     let i = has_no_line_feed-number cycle p.1 in
     let d = has_no_line_feed-direction direction in
     let l = has_no_line_feed-answer line in
     let a = has_no_line_feed-number answer p.2 in
-    let e = has_no_line_feed-edge close p.3 in
+    let e = has_no_line_feed-end_instant close p.3 in
     let w = has_no_line_feed-data lanes in
     simp (list_all-append, s, i, d, l, a, e, w)
 has_no_line_feed-row version (PendingTransfer start direction) h =

@@ -28,7 +28,8 @@ use Rattle.vme_listing.specs.declared.row.Version.TheVariants.{Three}
 use Rattle.vme_listing.specs.declared.row.Row.{Row}
 use Rattle.vme_listing.specs.declared.row.Row.TheVariants.{OpenTenure, PendingTransfer}
 use Rattle.vme_listing.proofs.RecordedLanes.{is_allowed_data-lanes_at}
-use Rattle.vme_listing.proofs.RowForms.{IsMiddle, IsMiddle-cycle_row, is_edge-least, is_number-below, IsMiddle-tenure}
+use Rattle.vme_listing.proofs.RowForms.{IsMiddle, IsMiddle-cycle_row, IsMiddle-tenure, is_end_instant-least}
+use Rattle.vme_listing.proofs.RowForms.{is_number-below}
 
 -- the list has at most one row, and that is of instant i and of this kind: 2 is a tenure, 3 a cycle, 4 a transfer
 abbrev pub AtMostOne : ℕ → ℕ → List Row → Type 0
@@ -137,14 +138,14 @@ module _ (t : Trace) (stretch : Stretch) (end : ℕ) (few : end ≤ 2 ^ 32) (i :
           let other = eqb-false slot (t.opening.slots + 1) unequal_past in
           IsMiddle-tenure i level slot (least (rises t BBSY) (i + 1) end) (is_number-below i end listed few)
           (level_within t i level l) within.0 (omega (arith, within.1, other))
-          (is_edge-least (rises t BBSY) (i + 1) end few)
+          (is_end_instant-least (rises t BBSY) (i + 1) end few)
 
       by_tests : (opened starts : Bool) → tenure_starts t stretch i ≡ starts
           → AtMostOne i 2 (cond opened (OpenTenure i (least (rises t BBSY) (i + 1) end) ∷ [])
           (cond starts (tenure_row i (tenure_level t i) (tenure_slot t i) (least (rises t BBSY) (i + 1) end)) []))
       by_tests true starts e = record {
         allowed = and_from _ _ (is_number-below i end listed few)
-            (is_edge-least (rises t BBSY) (i + 1) end few);
+            (is_end_instant-least (rises t BBSY) (i + 1) end few);
         place = refl;
         no_start = refl;
         no_reset = refl;
@@ -163,7 +164,7 @@ module _ (t : Trace) (stretch : Stretch) (end : ℕ) (few : end ≤ 2 ^ 32) (i :
           (class_of (levels_at t i)) ∷ []) [])
       by_test true e = IsMiddle-cycle_row i (levels_at t i) (least (rises t AS) (i + 1) end)
           (is_number-below i end listed few)
-          (is_edge-least (rises t AS) (i + 1) end few) (code_known t stretch i e unbroken)
+          (is_end_instant-least (rises t AS) (i + 1) end few) (code_known t stretch i e unbroken)
       by_test false e = tt
 
   -- at instant i at most one transfer has a row
@@ -184,7 +185,7 @@ module _ (t : Trace) (stretch : Stretch) (end : ℕ) (few : end ≤ 2 ^ 32) (i :
                 and_from _ _
                 (and_from _ _ (and_from _ _ (and_from _ _ (is_number-below i end listed few)
                 (is_number-below cycle end (omega (arith, first)) few)) (is_number-below r end below few))
-                (is_edge-least (strobes_high t) (i + 1) end few)) (data_form t stretch end i r);
+                (is_end_instant-least (strobes_high t) (i + 1) end few)) (data_form t stretch end i r);
             place = refl;
             no_start = refl;
             no_reset = refl;

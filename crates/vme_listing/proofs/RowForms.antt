@@ -13,7 +13,7 @@ use Rattle.vme_trace.specs.Cycle.{class_of, has_known_modifier, highest_address,
 use Rattle.vme_trace.specs.declared.class.Class.{Class}
 use Rattle.vme_trace.specs.declared.class.Class.TheVariants as class
 use Rattle.vme_trace.proofs.Ranges.{least-found}
-use Rattle.vme_listing.specs.Places.{is_address, is_edge, is_number, is_row, is_start, is_reset, place_of}
+use Rattle.vme_listing.specs.Places.{is_address, is_end_instant, is_number, is_row, is_start, is_reset, place_of}
 use Rattle.vme_listing.specs.Recorded.{address_to, cycle_row}
 use Rattle.vme_listing.specs.declared.row.Version.TheVariants.{Three}
 use Rattle.vme_listing.specs.declared.row.Row.{Row}
@@ -31,10 +31,10 @@ pub is_number-below : (n end : ℕ) → n < end → end ≤ 2 ^ 32 → is_number
 is_number-below n end below few = lt-ltb n (2 ^ 32) (omega arith)
 
 -- an instant that was searched for before `end`, which is at most 2^32, is below 2^32
-pub is_edge-least : (p : ℕ → Bool) (first end : ℕ) → end ≤ 2 ^ 32 → is_edge (least p first end) ≡ true
-is_edge-least p first end few = found (least p first end) (λ n e. (least-found p first end n e).below)
+pub is_end_instant-least : (p : ℕ → Bool) (first end : ℕ) → end ≤ 2 ^ 32 → is_end_instant (least p first end) ≡ true
+is_end_instant-least p first end few = found (least p first end) (λ n e. (least-found p first end n e).below)
   where
-    found : (o : Option ℕ) → ((n : ℕ) → o ≡ Some n → n < end) → is_edge o ≡ true
+    found : (o : Option ℕ) → ((n : ℕ) → o ≡ Some n → n < end) → is_end_instant o ≡ true
     found None h = refl
     found (Some n) h = is_number-below n end (h n refl) few
 
@@ -124,7 +124,7 @@ ClassImplies-class_of v = ClassImplies-by_tests (is_low (level_at v IACK)) (has_
     (highest_address (modifier_of v) == 0)
 
 -- the row of a cycle is one that its form allows, if the code is known where the class is F
-pub IsMiddle-cycle_row : (i : ℕ) (v : Levels) (e : Option ℕ) → is_number i ≡ true → is_edge e ≡ true
+pub IsMiddle-cycle_row : (i : ℕ) (v : Levels) (e : Option ℕ) → is_number i ≡ true → is_end_instant e ≡ true
     → (class_of v ≡ class.F → has_known_modifier v ≡ false → ⊥) → IsMiddle i 3 (cycle_row i v e (class_of v))
 unfolding is_row
 IsMiddle-cycle_row i v e n ed known = by_class (class_of v) refl (ClassImplies-class_of v)
@@ -164,7 +164,7 @@ IsMiddle-cycle_row i v e n ed known = by_class (class_of v) refl (ClassImplies-c
 
 -- the row of a tenure with a level below 4 and a slot from 1 to 21 is one that its form allows
 pub IsMiddle-tenure : (i level slot : ℕ) (e : Option ℕ) → is_number i ≡ true → level < 4 → 1 ≤ slot → slot ≤ 21
-    → is_edge e
+    → is_end_instant e
     ≡ true → IsMiddle i 2 (Tenure i level slot e)
 unfolding is_row
 IsMiddle-tenure i level slot e n below first last ed =

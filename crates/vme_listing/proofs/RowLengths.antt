@@ -16,9 +16,10 @@ use Rattle.vme_trace.specs.declared.data.Lanes.{Lanes}
 use Rattle.vme_trace.specs.declared.rule.Rule.{Rule}
 use Rattle.vme_trace.proofs.EveryRule.{every-rule}
 use Rattle.vme_listing.specs.Listed.{includes_resets}
-use Rattle.vme_listing.specs.Places.{has_class, has_data, is_address, is_allowed_outcome, is_edge, is_number, is_row}
+use Rattle.vme_listing.specs.Places.{has_class, has_data, is_address, is_allowed_outcome, is_end_instant, is_number}
+use Rattle.vme_listing.specs.Places.{is_row}
 use Rattle.vme_listing.specs.RowText.{address_digits, answer_text, break_text, class_text, data_text, direction_text}
-use Rattle.vme_listing.specs.RowText.{edge_text, line_of, row_text}
+use Rattle.vme_listing.specs.RowText.{end_instant_text, line_of, row_text}
 use Rattle.vme_listing.specs.declared.row.AnswerLine.{AnswerLine}
 use Rattle.vme_listing.specs.declared.row.AnswerLine.TheVariants.{Dtack, Berr}
 use Rattle.vme_listing.specs.declared.row.Direction.{Direction}
@@ -39,10 +40,10 @@ decimal-short n h = length-decimal-le 10 n (omega arith) (omega arith) (omega ar
 number-short : (n : ℕ) → is_number n ≡ true → length (decimal n) ≤ 10
 number-short n h = decimal-short n (ltb-true n (2 ^ 32) h)
 
--- the text of the instant of an edge, or of its absence, has at most 10 bytes
-edge-short : (edge : Option ℕ) → is_edge edge ≡ true → length (edge_text edge) ≤ 10
-edge-short None h = omega arith
-edge-short (Some n) h = number-short n h
+-- the text of the instant of an end, or of its absence, has at most 10 bytes
+end_instant-short : (end : Option ℕ) → is_end_instant end ≡ true → length (end_instant_text end) ≤ 10
+end_instant-short None h = omega arith
+end_instant-short (Some n) h = number-short n h
 
 -- the text of the class of a cycle has at most 1 byte
 class-short : (class : Class) → length (class_text class) ≤ 1
@@ -122,40 +123,41 @@ row-short version (Reset instant) h =
     let n = number-short instant (and_parts (includes_resets version) (is_number instant) h).1 in
     simp length-append (omega (arith, n))
 row-short version (OpenTenure start end) h =
-    let p = and_parts (is_number start) (is_edge end) h in
-    simp length-append (omega (arith, number-short start p.0, edge-short end p.1))
+    let p = and_parts (is_number start) (is_end_instant end) h in
+    simp length-append (omega (arith, number-short start p.0, end_instant-short end p.1))
 row-short version (Tenure start level slot end) h =
-    let e = and_parts (is_number start && nat_lt level 4 && nat_le 1 slot && nat_le slot 21) (is_edge end) h in
+    let e = and_parts (is_number start && nat_lt level 4 && nat_le 1 slot && nat_le slot 21) (is_end_instant end) h in
     let most = and_parts (is_number start && nat_lt level 4 && nat_le 1 slot) (nat_le slot 21) e.0 in
     let least = and_parts (is_number start && nat_lt level 4) (nat_le 1 slot) most.0 in
     let p = and_parts (is_number start) (nat_lt level 4) least.0 in
     let l = decimal-short level (omega (arith, ltb-true level 4 p.1)) in
     let n = decimal-short slot (omega (arith, leb-true slot 21 most.1)) in
-    simp length-append (omega (arith, number-short start p.0, l, n, edge-short end e.1))
+    simp length-append (omega (arith, number-short start p.0, l, n, end_instant-short end e.1))
 row-short version (AddressedCycle start class modifier address end) h =
-    let e = and_parts (is_number start && has_class modifier class && is_address modifier address) (is_edge end) h in
+    let e = and_parts (is_number start && has_class modifier class && is_address modifier address)
+    (is_end_instant end) h in
     let a = and_parts (is_number start && has_class modifier class) (is_address modifier address) e.0 in
     let p = and_parts (is_number start) (has_class modifier class) a.0 in
     let s = number-short start p.0 in
     let k = class-short class in
     let m = length-hexadecimal 2 modifier in
     let n = length-hexadecimal (address_digits modifier) address in
-    simp length-append (omega (arith, s, k, m, n, address_digits-at_most_8 modifier, edge-short end e.1))
+    simp length-append (omega (arith, s, k, m, n, address_digits-at_most_8 modifier, end_instant-short end e.1))
 row-short version (FreeCycle start modifier end) h =
-    let e = and_parts _ (is_edge end) h in
+    let e = and_parts _ (is_end_instant end) h in
     let free = and_parts (is_number start && nat_lt modifier 64) _ e.0 in
     let p = and_parts (is_number start) (nat_lt modifier 64) free.0 in
     let m = length-hexadecimal 2 modifier in
-    simp length-append (omega (arith, number-short start p.0, m, edge-short end e.1))
+    simp length-append (omega (arith, number-short start p.0, m, end_instant-short end e.1))
 row-short version (InterruptCycle start level end) h =
-    let e = and_parts (is_number start && nat_lt level 8) (is_edge end) h in
+    let e = and_parts (is_number start && nat_lt level 8) (is_end_instant end) h in
     let p = and_parts (is_number start) (nat_lt level 8) e.0 in
     let l = decimal-short level (omega (arith, ltb-true level 8 p.1)) in
-    simp length-append (omega (arith, number-short start p.0, l, edge-short end e.1))
+    simp length-append (omega (arith, number-short start p.0, l, end_instant-short end e.1))
 row-short version (Transfer direction line start cycle answer close lanes) h =
-    let d = and_parts (is_number start && is_number cycle && is_number answer && is_edge close)
+    let d = and_parts (is_number start && is_number cycle && is_number answer && is_end_instant close)
     (has_data version direction lanes) h in
-    let e = and_parts (is_number start && is_number cycle && is_number answer) (is_edge close) d.0 in
+    let e = and_parts (is_number start && is_number cycle && is_number answer) (is_end_instant close) d.0 in
     let a = and_parts (is_number start && is_number cycle) (is_number answer) e.0 in
     let p = and_parts (is_number start) (is_number cycle) a.0 in
     let s = number-short start p.0 in
@@ -163,7 +165,7 @@ row-short version (Transfer direction line start cycle answer close lanes) h =
     let w = direction-short direction in
     let l = answer-short line in
     let n = number-short answer a.1 in
-    simp length-append (omega (arith, s, i, w, l, n, edge-short close e.1, data-short lanes))
+    simp length-append (omega (arith, s, i, w, l, n, end_instant-short close e.1, data-short lanes))
 row-short version (PendingTransfer start direction) h =
     simp length-append (omega (arith, number-short start h, direction-short direction))
 row-short version (Verdict outcome) h = outcome-short outcome h

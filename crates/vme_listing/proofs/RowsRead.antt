@@ -30,15 +30,15 @@ use Rattle.vme_listing.specs.declared.row.Row.TheVariants.{Start, Reset, OpenTen
 use Rattle.vme_listing.specs.declared.row.Row.TheVariants.{FreeCycle, InterruptCycle, Transfer, PendingTransfer}
 use Rattle.vme_listing.specs.declared.row.Row.TheVariants.{Verdict}
 use Rattle.vme_listing.specs.Listed.{includes_data, includes_resets}
-use Rattle.vme_listing.specs.Places.{has_class, has_data, is_address, is_allowed_data, is_allowed_outcome, is_edge}
-use Rattle.vme_listing.specs.Places.{is_number, is_row, is_write}
-use Rattle.vme_listing.specs.RowText.{address_digits, answer_text, class_text, data_text, direction_text, edge_text}
-use Rattle.vme_listing.specs.RowText.{hexadecimal, lanes_text, row_text}
+use Rattle.vme_listing.specs.Places.{has_class, has_data, is_address, is_allowed_data, is_allowed_outcome}
+use Rattle.vme_listing.specs.Places.{is_end_instant, is_number, is_row, is_write}
+use Rattle.vme_listing.specs.RowText.{address_digits, answer_text, class_text, data_text, direction_text}
+use Rattle.vme_listing.specs.RowText.{end_instant_text, hexadecimal, lanes_text, row_text}
 use Rattle.vme_listing.specs.Lines.{Rest, after_word, answer_at, break_by, break_in, cycle_at, data_at}
-use Rattle.vme_listing.specs.Lines.{direction_at, edge_at, hexadecimal_at, hexadecimal_in, lanes_in, line_in}
+use Rattle.vme_listing.specs.Lines.{direction_at, end_instant_at, hexadecimal_at, hexadecimal_in, lanes_in, line_in}
 use Rattle.vme_listing.specs.Lines.{modifier_at, named_break, no_lanes, number_at, number_in, or_other, outcome_in}
 use Rattle.vme_listing.specs.Lines.{past}
-use Rattle.vme_listing.specs.Lines.{past_answer, past_cycle, past_data, past_direction, past_edge}
+use Rattle.vme_listing.specs.Lines.{past_answer, past_cycle, past_data, past_direction, past_end_instant}
 use Rattle.vme_listing.specs.Lines.{past_hexadecimal, past_modifier, past_number, past_read, past_small, past_tenure}
 use Rattle.vme_listing.specs.Lines.{past_transfer, row_in, small_at, tenure_at, transfer_at, verdict_by}
 use Rattle.vme_listing.proofs.Addresses.{HasDigits, HasDigits-of_address}
@@ -101,11 +101,11 @@ after_word-no_hyphen [] more h some = absurd (omega arith)
 after_word-no_hyphen (byte ∷ ds) more h some =
     rw (hyphen-no_digit byte (and_parts (is_ascii_digit byte) (are_digits ds) h).0) refl
 
--- the instant of an edge, or its absence, is read from its text, if no digit follows
-Piece-edge : (more : List ℕ) → is_end more ≡ true → (end : Option ℕ) → is_edge end ≡ true
-    → Piece edge_at past_edge (edge_text end ++ more) end more
-Piece-edge more stop None h = (refl, refl)
-Piece-edge more stop (Some n) h =
+-- the instant of an end, or its absence, is read from its text, if no digit follows
+Piece-end_instant : (more : List ℕ) → is_end more ≡ true → (end : Option ℕ) → is_end_instant end ≡ true
+    → Piece end_instant_at past_end_instant (end_instant_text end ++ more) end more
+Piece-end_instant more stop None h = (refl, refl)
+Piece-end_instant more stop (Some n) h =
     let below = ltb-true n (2 ^ 32) h in
     let digits = are_digits-decimal n (omega (arith, below)) in
     let none = after_word-no_hyphen (decimal n) more digits (decimal_nonempty n (omega (arith, below))) in
@@ -115,12 +115,13 @@ Piece-edge more stop (Some n) h =
       ap (λ (o : Rest). if is_some o then o else past_number left) none ∙ read.1,
     )
 
--- the instant of an edge, or its absence, is read from its text at the end of a line, and nothing is left
-Piece-last_edge : (end : Option ℕ) → is_edge end ≡ true → Piece edge_at past_edge (edge_text end) end []
-Piece-last_edge end h =
-    let e = sym (append-nil (edge_text end)) in
-    let read = Piece-edge [] refl end h in
-    (ap (λ t. edge_at (Some t)) e ∙ read.0, ap (λ t. past_edge (Some t)) e ∙ read.1)
+-- the instant of an end, or its absence, is read from its text at the end of a line, and nothing is left
+Piece-last_end_instant : (end : Option ℕ) → is_end_instant end ≡ true
+    → Piece end_instant_at past_end_instant (end_instant_text end) end []
+Piece-last_end_instant end h =
+    let e = sym (append-nil (end_instant_text end)) in
+    let read = Piece-end_instant [] refl end h in
+    (ap (λ t. end_instant_at (Some t)) e ∙ read.0, ap (λ t. past_end_instant (Some t)) e ∙ read.1)
 
 -- an address below 2^32 is read from its k digits in base 16
 Piece-address : (k n : ℕ) (more : List ℕ) → n < 16 ^ k → n < 2 ^ 32
@@ -208,27 +209,28 @@ row_in-pending l Write n = rw (n.0, n.1) refl
 module _ {start : ℕ} {end : Option ℕ} (l : List ℕ) where
   -- the row of a tenure that is open where judging starts, by its pieces
   row_in-open_tenure : (t : List ℕ) → Piece number_at past_number l start (codes " open end " ++ t)
-      → Piece edge_at past_edge t end [] → row_in (codes "tenure " ++ l) ≡ Some (OpenTenure start end)
+      → Piece end_instant_at past_end_instant t end [] → row_in (codes "tenure " ++ l) ≡ Some (OpenTenure start end)
   unfolding row_in tenure_at past_tenure
   row_in-open_tenure t n e = rw (n.0, n.1, e.0, e.1) refl
 
   -- a text with the pieces of the row of a tenure is read as that row
   row_in-tenure : {level slot : ℕ} (t u v : List ℕ) → Piece number_at past_number l start (codes " level " ++ t)
       → Piece small_at past_small t level (codes " slot " ++ u) → Piece small_at past_small u slot (codes " end " ++ v)
-      → Piece edge_at past_edge v end [] → row_in (codes "tenure " ++ l) ≡ Some (Tenure start level slot end)
+      → Piece end_instant_at past_end_instant v end []
+      → row_in (codes "tenure " ++ l) ≡ Some (Tenure start level slot end)
   unfolding row_in tenure_at past_tenure
   row_in-tenure t u v n m s e = rw (n.0, n.1, m.0, m.1, s.0, s.1, e.0, e.1) refl
 
   -- a text with the pieces of the row of an interrupt acknowledge cycle is read as that row
   row_in-interrupt : {level : ℕ} (t u : List ℕ) → Piece number_at past_number l start (codes " I " ++ t)
-      → Piece small_at past_small t level (codes " end " ++ u) → Piece edge_at past_edge u end []
+      → Piece small_at past_small t level (codes " end " ++ u) → Piece end_instant_at past_end_instant u end []
       → row_in (codes "cycle " ++ l) ≡ Some (InterruptCycle start level end)
   unfolding row_in cycle_at past_cycle
   row_in-interrupt t u n m e = rw (n.0, n.1, m.0, m.1, e.0, e.1) refl
 
   -- a text with the pieces of the row of a cycle of the class F is read as that row
   row_in-free : {code : ℕ} (t u : List ℕ) → Piece number_at past_number l start (codes " F " ++ t)
-      → Piece modifier_at past_modifier t code (codes " end " ++ u) → Piece edge_at past_edge u end []
+      → Piece modifier_at past_modifier t code (codes " end " ++ u) → Piece end_instant_at past_end_instant u end []
       → row_in (codes "cycle " ++ l) ≡ Some (FreeCycle start code end)
   unfolding row_in cycle_at past_cycle
   row_in-free t u n m e = rw (n.0, n.1, m.0, m.1, e.0, e.1) refl
@@ -239,7 +241,7 @@ module _ {start : ℕ} {end : Option ℕ} (l : List ℕ) where
       → Piece modifier_at past_modifier t code (codes " " ++ u)
       → Piece (λ left. hexadecimal_at left (address_digits code)) (λ left. past_hexadecimal left
       (address_digits code)) u
-      place (codes " end " ++ v) → Piece edge_at past_edge v end []
+      place (codes " end " ++ v) → Piece end_instant_at past_end_instant v end []
       → row_in (codes "cycle " ++ l) ≡ Some (AddressedCycle start c code place end)
   unfolding row_in cycle_at past_cycle
   row_in-addressed class.S t u v h n m a e = rw (n.0, n.1, m.0, m.1, a.0, a.1, e.0, e.1) refl
@@ -251,7 +253,7 @@ module _ {start : ℕ} {end : Option ℕ} (l : List ℕ) where
   row_in-transfer : {d : Direction} {line : AnswerLine} {cycle answer : ℕ} {lanes : Option Lanes} (t u v w x y : List ℕ)
       → Piece number_at past_number l start (codes " of " ++ t) → Piece number_at past_number t cycle u
       → Piece direction_at past_direction u d v → Piece answer_at past_answer v line w
-      → Piece number_at past_number w answer (codes " close " ++ x) → Piece edge_at past_edge x end y
+      → Piece number_at past_number w answer (codes " close " ++ x) → Piece end_instant_at past_end_instant x end y
       → Piece data_at past_data y lanes []
       → row_in (codes "transfer " ++ l) ≡ Some (Transfer d line start cycle answer end lanes)
   unfolding row_in transfer_at past_transfer
@@ -259,22 +261,22 @@ module _ {start : ℕ} {end : Option ℕ} (l : List ℕ) where
       rw (n.0, n.1, m.0, m.1, d.0, d.1, a.0, a.1, r.0, r.1, e.0, e.1, f.0, f.1) refl
 
 -- the row of a tenure that is open where judging starts is read
-IsRead-open_tenure : (start : ℕ) (end : Option ℕ) → is_number start ≡ true → is_edge end ≡ true
+IsRead-open_tenure : (start : ℕ) (end : Option ℕ) → is_number start ≡ true → is_end_instant end ≡ true
     → IsRead (OpenTenure start end)
 unfolding row_text
 IsRead-open_tenure start end h e =
-    let t = edge_text end in
+    let t = end_instant_text end in
     let l = decimal start ++ (codes " open end " ++ t) in
     ap row_in (simp append_assoc)
     ∙ row_in-open_tenure l t (Piece-number start (codes " open end " ++ t) refl (is_number-below start h))
-    (Piece-last_edge end e)
+    (Piece-last_end_instant end e)
 
 -- the row of a tenure is read
 IsRead-tenure : (start level slot : ℕ) (end : Option ℕ) → is_number start ≡ true → level < 4 → slot ≤ 21
-    → is_edge end ≡ true → IsRead (Tenure start level slot end)
+    → is_end_instant end ≡ true → IsRead (Tenure start level slot end)
 unfolding row_text
 IsRead-tenure start level slot end h less most e =
-    let v = edge_text end in
+    let v = end_instant_text end in
     let u = decimal slot ++ (codes " end " ++ v) in
     let t = decimal level ++ (codes " slot " ++ u) in
     let l = decimal start ++ (codes " level " ++ t) in
@@ -282,40 +284,40 @@ IsRead-tenure start level slot end h less most e =
     ∙ row_in-tenure l t u v (Piece-number start (codes " level " ++ t) refl (is_number-below start h))
     (Piece-small level (codes " slot " ++ u) refl (omega arith))
     (Piece-small slot (codes " end " ++ v) refl (omega arith))
-    (Piece-last_edge end e)
+    (Piece-last_end_instant end e)
 
 -- the row of an interrupt acknowledge cycle is read
-IsRead-interrupt : (start level : ℕ) (end : Option ℕ) → is_number start ≡ true → level < 8 → is_edge end ≡ true
+IsRead-interrupt : (start level : ℕ) (end : Option ℕ) → is_number start ≡ true → level < 8 → is_end_instant end ≡ true
     → IsRead (InterruptCycle start level end)
 unfolding row_text
 IsRead-interrupt start level end h less e =
-    let u = edge_text end in
+    let u = end_instant_text end in
     let t = decimal level ++ (codes " end " ++ u) in
     let l = decimal start ++ (codes " I " ++ t) in
     ap row_in (simp append_assoc)
     ∙ row_in-interrupt l t u (Piece-number start (codes " I " ++ t) refl (is_number-below start h))
-    (Piece-small level (codes " end " ++ u) refl (omega arith)) (Piece-last_edge end e)
+    (Piece-small level (codes " end " ++ u) refl (omega arith)) (Piece-last_end_instant end e)
 
 -- the row of a cycle of the class F is read
-IsRead-free : (start code : ℕ) (end : Option ℕ) → is_number start ≡ true → code < 64 → is_edge end ≡ true
+IsRead-free : (start code : ℕ) (end : Option ℕ) → is_number start ≡ true → code < 64 → is_end_instant end ≡ true
     → IsRead (FreeCycle start code end)
 unfolding row_text
 IsRead-free start code end h less e =
-    let u = edge_text end in
+    let u = end_instant_text end in
     let t = hexadecimal 2 code ++ (codes " end " ++ u) in
     let l = decimal start ++ (codes " F " ++ t) in
     ap row_in (simp append_assoc)
     ∙ row_in-free l t u (Piece-number start (codes " F " ++ t) refl (is_number-below start h))
     (Piece-modifier code (codes " end " ++ u) less)
-    (Piece-last_edge end e)
+    (Piece-last_end_instant end e)
 
 -- the row of a cycle with an address is read
 IsRead-addressed : (start : ℕ) (c : Class) (code place : ℕ) (end : Option ℕ) → is_number start ≡ true
-    → has_class code c ≡ true → HasDigits code place → is_edge end ≡ true
+    → has_class code c ≡ true → HasDigits code place → is_end_instant end ≡ true
     → IsRead (AddressedCycle start c code place end)
 unfolding row_text
 IsRead-addressed start c code place end h is a e =
-    let v = edge_text end in
+    let v = end_instant_text end in
     let u = hexadecimal (address_digits code) place ++ (codes " end " ++ v) in
     let t = hexadecimal 2 code ++ (codes " " ++ u) in
     let s = codes " " ++ (class_text c ++ (codes " " ++ t)) in
@@ -325,7 +327,7 @@ IsRead-addressed start c code place end h is a e =
     (Piece-modifier code (codes " "
     ++ u) a.modifier_below)
     (Piece-address (address_digits code) place (codes " end " ++ v) a.address_below a.by_32_bits)
-    (Piece-last_edge end e)
+    (Piece-last_end_instant end e)
 
 -- the row of a transfer without an answer is read
 IsRead-pending : (start : ℕ) (d : Direction) → is_number start ≡ true → IsRead (PendingTransfer start d)
@@ -343,11 +345,12 @@ is_end-data_text (Some a) = refl
 -- the row of a transfer with an answer is read
 IsRead-transfer : (version : Version) (d : Direction) (line : AnswerLine) (start cycle answer : ℕ) (close : Option ℕ)
     (lanes : Option Lanes) → is_number start ≡ true → is_number cycle ≡ true → is_number answer ≡ true
-    → is_edge close ≡ true → has_data version d lanes ≡ true → IsRead (Transfer d line start cycle answer close lanes)
+    → is_end_instant close ≡ true → has_data version d lanes ≡ true
+    → IsRead (Transfer d line start cycle answer close lanes)
 unfolding row_text
 IsRead-transfer version d line start cycle answer close lanes h c a e has =
     let y = data_text lanes in
-    let x = edge_text close ++ y in
+    let x = end_instant_text close ++ y in
     let w = decimal answer ++ (codes " close " ++ x) in
     let v = codes " " ++ (answer_text line ++ (codes " " ++ w)) in
     let u = codes " " ++ (direction_text d ++ v) in
@@ -357,7 +360,7 @@ IsRead-transfer version d line start cycle answer close lanes h c a e has =
     ∙ row_in-transfer l t u v w x y (Piece-number start (codes " of " ++ t) refl (is_number-below start h))
     (Piece-number cycle u refl (is_number-below cycle c)) (Piece-direction d v) (Piece-answer_line line w)
     (Piece-number answer (codes " close " ++ x) refl (is_number-below answer a))
-    (Piece-edge y (is_end-data_text lanes) close e)
+    (Piece-end_instant y (is_end-data_text lanes) close e)
     (Piece-last_data version d lanes has)
 
 -- ---- the row of a verdict
@@ -449,34 +452,34 @@ row_in-row_text version (Start instant) h = IsRead-start instant h
 row_in-row_text version (Reset instant) h =
     IsRead-reset instant (and_parts (includes_resets version) (is_number instant) h).1
 row_in-row_text version (OpenTenure start end) h =
-    let p = and_parts (is_number start) (is_edge end) h in
+    let p = and_parts (is_number start) (is_end_instant end) h in
     IsRead-open_tenure start end p.0 p.1
 row_in-row_text version (Tenure start level slot end) h =
-    let e = and_parts (is_number start && nat_lt level 4 && nat_le 1 slot && nat_le slot 21) (is_edge end) h in
+    let e = and_parts (is_number start && nat_lt level 4 && nat_le 1 slot && nat_le slot 21) (is_end_instant end) h in
     let most = and_parts (is_number start && nat_lt level 4 && nat_le 1 slot) (nat_le slot 21) e.0 in
     let least = and_parts (is_number start && nat_lt level 4) (nat_le 1 slot) most.0 in
     let p = and_parts (is_number start) (nat_lt level 4) least.0 in
     IsRead-tenure start level slot end p.0 (ltb-true level 4 p.1) (leb-true slot 21 most.1) e.1
 row_in-row_text version (AddressedCycle start c modifier address end) h =
     let e = and_parts (is_number start && has_class modifier c && is_address modifier address)
-    (is_edge end) h in
+    (is_end_instant end) h in
     let a = and_parts (is_number start && has_class modifier c) (is_address modifier address) e.0 in
     let p = and_parts (is_number start) (has_class modifier c) a.0 in
     IsRead-addressed start c modifier address end p.0 p.1 (HasDigits-of_address modifier address a.1)
     e.1
 row_in-row_text version (FreeCycle start modifier end) h =
-    let e = and_parts _ (is_edge end) h in
+    let e = and_parts _ (is_end_instant end) h in
     let free = and_parts (is_number start && nat_lt modifier 64) _ e.0 in
     let p = and_parts (is_number start) (nat_lt modifier 64) free.0 in
     IsRead-free start modifier end p.0 (ltb-true modifier 64 p.1) e.1
 row_in-row_text version (InterruptCycle start level end) h =
-    let e = and_parts (is_number start && nat_lt level 8) (is_edge end) h in
+    let e = and_parts (is_number start && nat_lt level 8) (is_end_instant end) h in
     let p = and_parts (is_number start) (nat_lt level 8) e.0 in
     IsRead-interrupt start level end p.0 (ltb-true level 8 p.1) e.1
 row_in-row_text version (Transfer direction line start cycle answer close lanes) h =
-    let d = and_parts (is_number start && is_number cycle && is_number answer && is_edge close)
+    let d = and_parts (is_number start && is_number cycle && is_number answer && is_end_instant close)
     (has_data version direction lanes) h in
-    let e = and_parts (is_number start && is_number cycle && is_number answer) (is_edge close) d.0 in
+    let e = and_parts (is_number start && is_number cycle && is_number answer) (is_end_instant close) d.0 in
     let a = and_parts (is_number start && is_number cycle) (is_number answer) e.0 in
     let p = and_parts (is_number start) (is_number cycle) a.0 in
     IsRead-transfer version direction line start cycle answer close lanes p.0 p.1 a.1 e.1 d.1

@@ -18,15 +18,15 @@ use Rattle.vme_listing.specs.declared.row.Row.{Row}
 use Rattle.vme_listing.specs.declared.row.Row.TheVariants.{Start, Reset, OpenTenure, Tenure, AddressedCycle}
 use Rattle.vme_listing.specs.declared.row.Row.TheVariants.{FreeCycle, InterruptCycle, Transfer, PendingTransfer}
 use Rattle.vme_listing.specs.declared.row.Row.TheVariants.{Verdict}
-use Rattle.vme_listing.specs.RowText.{answer_text, class_text, data_text, direction_text, edge_text}
+use Rattle.vme_listing.specs.RowText.{answer_text, class_text, data_text, direction_text, end_instant_text}
 use Rattle.vme_listing.specs.RowText.{hexadecimal, lanes_text, row_text, verdict_text}
 use Rattle.vme_listing.specs.Lines.{Rest, address_left, after_word, answer_at, answer_left, break_by, break_in}
 use Rattle.vme_listing.specs.Lines.{class_at, class_left, close_left, cycle_at, cycle_end, data_at, digits_left}
-use Rattle.vme_listing.specs.Lines.{direction_at, edge_at, end_left, free_end, free_left, hexadecimal_at}
+use Rattle.vme_listing.specs.Lines.{direction_at, end_instant_at, end_left, free_end, free_left, hexadecimal_at}
 use Rattle.vme_listing.specs.Lines.{hexadecimal_in}
 use Rattle.vme_listing.specs.Lines.{interrupt_end, interrupt_left, lanes_at, lanes_in, level_left, line_in, modifier_at}
 use Rattle.vme_listing.specs.Lines.{named_break, no_lanes, number_at, number_in, of_left, open_left, outcome_in, past}
-use Rattle.vme_listing.specs.Lines.{past_answer, past_class, past_cycle, past_data, past_direction, past_edge}
+use Rattle.vme_listing.specs.Lines.{past_answer, past_class, past_cycle, past_data, past_direction, past_end_instant}
 use Rattle.vme_listing.specs.Lines.{past_hexadecimal, past_lanes, past_modifier, past_number, past_small, past_tenure}
 use Rattle.vme_listing.specs.Lines.{past_transfer, row_in, slot_left, small_at, starts_with, tenure_at, transfer_at}
 use Rattle.vme_listing.specs.Lines.{verdict_by, verdict_in, whole}
@@ -47,12 +47,13 @@ module _ (left : Rest) (more : List ℕ) where
       by_test true e = past_number-text e
       by_test false e = absurd (none-some more e)
 
-  -- if `more` is left after the instant of an edge, or its absence, what was left is its text and then `more`
-  past_edge-text : past_edge left ≡ Some more → left ≡ Some (edge_text (edge_at left) ++ more)
-  past_edge-text e = by_test (starts_with (codes "-") left) e
+  -- if `more` is left after the instant of an end, or its absence, what was left is its text and then `more`
+  past_end_instant-text : past_end_instant left ≡ Some more
+      → left ≡ Some (end_instant_text (end_instant_at left) ++ more)
+  past_end_instant-text e = by_test (starts_with (codes "-") left) e
     where
       by_test : (b : Bool) → (if b then past (codes "-") left else past_number left) ≡ Some more
-          → left ≡ Some (edge_text (if b then None else Some (number_at left)) ++ more)
+          → left ≡ Some (end_instant_text (if b then None else Some (number_at left)) ++ more)
       by_test true e = past-text (codes "-") left more e
       by_test false e = past_number-text e
 
@@ -121,48 +122,52 @@ module _ (left : Rest) (line : List ℕ) (h : left ≡ Some line) where
   unfolding past_tenure tenure_at row_text
   row_text-tenure e = by_test (starts_with (codes " open end ") (past_number left)) e
     where
-      by_test : (b : Bool) → (if b then past_edge (open_left left) else past_edge (end_left left)) ≡ Some []
+      by_test : (b : Bool)
+          → (if b then past_end_instant (open_left left) else past_end_instant (end_left left)) ≡ Some []
           → codes "tenure " ++ line ≡ row_text
-          (if b then OpenTenure (number_at left) (edge_at (open_left left))
-          else Tenure (number_at left) (small_at (level_left left)) (small_at (slot_left left)) (edge_at
+          (if b then OpenTenure (number_at left) (end_instant_at (open_left left))
+          else Tenure (number_at left) (small_at (level_left left)) (small_at (slot_left left)) (end_instant_at
           (end_left left)))
       by_test true e =
-          let e1 = past-text (codes " open end ") (past_number left) _ (past_edge-text (open_left left) [] e) in
+          let e1 = past-text (codes " open end ") (past_number left) _ (past_end_instant-text (open_left left) [] e) in
           rw (line-unique left line _ h (past_number-text left _ e1)) (simp (append_assoc, append-nil))
       by_test false e =
-          let e1 = past-text (codes " end ") (past_small (slot_left left)) _ (past_edge-text (end_left left) [] e) in
+          let e1 = past-text (codes " end ") (past_small (slot_left left)) _
+          (past_end_instant-text (end_left left) [] e) in
           let e2 = past-text (codes " slot ") (past_small (level_left left)) _
           (past_small-text (slot_left left) _ e1) in
           let e3 = past-text (codes " level ") (past_number left) _ (past_small-text (level_left left) _ e2) in
           rw (line-unique left line _ h (past_number-text left _ e3)) (simp (append_assoc, append-nil))
 
   -- after the word `cycle` it is the rest of the text of the interrupt acknowledge cycle that is read
-  row_text-interrupt : past_edge (interrupt_end left) ≡ Some [] → codes "cycle " ++ line
-      ≡ row_text (InterruptCycle (number_at left) (small_at (interrupt_left left)) (edge_at (interrupt_end left)))
+  row_text-interrupt : past_end_instant (interrupt_end left) ≡ Some [] → codes "cycle " ++ line
+      ≡ row_text (InterruptCycle (number_at left) (small_at (interrupt_left left))
+      (end_instant_at (interrupt_end left)))
   unfolding row_text
   row_text-interrupt e =
       let e1 = past-text (codes " end ") (past_small (interrupt_left left)) _
-      (past_edge-text (interrupt_end left) [] e) in
+      (past_end_instant-text (interrupt_end left) [] e) in
       let e2 = past-text (codes " I ") (past_number left) _ (past_small-text (interrupt_left left) _ e1) in
       rw (line-unique left line _ h (past_number-text left _ e2)) (simp (append_assoc, append-nil))
 
   -- after the word `cycle` it is the rest of the text of the cycle of the class F that is read
-  row_text-free : past_edge (free_end left) ≡ Some [] → codes "cycle " ++ line
-      ≡ row_text (FreeCycle (number_at left) (modifier_at (free_left left)) (edge_at (free_end left)))
+  row_text-free : past_end_instant (free_end left) ≡ Some [] → codes "cycle " ++ line
+      ≡ row_text (FreeCycle (number_at left) (modifier_at (free_left left)) (end_instant_at (free_end left)))
   unfolding row_text
   row_text-free e =
-      let e1 = past-text (codes " end ") (past_modifier (free_left left)) _ (past_edge-text (free_end left) [] e) in
+      let e1 = past-text (codes " end ") (past_modifier (free_left left)) _
+      (past_end_instant-text (free_end left) [] e) in
       let e2 = past-text (codes " F ") (past_number left) _ (past_modifier-text (free_left left) _ e1) in
       rw (line-unique left line _ h (past_number-text left _ e2)) (simp (append_assoc, append-nil))
 
   -- after the word `cycle` it is the rest of the text of the cycle with an address that is read
-  row_text-addressed : past_edge (cycle_end left) ≡ Some [] → codes "cycle " ++ line
+  row_text-addressed : past_end_instant (cycle_end left) ≡ Some [] → codes "cycle " ++ line
       ≡ row_text (AddressedCycle (number_at left) (class_at (past_number left)) (modifier_at (class_left left))
-      (hexadecimal_at (address_left left) (digits_left left)) (edge_at (cycle_end left)))
+      (hexadecimal_at (address_left left) (digits_left left)) (end_instant_at (cycle_end left)))
   unfolding row_text
   row_text-addressed e =
       let e1 = past-text (codes " end ") (past_hexadecimal (address_left left) (digits_left left)) _
-      (past_edge-text (cycle_end left) [] e) in
+      (past_end_instant-text (cycle_end left) [] e) in
       let e2 = past-text (codes " ") (past_modifier (class_left left)) _
       (past_hexadecimal-text (address_left left) _ (digits_left left) e1) in
       let e3 = past_class-text (past_number left) _ (past_modifier-text (class_left left) _ e2) in
@@ -174,13 +179,15 @@ module _ (left : Rest) (line : List ℕ) (h : left ≡ Some line) where
   row_text-cycle e = by_test (starts_with (codes " I ") (past_number left))
       (starts_with (codes " F ") (past_number left)) e
     where
-      by_test : (b c : Bool) → (if b then past_edge (interrupt_end left) else if c then past_edge (free_end left)
-          else past_edge (cycle_end left)) ≡ Some []
+      by_test : (b c : Bool)
+          → (if b then past_end_instant (interrupt_end left) else if c then past_end_instant (free_end left)
+          else past_end_instant (cycle_end left)) ≡ Some []
           → codes "cycle " ++ line ≡ row_text
-          (if b then InterruptCycle (number_at left) (small_at (interrupt_left left)) (edge_at (interrupt_end left))
-          else if c then FreeCycle (number_at left) (modifier_at (free_left left)) (edge_at (free_end left))
+          (if b then InterruptCycle (number_at left) (small_at (interrupt_left left))
+          (end_instant_at (interrupt_end left))
+          else if c then FreeCycle (number_at left) (modifier_at (free_left left)) (end_instant_at (free_end left))
           else AddressedCycle (number_at left) (class_at (past_number left)) (modifier_at (class_left left))
-          (hexadecimal_at (address_left left) (digits_left left)) (edge_at (cycle_end left)))
+          (hexadecimal_at (address_left left) (digits_left left)) (end_instant_at (cycle_end left)))
       by_test true c e = row_text-interrupt e
       by_test false true e = row_text-free e
       by_test false false e = row_text-addressed e
@@ -190,16 +197,17 @@ module _ (left : Rest) (line : List ℕ) (h : left ≡ Some line) where
   unfolding past_transfer transfer_at row_text
   row_text-transfer e = by_test (starts_with (codes " of ") (past_number left)) e
     where
-      by_test : (b : Bool) → (if b then past_data (past_edge (close_left left))
+      by_test : (b : Bool) → (if b then past_data (past_end_instant (close_left left))
           else past (codes " pending") (past_direction (past_number left))) ≡ Some []
           → codes "transfer " ++ line ≡ row_text
           (if b then Transfer (direction_at (past_number (of_left left))) (answer_at (answer_left left))
           (number_at left)
-          (number_at (of_left left)) (number_at (past_answer (answer_left left))) (edge_at (close_left left))
-          (data_at (past_edge (close_left left)))
+          (number_at (of_left left)) (number_at (past_answer (answer_left left))) (end_instant_at (close_left left))
+          (data_at (past_end_instant (close_left left)))
           else PendingTransfer (number_at left) (direction_at (past_number left)))
       by_test true e =
-          let e1 = past_edge-text (close_left left) _ (past_data-text (past_edge (close_left left)) [] e) in
+          let e1 = past_end_instant-text (close_left left) _
+          (past_data-text (past_end_instant (close_left left)) [] e) in
           let e2 = past-text (codes " close ") (past_number (past_answer (answer_left left))) _ e1 in
           let e3 = past_answer-text (answer_left left) _ (past_number-text (past_answer (answer_left left)) _ e2) in
           let e4 = past_number-text (of_left left) _ (past_direction-text (past_number (of_left left)) _ e3) in

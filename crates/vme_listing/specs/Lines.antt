@@ -118,11 +118,13 @@ module _ (left : Rest) where
   abbrev pub past_small : Rest
   past_small = if nat_lt number_at 256 then past_number else None
 
-  abbrev pub edge_at : Option ℕ
-  edge_at = if starts_with (codes "-") left then None else Some number_at
+  -- the instant of an end or a close that is read: none where there is a hyphen
+  abbrev pub end_instant_at : Option ℕ
+  end_instant_at = if starts_with (codes "-") left then None else Some number_at
 
-  abbrev pub past_edge : Rest
-  past_edge = if starts_with (codes "-") left then past (codes "-") left else past_number
+  -- what is left after it
+  abbrev pub past_end_instant : Rest
+  past_end_instant = if starts_with (codes "-") left then past (codes "-") left else past_number
 
   abbrev pub hexadecimal_at : ℕ → ℕ
   hexadecimal_at digits = piece (hexadecimal_in digits) 0 left
@@ -185,11 +187,13 @@ module _ (left : Rest) where
 
   unfoldable pub tenure_at : Row
   tenure_at =
-      if starts_with (codes " open end ") (past_number left) then OpenTenure (number_at left) (edge_at open_left)
-      else Tenure (number_at left) (small_at level_left) (small_at slot_left) (edge_at end_left)
+      if starts_with (codes " open end ") (past_number left) then OpenTenure (number_at left) (end_instant_at open_left)
+      else Tenure (number_at left) (small_at level_left) (small_at slot_left) (end_instant_at end_left)
 
   unfoldable pub past_tenure : Rest
-  past_tenure = if starts_with (codes " open end ") (past_number left) then past_edge open_left else past_edge end_left
+  past_tenure =
+      if starts_with (codes " open end ") (past_number left) then past_end_instant open_left
+      else past_end_instant end_left
 
   abbrev pub interrupt_left : Rest
   interrupt_left = past (codes " I ") (past_number left)
@@ -218,17 +222,17 @@ module _ (left : Rest) where
   unfoldable pub cycle_at : Row
   cycle_at =
       if starts_with (codes " I ") (past_number left)
-      then InterruptCycle (number_at left) (small_at interrupt_left) (edge_at interrupt_end)
+      then InterruptCycle (number_at left) (small_at interrupt_left) (end_instant_at interrupt_end)
       else if starts_with (codes " F ") (past_number left)
-      then FreeCycle (number_at left) (modifier_at free_left) (edge_at free_end)
+      then FreeCycle (number_at left) (modifier_at free_left) (end_instant_at free_end)
       else AddressedCycle (number_at left) (class_at (past_number left)) (modifier_at class_left)
-      (hexadecimal_at address_left digits_left) (edge_at cycle_end)
+      (hexadecimal_at address_left digits_left) (end_instant_at cycle_end)
 
   unfoldable pub past_cycle : Rest
   past_cycle =
-      if starts_with (codes " I ") (past_number left) then past_edge interrupt_end
-      else if starts_with (codes " F ") (past_number left) then past_edge free_end
-      else past_edge cycle_end
+      if starts_with (codes " I ") (past_number left) then past_end_instant interrupt_end
+      else if starts_with (codes " F ") (past_number left) then past_end_instant free_end
+      else past_end_instant cycle_end
 
   abbrev pub of_left : Rest
   of_left = past (codes " of ") (past_number left)
@@ -243,12 +247,12 @@ module _ (left : Rest) where
   transfer_at =
       if starts_with (codes " of ") (past_number left)
       then Transfer (direction_at (past_number of_left)) (answer_at answer_left) (number_at left) (number_at of_left)
-      (number_at (past_answer answer_left)) (edge_at close_left) (data_at (past_edge close_left))
+      (number_at (past_answer answer_left)) (end_instant_at close_left) (data_at (past_end_instant close_left))
       else PendingTransfer (number_at left) (direction_at (past_number left))
 
   unfoldable pub past_transfer : Rest
   past_transfer =
-      if starts_with (codes " of ") (past_number left) then past_data (past_edge close_left)
+      if starts_with (codes " of ") (past_number left) then past_data (past_end_instant close_left)
       else past (codes " pending") (past_direction (past_number left))
 
 abbrev pub named_break : (Rule → ℕ → ℕ → ListedVerdict) → Rule → ℕ → Option ℕ → Option ListedVerdict

@@ -25,9 +25,10 @@ use Rattle.vme_listing.specs.declared.row.Row.TheVariants.{Verdict}
 abbrev pub is_number : ℕ → Bool
 is_number n = nat_lt n (2 ^ 32)
 
-abbrev pub is_edge : Option ℕ → Bool
-is_edge None = true
-is_edge (Some n) = is_number n
+-- the instant of an end or a close, if there is one, is such a number
+abbrev pub is_end_instant : Option ℕ → Bool
+is_end_instant None = true
+is_end_instant (Some n) = is_number n
 
 -- a cycle with an address and this modifier code has the class: K where the code is of block transfers, else S
 abbrev pub has_class : ℕ → Class → Bool
@@ -77,16 +78,16 @@ has_data version direction (Some a) = includes_data version && is_write directio
 unfoldable pub is_row : Version → Row → Bool
 is_row version (Start instant) = is_number instant
 is_row version (Reset instant) = includes_resets version && is_number instant
-is_row version (OpenTenure start end) = is_number start && is_edge end
+is_row version (OpenTenure start end) = is_number start && is_end_instant end
 is_row version (Tenure start level slot end) =
-    is_number start && nat_lt level 4 && nat_le 1 slot && nat_le slot 21 && is_edge end
+    is_number start && nat_lt level 4 && nat_le 1 slot && nat_le slot 21 && is_end_instant end
 is_row version (AddressedCycle start class modifier address end) =
-    is_number start && has_class modifier class && is_address modifier address && is_edge end
+    is_number start && has_class modifier class && is_address modifier address && is_end_instant end
 is_row version (FreeCycle start modifier end) =
-    is_number start && nat_lt modifier 64 && (highest_address modifier == 0) && is_edge end
-is_row version (InterruptCycle start level end) = is_number start && nat_lt level 8 && is_edge end
+    is_number start && nat_lt modifier 64 && (highest_address modifier == 0) && is_end_instant end
+is_row version (InterruptCycle start level end) = is_number start && nat_lt level 8 && is_end_instant end
 is_row version (Transfer direction line start cycle answer close lanes) =
-    is_number start && is_number cycle && is_number answer && is_edge close && has_data version direction lanes
+    is_number start && is_number cycle && is_number answer && is_end_instant close && has_data version direction lanes
 is_row version (PendingTransfer start direction) = is_number start
 is_row version (Verdict outcome) = is_allowed_outcome outcome
 

@@ -25,10 +25,10 @@ use Rattle.vme_listing.specs.declared.row.Row.TheVariants.{Start, Reset, OpenTen
 use Rattle.vme_listing.specs.declared.row.Row.TheVariants.{FreeCycle, InterruptCycle, Transfer, PendingTransfer}
 use Rattle.vme_listing.specs.declared.row.Row.TheVariants.{Verdict}
 
--- an end or a close: its instant, or a hyphen where it isn't at a listed instant
-abbrev pub edge_text : Option ℕ → List ℕ
-edge_text None = codes "-"
-edge_text (Some n) = decimal n
+-- the instant of an end or a close, or a hyphen where it isn't at a listed instant
+abbrev pub end_instant_text : Option ℕ → List ℕ
+end_instant_text None = codes "-"
+end_instant_text (Some n) = decimal n
 
 -- the last digits of n in base 16, as many as the first argument says, the letters in upper case
 unfoldable pub hexadecimal : ℕ → ℕ → List ℕ
@@ -39,16 +39,19 @@ hexadecimal (suc k) n = hexadecimal k (n / 16) ++ digit_glyph true (n % 16) ∷ 
 abbrev pub address_digits : ℕ → ℕ
 address_digits modifier = (highest_address modifier + 1) / 4
 
+-- the letter of a class of cycles
 abbrev pub class_text : Class → List ℕ
 class_text class.S = codes "S"
 class_text class.K = codes "K"
 class_text class.I = codes "I"
 class_text class.F = codes "F"
 
+-- the word for a direction
 abbrev pub direction_text : Direction → List ℕ
 direction_text Read = codes "read"
 direction_text Write = codes "write"
 
+-- the name of an answer line
 abbrev pub answer_text : AnswerLine → List ℕ
 answer_text Dtack = codes "DTACK"
 answer_text Berr = codes "BERR"
@@ -57,6 +60,7 @@ answer_text Berr = codes "BERR"
 abbrev pub digit_text : Bool → ℕ → ℕ → ℕ
 digit_text moved digit flag = if not moved then 45 else if flag == 1 then 88 else digit_glyph true digit
 
+-- the digit of the data with the place `place`, from 0 for the lowest
 abbrev pub digit_text_in : Lanes → ℕ → ℕ
 digit_text_in a place = digit_text (is_moved_in a place) (digit_in a place) (flag_in a place)
 
@@ -75,6 +79,7 @@ data_text (Some a) = codes " data " ++ lanes_text a
 abbrev pub break_text : Rule → ℕ → ℕ → List ℕ
 break_text rule instant line = rule_name rule ++ codes " " ++ decimal instant ++ codes " " ++ line_name line
 
+-- the verdict
 abbrev pub verdict_text : ListedVerdict → List ℕ
 verdict_text Conforming = codes "verdict conforming"
 verdict_text NeverIdle = codes "verdict never-idle"
@@ -85,21 +90,21 @@ verdict_text (Unreadable rule instant line) = codes "verdict unreadable " ++ bre
 unfoldable pub row_text : Row → List ℕ
 row_text (Start instant) = codes "start " ++ decimal instant
 row_text (Reset instant) = codes "reset " ++ decimal instant
-row_text (OpenTenure start end) = codes "tenure " ++ decimal start ++ codes " open end " ++ edge_text end
+row_text (OpenTenure start end) = codes "tenure " ++ decimal start ++ codes " open end " ++ end_instant_text end
 row_text (Tenure start level slot end) =
     codes "tenure " ++ decimal start ++ codes " level " ++ decimal level ++ codes " slot " ++ decimal slot
-    ++ codes " end " ++ edge_text end
+    ++ codes " end " ++ end_instant_text end
 row_text (AddressedCycle start class modifier address end) =
     codes "cycle " ++ decimal start ++ codes " " ++ class_text class ++ codes " " ++ hexadecimal 2 modifier ++ codes " "
-    ++ hexadecimal (address_digits modifier) address ++ codes " end " ++ edge_text end
+    ++ hexadecimal (address_digits modifier) address ++ codes " end " ++ end_instant_text end
 row_text (FreeCycle start modifier end) =
-    codes "cycle " ++ decimal start ++ codes " F " ++ hexadecimal 2 modifier ++ codes " end " ++ edge_text end
+    codes "cycle " ++ decimal start ++ codes " F " ++ hexadecimal 2 modifier ++ codes " end " ++ end_instant_text end
 row_text (InterruptCycle start level end) =
-    codes "cycle " ++ decimal start ++ codes " I " ++ decimal level ++ codes " end " ++ edge_text end
+    codes "cycle " ++ decimal start ++ codes " I " ++ decimal level ++ codes " end " ++ end_instant_text end
 row_text (Transfer direction line start cycle answer close lanes) =
     codes "transfer " ++ decimal start ++ codes " of " ++ decimal cycle ++ codes " " ++ direction_text direction
     ++ codes " "
-    ++ answer_text line ++ codes " " ++ decimal answer ++ codes " close " ++ edge_text close ++ data_text lanes
+    ++ answer_text line ++ codes " " ++ decimal answer ++ codes " close " ++ end_instant_text close ++ data_text lanes
 row_text (PendingTransfer start direction) =
     codes "transfer " ++ decimal start ++ codes " " ++ direction_text direction ++ codes " pending"
 row_text (Verdict outcome) = verdict_text outcome

@@ -14,7 +14,8 @@ ghost use Rattle.vme_listing.specs.Places.{is_row};
 ghost use Rattle.vme_listing.specs.RowText.{hexadecimal, row_text, lanes_text};
 ghost use Rattle.vme_listing.specs.Lines.{after_word, hexadecimal_in, lanes_in, number_in, past, skipped, starts_with};
 ghost use Rattle.vme_listing.specs.Lines.{is_hexadecimal, are_hexadecimal};
-ghost use Rattle.vme_listing.specs.Lines.{number_at, past_number, small_at, past_small, edge_at, past_edge};
+ghost use Rattle.vme_listing.specs.Lines.{number_at, past_number, small_at, past_small};
+ghost use Rattle.vme_listing.specs.Lines.{end_instant_at, past_end_instant};
 ghost use Rattle.vme_listing.specs.Lines.{hexadecimal_at, past_hexadecimal, modifier_at, past_modifier};
 ghost use Rattle.vme_listing.specs.Lines.{direction_at, past_direction, answer_at, past_answer, class_at, past_class};
 ghost use Rattle.vme_listing.specs.Lines.{lanes_at, past_lanes, data_at, past_data, tenure_at, past_tenure};
@@ -238,9 +239,10 @@ impl<'a> RowLine<'a> {
         }
     }
 
-    fn edge(&mut self) -> Option<u32>
-        ensures edge { result ≡ edge_at self.old }
-        ensures left { self.new ≡ past_edge self.old }
+    /// Reads the instant of an end or a close: a number, or `None` for a hyphen.
+    fn end_instant(&mut self) -> Option<u32>
+        ensures end_instant { result ≡ end_instant_at self.old }
+        ensures left { self.new ≡ past_end_instant self.old }
     {
         if self.has(b"-") {
             None
@@ -355,7 +357,7 @@ impl<'a> RowLine<'a> {
     {
         let start = self.number();
         if self.has(b" open end ") {
-            let end = self.edge();
+            let end = self.end_instant();
             return Row::OpenTenure { start, end };
         }
         self.word(b" level ");
@@ -363,7 +365,7 @@ impl<'a> RowLine<'a> {
         self.word(b" slot ");
         let slot = self.small();
         self.word(b" end ");
-        let end = self.edge();
+        let end = self.end_instant();
         Row::Tenure {
             start,
             level,
@@ -381,13 +383,13 @@ impl<'a> RowLine<'a> {
         if self.has(b" I ") {
             let level = self.small();
             self.word(b" end ");
-            let end = self.edge();
+            let end = self.end_instant();
             return Row::InterruptCycle { start, level, end };
         }
         if self.has(b" F ") {
             let modifier = self.modifier();
             self.word(b" end ");
-            let end = self.edge();
+            let end = self.end_instant();
             return Row::FreeCycle {
                 start,
                 modifier,
@@ -399,7 +401,7 @@ impl<'a> RowLine<'a> {
         self.word(b" ");
         let address = self.hexadecimal(address_digits(modifier));
         self.word(b" end ");
-        let end = self.edge();
+        let end = self.end_instant();
         Row::AddressedCycle {
             start,
             class,
@@ -425,7 +427,7 @@ impl<'a> RowLine<'a> {
         let line = self.answer_line();
         let answer = self.number();
         self.word(b" close ");
-        let close = self.edge();
+        let close = self.end_instant();
         let lanes = self.data();
         Row::Transfer {
             start,

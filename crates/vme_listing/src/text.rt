@@ -3,7 +3,7 @@
 
 ghost use Rattle.std.specs.Prelude.{◌≡◌, ◌+◌, ◌<◌, ◌≤◌, ◌∷◌, ◌++◌, ◌↔◌, [], true, length, decimal, IsTrue};
 ghost use Rattle.std.specs.Fmt.{digit_glyph};
-ghost use Rattle.vme_listing.specs.RowText.{edge_text, hexadecimal, address_digits, class_text, direction_text};
+ghost use Rattle.vme_listing.specs.RowText.{end_instant_text, hexadecimal, address_digits, class_text, direction_text};
 ghost use Rattle.vme_listing.specs.RowText.{answer_text, digit_text, lanes_text, data_text, break_text, row_text};
 ghost use Rattle.vme_listing.specs.RowText.{header, line_of};
 ghost use Rattle.vme_listing.specs.declared.row.Row.TheVariants.{OpenTenure, Tenure, AddressedCycle, FreeCycle};
@@ -142,9 +142,10 @@ impl RowBuffer {
         self.extend(&glyphs[first..]);
     }
 
-    fn push_edge(&mut self, instant: Option<u32>)
+    /// Appends the instant of an end or a close, or a hyphen where there is none.
+    fn push_end_instant(&mut self, instant: Option<u32>)
         requires { length self.old + 10 ≤ MOST }
-        ensures text { self.new ≡ self.old ++ edge_text instant }
+        ensures text { self.new ≡ self.old ++ end_instant_text instant }
         ensures length { length self.new ≤ length self.old + 10 }
     {
         match instant {
@@ -222,7 +223,7 @@ impl RowBuffer {
         self.extend(b"tenure ");
         self.push_decimal(start);
         self.extend(b" open end ");
-        self.push_edge(end);
+        self.push_end_instant(end);
     }
 
     fn push_tenure(&mut self, start: u32, level: u8, slot: u8, end: Option<u32>)
@@ -237,7 +238,7 @@ impl RowBuffer {
         self.extend(b" slot ");
         self.push_decimal(u32::from(slot));
         self.extend(b" end ");
-        self.push_edge(end);
+        self.push_end_instant(end);
     }
 
     fn push_addressed_cycle(
@@ -261,7 +262,7 @@ impl RowBuffer {
         self.push(b' ');
         self.push_hexadecimal(address_digits(modifier), address);
         self.extend(b" end ");
-        self.push_edge(end);
+        self.push_end_instant(end);
     }
 
     fn push_free_cycle(&mut self, start: u32, modifier: u8, end: Option<u32>)
@@ -274,7 +275,7 @@ impl RowBuffer {
         self.extend(b" F ");
         self.push_hexadecimal(2, u32::from(modifier));
         self.extend(b" end ");
-        self.push_edge(end);
+        self.push_end_instant(end);
     }
 
     fn push_interrupt_cycle(&mut self, start: u32, level: u8, end: Option<u32>)
@@ -287,7 +288,7 @@ impl RowBuffer {
         self.extend(b" I ");
         self.push_decimal(u32::from(level));
         self.extend(b" end ");
-        self.push_edge(end);
+        self.push_end_instant(end);
     }
 
     fn push_transfer(
@@ -315,7 +316,7 @@ impl RowBuffer {
         self.push(b' ');
         self.push_decimal(answer);
         self.extend(b" close ");
-        self.push_edge(close);
+        self.push_end_instant(close);
         self.push_data(lanes);
     }
 

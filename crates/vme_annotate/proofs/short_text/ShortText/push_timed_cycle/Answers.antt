@@ -6,7 +6,7 @@ pub returns-clause-text : goal.returns-clause-text
 unfolding timed_row
 returns-clause-text c =
     rw (
-      c.push_edge.ensures.text,
+      c.push_end_instant.ensures.text,
       c.push_hexadecimal-2.ensures.text,
       c.address_digits.ensures.digits,
       c.push-4.ensures.text,

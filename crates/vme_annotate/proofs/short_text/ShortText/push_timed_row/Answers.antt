@@ -17,7 +17,7 @@ returns-in-Reset-clause-text c =
 pub returns-in-OpenTenure-clause-text : goal.returns-in-OpenTenure-clause-text
 unfolding timed_row
 returns-in-OpenTenure-clause-text c =
-    rw (c.in-OpenTenure.is, c.push_edge.ensures.text, c.push_instant-in-OpenTenure.ensures.text, c.requires)
+    rw (c.in-OpenTenure.is, c.push_end_instant.ensures.text, c.push_instant-in-OpenTenure.ensures.text, c.requires)
     (simp append_assoc)
 
 pub returns-in-FreeCycle-clause-text : goal.returns-in-FreeCycle-clause-text
@@ -25,7 +25,7 @@ unfolding timed_row
 returns-in-FreeCycle-clause-text c =
     rw (
       c.in-FreeCycle.is,
-      c.push_edge-in-FreeCycle.ensures.text,
+      c.push_end_instant-in-FreeCycle.ensures.text,
       c.push_hexadecimal.ensures.text,
       c.from.ensures,
       c.push.ensures.text,
@@ -39,7 +39,7 @@ unfolding timed_row
 returns-in-InterruptCycle-clause-text c =
     rw (
       c.in-InterruptCycle.is,
-      c.push_edge-in-InterruptCycle.ensures.text,
+      c.push_end_instant-in-InterruptCycle.ensures.text,
       c.push_decimal.ensures.text,
       c.from-in-InterruptCycle.ensures,
       c.push-in-InterruptCycle.ensures.text,

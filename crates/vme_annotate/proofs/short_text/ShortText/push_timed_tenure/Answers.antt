@@ -6,7 +6,7 @@ pub returns-clause-text : goal.returns-clause-text
 unfolding timed_row
 returns-clause-text c =
     rw (
-      c.push_edge.ensures.text,
+      c.push_end_instant.ensures.text,
       c.push_decimal-2.ensures.text,
       c.from-2.ensures,
       c.push-2.ensures.text,

@@ -7,7 +7,7 @@ unfolding timed_row
 returns-clause-text c =
     rw (
       c.push_timed_data.ensures.text,
-      c.push_edge.ensures.text,
+      c.push_end_instant.ensures.text,
       c.push_instant-3.ensures.text,
       c.push-4.ensures.text,
       c.answer_text.ensures.text,

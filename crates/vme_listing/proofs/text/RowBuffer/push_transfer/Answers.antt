@@ -7,7 +7,7 @@ unfolding row_text
 returns-clause-text c =
     rw (
       c.push_data.ensures.text,
-      c.push_edge.ensures.text,
+      c.push_end_instant.ensures.text,
       c.extend-3.ensures.text,
       c.push_decimal-3.ensures.text,
       c.push-3.ensures.text,
