@@ -1,5 +1,5 @@
--- What the monitors of all rules show from step to step: at each step the marks of the stretch, of the tenure, and then
--- of the cycle and the transfer.
+-- The marks that the monitors of all rules show from step to step. Three of the five show marks: `known` where judging
+-- starts and where a reset ends it, `grant` those of tenures, and `handshake` those of cycles and transfers.
 use Rattle.std.specs.Prelude.{List, [], ◌∷◌, ◌++◌, map}
 use Rattle.vme_trace.specs.Levels.{Levels}
 use Rattle.vme_trace.specs.Trace.{changed}
@@ -12,14 +12,16 @@ use Rattle.vme_monitor.specs.declared.mark.MarkKind.{MarkKind}
 use Rattle.vme_auditor.specs.Memories.{grant_at, handshake_at, known_at, memories_next}
 use Rattle.vme_auditor.specs.declared.memories.Memories.{Memories}
 
--- the kinds of the marks of a step, in this order
+-- the kinds of the marks of a step between the levels `before` and `after`, where the monitors have the memories m, in
+-- this order
 abbrev pub kinds_shown : Memories → Levels → Levels → List Change → List MarkKind
 kinds_shown m before after changes =
     kinds_of (known_at m.known before after changes).shown
     ++ (kinds_of (grant_at m.grant before after changes).shown
     ++ kinds_of (handshake_at m.handshake before after changes).shown)
 
--- the marks of steps after levels `o`, by monitors that start from memories `m`
+-- the marks of the steps x after the levels o, where the monitors start from the memories m; 1 is the instant of the
+-- first step
 unfoldable pub joined_marks : Memories → Levels → List Step → List Mark
 joined_marks m o [] = []
 joined_marks m o (s ∷ x) =

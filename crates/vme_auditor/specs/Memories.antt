@@ -26,7 +26,7 @@ use Rattle.vme_chains.specs.declared.acknowledge.AcknowledgeMemory.{AcknowledgeM
 use Rattle.vme_auditor.specs.declared.memories.AllShown.{AllShown}
 use Rattle.vme_auditor.specs.declared.memories.Memories.{Memories}
 
--- what each monitor does at a step
+-- what each monitor does at a step: the memory that it enters, the rule that it finds broken, and what it shows
 abbrev pub known_at : StretchPhase Stateless → Levels → Levels → List Change → Next (StretchPhase Stateless)
 known_at = machine_step (observed known_observation)
     (phase_step known_begin known_start_marks known_reset_marks known_end_fault known_next)
@@ -78,6 +78,7 @@ abbrev pub comes_before : Fault → Fault → Bool
 comes_before f g = nat_lt (rule_number f.rule) (rule_number g.rule)
     || ((rule_number f.rule == rule_number g.rule) && nat_lt f.line g.line)
 
+-- of two faults of a step the one that is named first, if there is one
 abbrev pub first_fault : Option Fault → Option Fault → Option Fault
 first_fault None b = b
 first_fault (Some a) None = Some a

@@ -1,4 +1,4 @@
-//! Which of the events happened that rules refer to.
+//! Which of the events happened without which a rule can't be broken.
 
 ghost use Rattle.std.specs.Prelude.{◌≡◌};
 ghost use Rattle.vme_auditor.specs.Events.{answers_taken, asks_by, at_step, cycle_taken, further_taken};

@@ -4,7 +4,7 @@
 //! A *break* is a violation of a rule. A *mark* is an event of the bus with its instant: judging
 //! starts or a reset ends it, or a tenure, cycle or transfer begins or ends. The *parts* of a
 //! recording are the recording itself and the rest after each break; each is judged anew, up to its
-//! first break.
+//! first break. A rule is *asked* where the event happens without which it can't be broken.
 //!
 //! # Parts
 //!
@@ -14,7 +14,8 @@
 //!   monitors, i.e. the state of its automaton. At a break all of them start again from the levels
 //!   after the step, so the work is proportional to the number of steps, however many of them
 //!   break a rule.
-//! - `tally`, `asked`: the counts, and which of the events happened that rules refer to.
+//! - `tally`, `asked`: the counts, and which of the events happened without which a rule can't be
+//!   broken.
 //! - `audit_break`, `findings`: a break with numbers of 64 bits; the findings, and the [`outcome`]
 //!   that follows from them.
 //! - `laws`: how an audit agrees with a verdict and with a listing. The first break and the marks
