@@ -23,7 +23,7 @@ use Rattle.vme_bind.specs.declared.path_search.PathMatch.TheVariants.{Nothing, O
 use Rattle.vme_bind.specs.declared.bound_groups.BitRange.{BitRange}
 use Rattle.vme_bind.specs.declared.bound_groups.BoundGroup.{BoundGroup}
 use Rattle.vme_bind.specs.PathSearch.{Searched, with_bits, only_found, path_to_find, scopes_matched, candidate_of}
-use Rattle.vme_bind.specs.PathSearch.{with_candidate, with_variable, seen_in, unseen, source_of, bound_group_of}
+use Rattle.vme_bind.specs.PathSearch.{with_candidate, with_variable, found_in, none_found, source_of, bound_group_of}
 use Rattle.vme_bind.specs.PathSearch.{bound_groups_of}
 use Rattle.vme_bind.specs.BoundGroups.{bits_meant, candidate, same_bits, only, source_by, source_in, bound_group_by}
 use Rattle.vme_bind.specs.BoundGroups.{bound_group_in, bound_groups_in}
@@ -102,13 +102,13 @@ with_variable-all (v ∷ vs) seen = with_variable-all vs (map (with_candidate v)
 
 -- the bound groups of what is found of all assignments after all variables are those that the definitions give
 bound_groups_of-all : (vs : List Variable) (as' : List Assignment)
-    → bound_groups_of (map (seen_all vs) (map unseen as'))
+    → bound_groups_of (map (seen_all vs) (map none_found as'))
     ≡ bound_groups_in vs as'
 unfolding bound_groups_of bound_groups_in
 bound_groups_of-all vs [] = refl
 bound_groups_of-all vs (a ∷ as') =
-    ap (λ (r : Result BoundGroup BindFault). r >>= λ bound_group. bound_groups_of (map (seen_all vs) (map unseen as'))
-    >>= λ bound_groups. Ok (bound_group ∷ bound_groups))
+    ap (λ (r : Result BoundGroup BindFault). r >>= λ bound_group.
+    bound_groups_of (map (seen_all vs) (map none_found as')) >>= λ bound_groups. Ok (bound_group ∷ bound_groups))
     (ap (bound_group_by a) (source_of-all a.group.count a.source vs))
     ∙ ap (λ (r : Result (List BoundGroup) BindFault). bound_group_in vs a >>= λ bound_group. r >>= λ bound_groups. Ok
     (bound_group ∷ bound_groups)) (bound_groups_of-all vs as')
@@ -116,8 +116,8 @@ bound_groups_of-all vs (a ∷ as') =
 -- the bound groups of what is found are the bound groups by all variables
 pub bound_groups_of-bound_groups_in : (vs : List Variable) (as' : List Assignment) (seen : List Searched) → seen
     ≡ fold with_variable
-    (map unseen as') vs → bound_groups_of seen ≡ bound_groups_in vs as'
-bound_groups_of-bound_groups_in vs as' seen e = ap bound_groups_of (e ∙ with_variable-all vs (map unseen as'))
+    (map none_found as') vs → bound_groups_of seen ≡ bound_groups_in vs as'
+bound_groups_of-bound_groups_in vs as' seen e = ap bound_groups_of (e ∙ with_variable-all vs (map none_found as'))
     ∙ bound_groups_of-all vs as'
 
 -- ---- a variable in the open scopes
@@ -176,31 +176,31 @@ with_bits-other_scopes (Named named) found scopes net size r matched_scopes some
 -- the bound group of search `i` is the next
 pub bound_groups-first : (bound_groups : List BoundGroup) (searches : List PathSearch) (i : ℕ) (s : PathSearch)
     → i < length searches → s ≡ get_or searches i s
-    → after_bound_groups bound_groups (bound_groups_of (map seen_in (drop i searches)))
-    ≡ (bound_group_of (seen_in s) >>= λ bound_group. after_bound_groups (bound_groups ++ bound_group ∷ [])
-    (bound_groups_of (map seen_in (drop (i + 1) searches))))
+    → after_bound_groups bound_groups (bound_groups_of (map found_in (drop i searches)))
+    ≡ (bound_group_of (found_in s) >>= λ bound_group. after_bound_groups (bound_groups ++ bound_group ∷ [])
+    (bound_groups_of (map found_in (drop (i + 1) searches))))
 unfolding bound_groups_of
 bound_groups-first bound_groups searches i s lt e =
-    ap (λ (rest : List PathSearch). after_bound_groups bound_groups (bound_groups_of (map seen_in rest)))
+    ap (λ (rest : List PathSearch). after_bound_groups bound_groups (bound_groups_of (map found_in rest)))
     (drop-element searches i s lt e)
-    ∙ after_bound_groups-next bound_groups (bound_group_of (seen_in s))
-    (bound_groups_of (map seen_in (drop (i + 1) searches)))
+    ∙ after_bound_groups-next bound_groups (bound_group_of (found_in s))
+    (bound_groups_of (map found_in (drop (i + 1) searches)))
 
 -- where search `i` has a bound group, it is added to those so far
 pub bound_groups-step : (bound_groups : List BoundGroup) (searches : List PathSearch) (i : ℕ) (s : PathSearch)
-    (bound_group : BoundGroup) → i < length searches → s ≡ get_or searches i s → bound_group_of (seen_in s)
+    (bound_group : BoundGroup) → i < length searches → s ≡ get_or searches i s → bound_group_of (found_in s)
     ≡ Ok bound_group
-    → after_bound_groups bound_groups (bound_groups_of (map seen_in (drop i searches))) ≡ after_bound_groups
-    (bound_groups ++ bound_group ∷ []) (bound_groups_of (map seen_in (drop (i + 1) searches)))
+    → after_bound_groups bound_groups (bound_groups_of (map found_in (drop i searches))) ≡ after_bound_groups
+    (bound_groups ++ bound_group ∷ []) (bound_groups_of (map found_in (drop (i + 1) searches)))
 bound_groups-step bound_groups searches i s bound_group lt e is =
     bound_groups-first bound_groups searches i s lt e
     ∙ ap (λ (r : Result BoundGroup BindFault). r >>= λ bound_group. after_bound_groups (bound_groups ++ bound_group
-    ∷ []) (bound_groups_of (map seen_in (drop (i + 1) searches)))) is
+    ∷ []) (bound_groups_of (map found_in (drop (i + 1) searches)))) is
 
 -- after the last search, the result is the bound groups so far
 pub bound_groups-end : (bound_groups : List BoundGroup) (searches : List PathSearch) (i : ℕ) → length searches ≤ i
-    → after_bound_groups bound_groups (bound_groups_of (map seen_in (drop i searches))) ≡ Ok bound_groups
+    → after_bound_groups bound_groups (bound_groups_of (map found_in (drop i searches))) ≡ Ok bound_groups
 unfolding bound_groups_of
 bound_groups-end bound_groups searches i le =
-    ap (λ (rest : List PathSearch). after_bound_groups bound_groups (bound_groups_of (map seen_in rest)))
+    ap (λ (rest : List PathSearch). after_bound_groups bound_groups (bound_groups_of (map found_in rest)))
     (drop_of_length-le searches le) ∙ ap Ok (append-nil bound_groups)

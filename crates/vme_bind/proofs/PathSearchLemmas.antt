@@ -21,7 +21,7 @@ use Rattle.vme_bind.specs.declared.assignment.Assignment.{Assignment}
 use Rattle.vme_bind.specs.declared.path_search.PathSearch.{PathSearch}
 use Rattle.vme_bind.specs.PathSearch.{begins_with, scopes_matched, matched_after, path_to_find, HasOpened, opened}
 use Rattle.vme_bind.specs.PathSearch.{closed}
-use Rattle.vme_bind.specs.PathSearch.{Searched, seen_in}
+use Rattle.vme_bind.specs.PathSearch.{Searched, found_in}
 
 -- ---- the prefix of a text
 
@@ -296,15 +296,15 @@ All-closed_slice name scopes now searches lent new len depth all names e same is
     rw (take-given_back searches new len e (length-given_back (closed depth) searches lent new same is), mapped)
     (All-closed name now searches before)
 
--- a change of the searches that leaves `seen_in` of each as it is, leaves it so for all, also through a slice
-pub seen_in-same_slice : (f : PathSearch → PathSearch) (searches lent new : List PathSearch) (len : ℕ)
-    → ((s : PathSearch) → seen_in (f s) ≡ seen_in s) → len ≡ length searches → lent ≡ searches → new ≡ map f lent
-    → map seen_in (take len (new ++ drop (length new) searches)) ≡ map seen_in searches
-seen_in-same_slice f searches lent new len kept e same is =
-    ap (λ (xs : List PathSearch). map seen_in xs)
+-- a change of the searches that leaves `found_in` of each as it is, leaves it so for all, also through a slice
+pub found_in-same_slice : (f : PathSearch → PathSearch) (searches lent new : List PathSearch) (len : ℕ)
+    → ((s : PathSearch) → found_in (f s) ≡ found_in s) → len ≡ length searches → lent ≡ searches → new ≡ map f lent
+    → map found_in (take len (new ++ drop (length new) searches)) ≡ map found_in searches
+found_in-same_slice f searches lent new len kept e same is =
+    ap (λ (xs : List PathSearch). map found_in xs)
     (take-given_back searches new len e (length-given_back f searches lent new same is)
     ∙ is ∙ ap (λ (xs : List PathSearch). map f xs) same)
-    ∙ map-map seen_in f searches ∙ map-same (λ s. seen_in (f s)) seen_in searches kept
+    ∙ map-map found_in f searches ∙ map-same (λ s. found_in (f s)) found_in searches kept
   where
     map-same : (g h : PathSearch → Searched) (xs : List PathSearch) → ((s : PathSearch) → g s ≡ h s) → map g xs
         ≡ map h xs

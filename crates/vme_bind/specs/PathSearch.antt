@@ -21,7 +21,7 @@ use Rattle.vme_bind.specs.BoundGroups.{candidate, same_bits, source_by, bound_gr
 
 -- ---- the only candidate
 
--- `found` with one candidate more, if there is one
+-- `found` with one candidate more, if there is one; candidates for the same bits count once
 abbrev pub with_bits : PathMatch → Option BitRange → PathMatch
 with_bits found None = found
 with_bits Nothing (Some next) = Only next
@@ -34,34 +34,40 @@ only_found Nothing = Err NoSuchPath
 only_found (Only bits) = Ok bits
 only_found Several = Err AmbiguousPath
 
--- an assignment, and what is found of its variable
+-- an assignment of a binding, and what is found of its variable
 pub record Searched : Type 0 where
   pub assignment : Assignment
   pub found : PathMatch
 
+-- the bits that the source of an assignment means of the variable v, if v has its path
 abbrev pub candidate_of : LevelSource → Variable → Option BitRange
 candidate_of (Constant level) v = None
 candidate_of (Named named) v = candidate named v
 
+-- what is found of one assignment after one variable more
 abbrev pub with_candidate : Variable → Searched → Searched
 with_candidate v s = record s { found = with_bits s.found (candidate_of s.assignment.source v) }
 
--- what is found after one variable more
+-- what is found of all assignments after one variable more
 abbrev pub with_variable : List Searched → Variable → List Searched
 with_variable seen v = map (with_candidate v) seen
 
-abbrev pub unseen : Assignment → Searched
-unseen a = record { assignment = a; found = Nothing }
+-- an assignment of whose variable nothing is found yet
+abbrev pub none_found : Assignment → Searched
+none_found a = record { assignment = a; found = Nothing }
 
-abbrev pub seen_in : PathSearch → Searched
-seen_in s = record { assignment = s.assignment.now; found = s.found }
+-- the assignment of a search, and what it has found
+abbrev pub found_in : PathSearch → Searched
+found_in s = record { assignment = s.assignment.now; found = s.found }
 
 -- ---- the bound groups of what is found
 
+-- where the levels of a group of `count` lines come from, or why they come from nowhere
 abbrev pub source_of : ℕ → PathMatch → LevelSource → Result GroupSource BindFaultKind
 source_of count found (Constant level) = Ok (Fixed level)
 source_of count found (Named named) = source_by count (only_found found)
 
+-- the bound group of an assignment: its lines, and where their levels come from
 abbrev pub bound_group_of : Searched → Result BoundGroup BindFault
 bound_group_of s = bound_group_by s.assignment (source_of s.assignment.group.count s.found s.assignment.source)
 
@@ -100,6 +106,7 @@ abbrev pub matched_after : ℕ → ℕ → List ℕ → List ℕ → ℕ → ℕ
 matched_after depth start part path matched_scopes = if matched_scopes == depth
     && begins_with part (drop start path) then depth + 1 else matched_scopes
 
+-- a scope opens, with `depth` scopes open around it; `part` is what it adds to the path, from the offset `start` on
 abbrev pub opened : ℕ → ℕ → List ℕ → PathSearch → PathSearch
 opened depth start part s = record s {
   matched_scopes = matched_after depth start part

@@ -70,13 +70,13 @@ pub(crate) fn rest_of(text: &[u8], start: usize) -> &[u8]
 }
 
 impl<'b> PathSearch<'b> {
-    ghost use Rattle.vme_bind.specs.PathSearch.{closed, opened, seen_in, unseen, scopes_matched, path_to_find};
+    ghost use Rattle.vme_bind.specs.PathSearch.{closed, opened, found_in, none_found, scopes_matched, path_to_find};
     ghost use Rattle.vme_bind.specs.PathSearch.{with_candidate};
     ghost use Rattle.vme_bind.specs.PathSearch.{bound_group_of};
 
     /// Nothing is found yet, and no scope is open.
     pub fn new(assignment: &'b Assignment) -> PathSearch<'b>
-        ensures seen { seen_in result ≡ unseen assignment.now }
+        ensures seen { found_in result ≡ none_found assignment.now }
         ensures matched_scopes { result.matched_scopes ≡ 0 }
     {
         PathSearch {
@@ -121,8 +121,8 @@ impl<'b> PathSearch<'b> {
         requires name { 0 < length variable.name.now }
         ensures matched_scopes { self.new.matched_scopes ≡ self.old.matched_scopes }
         ensures assignment { self.new.assignment ≡ self.old.assignment }
-        ensures seen { seen_in self.new ≡ with_candidate (variable_in scopes.now variable.entry.net variable.entry.size
-            (record { name = variable.entry.name.now; index = variable.entry.index })) (seen_in self.old) }
+        ensures seen { found_in self.new ≡ with_candidate (variable_in scopes.now variable.entry.net variable.entry.size
+            (record { name = variable.entry.name.now; index = variable.entry.index })) (found_in self.old) }
     {
         if self.matched_scopes != scopes.depth() {
             return;
@@ -142,7 +142,7 @@ impl<'b> PathSearch<'b> {
 
     /// The bus lines of this assignment with the bits that give their levels, or why there are none.
     pub fn bound_group(&self) -> Result<BoundGroup, BindFault>
-        ensures { BindGives (λ bound_group. bound_group) result (bound_group_of (seen_in self.now)) }
+        ensures { BindGives (λ bound_group. bound_group) result (bound_group_of (found_in self.now)) }
     {
         let assignment = self.assignment;
         let kind = match (&assignment.source, self.found) {

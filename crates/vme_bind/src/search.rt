@@ -1,10 +1,11 @@
-//! The search for the variables that a binding names, as the definitions of a dump are read.
+//! The search for the variables that a binding names, as the definitions of a dump are read. It has one `PathSearch`
+//! for each assignment of the binding's text.
 
 ghost use Rattle.std.specs.Prelude.{◌≡◌, ◌<◌, ◌+◌, ◌^◌, ℕ, [], List, IfOk, length, map};
 ghost use Rattle.std.specs.List.{All};
 ghost use Rattle.vcd_read.specs.Header.{variable_in};
 ghost use Rattle.vme_bind.specs.Answers.{BindGives};
-ghost use Rattle.vme_bind.specs.PathSearch.{HasOpened, closed, opened, seen_in, unseen, with_candidate};
+ghost use Rattle.vme_bind.specs.PathSearch.{HasOpened, closed, opened, found_in, none_found, with_candidate};
 ghost use Rattle.vme_bind.specs.PathSearch.{bound_groups_of};
 
 use crate::assignment::Assignment;
@@ -14,16 +15,18 @@ use crate::path_search::{PathSearch, rest_of};
 use std::alloc::{AllocError, Global};
 use vcd_read::{Declaration, DeclarationVisitor, Scopes};
 
-/// What is found so far of the variables that a binding names. Nothing else of the dump's variables is kept.
+/// The variables that a binding names, as far as they are found. Nothing else of the dump's variables is kept.
 #[derive(Drop)]
 pub(crate) struct Search<'b> {
-    /// In the order of the binding's text.
+    /// One for each assignment, in the order of the binding's text.
     searches: Vec<PathSearch<'b>>,
+    /// The scopes that are open.
     scopes: Scopes,
     ghost matched_scopes: { All (HasOpened scopes) searches.items },
 }
 
-/// Enters a scope, with `depth` scopes open around it. `part` is what it adds to the path, from the offset `start` on.
+/// Enters a scope in each search, with `depth` scopes open around it. `part` is what the scope adds to the path of the
+/// scopes, from the offset `start` on.
 fn open_all(searches: &mut [PathSearch<'_>], depth: usize, start: usize, part: &[u8])
     requires { depth + 1 < 2 ^ 64 }
     ensures { searches.new ≡ map (opened depth start part.now) searches.old }
@@ -33,7 +36,7 @@ fn open_all(searches: &mut [PathSearch<'_>], depth: usize, start: usize, part: &
     }
 }
 
-/// Closes the innermost scope, which leaves `depth` scopes open.
+/// Closes the innermost scope in each search, which leaves `depth` scopes open.
 fn close_all(searches: &mut [PathSearch<'_>], depth: usize)
     ensures { searches.new ≡ map (closed depth) searches.old }
 {
@@ -42,14 +45,14 @@ fn close_all(searches: &mut [PathSearch<'_>], depth: usize)
     }
 }
 
-/// Looks at a variable that is declared in `scopes`.
+/// Shows each search a variable that is declared in `scopes`.
 fn visit_all(searches: &mut [PathSearch<'_>], scopes: &Scopes, variable: Declaration<'_>)
     requires matched_scopes { All (HasOpened scopes.now) searches.old }
     requires name { 0 < length variable.name.now }
     ensures matched_scopes { All (HasOpened scopes.now) searches.new }
-    ensures seen { map seen_in searches.new ≡ map (with_candidate
+    ensures seen { map found_in searches.new ≡ map (with_candidate
         (variable_in scopes.now variable.entry.net variable.entry.size
-        (record { name = variable.entry.name.now; index = variable.entry.index }))) (map seen_in searches.old) }
+        (record { name = variable.entry.name.now; index = variable.entry.index }))) (map found_in searches.old) }
 {
     for s in searches.iter_mut() {
         s.visit(scopes, variable);
@@ -57,10 +60,10 @@ fn visit_all(searches: &mut [PathSearch<'_>], scopes: &Scopes, variable: Declara
 }
 
 impl<'b> Search<'b> {
-    /// Nothing is found yet, and no scope is open.
+    /// The search before the first definition. It fails if memory runs out.
     pub fn new(alloc: Global, assignments: &'b [Assignment]) -> Result<Search<'b>, AllocError>
         ensures scopes { IfOk result (λ s. s.scopes ≡ []) }
-        ensures seen { IfOk result (λ s. map seen_in s.searches.items ≡ map unseen assignments.now) }
+        ensures seen { IfOk result (λ s. map found_in s.searches.items ≡ map none_found assignments.now) }
     {
         let mut searches = Vec::with_capacity(alloc, assignments.len())?;
         for assignment in assignments {
@@ -72,16 +75,18 @@ impl<'b> Search<'b> {
         })
     }
 
-    /// The bound groups of all lines of the binding.
+    /// The lines of each assignment with the bits or the constant that gives their levels. Else the first fault: the
+    /// path of an assignment means no variable, several different ones, or not as many bits as it has lines; or memory
+    /// ran out.
     pub fn bound_groups(&self, alloc: Global) -> Result<Vec<BoundGroup>, BindFault>
         ensures { BindGives (λ bound_groups. bound_groups.items) result
-            (bound_groups_of (map seen_in self.now.searches.items)) }
+            (bound_groups_of (map found_in self.now.searches.items)) }
     {
         let mut bound_groups = Vec::with_capacity(alloc, self.searches.len())?;
         for path_search in &self.searches {
             match path_search.bound_group() {
                 Ok(bound_group) => bound_groups.push_reserved(bound_group),
-                // The fault is taken apart, since the checker can't carry it out of a loop whole.
+                // The fault is returned field by field: the prover doesn't follow it out of the loop as a whole.
                 Err(BindFault { line, kind }) => return Err(BindFault { line, kind }),
             }
         }
@@ -91,11 +96,11 @@ impl<'b> Search<'b> {
 
 impl<'b> DeclarationVisitor for Search<'b> {
     ghost use Rattle.std.specs.Prelude.{List, map};
-    ghost use Rattle.vme_bind.specs.PathSearch.{Searched, seen_in, with_variable};
+    ghost use Rattle.vme_bind.specs.PathSearch.{Searched, found_in, with_variable};
 
     ghost Taken = { List Searched };
 
-    ghost taken = { λ s. map seen_in s.searches.items };
+    ghost taken = { λ s. map found_in s.searches.items };
 
     ghost with_variable = { with_variable };
 

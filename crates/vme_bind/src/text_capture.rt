@@ -8,7 +8,7 @@ ghost use Rattle.vme_trace.specs.declared.level.Level.TheVariants.{Unknown};
 ghost use Rattle.vme_bind.specs.Answers.{BindFails};
 ghost use Rattle.vme_bind.specs.declared.fault.BindFaultKind.TheVariants.{Memory};
 ghost use Rattle.vme_bind.specs.Binding.{BoundLines};
-ghost use Rattle.vme_bind.specs.PathSearch.{seen_in, unseen, with_variable};
+ghost use Rattle.vme_bind.specs.PathSearch.{found_in, none_found, with_variable};
 ghost use Rattle.vme_bind.specs.BoundGroups.{bound_groups_in};
 ghost use Rattle.vme_bind.specs.declared.bound_groups.BoundGroup.{BoundGroup};
 ghost use Rattle.vme_bind.specs.BuilderState.{IsBegun};
@@ -152,8 +152,8 @@ impl Binding {
         search: &Search<'_>,
         visitor: F,
     ) -> Result<F, CaptureFault>
-        ensures { (variables : List Variable) → map seen_in search.now.searches.items
-            ≡ fold with_variable (map unseen self.now.assignments) variables
+        ensures { (variables : List Variable) → map found_in search.now.searches.items
+            ≡ fold with_variable (map none_found self.now.assignments) variables
             → GivesBy (λ f. F.recorded f) result (recording_after self.now (defined head.now variables)) }
     {
         match search.bound_groups(alloc) {

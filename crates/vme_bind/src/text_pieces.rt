@@ -13,7 +13,7 @@ ghost use Rattle.vcd_read.specs.Tokens.{Token, tokens_from};
 ghost use Rattle.vcd_read.specs.declared.dump.Variable.{Variable};
 ghost use Rattle.vcd_read.specs.Fronts.{going_on};
 ghost use Rattle.vcd_read.specs.Sections.{defined};
-ghost use Rattle.vme_bind.specs.PathSearch.{seen_in, unseen, with_variable};
+ghost use Rattle.vme_bind.specs.PathSearch.{found_in, none_found, with_variable};
 ghost use Rattle.vme_bind.specs.TextCapture.{GivesBy, IsOfBinding, recording_after};
 ghost use Rattle.vme_bind.specs.TextPieces.{TextBeginsAs, TextContinuesAs, body_outcome, outcome_ahead, text_reached};
 ghost use Rattle.vme_bind.specs.TextPieces.{BeginsAs, outcome_from};
@@ -155,11 +155,13 @@ impl Binding {
         ensures formed { IfOk result (λ begun. (ts more : List Token)
             → malformed_step (reading_ahead (text_reached begun.0) ts more).recorded ≡ None) }
         ensures rest { (variables : List Variable)
-            → map seen_in search.now.searches.items ≡ fold with_variable (map unseen self.now.assignments) variables
+            → map found_in search.now.searches.items
+            ≡ fold with_variable (map none_found self.now.assignments) variables
             → TextContinuesAs (λ begun. outcome_from begun.0 begun.1.now) result
             (λ more. recording_after self.now (defined (going_on front.entry.head more) variables)) }
         ensures reading { (variables : List Variable)
-            → map seen_in search.now.searches.items ≡ fold with_variable (map unseen self.now.assignments) variables
+            → map found_in search.now.searches.items
+            ≡ fold with_variable (map none_found self.now.assignments) variables
             → TextContinuesAs (λ begun. reading_from begun.0 begun.1.now) result
             (λ more. reading_after self.now (defined (going_on front.entry.head more) variables)) }
     {

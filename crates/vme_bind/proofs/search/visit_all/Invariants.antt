@@ -2,7 +2,7 @@
 use Rattle.std.proofs.Common.{◌≡◌, map, take, drop}
 use Rattle.std.specs.List.{All}
 use Rattle.vcd_read.specs.Header.{variable_in}
-use Rattle.vme_bind.specs.PathSearch.{HasOpened, seen_in, with_candidate}
+use Rattle.vme_bind.specs.PathSearch.{HasOpened, found_in, with_candidate}
 use Rattle.vme_bind.proofs.search.visit_all.Given as goal
 
 abbrev pub invariant-loop-s : goal.invariant-loop-s
@@ -11,7 +11,7 @@ invariant-loop-s l =
     (record { name = l.variable.name.now; index = l.variable.index }) in
     record {
       matched_scopes : All (HasOpened l.scopes) l.searches;
-      done : map seen_in (take l.s-index l.searches) ≡ map (with_candidate variable)
-          (map seen_in (take l.s-index l.fn.searches));
+      done : map found_in (take l.s-index l.searches) ≡ map (with_candidate variable)
+          (map found_in (take l.s-index l.fn.searches));
       rest : drop l.s-index l.searches ≡ drop l.s-index l.fn.searches;
     }

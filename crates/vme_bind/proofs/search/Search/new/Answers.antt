@@ -1,7 +1,7 @@
 use Rattle.std.proofs.Common.{sym, ◌∙◌, [], ◌∷◌, arith}
 use Rattle.std.proofs.lemmas.List.{map-append, take_more}
 use Rattle.std.proofs.lemmas.List.Elements.{All-push}
-use Rattle.vme_bind.specs.PathSearch.{HasOpened, seen_in, unseen}
+use Rattle.vme_bind.specs.PathSearch.{HasOpened, found_in, none_found}
 use Rattle.vme_bind.proofs.PathSearchLemmas.{HasOpened-no_scope}
 use Rattle.vme_bind.proofs.search.Search.new.Goals as goal
 
@@ -13,12 +13,12 @@ loop-assignment-preserved c =
     record {
       seen = rw (
         c.push_reserved.ensures.items,
-        map-append seen_in l.searches.items (c.new.result ∷ []),
+        map-append found_in l.searches.items (c.new.result ∷ []),
         take_more all l.assignment-index a c.loop-assignment-test.true,
         ← c.assignment-item.is,
         c.new.ensures.seen,
         l.invariant.seen,
-      ) (sym (map-append unseen _ (a ∷ [])));
+      ) (sym (map-append none_found _ (a ∷ [])));
       matched_scopes = rw c.push_reserved.ensures.items (All-push (HasOpened []) l.searches.items c.new.result
           l.invariant.matched_scopes (HasOpened-no_scope c.new.result c.new.ensures.matched_scopes));
       count = omega (arith, c.push_reserved.ensures.len, l.invariant.count);

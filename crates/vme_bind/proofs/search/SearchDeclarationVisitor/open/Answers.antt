@@ -1,6 +1,6 @@
 use Rattle.std.proofs.Common.{refl, ap, ◌∙◌, ◌≡◌, ◌-◌, length, drop, arith, List, ℕ}
 use Rattle.vme_bind.specs.PathSearch.{opened}
-use Rattle.vme_bind.proofs.PathSearchLemmas.{All-opened_slice, seen_in-same_slice}
+use Rattle.vme_bind.proofs.PathSearchLemmas.{All-opened_slice, found_in-same_slice}
 use Rattle.vme_bind.proofs.search.SearchDeclarationVisitor.open.Goals as goal
 
 pub invariant_of-self-2 : goal.invariant_of-self-2
@@ -25,6 +25,6 @@ invariant_of-self-2 c =
 pub returns-clause-taken : goal.returns-clause-taken
 returns-clause-taken c =
     let s = c.args.self.now in
-    seen_in-same_slice (opened (c.depth-depth.result - 1) (length c.path-start.result.now) c.rest_of-part.result.now)
+    found_in-same_slice (opened (c.depth-depth.result - 1) (length c.path-start.result.now) c.rest_of-part.result.now)
     s.searches.items c.as_mut_slice.result.now c.open_all.new.searches s.searches.len (λ s. refl)
     (omega (arith, s.searches.ok.0)) c.as_mut_slice.ensures.value c.open_all.ensures
