@@ -1,2 +1,2 @@
-pub mod StartLemmas
-pub mod KeptStart
+pub mod FirstTimeLemmas
+pub mod KeptFirstTime

@@ -1,2 +1,2 @@
-pub mod Starts
-pub mod StartReading
+pub mod FirstTimes
+pub mod FirstTimeReading

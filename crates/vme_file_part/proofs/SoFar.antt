@@ -101,26 +101,26 @@ module _ (number : ℕ) (listing : Bool) (start : Option ℕ) (opening : Levels)
 module _ (number : ℕ) (listing : Bool) (start : Option ℕ) (f : FileSoFar) (t : Trace)
     (h : IsFileSoFar number listing start f t) where
   -- the segment of a file so far is what was found by the number, the first time and the listing that the file has
-  pub IsFoundIn-file : IsFoundIn f.number f.listing f.start f.opening f.segment t
+  pub IsFoundIn-file : IsFoundIn f.number f.listing f.first_time f.opening f.segment t
   IsFoundIn-file =
-      subst (λ (n : ℕ). IsFoundIn n f.listing f.start f.opening f.segment t) (sym h.number_is)
-      (subst (λ (l : Bool). IsFoundIn number l f.start f.opening f.segment t) (sym h.listing_is)
-      (subst (λ (s : Option ℕ). IsFoundIn number listing s f.opening f.segment t) (sym h.start_is) h.found))
+      subst (λ (n : ℕ). IsFoundIn n f.listing f.first_time f.opening f.segment t) (sym h.number_is)
+      (subst (λ (l : Bool). IsFoundIn number l f.first_time f.opening f.segment t) (sym h.listing_is)
+      (subst (λ (s : Option ℕ). IsFoundIn number listing s f.opening f.segment t) (sym h.first_time_is) h.found))
 
   -- a segment that is found by what the file has is found by its number, first time and listing
-  pub IsFoundOfFile-file : (s : Segment) (u : Trace) → IsFoundOfFile f.number f.listing f.start (Some s) u
+  pub IsFoundOfFile-file : (s : Segment) (u : Trace) → IsFoundOfFile f.number f.listing f.first_time (Some s) u
       → IsFoundOfFile number listing start (Some s) u
   IsFoundOfFile-file s u found =
       subst (λ (n : ℕ). IsFoundOfFile n listing start (Some s) u) h.number_is
       (subst (λ (l : Bool). IsFoundOfFile f.number l start (Some s) u) h.listing_is
-      (subst (λ (o : Option ℕ). IsFoundOfFile f.number f.listing o (Some s) u) h.start_is found))
+      (subst (λ (o : Option ℕ). IsFoundOfFile f.number f.listing o (Some s) u) h.first_time_is found))
 
   -- a part whose only segment stands for the file is the part of the file
   pub IsPartOfFile-file : (s : SegmentValue) (p : PartValue)
-      → StandsForFile f.listing s (file_of f.number f.start t) → p.segments ≡ s ∷ []
+      → StandsForFile f.listing s (file_of f.number f.first_time t) → p.segments ≡ s ∷ []
       → IsPartOfFile listing (file_of number start t) p
   IsPartOfFile-file s p stands one =
       subst (λ (l : Bool). IsPartOfFile l (file_of number start t) p) h.listing_is
       (subst (λ (b : Block). IsPartOfFile f.listing b p)
-      (ap (λ (n : ℕ). file_of n f.start t) h.number_is ∙ ap (λ (o : Option ℕ). file_of number o t) h.start_is)
+      (ap (λ (n : ℕ). file_of n f.first_time t) h.number_is ∙ ap (λ (o : Option ℕ). file_of number o t) h.first_time_is)
       (s, one, stands.first, stands.stands))

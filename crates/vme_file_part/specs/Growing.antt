@@ -42,25 +42,25 @@ pub record FileMayGoOn (t : Trace) (steps : List Step) : Type 0 where
   pub formed : malformed_step (with_steps t steps) ≡ None
   pub few : length t.steps + length steps ≤ 268435456
 
--- if t has steps, the segment stands for the file `number` of t so far, whose dump has the first time `start`; if it
--- has none, there is no segment
+-- if t has steps, the segment stands for the file `number` of t so far, whose dump has the first time `first_time`; if
+-- it has none, there is no segment
 abbrev pub IsFoundOfFile : ℕ → Bool → Option ℕ → Option Segment → Trace → Type 0
-IsFoundOfFile number listing start None t = t.steps ≡ []
-IsFoundOfFile number listing start (Some s) t =
-    (0 < length t.steps) × StandsForFile listing (segment_value s) (file_of number start t)
+IsFoundOfFile number listing first_time None t = t.steps ≡ []
+IsFoundOfFile number listing first_time (Some s) t =
+    (0 < length t.steps) × StandsForFile listing (segment_value s) (file_of number first_time t)
 
 -- `IsFoundOfFile`, and t has the levels `opening` before its first step
-pub record IsFoundIn (number : ℕ) (listing : Bool) (start : Option ℕ) (opening : Levels) (segment : Option Segment)
+pub record IsFoundIn (number : ℕ) (listing : Bool) (first_time : Option ℕ) (opening : Levels) (segment : Option Segment)
     (t : Trace) : Type 0 where
   pub opened : opening ≡ t.opening
-  pub found : IsFoundOfFile number listing start segment t
+  pub found : IsFoundOfFile number listing first_time segment t
 
--- f is the file `number` with the steps of t so far, with marks or without; its dump has the first time `start`
-pub record IsFileSoFar (number : ℕ) (listing : Bool) (start : Option ℕ) (f : FileSoFar) (t : Trace) : Type 0 where
+-- f is the file `number` with the steps of t so far, with marks or without; its dump has the first time `first_time`
+pub record IsFileSoFar (number : ℕ) (listing : Bool) (first_time : Option ℕ) (f : FileSoFar) (t : Trace) : Type 0 where
   pub number_is : f.number ≡ number
   pub listing_is : f.listing ≡ listing
-  pub start_is : f.start ≡ start
-  pub found : IsFoundIn number listing start f.opening f.segment t
+  pub first_time_is : f.first_time ≡ first_time
+  pub found : IsFoundIn number listing first_time f.opening f.segment t
 
 -- each table of the segment, if there is one, has at most k nodes for each of its memories
 abbrev pub HaveNodesSoFar : ℕ → Option Segment → Type 0

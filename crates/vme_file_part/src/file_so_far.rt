@@ -30,7 +30,7 @@ pub struct FileSoFar {
     number: u32,
     listing: bool,
     /// The first time of its dump, if it has one.
-    start: Option<u64>,
+    first_time: Option<u64>,
     /// The levels before the first step of the dump.
     opening: Lines,
     /// The segment of the file so far, if a step was given.
@@ -97,18 +97,18 @@ fn begun(
     alloc: Global,
     listing: bool,
     number: u32,
-    start: Option<u64>,
+    first_time: Option<u64>,
     opening: &Lines,
     steps: &[Step],
 ) -> Result<Segment, PartRefusal>
     requires { FileMayGoOn (record { opening = opening.now; steps = [] }) steps.now }
     ensures stands { IfOk result (λ s. StandsForFile listing (segment_value s)
-        (file_of number start (record { opening = opening.now; steps = steps.now }))) }
+        (file_of number first_time (record { opening = opening.now; steps = steps.now }))) }
     ensures few { IfOk result (λ s. HaveNodesAtMost (tables_for (length steps.now)) (segment_value s)) }
     ensures refused { IfErr result IsLackOfMemory }
 {
     let mut opening = *opening;
-    let steps = steps_of_file(number, start, &mut opening, steps);
+    let steps = steps_of_file(number, first_time, &mut opening, steps);
     segment_of(alloc, listing, number, &opening, steps)
 }
 
@@ -118,15 +118,15 @@ fn segment_with(
     alloc: Global,
     listing: bool,
     number: u32,
-    start: Option<u64>,
+    first_time: Option<u64>,
     opening: &Lines,
     segment: Option<Segment>,
     steps: &[Step],
 ) -> Result<Segment, PartRefusal>
     requires some { 0 < length steps.now }
-    requires found { (t : Trace) × IsFoundIn number listing start opening.now segment t × FileMayGoOn t steps.now }
-    ensures found { (t : Trace) → IsFoundIn number listing start opening.now segment t → FileMayGoOn t steps.now
-        → IfOk result (λ s. IsFoundOfFile number listing start (Some s) (with_steps t steps.now)) }
+    requires found { (t : Trace) × IsFoundIn number listing first_time opening.now segment t × FileMayGoOn t steps.now }
+    ensures found { (t : Trace) → IsFoundIn number listing first_time opening.now segment t → FileMayGoOn t steps.now
+        → IfOk result (λ s. IsFoundOfFile number listing first_time (Some s) (with_steps t steps.now)) }
     ensures nodes { (k : ℕ) → HaveNodesSoFar k segment
         → IfOk result (λ s. HaveNodesAtMost (k + tables_for (length steps.now)) (segment_value s)) }
     ensures refused { IfErr result (IsRefusedFile listing) }
@@ -135,7 +135,7 @@ fn segment_with(
 {
     match segment {
         Some(segment) => with_more(alloc, listing, number, segment, steps),
-        None => begun(alloc, listing, number, start, opening, steps),
+        None => begun(alloc, listing, number, first_time, opening, steps),
     }
 }
 
@@ -147,11 +147,11 @@ fn whole_segment(
     opening: &Lines,
     segment: Option<Segment>,
 ) -> Result<Segment, PartRefusal>
-    requires { (start : Option ℕ) × (t : Trace) × IsFoundIn number listing start opening.now segment t
+    requires { (first_time : Option ℕ) × (t : Trace) × IsFoundIn number listing first_time opening.now segment t
         × (malformed_step t ≡ None) }
-    ensures stands { (start : Option ℕ) (t : Trace) → IsFoundIn number listing start opening.now segment t
+    ensures stands { (first_time : Option ℕ) (t : Trace) → IsFoundIn number listing first_time opening.now segment t
         → malformed_step t ≡ None
-        → IfOk result (λ s. StandsForFile listing (segment_value s) (file_of number start t)) }
+        → IfOk result (λ s. StandsForFile listing (segment_value s) (file_of number first_time t)) }
     ensures refused { IfErr result IsLackOfMemory }
 {
     match segment {
@@ -185,16 +185,16 @@ fn part_with(
 }
 
 impl FileSoFar {
-    /// The file `number`, without steps so far. Its dump has the first time `start`, if it has one, and the levels
+    /// The file `number`, without steps so far. Its dump has the first time `first_time`, if it has one, and the levels
     /// `opening` before any change.
-    pub fn new(number: u32, listing: bool, start: Option<u64>, opening: &Lines) -> FileSoFar
-        ensures so_far { IsFileSoFar number listing start result (record { opening = opening.now; steps = [] }) }
+    pub fn new(number: u32, listing: bool, first_time: Option<u64>, opening: &Lines) -> FileSoFar
+        ensures so_far { IsFileSoFar number listing first_time result (record { opening = opening.now; steps = [] }) }
         ensures none { FileHasNodesAtMost 0 result }
     {
         FileSoFar {
             number,
             listing,
-            start,
+            first_time,
             opening: *opening,
             segment: None,
         }
@@ -202,15 +202,15 @@ impl FileSoFar {
 
     /// Judges the steps that follow.
     pub fn go_on(self, alloc: Global, steps: &[Step]) -> Result<FileSoFar, PartRefusal>
-        requires { (number : ℕ) × (listing : Bool) × (start : Option ℕ) × (t : Trace)
-            × IsFileSoFar number listing start self t × FileMayGoOn t steps.now }
-        ensures so_far { (number : ℕ) (listing : Bool) (start : Option ℕ) (t : Trace)
-            → IsFileSoFar number listing start self t → FileMayGoOn t steps.now
-            → IfOk result (λ f. IsFileSoFar number listing start f (with_steps t steps.now)) }
+        requires { (number : ℕ) × (listing : Bool) × (first_time : Option ℕ) × (t : Trace)
+            × IsFileSoFar number listing first_time self t × FileMayGoOn t steps.now }
+        ensures so_far { (number : ℕ) (listing : Bool) (first_time : Option ℕ) (t : Trace)
+            → IsFileSoFar number listing first_time self t → FileMayGoOn t steps.now
+            → IfOk result (λ f. IsFileSoFar number listing first_time f (with_steps t steps.now)) }
         ensures nodes { (k : ℕ) → FileHasNodesAtMost k self
             → IfOk result (FileHasNodesAtMost (k + tables_for (length steps.now))) }
-        ensures refused { (number : ℕ) (listing : Bool) (start : Option ℕ) (t : Trace)
-            → IsFileSoFar number listing start self t → IfErr result (IsRefusedFile listing) }
+        ensures refused { (number : ℕ) (listing : Bool) (first_time : Option ℕ) (t : Trace)
+            → IsFileSoFar number listing first_time self t → IfErr result (IsRefusedFile listing) }
         ensures many { (k : ℕ) → FileHasNodesAtMost k self
             → IfErr result (IsPartRefusal (AreTooManyNodes (k + tables_for (length steps.now)))) }
     {
@@ -220,15 +220,15 @@ impl FileSoFar {
         let FileSoFar {
             number,
             listing,
-            start,
+            first_time,
             opening,
             segment,
         } = self;
-        let segment = segment_with(alloc, listing, number, start, &opening, segment, steps)?;
+        let segment = segment_with(alloc, listing, number, first_time, &opening, segment, steps)?;
         Ok(FileSoFar {
             number,
             listing,
-            start,
+            first_time,
             opening,
             segment: Some(segment),
         })
@@ -236,19 +236,19 @@ impl FileSoFar {
 
     /// The part of the file, if no more steps follow. `backplane` is the sum of the backplane.
     pub fn into_part(self, alloc: Global, backplane: u64) -> Result<Part, PartRefusal>
-        requires { (number : ℕ) × (listing : Bool) × (start : Option ℕ) × (t : Trace)
-            × IsFileSoFar number listing start self t × (malformed_step t ≡ None) }
+        requires { (number : ℕ) × (listing : Bool) × (first_time : Option ℕ) × (t : Trace)
+            × IsFileSoFar number listing first_time self t × (malformed_step t ≡ None) }
         ensures backplane { IfOk result (λ p. p.backplane ≡ backplane) }
         ensures listing { IfOk result (λ p. p.listing ≡ self.listing) }
-        ensures stands { (number : ℕ) (listing : Bool) (start : Option ℕ) (t : Trace)
-            → IsFileSoFar number listing start self t → malformed_step t ≡ None
-            → IfOk result (λ p. IsPartOfFile listing (file_of number start t) (part_value p)) }
+        ensures stands { (number : ℕ) (listing : Bool) (first_time : Option ℕ) (t : Trace)
+            → IsFileSoFar number listing first_time self t → malformed_step t ≡ None
+            → IfOk result (λ p. IsPartOfFile listing (file_of number first_time t) (part_value p)) }
         ensures refused { IfErr result IsLackOfMemory }
     {
         let FileSoFar {
             number,
             listing,
-            start: _,
+            first_time: _,
             opening,
             segment,
         } = self;

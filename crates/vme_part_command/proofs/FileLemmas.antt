@@ -13,7 +13,7 @@ use Rattle.vme_dump_input.specs.DumpBeginnings.{IsAtBody, IsAtDefinitions}
 use Rattle.vme_dump_input.specs.BufferedInputs.{InputSoFar, IsAllOf, IsGrown, IsReadOn, IsReadTo}
 use Rattle.vme_dump_input.proofs.BufferedLemmas.{IsAllOf-whole, append-taken, IsReadTo-taken}
 use Rattle.vme_dump_input.proofs.DefinitionLemmas.{body-read_on, within-read_on}
-use Rattle.vme_part_command.specs.FileReadings.{IsAtFile, IsAtFileEnd, IsStartFor}
+use Rattle.vme_part_command.specs.FileReadings.{IsAtFile, IsAtFileEnd, IsFirstTimeFor}
 
 -- ---- the start of the body
 
@@ -23,22 +23,22 @@ module _ (binding : BoundLines) (number : ℕ) (start : Option ℕ) (old now : R
   -- that of the dump
   pub IsAtFile-begun : ((rest : List ℕ) → IsFollowedBy input.is_whole rest
       → reading_of_text binding (input.held ++ rest) ≡ Ok (whole_reading r (drop n input.held ++ rest)))
-      → ((rest : List ℕ) → IsFollowedBy input.is_whole rest → IsStartFor number (input.held ++ rest) start)
+      → ((rest : List ℕ) → IsFollowedBy input.is_whole rest → IsFirstTimeFor number (input.held ++ rest) start)
       → IsAtFile binding number start old now (record input { held = drop n input.held }) r
   IsAtFile-begun begins starts = record {
     done = take n input.held;
     read = IsReadTo-taken old now [] input h n within;
     body = λ rest ends.
         ap (reading_of_text binding) (append-taken [] input.held n rest) ∙ begins rest ends;
-    starts = λ rest ends. subst (λ (l : List ℕ). IsStartFor number l start) (sym (append-taken [] input.held n rest))
-        (starts rest ends);
+    starts = λ rest ends. subst (λ (l : List ℕ). IsFirstTimeFor number l start)
+        (sym (append-taken [] input.held n rest)) (starts rest ends);
   }
 
 -- `IsAtFile` holds after the definitions, which were held until the first time was determined
 pub IsAtFile-after_definitions : (binding : BoundLines) (number : ℕ) (start : Option ℕ) (old before now : Reading)
     (here after : InputSoFar) (r : StepReading) (n : ℕ) → IsAtDefinitions binding old before here r n
     → IsReadOn here after → IsReadTo old now [] after
-    → ((rest : List ℕ) → IsFollowedBy after.is_whole rest → IsStartFor number (after.held ++ rest) start)
+    → ((rest : List ℕ) → IsFollowedBy after.is_whole rest → IsFirstTimeFor number (after.held ++ rest) start)
     → IsAtFile binding number start old now (record after { held = drop n after.held }) r
 IsAtFile-after_definitions binding number start old before now here after r n at on read starts =
     IsAtFile-begun binding number start old now after read n (within-read_on binding old before here r n at after on) r
@@ -70,7 +70,7 @@ module _ (binding : BoundLines) (number : ℕ) (start : Option ℕ) (old now : R
       body = λ rest ends.
           ap (reading_of_text binding) (append-taken at.done input.held n rest) ∙ at.body rest ends
           ∙ ap (λ (x : TextReading). Ok x) (whole_reading-next rest);
-      starts = λ rest ends. subst (λ (l : List ℕ). IsStartFor number l start)
+      starts = λ rest ends. subst (λ (l : List ℕ). IsFirstTimeFor number l start)
           (sym (append-taken at.done input.held n rest)) (at.starts rest ends);
     }
 
@@ -84,7 +84,7 @@ module _ (binding : BoundLines) (number : ℕ) (start : Option ℕ) (old now : R
         ap (λ l. reading_of_text binding (at.done ++ l)) (same rest)
         ∙ at.body (grown.more ++ rest) (λ whole. absurd (both_ways input.is_whole going whole))
         ∙ ap (λ l. Ok (whole_reading r l)) (sym (same rest));
-    starts = λ rest ends. subst (λ (l : List ℕ). IsStartFor number (at.done ++ l) start) (sym (same rest))
+    starts = λ rest ends. subst (λ (l : List ℕ). IsFirstTimeFor number (at.done ++ l) start) (sym (same rest))
         (at.starts (grown.more ++ rest) (λ whole. absurd (both_ways input.is_whole going whole)));
   }
     where
@@ -99,6 +99,6 @@ module _ (binding : BoundLines) (number : ℕ) (start : Option ℕ) (old now : R
     all = subst (IsAllOf old now (at.done ++ input.held)) limit (IsAllOf-whole old now at.done input at.read whole);
     body = ap (λ l. reading_of_text binding (at.done ++ l)) (sym (append-nil input.held))
         ∙ at.body [] (λ _. refl) ∙ ap (λ l. Ok (whole_reading r l)) (append-nil input.held);
-    starts = subst (λ (l : List ℕ). IsStartFor number (at.done ++ l) start) (append-nil input.held)
+    starts = subst (λ (l : List ℕ). IsFirstTimeFor number (at.done ++ l) start) (append-nil input.held)
         (at.starts [] (λ _. refl));
   }

@@ -5,7 +5,7 @@ use Rattle.std.proofs.Common.{subst, ◌∙◌, arith}
 use Rattle.std.specs.Prelude.{Result, Ok, Err}
 use Rattle.vcd_read.specs.Contents.{Contents}
 use Rattle.vcd_read.specs.Header.{◌>>=◌}
-use Rattle.vcd_start.specs.Starts.{start_of}
+use Rattle.vcd_start.specs.FirstTimes.{first_time_of_dump}
 use Rattle.vme_trace.specs.Levels.{Levels}
 use Rattle.vme_trace.specs.Streams.{Reading}
 use Rattle.vme_trace.specs.Trace.{Trace}
@@ -57,7 +57,7 @@ module _ (o : PartOptions) where
   -- the recording that was captured of the dump, with its first time, or the refusal of the binding
   abbrev recorded : Contents → Result Trace BindFault → Result DumpRecording Refusal
   recorded contents captured = or_bad_binding captured >>= λ t. Ok
-      (record { start = start_of contents; recording = t })
+      (record { first_time = first_time_of_dump contents; recording = t })
 
   module _ (bound : BoundLines) (old now : Reading) (contents : Contents) (read : IsReadDump old now contents) where
     -- the recording of the dump is the one that was captured
@@ -75,7 +75,7 @@ module _ (o : PartOptions) where
     module _ (given : Trace) (captured : capture_of bound contents ≡ limited given) where
       -- a recording within the limit is that of the dump
       dump_recording-limited : limited given ≡ Ok given → dump_recording (Ok bound) (dump_read (Some read.text))
-          ≡ Ok (record { start = start_of contents; recording = given })
+          ≡ Ok (record { first_time = first_time_of_dump contents; recording = given })
       dump_recording-limited fits = dump_recording-captured (Ok given) (captured ∙ fits)
 
       -- a recording that is refused is refused of the dump
@@ -86,14 +86,14 @@ module _ (o : PartOptions) where
           let same : BadBinding fault ≡ refusal = cc in ap (λ (r : Refusal). Err r) same
 
       -- the result for all steps is the result for the dump, whose first time is `start`
-      pub FindsOfDump-found : (start : Option ℕ) → ((o.number ≡ 0 → ⊥) → start_of contents ≡ start) → (backplane : ℕ)
-          → backplane ≡ backplane_of given.opening → (found : Result Part NoPart)
+      pub FindsOfDump-found : (start : Option ℕ) → ((o.number ≡ 0 → ⊥) → first_time_of_dump contents ≡ start)
+          → (backplane : ℕ) → backplane ≡ backplane_of given.opening → (found : Result Part NoPart)
           → FindsOfSteps o.number o.listing start backplane given found → FindsOfDump o bound old now found
       FindsOfDump-found start starts backplane same (Ok part) finds = (
         Some read.text,
         read.reading,
         (
-          record { start = start_of contents; recording = given },
+          record { first_time = first_time_of_dump contents; recording = given },
           dump_recording-limited finds.0,
           record {
             backplane = finds.1.backplane_is ∙ same;
@@ -102,7 +102,7 @@ module _ (o : PartOptions) where
             small = IsSmall-compact_part (part_value part) finds.1.fits finds.1.compact
                 (omega (arith, ap (λ (ss : List SegmentValue). length ss) finds.1.stands.1));
             stands = subst (λ (b : Block). IsPartOfFile o.listing b (part_value part))
-                (same_file o.number start (start_of contents) given starts) finds.1.stands;
+                (same_file o.number start (first_time_of_dump contents) given starts) finds.1.stands;
           },
         ),
       )
@@ -128,7 +128,7 @@ module _ (o : PartOptions) where
       FindsOfDump-found start starts backplane same (Err none.OutOfRange) fits = (
         Some read.text,
         read.reading,
-        (record { start = start_of contents; recording = given }, dump_recording-limited fits),
+        (record { first_time = first_time_of_dump contents; recording = given }, dump_recording-limited fits),
       )
 
   -- the result for all steps that the reader gave is the result for the dump

@@ -26,11 +26,11 @@ abbrev pub HasFewNodes : FileSoFar → Trace → Type 0
 HasFewNodes file t = (k : ℕ) × (16384 * k ≤ 18 * length t.steps) × FileHasNodesAtMost k file
 
 -- `file` is the file with the steps of t before `pending`, the last ones, and has few nodes
-pub record IsPending (number : ℕ) (listing : Bool) (start : Option ℕ) (file : FileSoFar) (pending : List Step)
+pub record IsPending (number : ℕ) (listing : Bool) (first_time : Option ℕ) (file : FileSoFar) (pending : List Step)
     (t : Trace) : Type 0 where
   pub judged : Trace
   pub all : with_steps judged pending ≡ t
-  pub so_far : IsFileSoFar number listing start file judged
+  pub so_far : IsFileSoFar number listing first_time file judged
   pub few : HasFewNodes file judged
 
 -- t is well-formed and has at most as many steps as a recording may have
@@ -40,36 +40,36 @@ pub record MayBeJudged (t : Trace) : Type 0 where
 
 -- the steps of t are counted, and all but `pending` are judged; or (`true`) they are too many
 abbrev pub FileComesTo : ℕ → Bool → Option ℕ → FileSoFar → List Step → ℕ → Bool → Trace → Type 0
-FileComesTo number listing start file pending count true t = capture_limit < length t.steps
-FileComesTo number listing start file pending count false t =
-    (count ≡ length t.steps) × (count ≤ capture_limit) × IsPending number listing start file pending t
+FileComesTo number listing first_time file pending count true t = capture_limit < length t.steps
+FileComesTo number listing first_time file pending count false t =
+    (count ≡ length t.steps) × (count ≤ capture_limit) × IsPending number listing first_time file pending t
 
 -- `check` was given all steps of t
 abbrev pub HasTakenSteps : ℕ → Bool → Option ℕ → FileCheck → Trace → Type 0
-HasTakenSteps number listing start check t =
-    FileComesTo number listing start check.file check.pending.items check.count check.is_too_long t
+HasTakenSteps number listing first_time check t =
+    FileComesTo number listing first_time check.file check.pending.items check.count check.is_too_long t
 
 -- `check` was given all steps that the reader r gave
-pub record IsFileJudged (number : ℕ) (listing : Bool) (start : Option ℕ) (r : StepReading) (check : FileCheck) : Type 0
-  where
-    pub sound : IsSound r
-    pub taken : HasTakenSteps number listing start check r.given
+pub record IsFileJudged (number : ℕ) (listing : Bool) (first_time : Option ℕ) (r : StepReading) (check : FileCheck)
+    : Type 0 where
+  pub sound : IsSound r
+  pub taken : HasTakenSteps number listing first_time check r.given
 
 -- p can be written, is compact, and is the part of the file `number` that t makes, whose dump has the first time
--- `start`
-pub record IsPartOfSteps (number : ℕ) (listing : Bool) (start : Option ℕ) (backplane : ℕ) (t : Trace)
+-- `first_time`
+pub record IsPartOfSteps (number : ℕ) (listing : Bool) (first_time : Option ℕ) (backplane : ℕ) (t : Trace)
     (p : Part) : Type 0
   where
     pub backplane_is : p.backplane ≡ backplane
     pub listing_is : p.listing ≡ listing
     pub fits : FitsPart (part_value p)
     pub compact : IsCompactPart (part_value p)
-    pub stands : IsPartOfFile listing (file_of number start t) (part_value p)
+    pub stands : IsPartOfFile listing (file_of number first_time t) (part_value p)
 
 -- the result for all steps of t: the part, or why there is none; of `OutOfRange` it says only that t isn't too long
 abbrev pub FindsOfSteps : ℕ → Bool → Option ℕ → ℕ → Trace → Result Part NoPart → Type 0
-FindsOfSteps number listing start backplane t (Ok part) =
-    (limited t ≡ Ok t) × IsPartOfSteps number listing start backplane t part
-FindsOfSteps number listing start backplane t (Err (none.Refused refusal)) =
+FindsOfSteps number listing first_time backplane t (Ok part) =
+    (limited t ≡ Ok t) × IsPartOfSteps number listing first_time backplane t part
+FindsOfSteps number listing first_time backplane t (Err (none.Refused refusal)) =
     AnswerGives (λ (u : Trace). u) (Err refusal) (or_bad_binding (limited t))
-FindsOfSteps number listing start backplane t (Err none.OutOfRange) = limited t ≡ Ok t
+FindsOfSteps number listing first_time backplane t (Err none.OutOfRange) = limited t ≡ Ok t

@@ -2,7 +2,7 @@
 use Rattle.std.specs.Prelude.{◌≡◌, ℕ, List, [], Option, Result, Ok, Err, codes}
 use Rattle.vcd_read.specs.Contents.{Contents}
 use Rattle.vcd_read.specs.Header.{◌>>=◌}
-use Rattle.vcd_start.specs.Starts.{start_of}
+use Rattle.vcd_start.specs.FirstTimes.{first_time_of_dump}
 use Rattle.vme_trace.specs.Streams.{Reading, Writing}
 use Rattle.vme_trace.specs.Trace.{Trace}
 use Rattle.vme_bind.specs.Binding.{BoundLines}
@@ -27,7 +27,7 @@ use Rattle.vme_part_command.specs.declared.part.PartOptions.{PartOptions}
 
 -- the recording that a binding makes of a dump, and the first time of the dump, if it has one
 pub record DumpRecording : Type 0 where
-  pub start : Option ℕ
+  pub first_time : Option ℕ
   pub recording : Trace
 
 -- the recording of a dump and its first time, or the first reason that there is none: the binding is read first
@@ -36,7 +36,7 @@ dump_recording binding dump = do
   bound ← binding
   contents ← dump
   t ← or_bad_binding (capture_of bound contents)
-  Ok (record { start = start_of contents; recording = t })
+  Ok (record { first_time = first_time_of_dump contents; recording = t })
 
 -- p can be written, in few bytes, and is the part of the file that the dump's recording makes, with marks or without.
 -- Except for number 0, the levels after the dump's first time are the opening of the file, and its steps are those
@@ -46,7 +46,7 @@ pub record IsPartOfRecording (o : PartOptions) (d : DumpRecording) (p : PartValu
   pub listing : p.listing ≡ o.listing
   pub fits : FitsPart p
   pub small : IsSmall p
-  pub stands : IsPartOfFile o.listing (file_of o.number d.start d.recording) p
+  pub stands : IsPartOfFile o.listing (file_of o.number d.first_time d.recording) p
 
 -- The result for a recording that `read` gives: a part of it, as a value by `view`; or why there is no recording,
 -- unless memory ran out; or, where there is a recording, that its part would be out of bounds.

@@ -14,7 +14,7 @@ ghost use Rattle.vme_part_command.specs.declared.part.PartOptions.{PartOptions a
 
 use crate::backplane::backplane_sum;
 use crate::file_check::FileCheck;
-use crate::first_time::read_start;
+use crate::first_time::read_first_time;
 use crate::no_part::NoPart;
 use crate::part::PartOptions;
 use std::alloc::Global;
@@ -35,12 +35,14 @@ fn judge_piece(
     input: &mut BufferedInput,
     check: FileCheck,
 ) -> Result<(StepReader, FileCheck), Option<VcdFault>>
-    requires { (number : ℕ) × (listing : Bool) × (start : Option ℕ) × IsFileJudged number listing start reader check }
-    ensures reads { (binding : BoundLines) (number : ℕ) (start : Option ℕ) (old now : Reading)
-        → IsAtFile binding number start old now input.old reader
-        → ReadsFile binding number start old now input.new result }
-    ensures judges { (number : ℕ) (listing : Bool) (start : Option ℕ) → IsFileJudged number listing start reader check
-        → IfOk result (λ made. IsFileJudged number listing start made.0 made.1) }
+    requires { (number : ℕ) × (listing : Bool) × (first_time : Option ℕ)
+        × IsFileJudged number listing first_time reader check }
+    ensures reads { (binding : BoundLines) (number : ℕ) (first_time : Option ℕ) (old now : Reading)
+        → IsAtFile binding number first_time old now input.old reader
+        → ReadsFile binding number first_time old now input.new result }
+    ensures judges { (number : ℕ) (listing : Bool) (first_time : Option ℕ)
+        → IsFileJudged number listing first_time reader check
+        → IfOk result (λ made. IsFileJudged number listing first_time made.0 made.1) }
     ensures opening { IfOk result (λ made. made.0.given.opening ≡ reader.given.opening) }
     ensures input { (input.new.limit ≡ input.old.limit) × (input.new.is_whole ≡ input.old.is_whole)
         × (input.new.reads ≡ input.old.reads) }
@@ -65,10 +67,11 @@ fn judge_last(
     check: FileCheck,
     backplane: u64,
 ) -> Result<Part, NoPart>
-    requires { (number : ℕ) × (listing : Bool) × (start : Option ℕ) × IsFileJudged number listing start reader check }
-    ensures { (binding : BoundLines) (options : Options) (start : Option ℕ) (old now : Reading)
-        → IsFileJudged options.number options.listing start reader check
-        → IsAtFileEnd binding options.number start old now bytes.now reader
+    requires { (number : ℕ) × (listing : Bool) × (first_time : Option ℕ)
+        × IsFileJudged number listing first_time reader check }
+    ensures { (binding : BoundLines) (options : Options) (first_time : Option ℕ) (old now : Reading)
+        → IsFileJudged options.number options.listing first_time reader check
+        → IsAtFileEnd binding options.number first_time old now bytes.now reader
         → backplane ≡ backplane_of reader.given.opening → FindsOfDump options binding old now result }
 {
     match reader.finish(alloc, bytes) {
@@ -86,10 +89,11 @@ fn judge_body<D: Source>(
     check: FileCheck,
     backplane: u64,
 ) -> Result<Part, NoPart>
-    requires { (number : ℕ) × (listing : Bool) × (start : Option ℕ) × IsFileJudged number listing start reader check }
-    ensures { (binding : BoundLines) (options : Options) (start : Option ℕ) (old : Reading)
-        → IsFileJudged options.number options.listing start reader check
-        → IsAtFile binding options.number start old (D.reading dump.old) input.old reader
+    requires { (number : ℕ) × (listing : Bool) × (first_time : Option ℕ)
+        × IsFileJudged number listing first_time reader check }
+    ensures { (binding : BoundLines) (options : Options) (first_time : Option ℕ) (old : Reading)
+        → IsFileJudged options.number options.listing first_time reader check
+        → IsAtFile binding options.number first_time old (D.reading dump.old) input.old reader
         → input.old.limit ≡ longest_input → backplane ≡ backplane_of reader.given.opening
         → FindsOfDump options binding old (D.reading dump.new) result }
 {
@@ -109,25 +113,25 @@ fn judge_body<D: Source>(
     judge_last(alloc, reader, input.bytes(), check, backplane)
 }
 
-/// Judges the body of a dump with the first time `start`, if it has one.
+/// Judges the body of a dump with the first time `first_time`, if it has one.
 fn part_of_body<D: Source>(
     alloc: Global,
     options: PartOptions,
     dump: &mut D,
     input: &mut BufferedInput,
     reader: StepReader,
-    start: Option<u64>,
+    first_time: Option<u64>,
 ) -> Result<Part, NoPart>
     requires { IsBodyUnread reader }
     ensures { (binding : BoundLines) (old : Reading)
-        → IsAtFile binding options.number start old (D.reading dump.old) input.old reader
+        → IsAtFile binding options.number first_time old (D.reading dump.old) input.old reader
         → input.old.limit ≡ longest_input → FindsOfDump options binding old (D.reading dump.new) result }
 {
     let opening = *opening_of(&reader);
     let Ok(backplane) = backplane_sum(alloc, &opening) else {
         return Err(NoPart::Refused(Refusal::Memory));
     };
-    let check = FileCheck::new(alloc, options.number, options.listing, start, &opening);
+    let check = FileCheck::new(alloc, options.number, options.listing, first_time, &opening);
     judge_body(alloc, dump, input, reader, check, backplane)
 }
 
@@ -147,10 +151,10 @@ fn part_after_definitions<D: Source>(
         → IsAtDefinitions binding old (D.reading dump.old) input.old reader count
         → input.old.limit ≡ longest_input → FindsOfDump options binding old (D.reading dump.new) result }
 {
-    match read_start(alloc, dump, input, options.number) {
-        Ok(start) => {
+    match read_first_time(alloc, dump, input, options.number) {
+        Ok(first_time) => {
             input.take_first(count);
-            part_of_body(alloc, options, dump, input, reader, start)
+            part_of_body(alloc, options, dump, input, reader, first_time)
         }
         Err(refusal) => Err(NoPart::Refused(refusal)),
     }

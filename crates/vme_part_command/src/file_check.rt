@@ -40,11 +40,11 @@ pub(crate) struct FileCheck {
 
 /// Judges the steps that follow.
 fn judge_more(alloc: Global, file: FileSoFar, steps: &[Step]) -> Result<FileSoFar, AllocError>
-    requires { (number : ℕ) × (listing : Bool) × (start : Option ℕ) × (t : Trace)
-        × IsFileSoFar number listing start file t × HasFewNodes file t × FileMayGoOn t steps.now }
-    ensures so_far { (number : ℕ) (listing : Bool) (start : Option ℕ) (t : Trace)
-        → IsFileSoFar number listing start file t → FileMayGoOn t steps.now
-        → IfOk result (λ file. IsFileSoFar number listing start file (with_steps t steps.now)) }
+    requires { (number : ℕ) × (listing : Bool) × (first_time : Option ℕ) × (t : Trace)
+        × IsFileSoFar number listing first_time file t × HasFewNodes file t × FileMayGoOn t steps.now }
+    ensures so_far { (number : ℕ) (listing : Bool) (first_time : Option ℕ) (t : Trace)
+        → IsFileSoFar number listing first_time file t → FileMayGoOn t steps.now
+        → IfOk result (λ file. IsFileSoFar number listing first_time file (with_steps t steps.now)) }
     ensures few { (t : Trace) → HasFewNodes file t → length steps.now ≡ 16384
         → IfOk result (λ file. HasFewNodes file (with_steps t steps.now)) }
 {
@@ -61,11 +61,11 @@ fn judge_batches(
     file: FileSoFar,
     pending: Vec<Step>,
 ) -> Result<(FileSoFar, Vec<Step>), AllocError>
-    requires { (number : ℕ) × (listing : Bool) × (start : Option ℕ) × (t : Trace)
-        × IsPending number listing start file pending.items t × MayBeJudged t }
-    ensures { (number : ℕ) (listing : Bool) (start : Option ℕ) (t : Trace)
-        → IsPending number listing start file pending.items t → MayBeJudged t
-        → IfOk result (λ made. IsPending number listing start made.0 made.1.items t) }
+    requires { (number : ℕ) × (listing : Bool) × (first_time : Option ℕ) × (t : Trace)
+        × IsPending number listing first_time file pending.items t × MayBeJudged t }
+    ensures { (number : ℕ) (listing : Bool) (first_time : Option ℕ) (t : Trace)
+        → IsPending number listing first_time file pending.items t → MayBeJudged t
+        → IfOk result (λ made. IsPending number listing first_time made.0 made.1.items t) }
 {
     let mut file = file;
     let mut pending = pending;
@@ -84,11 +84,11 @@ fn judge_all(
     pending: Vec<Step>,
     steps: Vec<Step>,
 ) -> Result<FileSoFar, AllocError>
-    requires { (number : ℕ) × (listing : Bool) × (start : Option ℕ) × (t : Trace)
-        × IsPending number listing start file pending.items t × MayBeJudged (with_steps t steps.items) }
-    ensures { (number : ℕ) (listing : Bool) (start : Option ℕ) (t : Trace)
-        → IsPending number listing start file pending.items t → MayBeJudged (with_steps t steps.items)
-        → IfOk result (λ file. IsFileSoFar number listing start file (with_steps t steps.items)) }
+    requires { (number : ℕ) × (listing : Bool) × (first_time : Option ℕ) × (t : Trace)
+        × IsPending number listing first_time file pending.items t × MayBeJudged (with_steps t steps.items) }
+    ensures { (number : ℕ) (listing : Bool) (first_time : Option ℕ) (t : Trace)
+        → IsPending number listing first_time file pending.items t → MayBeJudged (with_steps t steps.items)
+        → IfOk result (λ file. IsFileSoFar number listing first_time file (with_steps t steps.items)) }
 {
     let mut pending = pending;
     let mut steps = steps;
@@ -99,11 +99,11 @@ fn judge_all(
 
 /// The part of a file whose steps were all given.
 fn part_in(alloc: Global, file: FileSoFar, backplane: u64) -> Result<Part, NoPart>
-    requires { (number : ℕ) × (listing : Bool) × (start : Option ℕ) × (t : Trace)
-        × IsFileSoFar number listing start file t × (malformed_step t ≡ None) }
-    ensures { (number : ℕ) (listing : Bool) (start : Option ℕ) (t : Trace)
-        → IsFileSoFar number listing start file t → malformed_step t ≡ None → limited t ≡ Ok t
-        → FindsOfSteps number listing start backplane t result }
+    requires { (number : ℕ) × (listing : Bool) × (first_time : Option ℕ) × (t : Trace)
+        × IsFileSoFar number listing first_time file t × (malformed_step t ≡ None) }
+    ensures { (number : ℕ) (listing : Bool) (first_time : Option ℕ) (t : Trace)
+        → IsFileSoFar number listing first_time file t → malformed_step t ≡ None → limited t ≡ Ok t
+        → FindsOfSteps number listing first_time backplane t result }
 {
     match file.into_part(alloc, backplane) {
         Ok(part) => {
@@ -120,19 +120,19 @@ fn part_in(alloc: Global, file: FileSoFar, backplane: u64) -> Result<Part, NoPar
 
 impl FileCheck {
     /// The state before the first step of a dump that is the file `number`, with marks (`listing`) or without. The dump
-    /// has the first time `start`, if it has one, and the levels `opening` before any change.
+    /// has the first time `first_time`, if it has one, and the levels `opening` before any change.
     pub fn new(
         alloc: Global,
         number: u32,
         listing: bool,
-        start: Option<u64>,
+        first_time: Option<u64>,
         opening: &Lines,
     ) -> FileCheck
-        ensures taken { HasTakenSteps number listing start result (record { opening = opening.now; steps = [] }) }
+        ensures taken { HasTakenSteps number listing first_time result (record { opening = opening.now; steps = [] }) }
         ensures whole { length opening.now.levels ≡ line_count }
     {
         FileCheck {
-            file: FileSoFar::new(number, listing, start, opening),
+            file: FileSoFar::new(number, listing, first_time, opening),
             pending: Vec::new(alloc),
             count: 0,
             is_too_long: false,
@@ -158,11 +158,11 @@ impl FileCheck {
 
     /// Takes the steps that follow.
     pub fn take(self, alloc: Global, steps: Vec<Step>) -> Result<FileCheck, AllocError>
-        requires { (number : ℕ) × (listing : Bool) × (start : Option ℕ) × (t : Trace)
-            × HasTakenSteps number listing start self t × (malformed_step (with_steps t steps.items) ≡ None) }
-        ensures { (number : ℕ) (listing : Bool) (start : Option ℕ) (t : Trace)
-            → HasTakenSteps number listing start self t → malformed_step (with_steps t steps.items) ≡ None
-            → IfOk result (λ check. HasTakenSteps number listing start check (with_steps t steps.items)) }
+        requires { (number : ℕ) × (listing : Bool) × (first_time : Option ℕ) × (t : Trace)
+            × HasTakenSteps number listing first_time self t × (malformed_step (with_steps t steps.items) ≡ None) }
+        ensures { (number : ℕ) (listing : Bool) (first_time : Option ℕ) (t : Trace)
+            → HasTakenSteps number listing first_time self t → malformed_step (with_steps t steps.items) ≡ None
+            → IfOk result (λ check. HasTakenSteps number listing first_time check (with_steps t steps.items)) }
     {
         let mut check = self;
         if !check.counts(steps.len()) {
@@ -187,11 +187,11 @@ impl FileCheck {
 
     /// The part of the file, whose last steps are `steps`. `backplane` is the sum of the backplane.
     pub fn finish(self, alloc: Global, steps: Vec<Step>, backplane: u64) -> Result<Part, NoPart>
-        requires { (number : ℕ) × (listing : Bool) × (start : Option ℕ) × (t : Trace)
-            × HasTakenSteps number listing start self t × (malformed_step (with_steps t steps.items) ≡ None) }
-        ensures { (number : ℕ) (listing : Bool) (start : Option ℕ) (t : Trace)
-            → HasTakenSteps number listing start self t → malformed_step (with_steps t steps.items) ≡ None
-            → FindsOfSteps number listing start backplane (with_steps t steps.items) result }
+        requires { (number : ℕ) × (listing : Bool) × (first_time : Option ℕ) × (t : Trace)
+            × HasTakenSteps number listing first_time self t × (malformed_step (with_steps t steps.items) ≡ None) }
+        ensures { (number : ℕ) (listing : Bool) (first_time : Option ℕ) (t : Trace)
+            → HasTakenSteps number listing first_time self t → malformed_step (with_steps t steps.items) ≡ None
+            → FindsOfSteps number listing first_time backplane (with_steps t steps.items) result }
     {
         let mut check = self;
         if !check.counts(steps.len()) {

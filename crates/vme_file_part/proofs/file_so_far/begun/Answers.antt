@@ -27,7 +27,8 @@ returns-clause-stands c =
     let rest = c.steps_of_file-steps.result.now in
     subst (λ (b : Block). IfOk made (λ s. StandsForFile c.args.listing (segment_value s) b))
     (ap (λ (o : Levels). block_of number o rest) behind.opening
-    ∙ ap (λ (l : List Step). block_of number (opening_of number c.args.start c.args.opening.now c.args.steps.now) l)
+    ∙ ap (λ (l : List Step).
+    block_of number (opening_of number c.args.first_time c.args.opening.now c.args.steps.now) l)
     behind.steps) c.segment_of.ensures.stands
 
 pub returns-clause-refused : goal.returns-clause-refused

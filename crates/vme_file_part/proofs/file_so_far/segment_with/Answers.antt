@@ -18,7 +18,7 @@ with_more-requires c =
     let (t, h, may) = c.requires.found in
     let number = c.args.number in
     let listing = c.args.listing in
-    let start = c.args.start in (
+    let start = c.args.first_time in (
       opening_of number start t.opening t.steps,
       steps_of number start t.steps,
       StandsForFile-so_far number listing start c.args.opening.now c.args.segment t h c.in-Some.segment c.in-Some.is,
@@ -30,7 +30,7 @@ pub returns-in-Some-clause-found : goal.returns-in-Some-clause-found
 returns-in-Some-clause-found c t h may =
     let number = c.args.number in
     let listing = c.args.listing in
-    let start = c.args.start in
+    let start = c.args.first_time in
     let opening = c.args.opening.now in
     let y = c.args.steps.now in
     IfOk-weaker c.with_more.result _ _
@@ -43,14 +43,14 @@ returns-in-Some-clause-found c t h may =
 pub begun-requires : goal.begun-requires
 begun-requires c =
     let (t, h, may) = c.requires.found in
-    FileMayGoOn-first_steps c.args.number c.args.listing c.args.start c.args.opening.now c.args.segment t h c.in-None.is
-    c.args.steps.now may
+    FileMayGoOn-first_steps c.args.number c.args.listing c.args.first_time c.args.opening.now c.args.segment t h
+    c.in-None.is c.args.steps.now may
 
 pub returns-in-None-clause-found : goal.returns-in-None-clause-found
 returns-in-None-clause-found c t h may =
     IfOk-weaker c.begun.result _ _
-    (λ s stands. IsFoundOfFile-first_steps c.args.number c.args.listing c.args.start c.args.opening.now c.args.segment t
-    h
+    (λ s stands. IsFoundOfFile-first_steps c.args.number c.args.listing c.args.first_time c.args.opening.now
+    c.args.segment t h
     c.in-None.is c.args.steps.now s c.requires.some stands) c.begun.ensures.stands
 
 pub returns-in-Some-clause-refused : goal.returns-in-Some-clause-refused

@@ -15,13 +15,13 @@ judge_body-requires g c =
     let is = c.opening_of.ensures.is in (
       o.number,
       o.listing,
-      c.args.start,
+      c.args.first_time,
       record {
         sound = IsSound-unread r c.requires c.opening_of.ensures.few
             (ap (λ (l : Levels). length l.levels) (sym is) ∙ c.new-check.ensures.whole);
-        taken = subst (λ (t : Trace). HasTakenSteps o.number o.listing c.args.start c.new-check.result t)
+        taken = subst (λ (t : Trace). HasTakenSteps o.number o.listing c.args.first_time c.new-check.result t)
             (given-unread r c.requires)
-            (subst (λ (v : Levels). HasTakenSteps o.number o.listing c.args.start c.new-check.result
+            (subst (λ (v : Levels). HasTakenSteps o.number o.listing c.args.first_time c.new-check.result
             (record { opening = v; steps = [] })) is c.new-check.ensures.taken);
       },
     )
@@ -36,12 +36,12 @@ returns g c binding old at limit =
     let o = c.args.options in
     let r = c.args.reader in
     let is = c.opening_of.ensures.is in
-    let judged : IsFileJudged o.number o.listing c.args.start r c.new-check.result = record {
+    let judged : IsFileJudged o.number o.listing c.args.first_time r c.new-check.result = record {
       sound = IsSound-unread r c.requires c.opening_of.ensures.few
           (ap (λ (l : Levels). length l.levels) (sym is) ∙ c.new-check.ensures.whole);
-      taken = subst (λ (t : Trace). HasTakenSteps o.number o.listing c.args.start c.new-check.result t)
+      taken = subst (λ (t : Trace). HasTakenSteps o.number o.listing c.args.first_time c.new-check.result t)
           (given-unread r c.requires)
-          (subst (λ (v : Levels). HasTakenSteps o.number o.listing c.args.start c.new-check.result
+          (subst (λ (v : Levels). HasTakenSteps o.number o.listing c.args.first_time c.new-check.result
           (record { opening = v; steps = [] })) is c.new-check.ensures.taken);
     } in
-    c.judge_body.ensures binding o c.args.start old judged at limit (c.in-Ok.ensures ∙ ap backplane_of is)
+    c.judge_body.ensures binding o c.args.first_time old judged at limit (c.in-Ok.ensures ∙ ap backplane_of is)

@@ -16,7 +16,7 @@ pub returns-clause-so_far : goal.returns-clause-so_far
 returns-clause-so_far c number listing start t h may = record {
   number_is = h.number_is;
   listing_is = h.listing_is;
-  start_is = h.start_is;
+  first_time_is = h.first_time_is;
   found = record {
     opened = h.found.opened;
     found = IsFoundOfFile-file number listing start c.args.self t h c.in_ok-segment.segment _

@@ -1,6 +1,6 @@
 use Rattle.vcd_read.specs.Meaning.{dump_of}
-use Rattle.vcd_start.proofs.StartLemmas.{ReadFailsAs-no_result}
-use Rattle.vcd_start.proofs.start.start_by_tokens.Goals as goal
+use Rattle.vcd_start.proofs.FirstTimeLemmas.{ReadFailsAs-no_result}
+use Rattle.vcd_start.proofs.first_time.first_time_by_tokens.Goals as goal
 
 pub returns-in_ok-unless_memory-in-Err : goal.returns-in_ok-unless_memory-in-Err
 returns-in_ok-unless_memory-in-Err c text more same dump whole =

@@ -23,8 +23,8 @@ use Rattle.vcd_read.proofs.DumpLemmas.{contents_of_header, dump_of-whole_header,
 use Rattle.vcd_read.proofs.DumpLemmas.{with_variables}
 use Rattle.vcd_read.proofs.CurrentValues.{CurrentValues}
 use Rattle.vcd_read.proofs.BodyFoldLemmas.{Ends, Follows, ReadFails-followed, Follows-fold_body}
-use Rattle.vcd_start.specs.Starts.{first_time_of, start_of}
-use Rattle.vcd_start.specs.StartReading.{LeadsToFirstTime, first_time_kept, first_time_or}
+use Rattle.vcd_start.specs.FirstTimes.{first_time_of, first_time_of_dump}
+use Rattle.vcd_start.specs.FirstTimeReading.{LeadsToFirstTime, first_time_kept, first_time_or}
 
 -- ---- the first time of instants
 
@@ -36,7 +36,7 @@ first_time_of-push (x ∷ xs) i = refl
 
 -- the first time that is known is that of the instants
 abbrev HasFirst : List Instant → CurrentValues → Option ℕ → Type 0
-HasFirst done current start = start ≡ first_time_of done
+HasFirst done current first_time = first_time ≡ first_time_of done
 
 -- the fold over a body follows its instants with their first time
 Follows-first_time : (nets : List Net) (body : List Token)
@@ -89,10 +89,11 @@ module _ (text : List ℕ) (ts : List Token) (same : tokens text ≡ ts) where
     instants-of_dump variables dump (Err fault) e = absurd (cc)
 
     -- the fold over the body gives the first time of the dump
-    pub fold_body-start_of : header_of without_variables text (nothing_declared tt) ts ≡ Ok (defined h tt)
+    pub fold_body-first_time_of_dump : header_of without_variables text (nothing_declared tt) ts ≡ Ok (defined h tt)
         → (dump : Contents)
-        → dump_of text ≡ Ok dump → fold_body first_time_kept first_time_or h.nets None h.body ≡ Ok (start_of dump)
-    fold_body-start_of is dump whole =
+        → dump_of text ≡ Ok dump
+        → fold_body first_time_kept first_time_or h.nets None h.body ≡ Ok (first_time_of_dump dump)
+    fold_body-first_time_of_dump is dump whole =
         let (variables, found) = whole_header-variables (whole_header text) (sym header_of-whole_header ∙ is) in
         let by_header = dump_of-whole_header text (defined h variables) found in
         first_time-followed (instants_from h.nets h.body) (fold_body first_time_kept first_time_or h.nets None h.body)
@@ -185,7 +186,7 @@ module _ (r : Reached (Option ℕ)) (head : Headed) (nets : r.nets ≡ head.nets
           → (dump : Contents) → dump_of text ≡ Ok dump → LeadsToFirstTime next more dump
       LeadsToFirstTime-read next goes dump whole =
           ap (λ (w : Result (State (Option ℕ)) VcdFault). w >>= at_end first_time_or) (sym goes) ∙ rest_of-unread more
-          ∙ fold_body-start_of text (ts ++ more) same (going_on head more) is dump whole
+          ∙ fold_body-first_time_of_dump text (ts ++ more) same (going_on head more) is dump whole
 
       -- a fault of the items is a fault at the end of the body
       ReadFailsAs-at_end : (line : ℕ) (kind : FaultKind) (w : Result (State (Option ℕ)) VcdFault)
@@ -214,11 +215,11 @@ ReadFailsAs-no_result read line kind other fails y is = absurd (cc)
 -- ---- the end
 
 -- at the end of the body, the outcome is the first time of the dump
-pub start_of-outcome : (r : Reached (Option ℕ)) (time : Option ℕ) (dump : Contents)
+pub first_time_of_dump-outcome : (r : Reached (Option ℕ)) (time : Option ℕ) (dump : Contents)
     → outcome_of first_time_kept first_time_or r ≡ Ok time
-    → LeadsToFirstTime r [] dump → start_of dump ≡ time
-start_of-outcome r time dump gives comes =
-    let same : ◌≡◌ {A = Result (Option ℕ) VcdFault} (Ok (start_of dump)) (Ok time) = sym comes ∙ gives in cc
+    → LeadsToFirstTime r [] dump → first_time_of_dump dump ≡ time
+first_time_of_dump-outcome r time dump gives comes =
+    let same : ◌≡◌ {A = Result (Option ℕ) VcdFault} (Ok (first_time_of_dump dump)) (Ok time) = sym comes ∙ gives in cc
 
 -- ---- the whole tokens of a front
 

@@ -3,15 +3,16 @@ use Rattle.std.proofs.Common.{List, refl, subst, [], ◌≡◌}
 use Rattle.vcd_read.specs.Meaning.{ReadFails}
 use Rattle.vcd_read.specs.Reached.{reached, rest_of}
 use Rattle.vcd_read.specs.Tokens.{Token, tokens}
-use Rattle.vcd_start.specs.StartReading.{first_time_kept, first_time_or}
-use Rattle.vcd_start.proofs.StartLemmas.{ReadFails-rest, ReadFails-header, dump_of-faulty_header, LeadsToFirstTime-read}
-use Rattle.vcd_start.proofs.start.read_in.Goals as goal
+use Rattle.vcd_start.specs.FirstTimeReading.{first_time_kept, first_time_or}
+use Rattle.vcd_start.proofs.FirstTimeLemmas.{ReadFails-rest, ReadFails-header, dump_of-faulty_header}
+use Rattle.vcd_start.proofs.FirstTimeLemmas.{LeadsToFirstTime-read}
+use Rattle.vcd_start.proofs.first_time.read_in.Goals as goal
 
 pub returns-in-Ok-clause-read : goal.returns-in-Ok-clause-read
 returns-in-Ok-clause-read c text more dump same whole =
-    let begun = c.before_body-pieces.ensures in
-    let r = reached (λ v. v.time) c.before_body-pieces.result.0 in
-    let next = reached (λ v. v.time) c.in-Ok.pieces in
+    let begun = c.before_body-reader.ensures in
+    let r = reached (λ v. v.time) c.before_body-reader.result.0 in
+    let next = reached (λ v. v.time) c.in-Ok.reader in
     let header = rw c.in-Ok-Some.field-0-is at c.in-Ok-Some.ensures.header in
     LeadsToFirstTime-read r c.in-Ok-Some.found.head begun.nets begun.progress begun.dump_section begun.place text
     (tokens c.args.front.now) more same (header text more) next
@@ -21,8 +22,8 @@ returns-in-Ok-clause-read c text more dump same whole =
 
 pub returns-in-Ok-Some-clause-fails : goal.returns-in-Ok-Some-clause-fails
 returns-in-Ok-Some-clause-fails c text more same =
-    let begun = c.before_body-pieces.ensures in
-    let r = reached (λ v. v.time) c.before_body-pieces.result.0 in
+    let begun = c.before_body-reader.ensures in
+    let r = reached (λ v. v.time) c.before_body-reader.result.0 in
     let fault = c.in-Err-read.fault in
     let header = rw c.in-Ok-Some.field-0-is at c.in-Ok-Some.ensures.header in
     ReadFails-rest r c.in-Ok-Some.found.head begun.nets begun.progress begun.dump_section begun.place text

@@ -2,7 +2,7 @@
 use Rattle.std.proofs.Common.{◌≡◌, []}
 use Rattle.vme_trace.specs.Streams.{Reading}
 use Rattle.vme_dump_input.specs.BufferedInputs.{IsReadOn, IsReadTo, reads_left}
-use Rattle.vme_part_command.proofs.first_time.read_start.Given as goal
+use Rattle.vme_part_command.proofs.first_time.read_first_time.Given as goal
 
 abbrev pub invariant-reading : goal.invariant-reading
 invariant-reading g l =

@@ -7,11 +7,11 @@ use vcd_read::ChangeVisitor;
 
 /// A visitor that takes the time of the first instant that ends.
 #[derive(Drop)]
-pub(crate) struct FirstInstant {
+pub(crate) struct FirstTimeVisitor {
     pub time: Option<u64>,
 }
 
-impl FirstInstant {
+impl FirstTimeVisitor {
     /// The time that was taken, if one was.
     pub fn into_time(self) -> Option<u64>
         ensures { result ≡ self.time }
@@ -20,9 +20,9 @@ impl FirstInstant {
     }
 }
 
-impl ChangeVisitor for FirstInstant {
+impl ChangeVisitor for FirstTimeVisitor {
     ghost use Rattle.std.specs.Prelude.{ℕ, Option};
-    ghost use Rattle.vcd_start.specs.StartReading.{first_time_kept, first_time_or};
+    ghost use Rattle.vcd_start.specs.FirstTimeReading.{first_time_kept, first_time_or};
 
     ghost Taken = { Option ℕ };
 

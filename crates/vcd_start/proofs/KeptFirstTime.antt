@@ -12,8 +12,8 @@ use Rattle.vcd_read.specs.Numbers.{number}
 use Rattle.vcd_read.specs.Reached.{Reached}
 use Rattle.vcd_read.specs.BodyFold.{State, BodyFold, advanced, at_end, ended, progress_after, state_at, steps}
 use Rattle.vcd_read.specs.Tokens.{Token}
-use Rattle.vcd_start.specs.Starts.{start_of}
-use Rattle.vcd_start.specs.StartReading.{LeadsToFirstTime, first_time_kept, first_time_or}
+use Rattle.vcd_start.specs.FirstTimes.{first_time_of_dump}
+use Rattle.vcd_start.specs.FirstTimeReading.{LeadsToFirstTime, first_time_kept, first_time_or}
 
 module _ (nets : List Net) (time : ℕ) where
   -- the first time is known, and is `time`
@@ -78,24 +78,24 @@ module _ (nets : List Net) (time : ℕ) where
       by_case false = h
 
   -- the end of the body leaves the first time known
-  at_end-HasTime : (s : State (Option ℕ)) (start : Option ℕ) (c : Result BodyContext VcdFault) → HasTime s.progress
-      → (c >>= λ stood. Ok (ended first_time_or s.progress)) ≡ Ok start → start ≡ Some time
-  at_end-HasTime s start (Ok stood) h is =
-      let same : ended first_time_or s.progress ≡ start = cc in sym same ∙ ended-HasTime s.progress h
-  at_end-HasTime s start (Err fault) h is = absurd (cc)
+  at_end-HasTime : (s : State (Option ℕ)) (first_time : Option ℕ) (c : Result BodyContext VcdFault) → HasTime s.progress
+      → (c >>= λ stood. Ok (ended first_time_or s.progress)) ≡ Ok first_time → first_time ≡ Some time
+  at_end-HasTime s first_time (Ok stood) h is =
+      let same : ended first_time_or s.progress ≡ first_time = cc in sym same ∙ ended-HasTime s.progress h
+  at_end-HasTime s first_time (Err fault) h is = absurd (cc)
 
 -- if a first time is known where reading has come to `r`, it is that of the dump
-pub start_of-known : (r : Reached (Option ℕ)) (time : ℕ) → r.progress.accumulator ≡ Some time → (more : List Token)
-    (dump : Contents) → LeadsToFirstTime r more dump → start_of dump ≡ Some time
-start_of-known r time has more dump comes =
+pub first_time_of_dump-known : (r : Reached (Option ℕ)) (time : ℕ) → r.progress.accumulator ≡ Some time
+    → (more : List Token) (dump : Contents) → LeadsToFirstTime r more dump → first_time_of_dump dump ≡ Some time
+first_time_of_dump-known r time has more dump comes =
     by_steps (steps first_time_kept first_time_or r.nets (state_at r.progress r.dump_section) (body_from r.place more))
     refl comes
   where
     -- whatever reading the items gives, the first time of the dump is the one that is known
     by_steps : (w : Result (State (Option ℕ)) VcdFault)
         → steps first_time_kept first_time_or r.nets (state_at r.progress r.dump_section) (body_from r.place more) ≡ w
-        → (w >>= at_end first_time_or) ≡ Ok (start_of dump) → start_of dump ≡ Some time
+        → (w >>= at_end first_time_or) ≡ Ok (first_time_of_dump dump) → first_time_of_dump dump ≡ Some time
     by_steps (Ok end) is ends =
-        at_end-HasTime r.nets time end (start_of dump) (at_the_end end.context)
+        at_end-HasTime r.nets time end (first_time_of_dump dump) (at_the_end end.context)
         (HasTime-steps r.nets time (body_from r.place more) (state_at r.progress r.dump_section) end has is) ends
     by_steps (Err fault) is ends = absurd (cc)
