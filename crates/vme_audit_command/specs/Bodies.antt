@@ -47,12 +47,12 @@ WritesUntil ended a old new text (Err CannotRead) = WritesPrefix old new text
 WritesUntil ended a old new text (Err (NotWritten CannotWrite)) = FailsToWrite old new text
 WritesUntil ended a old new text (Err (NotWritten Memory)) = WritesPrefix old new text
 
--- The lines `told` were written before. The other lines of what is recorded are written until the body ends.
+-- The lines `before` were written before. The other lines of what is recorded are written until the body ends.
 abbrev pub WritesRest : {A : Type 0} → List ℕ → GivenSteps → List ℕ → TextReading → Trace → Writing → Writing
     → Result A NoOutcome → Type 0
-WritesRest head audit told reading t old new result =
+WritesRest head audit before reading t old new result =
     (text : List ℕ)
-    × (break_lines audit.allowances audit.stop head reading.recorded ≡ told ++ text)
+    × (break_lines audit.allowances audit.stop head reading.recorded ≡ before ++ text)
     × WritesUntil (ended_at audit.allowances audit.stop reading.recorded reading.fault)
     (read_by audit.allowances audit.stop t) old new text result
 

@@ -1,4 +1,7 @@
-//! The body of a dump, audited as it is read.
+//! The body of a dump, audited as it is read. Each function audits some of it by `auditor`, after the steps are settled
+//! by `settler` if there is a skew. It writes a line for each break to `out`, which begins with `head`, the name of the
+//! dump, and keeps the break in `case` for the JUnit file. After an error some of the breaks may be audited and
+//! written.
 
 ghost use Rattle.std.specs.Prelude.{◌≡◌, ◌≢◌, ◌≤◌, ℕ, List, false, true, None, Option, IfErr, IfNone, IfOk, IfSome};
 ghost use Rattle.std.specs.Prelude.{OnOk, length};
@@ -30,7 +33,7 @@ use vme_step_reader::{StepReader, StoppedSteps, given_is_a_prefix, times_go_on};
 use vme_stream::Refusal;
 use vme_trace::{Sink, Source, Step};
 
-/// Audits what is settled when `steps` are added and the dump has reached `time`.
+/// Audits the steps that are settled once `steps` come and the dump has reached `time`, in its time units.
 fn audit_settled<O: Sink>(
     alloc: Global,
     auditor: &mut StepAuditor<'_>,
@@ -60,8 +63,8 @@ fn audit_settled<O: Sink>(
     }
 }
 
-/// The effect of a fault of the dump: the audit is refused, unless it has stopped before the fault.
-fn at_fault(auditor: &StepAuditor<'_>, fault: VcdFault) -> Result<(), NoOutcome>
+/// What the audit of a dump comes to at a fault of the dump: it is refused, unless it has stopped before the fault.
+fn outcome_at_fault(auditor: &StepAuditor<'_>, fault: VcdFault) -> Result<(), NoOutcome>
     ensures stopped { malformed_step auditor.now.recording ≡ None
         → OnOk result (has_stopped auditor.now ≡ true) }
     ensures refused { malformed_step auditor.now.recording ≡ None
@@ -75,7 +78,8 @@ fn at_fault(auditor: &StepAuditor<'_>, fault: VcdFault) -> Result<(), NoOutcome>
     }
 }
 
-/// Audits the steps before a fault of the dump.
+/// Audits the steps before a fault of the dump, which isn't lack of memory. If the audit stops before it, the fault
+/// isn't reported.
 fn audit_faulty<O: Sink>(
     alloc: Global,
     auditor: &mut StepAuditor<'_>,
@@ -98,12 +102,13 @@ fn audit_faulty<O: Sink>(
     times_go_on();
     let StoppedSteps { steps, fault, time } = stopped;
     match audit_settled(alloc, auditor, settler, steps, time, head, case, out) {
-        Ok(()) => at_fault(auditor, fault),
+        Ok(()) => outcome_at_fault(auditor, fault),
         Err(fault) => Err(NoOutcome::NotWritten(fault)),
     }
 }
 
-/// Audits the steps before a fault. If the audit stops before the fault, the fault isn't reported.
+/// Audits the steps before a fault of the dump, or reports lack of memory. If the audit stops before the fault, the
+/// fault isn't reported.
 fn audit_stopped<O: Sink>(
     alloc: Global,
     auditor: &mut StepAuditor<'_>,
@@ -131,7 +136,7 @@ fn audit_stopped<O: Sink>(
 }
 
 /// The reader and the count with which reading continues, unless the audit has stopped.
-fn going_on(
+fn next_reader(
     auditor: &StepAuditor<'_>,
     reader: StepReader,
     count: usize,
@@ -175,7 +180,7 @@ fn audit_piece<O: Sink>(
         Ok((reader, steps, count)) => {
             let time = reader.time();
             match audit_settled(alloc, auditor, settler, steps, time, head, case, out) {
-                Ok(()) => Ok(going_on(auditor, reader, count)),
+                Ok(()) => Ok(next_reader(auditor, reader, count)),
                 Err(fault) => Err(NoOutcome::NotWritten(fault)),
             }
         }
@@ -188,7 +193,7 @@ fn audit_piece<O: Sink>(
     }
 }
 
-/// Audits the last bytes of a body.
+/// Audits the last bytes of a body, up to its end.
 pub(crate) fn audit_last<O: Sink>(
     alloc: Global,
     reader: StepReader,
@@ -219,7 +224,7 @@ pub(crate) fn audit_last<O: Sink>(
     }
 }
 
-/// Audits the last steps.
+/// Audits the last steps of a dump, and what wasn't settled before.
 fn audit_ended<O: Sink>(
     alloc: Global,
     auditor: &mut StepAuditor<'_>,

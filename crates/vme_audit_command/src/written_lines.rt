@@ -18,7 +18,9 @@ use vme_trace::{Sink, Step};
 /// Why not all of a text is written.
 #[derive(Clone, Copy, Debug)]
 pub(crate) enum WriteFault {
+    /// Memory ran out.
     Memory,
+    /// A write failed.
     CannotWrite,
 }
 
@@ -35,12 +37,15 @@ impl From<AllocError> for WriteFault {
 /// Why the audit of a dump has no outcome.
 #[derive(Clone, Copy, Debug)]
 pub(crate) enum NoOutcome {
+    /// The dump is refused, e.g. for a fault.
     Refused(Refusal),
+    /// A read of the dump failed, or too many reads gave bytes.
     CannotRead,
+    /// Not all lines are written.
     NotWritten(WriteFault),
 }
 
-/// Writes `bytes` to `out`.
+/// Writes `bytes` to `out`. After an error a prefix of them is written.
 pub(crate) fn write_text<O: Sink>(out: &mut O, bytes: &[u8]) -> Result<(), WriteFault>
     ensures { WritesText (O.writing out.old) (O.writing out.new) result bytes.now }
 {
@@ -50,7 +55,7 @@ pub(crate) fn write_text<O: Sink>(out: &mut O, bytes: &[u8]) -> Result<(), Write
     }
 }
 
-/// Writes the line of a break, and keeps it in the test case.
+/// Writes the line of a break, which begins with `head`, and keeps the break in the test case.
 fn write_break<O: Sink>(
     alloc: Global,
     found: &CategorizedBreak,

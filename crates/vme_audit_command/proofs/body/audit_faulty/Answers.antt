@@ -31,15 +31,15 @@ returns-in-Ok-clause-ends g c = λ skew r rest h stops.
     let now : malformed_step later.recording ≡ None = ap (λ a. malformed_step a.recording) given ∙ on.formed in
     subst (λ x. WritesRest {A = Unit {0}} c.args.head.now audit (lines_of c.args.head.now audit)
     (settled_by skew (whole_reading r rest)) x (g.O.Sink.writing c.args.out.now)
-    (g.O.Sink.writing c.audit_settled.new.out) c.at_fault.result) (sym (ap (λ a. a.recording) given))
+    (g.O.Sink.writing c.audit_settled.new.out) c.outcome_at_fault.result) (sym (ap (λ a. a.recording) given))
     (WritesRest-fault c.args.head.now audit (settled_by skew (whole_reading r rest)) (g.O.Sink.writing c.args.out.now)
-    (g.O.Sink.writing c.audit_settled.new.out) fault t c.at_fault.result
+    (g.O.Sink.writing c.audit_settled.new.out) fault t c.outcome_at_fault.result
     (settled_by-stopped law.follows law.within law.on skew settler audit r h stopped rest stops c.requires)
     (fault-stopped law.follows law.within law.on skew settler audit r h stopped rest stops c.requires) c.requires
-    (subst (λ a. OnOk c.at_fault.result (is_stopped a.allowances a.stop a.recording ≡ true)) given
-    (c.at_fault.ensures.stopped now))
-    (subst (λ a. IfErr c.at_fault.result (λ why. (why ≡ Refused (BadDump fault))
-    × (is_stopped a.allowances a.stop a.recording ≡ false))) given (c.at_fault.ensures.refused now))
+    (subst (λ a. OnOk c.outcome_at_fault.result (is_stopped a.allowances a.stop a.recording ≡ true)) given
+    (c.outcome_at_fault.ensures.stopped now))
+    (subst (λ a. IfErr c.outcome_at_fault.result (λ why. (why ≡ Refused (BadDump fault))
+    × (is_stopped a.allowances a.stop a.recording ≡ false))) given (c.outcome_at_fault.ensures.refused now))
     (c.in-Ok.ensures.writes skew r.given from h.comes to))
 
 pub returns-in-Err-clause-ends : goal.returns-in-Err-clause-ends
@@ -68,5 +68,5 @@ returns-in-Ok-clause-kept g c = λ skew r rest h stops.
     let t = settled_so_far skew stopped.time (with_steps r.given steps) in
     let to = GoOnTo-stopped law.follows law.within law.on skew settler audit r h stopped rest stops c.requires in
     let on = ExtendsTo-next skew settler r.given from audit.recording h.comes steps stopped.time to in
-    OnOk-any (IsLater audit later) c.at_fault.result
+    OnOk-any (IsLater audit later) c.outcome_at_fault.result
     (IsLater-given_recording audit later t (c.in-Ok.ensures.given skew r.given from h.comes to) on.formed)

@@ -29,9 +29,9 @@ returns-in-Ok-audit_settled-clause-takes g c = λ skew h.
     (g.O.Sink.writing c.args.out.now) (g.O.Sink.writing c.audit_settled.new.out)
     (c.in-Ok-audit_settled.ensures.given skew r.given from h.comes to)
     (c.in-Ok-audit_settled.ensures.writes skew r.given from h.comes to)
-    c.stop_is_final.ensures.stays c.stop_is_final.ensures.read c.going_on.result made.within
+    c.stop_is_final.ensures.stays c.stop_is_final.ensures.read c.next_reader.result made.within
     (c.in-Ok-audit_settled.ensures.comes skew r.given from h.comes to)
-    c.going_on.ensures.goes c.going_on.ensures.stopped
+    c.next_reader.ensures.goes c.next_reader.ensures.stopped
 
 pub returns-in-Err-audit_settled-clause-takes : goal.returns-in-Err-audit_settled-clause-takes
 returns-in-Err-audit_settled-clause-takes g c = λ skew h rest.
@@ -76,7 +76,7 @@ returns-in-Ok-audit_settled-clause-kept g c = λ skew h.
     c.in-Ok.reader
     steps c.in-Ok.count c.args.bytes.now made.taken made.given time c.time-time.ensures made.formed in
     let on = ExtendsTo-next skew settler r.given from audit.recording h.comes steps time to in
-    IfNone-IsLater audit c.audit_settled.new.auditor c.going_on.result
+    IfNone-IsLater audit c.audit_settled.new.auditor c.next_reader.result
     (IsLater-given_recording audit c.audit_settled.new.auditor (settled_so_far skew time (with_steps r.given steps))
     (c.in-Ok-audit_settled.ensures.given skew r.given from h.comes to) on.formed)
 
