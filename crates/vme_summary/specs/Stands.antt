@@ -1,4 +1,5 @@
--- For which blocks a span stands, and what it gives of them.
+-- For which blocks a span stands, and what it gives of them. A span has an extent, i.e. the numbers, the levels and the
+-- times at which its blocks begin and end, and a summary of their steps.
 use Rattle.std.specs.Prelude.{◌≡◌, ◌↔◌, ℕ, ◌≤◌, List, [], ◌∷◌, ◌++◌, length, Option, Some, None, option_map}
 use Rattle.vme_trace.specs.Trace.{Trace}
 use Rattle.vme_trace.specs.WellFormed.{malformed_step}
@@ -13,7 +14,8 @@ use Rattle.vme_summary.specs.Standing.{StandFor, StandForBlocks}
 use Rattle.vme_summary.specs.Summaries.{summary_steps}
 use Rattle.vme_summary.specs.declared.span.Span.{Span}
 
--- a span stands for blocks: it has their extent, and its summary is one of all their steps, after the first opening
+-- a span stands for blocks: it has their extent, and its summary is one of all their steps, after the levels with which
+-- the first block opens
 abbrev pub SpanStandsFor : Span → List Block → Type 0
 SpanStandsFor s blocks = StandFor s.extent s.summary blocks
 
@@ -33,11 +35,11 @@ step_count s = summary_steps s.summary
 abbrev pub StandsForBoth : Span → Span → Span → Type 0
 StandsForBoth s t r = (x y : List Block) → SpanStandsFor s x → SpanStandsFor t y → SpanStandsFor r (x ++ y)
 
--- for all blocks x and y for which s and t stand, `torn` is so exactly if x and then y don't join
+-- for all blocks x and y for which s and t stand, the statement `torn` holds exactly if x and then y don't join
 abbrev pub SaysTorn : Type 0 → Span → Span → Type 0
 SaysTorn torn s t = (x y : List Block) → SpanStandsFor s x → SpanStandsFor t y → (torn ↔ ¬ BlocksJoin (x ++ y))
 
--- f of the recording that blocks make, if there are any blocks
+-- what f gives of the recording that blocks make, if there are any blocks
 abbrev pub recorded : {A : Type 0} → (Trace → A) → List Block → Option A
 recorded f blocks = option_map f (joined_trace blocks)
 

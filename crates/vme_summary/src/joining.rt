@@ -15,9 +15,9 @@ use std::alloc::Global;
 #[derive(Clone, Copy, Debug, PartialEq, Eq)]
 pub enum JoinFault {
     /// The second span doesn't continue where the first ends: its first number isn't the next, it doesn't open with the
-    /// lines that the first leaves, slots included, or its first step isn't later than the last one before it.
+    /// levels that the first leaves, slots included, or its first step isn't later than the last one before it.
     Torn,
-    /// An allocation failed.
+    /// Memory ran out.
     Memory,
 }
 

@@ -64,7 +64,7 @@ impl Span {
 
     /// The listing, by the rules in force, of the recording that the blocks make. The first of them has to be the
     /// recording's first. The listing is well placed, so that `read_listing` accepts its text. It takes time
-    /// proportional to the count of marks.
+    /// proportional to the count of marks. It fails if memory runs out.
     pub fn listing(&self, alloc: Global) -> Result<Listing, AllocError>
         requires { first_number self.now ≡ 0 }
         ensures listing { IfOk result (IsListingOf self.now) }
