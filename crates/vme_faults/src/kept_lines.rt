@@ -1,6 +1,6 @@
 //! What is kept of a dump that is read in pieces, for the text of a refusal.
 
-use crate::line_words::{last_word, line_start, up_to_feed, word_from};
+use crate::line_tokens::{last_token, line_start, token_at, up_to_line_feed};
 use memchr::memchr;
 use std::alloc::{AllocError, Global};
 use vcd_read::line_feeds;
@@ -15,21 +15,24 @@ struct KeptLine {
 /// The lines that a later fault may name, and the line of the fault.
 #[derive(Drop)]
 pub struct KeptLines {
-    /// `next` is the number of the line on which the next piece begins, `current` what that line has before it.
+    /// The number of the line on which the next piece begins, counted from 1.
     next: u64,
+    /// What that line has before the next piece.
     current: Vec<u8>,
     /// The line of the last token.
     last: Option<KeptLine>,
-    /// The line of the dump section that is open, and that of the comment that is open.
+    /// The line on which the open dump section begins.
     dump_section: Option<KeptLine>,
+    /// The line on which the open comment begins.
     comment: Option<KeptLine>,
+    /// The bytes of the line of the fault.
     fault_line: Vec<u8>,
     /// Whether the line of the fault is read to its end.
     is_ended: bool,
 }
 
 impl KeptLines {
-    /// Before the first byte.
+    /// What is kept before the first byte of a dump.
     pub fn new(alloc: Global) -> KeptLines {
         KeptLines {
             next: 1,
@@ -42,11 +45,12 @@ impl KeptLines {
         }
     }
 
-    /// Takes a piece without a fault, which ends after a space. The only error is want of memory.
+    /// Takes a piece without a fault, which ends after a space. It fails if memory runs out, and then what is kept is
+    /// of no use.
     pub fn pass(&mut self, alloc: Global, piece: &[u8]) -> Result<(), AllocError> {
         self.end_current(alloc, piece)?;
         self.pass_dump_sections(alloc, piece)?;
-        if let Some(at) = last_word(piece) {
+        if let Some(at) = last_token(piece) {
             self.last = Some(self.line_of(alloc, piece, at)?);
         }
         let last = line_start(piece, piece.len());
@@ -59,8 +63,8 @@ impl KeptLines {
         Ok(())
     }
 
-    /// Keeps the line `number`, that of a fault which is met in `bytes` or at their end. They follow the pieces that
-    /// were passed. The only error is want of memory.
+    /// Keeps the line `number`, counted from 1: that of a fault which is met in `bytes` or at their end. They follow
+    /// the pieces that were passed. It fails if memory runs out; a part of the line may then be kept.
     pub fn record_fault(&mut self, number: u64, bytes: &[u8]) -> Result<(), AllocError> {
         self.fault_line.clear();
         match number.checked_sub(self.next) {
@@ -84,7 +88,7 @@ impl KeptLines {
     fn record_fault_in(&mut self, further: u64, bytes: &[u8]) -> Result<(), AllocError> {
         let mut rest = bytes;
         for _ in 0..further {
-            let (line, is_ended) = up_to_feed(rest);
+            let (line, is_ended) = up_to_line_feed(rest);
             if !is_ended {
                 self.is_ended = true;
                 return Ok(());
@@ -97,18 +101,20 @@ impl KeptLines {
         self.extend_fault(rest)
     }
 
-    /// Adds the rest of the fault's line, as far as `bytes` have it. The only error is want of memory.
+    /// Adds the rest of the fault's line, as far as `bytes` have it. It fails if memory runs out, and then nothing is
+    /// added.
     pub fn extend_fault(&mut self, bytes: &[u8]) -> Result<(), AllocError> {
         if self.is_ended {
             return Ok(());
         }
-        let (line, is_ended) = up_to_feed(bytes);
+        let (line, is_ended) = up_to_line_feed(bytes);
         self.fault_line.extend_from_slice(line)?;
         self.is_ended = is_ended;
         Ok(())
     }
 
-    /// The line of the fault, without its end.
+    /// The line of the fault, without its line feed and a carriage return before it. It is empty before `record_fault`,
+    /// and where the line isn't among those that are kept.
     pub fn fault_line(&self) -> &[u8] {
         match self.fault_line.as_slice() {
             [front @ .., b'\r'] => front,
@@ -116,10 +122,11 @@ impl KeptLines {
         }
     }
 
-    /// The line that has the place `at` of `piece`. If the line doesn't end in `piece`, its bytes aren't kept.
+    /// The line that has the byte at the index `at` of `piece`. If the line doesn't end in `piece`, its bytes aren't
+    /// kept.
     fn line_of(&self, alloc: Global, piece: &[u8], at: usize) -> Result<KeptLine, AllocError> {
         let start = line_start(piece, at);
-        let (line, is_ended) = up_to_feed(piece.get(start..).unwrap_or(b""));
+        let (line, is_ended) = up_to_line_feed(piece.get(start..).unwrap_or(b""));
         let mut bytes = Vec::new(alloc);
         if is_ended {
             if start == 0 {
@@ -136,7 +143,7 @@ impl KeptLines {
 
     /// If the current line ends in `piece`, keeps its bytes where it is the line of the last token, section or comment.
     fn end_current(&mut self, alloc: Global, piece: &[u8]) -> Result<(), AllocError> {
-        let (_, is_ended) = up_to_feed(piece);
+        let (_, is_ended) = up_to_line_feed(piece);
         if !is_ended {
             return Ok(());
         }
@@ -163,23 +170,23 @@ impl KeptLines {
                 return Ok(());
             };
             let at = from.saturating_add(found);
-            if let Some(word) = word_from(piece, at) {
-                self.pass_word(alloc, piece, at, word)?;
+            if let Some(token) = token_at(piece, at) {
+                self.pass_token(alloc, piece, at, token)?;
             }
             from = at.saturating_add(1);
         }
         Ok(())
     }
 
-    /// Opens or closes a dump section or a comment, if `word`, at the place `at` of `piece`, does so.
-    fn pass_word(
+    /// Opens or closes a dump section or a comment, if `token`, at the index `at` of `piece`, does so.
+    fn pass_token(
         &mut self,
         alloc: Global,
         piece: &[u8],
         at: usize,
-        word: &[u8],
+        token: &[u8],
     ) -> Result<(), AllocError> {
-        match word {
+        match token {
             b"$end" if self.comment.is_some() => self.comment = None,
             b"$end" => self.dump_section = None,
             b"$comment" if self.comment.is_none() => {

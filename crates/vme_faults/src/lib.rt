@@ -13,7 +13,7 @@
 //!   which program makes a plain dump of it.
 //! - `nearness`: [`nearest`], the variables whose paths are nearest to one.
 //! - `kept_lines`: [`KeptLines`], which takes the pieces of a dump, and keeps the line of a fault;
-//!   `line_words`: which bytes are spaces, and the words of a line.
+//!   `line_tokens`: which bytes are spaces, and the tokens and lines in some bytes.
 //!
 //! # What is proved
 //!
@@ -42,7 +42,7 @@
 
 mod file_kind;
 mod kept_lines;
-mod line_words;
+mod line_tokens;
 mod nearness;
 mod page;
 mod refusal;

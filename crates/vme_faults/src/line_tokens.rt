@@ -1,12 +1,12 @@
-//! The words of a dump.
+//! The tokens and the lines in some bytes of a dump.
 
-/// Whether a byte is white space, which separates words.
+/// Whether a byte is white space, which separates tokens.
 pub(crate) fn is_space(byte: u8) -> bool {
     matches!(byte, b' ' | b'\t' | b'\n' | b'\r')
 }
 
-/// The place of the first byte of the last word of some bytes.
-pub(crate) fn last_word(bytes: &[u8]) -> Option<usize> {
+/// The index of the first byte of the last token of `bytes`, if they have one.
+pub(crate) fn last_token(bytes: &[u8]) -> Option<usize> {
     let end = bytes.iter().rposition(|byte| !is_space(*byte))?;
     match bytes.get(..end)?.iter().rposition(|byte| is_space(*byte)) {
         Some(before) => Some(before.saturating_add(1)),
@@ -14,8 +14,8 @@ pub(crate) fn last_word(bytes: &[u8]) -> Option<usize> {
     }
 }
 
-/// The word that begins at a place, if one does.
-pub(crate) fn word_from(bytes: &[u8], at: usize) -> Option<&[u8]> {
+/// The token that begins at the index `at`, if one does, as far as `bytes` have it.
+pub(crate) fn token_at(bytes: &[u8], at: usize) -> Option<&[u8]> {
     if let Some(before) = at.checked_sub(1) {
         if !is_space(*bytes.get(before)?) {
             return None;
@@ -28,7 +28,7 @@ pub(crate) fn word_from(bytes: &[u8], at: usize) -> Option<&[u8]> {
     }
 }
 
-/// The place at which the line begins that has the place `at`.
+/// The index of the first byte of the line on which the index `at` lies.
 pub(crate) fn line_start(bytes: &[u8], at: usize) -> usize {
     match bytes
         .get(..at)
@@ -42,7 +42,7 @@ pub(crate) fn line_start(bytes: &[u8], at: usize) -> usize {
 }
 
 /// `bytes` up to the first line feed, and whether there is one.
-pub(crate) fn up_to_feed(bytes: &[u8]) -> (&[u8], bool) {
+pub(crate) fn up_to_line_feed(bytes: &[u8]) -> (&[u8], bool) {
     match bytes.iter().position(|byte| *byte == b'\n') {
         Some(feed) => (bytes.get(..feed).unwrap_or(b""), true),
         None => (bytes, false),
