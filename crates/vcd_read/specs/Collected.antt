@@ -9,9 +9,11 @@ pub record Collected : Type 0 where
   pub done : List Instant
   pub current : List (Option (List Bit))
 
+-- one more change at the current instant
 abbrev pub collected_change : Collected → ℕ → List Bit → Collected
 collected_change c net bits = record c { current = slice_set c.current net (Some bits) }
 
+-- the end of the current instant, which is at `time`
 abbrev pub collected_instant : Collected → ℕ → Collected
 collected_instant c time =
     record {

@@ -20,7 +20,8 @@ pub trait ChangeVisitor: Drop {
     /// What it makes of the end of the current instant, by its time.
     ghost with_instant: { Self.Taken → ℕ → Self.Taken };
 
-    /// Takes a change: a net, how many bits it has, and the digits of its value, which may be fewer.
+    /// Takes a change: a net, how many bits it has, and the digits of its value, which may be fewer. It fails if memory
+    /// runs out; what the visitor made by then isn't said.
     fn change(
         &mut self,
         alloc: Global,
@@ -33,7 +34,8 @@ pub trait ChangeVisitor: Drop {
         ensures { OnOk result (Self.taken self.new
             ≡ Self.with_change (Self.taken self.old) net (extended size digits.now)) };
 
-    /// Ends the current instant, which is at `time`.
+    /// Ends the current instant, which is at `time`, in the time units of the dump. It fails if memory runs out; what
+    /// the visitor made by then isn't said.
     fn end_instant(&mut self, alloc: Global, time: u64) -> Result<(), AllocError>
         ensures { OnOk result (Self.taken self.new ≡ Self.with_instant (Self.taken self.old) time) };
 }

@@ -1,4 +1,4 @@
-//! The nets by their codes.
+//! The nets by their identifier codes.
 
 ghost use Rattle.std.specs.Prelude.{◌≡◌, ◌<◌, ◌++◌, ◌∷◌, [], None, length, IfOk, OnOk, OnErr};
 ghost use Rattle.vcd_read.specs.Header.{net_of, size_of};
@@ -9,7 +9,7 @@ use crate::one_byte_codes::{enter_one_byte_code, no_one_byte_codes, one_byte_net
 use std::alloc::{AllocError, Global};
 use std::marker::Model;
 
-/// The code of a net, and how many bits it has.
+/// The identifier code of a net, and how many bits the net has.
 #[derive(Drop)]
 pub(crate) struct NetCode {
     code: Vec<u8>,
@@ -41,7 +41,7 @@ impl Model for Codes {
 }
 
 impl Codes {
-    /// No code yet.
+    /// No code yet. It fails if memory runs out.
     pub fn new(alloc: Global) -> Result<Codes, AllocError>
         ensures { IfOk result (λ c. c ≡ []) }
     {
@@ -59,7 +59,7 @@ impl Codes {
         self.nets.len()
     }
 
-    /// The net of a code, where it has one.
+    /// The net of a code, if the code has one.
     #[inline(always)]
     pub fn net(&self, code: &[u8]) -> Option<u32>
         ensures { result ≡ net_of self.now code.now }
@@ -88,7 +88,7 @@ impl Codes {
         Some((number, size))
     }
 
-    /// The size of a net.
+    /// The size of a net: how many bits it has.
     #[inline(always)]
     pub fn size(&self, net: u32) -> u32
         requires { net < length self.now }
@@ -97,8 +97,8 @@ impl Codes {
         self.nets[net as usize].size
     }
 
-    /// Adds the net of a new code, which is the number of nets before it. It fails where memory runs out or
-    /// 2^32 - 1 nets are there, and then the nets are as they were.
+    /// Adds a net of `size` bits with a new code, and returns its number: how many nets there are before it. It fails
+    /// if memory runs out or there are 2^32 - 1 nets, and then the nets are as they were.
     pub fn add(&mut self, alloc: Global, code: &[u8], size: u32) -> Result<u32, AllocError>
         requires { net_of self.old code.now ≡ None }
         ensures added { OnOk result (self.new ≡ self.old ++ record { code = code.now; size = size } ∷ []) }

@@ -35,7 +35,7 @@ impl Model for InstantCollector {
 }
 
 impl InstantCollector {
-    /// No instant yet, with room for the values of `nets` nets.
+    /// No instant yet, with room for the values of `nets` nets. It fails if memory runs out.
     pub fn new(alloc: Global, nets: usize) -> Result<InstantCollector, AllocError>
         ensures { IfOk result (λ c. c ≡ record { done = []; current = replicate nets None }) }
     {
@@ -57,7 +57,8 @@ impl InstantCollector {
         self.done
     }
 
-    /// Keeps the value of a net, in place of an earlier one. A net past the end of `current` is passed over.
+    /// Keeps the value of a net, in place of an earlier one. A net past the end of `current` is passed over. It fails
+    /// if memory runs out, and then keeps nothing.
     fn keep(&mut self, net: u32, bits: Bits) -> Result<(), AllocError>
         ensures { OnOk result (self.new ≡ collected_change self.old net bits) }
     {
@@ -95,7 +96,8 @@ impl ChangeVisitor for InstantCollector {
         self.keep(net, bits)
     }
 
-    /// Ends the current instant. All memory is allocated before the first value moves.
+    /// Ends the current instant. It fails if memory runs out, and then no value has moved: all memory is allocated
+    /// before the first one does.
     fn end_instant(&mut self, alloc: Global, time: u64) -> Result<(), AllocError> {
         let mut values = Vec::with_capacity(alloc, self.changed_nets.len())?;
         self.done.reserve(1)?;

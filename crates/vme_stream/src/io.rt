@@ -8,11 +8,11 @@ use crate::count::{GhostCount, ReadCounts};
 use std::io::{ErrorKind, Read, Write};
 use vme_trace::{Failed, Sink, Source};
 
-/// How often a read or a write that a signal interrupts is tried.
+/// How often a read or a write that signals interrupt is tried at most.
 const MOST_TRIES: u32 = 1_000_000;
 
-/// A reader or a writer of std's, how many of its reads gave bytes, how many of these were short, and how many of its
-/// calls have failed.
+/// A reader or a writer of std's. It also counts, for contracts alone, how many of its reads gave bytes, how many of
+/// these gave fewer than they had room for, and how many of its calls failed.
 ///
 /// Its bytes, in contracts, are those of the reader or the writer.
 #[derive(Drop)]
@@ -83,7 +83,7 @@ impl<T: Write> Sink for Io<T> {
     }
 }
 
-/// One read, tried again where a signal interrupts it.
+/// One read, tried again where a signal interrupts it. If it fails, no byte was read.
 fn read_retrying<R: Read>(reader: &mut R, buffer: &mut [u8]) -> Result<usize, Failed>
     ensures bound { ReadsAtMost result buffer.new }
     ensures ok { IfOk result (λ n. Consumes (R.remaining reader.old) (R.remaining reader.new) (take n buffer.new)) }
@@ -103,7 +103,8 @@ fn read_retrying<R: Read>(reader: &mut R, buffer: &mut [u8]) -> Result<usize, Fa
     Err(Failed)
 }
 
-/// One write, tried again where a signal interrupts it. A write that takes none of some bytes failed.
+/// One write, tried again where a signal interrupts it. A write that takes none of some bytes has failed. If it fails,
+/// no byte was written.
 fn write_retrying<W: Write>(writer: &mut W, bytes: &[u8]) -> Result<usize, Failed>
     ensures bound { WritesAtMost result bytes.now }
     ensures some { 0 < length bytes.now → IfOk result (λ n. 0 < n) }

@@ -23,8 +23,8 @@
 //! # Limits
 //!
 //! Blocks of 1 to 65,536 steps, 1 to 64 workers, 1 to 21 slots, the number of a file below 2^32, and
-//! a skew, a number of transfers, of breaks and of files below 2^64. Rules, lines and kinds of
-//! refusals aren't names yet, but texts. Start reading at `words`.
+//! a skew, a number of transfers, of breaks and of files below 2^64. The names of rules, lines and
+//! kinds of refusals are texts: this crate doesn't know which there are. Start reading at `words`.
 #![tactic(auto)]
 
 mod command;
