@@ -77,6 +77,7 @@ StoppedAs line Memory taken time before read = line ≡ 0
 StoppedAs line kind taken time before read =
     (read ≡ Err (record { line = line; kind = kind })) × (taken ≡ before.accumulator) × (time ≡ before.time)
 
+-- reading stops with this fault; the visitor has `taken`, and `time` is the last time before the fault
 abbrev pub Stops : {A : Type 0} → VcdFault → A → ℕ → UntilFault A → Type 0
 Stops fault taken time read = StoppedAs fault.line fault.kind taken time read.reached.progress read.outcome
 
@@ -85,6 +86,7 @@ abbrev pub KeepsAs : {A : Type 0} → FaultKind → A → A → Type 0
 KeepsAs Memory before taken = Unit {0}
 KeepsAs kind before taken = taken ≡ before
 
+-- a call that fails leaves what was taken as it was, unless memory ran out
 abbrev pub KeepsTaken : {A X : Type 0} → A → A → Result X VcdFault → Type 0
 KeepsTaken before taken (Ok _) = Unit {0}
 KeepsTaken before taken (Err fault) = KeepsAs fault.kind before taken

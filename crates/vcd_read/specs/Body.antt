@@ -37,19 +37,23 @@ pub data Shape : Type 0 where
   end_shape : Shape
   none : Shape
 
+-- the word opens a dump section
 abbrev pub opens_dump_section : List ℕ → Bool
 opens_dump_section word =
     bytes_eq word (codes "$dumpvars") || bytes_eq word (codes "$dumpall") || bytes_eq word (codes "$dumpon")
     || bytes_eq word (codes "$dumpoff")
 
+-- the shape of a token that begins with a dollar sign
 abbrev pub keyword_shape : List ℕ → Shape
 keyword_shape word =
     if is_end word then end_shape else if opens_dump_section word then open_shape
     else if bytes_eq word (codes "$comment") then comment else none
 
+-- the digits of a vector: bits, at least one
 abbrev pub are_bits : List ℕ → Bool
 are_bits digits = not (is_empty digits) && list_all is_bit digits
 
+-- the shape of the token whose first byte is b, and whose other bytes are `word`
 abbrev pub shape_from : ℕ → List ℕ → Shape
 shape_from b word =
     if b == 35 then time_shape word
@@ -59,6 +63,7 @@ shape_from b word =
     else if b == 36 then keyword_shape (b ∷ word)
     else none
 
+-- the shape of a token
 abbrev pub shape_of : List ℕ → Shape
 shape_of [] = none
 shape_of (b ∷ word) = shape_from b word
@@ -70,6 +75,7 @@ pub data BodyPlace : Type 0 where
   code_of_foreign : ℕ → BodyPlace
   in_comment : ℕ → BodyPlace
 
+-- the items of the tokens that follow this place; what they leave unfinished is wrong
 unfoldable pub body_from : BodyPlace → List Token → List BodyItem
 body_from ready [] = []
 body_from ready (t ∷ ts) =
@@ -101,13 +107,16 @@ pub record BodyContext : Type 0 where
   pub now : ℕ
   pub dump_section : Option ℕ
 
+-- a time that isn't before the current one
 abbrev pub time_after : ℕ → ℕ → Result ℕ FaultKind
 time_after now time = if nat_lt time now then Err TimeBackwards else Ok time
 
+-- the dump section that opens on this line, where none is open
 abbrev pub opened_at : ℕ → Option ℕ → Result (Option ℕ) FaultKind
 opened_at line None = Ok (Some line)
 opened_at line (Some outer) = Err BadToken
 
+-- no dump section, where one was open
 abbrev pub closed : Option ℕ → Result (Option ℕ) FaultKind
 closed None = Err BadToken
 closed (Some line) = Ok None
@@ -117,6 +126,7 @@ abbrev pub fitting : List Net → ℕ → Option ℕ → Result ℕ FaultKind
 fitting nets digits None = Err UndeclaredCode
 fitting nets digits (Some net) = if nat_lt (size_of nets net) digits then Err TooWide else Ok net
 
+-- what holds after an item, or the fault of the item
 abbrev pub context_after : List Net → BodyContext → BodyItem → Result BodyContext VcdFault
 context_after nets s (time_item line digits) = at_line line
     (time_of digits >>= λ n. time_after s.now n >>= λ now. Ok (record s { now = now }))
@@ -129,6 +139,7 @@ context_after nets s (dump_section_end line) = at_line line
     (closed s.dump_section >>= λ dump_section. Ok (record s { dump_section = dump_section }))
 context_after nets s (wrong line kind) = Err (record { line = line; kind = kind })
 
+-- what holds after all items, or their first fault
 unfoldable pub context_after_all : List Net → BodyContext → List BodyItem → Result BodyContext VcdFault
 context_after_all nets s [] = Ok s
 context_after_all nets s (item ∷ items) = context_after nets s item >>= λ next. context_after_all nets next items

@@ -19,9 +19,11 @@ pub record BodyFold (A : Type 0) : Type 0 where
   -- whether there is an instant at the current time
   pub has_instant : Bool
 
+-- an accumulator, with the time of a clock
 abbrev pub body_fold : {A : Type 0} → A → Clock → BodyFold A
 body_fold a clock = record { accumulator = a; time = clock.time; has_instant = clock.has_instant }
 
+-- how far a body is read: the time and the open dump section, and the fold over the items so far
 pub record State (A : Type 0) : Type 0 where
   pub context : BodyContext
   pub progress : BodyFold A
@@ -46,6 +48,7 @@ at_first a = record {
 
 -- the end of an instant
 module _ {A : Type 0} (with_instant : A → ℕ → A) where
+  -- after a time item: if there is an instant at another time, it has ended
   abbrev pub advanced : BodyFold A → ℕ → BodyFold A
   advanced p t =
       if p.has_instant && not (t == p.time) then record {
@@ -55,6 +58,7 @@ module _ {A : Type 0} (with_instant : A → ℕ → A) where
       }
       else record p { time = t; has_instant = true }
 
+  -- what the end of the body gives: if there is an instant, it ends
   abbrev pub ended : BodyFold A → A
   ended p = if p.has_instant then with_instant p.accumulator p.time else p.accumulator
 
@@ -62,10 +66,12 @@ module _ {A : Type 0} (with_instant : A → ℕ → A) where
   abbrev pub at_end : State A → Result A VcdFault
   at_end s = at_the_end s.context >>= λ stood. Ok (ended s.progress)
 
+-- after a change of a net to these bits
 abbrev pub changed : {A : Type 0} → (A → ℕ → List Bit → A) → BodyFold A → ℕ → List Bit → BodyFold A
 changed with_change p net bits = record p { accumulator = with_change p.accumulator net bits; has_instant = true }
 
 module _ {A : Type 0} (with_change : A → ℕ → List Bit → A) (with_instant : A → ℕ → A) (nets : List Net) where
+  -- the fold after one more item
   abbrev pub progress_after : BodyFold A → BodyItem → BodyFold A
   progress_after p (time_item line digits) = advanced with_instant p (number digits)
   progress_after p (change line digits code) =
@@ -73,10 +79,12 @@ module _ {A : Type 0} (with_change : A → ℕ → List Bit → A) (with_instant
       changed with_change p net (extended (size_of nets net) digits)
   progress_after p item = p
 
+  -- the state after one more item, or the fault of the item
   abbrev pub step : State A → BodyItem → Result (State A) VcdFault
   step s item = context_after nets s.context item
       >>= λ next. Ok (record { context = next; progress = progress_after s.progress item })
 
+  -- the state after all items, or their first fault
   unfoldable pub steps : State A → List BodyItem → Result (State A) VcdFault
   steps s [] = Ok s
   steps s (item ∷ items) = step s item >>= λ next. steps next items

@@ -20,5 +20,6 @@ abbrev pub net_of_code : List (Vec (Option ℕ)) → List (Vec ℕ × ℕ) → L
 net_of_code pages entries code (Some place) = net_at_entry pages place.page place.entry
 net_of_code pages entries code None = lookup (is_at (λ key. slice_cmp nat_cmp code key.items)) entries
 
+-- the net that an index has for a code
 abbrev pub net_at : CodeIndex → List ℕ → Option ℕ
 net_at index code = net_of_code index.short.items index.long.entries code (short_place code)

@@ -3,9 +3,11 @@ use Rattle.std.specs.Prelude.{ℕ, ◌+◌, ◌-◌, ◌*◌, nat_le, ◌&&◌, 
 use Rattle.vcd_read.specs.Header.{is_code_byte, is_code}
 use Rattle.vcd_read.specs.declared.code_index.CodePlace.{CodePlace}
 
+-- the digit of a byte that may be in a code
 abbrev pub digit : ℕ → Option ℕ
 digit byte = if is_code_byte byte then Some (byte - 32) else None
 
+-- the number of a code
 abbrev pub code_number : List ℕ → ℕ
 code_number [] = 0
 code_number (byte ∷ code) = (byte - 32) + 94 * code_number code

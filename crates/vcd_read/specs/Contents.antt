@@ -4,6 +4,7 @@ use Rattle.std.specs.List.Sorted.{IsStrictlyIncreasing}
 use Rattle.vcd_read.specs.declared.dump.Variable.{Variable}
 use Rattle.vcd_read.specs.declared.dump.Instant.{Instant}
 
+-- the variables of a dump, and its instants
 pub record Contents : Type 0 where
   pub variables : List Variable
   pub instants : List Instant

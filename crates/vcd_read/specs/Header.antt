@@ -11,6 +11,7 @@ use Rattle.vcd_read.specs.declared.fault.VcdFault.{VcdFault}
 use Rattle.vcd_read.specs.Tokens.{Token}
 use Rattle.vcd_read.specs.Numbers.{is_empty, is_number, number, number_below}
 
+-- goes on with a value, if there is no error
 infixl 10 ◌>>=◌
 abbrev pub ◌>>=◌ : {A B E : Type 0} → Result A E → (A → Result B E) → Result B E
 (Ok x) >>= f = f x
@@ -29,6 +30,7 @@ pub record Section : Type 0 where
   pub keyword : List ℕ
   pub words : List (List ℕ)
 
+-- an item of a header: a section, or what is none
 pub data HeaderItem : Type 0 where
   whole : Section → HeaderItem
   -- a section that the text ends in, by its line
@@ -41,16 +43,20 @@ pub record Header : Type 0 where
   pub items : List HeaderItem
   pub body : Option (List Token)
 
+-- a header with one more item before its items
 abbrev pub with_item : HeaderItem → Header → Header
 with_item item header = record { items = item ∷ header.items; body = header.body }
 
+-- the word ends a section
 abbrev pub is_end : List ℕ → Bool
 is_end word = bytes_eq word (codes "$end")
 
+-- the token opens a section: it begins with a dollar sign, and isn't `$end`
 abbrev pub opens_section : List ℕ → Bool
 opens_section [] = false
 opens_section (b ∷ word) = b == 36 && not (is_end (b ∷ word))
 
+-- the section is the one that ends the definitions
 abbrev pub ends_definitions : Section → Bool
 ends_definitions section = bytes_eq section.keyword (codes "$enddefinitions")
 
@@ -59,12 +65,15 @@ pub data HeaderPlace : Type 0 where
   between : HeaderPlace
   inside : Section → HeaderPlace
 
+-- the section that a token opens, without words so far
 abbrev pub opened : Token → Section
 opened token = record { line = token.line; keyword = token.bytes; words = [] }
 
+-- a section with one more word
 abbrev pub with_word : Section → List ℕ → Section
 with_word section word = record section { words = section.words ++ word ∷ [] }
 
+-- the header of the tokens that follow this place
 unfoldable pub header_from : HeaderPlace → List Token → Header
 header_from between [] = record { items = []; body = None }
 header_from between (t ∷ ts) =
@@ -97,20 +106,25 @@ pub record Declared (V : Type 0) : Type 0 where
   pub nets : List Net
   pub variables : V
 
+-- the net has this code
 abbrev pub has_code : List ℕ → Net → Bool
 has_code code net = bytes_eq net.code code
 
+-- the number of the net with this code, if there is one
 abbrev pub net_of : List Net → List ℕ → Option ℕ
 net_of nets code = position (has_code code) nets
 
+-- how many bits the net with this number has
 unfoldable pub size_of : List Net → ℕ → ℕ
 size_of [] net = 0
 size_of (n ∷ nets) zero = n.size
 size_of (n ∷ nets) (suc net) = size_of nets net
 
+-- a byte that may be in a code: a visible ASCII character
 abbrev pub is_code_byte : ℕ → Bool
 is_code_byte b = nat_le 33 b && nat_le b 126
 
+-- a word that may be a code
 abbrev pub is_code : List ℕ → Bool
 is_code word = list_all is_code_byte word
 
@@ -124,6 +138,7 @@ joined_by_dots ((b ∷ name) ∷ names) = (b ∷ name) ++ dotted (joined_by_dots
     dotted [] = []
     dotted (c ∷ path) = 46 ∷ c ∷ path
 
+-- the path of a name in the open scopes, the innermost of which is first
 abbrev pub path_of : List (List ℕ) → List ℕ → List ℕ
 path_of scopes name = joined_by_dots (reverse scopes ++ name ∷ [])
 
@@ -143,10 +158,12 @@ index_between text =
 abbrev pub index_count : ℕ × ℕ → ℕ
 index_count index = max index.0 index.1 - min index.0 index.1 + 1
 
+-- the name of a variable, and the numbers of its leftmost and its rightmost bit, if it has an index
 pub record Reference : Type 0 where
   pub name : List ℕ
   pub index : Option (ℕ × ℕ)
 
+-- a text that is all name
 abbrev pub without_index : List ℕ → Reference
 without_index text = record { name = text; index = None }
 
@@ -157,10 +174,12 @@ bracketed text =
     if get_or text (length text - 1) 0 == 93 && list_any (λ b. b == 91) inner
     then Some (before_last (λ b. b == 91) inner, after_last (λ b. b == 91) inner) else None
 
+-- the index that stands between brackets, if it has as many bits as the variable
 abbrev pub index_of : ℕ → List ℕ → Option (ℕ × ℕ)
 index_of size text = option_and_then (λ (index : ℕ × ℕ). if index_count index == size then Some index else None)
     (index_between text)
 
+-- a text as a reference, by what is before its last bracket and in it
 abbrev pub reference_parts : ℕ → List ℕ → Option (List ℕ × List ℕ) → Reference
 reference_parts size text None = without_index text
 reference_parts size text (Some parts) =
@@ -170,6 +189,7 @@ reference_parts size text (Some parts) =
       | Some index ↦ record { name = parts.0; index = Some index }
     ])
 
+-- the reference that a text writes, of a variable of `size` bits
 abbrev pub reference_of : ℕ → List ℕ → Reference
 reference_of size text = reference_parts size text (bracketed text)
 
@@ -206,15 +226,18 @@ var_words (type ∷ size ∷ code ∷ first ∷ others) = do
   if is_code code then Ok (record { size = n; code = code; reference = concat (first ∷ others) }) else Err BadVar
 var_words words = Err BadVar
 
+-- a scope is opened; its words are the type and the name, which is empty if there are no more
 abbrev pub open_scope : {V : Type 0} → Declared V → List (List ℕ) → Declared V
 open_scope d words = record d { scopes = concat (drop 1 words) ∷ d.scopes }
 
+-- the innermost scope is closed, if one is open
 abbrev pub close_scope : {V : Type 0} → Declared V → List (List ℕ) → Result (Declared V) FaultKind
 close_scope d [] = Err ScopeUnderflow
 close_scope d (scope ∷ scopes) = Ok (record d { scopes = scopes })
 
 -- `with_variable` is what a visitor makes of one more variable
 module _ {V : Type 0} (with_variable : V → Variable → V) where
+  -- the section of a variable declares it in the open scopes, and its net if that is new
   abbrev pub declare_var : Declared V → List (List ℕ) → Result (Declared V) FaultKind
   declare_var d words = do
     var ← var_words words
@@ -225,6 +248,7 @@ module _ {V : Type 0} (with_variable : V → Variable → V) where
           (variable_in d.scopes joined.net var.size (reference_of var.size var.reference));
     })
 
+  -- what is declared after one more section, or the fault of the section
   abbrev pub declare_section : Declared V → Section → Result (Declared V) FaultKind
   declare_section d section =
       if bytes_eq section.keyword (codes "$var") then declare_var d section.words

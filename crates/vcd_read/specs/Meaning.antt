@@ -24,6 +24,7 @@ pub record NetChange : Type 0 where
   pub net : ℕ
   pub bits : List Bit
 
+-- a change at the time `now`: its digits are extended to the size of the net
 abbrev pub change_of : List Net → ℕ → List ℕ → List ℕ → NetChange
 change_of nets now digits code =
     let net = unwrap_or (net_of nets code) 0 in
@@ -51,23 +52,29 @@ last_at t net (c ∷ changes) = elim (last_at t net changes) [
   | None ↦ if c.time == t && c.net == net then Some c.bits else None
 ]
 
+-- a net, and its bits
 abbrev pub value_of : ℕ → List Bit → Value
 value_of net bits = record { net = net; bits = bits }
 
+-- the value of a net at the time t, if a change gives it one there
 abbrev pub value_at : ℕ → List NetChange → ℕ → Option Value
 value_at t changes net = option_map (value_of net) (last_at t net changes)
 
+-- the values of the first `count` nets at the time t
 abbrev pub values_at : ℕ → ℕ → List NetChange → List Value
 values_at count t changes = filter_map (value_at t changes) (range_with_len 0 count)
 
+-- the instant at the time t, of `count` nets
 abbrev pub instant_at : ℕ → List NetChange → ℕ → Instant
 instant_at count changes t = record { time = t; values = values_at count t changes }
 
+-- the instants of the items of a body, one for each time, in the order of the text
 abbrev pub instants_of : List Net → List BodyItem → List Instant
 instants_of nets items = map (instant_at (length nets) (changes_from nets 0 items)) (dedup nat_eq (times_from 0 items))
 
 -- ---- the whole text
 
+-- the tokens after the definitions, or the fault that these don't end
 abbrev pub body_of : List ℕ → Option (List Token) → Result (List Token) VcdFault
 body_of text None = Err (record { line = line_after text; kind = NoEndDefinitions })
 body_of text (Some body) = Ok body
@@ -112,6 +119,7 @@ dump_of text =
 
 -- ---- what a reader answers
 
+-- a fault of this kind at this line is what reading gives; lack of memory is at line 0
 abbrev pub ReadFailsAs : {Y : Type 0} → ℕ → FaultKind → Result Y VcdFault → Type 0
 ReadFailsAs line Memory read = line ≡ 0
 ReadFailsAs line kind read = read ≡ Err (record { line = line; kind = kind })

@@ -5,6 +5,7 @@ use Rattle.vcd_read.specs.declared.code_index.CodeIndex.{CodeIndex}
 use Rattle.vcd_read.specs.Header.{Net, net_of}
 use Rattle.vcd_read.specs.CodeIndexes.{net_at}
 
+-- a net by its code and its size, as the grammar has it
 abbrev pub net_code : NetCode → Net
 net_code n = record { code = n.code.items; size = n.size }
 

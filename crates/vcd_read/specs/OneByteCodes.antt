@@ -2,9 +2,11 @@
 use Rattle.std.specs.Prelude.{◌≡◌, ℕ, ◌<◌, List, [], ◌∷◌, Option, None, get_or, length, option_map}
 use Rattle.vcd_read.specs.Header.{Net, net_of, size_of}
 
+-- what the table has for a byte
 abbrev pub one_byte_net_at : List (Option (ℕ × ℕ)) → ℕ → Option (ℕ × ℕ)
 one_byte_net_at table byte = get_or table byte None
 
+-- a net, and its size
 abbrev pub sized_net : List Net → ℕ → ℕ × ℕ
 sized_net nets net = (net, size_of nets net)
 

@@ -21,9 +21,11 @@ pub record Ended : Type 0 where
   pub words : List (List ℕ)
   pub rest : List Token
 
+-- a section with one more word before its words
 abbrev pub after_word : List ℕ → Ended → Ended
 after_word word ended = record { words = word ∷ ended.words; rest = ended.rest }
 
+-- the words up to the end of a section, and the tokens after it, if it ends
 unfoldable pub ended_in : List Token → Option Ended
 ended_in [] = None
 ended_in (t ∷ ts) = elim (is_end t.bytes) [
@@ -80,9 +82,11 @@ pub record Defined (V : Type 0) : Type 0 where
   pub head : Headed
   pub variables : V
 
+-- a header, and what a visitor made of its variables
 abbrev pub defined : {V : Type 0} → Headed → V → Defined V
 defined head variables = record { head = head; variables = variables }
 
+-- what is declared, with the tokens after it
 abbrev pub headed : {V : Type 0} → Declared V → List Token → Defined V
 headed d body = defined (record { nets = d.nets; body = body }) d.variables
 
@@ -92,6 +96,7 @@ module _ {V : Type 0} (with_variable : V → Variable → V) where
   rest_of_header text d header = declare_all with_variable d header.items >>= λ declared. body_of text header.body
       >>= λ body. Ok (headed declared body)
 
+  -- the header of `text`, where `d` is declared and the tokens `ts` are left
   abbrev pub header_of : List ℕ → Declared V → List Token → Result (Defined V) VcdFault
   header_of text d ts = rest_of_header text d (header_from between ts)
 

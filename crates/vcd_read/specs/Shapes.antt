@@ -4,6 +4,7 @@ use Rattle.vcd_read.specs.declared.shape.Shape.TheVariants.{Time, Scalar, Vector
 use Rattle.vcd_read.specs.declared.shape.Shape.TheVariants.{Unknown}
 use Rattle.vcd_read.specs.Body.{Shape, time_shape, scalar, vector, foreign, comment, open_shape, end_shape, none}
 
+-- the shape that is found
 abbrev pub found_shape : FoundShape → Shape
 found_shape (Time digits) = time_shape digits.now
 found_shape (Scalar digit code) = scalar digit.now code.now
