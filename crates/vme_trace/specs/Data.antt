@@ -7,6 +7,7 @@ use Rattle.vme_trace.specs.Levels.{Levels, level_at, is_low, is_high}
 abbrev pub is_odd_byte : ℕ → Bool
 is_odd_byte l = nat_le (D 0) l && nat_le l (D 7)
 
+-- a data line of the even byte, which DS1* strobes
 abbrev pub is_even_byte : ℕ → Bool
 is_even_byte l = nat_le (D 8) l && nat_le l (D 15)
 

@@ -9,15 +9,19 @@ pub record Stretch : Type 0 where
   pub start : ℕ
   pub end : ℕ
 
+-- instant i is judged in the stretch
 abbrev pub is_judged : Stretch → ℕ → Bool
 is_judged stretch i = nat_lt stretch.start i && nat_lt i stretch.end
 
+-- the bus is idle at i
 unfoldable pub is_idle_at : Trace → ℕ → Bool
 is_idle_at t i = is_idle (levels_at t i)
 
+-- the bus is reset at i
 unfoldable pub is_reset_at : Trace → ℕ → Bool
 is_reset_at t i = is_reset (levels_at t i)
 
+-- a control line is unknown at i, and the bus isn't reset
 unfoldable pub loses_control_at : Trace → ℕ → Bool
 loses_control_at t i = loses_control (levels_at t i)
 
@@ -29,6 +33,7 @@ stops_at t i = is_reset_at t i || loses_control_at t i
 unfoldable pub stretch_end : Trace → ℕ → ℕ
 stretch_end t s = unwrap_or (least (stops_at t) (s + 1) (last_instant t + 1)) (last_instant t + 1)
 
+-- the stretch that starts at instant s
 abbrev pub stretch_from : Trace → ℕ → Stretch
 stretch_from t s = record { start = s; end = stretch_end t s }
 

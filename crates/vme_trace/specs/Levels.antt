@@ -6,37 +6,46 @@ use Rattle.vme_trace.specs.LineNumbers.{line_count, AS, BERR, IACK, BBSY, BR, gr
 use Rattle.vme_trace.specs.declared.level.Level.{Level}
 use Rattle.vme_trace.specs.declared.level.Level.TheVariants.{Low, High, Unknown}
 
+-- the number of slots of the backplane, and the level of each line by its number
 pub record Levels : Type 0 where
   pub slots : ℕ
   pub levels : List Level
 
+-- the level of line l
 abbrev pub level_at : Levels → ℕ → Level
 level_at v l = unwrap_or (slice_get v.levels l) Unknown
 
+-- these levels, but x on line l
 abbrev pub set_level : Levels → ℕ → Level → Levels
 set_level v l x = record v { levels = slice_set v.levels l x }
 
+-- the level is low
 abbrev pub is_low : Level → Bool
 is_low Low = true
 is_low High = false
 is_low Unknown = false
 
+-- the level is high
 abbrev pub is_high : Level → Bool
 is_high Low = false
 is_high High = true
 is_high Unknown = false
 
+-- the level is low or high
 abbrev pub is_known : Level → Bool
 is_known Low = true
 is_known High = true
 is_known Unknown = false
 
+-- the levels are equal
 abbrev pub same_level : Level → Level → Bool
 same_level a b = (is_low a && is_low b) || (is_high a && is_high b) || (not (is_known a) && not (is_known b))
 
+-- line l is high
 abbrev pub is_high_on : Levels → ℕ → Bool
 is_high_on v l = is_high (level_at v l)
 
+-- line l is low or high
 abbrev pub is_known_on : Levels → ℕ → Bool
 is_known_on v l = is_known (level_at v l)
 

@@ -32,6 +32,7 @@ line_name l =
     else if nat_lt l SYSRESET then codes "D" ++ two_digits (l - D 0)
     else codes "SYSRESET"
 
+-- line l has this name
 abbrev pub is_line_name : List ℕ → ℕ → Bool
 is_line_name name l = bytes_eq (line_name l) name
 
@@ -39,6 +40,7 @@ is_line_name name l = bytes_eq (line_name l) name
 unfoldable pub line_named : List ℕ → Option ℕ
 line_named name = least (is_line_name name) 0 line_count
 
+-- rule r has this name
 abbrev pub is_rule_name : List ℕ → Rule → Bool
 is_rule_name name r = bytes_eq (rule_name r) name
 

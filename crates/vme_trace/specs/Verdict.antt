@@ -40,6 +40,7 @@ module _ (t : Trace) (stretch : Stretch) where
   unfoldable pub least_break : List Rule → Option Break
   least_break rules = break_before rules (last_instant t + 1)
 
+-- the verdict where something is judged, by the least break
 abbrev pub verdict_on : Option Break → Verdict
 verdict_on None = Conforming
 verdict_on (Some b) = if is_unreadable b.rule then Unreadable b else Broken b
@@ -51,6 +52,7 @@ least_of rules t (stretch ∷ []) = least_break t stretch rules
 least_of rules t (stretch ∷ next
     ∷ stretches) = option_or (least_break t stretch rules) (least_of rules t (next ∷ stretches))
 
+-- the verdict by the rules of a list, of these stretches
 abbrev pub judge : List Rule → Trace → List Stretch → Verdict
 judge rules t [] = NeverIdle
 judge rules t (stretch ∷ stretches) = verdict_on (least_of rules t (stretch ∷ stretches))
@@ -59,5 +61,6 @@ judge rules t (stretch ∷ stretches) = verdict_on (least_of rules t (stretch �
 unfoldable pub verdict_by : List Rule → Trace → Verdict
 verdict_by rules t = judge rules t (judged_stretches t)
 
+-- the verdict by all rules
 abbrev pub verdict : Trace → Verdict
 verdict t = verdict_by all_rules t

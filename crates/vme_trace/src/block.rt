@@ -94,6 +94,7 @@ impl Block {
     }
 }
 
+/// Checks that `steps` may follow `opening`. The error has the index of the first step that may not be where it is.
 pub(crate) fn check_steps(opening: &Lines, steps: &[Step]) -> Result<(), Malformed>
     ensures { MatchResult result (λ _. malformed_step (record { opening = opening.now; steps = steps.now }) ≡ None)
         (λ e. malformed_step (record { opening = opening.now; steps = steps.now }) ≡ Some e.step) }

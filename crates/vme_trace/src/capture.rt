@@ -118,6 +118,7 @@ impl Capture {
             .map_err(|_| CutFault::Memory)
     }
 
+    /// The blocks of `size` steps each, `count` of them; the last may have fewer steps.
     fn blocks(&self, alloc: Global, size: usize, count: usize) -> Result<Vec<Block>, AllocError>
         requires size { 0 < size }
         requires count { count ≡ block_count size self.now }

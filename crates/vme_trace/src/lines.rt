@@ -98,6 +98,7 @@ impl Lines {
         self.at(line.number()).is_same(other.at(line.number()))
     }
 
+    /// The level of the line with the number `number`.
     fn at(&self, number: u8) -> Level
         requires { number < line_count }
         ensures { result ≡ level_at self.now number }
@@ -105,6 +106,7 @@ impl Lines {
         self.levels[number as usize]
     }
 
+    /// Gives a line a level.
     fn put(&mut self, line: Line, level: Level)
         ensures { self.new ≡ set_level self.old line level }
     {
@@ -143,6 +145,7 @@ impl Lines {
         self.level(Line::SYSRESET).is_low()
     }
 
+    /// Whether the line is an unknown control line, and the bus isn't reset.
     fn is_lost(&self, line: Line) -> bool
         ensures { result ≡ is_lost self.now line }
     {

@@ -44,6 +44,7 @@ impl Name {
         name
     }
 
+    /// Appends `byte`.
     fn push(&mut self, byte: u8)
         requires { length self.old < 8 }
         ensures { self.new ≡ self.old ++ byte ∷ [] }
