@@ -16,6 +16,7 @@ includes_resets One = false
 includes_resets Two = false
 includes_resets Three = true
 
+-- a listing
 pub record Listed : Type 0 where
   pub version : Version
   pub rows : List Row

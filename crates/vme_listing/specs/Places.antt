@@ -42,6 +42,8 @@ abbrev pub is_address : ℕ → ℕ → Bool
 is_address modifier address = not (highest_address modifier == 0)
     && nat_lt address (2 ^ (highest_address modifier + 1)) && (address % 2 == 0)
 
+-- a verdict that a listing may have: its numbers are in their ranges, and exactly the breaks of rules that say so are
+-- unreadable
 abbrev pub is_allowed_outcome : ListedVerdict → Bool
 is_allowed_outcome Conforming = true
 is_allowed_outcome NeverIdle = true
@@ -52,6 +54,7 @@ is_allowed_outcome (Unreadable rule instant line) = is_unreadable rule && is_num
 abbrev pub is_allowed_digit : Bool → ℕ → ℕ → Bool
 is_allowed_digit moved digit flag = (moved || (flag == 0)) && ((moved && (flag == 0)) || (digit == 0))
 
+-- the digit at `place` is one that the form of data allows
 abbrev pub is_allowed_digit_in : Lanes → ℕ → Bool
 is_allowed_digit_in a place = is_allowed_digit (is_moved_in a place) (digit_in a place) (flag_in a place)
 
@@ -65,6 +68,7 @@ are_digits_from a place =
 unfoldable pub is_allowed_data : Lanes → Bool
 is_allowed_data a = nat_lt a.value (2 ^ 32) && nat_lt a.unknown 256 && are_digits_from a 0 && are_digits_from a 4
 
+-- the direction is that of a write
 abbrev pub is_write : Direction → Bool
 is_write Read = false
 is_write Write = true
@@ -91,6 +95,7 @@ is_row version (Transfer direction line start cycle answer close lanes) =
 is_row version (PendingTransfer start direction) = is_number start
 is_row version (Verdict outcome) = is_allowed_outcome outcome
 
+-- the row is a start
 abbrev pub is_start : Row → Bool
 is_start (Start instant) = true
 is_start (Reset instant) = false
@@ -103,6 +108,7 @@ is_start (Transfer direction line start cycle answer close lanes) = false
 is_start (PendingTransfer start direction) = false
 is_start (Verdict outcome) = false
 
+-- the row is a reset
 abbrev pub is_reset : Row → Bool
 is_reset (Start instant) = false
 is_reset (Reset instant) = true
@@ -115,6 +121,7 @@ is_reset (Transfer direction line start cycle answer close lanes) = false
 is_reset (PendingTransfer start direction) = false
 is_reset (Verdict outcome) = false
 
+-- the row is the verdict
 abbrev pub is_verdict : Row → Bool
 is_verdict (Start instant) = false
 is_verdict (Reset instant) = false
@@ -127,12 +134,14 @@ is_verdict (Transfer direction line start cycle answer close lanes) = false
 is_verdict (PendingTransfer start direction) = false
 is_verdict (Verdict outcome) = true
 
+-- the verdict is that the bus is never idle
 abbrev pub never_idles : ListedVerdict → Bool
 never_idles Conforming = false
 never_idles NeverIdle = true
 never_idles (Broken rule instant line) = false
 never_idles (Unreadable rule instant line) = false
 
+-- the row is that verdict
 abbrev pub is_never_idle : Row → Bool
 is_never_idle (Start instant) = false
 is_never_idle (Reset instant) = false
@@ -168,6 +177,7 @@ may_follow (Some before) row =
     not (is_verdict before) && not (is_never_idle row)
     && (if is_reset before then is_start row || is_verdict row else not (is_start row))
 
+-- the second place is later than the first, or one of them isn't there
 abbrev pub is_later_place : Option (ℕ × ℕ) → Option (ℕ × ℕ) → Bool
 is_later_place None after = true
 is_later_place (Some before) None = true
@@ -183,6 +193,7 @@ ascends version (Some before) row = is_later_place (place_of version before) (pl
 unfoldable pub follows : Version → Option Row → Row → Bool
 follows version before row = is_row version row && may_follow before row && ascends version before row
 
+-- the row, if there is one, is the verdict
 abbrev pub ends_listing : Option Row → Bool
 ends_listing None = false
 ends_listing (Some row) = is_verdict row
@@ -196,5 +207,6 @@ is_rest version before (row ∷ rows) = follows version before row && is_rest ve
 abbrev pub can_include : Version → List Row → Bool
 can_include version rows = includes_resets version || list_all (λ row. not (is_reset row)) rows
 
+-- the rows of the listing are placed as they may be
 abbrev pub is_well_placed : Listed → Bool
 is_well_placed l = is_rest l.version None l.rows

@@ -57,6 +57,7 @@ abbrev pub IsFaultAfter : List ℕ → ListFault → Version → List Row → Li
 IsFaultAfter text fault version rows rest =
     IsRead text version rows rest × IsUnfinished rows × IsRowFault version rows rest fault
 
+-- some rows were read, and the next one has the fault
 abbrev pub HasFaultAfter : List ℕ → ListFault → Type 0
 HasFaultAfter text fault =
     (version : Version) × (rows : List Row) × (rest : List ℕ) × IsFaultAfter text fault version rows rest
@@ -138,6 +139,7 @@ HoldsOfRead so_far bytes is_rest holds =
 abbrev pub IsTextOfListing : List ℕ → Listed → Type 0
 IsTextOfListing text listing = (is_well_placed listing ≡ true) × (text_of listing ≡ text) × IsOnlyListing text listing
 
+-- a listing by its version and its rows
 abbrev pub listed : Version → List Row → Listed
 listed version rows = record { version = version; rows = rows }
 

@@ -66,13 +66,16 @@ module _ (t : Trace) (stretch : Stretch) (end : ℕ) where
       (least (rises t BBSY) (i + 1) end)
       else []
 
+  -- the row of the cycle that starts at i, if one does; it ends where the address strobe next rises
   unfoldable pub cycle_rows : ℕ → List Row
   cycle_rows i = if cycle_starts t stretch i then cycle_row i (levels_at t i) (least (rises t AS) (i + 1) end)
       (class_of (levels_at t i)) ∷ [] else []
 
+  -- the direction of the transfer that starts at i
   abbrev pub direction_of : ℕ → Direction
   direction_of i = if is_write t stretch i then Write else Read
 
+  -- the answer line that falls at r
   abbrev pub answer_line : ℕ → AnswerLine
   answer_line r = if falls t DTACK r then Dtack else Berr
 
@@ -86,10 +89,12 @@ module _ (t : Trace) (stretch : Stretch) (end : ℕ) where
   answered_row i r (Some cycle) =
       Transfer (direction_of i) (answer_line r) i cycle r (least (strobes_high t) (i + 1) end) (data_of i r)
 
+  -- the row of the transfer that starts at i, by the instant of its answer, if it has one
   abbrev pub transfer_row : ℕ → Option ℕ → Row
   transfer_row i None = PendingTransfer i (direction_of i)
   transfer_row i (Some r) = answered_row i r (cycle_of t stretch r)
 
+  -- the row of the transfer that starts at i, if one does
   unfoldable pub transfer_rows : ℕ → List Row
   transfer_rows i = if transfer_starts t stretch i then transfer_row i (least (answers t stretch i) i end) ∷ [] else []
 
@@ -119,6 +124,7 @@ abbrev pub listed_end : Trace → Option Break → ℕ
 listed_end t None = last_instant t + 1
 listed_end t (Some b) = b.instant
 
+-- the verdict where something is judged, by the least break
 abbrev pub outcome_of : Option Break → ListedVerdict
 outcome_of None = Conforming
 outcome_of (Some b) = if is_unreadable b.rule then Unreadable b.rule b.instant b.line
@@ -129,6 +135,7 @@ abbrev pub listing_before : Trace → List Stretch → Option Break → List Row
 listing_before t stretches found =
     flat_map (rows_of_stretch t (listed_end t found)) stretches ++ Verdict (outcome_of found) ∷ []
 
+-- the rows of the stretches by some rules, with the verdict
 abbrev pub listing_of_stretches : List Rule → Trace → List Stretch → List Row
 listing_of_stretches rules t [] = Verdict NeverIdle ∷ []
 listing_of_stretches rules t (stretch ∷ stretches) = listing_before t (stretch ∷ stretches)

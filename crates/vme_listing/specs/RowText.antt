@@ -109,9 +109,11 @@ row_text (PendingTransfer start direction) =
     codes "transfer " ++ decimal start ++ codes " " ++ direction_text direction ++ codes " pending"
 row_text (Verdict outcome) = verdict_text outcome
 
+-- the byte that ends each line
 abbrev pub line_feed : ℕ
 line_feed = 10
 
+-- the first line of a listing
 abbrev pub header : Version → List ℕ
 header One = codes "vmecheck listing 1" ++ line_feed ∷ []
 header Two = codes "vmecheck listing 2" ++ line_feed ∷ []
