@@ -192,15 +192,15 @@ module _ (finds : FindsFirst) (shows : ShowsMarks) (t : Trace) (ok : malformed_s
   is_of-verdict : (k : RowKind) (v : ListedVerdict) → is_of k (row.Verdict v) ≡ false
   is_of-verdict kind.OpenTenures v = refl
   is_of-verdict (kind.Tenures level slot) v = refl
-  is_of-verdict kind.Singles v = refl
-  is_of-verdict kind.Blocks v = refl
-  is_of-verdict kind.Frees v = refl
-  is_of-verdict kind.Acknowledges v = refl
-  is_of-verdict kind.Reads v = refl
-  is_of-verdict kind.Writes v = refl
-  is_of-verdict kind.Done v = refl
-  is_of-verdict kind.Errors v = refl
-  is_of-verdict kind.Pending v = refl
+  is_of-verdict kind.SingleCycles v = refl
+  is_of-verdict kind.BlockCycles v = refl
+  is_of-verdict kind.FreeCycles v = refl
+  is_of-verdict kind.InterruptCycles v = refl
+  is_of-verdict kind.AnsweredReads v = refl
+  is_of-verdict kind.AnsweredWrites v = refl
+  is_of-verdict kind.AnsweredByDtack v = refl
+  is_of-verdict kind.AnsweredByBerr v = refl
+  is_of-verdict kind.PendingTransfers v = refl
   is_of-verdict kind.Resets v = refl
 
   -- a verdict isn't open, and no reset

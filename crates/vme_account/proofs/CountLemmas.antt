@@ -155,15 +155,15 @@ count_in-with_row c r (kind.Tenures level slot) is long =
     ∙ read-with_tenure c.tenures long level slot is r
     ∙ ap (λ (n : ℕ). n + one_if (is_of (kind.Tenures level slot) r))
     (sym (tenures_of-read c.tenures long level slot is c.tenures))
-count_in-with_row c r kind.Singles is long = refl
-count_in-with_row c r kind.Blocks is long = refl
-count_in-with_row c r kind.Frees is long = refl
-count_in-with_row c r kind.Acknowledges is long = refl
-count_in-with_row c r kind.Reads is long = refl
-count_in-with_row c r kind.Writes is long = refl
-count_in-with_row c r kind.Done is long = refl
-count_in-with_row c r kind.Errors is long = refl
-count_in-with_row c r kind.Pending is long = refl
+count_in-with_row c r kind.SingleCycles is long = refl
+count_in-with_row c r kind.BlockCycles is long = refl
+count_in-with_row c r kind.FreeCycles is long = refl
+count_in-with_row c r kind.InterruptCycles is long = refl
+count_in-with_row c r kind.AnsweredReads is long = refl
+count_in-with_row c r kind.AnsweredWrites is long = refl
+count_in-with_row c r kind.AnsweredByDtack is long = refl
+count_in-with_row c r kind.AnsweredByBerr is long = refl
+count_in-with_row c r kind.PendingTransfers is long = refl
 count_in-with_row c r kind.Resets is long = refl
 
 -- after more rows each count is higher by the number of rows of its kind
@@ -185,15 +185,15 @@ count_in-no_rows : (k : RowKind) → is_counted k ≡ true → count_in no_rows 
 count_in-no_rows kind.OpenTenures is = refl
 count_in-no_rows (kind.Tenures level slot) is =
     rw is (get_or-replicate 88 (place_of level slot) 0 0 (place_of-below_88 level slot is))
-count_in-no_rows kind.Singles is = refl
-count_in-no_rows kind.Blocks is = refl
-count_in-no_rows kind.Frees is = refl
-count_in-no_rows kind.Acknowledges is = refl
-count_in-no_rows kind.Reads is = refl
-count_in-no_rows kind.Writes is = refl
-count_in-no_rows kind.Done is = refl
-count_in-no_rows kind.Errors is = refl
-count_in-no_rows kind.Pending is = refl
+count_in-no_rows kind.SingleCycles is = refl
+count_in-no_rows kind.BlockCycles is = refl
+count_in-no_rows kind.FreeCycles is = refl
+count_in-no_rows kind.InterruptCycles is = refl
+count_in-no_rows kind.AnsweredReads is = refl
+count_in-no_rows kind.AnsweredWrites is = refl
+count_in-no_rows kind.AnsweredByDtack is = refl
+count_in-no_rows kind.AnsweredByBerr is = refl
+count_in-no_rows kind.PendingTransfers is = refl
 count_in-no_rows kind.Resets is = refl
 
 -- ---- all rows of some marks

@@ -22,15 +22,15 @@ weight-open_tenure : (k : RowKind) (i : ℕ) (e : Option ℕ) → weight k (row.
     ≡ weight k (row.OpenTenure i None)
 weight-open_tenure kind.OpenTenures i e = refl
 weight-open_tenure (kind.Tenures level slot) i e = refl
-weight-open_tenure kind.Singles i e = refl
-weight-open_tenure kind.Blocks i e = refl
-weight-open_tenure kind.Frees i e = refl
-weight-open_tenure kind.Acknowledges i e = refl
-weight-open_tenure kind.Reads i e = refl
-weight-open_tenure kind.Writes i e = refl
-weight-open_tenure kind.Done i e = refl
-weight-open_tenure kind.Errors i e = refl
-weight-open_tenure kind.Pending i e = refl
+weight-open_tenure kind.SingleCycles i e = refl
+weight-open_tenure kind.BlockCycles i e = refl
+weight-open_tenure kind.FreeCycles i e = refl
+weight-open_tenure kind.InterruptCycles i e = refl
+weight-open_tenure kind.AnsweredReads i e = refl
+weight-open_tenure kind.AnsweredWrites i e = refl
+weight-open_tenure kind.AnsweredByDtack i e = refl
+weight-open_tenure kind.AnsweredByBerr i e = refl
+weight-open_tenure kind.PendingTransfers i e = refl
 weight-open_tenure kind.Resets i e = refl
 
 -- the kinds of the row of a tenure don't depend on its end
@@ -38,15 +38,15 @@ weight-tenure : (k : RowKind) (i granted taken : ℕ) (e : Option ℕ)
     → weight k (row.Tenure i granted taken e) ≡ weight k (row.Tenure i granted taken None)
 weight-tenure kind.OpenTenures i granted taken e = refl
 weight-tenure (kind.Tenures level slot) i granted taken e = refl
-weight-tenure kind.Singles i granted taken e = refl
-weight-tenure kind.Blocks i granted taken e = refl
-weight-tenure kind.Frees i granted taken e = refl
-weight-tenure kind.Acknowledges i granted taken e = refl
-weight-tenure kind.Reads i granted taken e = refl
-weight-tenure kind.Writes i granted taken e = refl
-weight-tenure kind.Done i granted taken e = refl
-weight-tenure kind.Errors i granted taken e = refl
-weight-tenure kind.Pending i granted taken e = refl
+weight-tenure kind.SingleCycles i granted taken e = refl
+weight-tenure kind.BlockCycles i granted taken e = refl
+weight-tenure kind.FreeCycles i granted taken e = refl
+weight-tenure kind.InterruptCycles i granted taken e = refl
+weight-tenure kind.AnsweredReads i granted taken e = refl
+weight-tenure kind.AnsweredWrites i granted taken e = refl
+weight-tenure kind.AnsweredByDtack i granted taken e = refl
+weight-tenure kind.AnsweredByBerr i granted taken e = refl
+weight-tenure kind.PendingTransfers i granted taken e = refl
 weight-tenure kind.Resets i granted taken e = refl
 
 -- the kinds of the row of a cycle with an address don't depend on its end
@@ -54,15 +54,15 @@ weight-addressed_cycle : (k : RowKind) (i : ℕ) (c : Class) (modifier address :
     → weight k (row.AddressedCycle i c modifier address e) ≡ weight k (row.AddressedCycle i c modifier address None)
 weight-addressed_cycle kind.OpenTenures i c modifier address e = refl
 weight-addressed_cycle (kind.Tenures level slot) i c modifier address e = refl
-weight-addressed_cycle kind.Singles i c modifier address e = refl
-weight-addressed_cycle kind.Blocks i c modifier address e = refl
-weight-addressed_cycle kind.Frees i c modifier address e = refl
-weight-addressed_cycle kind.Acknowledges i c modifier address e = refl
-weight-addressed_cycle kind.Reads i c modifier address e = refl
-weight-addressed_cycle kind.Writes i c modifier address e = refl
-weight-addressed_cycle kind.Done i c modifier address e = refl
-weight-addressed_cycle kind.Errors i c modifier address e = refl
-weight-addressed_cycle kind.Pending i c modifier address e = refl
+weight-addressed_cycle kind.SingleCycles i c modifier address e = refl
+weight-addressed_cycle kind.BlockCycles i c modifier address e = refl
+weight-addressed_cycle kind.FreeCycles i c modifier address e = refl
+weight-addressed_cycle kind.InterruptCycles i c modifier address e = refl
+weight-addressed_cycle kind.AnsweredReads i c modifier address e = refl
+weight-addressed_cycle kind.AnsweredWrites i c modifier address e = refl
+weight-addressed_cycle kind.AnsweredByDtack i c modifier address e = refl
+weight-addressed_cycle kind.AnsweredByBerr i c modifier address e = refl
+weight-addressed_cycle kind.PendingTransfers i c modifier address e = refl
 weight-addressed_cycle kind.Resets i c modifier address e = refl
 
 -- the kinds of the row of a free cycle don't depend on its end
@@ -70,15 +70,15 @@ weight-free_cycle : (k : RowKind) (i modifier : ℕ) (e : Option ℕ)
     → weight k (row.FreeCycle i modifier e) ≡ weight k (row.FreeCycle i modifier None)
 weight-free_cycle kind.OpenTenures i modifier e = refl
 weight-free_cycle (kind.Tenures level slot) i modifier e = refl
-weight-free_cycle kind.Singles i modifier e = refl
-weight-free_cycle kind.Blocks i modifier e = refl
-weight-free_cycle kind.Frees i modifier e = refl
-weight-free_cycle kind.Acknowledges i modifier e = refl
-weight-free_cycle kind.Reads i modifier e = refl
-weight-free_cycle kind.Writes i modifier e = refl
-weight-free_cycle kind.Done i modifier e = refl
-weight-free_cycle kind.Errors i modifier e = refl
-weight-free_cycle kind.Pending i modifier e = refl
+weight-free_cycle kind.SingleCycles i modifier e = refl
+weight-free_cycle kind.BlockCycles i modifier e = refl
+weight-free_cycle kind.FreeCycles i modifier e = refl
+weight-free_cycle kind.InterruptCycles i modifier e = refl
+weight-free_cycle kind.AnsweredReads i modifier e = refl
+weight-free_cycle kind.AnsweredWrites i modifier e = refl
+weight-free_cycle kind.AnsweredByDtack i modifier e = refl
+weight-free_cycle kind.AnsweredByBerr i modifier e = refl
+weight-free_cycle kind.PendingTransfers i modifier e = refl
 weight-free_cycle kind.Resets i modifier e = refl
 
 -- the kinds of the row of an interrupt acknowledge don't depend on its end
@@ -86,15 +86,15 @@ weight-interrupt_cycle : (k : RowKind) (i asked : ℕ) (e : Option ℕ)
     → weight k (row.InterruptCycle i asked e) ≡ weight k (row.InterruptCycle i asked None)
 weight-interrupt_cycle kind.OpenTenures i asked e = refl
 weight-interrupt_cycle (kind.Tenures level slot) i asked e = refl
-weight-interrupt_cycle kind.Singles i asked e = refl
-weight-interrupt_cycle kind.Blocks i asked e = refl
-weight-interrupt_cycle kind.Frees i asked e = refl
-weight-interrupt_cycle kind.Acknowledges i asked e = refl
-weight-interrupt_cycle kind.Reads i asked e = refl
-weight-interrupt_cycle kind.Writes i asked e = refl
-weight-interrupt_cycle kind.Done i asked e = refl
-weight-interrupt_cycle kind.Errors i asked e = refl
-weight-interrupt_cycle kind.Pending i asked e = refl
+weight-interrupt_cycle kind.SingleCycles i asked e = refl
+weight-interrupt_cycle kind.BlockCycles i asked e = refl
+weight-interrupt_cycle kind.FreeCycles i asked e = refl
+weight-interrupt_cycle kind.InterruptCycles i asked e = refl
+weight-interrupt_cycle kind.AnsweredReads i asked e = refl
+weight-interrupt_cycle kind.AnsweredWrites i asked e = refl
+weight-interrupt_cycle kind.AnsweredByDtack i asked e = refl
+weight-interrupt_cycle kind.AnsweredByBerr i asked e = refl
+weight-interrupt_cycle kind.PendingTransfers i asked e = refl
 weight-interrupt_cycle kind.Resets i asked e = refl
 
 -- the kinds of the row of an answered transfer don't depend on its close
@@ -103,15 +103,15 @@ weight-transfer : (k : RowKind) (i : ℕ) (d : Direction) (e : Option ℕ) (r cy
     ≡ weight k (row.Transfer d (marked_line a.line) i cycle r None a.lanes)
 weight-transfer kind.OpenTenures i d e r cycle a = refl
 weight-transfer (kind.Tenures level slot) i d e r cycle a = refl
-weight-transfer kind.Singles i d e r cycle a = refl
-weight-transfer kind.Blocks i d e r cycle a = refl
-weight-transfer kind.Frees i d e r cycle a = refl
-weight-transfer kind.Acknowledges i d e r cycle a = refl
-weight-transfer kind.Reads i d e r cycle a = refl
-weight-transfer kind.Writes i d e r cycle a = refl
-weight-transfer kind.Done i d e r cycle a = refl
-weight-transfer kind.Errors i d e r cycle a = refl
-weight-transfer kind.Pending i d e r cycle a = refl
+weight-transfer kind.SingleCycles i d e r cycle a = refl
+weight-transfer kind.BlockCycles i d e r cycle a = refl
+weight-transfer kind.FreeCycles i d e r cycle a = refl
+weight-transfer kind.InterruptCycles i d e r cycle a = refl
+weight-transfer kind.AnsweredReads i d e r cycle a = refl
+weight-transfer kind.AnsweredWrites i d e r cycle a = refl
+weight-transfer kind.AnsweredByDtack i d e r cycle a = refl
+weight-transfer kind.AnsweredByBerr i d e r cycle a = refl
+weight-transfer kind.PendingTransfers i d e r cycle a = refl
 weight-transfer kind.Resets i d e r cycle a = refl
 
 -- whether a row is of a kind doesn't depend on where the row ends

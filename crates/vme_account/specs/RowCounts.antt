@@ -42,15 +42,15 @@ abbrev pub no_rows : RowCounts
 no_rows =
     record {
       open_tenures = 0;
-      singles = 0;
-      blocks = 0;
-      frees = 0;
-      acknowledges = 0;
-      reads = 0;
-      writes = 0;
-      done = 0;
-      errors = 0;
-      pending = 0;
+      single_cycles = 0;
+      block_cycles = 0;
+      free_cycles = 0;
+      interrupt_cycles = 0;
+      answered_reads = 0;
+      answered_writes = 0;
+      answered_by_dtack = 0;
+      answered_by_berr = 0;
+      pending_transfers = 0;
       resets = 0;
       tenures = replicate 88 0;
     }
@@ -60,15 +60,15 @@ abbrev pub with_row : RowCounts → Row → RowCounts
 with_row c r =
     record {
       open_tenures = c.open_tenures + one_if (is_open_tenure_row r);
-      singles = c.singles + one_if (is_cycle_of S r);
-      blocks = c.blocks + one_if (is_cycle_of K r);
-      frees = c.frees + one_if (is_free_cycle r);
-      acknowledges = c.acknowledges + one_if (is_interrupt_cycle r);
-      reads = c.reads + one_if (is_transfer_in Read r);
-      writes = c.writes + one_if (is_transfer_in Write r);
-      done = c.done + one_if (is_answered_by Dtack r);
-      errors = c.errors + one_if (is_answered_by Berr r);
-      pending = c.pending + one_if (is_pending r);
+      single_cycles = c.single_cycles + one_if (is_cycle_of S r);
+      block_cycles = c.block_cycles + one_if (is_cycle_of K r);
+      free_cycles = c.free_cycles + one_if (is_free_cycle r);
+      interrupt_cycles = c.interrupt_cycles + one_if (is_interrupt_cycle r);
+      answered_reads = c.answered_reads + one_if (is_transfer_in Read r);
+      answered_writes = c.answered_writes + one_if (is_transfer_in Write r);
+      answered_by_dtack = c.answered_by_dtack + one_if (is_answered_by Dtack r);
+      answered_by_berr = c.answered_by_berr + one_if (is_answered_by Berr r);
+      pending_transfers = c.pending_transfers + one_if (is_pending r);
       resets = c.resets + one_if (is_reset r);
       tenures = with_tenure c.tenures r;
     }
@@ -82,13 +82,13 @@ is_counted k = true
 abbrev pub count_in : RowCounts → RowKind → ℕ
 count_in c kind.OpenTenures = c.open_tenures
 count_in c (kind.Tenures level slot) = tenures_of c.tenures level slot
-count_in c kind.Singles = c.singles
-count_in c kind.Blocks = c.blocks
-count_in c kind.Frees = c.frees
-count_in c kind.Acknowledges = c.acknowledges
-count_in c kind.Reads = c.reads
-count_in c kind.Writes = c.writes
-count_in c kind.Done = c.done
-count_in c kind.Errors = c.errors
-count_in c kind.Pending = c.pending
+count_in c kind.SingleCycles = c.single_cycles
+count_in c kind.BlockCycles = c.block_cycles
+count_in c kind.FreeCycles = c.free_cycles
+count_in c kind.InterruptCycles = c.interrupt_cycles
+count_in c kind.AnsweredReads = c.answered_reads
+count_in c kind.AnsweredWrites = c.answered_writes
+count_in c kind.AnsweredByDtack = c.answered_by_dtack
+count_in c kind.AnsweredByBerr = c.answered_by_berr
+count_in c kind.PendingTransfers = c.pending_transfers
 count_in c kind.Resets = c.resets

@@ -70,15 +70,15 @@ is_reset r = false
 abbrev pub is_of : RowKind → Row → Bool
 is_of kind.OpenTenures r = is_open_tenure_row r
 is_of (kind.Tenures level slot) r = is_tenure_of level slot r
-is_of kind.Singles r = is_cycle_of S r
-is_of kind.Blocks r = is_cycle_of K r
-is_of kind.Frees r = is_free_cycle r
-is_of kind.Acknowledges r = is_interrupt_cycle r
-is_of kind.Reads r = is_transfer_in Read r
-is_of kind.Writes r = is_transfer_in Write r
-is_of kind.Done r = is_answered_by Dtack r
-is_of kind.Errors r = is_answered_by Berr r
-is_of kind.Pending r = is_pending r
+is_of kind.SingleCycles r = is_cycle_of S r
+is_of kind.BlockCycles r = is_cycle_of K r
+is_of kind.FreeCycles r = is_free_cycle r
+is_of kind.InterruptCycles r = is_interrupt_cycle r
+is_of kind.AnsweredReads r = is_transfer_in Read r
+is_of kind.AnsweredWrites r = is_transfer_in Write r
+is_of kind.AnsweredByDtack r = is_answered_by Dtack r
+is_of kind.AnsweredByBerr r = is_answered_by Berr r
+is_of kind.PendingTransfers r = is_pending r
 is_of kind.Resets r = is_reset r
 
 -- ---- what is open

@@ -19,15 +19,15 @@ const TENURE_COUNTS: usize = 88;
 #[derive(Clone, Copy, Debug, PartialEq, Eq)]
 pub struct RowCounts {
     open_tenures: u64,
-    singles: u64,
-    blocks: u64,
-    frees: u64,
-    acknowledges: u64,
-    reads: u64,
-    writes: u64,
-    done: u64,
-    errors: u64,
-    pending: u64,
+    single_cycles: u64,
+    block_cycles: u64,
+    free_cycles: u64,
+    interrupt_cycles: u64,
+    answered_reads: u64,
+    answered_writes: u64,
+    answered_by_dtack: u64,
+    answered_by_berr: u64,
+    pending_transfers: u64,
     resets: u64,
     /// The tenures by level and slot, at index `22 * level + slot`.
     tenures: [u64; TENURE_COUNTS],
@@ -55,15 +55,15 @@ impl RowCounts {
     {
         RowCounts {
             open_tenures: 0,
-            singles: 0,
-            blocks: 0,
-            frees: 0,
-            acknowledges: 0,
-            reads: 0,
-            writes: 0,
-            done: 0,
-            errors: 0,
-            pending: 0,
+            single_cycles: 0,
+            block_cycles: 0,
+            free_cycles: 0,
+            interrupt_cycles: 0,
+            answered_reads: 0,
+            answered_writes: 0,
+            answered_by_dtack: 0,
+            answered_by_berr: 0,
+            pending_transfers: 0,
             resets: 0,
             tenures: [0; TENURE_COUNTS],
         }
@@ -78,7 +78,8 @@ impl RowCounts {
         counts
     }
 
-    /// Counts the rows whose kind is known at `mark`, where `unended` are the open rows before it.
+    /// Counts the rows whose kind is known at `mark`, where `unended` are the open rows before it. It fails if a count
+    /// doesn't fit in 64 bits; some counts may then have the row.
     pub fn take(&mut self, mark: &Mark, unended: &UnendedRows) -> Result<(), AllocError>
         ensures { OnOk result
             (self.new ≡ fold with_row self.old (known_at mark.now.instant mark.now.kind unended.now)) }
@@ -164,15 +165,27 @@ impl RowCounts {
     {
         self.take_tenure(row)?;
         self.open_tenures = counted(self.open_tenures, is_of(RowKind::OpenTenures, row))?;
-        self.singles = counted(self.singles, is_of(RowKind::Singles, row))?;
-        self.blocks = counted(self.blocks, is_of(RowKind::Blocks, row))?;
-        self.frees = counted(self.frees, is_of(RowKind::Frees, row))?;
-        self.acknowledges = counted(self.acknowledges, is_of(RowKind::Acknowledges, row))?;
-        self.reads = counted(self.reads, is_of(RowKind::Reads, row))?;
-        self.writes = counted(self.writes, is_of(RowKind::Writes, row))?;
-        self.done = counted(self.done, is_of(RowKind::Done, row))?;
-        self.errors = counted(self.errors, is_of(RowKind::Errors, row))?;
-        self.pending = counted(self.pending, is_of(RowKind::Pending, row))?;
+        self.single_cycles = counted(self.single_cycles, is_of(RowKind::SingleCycles, row))?;
+        self.block_cycles = counted(self.block_cycles, is_of(RowKind::BlockCycles, row))?;
+        self.free_cycles = counted(self.free_cycles, is_of(RowKind::FreeCycles, row))?;
+        self.interrupt_cycles = counted(
+            self.interrupt_cycles,
+            is_of(RowKind::InterruptCycles, row),
+        )?;
+        self.answered_reads = counted(self.answered_reads, is_of(RowKind::AnsweredReads, row))?;
+        self.answered_writes = counted(self.answered_writes, is_of(RowKind::AnsweredWrites, row))?;
+        self.answered_by_dtack = counted(
+            self.answered_by_dtack,
+            is_of(RowKind::AnsweredByDtack, row),
+        )?;
+        self.answered_by_berr = counted(
+            self.answered_by_berr,
+            is_of(RowKind::AnsweredByBerr, row),
+        )?;
+        self.pending_transfers = counted(
+            self.pending_transfers,
+            is_of(RowKind::PendingTransfers, row),
+        )?;
         self.resets = counted(self.resets, is_of(RowKind::Resets, row))?;
         Ok(())
     }
@@ -191,6 +204,7 @@ impl RowCounts {
         }
     }
 
+    /// The number of tenures of a level in a slot; 0 for a level above 3 or a slot above 21.
     fn tenures_of(&self, level: u8, slot: u8) -> u64
         ensures { result ≡ tenures_of self.now.tenures level slot }
     {
@@ -208,15 +222,15 @@ impl RowCounts {
         match kind {
             RowKind::OpenTenures => self.open_tenures,
             RowKind::Tenures { level, slot } => self.tenures_of(level, slot),
-            RowKind::Singles => self.singles,
-            RowKind::Blocks => self.blocks,
-            RowKind::Frees => self.frees,
-            RowKind::Acknowledges => self.acknowledges,
-            RowKind::Reads => self.reads,
-            RowKind::Writes => self.writes,
-            RowKind::Done => self.done,
-            RowKind::Errors => self.errors,
-            RowKind::Pending => self.pending,
+            RowKind::SingleCycles => self.single_cycles,
+            RowKind::BlockCycles => self.block_cycles,
+            RowKind::FreeCycles => self.free_cycles,
+            RowKind::InterruptCycles => self.interrupt_cycles,
+            RowKind::AnsweredReads => self.answered_reads,
+            RowKind::AnsweredWrites => self.answered_writes,
+            RowKind::AnsweredByDtack => self.answered_by_dtack,
+            RowKind::AnsweredByBerr => self.answered_by_berr,
+            RowKind::PendingTransfers => self.pending_transfers,
             RowKind::Resets => self.resets,
         }
     }

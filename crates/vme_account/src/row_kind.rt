@@ -20,24 +20,26 @@ pub enum RowKind {
         slot: u8,
     },
     /// A cycle of single transfers.
-    Singles,
+    SingleCycles,
     /// A cycle of a block transfer.
-    Blocks,
+    BlockCycles,
     /// A cycle that acknowledges no interrupt, and whose address modifier code is user-defined or reserved, or has an
     /// unknown bit.
-    Frees,
+    FreeCycles,
     /// A cycle that acknowledges an interrupt.
-    Acknowledges,
-    /// An answered read. One without an answer is of the kind `Pending` alone; `Counts::reads` of vme_audit has both.
-    Reads,
-    /// An answered write. One without an answer is of the kind `Pending` alone; `Counts::writes` of vme_audit has both.
-    Writes,
+    InterruptCycles,
+    /// An answered read. One without an answer is of the kind `PendingTransfers` alone; `Counts::reads` of vme_audit
+    /// has both.
+    AnsweredReads,
+    /// An answered write. One without an answer is of the kind `PendingTransfers` alone; `Counts::writes` of vme_audit
+    /// has both.
+    AnsweredWrites,
     /// A transfer that DTACK answered.
-    Done,
+    AnsweredByDtack,
     /// A transfer that BERR answered.
-    Errors,
+    AnsweredByBerr,
     /// A transfer without an answer.
-    Pending,
+    PendingTransfers,
     /// A reset of the bus that ended what was judged.
     Resets,
 }
@@ -61,25 +63,27 @@ pub(crate) fn is_of(kind: RowKind, row: &Row) -> bool
     match kind {
         RowKind::OpenTenures => matches!(row, Row::OpenTenure { .. }),
         RowKind::Tenures { level, slot } => is_tenure_of(row, level, slot),
-        RowKind::Singles => is_cycle_of(row, Class::S),
-        RowKind::Blocks => is_cycle_of(row, Class::K),
-        RowKind::Frees => matches!(row, Row::FreeCycle { .. }),
-        RowKind::Acknowledges => matches!(row, Row::InterruptCycle { .. }),
-        RowKind::Reads => is_transfer_in(row, Direction::Read),
-        RowKind::Writes => is_transfer_in(row, Direction::Write),
-        RowKind::Done => is_answered_by(row, AnswerLine::Dtack),
-        RowKind::Errors => is_answered_by(row, AnswerLine::Berr),
-        RowKind::Pending => matches!(row, Row::PendingTransfer { .. }),
+        RowKind::SingleCycles => is_cycle_of(row, Class::S),
+        RowKind::BlockCycles => is_cycle_of(row, Class::K),
+        RowKind::FreeCycles => matches!(row, Row::FreeCycle { .. }),
+        RowKind::InterruptCycles => matches!(row, Row::InterruptCycle { .. }),
+        RowKind::AnsweredReads => is_transfer_in(row, Direction::Read),
+        RowKind::AnsweredWrites => is_transfer_in(row, Direction::Write),
+        RowKind::AnsweredByDtack => is_answered_by(row, AnswerLine::Dtack),
+        RowKind::AnsweredByBerr => is_answered_by(row, AnswerLine::Berr),
+        RowKind::PendingTransfers => matches!(row, Row::PendingTransfer { .. }),
         RowKind::Resets => is_reset(row),
     }
 }
 
+/// Whether a row is a reset.
 fn is_reset(row: &Row) -> bool
     ensures { result ≡ is_reset row.now }
 {
     matches!(row, Row::Reset { .. })
 }
 
+/// Whether a row is a tenure by the grant of this level in this slot.
 fn is_tenure_of(row: &Row, level: u8, slot: u8) -> bool
     ensures { result ≡ is_tenure_of level slot row.now }
 {
@@ -93,6 +97,7 @@ fn is_tenure_of(row: &Row, level: u8, slot: u8) -> bool
     }
 }
 
+/// Whether a row is a cycle with an address, of this class.
 fn is_cycle_of(row: &Row, class: Class) -> bool
     ensures { result ≡ is_cycle_of class row.now }
 {
@@ -102,6 +107,7 @@ fn is_cycle_of(row: &Row, class: Class) -> bool
     }
 }
 
+/// Whether a row is an answered transfer in this direction.
 fn is_transfer_in(row: &Row, direction: Direction) -> bool
     ensures { result ≡ is_transfer_in direction row.now }
 {
@@ -111,6 +117,7 @@ fn is_transfer_in(row: &Row, direction: Direction) -> bool
     }
 }
 
+/// Whether a row is a transfer that this line answered.
 fn is_answered_by(row: &Row, line: AnswerLine) -> bool
     ensures { result ≡ is_answered_by line row.now }
 {

@@ -16,7 +16,7 @@ pub struct Counts {
     /// Cycles that acknowledge an interrupt: IACK* is low as AS* falls.
     pub acknowledge: u64,
     /// Reads: data go from the slave to the master. Those that are pending count too; vme_account counts answered reads
-    /// alone as `RowKind::Reads`.
+    /// alone as `RowKind::AnsweredReads`.
     pub reads: u64,
     /// Writes: data go from the master to the slave. Those that are pending count too.
     pub writes: u64,

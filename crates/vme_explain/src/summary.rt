@@ -29,10 +29,10 @@ pub(crate) fn push_summary(
         account,
         "cycles: ",
         &[
-            (RowKind::Singles, " single, "),
-            (RowKind::Blocks, " block transfer, "),
-            (RowKind::Frees, " with a free code, "),
-            (RowKind::Acknowledges, " interrupt acknowledge\n"),
+            (RowKind::SingleCycles, " single, "),
+            (RowKind::BlockCycles, " block transfer, "),
+            (RowKind::FreeCycles, " with a free code, "),
+            (RowKind::InterruptCycles, " interrupt acknowledge\n"),
         ],
     )?;
     push_counts(
@@ -41,11 +41,11 @@ pub(crate) fn push_summary(
         account,
         "transfers: ",
         &[
-            (RowKind::Reads, " read, "),
-            (RowKind::Writes, " write; "),
-            (RowKind::Done, " answered by DTACK, "),
-            (RowKind::Errors, " by BERR, "),
-            (RowKind::Pending, " not answered\n"),
+            (RowKind::AnsweredReads, " read, "),
+            (RowKind::AnsweredWrites, " write; "),
+            (RowKind::AnsweredByDtack, " answered by DTACK, "),
+            (RowKind::AnsweredByBerr, " by BERR, "),
+            (RowKind::PendingTransfers, " not answered\n"),
         ],
     )?;
     push_pending(text, alloc, subject)?;

@@ -60,13 +60,13 @@ fn rows_are_counted(rt: HostRuntime) -> Result<(), Fail> {
     for (kind, count) in [
         (RowKind::OpenTenures, 1),
         (RowKind::Tenures { level: 3, slot: 1 }, 0),
-        (RowKind::Blocks, 1),
-        (RowKind::Singles, 0),
-        (RowKind::Reads, 1),
-        (RowKind::Writes, 0),
-        (RowKind::Done, 1),
-        (RowKind::Errors, 0),
-        (RowKind::Pending, 0),
+        (RowKind::BlockCycles, 1),
+        (RowKind::SingleCycles, 0),
+        (RowKind::AnsweredReads, 1),
+        (RowKind::AnsweredWrites, 0),
+        (RowKind::AnsweredByDtack, 1),
+        (RowKind::AnsweredByBerr, 0),
+        (RowKind::PendingTransfers, 0),
         (RowKind::Resets, 0),
     ] {
         assert_eq!(rt; account.count_of(kind), count);
@@ -107,7 +107,7 @@ fn open_rows_are_found(rt: HostRuntime) -> Result<(), Fail> {
         direction: Direction::Read,
     };
     assert!(rt; account.open_row(Part::Transfer) == Some(pending));
-    assert_eq!(rt; account.count_of(RowKind::Pending), 1);
+    assert_eq!(rt; account.count_of(RowKind::PendingTransfers), 1);
     Ok(())
 }
 
