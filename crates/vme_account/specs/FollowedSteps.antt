@@ -15,11 +15,13 @@ use Rattle.vme_account.specs.StretchEvents.{AreEvents}
 use Rattle.vme_account.specs.declared.followed_steps.FollowedSteps.{FollowedSteps}
 use Rattle.vme_account.specs.declared.step_notes.StepNotes.{StepNotes}
 
+-- the recording with the opening levels o and the steps x
 abbrev pub recorded : Levels → List Step → Trace
 recorded o x = record { opening = o; steps = x }
 
 -- ---- what is noted
 
+-- the notes before the first step, after the opening levels `o`
 pub record AreNotesAtOpening (o : Levels) (n : StepNotes) : Type 0 where
   pub found : n.found ≡ None
   pub marked : n.marked ≡ marked (opening_marks o)

@@ -20,6 +20,7 @@ pending_rows w = option_map_or (λ w. pending_row w ∷ []) w []
 abbrev pub answered_row : ℕ → TransferAnswer → Option ℕ → Waiting → Row
 answered_row i a latest w = marked_answer w.start w.direction None i latest a
 
+-- that row, if a transfer is waiting
 abbrev pub answered_rows : ℕ → TransferAnswer → UnendedRows → List Row
 answered_rows i a o = option_map_or (λ w. answered_row i a o.latest w ∷ []) o.waiting []
 

@@ -18,6 +18,7 @@ use Rattle.vme_account.specs.declared.related_event.StepEvent.TheVariants.{Strob
 
 -- ---- one step more
 
+-- no event has happened yet
 abbrev pub no_events : LastEvents
 no_events =
     record {
@@ -33,12 +34,15 @@ no_events =
 abbrev pub noted : (ℕ → Bool) → Moment → List (Option Moment) → List Change → List (Option Moment)
 noted is m table cs = fold (λ table c. if is c.line then slice_set table c.line (Some m) else table) table cs
 
+-- moment `m` if the event happens now, or else the moment before
 abbrev pub now_or : Bool → Moment → Option Moment → Option Moment
 now_or is m before = if is then Some m else before
 
+-- the moment before, unless it is forgotten now
 abbrev pub unless : Bool → Option Moment → Option Moment
 unless is before = if is then None else before
 
+-- the moment before, if there is one; else `m` if the event happens now
 abbrev pub first_or : Bool → Moment → Option Moment → Option Moment
 first_or is m before = if is_some before then before else if is then Some m else None
 
@@ -71,13 +75,16 @@ abbrev pub later_of : Moment → Option Moment → Option Moment
 later_of m None = Some m
 later_of m (Some n) = if nat_le m.instant n.instant then Some n else Some m
 
+-- the later of two moments, or the one that there is
 abbrev pub later : Option Moment → Option Moment → Option Moment
 later None other = other
 later (Some m) other = later_of m other
 
+-- when line l fell last
 abbrev pub last_fall : LastEvents → ℕ → Option Moment
 last_fall e l = slice_index_or e.falls l None
 
+-- when line l rose last
 abbrev pub last_rise : LastEvents → ℕ → Option Moment
 last_rise e l = slice_index_or e.rises l None
 
@@ -109,6 +116,7 @@ moment_at t i =
       berr_falls = happens t (Falls BERR) i;
     }
 
+-- an instant that is found, with its time and its answer lines
 abbrev pub moment : Trace → Option ℕ → Option Moment
 moment t found = option_map (moment_at t) found
 

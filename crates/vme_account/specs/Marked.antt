@@ -8,6 +8,7 @@ use Rattle.vme_account.specs.RowCounts.{no_rows, with_row}
 use Rattle.vme_account.specs.declared.marked.Marked.{Marked}
 use Rattle.vme_account.specs.declared.row_counts.RowCounts.{RowCounts}
 
+-- the state before any mark
 abbrev pub nothing_marked : Marked
 nothing_marked = record { opened = nothing_open; counts = no_rows }
 
@@ -19,6 +20,7 @@ marked_next m k =
       counts = fold with_row m.counts (known_at k.instant k.kind m.opened);
     }
 
+-- the state after some marks
 abbrev pub marked : List Mark → Marked
 marked ms = fold marked_next nothing_marked ms
 

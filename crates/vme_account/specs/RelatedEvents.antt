@@ -21,9 +21,11 @@ use Rattle.vme_account.specs.declared.related_event.Occurrence.TheVariants.{Firs
 abbrev pub shown_on : Levels → ℕ → Level
 shown_on v l = if has_line v.slots l then level_at v l else Unknown
 
+-- the line falls between levels `v` and `w`; a line that the backplane lacks never does
 abbrev pub falls_shown : Levels → Levels → ℕ → Bool
 falls_shown v w l = is_high (shown_on v l) && is_low (shown_on w l)
 
+-- the line rises between levels `v` and `w`; a line that the backplane lacks never does
 abbrev pub rises_shown : Levels → Levels → ℕ → Bool
 rises_shown v w l = is_low (shown_on v l) && is_high (shown_on w l)
 
@@ -48,15 +50,18 @@ module _ (t : Trace) where
   abbrev pub since : StepEvent → ℕ → ℕ → ℕ
   since e s j = unwrap_or (greatest (happens t e) (s + 1) (j + 1)) (s + 1)
 
+  -- the instant of this occurrence of event `e`, for a break at `j`
   abbrev pub searched : Occurrence → StepEvent → ℕ → ℕ → Option ℕ
   searched Last e s j = greatest (happens t e) (s + 1) j
   searched LastOrNow e s j = greatest (happens t e) (s + 1) (j + 1)
   searched FirstInTransfer e s j = least (happens t e) (since TransferStarts s j) j
   searched FirstInCycle e s j = least (happens t e) (since (Falls AS) s j) j
 
+  -- the instant of a related event, for a break at `j`
   abbrev pub instant_of : RelatedEvent → ℕ → ℕ → Option ℕ
   instant_of o s j = searched o.occurrence o.event s j
 
+-- the last occurrence of event `e` before the break
 abbrev pub last : StepEvent → Option RelatedEvent
 last e = Some (record { event = e; occurrence = Last })
 
@@ -95,6 +100,7 @@ first_related_event rule.G5 l = last GrantFalls
 first_related_event rule.B1 l = last GrantFalls
 first_related_event r l = None
 
+-- The second event that a rule refers to.
 abbrev pub second_related_event : Rule → ℕ → Option RelatedEvent
 -- the request of the level
 second_related_event rule.G5 l = if is_grant l then last (Falls (BR (grant_level l))) else None

@@ -12,6 +12,7 @@ use Rattle.vme_account.specs.declared.row_counts.RowCounts.{RowCounts}
 use Rattle.vme_account.specs.declared.row_kind.RowKind.{RowKind}
 use Rattle.vme_account.specs.declared.row_kind.RowKind.TheVariants as kind
 
+-- 1 if `b` is true, else 0
 abbrev pub one_if : Bool → ℕ
 one_if b = if b then 1 else 0
 
@@ -21,16 +22,20 @@ one_if b = if b then 1 else 0
 abbrev pub is_place : ℕ → ℕ → Bool
 is_place level slot = nat_lt level 4 && nat_lt slot 22
 
+-- the index of the count of a level and a slot
 abbrev pub place_of : ℕ → ℕ → ℕ
 place_of level slot = level * 22 + slot
 
+-- the number of tenures of a level in a slot
 abbrev pub tenures_of : List ℕ → ℕ → ℕ → ℕ
 tenures_of tenures level slot =
     if is_place level slot then slice_index_or tenures (place_of level slot) 0 else 0
 
+-- the counts with one more at `place`
 abbrev pub with_one : List ℕ → ℕ → List ℕ
 with_one tenures place = slice_set tenures place (slice_index_or tenures place 0 + 1)
 
+-- the counts after one more row, which is counted if it is a tenure with a place
 abbrev pub with_tenure : List ℕ → Row → List ℕ
 with_tenure tenures (row.Tenure start level slot end) =
     if is_place level slot then with_one tenures (place_of level slot) else tenures
@@ -38,6 +43,7 @@ with_tenure tenures r = tenures
 
 -- ---- all kinds
 
+-- the counts before any row
 abbrev pub no_rows : RowCounts
 no_rows =
     record {

@@ -13,14 +13,17 @@ use Rattle.vme_account.specs.declared.row_kind.RowKind.TheVariants as kind
 use Rattle.vme_account.specs.declared.row_kind.Part.{Part}
 use Rattle.vme_account.specs.declared.row_kind.Part.TheVariants as part
 
+-- the row is a tenure that was open at the start
 abbrev pub is_open_tenure_row : Row → Bool
 is_open_tenure_row (row.OpenTenure start end) = true
 is_open_tenure_row r = false
 
+-- the row is a tenure by the grant of this level in this slot
 abbrev pub is_tenure_of : ℕ → ℕ → Row → Bool
 is_tenure_of level slot (row.Tenure start granted taken end) = granted == level && taken == slot
 is_tenure_of level slot r = false
 
+-- the classes are equal
 abbrev pub same_class : Class → Class → Bool
 same_class S S = true
 same_class K K = true
@@ -28,40 +31,49 @@ same_class I I = true
 same_class F F = true
 same_class a b = false
 
+-- the directions are equal
 abbrev pub same_direction : Direction → Direction → Bool
 same_direction Read Read = true
 same_direction Write Write = true
 same_direction a b = false
 
+-- the answer lines are equal
 abbrev pub same_answer : AnswerLine → AnswerLine → Bool
 same_answer Dtack Dtack = true
 same_answer Berr Berr = true
 same_answer a b = false
 
+-- the row is a cycle with an address, of this class
 abbrev pub is_cycle_of : Class → Row → Bool
 is_cycle_of class (row.AddressedCycle start own modifier address end) = same_class own class
 is_cycle_of class r = false
 
+-- the row is a cycle of class F
 abbrev pub is_free_cycle : Row → Bool
 is_free_cycle (row.FreeCycle start modifier end) = true
 is_free_cycle r = false
 
+-- the row is an interrupt acknowledge cycle
 abbrev pub is_interrupt_cycle : Row → Bool
 is_interrupt_cycle (row.InterruptCycle start level end) = true
 is_interrupt_cycle r = false
 
+-- the row is an answered transfer in this direction
 abbrev pub is_transfer_in : Direction → Row → Bool
 is_transfer_in direction (row.Transfer own line start cycle answer close lanes) = same_direction own direction
 is_transfer_in direction r = false
 
+-- the row is a transfer that this line answered
 abbrev pub is_answered_by : AnswerLine → Row → Bool
 is_answered_by line (row.Transfer direction own start cycle answer close lanes) = same_answer own line
 is_answered_by line r = false
 
+-- the row is a transfer without an answer
 abbrev pub is_pending : Row → Bool
 is_pending (row.PendingTransfer start direction) = true
 is_pending r = false
 
+-- the row is a reset
 abbrev pub is_reset : Row → Bool
 is_reset (row.Reset instant) = true
 is_reset r = false
@@ -83,20 +95,24 @@ is_of kind.Resets r = is_reset r
 
 -- ---- what is open
 
+-- there is no end at a listed instant
 abbrev pub has_no_end : Option ℕ → Bool
 has_no_end end = not (is_some end)
 
+-- the row is a tenure without an end
 abbrev pub is_tenure_open : Row → Bool
 is_tenure_open (row.OpenTenure start end) = has_no_end end
 is_tenure_open (row.Tenure start level slot end) = has_no_end end
 is_tenure_open r = false
 
+-- the row is a cycle without an end
 abbrev pub is_cycle_open : Row → Bool
 is_cycle_open (row.AddressedCycle start class modifier address end) = has_no_end end
 is_cycle_open (row.FreeCycle start modifier end) = has_no_end end
 is_cycle_open (row.InterruptCycle start level end) = has_no_end end
 is_cycle_open r = false
 
+-- the row is a transfer without an answer or without a close
 abbrev pub is_transfer_open : Row → Bool
 is_transfer_open (row.Transfer direction line start cycle answer close lanes) = has_no_end close
 is_transfer_open (row.PendingTransfer start direction) = true

@@ -49,6 +49,7 @@ judged r s =
 abbrev pub passed : StepsReached → Step → StepsReached
 passed r s = record r { levels = changed r.levels s.changes; instant = r.instant + 1 }
 
+-- one more step
 abbrev pub with_step : StepsReached → Step → StepsReached
 with_step r s = if is_some r.found then passed r s else judged r s
 

@@ -27,6 +27,7 @@ abbrev pub is_at : Option Moment → ℕ → Bool
 is_at None j = false
 is_at (Some m) j = m.instant == j
 
+-- event `k` happens at instant `j`, by the last events up to `j`; of an answer this is never known
 abbrev pub is_now : LastEvents → ℕ → StepEvent → Bool
 is_now now j k = is_at (last_of now k) j
 
@@ -37,16 +38,19 @@ moment_before now j before LastOrNow k = last_of now k
 moment_before now j before FirstInTransfer k = if is_now now j TransferStarts then None else before.answer_in_transfer
 moment_before now j before FirstInCycle k = if is_now now j (Falls AS) then None else first_in_cycle before k
 
+-- the event is the fall of an answer line
 abbrev pub is_answer : StepEvent → Bool
 is_answer AnswerFalls = true
 is_answer e = false
 
+-- the last time of the event is known
 abbrev pub is_kept_last : StepEvent → Bool
 is_kept_last AnswerFalls = false
 is_kept_last (Falls l) = nat_lt l line_count
 is_kept_last (Rises l) = nat_lt l line_count
 is_kept_last e = true
 
+-- the first time of the event in a cycle is known
 abbrev pub is_kept_first : StepEvent → Bool
 is_kept_first AnswerFalls = true
 is_kept_first (Falls l) = l == DTACK
@@ -60,5 +64,6 @@ is_kept_at LastOrNow e = is_kept_last e
 is_kept_at FirstInTransfer e = is_answer e
 is_kept_at FirstInCycle e = is_kept_first e
 
+-- it is known when the related event happened
 abbrev pub is_kept : RelatedEvent → Bool
 is_kept other = is_kept_at other.occurrence other.event

@@ -24,9 +24,11 @@ abbrev pub nothing_open : UnendedRows
 nothing_open =
     record { tenure = None; cycle = None; unanswered = None; answered = None; waiting = None; latest = None }
 
+-- the row of a waiting transfer, if it stays without an answer
 abbrev pub pending_row : Waiting → Row
 pending_row w = row.PendingTransfer w.start w.direction
 
+-- that row, if a transfer is waiting
 abbrev pub pending : Option Waiting → Option Row
 pending w = option_map_or (λ w. Some (pending_row w)) w None
 
@@ -47,16 +49,21 @@ abbrev pub unanswered_by : Option ℕ → Option Waiting → Option Row → Opti
 unanswered_by None w other = option_or (pending w) other
 unanswered_by (Some cycle) w other = other
 
+-- the last answered transfer that is open, after the waiting transfer `w` of a cycle is answered at `i`: it is `w`,
+-- unless it was closed before
 abbrev pub answered_in : ℕ → TransferAnswer → ℕ → Waiting → Option ℕ → Option Row → Option Row
 answered_in i a cycle w None other =
     Some (row.Transfer w.direction (marked_line a.line) w.start cycle i None a.lanes)
 answered_in i a cycle w (Some close) other = other
 
+-- the last answered transfer that is open, after an answer at `i`, where `latest` is the last cycle and `other` was the
+-- last one before
 abbrev pub answered_by : ℕ → TransferAnswer → Option ℕ → Option Waiting → Option Row → Option Row
 answered_by i a latest None other = other
 answered_by i a None (Some w) other = None
 answered_by i a (Some cycle) (Some w) other = answered_in i a cycle w w.close other
 
+-- the open rows after an answer at `i`
 abbrev pub after_answer : ℕ → TransferAnswer → UnendedRows → UnendedRows
 after_answer i a o = record o {
   unanswered = unanswered_by o.latest o.waiting o.unanswered;
@@ -66,6 +73,7 @@ after_answer i a o = record o {
 
 -- ---- one mark more
 
+-- the open rows after a mark of this kind at `i`
 abbrev pub open_after : ℕ → MarkKind → UnendedRows → UnendedRows
 open_after i kind.Reset o = nothing_open
 open_after i kind.Start o = o
@@ -87,6 +95,7 @@ open_after i kind.Close o = record o { answered = None; waiting = closed i o.wai
 
 -- ---- some marks
 
+-- the open rows after a mark
 abbrev pub open_next : UnendedRows → Mark → UnendedRows
 open_next o m = open_after m.instant m.kind o
 
