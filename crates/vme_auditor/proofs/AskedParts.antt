@@ -24,7 +24,7 @@ use Rattle.vme_monitor.specs.Along.{changes_of, memory_from}
 use Rattle.vme_monitor.specs.Ends.{end_among}
 use Rattle.vme_monitor.specs.KnownRules.{known_begin}
 use Rattle.vme_monitor.specs.Outcome.{BreakWithin, earlier, shifted_break}
-use Rattle.vme_monitor.specs.OverStretches.{has_started, start_in}
+use Rattle.vme_monitor.specs.OverStretches.{has_started, opening_phase}
 use Rattle.vme_monitor.specs.Run.{break_of_fault}
 use Rattle.vme_monitor.specs.Whole.{has_any_stretch}
 use Rattle.vme_monitor.specs.declared.known.Stateless.{Stateless}
@@ -196,18 +196,19 @@ module _ (o : Levels) (x : List Step) where
 
   -- after the first `n` steps the memory of the monitor of stretches is that of instant `n`
   known-at_instant : (n : ℕ) → n ≤ length x → (unbroken_memories (memories_at o) o (take n x)).known
-      ≡ memory_from known_at t (start_in known_begin o) 0 n
+      ≡ memory_from known_at t (opening_phase known_begin o) 0 n
   unfolding known_run
   known-at_instant n h =
       known-unbroken (take n x) (memories_at o) o
-      ∙ (IsRunTo-take known_at t (start_in known_begin o) n h).leaving
+      ∙ (IsRunTo-take known_at t (opening_phase known_begin o) n h).leaving
 
   -- after the first `n` steps the memory of the handshake monitor is that of instant `n`
   handshake-at_instant : (n : ℕ) → n ≤ length x → (unbroken_memories (memories_at o) o (take n x)).handshake
-      ≡ memory_from handshake_at t (start_in dtb_begin o) 0 n
+      ≡ memory_from handshake_at t (opening_phase dtb_begin o) 0 n
   unfolding handshake_run
   handshake-at_instant n h =
-      handshake-unbroken (take n x) (memories_at o) o ∙ (IsRunTo-take handshake_at t (start_in dtb_begin o) n h).leaving
+      handshake-unbroken (take n x) (memories_at o) o
+      ∙ (IsRunTo-take handshake_at t (opening_phase dtb_begin o) n h).leaving
 
   -- the noted events after a step, by the memories of the two monitors
   abbrev events_of_step : AskedEvents → StretchPhase HandshakeMemory → StretchPhase Stateless → Levels → Levels
@@ -325,7 +326,7 @@ module _ (o : Levels) (x : List Step) (ok : malformed_step (recorded o x) ≡ No
 -- the monitors have started at the end of a recording exactly if it has a judged stretch
 abbrev pub KnowsStart : Type 0
 KnowsStart = (t : Trace) → malformed_step t ≡ None → t.opening.slots ≤ 21
-    → has_started (known_run (start_in known_begin t.opening) t.opening t.steps).leaving
+    → has_started (known_run (opening_phase known_begin t.opening) t.opening t.steps).leaving
     ≡ has_any_stretch (judged_stretches t)
 
 -- the verdict of no stretch names no break
@@ -381,8 +382,8 @@ module _ (finds : FindsFirst) (starts : KnowsStart) where
     unfolding known_run
     has_started-at_end =
         ap has_started
-        (sym (IsRunTo-take known_at (recorded o x) (start_in known_begin o) (length x) (omega arith)).leaving
-        ∙ ap (λ (y : List Step). (known_run (start_in known_begin o) o y).leaving) (take_all (length x) x
+        (sym (IsRunTo-take known_at (recorded o x) (opening_phase known_begin o) (length x) (omega arith)).leaving
+        ∙ ap (λ (y : List Step). (known_run (opening_phase known_begin o) o y).leaving) (take_all (length x) x
         (omega arith)))
         ∙ starts (recorded o x) ok few
 
@@ -399,7 +400,7 @@ module _ (finds : FindsFirst) (starts : KnowsStart) where
         let judged : has_any_stretch (judged_stretches (recorded o front)) ≡ true =
         has_any_stretch-broken (recorded o front) b
         (finds (recorded o front) sound few ∙ first_break_from-cut x (memories_at o) o b e) in
-        ap has_started (sym (IsRunTo-take known_at (recorded o x) (start_in known_begin o) b.instant h).leaving)
+        ap has_started (sym (IsRunTo-take known_at (recorded o x) (opening_phase known_begin o) b.instant h).leaving)
         ∙ starts (recorded o front) sound few ∙ judged
         ∙ sym (has_any_stretch-broken (recorded o x) b (finds (recorded o x) ok few ∙ e))
 

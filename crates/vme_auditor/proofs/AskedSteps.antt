@@ -22,7 +22,7 @@ use Rattle.vme_trace.proofs.Ranges.{fails-any, any-next}
 use Rattle.vme_monitor.specs.Along.{changes_of, memory_from, next_at}
 use Rattle.vme_monitor.specs.Ends.{end_among}
 use Rattle.vme_monitor.specs.KnownRules.{known_begin, known_end_fault, known_next, known_start_marks, known_reset_marks}
-use Rattle.vme_monitor.specs.OverStretches.{has_started, judging, phase_step, start_in}
+use Rattle.vme_monitor.specs.OverStretches.{has_started, judging, phase_step, opening_phase}
 use Rattle.vme_monitor.specs.Run.{no_step_marks, quiet}
 use Rattle.vme_monitor.specs.declared.known.Stateless.{Stateless}
 use Rattle.vme_monitor.specs.declared.mark.Next.{Next}
@@ -184,11 +184,11 @@ module _ (t : Trace) (ok : malformed_step t ≡ None) (few : t.opening.slots ≤
 
   -- the memory of the monitor of stretches at instant n
   abbrev pub known_phase : ℕ → StretchPhase Stateless
-  known_phase n = memory_from known_at t (start_in known_begin t.opening) 0 n
+  known_phase n = memory_from known_at t (opening_phase known_begin t.opening) 0 n
 
   -- the memory of the handshake monitor at instant n
   abbrev pub phase_at : ℕ → StretchPhase HandshakeMemory
-  phase_at n = memory_from handshake_at t (start_in dtb_begin t.opening) 0 n
+  phase_at n = memory_from handshake_at t (opening_phase dtb_begin t.opening) 0 n
 
   -- the events of the step from an instant to the next
   abbrev pub then_at : AskedEvents → ℕ → AskedEvents
@@ -204,11 +204,11 @@ module _ (t : Trace) (ok : malformed_step t ≡ None) (few : t.opening.slots ≤
 
   -- `stretch` is among the events up to instant `n` exactly if it was before, or judging has started by `n`
   pub stretch-asked_to : (e : AskedEvents) (n : ℕ) → n ≤ length t.steps
-      → (asked_to (with_stretch e (has_started (start_in known_begin t.opening))) n).stretch
+      → (asked_to (with_stretch e (has_started (opening_phase known_begin t.opening))) n).stretch
       ≡ (e.stretch || has_started (known_phase n))
   stretch-asked_to e zero h = refl
   stretch-asked_to e (suc n) h =
-      let from = asked_to (with_stretch e (has_started (start_in known_begin t.opening))) n in
+      let from = asked_to (with_stretch e (has_started (opening_phase known_begin t.opening))) n in
       let kinds = (next_at known_at t (known_phase n) n).shown in
       ap (λ b. b || kinds.start)
       (stretch-events_in from (phase_at n) (end_among (levels_at t (suc n)) (cs_at n)) (levels_at t n)

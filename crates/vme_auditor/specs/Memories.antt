@@ -5,7 +5,7 @@ use Rattle.vme_trace.specs.Levels.{Levels}
 use Rattle.vme_trace.specs.declared.step.Change.{Change}
 use Rattle.vme_trace.specs.Names.{rule_number}
 use Rattle.vme_trace.specs.declared.verdict.Break.{Break}
-use Rattle.vme_monitor.specs.OverStretches.{observed, phase_step, start_in}
+use Rattle.vme_monitor.specs.OverStretches.{observed, phase_step, opening_phase}
 use Rattle.vme_monitor.specs.Run.{break_of_fault, no_step_marks, machine_step}
 use Rattle.vme_monitor.specs.KnownRules.{known_begin, known_end_fault, known_next, known_start_marks, known_reset_marks}
 use Rattle.vme_monitor.specs.KnownRules.{known_observation}
@@ -55,11 +55,11 @@ acknowledge_at =
 abbrev pub memories_at : Levels → Memories
 memories_at o =
     record {
-      known = start_in known_begin o;
-      handshake = start_in dtb_begin o;
-      stability = start_in stability_begin o;
-      grant = start_in grant_begin o;
-      acknowledge = start_in acknowledge_begin o;
+      known = opening_phase known_begin o;
+      handshake = opening_phase dtb_begin o;
+      stability = opening_phase stability_begin o;
+      grant = opening_phase grant_begin o;
+      acknowledge = opening_phase acknowledge_begin o;
     }
 
 -- the memories of the monitors after a step

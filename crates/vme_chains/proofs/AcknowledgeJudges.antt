@@ -16,7 +16,7 @@ use Rattle.vme_trace.specs.declared.step.Change.{Change}
 use Rattle.vme_trace.proofs.StretchEnds.{slots_at}
 use Rattle.vme_monitor.specs.Along.{changes_of, next_at, memory_from}
 use Rattle.vme_monitor.specs.Run.{break_of_fault, machine_step, no_step_marks, run_of}
-use Rattle.vme_monitor.specs.OverStretches.{observed, phase_step, start_in}
+use Rattle.vme_monitor.specs.OverStretches.{observed, phase_step, opening_phase}
 use Rattle.vme_monitor.specs.Whole.{FindsLeast, ShowsAll}
 use Rattle.vme_monitor.specs.declared.mark.Next.{Next}
 use Rattle.vme_monitor.proofs.InsideRules.{FindsLeast-inside, ShowsAll-inside}
@@ -200,7 +200,7 @@ module _ (t : Trace) (stretch : Stretch) (ok : malformed_step t ≡ None) (few :
 pub acknowledge_first_break : FindsLeast
     (run_of (machine_step (observed acknowledge_observation) (phase_step acknowledge_begin acknowledge_start_marks
     no_step_marks (λ l. None)
-    acknowledge_next))) (start_in acknowledge_begin) acknowledge_rules
+    acknowledge_next))) (opening_phase acknowledge_begin) acknowledge_rules
 acknowledge_first_break = FindsLeast-inside acknowledge_begin acknowledge_start_marks acknowledge_observation
     acknowledge_next acknowledge_rules
     refl (λ t stretch ok few facts n from before within unbroken. acknowledge_inside t stretch ok few facts n from
@@ -211,7 +211,7 @@ acknowledge_first_break = FindsLeast-inside acknowledge_begin acknowledge_start_
 pub acknowledge_marks : ShowsAll
     (run_of (machine_step (observed acknowledge_observation)
     (phase_step acknowledge_begin acknowledge_start_marks no_step_marks acknowledge_end_fault
-    acknowledge_next))) (start_in acknowledge_begin) no_step_marks acknowledge_shown
+    acknowledge_next))) (opening_phase acknowledge_begin) no_step_marks acknowledge_shown
 acknowledge_marks =
     ShowsAll-inside acknowledge_begin acknowledge_start_marks acknowledge_observation acknowledge_next
     acknowledge_end_fault acknowledge_shown

@@ -17,7 +17,7 @@ use Rattle.vme_trace.specs.declared.step.Change.{Change}
 use Rattle.vme_trace.proofs.OpenTransfers.{is_judged-holds}
 use Rattle.vme_monitor.specs.Along.{changes_of, next_at, memory_from}
 use Rattle.vme_monitor.specs.Run.{break_of_fault, machine_step, run_of, no_step_marks, quiet}
-use Rattle.vme_monitor.specs.OverStretches.{observed, phase_step, start_in}
+use Rattle.vme_monitor.specs.OverStretches.{observed, phase_step, opening_phase}
 use Rattle.vme_monitor.specs.Whole.{FindsLeast, ShowsAll}
 use Rattle.vme_monitor.specs.declared.mark.BusGrant.{BusGrant}
 use Rattle.vme_monitor.proofs.InsideRules.{FindsLeast-inside, ShowsAll-inside}
@@ -296,7 +296,7 @@ module _ (t : Trace) (stretch : Stretch) (few : t.opening.slots ≤ 21) where
 pub grant_first_break : FindsLeast
     (run_of (machine_step (observed grant_observation)
     (phase_step grant_begin grant_start_marks no_step_marks (λ l. None) grant_next)))
-    (start_in grant_begin) grant_rules
+    (opening_phase grant_begin) grant_rules
 grant_first_break = FindsLeast-inside grant_begin grant_start_marks grant_observation grant_next grant_rules refl
     (λ t stretch ok few facts n from before within unbroken. fault-inside t stretch few ok n from before within)
 
@@ -304,7 +304,7 @@ grant_first_break = FindsLeast-inside grant_begin grant_start_marks grant_observ
 pub grant_marks : ShowsAll
     (run_of (machine_step (observed grant_observation)
     (phase_step grant_begin grant_start_marks no_step_marks grant_end_fault grant_next)))
-    (start_in grant_begin) no_step_marks tenures_shown
+    (opening_phase grant_begin) no_step_marks tenures_shown
 grant_marks =
     ShowsAll-inside grant_begin grant_start_marks grant_observation grant_next grant_end_fault tenures_shown
     (λ t stretch ok few facts. record {

@@ -22,7 +22,7 @@ use Rattle.vme_trace.proofs.OpenTransfers.{suc-sub-one}
 use Rattle.vme_trace.proofs.Ranges.{fails-any}
 use Rattle.vme_monitor.specs.Along.{changes_of, next_at}
 use Rattle.vme_monitor.specs.Run.{break_of_fault, machine_step, no_step_marks, run_of}
-use Rattle.vme_monitor.specs.OverStretches.{observed, phase_step, start_in}
+use Rattle.vme_monitor.specs.OverStretches.{observed, phase_step, opening_phase}
 use Rattle.vme_monitor.specs.Tracked.{IsTransferPhase}
 use Rattle.vme_monitor.specs.Tracking.{entered, is_unanswered, is_within, is_writing}
 use Rattle.vme_monitor.specs.Whole.{FindsLeast, ShowsAll}
@@ -224,7 +224,7 @@ module _ (t : Trace) (stretch : Stretch) where
 -- the machine of the handshake finds the least break of its rules
 pub dtb_first_break : FindsLeast
     (run_of (machine_step (observed dtb_observation) (phase_step dtb_begin dtb_start_marks no_step_marks (λ l. None)
-    dtb_step))) (start_in dtb_begin)
+    dtb_step))) (opening_phase dtb_begin)
     handshake_rules
 dtb_first_break =
     FindsLeast-inside dtb_begin dtb_start_marks dtb_observation dtb_step handshake_rules refl
@@ -234,7 +234,7 @@ dtb_first_break =
 -- the machine of the handshake shows the cycles and transfers of a recording
 pub dtb_marks : ShowsAll
     (run_of (machine_step (observed dtb_observation) (phase_step dtb_begin dtb_start_marks no_step_marks dtb_end_fault
-    dtb_step))) (start_in dtb_begin) no_step_marks handshake_shown
+    dtb_step))) (opening_phase dtb_begin) no_step_marks handshake_shown
 dtb_marks =
     ShowsAll-inside dtb_begin dtb_start_marks dtb_observation dtb_step dtb_end_fault handshake_shown
     (λ t stretch ok few facts. record {

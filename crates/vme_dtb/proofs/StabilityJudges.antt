@@ -18,7 +18,7 @@ use Rattle.vme_trace.specs.declared.step.Change.{Change}
 use Rattle.vme_trace.proofs.Ranges.{any-fails}
 use Rattle.vme_monitor.specs.Along.{changes_of, memory_from, next_at}
 use Rattle.vme_monitor.specs.Run.{break_of_fault, no_step_marks, machine_step, quiet, run_of}
-use Rattle.vme_monitor.specs.OverStretches.{observed, phase_step, start_in}
+use Rattle.vme_monitor.specs.OverStretches.{observed, phase_step, opening_phase}
 use Rattle.vme_monitor.specs.Whole.{FindsLeast, ShowsAll}
 use Rattle.vme_monitor.specs.declared.mark.Next.{Next}
 use Rattle.vme_monitor.proofs.InsideRules.{FindsLeast-inside, ShowsAll-inside}
@@ -212,7 +212,7 @@ pub stability_first_break : FindsLeast
     (run_of (machine_step (observed stability_observation)
     (phase_step stability_begin stability_start_marks no_step_marks
     (λ l. None)
-    stability_next))) (start_in stability_begin) stability_rules
+    stability_next))) (opening_phase stability_begin) stability_rules
 stability_first_break = FindsLeast-inside stability_begin stability_start_marks stability_observation stability_next
     stability_rules refl
     (λ t stretch ok few facts n from before within unbroken. break_at-inside t stretch ok facts n from before within
@@ -222,7 +222,7 @@ stability_first_break = FindsLeast-inside stability_begin stability_start_marks 
 pub stability_marks : ShowsAll
     (run_of (machine_step (observed stability_observation)
     (phase_step stability_begin stability_start_marks no_step_marks stability_end_fault
-    stability_next))) (start_in stability_begin) no_step_marks stability_shown
+    stability_next))) (opening_phase stability_begin) no_step_marks stability_shown
 stability_marks =
     ShowsAll-inside stability_begin stability_start_marks stability_observation stability_next stability_end_fault
     stability_shown (λ t stretch ok few facts. record {

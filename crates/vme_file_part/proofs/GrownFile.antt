@@ -12,7 +12,7 @@ use Rattle.vme_trace.specs.Trace.{Trace, levels_after}
 use Rattle.vme_trace.specs.WellFormed.{malformed_step}
 use Rattle.vme_trace.specs.declared.block.Block.{Block}
 use Rattle.vme_trace.specs.declared.step.Step.{Step}
-use Rattle.vme_monitor.specs.KnownRules.{nil_place}
+use Rattle.vme_monitor.specs.KnownRules.{stateless_place}
 use Rattle.vme_monitor.specs.Outcome.{Outcome}
 use Rattle.vme_monitor.specs.OverStretches.{phase_place}
 use Rattle.vme_monitor.specs.Runs.{levels_after-append}
@@ -95,8 +95,9 @@ module _ (listing : Bool) (s : SegmentValue) (b : Block) (a : StandsForFile list
       h)
 
   -- the table of the known levels agrees with the runs of the block
-  AgreesWithRuns-known : AgreesWithRuns listing 4 (phase_place nil_place) s.known (λ p. known_run p b.opening b.steps)
-  AgreesWithRuns-known = AgreesWithRuns-of_file known_run (phase_place nil_place) 4 s.known a.stands.known
+  AgreesWithRuns-known : AgreesWithRuns listing 4 (phase_place stateless_place) s.known
+      (λ p. known_run p b.opening b.steps)
+  AgreesWithRuns-known = AgreesWithRuns-of_file known_run (phase_place stateless_place) 4 s.known a.stands.known
 
   -- the table of the handshake agrees with the runs of the block
   AgreesWithRuns-handshake : AgreesWithRuns listing 147 (phase_place memory_place) s.handshake
@@ -199,8 +200,8 @@ module _ (listing : Bool) (s t r : SegmentValue) (number : ℕ) (o : Levels) (x 
         (omega (arith, e.steps, length-first_steps, steps-of_file listing t more_steps b, length-append x y))
         (e.opening ∙ opening-of_file listing s before a) left-grown starts_at-grown ends_at-grown
         (number_in-grown ∙ ap (λ (n : ℕ). option_map (λ (k : Step). n) (slice_get (x ++ y) 0)) (sym first-is_number))
-        (AgreesWithRuns-of_both known_run IsRun-known (phase_place nil_place) listing 4 o (levels_after o x) x y s.known
-        t.known r.known refl length-fits_64_bits
+        (AgreesWithRuns-of_both known_run IsRun-known (phase_place stateless_place) listing 4 o (levels_after o x) x y
+        s.known t.known r.known refl length-fits_64_bits
         (subst (λ (n : ℕ). IsComposition n s.known t.known r.known) length-first_steps e.known)
         (AgreesWithRuns-known listing s before a) (AgreesWithRuns-known listing t more_steps b))
         (AgreesWithRuns-of_both handshake_run IsRun-handshake (phase_place memory_place) listing 147 o

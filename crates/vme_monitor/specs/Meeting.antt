@@ -8,13 +8,15 @@ use Rattle.vme_trace.specs.declared.step.Step.{Step}
 use Rattle.vme_monitor.specs.Outcome.{Outcome}
 use Rattle.vme_monitor.specs.Walk.{LinkValue}
 
--- how many marks a link, a layer of links and a row have
+-- how many marks a link has
 abbrev pub link_marks : LinkValue → ℕ
 link_marks link = length link.marks
 
+-- how many marks a layer of links has
 abbrev pub layer_marks : List LinkValue → ℕ
 layer_marks layer = sum_by link_marks layer
 
+-- how many marks a row has
 abbrev pub row_marks : {P : Type 0} → Outcome P → ℕ
 row_marks row = length row.marks
 

@@ -16,20 +16,23 @@ use Rattle.vme_monitor.specs.declared.over_stretches.StretchObservation.{Stretch
 use Rattle.vme_monitor.specs.declared.view.End.{End}
 use Rattle.vme_monitor.specs.declared.view.End.TheVariants as end
 
+-- the place of a phase: 0 to 2, or 3 more than the place of the memory in a stretch
 abbrev pub phase_place : {P : Type 0} → (P → ℕ) → StretchPhase P → ℕ
 phase_place place Waiting = 0
 phase_place place Reset = 1
 phase_place place Ended = 2
 phase_place place (InStretch p) = suc (suc (suc (place p)))
 
+-- the phase at a place
 abbrev pub phase_nth : {P : Type 0} → (ℕ → P) → ℕ → StretchPhase P
 phase_nth nth zero = Waiting
 phase_nth nth (suc zero) = Reset
 phase_nth nth (suc (suc zero)) = Ended
 phase_nth nth (suc (suc (suc k))) = InStretch (nth k)
 
-abbrev pub start_in : {P : Type 0} → (Levels → P) → Levels → StretchPhase P
-start_in begin o = if is_idle o then InStretch (begin o) else Waiting
+-- the phase at an opening with the levels o: judging starts there if the bus is idle
+abbrev pub opening_phase : {P : Type 0} → (Levels → P) → Levels → StretchPhase P
+opening_phase begin o = if is_idle o then InStretch (begin o) else Waiting
 
 -- a stretch has started
 abbrev pub has_started : {P : Type 0} → StretchPhase P → Bool
@@ -66,6 +69,7 @@ threshold_by (Some ends) seen = 0
 threshold_by None (Some s) = 1
 threshold_by None None = 2
 
+-- the threshold of a step
 abbrev pub stretch_threshold : {S : Type 0} → StretchObservation S → ℕ
 stretch_threshold seen = threshold_by seen.end seen.inner
 
@@ -77,9 +81,11 @@ module _ {P S : Type 0} (begin : Levels → P) (start_marks : Levels → StepMar
       if is_idle after then record { memory = InStretch (begin after); fault = None; shown = start_marks after }
       else quiet m
 
+  -- a step at which a reset ends the stretch
   abbrev pub resetting : Next (StretchPhase P)
   resetting = record { memory = Reset; fault = None; shown = reset_marks }
 
+  -- a step at which the lost control line l ends the stretch, and all judging
   abbrev pub ending : ℕ → Next (StretchPhase P)
   ending l = record { memory = Ended; fault = end_fault l; shown = no_step_marks }
 
@@ -89,6 +95,7 @@ module _ {P S : Type 0} (begin : Levels → P) (start_marks : Levels → StepMar
   judging p before after (Some (end.Lost l)) s = ending l
   judging p before after None s = inner (option_map_or (next p before after) s (quiet p))
 
+  -- the step of the outer machine in each phase
   abbrev pub phase_step : StretchPhase P → Levels → Levels → StretchObservation S → Next (StretchPhase P)
   phase_step Waiting before after seen = waiting Waiting after
   phase_step (InStretch p) before after seen = judging p before after seen.end seen.inner

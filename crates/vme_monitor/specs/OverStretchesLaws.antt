@@ -1,3 +1,4 @@
+-- Laws of the phases of a machine that judges stretches: their places, and which steps leave them as they are.
 use Rattle.std.proofs.Common.{◌≡◌, ℕ, suc, ◌+◌, ◌<◌, ◌≤◌, refl, ap, arith, Option, None, Some, Bool, true, false}
 use Rattle.std.proofs.Common.{if◌then◌else◌}
 use Rattle.vme_trace.specs.Levels.{Levels, is_idle}

@@ -1,3 +1,4 @@
+-- The breaks and the marks of a run are at the instants of its steps.
 use Rattle.std.proofs.Common.{◌≡◌, ℕ, suc, ◌+◌, ◌^◌, ◌<◌, ◌≤◌, List, [], ◌∷◌, ◌++◌, length, map, refl, sym, ◌∙◌, arith}
 use Rattle.std.proofs.Common.{add-zero, length-append, Option, Some, None}
 use Rattle.std.specs.Option.{option_map}

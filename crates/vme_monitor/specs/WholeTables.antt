@@ -24,10 +24,11 @@ module _ {P : Type 0} {places : Places P} {equal : Equality P} where
   abbrev pub table_marks : Table P places equal → ℕ
   table_marks t = marks_of (link_values t.layers.items) (map outcome_of t.rows.items)
 
-  -- the layers and the rows of a table
+  -- the layers of a table
   abbrev pub table_layers : Table P places equal → List (Vec Link)
   table_layers t = t.layers.items
 
+  -- the rows of a table
   abbrev pub table_rows : Table P places equal → Vec (TableRow P)
   table_rows t = t.rows
 

@@ -13,6 +13,7 @@ use std::alloc::{AllocError, Global};
 use std::marker::PhantomData;
 use vme_trace::{Break, Lines, Step};
 
+/// The place of a kind of mark in the order of kinds.
 fn kind_number(kind: MarkKind) -> u8
     ensures { result ≡ kind_place kind }
 {
@@ -30,6 +31,7 @@ fn kind_number(kind: MarkKind) -> u8
     }
 }
 
+/// Whether `f` is before `g` by its rule, then its line.
 fn breaks_before(f: &Break, g: &Break) -> bool
     ensures { result ≡ fault_before f.now g.now }
 {
@@ -38,6 +40,7 @@ fn breaks_before(f: &Break, g: &Break) -> bool
     a < b || (a == b && f.line.number() < g.line.number())
 }
 
+/// Whether `a` is before `b` by its instant, then its rule, then its line.
 fn sooner(a: &Break, b: &Break) -> bool
     ensures { result ≡ sooner_than a.now b.now }
 {
@@ -45,6 +48,7 @@ fn sooner(a: &Break, b: &Break) -> bool
     a.instant < b.instant || (a.instant == b.instant && less)
 }
 
+/// Whether `a` is before `b` by its instant, then its kind.
 fn mark_lt(a: &Mark, b: &Mark) -> bool
     ensures { result ≡ mark_before a.now b.now }
 {

@@ -253,6 +253,7 @@ fn show(marks: &mut Vec<Mark>, instant: u32, kind: Option<MarkKind>) -> Result<(
     Ok(())
 }
 
+/// The start of a tenure, if one is shown.
 fn tenure_kind(shown: Option<BusGrant>) -> Option<MarkKind>
     ensures { result ≡ option_map tenure_kind_of shown }
 {
@@ -265,6 +266,7 @@ fn tenure_kind(shown: Option<BusGrant>) -> Option<MarkKind>
     }
 }
 
+/// The start of a cycle, if one is shown.
 fn cycle_kind(shown: Option<CycleStart>) -> Option<MarkKind>
     ensures { result ≡ option_map cycle_kind_of shown }
 {
@@ -278,6 +280,7 @@ fn cycle_kind(shown: Option<CycleStart>) -> Option<MarkKind>
     }
 }
 
+/// The start of a transfer, if one is shown; `true` is a write.
 fn transfer_kind(shown: Option<bool>) -> Option<MarkKind>
     ensures { result ≡ option_map Transfer shown }
 {
@@ -287,6 +290,7 @@ fn transfer_kind(shown: Option<bool>) -> Option<MarkKind>
     }
 }
 
+/// An answer by a line, with the data that it takes if it is one of a write.
 fn answer_kind(line: Line, lanes: Option<Lanes>) -> MarkKind
     ensures { result ≡ answer_kind_of line lanes }
 {
@@ -301,6 +305,7 @@ fn answer_kind(line: Line, lanes: Option<Lanes>) -> MarkKind
     }
 }
 
+/// The answer of a transfer, if one is shown.
 fn answered_kind(shown: Option<TransferAnswer>) -> Option<MarkKind>
     ensures { result ≡ option_map answered_kind_of shown }
 {
@@ -328,6 +333,7 @@ fn show_all(marks: &mut Vec<Mark>, instant: u32, shown: StepMarks) -> Result<(),
     show(marks, instant, when(shown.close, MarkKind::Close))
 }
 
+/// A fault as a break at an instant and a time.
 fn break_of(fault: Fault, instant: u32, time: u64) -> Break
     ensures { result ≡ break_of_fault instant time fault }
 {

@@ -16,7 +16,7 @@ ghost use Rattle.vme_trace.specs.declared.step.Change.{Change};
 ghost use Rattle.vme_monitor.specs.declared.mark.Fault.{Fault};
 ghost use Rattle.vme_monitor.specs.declared.mark.StepMarks.{StepMarks};
 ghost use Rattle.vme_monitor.specs.declared.mark.Next.{Next};
-ghost use Rattle.vme_monitor.specs.OverStretches.{has_started, start_in};
+ghost use Rattle.vme_monitor.specs.OverStretches.{has_started, opening_phase};
 
 use crate::machine::{Enumerable, Machine, Small};
 use crate::mark::{Fault, NOTHING, Next, StepMarks, quiet};
@@ -29,26 +29,35 @@ use vme_trace::{Change, Line, Lines};
 /// An automaton that judges by some rules, from the start of a stretch of judged instants to its end. Its
 /// memory is its state.
 pub trait Rules {
+    /// The state of the automaton between two judged steps.
     type Memory: Small;
 
+    /// What the rules see of a step, whatever the memory.
     type Observation: Drop;
 
+    /// The memory at the idle instant at which a stretch starts.
     ghost begin: { Levels → Self.Memory };
 
+    /// What is shown where a stretch starts.
     ghost start_marks: { Levels → StepMarks };
 
+    /// What is shown where a stretch ends because the bus is reset.
     ghost reset_marks: { StepMarks };
 
+    /// What is broken where the control line with this number is lost.
     ghost end_fault: { ℕ → Option Fault };
 
+    /// The observation of a step, by the levels before and after it and by its changes.
     ghost observation: { Levels → Levels → List Change → Option Self.Observation };
 
+    /// What an observed step gives: the next memory, the rule that is broken, if any, and what is shown.
     ghost next: { Self.Memory → Levels → Levels → Self.Observation → Next Self.Memory };
 
     /// The memory at the idle instant at which a stretch starts.
     fn at_start(lines: &Lines) -> Self::Memory
         ensures { result ≡ begin lines.now };
 
+    /// What is shown where a stretch starts.
     fn shown_at_start(lines: &Lines) -> StepMarks
         ensures { result ≡ start_marks lines.now };
 
@@ -60,9 +69,11 @@ pub trait Rules {
     fn fault_at_end(lost: Line) -> Option<Fault>
         ensures { result ≡ end_fault lost };
 
+    /// The observation of a step between the levels `before` and `after`, if the rules see something.
     fn observe(before: &Lines, after: &Lines, changes: &[Change]) -> Option<Self::Observation>
         ensures { result ≡ observation before.now after.now changes.now };
 
+    /// What an observed step gives, between the levels `before` and `after`.
     fn step(
         memory: Self::Memory,
         before: &Lines,
@@ -79,6 +90,7 @@ pub enum StretchPhase<P> {
     Reset,
     /// No stretch has started.
     Waiting,
+    /// A stretch is judged, and this is the memory in it.
     InStretch(P),
     /// A lost control line has ended a stretch.
     Ended,
@@ -133,7 +145,7 @@ pub struct StretchObservation<S> {
 
 /// The phase at an opening: judging starts where the bus is idle.
 pub fn phase_at<R: Rules>(opening: &Lines) -> StretchPhase<R::Memory>
-    ensures { result ≡ start_in R.begin opening.now }
+    ensures { result ≡ opening_phase R.begin opening.now }
 {
     if opening.is_idle() {
         StretchPhase::InStretch(R::at_start(opening))
@@ -149,14 +161,14 @@ pub struct OverStretches<R> {
 
 impl<R: Rules> Machine for OverStretches<R> {
     ghost use Rattle.vme_monitor.specs.OverStretches.{observed, stretch_threshold, phase_sensitivity, phase_step};
-    ghost use Rattle.vme_monitor.specs.OverStretches.{start_in};
+    ghost use Rattle.vme_monitor.specs.OverStretches.{opening_phase};
     ghost use Rattle.vme_monitor.specs.OverStretchesLaws.{phases_few, phase_step_sensitivity, phase_step_unchanged};
 
     type Memory = StretchPhase<R::Memory>;
 
     type Observation = StretchObservation<R::Observation>;
 
-    ghost begin = { start_in R.begin };
+    ghost begin = { opening_phase R.begin };
 
     ghost observation = { observed R.observation };
 

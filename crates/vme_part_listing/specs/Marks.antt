@@ -7,8 +7,8 @@ use Rattle.vme_trace.specs.declared.block.Block.{Block}
 use Rattle.vme_trace.specs.declared.step.Step.{Step}
 use Rattle.vme_monitor.specs.BothMonitors.{merged}
 use Rattle.vme_monitor.specs.Outcome.{Outcome}
-use Rattle.vme_monitor.specs.OverStretches.{phase_place, start_in}
-use Rattle.vme_monitor.specs.KnownRules.{known_begin, nil_place}
+use Rattle.vme_monitor.specs.OverStretches.{phase_place, opening_phase}
+use Rattle.vme_monitor.specs.KnownRules.{known_begin, stateless_place}
 use Rattle.vme_monitor.specs.declared.mark.Mark.{Mark}
 use Rattle.vme_dtb.specs.Machine.{dtb_begin}
 use Rattle.vme_dtb.specs.MemoryNumbers.{memory_place}
@@ -43,11 +43,11 @@ pub record HasRun {P : Type 0} (run : P → Levels → List Step → Outcome P) 
 
 -- w has the run of each monitor over the steps x, from the opening o
 pub record HasMarks (w : MonitorRuns) (o : Levels) (x : List Step) : Type 0 where
-  pub known : HasRun known_run (start_in known_begin) (phase_place nil_place) w.known o x
-  pub handshake : HasRun handshake_run (start_in dtb_begin) (phase_place memory_place) w.handshake o x
-  pub stability : HasRun stability_run (start_in stability_begin) (phase_place holding_place) w.stability o x
-  pub grant : HasRun grant_run (start_in grant_begin) (phase_place arbitration_place) w.grant o x
-  pub acknowledge : HasRun acknowledge_run (start_in acknowledge_begin)
+  pub known : HasRun known_run (opening_phase known_begin) (phase_place stateless_place) w.known o x
+  pub handshake : HasRun handshake_run (opening_phase dtb_begin) (phase_place memory_place) w.handshake o x
+  pub stability : HasRun stability_run (opening_phase stability_begin) (phase_place holding_place) w.stability o x
+  pub grant : HasRun grant_run (opening_phase grant_begin) (phase_place arbitration_place) w.grant o x
+  pub acknowledge : HasRun acknowledge_run (opening_phase acknowledge_begin)
       (phase_place acknowledge_memory_place) w.acknowledge o
       x
 

@@ -11,7 +11,7 @@ use Rattle.vme_trace.specs.Trace.{changed, levels_after}
 use Rattle.vme_trace.specs.WellFormed.{malformed_step}
 use Rattle.vme_trace.specs.declared.block.Block.{Block}
 use Rattle.vme_trace.specs.declared.step.Step.{Step}
-use Rattle.vme_monitor.specs.KnownRules.{nil_place}
+use Rattle.vme_monitor.specs.KnownRules.{stateless_place}
 use Rattle.vme_monitor.specs.OverStretches.{phase_place}
 use Rattle.vme_monitor.specs.Runs.{levels_after-append}
 use Rattle.vme_dtb.specs.MemoryNumbers.{memory_place}
@@ -92,7 +92,7 @@ module _ (listing : Bool) (s : SegmentValue) (b : Block) (accepted : malformed_s
 
   -- if the tables of s agree with the monitors' runs over the steps of b, s stands for b
   pub SegmentStandsFor-one_file :
-      AgreesWithRuns listing 4 (phase_place nil_place) s.known (λ p. known_run p b.opening b.steps)
+      AgreesWithRuns listing 4 (phase_place stateless_place) s.known (λ p. known_run p b.opening b.steps)
       → AgreesWithRuns listing 147 (phase_place memory_place) s.handshake (λ p. handshake_run p b.opening b.steps)
       → AgreesWithRuns listing 13 (phase_place holding_place) s.stability (λ p. stability_run p b.opening b.steps)
       → AgreesWithRuns listing 35 (phase_place arbitration_place) s.grant (λ p. grant_run p b.opening b.steps)

@@ -8,7 +8,7 @@ use Rattle.std.proofs.lemmas.Nat.{pow-add, pow_pos}
 use Rattle.vme_trace.specs.Blocks.{joined_steps}
 use Rattle.vme_trace.specs.Trace.{levels_after}
 use Rattle.vme_trace.specs.declared.block.Block.{Block}
-use Rattle.vme_monitor.specs.KnownRules.{nil_place}
+use Rattle.vme_monitor.specs.KnownRules.{stateless_place}
 use Rattle.vme_monitor.specs.OverStretches.{phase_place}
 use Rattle.vme_dtb.specs.MemoryNumbers.{memory_place}
 use Rattle.vme_dtb.specs.HoldingNumbers.{holding_place}
@@ -129,8 +129,8 @@ module _ (s t r : SegmentValue) (b : IsOfBoth s t r) where
                 ∙ rw (p.numbered, q.numbered) (sym (first_with_step-append x y)));
             counted = rw (joined_steps-both, length-append, ← p.counted, ← q.counted) b.steps;
             known = rw (b.opening, joined_steps-both)
-                (AgreesWithRuns-of_both known_run IsRun-known (phase_place nil_place) listing 4 s.opening t.opening
-                (joined_steps x) (joined_steps y) s.known t.known r.known opens fits (rw (← p.counted) b.known) p.known
+                (AgreesWithRuns-of_both known_run IsRun-known (phase_place stateless_place) listing 4 s.opening
+                t.opening (joined_steps x) (joined_steps y) s.known t.known r.known opens fits (rw (← p.counted) b.known) p.known
                 q.known);
             handshake = rw (b.opening, joined_steps-both)
                 (AgreesWithRuns-of_both handshake_run IsRun-handshake

@@ -4,7 +4,7 @@ use Rattle.std.specs.Prelude.{◌≡◌, ℕ, Bool, List, length}
 use Rattle.vme_trace.specs.Levels.{Levels}
 use Rattle.vme_trace.specs.Trace.{levels_after}
 use Rattle.vme_trace.specs.declared.step.Step.{Step}
-use Rattle.vme_monitor.specs.KnownRules.{nil_place}
+use Rattle.vme_monitor.specs.KnownRules.{stateless_place}
 use Rattle.vme_monitor.specs.OverStretches.{phase_place}
 use Rattle.vme_dtb.specs.MemoryNumbers.{memory_place}
 use Rattle.vme_dtb.specs.HoldingNumbers.{holding_place}
@@ -36,7 +36,7 @@ pub record TablesHaveNodesAtMost (k : ℕ) (all : FileTables) : Type 0 where
 -- each table agrees with the runs of its monitor from each memory p, over the steps x after the opening levels o; the
 -- tables have nodes only if the part has marks (`listing`), and not too many for x; and `all.left` is the levels after x
 pub record AreTablesOf (listing : Bool) (o : Levels) (x : List Step) (all : FileTables) : Type 0 where
-  pub known : AgreesWithRuns listing 4 (phase_place nil_place) (table_value all.known) (λ p. known_run p o x)
+  pub known : AgreesWithRuns listing 4 (phase_place stateless_place) (table_value all.known) (λ p. known_run p o x)
   pub handshake : AgreesWithRuns listing 147 (phase_place memory_place) (table_value all.handshake)
       (λ p. handshake_run p o x)
   pub stability : AgreesWithRuns listing 13 (phase_place holding_place) (table_value all.stability)

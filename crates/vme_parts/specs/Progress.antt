@@ -7,8 +7,8 @@ use Rattle.vme_trace.specs.WellFormed.{malformed_step}
 use Rattle.vme_trace.specs.declared.block.Block.{Block}
 use Rattle.vme_trace.specs.declared.step.Step.{Step}
 use Rattle.vme_monitor.specs.Outcome.{Outcome}
-use Rattle.vme_monitor.specs.OverStretches.{phase_place, start_in}
-use Rattle.vme_monitor.specs.KnownRules.{known_begin, nil_place}
+use Rattle.vme_monitor.specs.OverStretches.{phase_place, opening_phase}
+use Rattle.vme_monitor.specs.KnownRules.{known_begin, stateless_place}
 use Rattle.vme_dtb.specs.Machine.{dtb_begin}
 use Rattle.vme_dtb.specs.MemoryNumbers.{memory_place}
 use Rattle.vme_dtb.specs.HoldingNumbers.{holding_place}
@@ -42,11 +42,11 @@ HasState run begin place s o x = AgreesWithRun false place (way_of s) (run (begi
 
 -- s has the state of each monitor after the steps x, from the opening o
 pub record HasStates (s : States) (o : Levels) (x : List Step) : Type 0 where
-  pub known : HasState known_run (start_in known_begin) (phase_place nil_place) s.known o x
-  pub handshake : HasState handshake_run (start_in dtb_begin) (phase_place memory_place) s.handshake o x
-  pub stability : HasState stability_run (start_in stability_begin) (phase_place holding_place) s.stability o x
-  pub grant : HasState grant_run (start_in grant_begin) (phase_place arbitration_place) s.grant o x
-  pub acknowledge : HasState acknowledge_run (start_in acknowledge_begin)
+  pub known : HasState known_run (opening_phase known_begin) (phase_place stateless_place) s.known o x
+  pub handshake : HasState handshake_run (opening_phase dtb_begin) (phase_place memory_place) s.handshake o x
+  pub stability : HasState stability_run (opening_phase stability_begin) (phase_place holding_place) s.stability o x
+  pub grant : HasState grant_run (opening_phase grant_begin) (phase_place arbitration_place) s.grant o x
+  pub acknowledge : HasState acknowledge_run (opening_phase acknowledge_begin)
       (phase_place acknowledge_memory_place) s.acknowledge
       o x
 
@@ -66,7 +66,7 @@ pub record FitStates (s : States) : Type 0 where
 
 -- the tables of s agree with the monitors' runs over the steps y from the levels v
 pub record TellsAll (listing : Bool) (s : SegmentValue) (v : Levels) (y : List Step) : Type 0 where
-  pub known : AgreesWithRuns listing 4 (phase_place nil_place) s.known (λ p. known_run p v y)
+  pub known : AgreesWithRuns listing 4 (phase_place stateless_place) s.known (λ p. known_run p v y)
   pub handshake : AgreesWithRuns listing 147 (phase_place memory_place) s.handshake (λ p. handshake_run p v y)
   pub stability : AgreesWithRuns listing 13 (phase_place holding_place) s.stability (λ p. stability_run p v y)
   pub grant : AgreesWithRuns listing 35 (phase_place arbitration_place) s.grant (λ p. grant_run p v y)

@@ -4,7 +4,7 @@ use Rattle.std.specs.Option.{option_map}
 use Rattle.vme_trace.specs.Blocks.{joined_steps}
 use Rattle.vme_trace.specs.declared.block.Block.{Block}
 use Rattle.vme_trace.specs.declared.step.Step.{Step}
-use Rattle.vme_monitor.specs.KnownRules.{nil_place}
+use Rattle.vme_monitor.specs.KnownRules.{stateless_place}
 use Rattle.vme_monitor.specs.OverStretches.{phase_place}
 use Rattle.vme_dtb.specs.MemoryNumbers.{memory_place}
 use Rattle.vme_dtb.specs.HoldingNumbers.{holding_place}
@@ -45,7 +45,8 @@ pub record SegmentStandsFor (listing : Bool) (s : SegmentValue) (bs : List Block
   pub as_many : length bs ≡ 2 ^ s.order
   pub numbered : option_map (λ (t : SegmentTimes). t.number) s.times ≡ first_with_step bs
   pub counted : s.steps ≡ length (joined_steps bs)
-  pub known : AgreesWithRuns listing 4 (phase_place nil_place) s.known (λ p. known_run p s.opening (joined_steps bs))
+  pub known : AgreesWithRuns listing 4 (phase_place stateless_place) s.known
+      (λ p. known_run p s.opening (joined_steps bs))
   pub handshake : AgreesWithRuns listing 147 (phase_place memory_place) s.handshake
       (λ p. handshake_run p s.opening (joined_steps bs))
   pub stability : AgreesWithRuns listing 13 (phase_place holding_place) s.stability

@@ -7,7 +7,7 @@ use Rattle.vme_trace.specs.Blocks.{joined_steps}
 use Rattle.vme_trace.specs.declared.block.Block.{Block}
 use Rattle.vme_trace.specs.declared.step.Step.{Step}
 use Rattle.vme_monitor.specs.Outcome.{Outcome}
-use Rattle.vme_monitor.specs.OverStretches.{start_in}
+use Rattle.vme_monitor.specs.OverStretches.{opening_phase}
 use Rattle.vme_monitor.specs.KnownRules.{known_begin}
 use Rattle.vme_dtb.specs.Machine.{dtb_begin}
 use Rattle.vme_dtb.specs.StabilityRules.{stability_begin}
@@ -36,11 +36,11 @@ pub record HasMonitorState {P : Type 0}
 
 -- `found` has the states of all monitors that began at the opening o, after the steps x
 pub record HasFound (found : MonitorStates) (o : Levels) (x : List Step) : Type 0 where
-  pub known : HasMonitorState known_run (start_in known_begin) found.known o x
-  pub handshake : HasMonitorState handshake_run (start_in dtb_begin) found.handshake o x
-  pub stability : HasMonitorState stability_run (start_in stability_begin) found.stability o x
-  pub grant : HasMonitorState grant_run (start_in grant_begin) found.grant o x
-  pub acknowledge : HasMonitorState acknowledge_run (start_in acknowledge_begin) found.acknowledge o x
+  pub known : HasMonitorState known_run (opening_phase known_begin) found.known o x
+  pub handshake : HasMonitorState handshake_run (opening_phase dtb_begin) found.handshake o x
+  pub stability : HasMonitorState stability_run (opening_phase stability_begin) found.stability o x
+  pub grant : HasMonitorState grant_run (opening_phase grant_begin) found.grant o x
+  pub acknowledge : HasMonitorState acknowledge_run (opening_phase acknowledge_begin) found.acknowledge o x
 
 -- `found` has the states of all monitors after all steps of the well-formed recording t
 pub record HasFoundAll (found : MonitorStates) (t : Trace) : Type 0 where

@@ -3,7 +3,7 @@ use Rattle.std.proofs.Common.{length}
 use Rattle.vme_monitor.specs.OverStretches.{observed, phase_place, phase_step}
 use Rattle.vme_monitor.specs.Run.{no_step_marks}
 use Rattle.vme_monitor.specs.KnownRules.{known_begin, known_end_fault, known_next, known_start_marks, known_reset_marks}
-use Rattle.vme_monitor.specs.KnownRules.{known_observation, nil_place}
+use Rattle.vme_monitor.specs.KnownRules.{known_observation, stateless_place}
 use Rattle.vme_dtb.specs.Machine.{dtb_begin, dtb_end_fault, dtb_start_marks, dtb_observation, dtb_step}
 use Rattle.vme_dtb.specs.MemoryNumbers.{memory_place}
 use Rattle.vme_dtb.specs.HoldingNumbers.{holding_place}
@@ -31,7 +31,7 @@ returns c =
     record {
       known = AgreesWithRuns-unmarked_summary (observed known_observation)
           (phase_step known_begin known_start_marks known_reset_marks known_end_fault known_next) 4
-          (phase_place nil_place) _ _ o x all.known.outcomes c.in_ok-known.ensures.agrees;
+          (phase_place stateless_place) _ _ o x all.known.outcomes c.in_ok-known.ensures.agrees;
       handshake = AgreesWithRuns-unmarked_summary (observed dtb_observation)
           (phase_step dtb_begin dtb_start_marks no_step_marks dtb_end_fault dtb_step) 147 (phase_place memory_place) _ _
           o x all.handshake.outcomes c.in_ok-handshake.ensures.agrees;

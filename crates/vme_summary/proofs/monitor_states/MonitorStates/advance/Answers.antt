@@ -1,6 +1,6 @@
 -- Each monitor takes the step from its memory (the state of its automaton).
 use Rattle.vme_monitor.specs.Run.{no_step_marks, machine_step}
-use Rattle.vme_monitor.specs.OverStretches.{observed, phase_step, start_in}
+use Rattle.vme_monitor.specs.OverStretches.{observed, phase_step, opening_phase}
 use Rattle.vme_monitor.specs.KnownRules.{known_begin, known_end_fault, known_next, known_start_marks, known_reset_marks}
 use Rattle.vme_monitor.specs.KnownRules.{known_observation}
 use Rattle.vme_dtb.specs.Machine.{dtb_begin, dtb_end_fault, dtb_start_marks, dtb_observation, dtb_step}
@@ -25,31 +25,31 @@ returns c =
     record {
       known = HasMonitorState-one_step (machine_step (observed known_observation)
           (phase_step known_begin known_start_marks known_reset_marks known_end_fault known_next))
-          (start_in known_begin) _ _ o x step before after
+          (opening_phase known_begin) _ _ o x step before after
           c.args.instant led.levels_are there led.instant_is
           (rw is at c.advance.ensures.memory) (rw is at c.advance.ensures.first_break)
           f.known;
       handshake = HasMonitorState-one_step (machine_step (observed dtb_observation)
           (phase_step dtb_begin dtb_start_marks no_step_marks dtb_end_fault dtb_step))
-          (start_in dtb_begin) _ _ o x step before after
+          (opening_phase dtb_begin) _ _ o x step before after
           c.args.instant led.levels_are there led.instant_is
           (rw is at c.advance-2.ensures.memory) (rw is at c.advance-2.ensures.first_break)
           f.handshake;
       stability = HasMonitorState-one_step (machine_step (observed stability_observation)
           (phase_step stability_begin stability_start_marks no_step_marks stability_end_fault stability_next))
-          (start_in stability_begin) _ _ o x step before after
+          (opening_phase stability_begin) _ _ o x step before after
           c.args.instant led.levels_are there led.instant_is
           (rw is at c.advance-3.ensures.memory) (rw is at c.advance-3.ensures.first_break)
           f.stability;
       grant = HasMonitorState-one_step (machine_step (observed grant_observation)
           (phase_step grant_begin grant_start_marks no_step_marks grant_end_fault grant_next))
-          (start_in grant_begin) _ _ o x step before after
+          (opening_phase grant_begin) _ _ o x step before after
           c.args.instant led.levels_are there led.instant_is
           (rw is at c.advance-4.ensures.memory) (rw is at c.advance-4.ensures.first_break)
           f.grant;
       acknowledge = HasMonitorState-one_step (machine_step (observed acknowledge_observation)
           (phase_step acknowledge_begin acknowledge_start_marks no_step_marks acknowledge_end_fault acknowledge_next))
-          (start_in acknowledge_begin) _ _ o x step before after
+          (opening_phase acknowledge_begin) _ _ o x step before after
           c.args.instant led.levels_are there led.instant_is
           (rw is at c.advance-5.ensures.memory) (rw is at c.advance-5.ensures.first_break)
           f.acknowledge;

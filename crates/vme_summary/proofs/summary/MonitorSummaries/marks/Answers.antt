@@ -3,7 +3,7 @@ use Rattle.std.proofs.Common.{◌∙◌, ap}
 use Rattle.std.proofs.lemmas.Result.{IfOk-weaker}
 use Rattle.vme_monitor.specs.BothMonitors.{merged}
 use Rattle.vme_monitor.specs.Outcome.{Outcome}
-use Rattle.vme_monitor.specs.OverStretches.{start_in}
+use Rattle.vme_monitor.specs.OverStretches.{opening_phase}
 use Rattle.vme_monitor.specs.KnownRules.{known_begin}
 use Rattle.vme_dtb.specs.Machine.{dtb_begin}
 use Rattle.vme_dtb.specs.StabilityRules.{stability_begin}
@@ -24,26 +24,27 @@ returns c =
     (λ marks e t all.
     let of_known =
     c.in_ok-known.ensures ∙ ap (λ (o : Outcome _). o.marks) (outcome-from_opening (known_outcome s) s.known.steps
-    (start_in known_begin) c.start.result opening t.opening t.steps c.start.ensures all.opens all.stands.known)
+    (opening_phase known_begin) c.start.result opening t.opening t.steps c.start.ensures all.opens all.stands.known)
     ∙ c.known_over_recordings.ensures.marks t all.sound all.few in
     let of_handshake =
     c.in_ok-handshake.ensures ∙ ap (λ (o : Outcome _). o.marks)
     (outcome-from_opening (handshake_outcome s) s.handshake.steps
-    (start_in dtb_begin) c.start-2.result opening t.opening t.steps c.start-2.ensures all.opens all.stands.handshake)
+    (opening_phase dtb_begin) c.start-2.result opening t.opening t.steps c.start-2.ensures all.opens
+    all.stands.handshake)
     ∙ c.handshake_over_recordings.ensures.marks t all.sound all.few in
     let of_stability =
     c.in_ok-stability.ensures ∙ ap (λ (o : Outcome _). o.marks)
     (outcome-from_opening (stability_outcome s) s.stability.steps
-    (start_in stability_begin) c.start-3.result opening t.opening t.steps c.start-3.ensures all.opens
+    (opening_phase stability_begin) c.start-3.result opening t.opening t.steps c.start-3.ensures all.opens
     all.stands.stability)
     ∙ c.stability_over_recordings.ensures.marks t all.sound all.few in
     let of_grant =
     c.in_ok-grant.ensures ∙ ap (λ (o : Outcome _). o.marks) (outcome-from_opening (grant_outcome s) s.grant.steps
-    (start_in grant_begin) c.start-4.result opening t.opening t.steps c.start-4.ensures all.opens all.stands.grant)
+    (opening_phase grant_begin) c.start-4.result opening t.opening t.steps c.start-4.ensures all.opens all.stands.grant)
     ∙ c.grants_over_recordings.ensures.marks t all.sound all.few in
     let of_acknowledge =
     c.in_ok-acknowledge.ensures ∙ ap (λ (o : Outcome _). o.marks) (outcome-from_opening (acknowledge_outcome s)
-    s.acknowledge.steps (start_in acknowledge_begin) c.start-5.result opening t.opening t.steps c.start-5.ensures
+    s.acknowledge.steps (opening_phase acknowledge_begin) c.start-5.result opening t.opening t.steps c.start-5.ensures
     all.opens all.stands.acknowledge)
     ∙ c.acknowledge_over_recordings.ensures.marks t all.sound all.few in
     e
