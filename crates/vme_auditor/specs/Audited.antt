@@ -33,6 +33,7 @@ abbrev pub events_in : AskedEvents → StretchPhase HandshakeMemory → Option E
 events_in e (InStretch entered) None before after changes transfer = at_step e entered before after changes transfer
 events_in e phase end before after changes transfer = e
 
+-- the events after a step: those at its instant, and whether judging starts there
 abbrev pub events_by : AskedEvents → StretchPhase HandshakeMemory → Option End → Levels → Levels → List Change
     → StepMarks → StepMarks → AskedEvents
 events_by e entered end before after changes stretch transfer =
@@ -84,9 +85,11 @@ pub record AuditReached : Type 0 where
   pub audit : Audit
   pub returned : List Break
 
+-- before the first step
 abbrev pub reached_at : Levels → AuditReached
 reached_at o = record { levels = o; instant = 0; audit = begun_at o; returned = [] }
 
+-- after one more step
 abbrev pub with_step : AuditReached → Step → AuditReached
 with_step r step =
     let after = changed r.levels step.changes in
@@ -98,6 +101,7 @@ with_step r step =
       returned = r.returned ++ option_to_list (fault_at r.audit.memories r.levels after step.changes n step.time);
     }
 
+-- after some steps from the opening levels `o`
 unfoldable pub reached_after : Levels → List Step → AuditReached
 reached_after o steps = fold with_step (reached_at o) steps
 

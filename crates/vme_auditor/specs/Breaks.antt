@@ -3,6 +3,7 @@ use Rattle.std.specs.Prelude.{ℕ, List, [], ◌∷◌, Option, None, Some}
 use Rattle.vme_trace.specs.declared.verdict.Break.{Break}
 use Rattle.vme_auditor.specs.declared.audit_break.AuditBreak.{AuditBreak}
 
+-- a break of an audit as one of the definitions
 abbrev pub as_break : AuditBreak → Break
 as_break b = record { instant = b.instant; time = b.time; rule = b.rule; line = b.line }
 

@@ -1,4 +1,4 @@
--- Which of the events happened that rules refer to, step by step.
+-- Which of the events happened without which a rule can't be broken, step by step.
 use Rattle.std.specs.Prelude.{ℕ, Bool, true, false, ◌&&◌, ◌||◌, List, Option, None, Some, is_some}
 use Rattle.std.specs.List.{fold}
 use Rattle.std.specs.Option.{option_map_or}
@@ -23,6 +23,7 @@ use Rattle.vme_audit.specs.Event.{Event, event_of}
 use Rattle.vme_audit.specs.Event as event
 use Rattle.vme_auditor.specs.declared.asked.AskedEvents.{AskedEvents}
 
+-- no event has happened
 abbrev pub nothing_happened : AskedEvents
 nothing_happened =
     record {
@@ -80,19 +81,22 @@ is_interrupt_cycle Interrupt = true
 is_interrupt_cycle InterruptDone = true
 is_interrupt_cycle cycle = false
 
+-- whether the cycle after a step is an interrupt acknowledge: the one that starts, or else the one before
 abbrev pub is_interrupt_entered : CyclePhase → Option CycleStart → Bool
 is_interrupt_entered cycle None = is_interrupt_cycle cycle
 is_interrupt_entered cycle (Some start) = is_interrupt start.class
 
--- a net that the backplane has falls or rises
+-- a net that the backplane has falls
 abbrev pub net_falls : Levels → Levels → ℕ → Bool
 net_falls before after l = has_line before.slots l && has_line after.slots l && falls_between before after l
 
+-- a net that the backplane has rises
 abbrev pub net_rises : Levels → Levels → ℕ → Bool
 net_rises before after l = has_line before.slots l && has_line after.slots l && rises_between before after l
 
 -- ---- the events after one more step
 
+-- whether a cycle starts or ends, and a transfer starts
 abbrev pub cycle_taken : AskedEvents → Levels → Levels → StepMarks → AskedEvents
 cycle_taken e before after shown = record e {
   cycle = e.cycle || is_some shown.cycle;
@@ -101,6 +105,7 @@ cycle_taken e before after shown = record e {
   write = e.write || option_map_or (λ write. write) shown.transfer false;
 }
 
+-- whether a strobe rises or falls in a transfer that started before
 abbrev pub strobes_taken : AskedEvents → TransferPhase → Levels → Levels → AskedEvents
 strobes_taken e phase before after = record e {
   strobe_rise = e.strobe_rise || (is_within phase && strobe_rises_between before after);
@@ -116,16 +121,19 @@ further_taken e BlockWriting = record e { block_again = true }
 further_taken e InterruptDone = record e { interrupt_again = true }
 further_taken e cycle = e
 
+-- the same, unless a cycle starts
 abbrev pub further_unless : AskedEvents → CyclePhase → Option CycleStart → AskedEvents
 further_unless e cycle None = further_taken e cycle
 further_unless e cycle (Some start) = e
 
+-- an answer, if there is one
 abbrev pub answer_taken : AskedEvents → CyclePhase → Option CycleStart → Option TransferAnswer → AskedEvents
 answer_taken e cycle starts None = e
 answer_taken e cycle starts (Some answer) =
     further_unless
     (record e { answer = true; interrupt = e.interrupt || is_interrupt_entered cycle starts }) cycle starts
 
+-- whether an answer line falls or rises, and the answer
 abbrev pub answers_taken : AskedEvents → CyclePhase → Levels → Levels → StepMarks → AskedEvents
 answers_taken e cycle before after shown =
     answer_taken
@@ -135,6 +143,8 @@ answers_taken e cycle before after shown =
     })
     cycle shown.cycle shown.answer
 
+-- whether a slot starts or stops passing a grant on, the arbiter grants, or a slot passes an acknowledge on, by one
+-- change
 abbrev pub net_taken : Levels → Levels → AskedEvents → Change → AskedEvents
 net_taken before after e c = record e {
   slot_grant_fall = e.slot_grant_fall || (is_slot_grant c.line && net_falls before after c.line);
@@ -143,12 +153,15 @@ net_taken before after e c = record e {
   acknowledge_fall = e.acknowledge_fall || (is_slot_iack c.line && net_falls before after c.line);
 }
 
+-- the same by all changes
 abbrev pub nets_taken : Levels → Levels → AskedEvents → List Change → AskedEvents
 nets_taken before after e changes = fold (net_taken before after) e changes
 
+-- whether a tenure starts
 abbrev pub tenure_taken : AskedEvents → Levels → Levels → AskedEvents
 tenure_taken e before after = record e { tenure = e.tenure || falls_between before after BBSY }
 
+-- all events of a step at a judged instant, where `entered` is the memory of the handshake before it
 abbrev pub at_step : AskedEvents → HandshakeMemory → Levels → Levels → List Change → StepMarks → AskedEvents
 at_step e entered before after changes shown =
     let a = cycle_taken e before after shown in

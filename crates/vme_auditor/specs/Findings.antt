@@ -20,22 +20,27 @@ use Rattle.vme_auditor.specs.Events.{asks_by}
 use Rattle.vme_auditor.specs.declared.findings.AuditFindings.{AuditFindings}
 use Rattle.vme_auditor.specs.declared.findings.BreakCounts.{BreakCounts}
 
+-- the bus was never idle: at all, or after the last break
 abbrev pub never_idle_by : Option ℕ → CoverageGap
 never_idle_by None = NeverIdle
 never_idle_by (Some instant) = NeverIdleBehind instant
 
+-- how many transfers were answered, at most 2^64 - 1
 abbrev pub answered_by : AuditFindings → ℕ
 answered_by f = min (f.counts.by_dtack + f.counts.by_berr) (2 ^ 64 - 1)
 
+-- a transfer stays without an answer, which started at this instant and time
 abbrev pub hang_by : (ℕ × ℕ) → CoverageGap
 hang_by at = Hang at.0 at.1
 
+-- why the findings don't cover the recording, if they don't: `wanted` answers are asked for
 abbrev pub gap_by : AuditFindings → ℕ → Option CoverageGap
 gap_by f wanted =
     if not f.is_judged then Some (never_idle_by f.last_break)
     else if nat_lt (answered_by f) wanted then Some (FewAnswers (answered_by f) wanted)
     else option_map hang_by f.hang
 
+-- the outcome by the findings, the numbers of breaks, and the number of answers that are wanted
 abbrev pub outcome_by : AuditFindings → BreakCounts → ℕ → Outcome
 outcome_by f breaks wanted =
     if nat_lt 0 breaks.broken then Broken

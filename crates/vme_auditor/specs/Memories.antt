@@ -26,25 +26,30 @@ use Rattle.vme_chains.specs.declared.acknowledge.AcknowledgeMemory.{AcknowledgeM
 use Rattle.vme_auditor.specs.declared.memories.AllShown.{AllShown}
 use Rattle.vme_auditor.specs.declared.memories.Memories.{Memories}
 
--- what each monitor does at a step: the memory that it enters, the rule that it finds broken, and what it shows
+-- what the monitor of stretches does at a step: the memory that it enters, the rule that it finds broken, and what it
+-- shows
 abbrev pub known_at : StretchPhase Stateless → Levels → Levels → List Change → Next (StretchPhase Stateless)
 known_at = machine_step (observed known_observation)
     (phase_step known_begin known_start_marks known_reset_marks known_end_fault known_next)
 
+-- the same of the monitor of the handshake
 abbrev pub handshake_at : StretchPhase HandshakeMemory → Levels → Levels → List Change
     → Next (StretchPhase HandshakeMemory)
 handshake_at = machine_step (observed dtb_observation) (phase_step dtb_begin dtb_start_marks no_step_marks dtb_end_fault
     dtb_step)
 
+-- the same of the monitor of held lines
 abbrev pub stability_at : StretchPhase Holding → Levels → Levels → List Change → Next (StretchPhase Holding)
 stability_at =
     machine_step (observed stability_observation)
     (phase_step stability_begin stability_start_marks no_step_marks stability_end_fault stability_next)
 
+-- the same of the monitor of grants
 abbrev pub grant_at : StretchPhase Arbitration → Levels → Levels → List Change → Next (StretchPhase Arbitration)
 grant_at = machine_step (observed grant_observation) (phase_step grant_begin grant_start_marks no_step_marks
     grant_end_fault grant_next)
 
+-- the same of the monitor of interrupt acknowledges
 abbrev pub acknowledge_at : StretchPhase AcknowledgeMemory → Levels → Levels → List Change
     → Next (StretchPhase AcknowledgeMemory)
 acknowledge_at =

@@ -16,6 +16,7 @@ use Rattle.vme_auditor.specs.declared.tally.Tally.{Tally}
 abbrev pub counted : ℕ → ℕ
 counted n = min (n + 1) (2 ^ 64 - 1)
 
+-- nothing is counted yet
 abbrev pub no_counts : Tally
 no_counts =
     record {
@@ -48,6 +49,7 @@ module _ (more : ℕ → ℕ) where
     unanswered = option_or a.unanswered (Some started);
   }
 
+  -- the waiting transfer, if there is one, stays without an answer
   abbrev pub to_pending : Tally → Tally
   to_pending a = left_pending a a.waiting
 
@@ -55,32 +57,39 @@ module _ (more : ℕ → ℕ) where
   abbrev pub at_break : Tally → Tally
   at_break a = record (to_pending a) { has_cycle = false; unanswered = None }
 
+  -- a reset ends the stretch
   abbrev pub at_reset : Tally → Tally
   at_reset a =
       let b = at_break a in
       record b { counts = record b.counts { resets = more b.counts.resets } }
 
+  -- a tenure starts
   abbrev pub at_tenure : Tally → BusGrant → Tally
   at_tenure a grant = record a { counts = record a.counts { tenures = more a.counts.tenures } }
 
+  -- a cycle of this class is counted
   abbrev pub of_class : Counts → Class → Counts
   of_class c class.S = record c { single = more c.single }
   of_class c class.K = record c { block = more c.block }
   of_class c class.F = record c { free = more c.free }
   of_class c class.I = record c { acknowledge = more c.acknowledge }
 
+  -- a cycle starts
   abbrev pub at_cycle : Tally → CycleStart → Tally
   at_cycle a start = record a { has_cycle = true; counts = of_class a.counts start.class }
 
+  -- a read, or a write (`true`), is counted
   abbrev pub of_direction : Counts → Bool → Counts
   of_direction c true = record c { writes = more c.writes }
   of_direction c false = record c { reads = more c.reads }
 
+  -- a transfer starts, a write if `write`
   abbrev pub at_transfer : Tally → StartedTransfer → Bool → Tally
   at_transfer a started write =
       let b = to_pending a in
       record b { waiting = Some started; counts = of_direction b.counts write }
 
+  -- an answer by this line is counted
   abbrev pub by_line : Counts → ℕ → Counts
   by_line c line = if line == DTACK then record c { by_dtack = more c.by_dtack }
       else record c { by_berr = more c.by_berr }
@@ -103,8 +112,10 @@ module _ (more : ℕ → ℕ) where
       let e = option_map_or (at_transfer d (record { instant = instant; time = time })) transfer.transfer d in
       option_map_or (at_answer e) transfer.answer e
 
+  -- the counts, if the recording ends here
   abbrev pub counts_so_far : Tally → Counts
   counts_so_far a = (to_pending a).counts
 
+-- the first transfer since the last break or reset that has no answer, if the recording ends here
 abbrev pub hang_so_far : Tally → Option StartedTransfer
 hang_so_far a = option_or a.unanswered a.waiting
