@@ -9,6 +9,7 @@ abbrev pub at_line : {A : Type 0} → ℕ → Result A BindFaultKind → Result 
 at_line line (Ok x) = Ok x
 at_line line (Err kind) = Err (record { line = line; kind = kind })
 
+-- `answer` is a fault of this kind at this line, unless it is want of memory, which is at line 0
 abbrev pub BindFailsAs : {Y : Type 0} → ℕ → BindFaultKind → Result Y BindFault → Type 0
 BindFailsAs line Memory answer = line ≡ 0
 BindFailsAs line kind answer = answer ≡ Err (record { line = line; kind = kind })

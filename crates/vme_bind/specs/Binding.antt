@@ -34,20 +34,24 @@ slot_count (t ∷ d ∷ []) = if is_digit t && nat_le 49 t && is_digit d
     && nat_le ((t - 48) * 10 + (d - 48)) 21 then Some ((t - 48) * 10 + (d - 48)) else None
 slot_count word = None
 
+-- the number of slots, if the word is one
 abbrev pub counted : Option ℕ → Result ℕ BindFaultKind
 counted None = Err SlotsFirst
 counted (Some slots) = Ok slots
 
+-- the number of slots that the first statement says, by its words
 abbrev pub slots_stated : List ℕ → List (List ℕ) → Result ℕ BindFaultKind
 slots_stated first (count ∷ []) = if bytes_eq first (codes "slots") then counted (slot_count count) else Err SlotsFirst
 slots_stated first others = Err SlotsFirst
 
 -- ---- an assignment
 
+-- the name before the equals sign of a statement, and the source after it
 abbrev pub name_and_source : List ℕ → List (List ℕ) → Result (List ℕ × List ℕ) BindFaultKind
 name_and_source name (equals ∷ source ∷ []) = if bytes_eq equals (codes "=") then Ok (name, source) else Err BadLine
 name_and_source name others = Err BadLine
 
+-- the group that a name means, if it means one
 abbrev pub group_of : Option Group → Result Group BindFaultKind
 group_of None = Err UnknownName
 group_of (Some group) = Ok group
@@ -56,13 +60,16 @@ group_of (Some group) = Ok group
 abbrev pub is_taken : List Assignment → Group → Bool
 is_taken assignments group = list_any (λ (a : Assignment). share a.group group) assignments
 
+-- the group, if none of its lines is bound before
 abbrev pub once : List Assignment → Group → Result Group BindFaultKind
 once assignments group = if is_taken assignments group then Err NamedTwice else Ok group
 
+-- one more assignment, of a statement on this line
 abbrev pub with_assignment : BoundLines → ℕ → Group → List ℕ → BoundLines
 with_assignment b line group source =
     record b { assignments = b.assignments ++ record { line = line; group = group; source = source_of source } ∷ [] }
 
+-- the binding with the assignment of a statement, or the statement's fault
 abbrev pub bound : BoundLines → StatementText → Result BoundLines BindFaultKind
 bound b s = do
   words ← name_and_source s.first s.others
@@ -79,6 +86,7 @@ bound_all b (s ∷ ss) = do
 
 -- ---- the whole text
 
+-- some assignment binds the line l
 abbrev pub is_bound : List Assignment → ℕ → Bool
 is_bound assignments l = list_any (λ (a : Assignment). holds a.group l) assignments
 
@@ -86,6 +94,7 @@ is_bound assignments l = list_any (λ (a : Assignment). holds a.group l) assignm
 abbrev pub least_unbound : BoundLines → Option ℕ
 least_unbound b = least (λ l. has_line b.slots l && not (is_bound b.assignments l)) 0 line_count
 
+-- the binding, or the fault at `line` that the line l isn't bound
 abbrev pub unless_unbound : ℕ → BoundLines → Option ℕ → Result BoundLines BindFault
 unless_unbound line b None = Ok b
 unless_unbound line b (Some l) = Err (record { line = line; kind = Unbound l })
@@ -106,6 +115,7 @@ with_left_out line b = with_high line reset_group (with_high line data_group b)
 abbrev pub finished : ℕ → BoundLines → Result BoundLines BindFault
 finished line b = all_bound line (with_left_out line b)
 
+-- the binding before any assignment
 abbrev pub no_assignments : ℕ → BoundLines
 no_assignments slots = record { slots = slots; assignments = [] }
 

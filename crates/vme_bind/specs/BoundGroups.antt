@@ -37,6 +37,7 @@ selects index selection =
 abbrev pub bit_range : ℕ → ℕ → ℕ → BitRange
 bit_range net first count = record { net = net; first = first; count = count }
 
+-- the bits of a net that a selection selects by an index, if the index holds it in the same direction
 abbrev pub selected : ℕ → ℕ × ℕ → ℕ × ℕ → Option BitRange
 selected net selection index =
     if selects index selection then Some (bit_range net (distance index.0 selection.0)
@@ -51,6 +52,7 @@ bits_meant (Some selection) net size index = option_and_then (selected net selec
 abbrev pub candidate : VariableSelector → Variable → Option BitRange
 candidate named v = if bytes_eq v.path named.path then bits_meant named.selection v.net v.size v.index else None
 
+-- both are the same bits
 abbrev pub same_bits : BitRange → BitRange → Bool
 same_bits a b = a.net == b.net && a.first == b.first && a.count == b.count
 
@@ -59,6 +61,7 @@ abbrev pub only : List BitRange → Result BitRange BindFaultKind
 only [] = Err NoSuchPath
 only (bits ∷ others) = if list_all (same_bits bits) others then Ok bits else Err AmbiguousPath
 
+-- the bits, if they are `count` bits
 abbrev pub as_wide_as : ℕ → BitRange → Result BitRange BindFaultKind
 as_wide_as count bits = if bits.count == count then Ok bits else Err WrongWidth
 
@@ -71,13 +74,16 @@ source_by count found = do
   fitting ← as_wide_as count bits
   Ok (Bits fitting)
 
+-- where the levels of a group of `count` lines come from, among these variables, or why they come from nowhere
 abbrev pub source_in : List Variable → ℕ → LevelSource → Result GroupSource BindFaultKind
 source_in variables count (Constant level) = Ok (Fixed level)
 source_in variables count (Named named) = source_by count (only (filter_map (candidate named) variables))
 
+-- the group of an assignment with its source, or a fault at the line of the assignment
 abbrev pub bound_group_by : Assignment → Result GroupSource BindFaultKind → Result BoundGroup BindFault
 bound_group_by a r = at_line a.line r >>= λ source. Ok (record { group = a.group; source = source })
 
+-- the bound group of an assignment, among these variables
 abbrev pub bound_group_in : List Variable → Assignment → Result BoundGroup BindFault
 bound_group_in variables a = bound_group_by a (source_in variables a.group.count a.source)
 
@@ -96,6 +102,7 @@ abbrev pub source_on : ℕ → GroupSource → LineSource
 source_on place (Fixed level) = Always level
 source_on place (Bits bits) = Bit (record { net = bits.net; place = bits.first + place })
 
+-- the source of the line l, by the first group that holds it
 abbrev pub bound_group_source : List BoundGroup → ℕ → Option LineSource
 bound_group_source [] l = None
 bound_group_source (w ∷ bound_groups) l = if holds w.group l then Some

@@ -42,10 +42,12 @@ abbrev pub last_bits : ℕ → List Value → Option (List Bit)
 last_bits net [] = None
 last_bits net (v ∷ values) = option_or (last_bits net values) (if v.net == net then Some v.bits else None)
 
+-- the values of an instant, if there is one
 abbrev pub values_of : Option Instant → List Value
 values_of None = []
 values_of (Some instant) = instant.values
 
+-- the time of an instant, or 0 if there is none
 abbrev pub time_of : Option Instant → ℕ
 time_of None = 0
 time_of (Some instant) = instant.time
@@ -78,6 +80,7 @@ module _ (slots : ℕ) (bound_groups : List BoundGroup) (instants : List Instant
   unfoldable pub is_step : ℕ → Bool
   is_step n = any (changes_at n) 0 line_count
 
+  -- the change of the line l at instant n
   abbrev pub change_at : ℕ → ℕ → Change
   change_at n l = record { line = l; level = level_after (n + 1) l }
 

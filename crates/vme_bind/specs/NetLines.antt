@@ -15,6 +15,7 @@ line_bits_on [] net = []
 line_bits_on (line_bits ∷ nets) zero = line_bits.items
 line_bits_on (line_bits ∷ nets) (suc net) = line_bits_on nets net
 
+-- the lines of a net, each with the place of its bit
 abbrev pub line_bits_of : NetLines → ℕ → List LineBit
 line_bits_of line_bits net = line_bits_on line_bits.nets.items net
 
@@ -31,9 +32,11 @@ place_in (Some (Always level)) = 0
 place_in (Some (Bit bit)) = bit.place
 
 module _ (slots : ℕ) (bound_groups : List BoundGroup) where
+  -- the line l takes its level from a bit of `net`
   unfoldable pub is_line_bit : ℕ → ℕ → Bool
   is_line_bit net l = is_on net (line_source slots bound_groups l)
 
+  -- the line l, with the place of its bit
   abbrev pub line_bit_at : ℕ → LineBit
   line_bit_at l = record { line = l; place = place_in (line_source slots bound_groups l) }
 

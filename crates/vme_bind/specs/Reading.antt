@@ -13,6 +13,7 @@ rest_statements s = statements_from s.line (slice_split is_feed s.rest.now)
 abbrev pub last_line : Statements → ℕ
 last_line s = s.line + count_by is_feed s.rest.now
 
+-- a statement as it is read: the words after the first are still one text
 abbrev pub as_text : Statement → StatementText
 as_text s = record { line = s.line; first = s.first.now; others = words s.others.rest.now }
 

@@ -66,6 +66,7 @@ valued line_bits (v ∷ values) now = valued line_bits values
 abbrev pub AreLines : ℕ → List LineBit → Type 0
 AreLines slots line_bits = All (λ (line_bit : LineBit). IsLine slots line_bit.line) line_bits
 
+-- the change of the line l to its level in `now`
 abbrev pub change_to : Levels → ℕ → Change
 change_to now l = record { line = l; level = level_at now l }
 

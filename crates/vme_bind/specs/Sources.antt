@@ -14,6 +14,7 @@ path_and_selection word (Some parts) = elim (index_between parts.1) [
       (parts.0, Some selection)
 ]
 
+-- the source of a path and a selection
 abbrev pub variables_in : List ℕ × Option (ℕ × ℕ) → LevelSource
 variables_in parts = Variable (record { path = parts.0; selection = parts.1 })
 

@@ -4,6 +4,7 @@ use Rattle.std.specs.Prelude.{get_or, filter, count_by}
 use Rattle.std.specs.List.{slice_split}
 use Rattle.vcd_read.specs.Numbers.{is_empty}
 
+-- a line feed
 abbrev pub is_feed : ℕ → Bool
 is_feed b = b == 10
 

@@ -18,10 +18,12 @@ use Rattle.vme_bind.specs.Binding.{BoundLines}
 use Rattle.vme_bind.specs.declared.bound_groups.BoundGroup.{BoundGroup}
 use Rattle.vme_bind.specs.Capture.{recording, recording_of, capture_of}
 
+-- an error is a fault of the binding
 abbrev pub or_binding : {A : Type 0} → Result A BindFault → Result A CaptureFault
 or_binding (Ok x) = Ok x
 or_binding (Err fault) = Err (Binding fault)
 
+-- an error is a fault of the dump
 abbrev pub or_dump : {A : Type 0} → Result A VcdFault → Result A CaptureFault
 or_dump (Ok x) = Ok x
 or_dump (Err fault) = Err (Dump fault)
@@ -54,10 +56,12 @@ recording_of_text b text = recording_read b (dump_of text)
 unfoldable pub capture_of_text : BoundLines → List ℕ → Result Trace CaptureFault
 capture_of_text b text = capture_read b (dump_of text)
 
+-- `answer` is a fault of the dump of this kind at this line; want of memory is at line 0
 abbrev pub DumpFails : {Y : Type 0} → ℕ → FaultKind → Result Y CaptureFault → Type 0
 DumpFails line Memory answer = line ≡ 0
 DumpFails line kind answer = answer ≡ Err (Dump (record { line = line; kind = kind }))
 
+-- `answer` is a fault of the binding of this kind at this line; want of memory is at line 0
 abbrev pub BindingFails : {Y : Type 0} → ℕ → BindFaultKind → Result Y CaptureFault → Type 0
 BindingFails line NoMemory answer = line ≡ 0
 BindingFails line kind answer = answer ≡ Err (Binding (record { line = line; kind = kind }))

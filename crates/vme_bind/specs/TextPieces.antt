@@ -35,6 +35,7 @@ pub record TextReached : Type 0 where
   pub fault : Option BindFault
   pub body : Reached BuilderState
 
+-- how far a reader has made the recording
 abbrev pub text_reached : {F : Type 0} {follows : Ghosts F} → TextReader F follows → TextReached
 text_reached text = record { fault = text.fault; body = reached (λ made. made) text.body_reader }
 
@@ -69,6 +70,7 @@ BeginsAs comes_of view front (Ok (Err back)) = (fault : VcdFault) × (comes_of f
 BeginsAs comes_of view front (Err fault) = (whole : List ℕ) (more : List Token) → tokens whole ≡ tokens front ++ more
     → CaptureFailsBy fault (comes_of whole)
 
+-- the same of the recording that the binding `b` makes of a text
 abbrev pub TextBeginsAs : {X Y : Type 0} → (X → List Token → Result Trace CaptureFault) → BoundLines → List ℕ
     → Result (Result X Y) CaptureFault → Type 0
 TextBeginsAs view b front begun = BeginsAs (recording_of_text b) view front begun

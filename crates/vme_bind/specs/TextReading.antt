@@ -106,6 +106,8 @@ StopsAs line Memory recorded time reading = line ≡ 0
 StopsAs line kind recorded time reading =
     reading ≡ record { recorded = recorded; fault = Some (record { line = line; kind = kind }); time = time }
 
+-- the reading stops with the fault of `stopped`, and the visitor has recorded what is complete before it, unless memory
+-- ran out
 abbrev pub IsStopped : {F : Type 0} → (F → Trace) → Stopped F → TextReading → Type 0
 IsStopped recorded stopped reading = StopsAs stopped.fault.line stopped.fault.kind (recorded stopped.visitor)
     stopped.time reading

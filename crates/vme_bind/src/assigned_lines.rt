@@ -50,6 +50,7 @@ impl AssignedLines {
         }
     }
 
+    /// Notes each of these lines.
     #[inline(never)]
     fn assign_each(&mut self, line_bits: &[LineBit])
         ensures { self.new ≡ with_assigned line_bits.now self.old }

@@ -134,6 +134,7 @@ impl Binding {
         self.assignments.iter().any(|a| a.group.shares(group))
     }
 
+    /// Whether a line is bound.
     fn is_bound(&self, line: Line) -> bool
         ensures { result ≡ is_bound self.now.assignments line }
     {

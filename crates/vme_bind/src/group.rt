@@ -84,6 +84,7 @@ impl Group {
         Some(Group { first, count })
     }
 
+    /// The group of the one line with this name, if the backplane has it.
     fn single(lines: &Lines, name: &[u8]) -> Option<Group>
         ensures { result ≡ option_and_then (single lines.now.slots) (line_named name.now) }
     {

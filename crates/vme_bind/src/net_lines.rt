@@ -71,6 +71,7 @@ impl NetLines {
         Ok(())
     }
 
+    /// Adds a line of a net, with the place of its bit. It fails if memory runs out.
     fn add(&mut self, alloc: Global, net: u32, line_bit: LineBit) -> Result<(), AllocError>
         ensures { OnOk result ((k : ℕ) → line_bits_of self.new k
             ≡ (if k == net then line_bits_of self.old net ++ line_bit ∷ [] else line_bits_of self.old k)) }

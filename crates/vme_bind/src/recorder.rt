@@ -218,6 +218,8 @@ impl Recorder {
         }
     }
 
+    /// Gives each of these lines the level of its bit, by the digits of a value of `size` bits. It fails if memory runs
+    /// out.
     #[inline(never)]
     fn set_each_by_digits(
         &mut self,

@@ -36,6 +36,7 @@ fn without_return(line: &[u8]) -> &[u8]
 impl<'a> Statements<'a> {
     ghost use Rattle.vme_bind.specs.Reading.{rest_statements, last_line, as_text};
 
+    /// The statements of a whole text, whose first line has the number 1.
     pub fn new(text: &'a [u8]) -> Statements<'a>
         ensures left { rest_statements result ≡ statements_of text.now }
         ensures last { last_line result ≡ end_line text.now }

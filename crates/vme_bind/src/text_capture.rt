@@ -81,6 +81,7 @@ fn record_bound_groups<F: StepVisitor>(
     }
 }
 
+/// The fault of a binding that memory ran out, which is at line 0.
 pub(crate) fn want_of_memory() -> BindFault
     ensures { result ≡ record { line = 0; kind = Memory } }
 {

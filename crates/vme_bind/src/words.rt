@@ -24,6 +24,7 @@ fn cut_at_blank(line: &[u8]) -> (&[u8], &[u8])
 }
 
 impl<'a> LineWords<'a> {
+    /// The words of a whole line.
     pub fn new(line: &'a [u8]) -> LineWords<'a>
         ensures { result.rest.now ≡ line.now }
     {
