@@ -21,23 +21,27 @@ use Rattle.vme_monitor.specs.declared.tracking.TransferPhase.TheVariants.{Closed
 use Rattle.vme_chains.specs.declared.acknowledge.AcknowledgeMemory.{AcknowledgeMemory}
 use Rattle.vme_chains.specs.declared.acknowledge.PassingSlots.{PassingSlots}
 
+-- the rules of interrupt acknowledge
 abbrev pub acknowledge_rules : List Rule
 acknowledge_rules = I1 ∷ I2 ∷ I3 ∷ []
 
--- the place of each memory (state of the monitor's automaton): first those of a cycle that DTACK* hasn't answered
+-- the number of the phase of a transfer
 abbrev pub transfer_phase_place : TransferPhase → ℕ
 transfer_phase_place Closed = 0
 transfer_phase_place Reading = 1
 transfer_phase_place Writing = 2
 transfer_phase_place Answered = 3
 
+-- the phase of a transfer with a number
 abbrev pub transfer_phase_nth : ℕ → TransferPhase
 transfer_phase_nth k = if k == 0 then Closed else if k == 1 then Reading else if k == 2 then Writing else Answered
 
+-- the number of a memory (state of the monitor's automaton): first those of a cycle that DTACK* hasn't answered
 abbrev pub acknowledge_memory_place : AcknowledgeMemory → ℕ
 acknowledge_memory_place m = if m.answered_by_dtack then 4 + transfer_phase_place m.transfer else transfer_phase_place
     m.transfer
 
+-- the memory with a number
 abbrev pub acknowledge_memory_nth : ℕ → AcknowledgeMemory
 acknowledge_memory_nth k =
     if nat_lt k 4 then record { transfer = transfer_phase_nth k; answered_by_dtack = false } else record {
@@ -83,9 +87,11 @@ is_answered_by_dtack m v w = is_unanswered (entered m v w) && falls_between v w 
 abbrev pub answered_by_dtack_after : AcknowledgeMemory → Levels → Levels → Bool
 answered_by_dtack_after m v w = is_low (level_at w AS) && (m.answered_by_dtack || is_answered_by_dtack m.transfer v w)
 
+-- the memory after the step
 abbrev pub memory_after : AcknowledgeMemory → Levels → Levels → AcknowledgeMemory
 memory_after m v w = record { transfer = tracked m.transfer v w; answered_by_dtack = answered_by_dtack_after m v w }
 
+-- the fault that rule r is broken on line l
 abbrev pub fault_on : Rule → ℕ → Fault
 fault_on r l = record { rule = r; line = l }
 
@@ -101,15 +107,19 @@ abbrev pub fault_among : AcknowledgeMemory → Levels → Levels → Option ℕ 
 fault_among m v w (Some l) first = Some (fault_on I1 l)
 fault_among m v w None first = fault_of_first m v w first
 
+-- the memory at the start of a stretch
 abbrev pub acknowledge_begin : Levels → AcknowledgeMemory
 acknowledge_begin v = record { transfer = Closed; answered_by_dtack = false }
 
+-- what is shown where a stretch starts: nothing
 abbrev pub acknowledge_start_marks : Levels → StepMarks
 acknowledge_start_marks v = no_step_marks
 
+-- what is broken where a control line is lost: nothing
 abbrev pub acknowledge_end_fault : ℕ → Option Fault
 acknowledge_end_fault l = None
 
+-- the slots that pass an acknowledge on, if there are any or the memory may change
 abbrev pub acknowledge_observation : Levels → Levels → List Change → Option PassingSlots
 acknowledge_observation v w cs =
     if is_some (first_changed (passes_on v w) cs)
@@ -119,6 +129,7 @@ acknowledge_observation v w cs =
           (passes_unasked v w) cs;
     }) else None
 
+-- the result of an observed step
 abbrev pub acknowledge_next : AcknowledgeMemory → Levels → Levels → PassingSlots → Next AcknowledgeMemory
 acknowledge_next m v w seen = record {
   memory = memory_after m v w;

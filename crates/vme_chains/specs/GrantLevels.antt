@@ -17,15 +17,19 @@ use Rattle.vme_chains.specs.declared.grant_memory.LevelSet.{LevelSet}
 abbrev pub shown : Levels → ℕ → Level
 shown v l = if has_line v.slots l then level_at v l else Unknown
 
+-- the line is there, and low
 abbrev pub is_low_in : Levels → ℕ → Bool
 is_low_in v l = is_low (shown v l)
 
+-- the line is there, and high
 abbrev pub is_high_in : Levels → ℕ → Bool
 is_high_in v l = is_high (shown v l)
 
+-- the line falls at the step
 abbrev pub falls_between : Levels → Levels → ℕ → Bool
 falls_between v w l = is_high_in v l && is_low_in w l
 
+-- the line rises at the step
 abbrev pub rises_between : Levels → Levels → ℕ → Bool
 rises_between v w l = is_low_in v l && is_high_in w l
 
@@ -33,6 +37,7 @@ rises_between v w l = is_low_in v l && is_high_in w l
 abbrev pub low_near : Levels → Levels → ℕ → Bool
 low_near v w l = is_low_in v l || is_low_in w l
 
+-- high before the step or after it
 abbrev pub high_near : Levels → Levels → ℕ → Bool
 high_near v w l = is_high_in v l || is_high_in w l
 
@@ -102,6 +107,7 @@ first_changed p (c ∷ cs) = if p c.line then Some c.line else first_changed p c
 abbrev pub is_arbitration : ℕ → Bool
 is_arbitration l = nat_le BBSY l && nat_lt l (iack 1)
 
+-- one of the changes is of such a line
 abbrev pub touches_arbitration : List Change → Bool
 touches_arbitration [] = false
 touches_arbitration (c ∷ cs) = is_arbitration c.line || touches_arbitration cs

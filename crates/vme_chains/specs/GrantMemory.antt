@@ -13,9 +13,11 @@ is_in s n = if n == 0 then s.zero else if n == 1 then s.one else if n == 2 then 
 abbrev pub union : LevelSet → LevelSet → LevelSet
 union a b = record { zero = a.zero || b.zero; one = a.one || b.one; two = a.two || b.two; three = a.three || b.three }
 
+-- a truth value as a binary digit
 abbrev pub bit_of : Bool → ℕ
 bit_of b = if b then 1 else 0
 
+-- the last binary digit of k is 1
 abbrev pub is_odd : ℕ → Bool
 is_odd k = k % 2 == 1
 
@@ -23,12 +25,15 @@ is_odd k = k % 2 == 1
 abbrev pub set_place : LevelSet → ℕ
 set_place s = bit_of s.zero + 2 * (bit_of s.one + 2 * (bit_of s.two + 2 * bit_of s.three))
 
+-- the set whose truth values are the binary digits of k
 abbrev pub set_nth : ℕ → LevelSet
 set_nth k = record { zero = is_odd k; one = is_odd (k / 2); two = is_odd (k / 2 / 2); three = is_odd (k / 2 / 2 / 2) }
 
+-- the number of a memory
 abbrev pub arbitration_place : Arbitration → ℕ
 arbitration_place m = bit_of m.granted + 2 * set_place m.requests
 
+-- the memory with a number
 abbrev pub arbitration_nth : ℕ → Arbitration
 arbitration_nth k = record { requests = set_nth (k / 2); granted = is_odd k }
 

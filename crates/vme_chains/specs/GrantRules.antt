@@ -22,6 +22,7 @@ use Rattle.vme_chains.specs.declared.grant.GrantObservation.{GrantObservation}
 use Rattle.vme_chains.specs.declared.grant_memory.Arbitration.{Arbitration}
 use Rattle.vme_chains.specs.declared.grant_memory.LevelSet.{LevelSet}
 
+-- the rules of grants and tenures
 abbrev pub grant_rules : List Rule
 grant_rules = G1 ∷ G2 ∷ G3 ∷ G4 ∷ G5 ∷ B1 ∷ B2 ∷ B3 ∷ B4 ∷ []
 
@@ -29,6 +30,7 @@ grant_rules = G1 ∷ G2 ∷ G3 ∷ G4 ∷ G5 ∷ B1 ∷ B2 ∷ B3 ∷ B4 ∷ []
 abbrev pub fault_on : Rule → Option ℕ → Option Fault
 fault_on r lines = option_map (λ l. record { rule = r; line = l }) lines
 
+-- the line, if b is true
 abbrev pub line_if : Bool → ℕ → Option ℕ
 line_if b l = if b then Some l else None
 
@@ -44,6 +46,7 @@ nets_fault v w cs =
 abbrev pub unrequested : Levels → Levels → LevelSet → Option ℕ
 unrequested v w requests = least (λ n. falls_between v w (grant n 0) && not (is_in requests n)) 0 4
 
+-- what the step shows, whatever the memory
 abbrev pub seen_between : Levels → Levels → List Change → GrantObservation
 seen_between v w cs =
     record {
@@ -57,6 +60,7 @@ seen_between v w cs =
       cycle_unowned = is_cycle_unowned v w;
     }
 
+-- the slot of a grant, if there is one
 abbrev pub slot_of : Option BusGrant → Option ℕ
 slot_of o = option_map (λ x. x.slot) o
 
@@ -71,18 +75,23 @@ step_fault v w requests granted seen =
     (option_or (fault_on B3 (line_if seen.cycle_unowned AS))
     (fault_on B4 (line_if (is_option_equal (slot_of seen.tenure) (w.slots + 1)) BBSY))))))
 
+-- the memory at the start of a stretch
 abbrev pub grant_begin : Levels → Arbitration
 grant_begin v = record { requests = requested_in v; granted = false }
 
+-- what is shown where a stretch starts: an open tenure, if the bus is busy
 abbrev pub grant_start_marks : Levels → StepMarks
 grant_start_marks v = record no_step_marks { opened = is_low_in v BBSY }
 
+-- what is broken where a control line is lost: nothing
 abbrev pub grant_end_fault : ℕ → Option Fault
 grant_end_fault l = None
 
+-- what the step shows, if a line of the arbitration bus changes or a cycle starts while the bus isn't busy
 abbrev pub grant_observation : Levels → Levels → List Change → Option GrantObservation
 grant_observation v w cs = if touches_arbitration cs || is_cycle_unowned v w then Some (seen_between v w cs) else None
 
+-- the result of an observed step
 abbrev pub grant_next : Arbitration → Levels → Levels → GrantObservation → Next Arbitration
 grant_next m v w seen =
     record {

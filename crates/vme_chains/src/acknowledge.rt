@@ -30,6 +30,7 @@ pub struct AcknowledgeMemory {
     pub answered_by_dtack: bool,
 }
 
+/// The number of the phase of a transfer.
 fn transfer_place(transfer: TransferPhase) -> usize
     ensures place { result ≡ transfer_phase_place transfer }
     ensures few { result < 4 }
@@ -42,6 +43,7 @@ fn transfer_place(transfer: TransferPhase) -> usize
     }
 }
 
+/// The phase of a transfer with a number.
 fn nth_transfer(k: usize) -> TransferPhase
     ensures { result ≡ transfer_phase_nth k }
 {
@@ -125,6 +127,7 @@ pub struct PassingSlots {
     pub unasked: Option<Line>,
 }
 
+/// Whether a line is the acknowledge output of a slot.
 fn is_output(line: Line) -> bool
     ensures { result ≡ is_slot_iack line }
 {
@@ -167,6 +170,7 @@ fn passes_on_unasked(before: &Lines, after: &Lines, line: Line) -> bool
     passes_on(before, after, line) && !is_low_near(before, after, input_of(line))
 }
 
+/// The first changed line that is an acknowledge output and falls.
 fn first_passing(before: &Lines, after: &Lines, changes: &[Change]) -> Option<Line>
     ensures { result ≡ first_changed (passes before.now after.now) changes.now }
 {
@@ -178,6 +182,7 @@ fn first_passing(before: &Lines, after: &Lines, changes: &[Change]) -> Option<Li
     None
 }
 
+/// The first changed line that is an acknowledge output and falls while the slot's input isn't low.
 fn first_unasked(before: &Lines, after: &Lines, changes: &[Change]) -> Option<Line>
     ensures { result ≡ first_changed (passes_unasked before.now after.now) changes.now }
 {
@@ -224,6 +229,7 @@ fn changes_memory(before: &Lines, after: &Lines) -> bool
         || (before.level(Line::AS).is_low() && after.level(Line::AS).is_high())
 }
 
+/// Whether AS* and a data strobe are low, each before the step or after it.
 fn is_strobed(before: &Lines, after: &Lines) -> bool
     ensures { result ≡ strobed_near before.now after.now }
 {
@@ -231,6 +237,7 @@ fn is_strobed(before: &Lines, after: &Lines) -> bool
         && (is_low_near(before, after, Line::DS0) || is_low_near(before, after, Line::DS1))
 }
 
+/// Whether AS* is low before the step and after it.
 fn is_addressed(before: &Lines, after: &Lines) -> bool
     ensures { result ≡ addressed_near before.now after.now }
 {

@@ -51,6 +51,7 @@ fn fault_on(rule: Rule, line: Option<Line>) -> Option<Fault>
     }
 }
 
+/// The line, if a rule is broken on it.
 fn line_if(broken: bool, line: Line) -> Option<Line>
     ensures { result ≡ line_if_of broken line }
 {

@@ -28,36 +28,42 @@ fn shown(lines: &Lines, line: Line) -> Level
     }
 }
 
+/// Whether the line is there, and low.
 pub(crate) fn is_low(lines: &Lines, line: Line) -> bool
     ensures { result ≡ is_low_in lines.now line }
 {
     shown(lines, line).is_low()
 }
 
+/// Whether the line is there, and high.
 fn is_high(lines: &Lines, line: Line) -> bool
     ensures { result ≡ is_high_in lines.now line }
 {
     shown(lines, line).is_high()
 }
 
+/// Whether the line falls at the step.
 pub(crate) fn falls(before: &Lines, after: &Lines, line: Line) -> bool
     ensures { result ≡ falls_between before.now after.now line }
 {
     is_low(after, line) && is_high(before, line)
 }
 
+/// Whether the line rises at the step.
 pub(crate) fn rises(before: &Lines, after: &Lines, line: Line) -> bool
     ensures { result ≡ rises_between before.now after.now line }
 {
     is_low(before, line) && is_high(after, line)
 }
 
+/// Whether the line is low before the step or after it.
 fn is_low_near(before: &Lines, after: &Lines, line: Line) -> bool
     ensures { result ≡ low_near before.now after.now line }
 {
     is_low(before, line) || is_low(after, line)
 }
 
+/// Whether the line is high before the step or after it.
 fn is_high_near(before: &Lines, after: &Lines, line: Line) -> bool
     ensures { result ≡ high_near before.now after.now line }
 {

@@ -15,13 +15,14 @@ pub struct LevelSet {
     pub three: bool,
 }
 
-/// 1 or 0.
+/// A truth value as a binary digit.
 fn bit(flag: bool) -> usize
     ensures { result ≡ bit_of flag }
 {
     if flag { 1 } else { 0 }
 }
 
+/// Whether the last binary digit of `k` is 1.
 fn is_odd(k: usize) -> bool
     ensures { result ≡ is_odd_number k }
 {
@@ -54,13 +55,14 @@ impl LevelSet {
         }
     }
 
-    /// The truth values as the binary digits of a number below 16.
+    /// The number of the set: the truth values as the binary digits of a number below 16.
     fn place(self) -> usize
         ensures { result ≡ set_place self }
     {
         bit(self.zero) + 2 * (bit(self.one) + 2 * (bit(self.two) + 2 * bit(self.three)))
     }
 
+    /// The set with the number `k`.
     fn nth(k: usize) -> LevelSet
         ensures { result ≡ set_nth k }
     {

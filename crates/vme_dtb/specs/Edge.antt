@@ -27,6 +27,7 @@ abbrev pub first_of : Bool → ℕ → Bool → ℕ → Option ℕ
 first_of a x b y = if a then Some x else if b then Some y else None
 
 module _ (v w : Levels) where
+  -- line l has the same level before and after the step
   abbrev pub stays_on : ℕ → Bool
   stays_on l = same_level (level_at v l) (level_at w l)
 
@@ -56,6 +57,7 @@ module _ (v w : Levels) where
         close = closes_between;
       }
 
+  -- all that the step shows of the handshake
   abbrev pub edges_between : Edges
   edges_between =
       record {

@@ -37,24 +37,28 @@ passed false true true = RisenInWrite
 passed false true false = RisenInRead
 passed false false w = Fresh
 
-abbrev pub progress_place : TransferState → ℕ
-progress_place Fresh = 0
-progress_place RisenInRead = 1
-progress_place RisenInWrite = 2
-progress_place Answered = 3
-progress_place Over = 4
+-- the number of what has happened in a transfer
+abbrev pub transfer_state_place : TransferState → ℕ
+transfer_state_place Fresh = 0
+transfer_state_place RisenInRead = 1
+transfer_state_place RisenInWrite = 2
+transfer_state_place Answered = 3
+transfer_state_place Over = 4
 
-abbrev pub progress_nth : ℕ → TransferState
-progress_nth k = if k == 0 then Fresh else if k == 1 then RisenInRead else if k == 2 then RisenInWrite
+-- what has happened, by its number
+abbrev pub transfer_state_nth : ℕ → TransferState
+transfer_state_nth k = if k == 0 then Fresh else if k == 1 then RisenInRead else if k == 2 then RisenInWrite
     else if k == 3 then Answered else Over
 
+-- the number of a memory
 abbrev pub holding_place : Holding → ℕ
-holding_place m = progress_place m.transfer + (if m.cycle_answered then 5 else 0)
+holding_place m = transfer_state_place m.transfer + (if m.cycle_answered then 5 else 0)
 
+-- the memory with a number
 abbrev pub holding_nth : ℕ → Holding
-holding_nth k = record { transfer = progress_nth (k % 5); cycle_answered = k / 5 == 1 }
+holding_nth k = record { transfer = transfer_state_nth (k % 5); cycle_answered = k / 5 == 1 }
 
-placed_at : (a : TransferState) (b : Bool) → progress_place a + (if b then 5 else 0) < 10
+placed_at : (a : TransferState) (b : Bool) → transfer_state_place a + (if b then 5 else 0) < 10
 placed_at Fresh true = lit< tt
 placed_at Fresh false = lit< tt
 placed_at RisenInRead true = lit< tt
@@ -69,7 +73,7 @@ placed_at Over false = lit< tt
 pub holding_placed : (m : Holding) → holding_place m < 10
 holding_placed m = placed_at m.transfer m.cycle_answered
 
-found_at : (a : TransferState) (b : Bool) → holding_nth (progress_place a + (if b then 5 else 0))
+found_at : (a : TransferState) (b : Bool) → holding_nth (transfer_state_place a + (if b then 5 else 0))
     ≡ record { transfer = a; cycle_answered = b }
 found_at Fresh true = refl
 found_at Fresh false = refl

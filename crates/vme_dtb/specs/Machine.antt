@@ -27,6 +27,7 @@ use Rattle.vme_dtb.specs.declared.cycle.CyclePhase.TheVariants.{Free}
 use Rattle.vme_dtb.specs.declared.edges.Edges.{Edges}
 use Rattle.vme_dtb.specs.declared.memory.HandshakeMemory.{HandshakeMemory}
 
+-- a transfer is open, and answered
 abbrev pub is_replied : TransferPhase → Bool
 is_replied Answered = true
 is_replied e = false
@@ -70,13 +71,15 @@ abbrev pub or_first : Option Fault → List (Option Fault) → Option Fault
 or_first earlier [] = earlier
 or_first earlier (f ∷ fs) = or_first (option_or earlier f) fs
 
+-- the first of some faults
 abbrev pub first_of_faults : List (Option Fault) → Option Fault
 first_of_faults = or_first None
 
--- the rules on strobes and answers, and (`strobe_faults`) for each the fault where it is broken
+-- the rules on strobes and answers
 abbrev pub strobe_rules : List Rule
 strobe_rules = H1 ∷ H2 ∷ H3 ∷ H4 ∷ H5 ∷ H6 ∷ H7 ∷ H8 ∷ []
 
+-- for each of these rules the fault where it is broken, `e` being the phase in which the step ends
 abbrev pub strobe_faults : HandshakeMemory → TransferPhase → Edges → List (Option Fault)
 strobe_faults m e s =
     fault_if H1 true s.answer_not_high
@@ -89,11 +92,11 @@ strobe_faults m e s =
     ∷ fault_if H8 s.unaddressed (answer_in e s)
     ∷ []
 
--- the rules on the answers of a cycle, and (`cycle_faults`) for each the fault where it is broken; w says whether the
--- transfer is a write
+-- the rules on the answers of a cycle
 abbrev pub cycle_rules : List Rule
 cycle_rules = C1 ∷ C2 ∷ I4 ∷ I5 ∷ []
 
+-- for each of these rules the fault where it is broken; `w` says whether the transfer is a write
 abbrev pub cycle_faults : CyclePhase → Bool → Option ℕ → List (Option Fault)
 cycle_faults c w answer =
     fault_if C1 (is_read_modify_write_broken c w) answer
@@ -102,12 +105,15 @@ cycle_faults c w answer =
     ∷ fault_if I5 (is_answered_interrupt_acknowledge c) answer
     ∷ []
 
+-- all rules of the handshake
 abbrev pub handshake_rules : List Rule
 handshake_rules = strobe_rules ++ cycle_rules
 
+-- the first rule on strobes and answers that a step breaks
 abbrev pub handshake_fault : HandshakeMemory → TransferPhase → Edges → Option Fault
 handshake_fault m e s = first_of_faults (strobe_faults m e s)
 
+-- the first rule on the answers of a cycle that a step breaks
 abbrev pub cycle_fault : CyclePhase → Bool → Option ℕ → Option Fault
 cycle_fault c w answer = first_of_faults (cycle_faults c w answer)
 
@@ -129,12 +135,15 @@ fault_in m v w s =
     let e = entered m.transfer v w in
     option_or (handshake_fault m e s) (cycle_fault (cycle_entered m.cycle s.shown.cycle) (is_writing e) (answer_in e s))
 
+-- the memory at the start of a stretch
 abbrev pub dtb_begin : Levels → HandshakeMemory
 dtb_begin v = record { transfer = Closed; cycle = Free; dtack_may_rise = false; berr_may_rise = false }
 
+-- what is shown where a stretch starts: nothing
 abbrev pub dtb_start_marks : Levels → StepMarks
 dtb_start_marks v = no_step_marks
 
+-- what is broken where a control line is lost: nothing
 abbrev pub dtb_end_fault : ℕ → Option Fault
 dtb_end_fault l = None
 
@@ -151,5 +160,6 @@ dtb_next m v w s =
       shown = record s.shown { answer = answered_in (entered m.transfer v w) v w s };
     }
 
+-- the result of an observed step
 abbrev pub dtb_step : HandshakeMemory → Levels → Levels → Unit {0} → Next HandshakeMemory
 dtb_step m v w moved = dtb_next m v w (edges_between v w)

@@ -9,15 +9,18 @@ use Rattle.vme_dtb.specs.declared.cycle.CyclePhase.TheVariants.{BlockReading}
 use Rattle.vme_dtb.specs.declared.cycle.CyclePhase.TheVariants.{BlockWriting, Interrupt, InterruptDone}
 use Rattle.vme_dtb.specs.declared.memory.HandshakeMemory.{HandshakeMemory}
 
+-- the number of the phase of a transfer
 abbrev pub transfer_phase_place : TransferPhase → ℕ
 transfer_phase_place Closed = 0
 transfer_phase_place Reading = 1
 transfer_phase_place Writing = 2
 transfer_phase_place Answered = 3
 
+-- the phase with a number
 abbrev pub transfer_phase_nth : ℕ → TransferPhase
 transfer_phase_nth k = if k == 0 then Closed else if k == 1 then Reading else if k == 2 then Writing else Answered
 
+-- the number of the phase of a cycle
 abbrev pub cycle_place : CyclePhase → ℕ
 cycle_place Free = 0
 cycle_place Single = 1
@@ -29,20 +32,24 @@ cycle_place BlockWriting = 6
 cycle_place Interrupt = 7
 cycle_place InterruptDone = 8
 
+-- the phase of a cycle with a number
 abbrev pub cycle_nth : ℕ → CyclePhase
 cycle_nth k =
     if k == 0 then Free else if k == 1 then Single else if k == 2 then SingleRead else if k == 3 then SingleDone
     else if k == 4 then Block else if k == 5 then BlockReading else if k == 6 then BlockWriting
     else if k == 7 then Interrupt else InterruptDone
 
+-- a truth value as a number
 abbrev pub bit : Bool → ℕ
 bit true = 1
 bit false = 0
 
+-- the number of a memory
 abbrev pub memory_place : HandshakeMemory → ℕ
 memory_place m = 36 * transfer_phase_place m.transfer + 4 * cycle_place m.cycle + 2 * bit m.dtack_may_rise + bit
     m.berr_may_rise
 
+-- the memory with a number
 abbrev pub memory_nth : ℕ → HandshakeMemory
 memory_nth k = record {
   transfer = transfer_phase_nth (k / 36);

@@ -23,12 +23,15 @@ use Rattle.vme_dtb.specs.declared.holding.TransferState.{TransferState}
 use Rattle.vme_dtb.specs.declared.holding.TransferState.TheVariants.{Fresh}
 use Rattle.vme_dtb.specs.declared.observation.HoldingObservation.{HoldingObservation}
 
+-- the rules of lines that have to be known and held
 abbrev pub stability_rules : List Rule
 stability_rules = U2 ∷ U3 ∷ U4 ∷ S1 ∷ S2 ∷ S3 ∷ []
 
+-- the fault that rule r is broken on line l
 abbrev pub fault_at : Rule → ℕ → Fault
 fault_at r l = record { rule = r; line = l }
 
+-- the fault that rule r is broken, if there is a line
 abbrev pub fault_on : Rule → Option ℕ → Option Fault
 fault_on r None = None
 fault_on r (Some l) = Some (fault_at r l)
@@ -87,6 +90,7 @@ changed_data_line v w cs = if is_low (level_at v WRITE) then first_among (is_cha
 abbrev pub changed_need_line : Levels → List Change → Option ℕ
 changed_need_line v cs = if is_low (level_at v AS) then first_needed (needs_of v) cs else None
 
+-- WRITE* has another level after the step
 abbrev pub direction_turned : Levels → Levels → Bool
 direction_turned v w = not (same_level (level_at v WRITE) (level_at w WRITE))
 
@@ -94,6 +98,7 @@ direction_turned v w = not (same_level (level_at v WRITE) (level_at w WRITE))
 abbrev pub may_change_memory : Levels → Levels → Bool
 may_change_memory v w = answer_between v w || strobe_rises_between v w || rises_between v w AS
 
+-- what the step shows
 abbrev pub observation_of : Levels → Levels → List Change → HoldingObservation
 observation_of v w cs = record {
   unknown = unknown_fault v w;
@@ -108,6 +113,7 @@ abbrev pub is_observed : Levels → Levels → List Change → Bool
 is_observed v w cs = is_some (unknown_fault v w) || is_some (changed_need_line v cs) || direction_turned v w
     || may_change_memory v w || is_some (undriven_line v w) || is_some (changed_data_line v w cs)
 
+-- the observation of the step, if it is observed
 abbrev pub stability_observation : Levels → Levels → List Change → Option HoldingObservation
 stability_observation v w cs = if is_observed v w cs then Some (observation_of v w cs) else None
 
@@ -187,15 +193,19 @@ fault_in m v w seen =
     (option_or (fault_on U4 (undriven_fault m v w seen))
     (option_or (held_fault m v w seen) (fault_on S3 (changed_data_fault m v w seen))))
 
+-- the memory at the start of a stretch
 abbrev pub stability_begin : Levels → Holding
 stability_begin v = record { transfer = Fresh; cycle_answered = false }
 
+-- what is shown where a stretch starts: nothing
 abbrev pub stability_start_marks : Levels → StepMarks
 stability_start_marks v = no_step_marks
 
+-- what is broken where a control line is lost: nothing
 abbrev pub stability_end_fault : ℕ → Option Fault
 stability_end_fault l = None
 
+-- the result of an observed step
 abbrev pub stability_next : Holding → Levels → Levels → HoldingObservation → Next Holding
 stability_next m v w seen = record { memory = stepped m v w; fault = fault_in m v w seen; shown = no_step_marks }
 

@@ -1,7 +1,7 @@
 //! The memory of `Stability`, i.e. the state of its automaton: it says which lines have to be held.
 
 ghost use Rattle.std.specs.Prelude.{◌≡◌};
-ghost use Rattle.vme_dtb.specs.HoldingNumbers.{has_risen as risen_of, passed, progress_nth, progress_place};
+ghost use Rattle.vme_dtb.specs.HoldingNumbers.{has_risen as risen_of, passed, transfer_state_nth, transfer_state_place};
 ghost use Rattle.vme_dtb.specs.HoldingNumbers.{was_answered as answered_of, writes_of};
 
 use vme_monitor::machine::{Enumerable, Small};
@@ -64,8 +64,9 @@ impl TransferState {
         }
     }
 
+    /// The number of what has happened.
     fn place(self) -> usize
-        ensures { result ≡ progress_place self }
+        ensures { result ≡ transfer_state_place self }
     {
         match self {
             TransferState::Fresh => 0,
@@ -76,8 +77,9 @@ impl TransferState {
         }
     }
 
+    /// What has happened, by its number.
     fn nth(k: usize) -> TransferState
-        ensures { result ≡ progress_nth k }
+        ensures { result ≡ transfer_state_nth k }
     {
         match k {
             0 => TransferState::Fresh,
