@@ -16,9 +16,9 @@ use std::marker::Model;
 /// A time stamp of a body.
 #[derive(Clone, Copy, Debug, PartialEq, Eq)]
 pub struct TimePlace {
-    /// The time.
+    /// The time that it denotes, in the unit of the dump's `$timescale`.
     pub time: u64,
-    /// The place after its token.
+    /// Where its token ends, in bytes from the start of the text.
     pub end: usize,
 }
 

@@ -11,8 +11,9 @@ use std::alloc::{AllocError, Global};
 /// The current time.
 #[derive(Clone, Copy)]
 pub(crate) struct Clock {
+    /// In the unit of the dump's `$timescale`.
     pub time: u64,
-    /// Whether there is an instant at it.
+    /// Whether there is an instant at this time.
     pub has_instant: bool,
 }
 

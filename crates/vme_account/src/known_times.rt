@@ -7,7 +7,7 @@ ghost use Rattle.vme_account.specs.KnownTimes.{AreTimes, IsTime};
 use vme_auditor::AllShown;
 use vme_monitor::mark::StepMarks;
 
-/// An instant, and its time.
+/// An instant, and its time in the unit of the recording.
 #[derive(Clone, Copy, Debug, PartialEq, Eq)]
 pub(crate) struct TimedInstant {
     pub instant: u32,

@@ -15,7 +15,7 @@ use vme_trace::{Change, LINE_COUNT, Line, Lines};
 pub struct Moment {
     /// The instant.
     pub instant: u32,
-    /// Its time.
+    /// Its time, in the unit of the recording.
     pub time: u64,
     /// Whether DTACK falls.
     pub dtack_falls: bool,

@@ -19,6 +19,7 @@ module _ (allowances : List Allowance) where
   unfoldable pub is_allowed : Break → Bool
   is_allowed b = list_any (allows b) allowances
 
+  -- none of the allowances allows the break
   abbrev pub is_fault : Break → Bool
   is_fault b = not (is_allowed b)
 
@@ -26,13 +27,15 @@ module _ (allowances : List Allowance) where
   abbrev pub faults : List Break → List Break
   faults bs = filter is_fault bs
 
-  -- the breaks that are not allowed and say that the recording is wrong; below, those that say that it can't be read on
+  -- the breaks that are not allowed and say that the recording is wrong
   abbrev pub wrongs : List Break → List Break
   wrongs bs = filter (λ b. not (is_unreadable b.rule)) (faults bs)
 
+  -- the breaks that are not allowed and say that the recording can't be read on
   abbrev pub unreadables : List Break → List Break
   unreadables bs = filter (λ b. is_unreadable b.rule) (faults bs)
 
+  -- the recording up to the instant of the break, included; the whole recording where there is no break
   abbrev pub cut_at : Trace → Option Break → Trace
   cut_at t None = t
   cut_at t (Some b) = cut_after t b.instant

@@ -20,29 +20,36 @@ use Rattle.vme_audit.specs.Event as event
 use Rattle.vme_audit.specs.Parts.{Part, parts, own_break}
 
 module _ (t : Trace) where
-  -- a fall at instant j on one of the chosen lines; below, a rise
+  -- one of the chosen lines falls at instant j
   abbrev pub falls_on : (ℕ → Bool) → ℕ → Bool
   falls_on chosen j = any (λ l. chosen l && falls t l j) 0 line_count
 
+  -- one of the chosen lines rises at instant j
   abbrev pub rises_on : (ℕ → Bool) → ℕ → Bool
   rises_on chosen j = any (λ l. chosen l && rises t l j) 0 line_count
 
+  -- DTACK or BERR rises at instant j
   abbrev pub answer_rises : ℕ → Bool
   answer_rises j = rises t DTACK j || rises t BERR j
 
+  -- a bus grant out of a slot falls at instant j
   abbrev pub slot_grant_falls : ℕ → Bool
   slot_grant_falls j = falls_on is_slot_grant j
 
+  -- a bus grant out of a slot rises at instant j
   abbrev pub slot_grant_rises : ℕ → Bool
   slot_grant_rises j = rises_on is_slot_grant j
 
+  -- a bus grant of the arbiter or of a slot falls at instant j
   abbrev pub any_grant_falls : ℕ → Bool
   any_grant_falls j = falls_on is_grant j
 
+  -- IACKOUT of a slot falls at instant j
   abbrev pub acknowledge_falls : ℕ → Bool
   acknowledge_falls j = falls_on is_slot_iack j
 
 module _ (t : Trace) (stretch : Stretch) where
+  -- a transfer that is a write starts at instant j
   abbrev pub write_starts : ℕ → Bool
   write_starts j = transfer_starts t stretch j && is_write t stretch j
 

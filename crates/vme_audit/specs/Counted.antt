@@ -21,44 +21,54 @@ abbrev pub is_tenure : Row → Bool
 is_tenure (Tenure start level slot end) = true
 is_tenure row = false
 
+-- the row of an addressed cycle that is no block transfer
 abbrev pub is_single_cycle : Row → Bool
 is_single_cycle (AddressedCycle start class modifier address end) = is_single class
 is_single_cycle row = false
 
+-- the row of a block transfer
 abbrev pub is_block_cycle : Row → Bool
 is_block_cycle (AddressedCycle start class modifier address end) = is_block_class class
 is_block_cycle row = false
 
+-- the row of a cycle of a class without rules
 abbrev pub is_free_cycle : Row → Bool
 is_free_cycle (FreeCycle start modifier end) = true
 is_free_cycle row = false
 
+-- the row of an interrupt acknowledge cycle
 abbrev pub is_acknowledge_cycle : Row → Bool
 is_acknowledge_cycle (InterruptCycle start level end) = true
 is_acknowledge_cycle row = false
 
+-- the row of a read, answered or not
 abbrev pub is_read_row : Row → Bool
 is_read_row (Transfer direction line start cycle answer close lanes) = not (is_write direction)
 is_read_row (PendingTransfer start direction) = not (is_write direction)
 is_read_row row = false
 
+-- the row of a write, answered or not
 abbrev pub is_write_row : Row → Bool
 is_write_row (Transfer direction line start cycle answer close lanes) = is_write direction
 is_write_row (PendingTransfer start direction) = is_write direction
 is_write_row row = false
 
+-- the answer is by DTACK
 abbrev pub is_dtack : AnswerLine → Bool
 is_dtack Dtack = true
 is_dtack Berr = false
 
+-- the row of a transfer that DTACK answered
 abbrev pub is_answered_by_dtack : Row → Bool
 is_answered_by_dtack (Transfer direction line start cycle answer close lanes) = is_dtack line
 is_answered_by_dtack row = false
 
+-- the row of a transfer that BERR answered
 abbrev pub is_answered_by_berr : Row → Bool
 is_answered_by_berr (Transfer direction line start cycle answer close lanes) = not (is_dtack line)
 is_answered_by_berr row = false
 
+-- the row of a transfer without an answer
 abbrev pub is_pending : Row → Bool
 is_pending (PendingTransfer start direction) = true
 is_pending row = false
@@ -67,6 +77,7 @@ is_pending row = false
 abbrev pub count_of : (Row → Bool) → List Row → ℕ
 count_of is rows = length (filter is rows)
 
+-- the counts of a list of rows
 unfoldable pub counts_of_rows : List Row → Counts
 counts_of_rows rows =
     record {

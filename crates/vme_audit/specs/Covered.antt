@@ -40,6 +40,7 @@ abbrev pub has_stretch : List Stretch → Bool
 has_stretch [] = false
 has_stretch (stretch ∷ stretches) = true
 
+-- a part has a judged stretch
 unfoldable pub is_judged_part : Part → Bool
 is_judged_part p = has_stretch (judged_stretches p.trace)
 
@@ -56,6 +57,8 @@ never_idle (b ∷ bs) = behind b bs
     behind b [] = NeverIdleBehind b.instant
     behind b (c ∷ cs) = behind c cs
 
+-- the gap of a transfer without an answer that starts at instant `start` of the part; it names the instant of the whole
+-- recording
 abbrev pub hang_from : Part → ℕ → CoverageGap
 hang_from p start = Hang (p.start + start) (time_at p.trace start)
 
@@ -67,6 +70,7 @@ gap wanted t =
     else if nat_lt (answered (counts t)) wanted then Some (FewAnswers (answered (counts t)) wanted)
     else option_map (hang_from (last_part t)) (hang t)
 
+-- there is a break
 abbrev pub any_of : List Break → Bool
 any_of [] = false
 any_of (b ∷ bs) = true

@@ -2,6 +2,7 @@
 use Rattle.vme_trace.specs.declared.rule.Rule.{Rule}
 use Rattle.vme_trace.specs.declared.rule.Rule.TheVariants as rule
 
+-- an event without which some rules can't be broken
 pub data Event : Type 0 where
   -- judging starts
   stretch : Event
@@ -13,30 +14,35 @@ pub data Event : Type 0 where
   transfer : Event
   -- a write starts
   write : Event
-  -- a strobe rises, or falls, within a transfer
+  -- a data strobe rises within a transfer
   strobe_rise : Event
+  -- a data strobe falls within a transfer
   strobe_fall : Event
-  -- an answer line falls, or rises
+  -- an answer line falls
   answer_fall : Event
+  -- an answer line rises
   answer_rise : Event
   -- a transfer is answered
   answer : Event
-  -- a further transfer of a single cycle is answered, or of a block transfer
+  -- a further transfer of a single cycle is answered
   single_again : Event
+  -- a further transfer of a block transfer is answered
   block_again : Event
-  -- a transfer of an interrupt acknowledge is answered, or a further one
+  -- a transfer of an interrupt acknowledge is answered
   interrupt : Event
+  -- a further transfer of an interrupt acknowledge is answered
   interrupt_again : Event
-  -- a slot begins to grant on, or ends it
+  -- a bus grant out of a slot falls
   slot_grant_fall : Event
+  -- a bus grant out of a slot rises
   slot_grant_rise : Event
-  -- the arbiter grants
+  -- a bus grant of the arbiter falls
   arbiter_fall : Event
-  -- the arbiter or a slot grants
+  -- a bus grant of the arbiter or of a slot falls
   grant_fall : Event
   -- the bus becomes busy
   tenure : Event
-  -- a slot acknowledges on
+  -- IACKOUT of a slot falls
   acknowledge_fall : Event
 
 -- the event without which a rule can't be broken

@@ -50,6 +50,7 @@ unfoldable pub parts_from : ℕ → Part → List Part
 parts_from zero p = p ∷ []
 parts_from (suc n) p = p ∷ option_map_or (λ b. parts_from n (part_after p b)) (own_break p) []
 
+-- the whole recording as a part
 abbrev pub whole : Trace → Part
 whole t = record { start = 0; trace = t }
 
@@ -58,6 +59,7 @@ whole t = record { start = 0; trace = t }
 unfoldable pub parts : Trace → List Part
 parts t = parts_from (length t.steps) (whole t)
 
+-- the last part of the list; `p` where the list is empty
 abbrev pub last_from : Part → List Part → Part
 last_from p [] = p
 last_from p (q ∷ qs) = last_from q qs
@@ -66,6 +68,7 @@ last_from p (q ∷ qs) = last_from q qs
 abbrev pub last_part : Trace → Part
 last_part t = last_from (whole t) (parts t)
 
+-- the breaks by which the parts end, with their instants in the whole recording
 abbrev pub breaks_of : List Part → List Break
 breaks_of ps = flat_map (λ p. option_to_list (break_of p)) ps
 

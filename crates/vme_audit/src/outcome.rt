@@ -7,7 +7,8 @@ pub enum CoverageGap {
     NeverIdleBehind { instant: u64 },
     /// Only `answered` transfers were answered, fewer than the `wanted` ones that are required.
     FewAnswers { answered: u64, wanted: u64 },
-    /// A transfer that starts at this instant and time is still without an answer at the end.
+    /// A transfer that starts at this instant and time, in the unit of the recording, is still without an answer at the
+    /// end.
     Hang { instant: u64, time: u64 },
 }
 

@@ -43,7 +43,8 @@ impl Audit {
         }
     }
 
-    /// Advances past a step, at its instant and time, and returns the break that it makes, if any.
+    /// Advances past a step, at its instant and its time in the unit of the recording. Returns the break that the step
+    /// makes, if any, and then judging starts anew.
     pub fn go_on(
         &mut self,
         view: &StepView,

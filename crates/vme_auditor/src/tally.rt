@@ -9,7 +9,7 @@ use vme_audit::Counts;
 use vme_monitor::mark::{BusGrant, CycleStart, StepMarks, TransferAnswer};
 use vme_trace::{Class, Line};
 
-/// The start of a transfer.
+/// The instant and the time, in the unit of the recording, at which a transfer starts.
 #[derive(Clone, Copy, Debug, PartialEq, Eq)]
 pub(crate) struct StartedTransfer {
     pub instant: u64,
