@@ -9,7 +9,9 @@ use std::marker::Model;
 /// One of the four states of a bit (IEEE Std 1364-2005, 18.2.1).
 #[derive(Clone, Copy, Debug, Default, PartialEq, Eq)]
 pub enum Bit {
+    /// Logic 0.
     Zero,
+    /// Logic 1.
     One,
     /// Unknown, as every bit is before its first change.
     #[default]

@@ -50,6 +50,7 @@ pub enum FaultKind {
 pub struct VcdFault {
     /// The line of the token that the fault is at, or of the first token of its section or change, from 1.
     pub line: u64,
+    /// What is wrong there.
     pub kind: FaultKind,
 }
 

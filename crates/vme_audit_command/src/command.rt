@@ -37,10 +37,12 @@ pub struct AuditOptions<'a> {
     pub is_quiet: bool,
 }
 
-/// A dump, and its name in the lines about it.
+/// A dump, with its name.
 #[derive(Drop)]
 pub struct NamedDump<'a, D> {
+    /// Its name in the lines about it.
     pub name: &'a [u8],
+    /// Its bytes, which are read from the start.
     pub dump: D,
 }
 

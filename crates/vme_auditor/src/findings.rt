@@ -12,22 +12,27 @@ use vme_audit::{Counts, CoverageGap, Outcome};
 /// What an audit found of a recording, except its breaks.
 #[derive(Clone, Copy, Debug, PartialEq, Eq)]
 pub struct AuditFindings {
+    /// How many resets, tenures, cycles and transfers there are.
     pub counts: Counts,
+    /// Which events happened, by which the rules that were asked are known.
     pub events: AskedEvents,
     /// Whether anything is judged after the last break, or at all if there is none.
     pub is_judged: bool,
-    /// The instant of the last break.
+    /// The instant of the last break, if there is one.
     pub last_break: Option<u64>,
-    /// The instant and the time of the start of a transfer that is still without an answer.
+    /// The instant and the time, in the unit of the recording, at which the first transfer starts that is still without
+    /// an answer at the end, if there is one.
     pub hang: Option<(u64, u64)>,
 }
 
-/// The numbers of a recording's breaks: those that aren't allowed and mean that it is wrong (`broken`) or that it can't
-/// be read (`unreadable`), and those that are allowed.
+/// The numbers of a recording's breaks.
 #[derive(Clone, Copy, Debug, Default, PartialEq, Eq)]
 pub struct BreakCounts {
+    /// Those that aren't allowed and mean that the recording is wrong.
     pub broken: u64,
+    /// Those that aren't allowed and mean that the recording can't be read.
     pub unreadable: u64,
+    /// Those that are allowed.
     pub allowed: u64,
 }
 

@@ -31,15 +31,18 @@ type GrantMachine = OverStretches<GrantRules>;
 
 type AcknowledgeMachine = OverStretches<AcknowledgeRules>;
 
-/// The memory of each monitor, i.e. the state of its automaton. The monitor of `known` finds where judging starts and
-/// ends and where a control line is lost. The others are those of the handshake, of stability, of grants, and of
-/// interrupt acknowledges.
+/// The memory of each monitor, i.e. the state of its automaton.
 #[derive(Clone, Copy, Debug, PartialEq, Eq)]
 pub struct Memories {
+    /// That of `Known`, which finds where judging starts and ends and where a control line is lost.
     pub known: StretchPhase<Stateless>,
+    /// That of `Dtb`, of the handshake.
     pub handshake: StretchPhase<HandshakeMemory>,
+    /// That of `Stability`, of the lines that stay as they are.
     pub stability: StretchPhase<Holding>,
+    /// That of `Grant`, of requests and grants.
     pub grant: StretchPhase<Arbitration>,
+    /// That of `Iack`, of interrupt acknowledges.
     pub acknowledge: StretchPhase<AcknowledgeMemory>,
 }
 
@@ -50,13 +53,16 @@ struct StepOutcome {
     shown: StepMarks,
 }
 
-/// What all monitors show at a step: the first rule that the step breaks, and the marks of the stretch, of the tenure,
-/// and of the cycle and the transfer. The monitors of held lines and of acknowledge outputs show no marks.
+/// What all monitors show at a step. Those of held lines and of acknowledge outputs show no marks.
 #[derive(Clone, Copy, Debug, PartialEq, Eq)]
 pub struct AllShown {
+    /// The first rule that the step breaks, if it breaks one, and the line that is named.
     pub fault: Option<Fault>,
+    /// The marks of `Known`: where judging starts, and a reset that ends it.
     pub stretch: StepMarks,
+    /// The marks of `Grant`: where tenures start and end, or are open where judging starts.
     pub tenure: StepMarks,
+    /// The marks of `Dtb`: where cycles and transfers start and end, and the answers.
     pub transfer: StepMarks,
 }
 

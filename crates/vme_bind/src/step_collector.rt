@@ -6,7 +6,9 @@ use vme_trace::{Lines, Step, StepVisitor};
 /// A visitor that keeps the opening and the steps of a recording.
 #[derive(Drop)]
 pub struct StepCollector {
+    /// The levels before the first step.
     pub opening: Lines,
+    /// The steps so far, in their order.
     pub steps: Vec<Step>,
 }
 

@@ -22,11 +22,12 @@ use vme_monitor::tracking::TransferPhase;
 use vme_trace::edges::{answer_falls, falls, has_strobe_low, has_strobes_high, is_low_near};
 use vme_trace::{Change, Line, Lines, Rule};
 
-/// The memory of `Iack`, i.e. the state of its automaton: the phase of the transfer, and whether AS* is low and a
-/// transfer of the cycle was answered by DTACK*.
+/// The memory of `Iack`, i.e. the state of its automaton.
 #[derive(Clone, Copy, PartialEq, Eq, Debug)]
 pub struct AcknowledgeMemory {
+    /// The phase of the transfer.
     pub transfer: TransferPhase,
+    /// Whether AS* is low and a transfer of the cycle was answered by DTACK*.
     pub answered_by_dtack: bool,
 }
 

@@ -9,9 +9,13 @@ use vme_monitor::machine::{Enumerable, Small};
 /// Some of the four levels of bus requests and grants.
 #[derive(Clone, Copy, PartialEq, Eq, Debug)]
 pub struct LevelSet {
+    /// Whether level 0 is in the set.
     pub zero: bool,
+    /// Whether level 1 is in the set.
     pub one: bool,
+    /// Whether level 2 is in the set.
     pub two: bool,
+    /// Whether level 3 is in the set.
     pub three: bool,
 }
 

@@ -19,20 +19,25 @@ use crate::mark::{BusGrant, CycleStart, Fault, Mark, MarkKind, Next, StepMarks, 
 use std::alloc::{AllocError, Global};
 use vme_trace::{Break, Lanes, Line};
 
-/// What a run shows until it is merged with others, and the index in the next layer at which it continues: of a link,
-/// or after the last layer of a row.
+/// What a run shows until it is merged with others, and where it continues.
 #[derive(Debug, Drop)]
 pub struct Link {
+    /// The first break until then, if there is one.
     pub first_break: Option<Break>,
+    /// The marks until then, in their order.
     pub marks: Vec<Mark>,
+    /// The index of the link in the next layer at which the run continues, or of the row after the last layer.
     pub next: usize,
 }
 
-/// What a run has shown since its last link, and the memory (state of the automaton) that it is in.
+/// What a run has shown since its last link, and where it is.
 #[derive(Debug, Drop)]
 pub struct TableRow<P> {
+    /// The memory (state of the automaton) that the run is in.
     pub memory: P,
+    /// The first break since the last link, if there is one.
     pub first_break: Option<Break>,
+    /// The marks since the last link, in their order.
     pub marks: Vec<Mark>,
 }
 

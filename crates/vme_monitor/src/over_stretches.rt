@@ -136,10 +136,12 @@ impl<P: Small> Enumerable for StretchPhase<P> {
     }
 }
 
-/// The observation of a step: what ends a stretch there, and what the rules see.
+/// The observation of a step.
 #[derive(Drop)]
 pub struct StretchObservation<S> {
+    /// What ends a stretch there, if something does.
     pub end: Option<End>,
+    /// What the rules see of the step; `None` where it is nothing to them.
     pub inner: Option<S>,
 }
 

@@ -20,10 +20,12 @@ use vme_parts::{JoinRefusal, join_parts};
 use vme_stream::{InFault, read_all};
 use vme_trace::{Sink, Source};
 
-/// An input that has a part, and its name in messages.
+/// An input that is to have a part, with its name.
 #[derive(Drop)]
 pub struct NamedPart<'a, P> {
+    /// Its name in messages.
     pub name: &'a [u8],
+    /// Its bytes, which are read from the start.
     pub part: P,
 }
 

@@ -38,18 +38,21 @@ pub enum PartFaultKind {
     Trailing,
 }
 
-/// A field that no part has there: what is wrong with it, and the number of bytes from its start to the end of the last
-/// field, which the sum follows.
+/// A field that no part has there.
 #[derive(Clone, Copy, Debug, PartialEq, Eq)]
 pub struct FieldFault {
+    /// What is wrong with it.
     pub kind: PartFaultKind,
+    /// The number of bytes from its start to the end of the last field, which the sum follows.
     pub left: usize,
 }
 
-/// Why a field isn't read: memory runs out, or the field has a fault.
+/// Why a field isn't read.
 #[derive(Clone, Copy, Debug, PartialEq, Eq)]
 pub enum FieldError {
+    /// Memory runs out.
     Memory,
+    /// The field has this fault.
     Fault(FieldFault),
 }
 
@@ -73,16 +76,20 @@ impl<T: Drop> From<AllocFailed<T>> for FieldError {
     }
 }
 
-/// The first fault of the bytes, and the index of the byte at which the field with the fault begins.
+/// The first fault of the bytes of a part.
 #[derive(Clone, Copy, Debug, PartialEq, Eq)]
 pub struct PartFault {
+    /// What is wrong.
     pub kind: PartFaultKind,
+    /// The index of the byte at which the field with the fault begins.
     pub place: usize,
 }
 
-/// Why no part is read: memory runs out, or the bytes have a fault.
+/// Why no part is read.
 #[derive(Clone, Copy, Debug, PartialEq, Eq)]
 pub enum ReadError {
+    /// Memory runs out.
     Memory,
+    /// The bytes have this fault.
     Fault(PartFault),
 }

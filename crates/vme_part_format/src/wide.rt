@@ -16,9 +16,11 @@ pub struct WideBreak {
     pub line: Line,
 }
 
-/// An event of the bus, and the instant of the step at which it happens.
+/// An event of the bus, and when it happens.
 #[derive(Debug, PartialEq, Eq, Drop)]
 pub struct WideMark {
+    /// At which instant: 1 is the first step.
     pub instant: u64,
+    /// What happens.
     pub kind: MarkKind,
 }

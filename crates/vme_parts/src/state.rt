@@ -27,10 +27,12 @@ use vme_part_format::{OutcomeTable, Segment, WideBreak};
 use vme_part_tables::{follow, later_break};
 use vme_trace::Lines;
 
-/// The state of a monitor: the memory that it is in, and the first break so far.
+/// Where a monitor is.
 #[derive(Clone, Copy)]
 pub struct State {
+    /// The number of the memory (state of its automaton) that it is in.
     pub memory: u32,
+    /// The first break so far, if there is one.
     pub first_break: Option<WideBreak>,
 }
 
@@ -110,10 +112,15 @@ fn verdict_of(found: Option<WideBreak>) -> WideVerdict
 /// The states of the five monitors.
 #[derive(Clone, Copy)]
 pub struct States {
+    /// That of `Known`, which finds where judging starts and ends and where a control line is lost.
     pub known: State,
+    /// That of `Dtb`, of the handshake.
     pub handshake: State,
+    /// That of `Stability`, of the lines that stay as they are.
     pub stability: State,
+    /// That of `Grant`, of requests and grants.
     pub grant: State,
+    /// That of `Iack`, of interrupt acknowledges.
     pub acknowledge: State,
 }
 

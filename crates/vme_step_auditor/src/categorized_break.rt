@@ -9,7 +9,9 @@ use vme_auditor::{AuditBreak, BreakCounts};
 /// A break, and how it counts.
 #[derive(Clone, Copy, Debug, PartialEq, Eq)]
 pub struct CategorizedBreak {
+    /// Whether it is allowed, and else whether the recording is wrong or unreadable there.
     pub category: BreakCategory,
+    /// The break.
     pub found: AuditBreak,
 }
 

@@ -31,10 +31,12 @@ impl GhostCount {
     }
 }
 
-/// How many reads gave bytes, and how many of these were short: they gave fewer bytes than they had room for.
+/// Counts of the reads of a source.
 #[derive(Drop)]
 pub struct ReadCounts {
+    /// How many reads gave bytes.
     pub reads: GhostCount,
+    /// How many of these gave fewer bytes than they had room for.
     pub short_reads: GhostCount,
 }
 
